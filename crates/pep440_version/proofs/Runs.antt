@@ -1,0 +1,479 @@
+-- A run of digits above the limit, and `0` in its place: what is read before it does not change.
+use Rattle.std.proofs.Common.{◌≡◌, ◌≤◌, ◌<◌, ◌^◌, ◌==◌, ◌&&◌, ◌||◌, ◌⊎◌, ℕ, suc, zero, Bool, true, false, List, [], ◌∷◌, ◌++◌, refl, sym, ap, ◌∙◌, arith, drop, take, length, inl, inr, Ok, Err, Option, Some, None, codes, subst, nat_lt, nat_le, eqb-true}
+use Rattle.std.proofs.lemmas.Bool.{cases_Bool, le-ltb}
+use Rattle.std.proofs.lemmas.Bool.Decides.{nat_tests}
+use Rattle.std.proofs.lemmas.List.{append_assoc, append-nil, length-append, append_cancel_right}
+use Rattle.std.specs.Char.{is_ascii_digit, to_ascii_lowercase}
+use Rattle.std.specs.List.{list_all, prefix_len}
+use Rattle.std.specs.Str.Parse.{digits_value}
+use Rattle.pep440_version.specs.Grammar.{is_blank, Spellings, is_separator, pre_spellings, post_spellings, dev_spellings, starts, is_v}
+use Rattle.pep440_version.specs.Locals.{starts_local, local_at}
+use Rattle.pep440_version.specs.Reading.{Read, ◌>>=◌, lead, past, starts_number, past_mark, number_at, goes_on, release_at}
+use Rattle.pep440_version.specs.Refusals.{Refusal, NumberTooBig, NoLeadingNumber, NoLeadingReleaseNumber, ends}
+use Rattle.pep440_version.specs.Suffixes.{begins, spelled, past_separator, count_at, suffix_at, number_of, prerelease_of, pre_at, is_bare_post, post_at, dev_at}
+use Rattle.pep440_version.specs.Whole.{release_after, front_at, opening, parts_at, is_star}
+use Rattle.pep440_version.proofs.Texts.{both_first, both_second, lead-run}
+use Rattle.pep440_version.proofs.Found.{chosen, split}
+use Rattle.pep440_version.proofs.Spelling.{is_letter}
+use Rattle.pep440_version.proofs.Cutting.{Reader, IsEnd, end_of, past_one, lead_one, record_of}
+
+-- digits above the limit, and no digit after them
+pub record IsRun (d after : List ℕ) : Type 0 where
+  pub digits : list_all is_ascii_digit d ≡ true
+  pub big : 2 ^ 64 ≤ digits_value 10 d
+  pub stops : starts is_ascii_digit after ≡ false
+
+pub run_starts : (d after rest : List ℕ) → IsRun d after → starts_number (d ++ rest) ≡ true
+run_starts [] after rest r = absurd (omega (arith, r.big))
+run_starts (b ∷ d) after rest r = both_first (is_ascii_digit b) (list_all is_ascii_digit d) r.digits
+
+pub run_refused : (d after : List ℕ) → IsRun d after → number_at (d ++ after) ≡ Err (NumberTooBig d)
+unfolding number_at
+run_refused d after r = rw (lead-run is_ascii_digit d after r.digits r.stops, le-ltb (digits_value 10 d) (2 ^ 64) r.big) refl
+
+number_zero : number_at (codes "0") ≡ Ok (0, [])
+unfolding number_at
+number_zero = refl
+
+-- a text before digits: a reader stays before them, or stops at them, or fails before them
+pub data Twin {A : Type 0} (f : Reader A) (front d after : List ℕ) : Type 0 where
+  Stays : (a : A) (u : List ℕ) → IsEnd front u → ((z : List ℕ) → starts_number z ≡ true → f (front ++ z) ≡ Ok (a, u ++ z)) → Twin f front d after
+  Stops : (a : A) → f (front ++ codes "0") ≡ Ok (a, []) → f (front ++ (d ++ after)) ≡ Err (NumberTooBig d) → Twin f front d after
+  Fails : (e : Refusal) → ((z : List ℕ) → starts_number z ≡ true → f (front ++ z) ≡ Err e) → Twin f front d after
+
+abbrev pub Twins : {A : Type 0} → Reader A → Type 0
+Twins {A} f = (front d after : List ℕ) → IsRun d after → ends is_ascii_digit front ≡ false → Twin f front d after
+
+-- ---- the last byte
+
+pub ends_append : (p : ℕ → Bool) (a : List ℕ) (b : ℕ) (t : List ℕ) → ends p (a ++ (b ∷ t)) ≡ ends p (b ∷ t)
+ends_append p [] b t = refl
+ends_append p (x ∷ []) b t = refl
+ends_append p (x ∷ y ∷ a) b t = ends_append p (y ∷ a) b t
+
+pub ends_end : (p : ℕ → Bool) (a b : List ℕ) → IsEnd a b → ends p a ≡ false → ends p b ≡ false
+ends_end p a [] h e = refl
+ends_end p a (x ∷ b) h e = sym (ends_append p h.0 x b) ∙ ap (ends p) (sym h.1) ∙ e
+
+pub ends_last : (p : ℕ → Bool) (a : List ℕ) → ends p a ≡ true → (g : List ℕ) × (c : ℕ) × (a ≡ g ++ (c ∷ [])) × (p c ≡ true)
+ends_last p [] e = cc e
+ends_last p (x ∷ []) e = ([], x, refl, e)
+ends_last p (x ∷ y ∷ a) e = let h = ends_last p (y ∷ a) e in (x ∷ h.0, h.1, ap (λ l. x ∷ l) h.2, h.3)
+
+-- ---- readers in a row
+
+pub twin_after : {A : Type 0} (f g : Reader A) (front later d after : List ℕ) → IsRun d after → IsEnd front later → ((z : List ℕ) → starts_number z ≡ true → f (front ++ z) ≡ g (later ++ z))
+    → Twin g later d after → Twin f front d after
+twin_after f g front later d after r h same (Stays a u e k) = Stays a u (end_of front later u h e) (λ z s. same z s ∙ k z s)
+twin_after f g front later d after r h same (Stops a x y) = Stops a (same (codes "0") refl ∙ x) (same (d ++ after) (run_starts d after after r) ∙ y)
+twin_after f g front later d after r h same (Fails e k) = Fails e (λ z s. same z s ∙ k z s)
+
+pub bind_twin : {A B : Type 0} (f : Reader A) (k : A → Reader B) (front d after : List ℕ) → Twin f front d after
+    → ((a : A) (u : List ℕ) → IsEnd front u → Twin (k a) u d after) → ((a : A) → (b : B) × (k a [] ≡ Ok (b, []))) → IsRun d after → Twin (λ t. f t >>= λ x. k x.0 x.1) front d after
+bind_twin f k front d after (Fails e h) next idle r = Fails e (λ z s. rw (h z s) refl)
+bind_twin f k front d after (Stops a x y) next idle r = let i = idle a in Stops i.0 (rw x i.1) (rw y refl)
+bind_twin f k front d after (Stays a u h g) next idle r = twin_after (λ t. f t >>= λ x. k x.0 x.1) (k a) front u d after r h (λ z s. rw (g z s) refl) (next a u h)
+
+done_twin : {A : Type 0} (a : A) (front d after : List ℕ) → Twin (λ t. Ok (a, t)) front d after
+done_twin a front d after = Stays a front ([], refl) (λ z s. refl)
+
+-- ---- numbers
+
+run_stays : (p : ℕ → Bool) (t z : List ℕ) → 0 < length t → ends p t ≡ false → (lead p (t ++ z) ≡ lead p t) × (past p (t ++ z) ≡ past p t ++ z)
+run_stays p [] z l e = absurd (omega (arith, l))
+run_stays p (b ∷ []) z l e = (rw e refl, rw e refl)
+run_stays p (b ∷ c ∷ t) z l e = elim (cases_Bool (p b)) [
+  | inl h ↦
+      let more = run_stays p (c ∷ t) z (omega arith) e in
+      (lead_one p b (c ∷ t ++ z) h ∙ ap (λ s. b ∷ s) more.0 ∙ sym (lead_one p b (c ∷ t) h), past_one p b (c ∷ t ++ z) h ∙ more.1 ∙ ap (λ s. s ++ z) (sym (past_one p b (c ∷ t) h)))
+  | inr h ↦ (rw h refl, rw h refl)
+]
+
+-- a number in a front that does not end in a digit
+pub number_stays : (t : List ℕ) → 0 < length t → ends is_ascii_digit t ≡ false
+    → ((a : ℕ) × (u : List ℕ) × IsEnd t u × ((z : List ℕ) → number_at (t ++ z) ≡ Ok (a, u ++ z))) ⊎ ((e : Refusal) × ((z : List ℕ) → number_at (t ++ z) ≡ Err e))
+unfolding number_at
+number_stays t l e = elim (cases_Bool (nat_lt (digits_value 10 (lead is_ascii_digit t)) (2 ^ 64))) [
+  | inl h ↦ inl (
+    digits_value 10 (lead is_ascii_digit t),
+    past is_ascii_digit t,
+    (lead is_ascii_digit t, split is_ascii_digit t),
+    λ z. let s = run_stays is_ascii_digit t z l e in rw (s.0, s.1, h) refl,
+  )
+  | inr h ↦ inr (NumberTooBig (lead is_ascii_digit t), λ z. let s = run_stays is_ascii_digit t z l e in rw (s.0, s.1, h) refl)
+]
+
+pub number_twins : Twins number_at
+number_twins [] d after r e = Stops 0 number_zero (run_refused d after r)
+number_twins (b ∷ t) d after r e = elim (number_stays (b ∷ t) (omega arith) e) [
+  | inl h ↦ Stays h.0 h.1 h.2 (λ z s. h.3 z)
+  | inr h ↦ Fails h.0 (λ z s. h.1 z)
+]
+
+pub count_twins : Twins count_at
+count_twins [] d after r e = Stops 0 number_zero (rw (run_starts d after after r) (run_refused d after r))
+count_twins (b ∷ t) d after r e = elim (cases_Bool (is_ascii_digit b)) [
+  | inl h ↦ twin_after count_at number_at (b ∷ t) (b ∷ t) d after r ([], refl) (λ z s. rw h refl) (number_twins (b ∷ t) d after r e)
+  | inr h ↦ Stays 0 (b ∷ t) ([], refl) (λ z s. rw h refl)
+]
+
+-- ---- what digits are not
+
+digit_not_separator : (b : ℕ) → is_ascii_digit b ≡ true → is_separator b ≡ false
+digit_not_separator b h = grind (arith, nat_tests)
+
+digit_not_letter : (b : ℕ) → is_ascii_digit b ≡ true → is_letter b ≡ false
+unfolding is_letter
+digit_not_letter b h = grind (arith, nat_tests)
+
+digit_not_blank : (b : ℕ) → is_ascii_digit b ≡ true → is_blank b ≡ false
+digit_not_blank b h = grind (arith, nat_tests)
+
+digit_not_v : (b : ℕ) → is_ascii_digit b ≡ true → is_v b ≡ false
+digit_not_v b h = grind (arith, nat_tests)
+
+digit_not : (b c : ℕ) → is_ascii_digit b ≡ true → c < 48 → (b == c) ≡ false
+digit_not b c h l = grind (arith, nat_tests)
+
+pub starts_not : (p q : ℕ → Bool) → ((b : ℕ) → p b ≡ true → q b ≡ false) → (t : List ℕ) → starts p t ≡ true → starts q t ≡ false
+starts_not p q not [] s = refl
+starts_not p q not (b ∷ t) s = not b s
+
+-- a test that the text that goes on does not pass
+pub starts_stays : (p : ℕ → Bool) (t z : List ℕ) → starts p z ≡ false → starts p (t ++ z) ≡ starts p t
+starts_stays p [] z s = s
+starts_stays p (b ∷ t) z s = refl
+
+pub separator_stays : (t z : List ℕ) → starts is_separator z ≡ false → past_separator (t ++ z) ≡ past_separator t ++ z
+separator_stays [] z s = rw s refl
+separator_stays (b ∷ t) z s = elim (cases_Bool (is_separator b)) [ inl h ↦ rw h refl | inr h ↦ rw h refl ]
+
+pub separator_end : (t : List ℕ) → IsEnd t (past_separator t)
+separator_end [] = ([], refl)
+separator_end (b ∷ t) = elim (cases_Bool (is_separator b)) [
+  | inl e ↦ (b ∷ [], rw e refl)
+  | inr e ↦ ([], rw e refl)
+]
+
+pub past_stays : (p : ℕ → Bool) (t z : List ℕ) → starts p z ≡ false → past p (t ++ z) ≡ past p t ++ z
+past_stays p [] [] s = refl
+past_stays p [] (b ∷ z) s = rw s refl
+past_stays p (b ∷ t) z s = elim (cases_Bool (p b)) [
+  | inl h ↦ past_one p b (t ++ z) h ∙ past_stays p t z s ∙ ap (λ l. l ++ z) (sym (past_one p b t h))
+  | inr h ↦ rw h refl
+]
+
+-- ---- spelled parts
+
+abbrev pub all_letters : List ℕ → Bool
+all_letters = list_all (λ c. nat_le 97 c && nat_le c 122)
+
+abbrev pub AllLetters : {A : Type 0} → Spellings A → Type 0
+AllLetters [] = Unit {0}
+AllLetters (s ∷ rest) = (all_letters s.0 ≡ true) × AllLetters rest
+
+no_letter : (b c : ℕ) → is_letter b ≡ false → (nat_le 97 c && nat_le c 122) ≡ true → (to_ascii_lowercase b == c) ≡ false
+unfolding is_letter
+no_letter b c n l = grind (arith, nat_tests)
+
+begins_stays : (w t z : List ℕ) → all_letters w ≡ true → starts is_letter z ≡ false → begins w (t ++ z) ≡ begins w t
+begins_stays [] t z l s = refl
+begins_stays (c ∷ cs) [] [] l s = refl
+begins_stays (c ∷ cs) [] (b ∷ z) l s = rw (no_letter b c s (both_first (nat_le 97 c && nat_le c 122) _ l)) refl
+begins_stays (c ∷ cs) (b ∷ t) z l s = ap (λ x. (to_ascii_lowercase b == c) && x) (begins_stays cs t z (both_second (nat_le 97 c && nat_le c 122) _ l) s)
+
+pub spelled_stays : {A : Type 0} (table : Spellings A) (t z : List ℕ) → AllLetters table → starts is_letter z ≡ false → spelled table (t ++ z) ≡ spelled table t
+spelled_stays [] t z l s = refl
+spelled_stays (w ∷ more) t z l s = rw (begins_stays w.0 t z l.0 s, spelled_stays more t z l.1 s) refl
+
+begins_drop : (w t z : List ℕ) → begins w t ≡ true → drop (length w) (t ++ z) ≡ drop (length w) t ++ z
+begins_drop [] t z e = refl
+begins_drop (c ∷ cs) [] z e = cc e
+begins_drop (c ∷ cs) (b ∷ t) z e = begins_drop cs t z (both_second (to_ascii_lowercase b == c) _ e)
+
+some : {A : Type 0} (x y : A) → (let o : Option A = Some x in o) ≡ Some y → x ≡ y
+some {A} x y e = ap (λ (o : Option A). elim o as (λ _. A) [ Some z ↦ z | None ↦ x ]) e
+
+pub spelled_drop : {A : Type 0} (table : Spellings A) (t z : List ℕ) (x : A × ℕ) → spelled table t ≡ Some x → drop x.1 (t ++ z) ≡ drop x.1 t ++ z
+spelled_drop [] t z x e = cc e
+spelled_drop {A} (s ∷ more) t z x e = elim (chosen (begins s.0 t) _ _ _ e) [
+  | inl h ↦ let long : length s.0 ≡ x.1 = ap (λ (p : A × ℕ). p.1) (some _ _ h.1) in subst (λ k. drop k (t ++ z) ≡ drop k t ++ z) long (begins_drop s.0 t z h.0)
+  | inr h ↦ spelled_drop more t z x h.1
+]
+
+drop_end : (k : ℕ) (t : List ℕ) → IsEnd t (drop k t)
+drop_end k t = (take k t, sym (Rattle.std.proofs.lemmas.List.take-append-drop k t))
+
+pub letters_of_pre : AllLetters pre_spellings
+letters_of_pre = (refl, (refl, (refl, (refl, (refl, (refl, (refl, (refl, tt))))))))
+
+pub letters_of_post : AllLetters post_spellings
+letters_of_post = (refl, (refl, (refl, tt)))
+
+pub letters_of_dev : AllLetters dev_spellings
+letters_of_dev = (refl, tt)
+
+-- what stands after a spelling
+counted_at : {A : Type 0} → A → Reader (Option (A × ℕ))
+counted_at a t = count_at (past_separator t) >>= λ n. Ok (Some (a, n.0), n.1)
+
+counted_twin : {A : Type 0} (a : A) → Twins (counted_at a)
+unfolding counted_at
+counted_twin {A} a front d after r e =
+    let h = separator_end front in
+    twin_after (counted_at a) (λ t. count_at t >>= λ n. Ok (Some (a, n.0), n.1)) front (past_separator front) d after r h (λ z s. rw (separator_stays front z (starts_not is_ascii_digit is_separator digit_not_separator z s)) refl)
+    (bind_twin count_at (λ n t. Ok (Some (a, n), t)) (past_separator front) d after (count_twins (past_separator front) d after r (ends_end is_ascii_digit front (past_separator front) h e))
+    (λ n u g. done_twin (Some (a, n)) u d after) (λ n. (Some (a, n), refl)) r)
+
+pub suffix_twins : {A : Type 0} (table : Spellings A) → AllLetters table → Twins (suffix_at table)
+unfolding counted_at
+suffix_twins {A} table letters front d after r e = by (spelled table (past_separator front)) refl
+  where
+    word : (z : List ℕ) → starts_number z ≡ true → past_separator (front ++ z) ≡ past_separator front ++ z
+    word z s = separator_stays front z (starts_not is_ascii_digit is_separator digit_not_separator z s)
+
+    same : (z : List ℕ) → starts_number z ≡ true → spelled table (past_separator front ++ z) ≡ spelled table (past_separator front)
+    same z s = spelled_stays table (past_separator front) z letters (starts_not is_ascii_digit is_letter digit_not_letter z s)
+
+    by : (o : Option (A × ℕ)) → spelled table (past_separator front) ≡ o → Twin (suffix_at table) front d after
+    by None o = Stays None front ([], refl) (λ z s. rw (word z s, same z s, o) refl)
+    by (Some x) o =
+        let h = end_of front (past_separator front) (drop x.1 (past_separator front)) (separator_end front) (drop_end x.1 (past_separator front)) in
+        twin_after (suffix_at table) (counted_at x.0) front (drop x.1 (past_separator front)) d after r h
+        (λ z s. rw (word z s, same z s, o, spelled_drop table (past_separator front) z x o) refl)
+        (counted_twin x.0 (drop x.1 (past_separator front)) d after r (ends_end is_ascii_digit front _ h e))
+
+pub pre_twins : Twins pre_at
+pre_twins front d after r e = bind_twin (suffix_at pre_spellings) (λ x t. Ok (prerelease_of x, t)) front d after (suffix_twins pre_spellings letters_of_pre front d after r e) (λ x u h. done_twin (prerelease_of x) u d after) (λ x. (prerelease_of x, refl)) r
+
+pub dev_twins : Twins dev_at
+dev_twins front d after r e = bind_twin (suffix_at dev_spellings) (λ x t. Ok (number_of x, t)) front d after (suffix_twins dev_spellings letters_of_dev front d after r e) (λ x u h. done_twin (number_of x) u d after) (λ x. (number_of x, refl)) r
+
+spelled_post_at : Reader (Option ℕ)
+spelled_post_at t = suffix_at post_spellings t >>= λ x. Ok (number_of x.0, x.1)
+
+spelled_post_twins : Twins spelled_post_at
+unfolding spelled_post_at
+spelled_post_twins front d after r e = bind_twin (suffix_at post_spellings) (λ x t. Ok (number_of x, t)) front d after (suffix_twins post_spellings letters_of_post front d after r e) (λ x u h. done_twin (number_of x) u d after) (λ x. (number_of x, refl)) r
+
+bare_post_at : Reader (Option ℕ)
+bare_post_at t = number_at t >>= λ n. Ok (Some n.0, n.1)
+
+bare_post_twins : Twins bare_post_at
+unfolding bare_post_at
+bare_post_twins front d after r e = bind_twin number_at (λ x t. Ok (Some x, t)) front d after (number_twins front d after r e) (λ x u h. done_twin (Some x) u d after) (λ x. (Some x, refl)) r
+
+digit_no_bare : (z : List ℕ) → starts_number z ≡ true → is_bare_post z ≡ false
+digit_no_bare [] s = refl
+digit_no_bare (b ∷ z) s = rw (digit_not b 45 s (omega arith)) refl
+
+pub post_twins : Twins post_at
+unfolding spelled_post_at bare_post_at
+post_twins [] d after r e = twin_after post_at spelled_post_at [] [] d after r ([], refl) (λ z s. rw (digit_no_bare z s) refl) (spelled_post_twins [] d after r e)
+post_twins (b ∷ []) d after r e = elim (cases_Bool (b == 45)) [
+  | inl h ↦ twin_after post_at bare_post_at (b ∷ []) [] d after r (b ∷ [], refl) (λ z s. rw (h, s) refl) (bare_post_twins [] d after r refl)
+  | inr h ↦ twin_after post_at spelled_post_at (b ∷ []) (b ∷ []) d after r ([], refl) (λ z s. rw h refl) (spelled_post_twins (b ∷ []) d after r e)
+]
+post_twins (b ∷ c ∷ t) d after r e = elim (cases_Bool (is_bare_post (b ∷ c ∷ t))) [
+  | inl h ↦ twin_after post_at bare_post_at (b ∷ c ∷ t) (c ∷ t) d after r (b ∷ [], refl) (λ z s. rw h refl) (bare_post_twins (c ∷ t) d after r e)
+  | inr h ↦ twin_after post_at spelled_post_at (b ∷ c ∷ t) (b ∷ c ∷ t) d after r ([], refl) (λ z s. rw h refl) (spelled_post_twins (b ∷ c ∷ t) d after r e)
+]
+
+-- ---- the release
+
+pub goes_short : (t : List ℕ) → goes_on t ≡ true → suc (length (drop 1 t)) ≡ length t
+goes_short [] e = cc e
+goes_short (b ∷ t) e = refl
+
+pub long_end : (a b : List ℕ) → IsEnd a b → length b ≤ length a
+long_end a b h = let long = ap length h.1 ∙ length-append h.0 b in omega (arith, long)
+
+number_end : (t : List ℕ) (y : ℕ × List ℕ) → number_at t ≡ Ok y → IsEnd t y.1
+number_end = Rattle.pep440_version.proofs.Cutting.number_end
+
+pub no_room : (t : List ℕ) → starts_number t ≡ true → length t ≤ 0 → ⊥
+no_room [] s l = cc s
+no_room (b ∷ t) s l = omega (arith, l)
+
+-- as many numbers as there are
+pub fuel : (k j : ℕ) (t : List ℕ) → starts_number t ≡ true → length t ≤ k → length t ≤ j → release_at k t ≡ release_at j t
+unfolding release_at
+fuel zero j t s a b = absurd (no_room t s a)
+fuel (suc k) zero t s a b = absurd (no_room t s b)
+fuel (suc k) (suc j) t s a b = by (λ u. fuel k j u) (number_at t) refl
+  where
+    by : ((u : List ℕ) → starts_number u ≡ true → length u ≤ k → length u ≤ j → release_at k u ≡ release_at j u) → (r : Read (ℕ × List ℕ)) → number_at t ≡ r → release_at (suc k) t ≡ release_at (suc j) t
+    by again (Err e) o = rw o refl
+    by again (Ok n) o = elim (cases_Bool (goes_on n.1)) [
+      | inl h ↦
+          let short = goes_short n.1 h in
+          let long = long_end t n.1 (number_end t n o) in
+          rw (o, h, again (drop 1 n.1) (both_second _ _ h) (omega (arith, short, long, a)) (omega (arith, short, long, b))) refl
+      | inr h ↦ rw (o, h) refl
+    ]
+
+unfoldable pub all_release : Reader (List ℕ)
+all_release t = release_at (length t) t
+
+release_refused : (t : List ℕ) (e : Refusal) → starts_number t ≡ true → number_at t ≡ Err e → all_release t ≡ Err e
+unfolding all_release release_at
+release_refused [] e s h = cc s
+release_refused (b ∷ t) e s h = rw h refl
+
+pub release_one : all_release (codes "0") ≡ Ok (0 ∷ [], [])
+unfolding all_release release_at
+release_one = rw number_zero refl
+
+digit_no_goes : (z : List ℕ) → starts_number z ≡ true → goes_on z ≡ false
+digit_no_goes [] s = refl
+digit_no_goes (b ∷ z) s = rw (digit_not b 46 s (omega arith)) refl
+
+-- the release goes on, or ends there
+release_step : (b : ℕ) (t z u : List ℕ) (a : ℕ) → number_at (b ∷ t ++ z) ≡ Ok (a, u ++ z) → goes_on (u ++ z) ≡ false → all_release (b ∷ t ++ z) ≡ Ok (a ∷ [], u ++ z)
+unfolding all_release release_at
+release_step b t z u a h g = rw (h, g) refl
+
+release_more : (b : ℕ) (t z u : List ℕ) (a : ℕ) → number_at (b ∷ t ++ z) ≡ Ok (a, 46 ∷ u ++ z) → starts_number (u ++ z) ≡ true → length u ≤ length t
+    → all_release (b ∷ t ++ z) ≡ (all_release (u ++ z) >>= λ rest. Ok (a ∷ rest.0, rest.1))
+unfolding all_release release_at
+release_more b t z u a h g l =
+    let l1 = length-append t z in
+    let l2 = length-append u z in
+    rw (h, g, fuel (length (t ++ z)) (length (u ++ z)) (u ++ z) g (omega (arith, l, l1, l2)) (omega arith)) refl
+
+release_then : (m : ℕ) → ((front d after : List ℕ) → length front ≤ m → (front ≡ []) ⊎ (starts_number front ≡ true) → IsRun d after → ends is_ascii_digit front ≡ false → Twin all_release front d after)
+    → (b : ℕ) (t u d after : List ℕ) (a : ℕ) → length t ≤ m → IsRun d after → IsEnd (b ∷ t) u → ends is_ascii_digit u ≡ false
+    → ((z : List ℕ) → number_at (b ∷ t ++ z) ≡ Ok (a, u ++ z)) → Twin all_release (b ∷ t) d after
+release_then m again b t [] d after a room r end e h = Stays (a ∷ []) [] end (λ z s. release_step b t z [] a (h z) (digit_no_goes z s))
+release_then m again b t (c ∷ u) d after a room r end e h = elim (cases_Bool (c == 46)) [
+  | inl dot ↦
+      let short = long_end (b ∷ t) (c ∷ u) end in
+      more u (omega (arith, short)) end e (eqb-true c 46 dot) h
+  | inr none ↦ Stays (a ∷ []) (c ∷ u) end (λ z s. release_step b t z (c ∷ u) a (h z) (rw none refl))
+]
+  where
+    more : (u : List ℕ) → length u ≤ length t → IsEnd (b ∷ t) (c ∷ u) → ends is_ascii_digit (c ∷ u) ≡ false → c ≡ 46 → ((z : List ℕ) → number_at (b ∷ t ++ z) ≡ Ok (a, (c ∷ u) ++ z)) → Twin all_release (b ∷ t) d after
+    more [] short end e dot h =
+        let later : IsEnd (b ∷ t) [] = (b ∷ t, sym (append-nil (b ∷ t))) in
+        twin_after all_release (λ t. all_release t >>= λ rest. Ok (a ∷ rest.0, rest.1)) (b ∷ t) [] d after r later (λ z s. release_more b t z [] a (h z ∙ (λ i. Ok (a, dot i ∷ z))) s (omega arith))
+        (bind_twin all_release (λ ns t. Ok (a ∷ ns, t)) [] d after (again [] d after (omega arith) (inl refl) r refl) (λ ns v g. done_twin (a ∷ ns) v d after) (λ ns. (a ∷ ns, refl)) r)
+    more (x ∷ u) short end e dot h = elim (cases_Bool (is_ascii_digit x)) [
+      | inl digit ↦
+          let later : IsEnd (b ∷ t) (x ∷ u) = end_of (b ∷ t) (c ∷ x ∷ u) (x ∷ u) end (c ∷ [], refl) in
+          twin_after all_release (λ t. all_release t >>= λ rest. Ok (a ∷ rest.0, rest.1)) (b ∷ t) (x ∷ u) d after r later (λ z s. release_more b t z (x ∷ u) a (h z ∙ (λ i. Ok (a, dot i ∷ x ∷ u ++ z))) digit short)
+          (bind_twin all_release (λ ns t. Ok (a ∷ ns, t)) (x ∷ u) d after (again (x ∷ u) d after (omega (arith, short, room)) (inr digit) r e) (λ ns v g. done_twin (a ∷ ns) v d after) (λ ns. (a ∷ ns, refl)) r)
+      | inr none ↦ Stays (a ∷ []) (c ∷ x ∷ u) end (λ z s. release_step b t z (c ∷ x ∷ u) a (h z) (rw (dot, none) refl))
+    ]
+
+pub release_twin : (m : ℕ) (front d after : List ℕ) → length front ≤ m → (front ≡ []) ⊎ (starts_number front ≡ true) → IsRun d after → ends is_ascii_digit front ≡ false → Twin all_release front d after
+release_twin m [] d after room first r e = Stops (0 ∷ []) release_one (release_refused (d ++ after) (NumberTooBig d) (run_starts d after after r) (run_refused d after r))
+release_twin zero (b ∷ t) d after room first r e = absurd (omega (arith, room))
+release_twin (suc m) (b ∷ t) d after room (inl none) r e = cc none
+release_twin (suc m) (b ∷ t) d after room (inr first) r e = elim (number_stays (b ∷ t) (omega arith) e) [
+  | inl h ↦ release_then m (release_twin m) b t h.1 d after h.0 (omega (arith, room)) r h.2 (ends_end is_ascii_digit (b ∷ t) h.1 h.2 e) h.3
+  | inr h ↦ Fails h.0 (λ z s. release_refused (b ∷ t ++ z) h.0 first (h.1 z))
+]
+
+pub after_twin : (epoch : ℕ) (front d after : List ℕ) → (front ≡ []) ⊎ (starts_number front ≡ true) → IsRun d after → ends is_ascii_digit front ≡ false → Twin (release_after epoch) front d after
+unfolding all_release
+after_twin epoch front d after first r e =
+    bind_twin all_release (λ ns t. Ok ((epoch, ns), t)) front d after (release_twin (length front) front d after (omega arith) first r e) (λ ns u h. done_twin (epoch, ns) u d after) (λ ns. ((epoch, ns), refl)) r
+
+-- ---- epoch and release
+
+pub front_zero : front_at (codes "0") ≡ Ok ((0, 0 ∷ []), [])
+unfolding front_at all_release release_at
+front_zero = rw number_zero refl
+
+front_refused : (t : List ℕ) (e : Refusal) → starts_number t ≡ true → number_at t ≡ Err e → front_at t ≡ Err e
+unfolding front_at
+front_refused t e s h = rw (s, h) refl
+
+no_bang : (z : List ℕ) → starts_number z ≡ true → starts (λ b. b == 33) z ≡ false
+no_bang [] s = refl
+no_bang (b ∷ z) s = digit_not b 33 s (omega arith)
+
+pub front_twins : Twins front_at
+unfolding front_at
+front_twins [] d after r e = Stops (0, 0 ∷ []) front_zero (front_refused (d ++ after) (NumberTooBig d) (run_starts d after after r) (run_refused d after r))
+front_twins (b ∷ t) d after r e = elim (cases_Bool (is_ascii_digit b)) [
+  | inl first ↦ elim (number_stays (b ∷ t) (omega arith) e) [
+    | inl h ↦ on h.0 h.1 first h.2 h.3
+    | inr h ↦ Fails h.0 (λ z s. rw (first, h.1 z) refl)
+  ]
+  | inr none ↦ Fails NoLeadingNumber (λ z s. rw none refl)
+]
+  where
+    on : (a : ℕ) (u : List ℕ) → is_ascii_digit b ≡ true → IsEnd (b ∷ t) u → ((z : List ℕ) → number_at (b ∷ t ++ z) ≡ Ok (a, u ++ z)) → Twin front_at (b ∷ t) d after
+    on a [] first end h = twin_after front_at (release_after 0) (b ∷ t) (b ∷ t) d after r ([], refl) (λ z s. rw (first, h z, no_bang z s) refl) (after_twin 0 (b ∷ t) d after (inr first) r e)
+    on a (c ∷ u) first end h = elim (cases_Bool (c == 33)) [
+      | inl bang ↦ epoch u bang (end_of (b ∷ t) (c ∷ u) u end (c ∷ [], refl)) h
+      | inr none ↦ twin_after front_at (release_after 0) (b ∷ t) (b ∷ t) d after r ([], refl) (λ z s. rw (first, h z, none) refl) (after_twin 0 (b ∷ t) d after (inr first) r e)
+    ]
+      where
+        epoch : (u : List ℕ) → (c == 33) ≡ true → IsEnd (b ∷ t) u → ((z : List ℕ) → number_at (b ∷ t ++ z) ≡ Ok (a, (c ∷ u) ++ z)) → Twin front_at (b ∷ t) d after
+        epoch [] bang later h = twin_after front_at (release_after a) (b ∷ t) [] d after r later (λ z s. rw (first, h z, bang, s) refl) (after_twin a [] d after (inl refl) r refl)
+        epoch (x ∷ u) bang later h = elim (cases_Bool (is_ascii_digit x)) [
+          | inl digit ↦ twin_after front_at (release_after a) (b ∷ t) (x ∷ u) d after r later (λ z s. rw (first, h z, bang, digit) refl) (after_twin a (x ∷ u) d after (inr digit) r (ends_end is_ascii_digit (b ∷ t) (x ∷ u) later e))
+          | inr none ↦ Fails NoLeadingReleaseNumber (λ z s. rw (first, h z, bang, none) refl)
+        ]
+
+pub mark_stays : (t z : List ℕ) → starts is_v z ≡ false → past_mark (t ++ z) ≡ past_mark t ++ z
+mark_stays [] z s = rw s refl
+mark_stays (b ∷ t) z s = elim (cases_Bool (is_v b)) [ inl h ↦ rw h refl | inr h ↦ rw h refl ]
+
+mark_end : (t : List ℕ) → IsEnd t (past_mark t)
+mark_end [] = ([], refl)
+mark_end (b ∷ t) = elim (cases_Bool (is_v b)) [
+  | inl e ↦ (b ∷ [], rw e refl)
+  | inr e ↦ ([], rw e refl)
+]
+
+pub opening_twins : Twins opening
+opening_twins front d after r e =
+    let later : List ℕ = past_mark (past is_blank front) in
+    let end : IsEnd front later = end_of front (past is_blank front) later (lead is_blank front, split is_blank front) (mark_end (past is_blank front)) in
+    twin_after opening front_at front later d after r end
+    (λ z s. ap (λ l. front_at (past_mark l)) (past_stays is_blank front z (starts_not is_ascii_digit is_blank digit_not_blank z s)) ∙ ap front_at (mark_stays (past is_blank front) z (starts_not is_ascii_digit is_v digit_not_v z s)))
+    (front_twins later d after r (ends_end is_ascii_digit front later end e))
+
+pub star_stays : (u z : List ℕ) → starts_number z ≡ true → is_star (u ++ z) ≡ is_star u
+star_stays [] [] s = cc s
+star_stays [] (b ∷ z) s = rw (digit_not b 46 s (omega arith)) refl
+star_stays (c ∷ []) [] s = cc s
+star_stays (c ∷ []) (b ∷ z) s = ap (λ x. (c == 46) && x) (digit_not b 42 s (omega arith))
+star_stays (c ∷ x ∷ u) z s = refl
+
+-- ---- the parts after the release, where no `+` is
+
+abbrev pub Lacks : List ℕ → Type 0
+Lacks t = Rattle.std.specs.List.list_any (λ b. b == 43) t ≡ false
+
+pub lacks_end : (a b : List ℕ) → IsEnd a b → Lacks a → Lacks b
+lacks_end a b h e = both (Rattle.std.specs.List.list_any (λ b. b == 43) h.0) (Rattle.std.specs.List.list_any (λ b. b == 43) b) (sym (Rattle.std.proofs.lemmas.List.Folds.list_any-append (λ b. b == 43) h.0 b) ∙ ap (Rattle.std.specs.List.list_any (λ b. b == 43)) (sym h.1) ∙ e)
+  where
+    both : (x y : Bool) → (x || y) ≡ false → y ≡ false
+    both false y e = e
+    both true y e = cc e
+
+plus_first : (t : List ℕ) → Lacks t → starts_local t ≡ false
+plus_first [] e = refl
+plus_first (b ∷ t) e = elim (cases_Bool (b == 43)) [ inl h ↦ let none = rw h at e in cc none | inr h ↦ h ]
+
+no_plus : (z : List ℕ) → starts_number z ≡ true → starts_local z ≡ false
+no_plus [] s = refl
+no_plus (b ∷ z) s = digit_not b 43 s (omega arith)
+
+local_twin : (front d after : List ℕ) → Lacks front → Twin local_at front d after
+local_twin front d after l = Stays [] front ([], refl) (λ z s. rw (starts_stays (λ b. b == 43) front z (no_plus z s), plus_first front l) refl)
+
+pub parts_twin : (epoch : ℕ) (release : List ℕ) (front d after : List ℕ) → IsRun d after → ends is_ascii_digit front ≡ false → Lacks front → Twin (parts_at epoch release) front d after
+unfolding parts_at
+parts_twin epoch release front d after r e l =
+    bind_twin pre_at (λ p t. post_at t >>= λ q. dev_at q.1 >>= λ d. local_at d.1 >>= λ l. Ok (record_of epoch release p q.0 d.0 l.0, l.1)) front d after (pre_twins front d after r e) (λ p u hu.
+    bind_twin post_at (λ q t. dev_at t >>= λ d. local_at d.1 >>= λ l. Ok (record_of epoch release p q d.0 l.0, l.1)) u d after (post_twins u d after r (ends_end is_ascii_digit front u hu e)) (λ q v hv.
+    let fv = end_of front u v hu hv in
+    bind_twin dev_at (λ d t. local_at t >>= λ l. Ok (record_of epoch release p q d l.0, l.1)) v d after (dev_twins v d after r (ends_end is_ascii_digit front v fv e)) (λ x w hw.
+    let fw = end_of front v w fv hw in
+    bind_twin local_at (λ l t. Ok (record_of epoch release p q x l, t)) w d after (local_twin w d after (lacks_end front w fw l)) (λ l y hy. done_twin (record_of epoch release p q x l) y d after)
+    (λ l. (record_of epoch release p q x l, refl)) r) (λ x. (record_of epoch release p q x [], refl)) r) (λ q. (record_of epoch release p q None [], refl)) r) (λ p. (record_of epoch release p None None [], refl)) r

@@ -1,0 +1,56 @@
+-- What a version gives to a hasher: the parts of its key, each number as a write of its own.
+use Rattle.std.specs.Prelude.{Bool, ℕ, List, [], ◌∷◌, ◌++◌, length}
+use Rattle.std.specs.Hash.{HashWrites, u64}
+use Rattle.std.specs.List.{flat_map}
+use Rattle.pep440_version.specs.declared.prerelease.PrereleaseKind.{PrereleaseKind}
+use Rattle.pep440_version.specs.declared.prerelease.PrereleaseKind.TheVariants.{Alpha, Beta, Rc}
+use Rattle.pep440_version.specs.declared.prerelease.Prerelease.{Prerelease}
+use Rattle.pep440_version.specs.Key.{Key, key, Stage, Min, Dev, Pre, Final, stage_rank, PostPlace, NoPost, PostAt, PostTop, DevPlace, DevAt, NoDev, star_number}
+use Rattle.pep440_version.specs.KeyLaws.{trim}
+use Rattle.pep440_version.specs.Record.{Record, Segment, Text, Number}
+
+abbrev pub feed_stage : Stage → HashWrites
+feed_stage Min = u64 0
+feed_stage Dev = u64 1
+feed_stage (Pre k n) = u64 (stage_rank (Pre k n)) ++ u64 n
+feed_stage Final = u64 5
+
+abbrev pub feed_post : PostPlace → HashWrites
+feed_post NoPost = u64 0
+feed_post (PostAt p) = u64 1 ++ u64 p
+feed_post (PostTop m) = u64 2 ++ u64 m
+
+abbrev pub feed_dev : DevPlace → HashWrites
+feed_dev (DevAt d) = u64 0 ++ u64 d
+feed_dev NoDev = u64 1
+
+-- a text is its length and its bytes
+abbrev pub feed_segment : Segment → HashWrites
+feed_segment (Text t) = u64 0 ++ u64 (length t) ++ (t ∷ [])
+feed_segment (Number n) = u64 1 ++ u64 n
+
+-- a release without the zeros at its end, after its count
+abbrev pub feed_numbers : List ℕ → HashWrites
+feed_numbers numbers = u64 (length numbers) ++ flat_map u64 numbers
+
+abbrev pub feed_local : List Segment → HashWrites
+feed_local segments = u64 (length segments) ++ flat_map feed_segment segments
+
+abbrev pub feed_key : Key → HashWrites
+feed_key k = u64 k.epoch ++ feed_numbers (trim k.release) ++ feed_stage k.stage ++ feed_post k.post ++ feed_dev k.dev ++ feed_local k.local
+
+abbrev pub feed : Record → HashWrites
+feed r = feed_key (key r)
+
+-- a kind by its place, and a pre-release as its kind and number
+abbrev pub feed_kind : PrereleaseKind → HashWrites
+feed_kind Alpha = u64 0
+feed_kind Beta = u64 1
+feed_kind Rc = u64 2
+
+abbrev pub feed_prerelease : Prerelease → HashWrites
+feed_prerelease p = feed_kind p.kind ++ u64 p.number
+
+-- a pattern: its version, and whether a star follows
+abbrev pub feed_pattern : Record × Bool → HashWrites
+feed_pattern p = feed p.0 ++ u64 (star_number p.1)

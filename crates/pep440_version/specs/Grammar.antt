@@ -1,0 +1,145 @@
+-- The texts of versions (PEP 440, "Public version identifiers", "Normalization" and Appendix B): a text means a
+-- record if it can be cut into w1 v E R P Q D L w2, each the text of its part.
+use Rattle.std.specs.Prelude.{◌≡◌, ℕ, ◌<◌, ◌==◌, ◌||◌, ◌⊎◌, Bool, true, List, [], ◌∷◌, ◌++◌, codes, length, ◌^◌, ◌&&◌, false, map, Option, Some, None, nat_lt, if◌then◌else◌}
+use Rattle.std.specs.Char.{is_ascii_digit, is_ascii_alphanumeric, to_ascii_lowercase}
+use Rattle.std.specs.List.{list_all}
+use Rattle.std.specs.Str.Parse.{digits_value}
+use Rattle.pep440_version.specs.Record.{Fits, Record, Segment, Text, Number}
+use Rattle.pep440_version.specs.declared.prerelease.PrereleaseKind.{PrereleaseKind}
+use Rattle.pep440_version.specs.declared.prerelease.PrereleaseKind.TheVariants.{Alpha, Beta, Rc}
+use Rattle.pep440_version.specs.declared.prerelease.Prerelease.{Prerelease}
+
+-- the first byte passes the test
+abbrev pub starts : (ℕ → Bool) → List ℕ → Bool
+starts test [] = false
+starts test (b ∷ rest) = test b
+
+-- the bytes 9, 10, 12, 13 and 32
+abbrev pub is_blank : ℕ → Bool
+is_blank b = (b == 9) || (b == 10) || (b == 12) || (b == 13) || (b == 32)
+
+abbrev pub AreBlanks : List ℕ → Type 0
+AreBlanks text = list_all is_blank text ≡ true
+
+-- the letter v, in either case
+abbrev pub is_v : ℕ → Bool
+is_v b = (b == 118) || (b == 86)
+
+-- nothing, or the letter v
+abbrev pub IsMark : List ℕ → Type 0
+IsMark text = (text ≡ []) ⊎ (text ≡ codes "v") ⊎ (text ≡ codes "V")
+
+-- one or more digits, zeros may lead, with a value that fits
+abbrev pub IsNumber : List ℕ → ℕ → Type 0
+IsNumber digits n = (0 < length digits) × (list_all is_ascii_digit digits ≡ true) × (digits_value 10 digits ≡ n) × Fits n
+
+-- nothing, or a number and `!`
+abbrev pub IsEpoch : List ℕ → ℕ → Type 0
+IsEpoch text epoch = ((text ≡ []) × (epoch ≡ 0)) ⊎ ((digits : List ℕ) × IsNumber digits epoch × (text ≡ digits ++ codes "!"))
+
+-- numbers joined by `.`, at least one
+abbrev pub IsRelease : List ℕ → List ℕ → Type 0
+IsRelease text [] = ⊥
+IsRelease text (n ∷ []) = IsNumber text n
+IsRelease text (n ∷ m ∷ rest) = (digits after : List ℕ) × IsNumber digits n × IsRelease after (m ∷ rest) × (text ≡ digits ++ (codes "." ++ after))
+
+abbrev pub is_separator : ℕ → Bool
+is_separator b = (b == 46) || (b == 45) || (b == 95)
+
+-- a separator, or nothing
+abbrev pub IsSeparator : List ℕ → Type 0
+IsSeparator text = (text ≡ []) ⊎ ((b : ℕ) × (is_separator b ≡ true) × (text ≡ b ∷ []))
+
+-- a number, or nothing for 0
+abbrev pub IsCount : List ℕ → ℕ → Type 0
+IsCount text n = ((text ≡ []) × (n ≡ 0)) ⊎ IsNumber text n
+
+-- how parts are spelled, without ASCII case
+abbrev pub Spellings : Type 0 → Type 0
+Spellings A = List (List ℕ × A)
+
+abbrev pub pre_spellings : Spellings PrereleaseKind
+pre_spellings = (codes "alpha", Alpha) ∷ (codes "a", Alpha) ∷ (codes "beta", Beta) ∷ (codes "b", Beta)
+    ∷ (codes "rc", Rc) ∷ (codes "c", Rc) ∷ (codes "preview", Rc) ∷ (codes "pre", Rc) ∷ []
+
+abbrev pub post_spellings : Spellings (Unit {0})
+post_spellings = (codes "post", tt) ∷ (codes "rev", tt) ∷ (codes "r", tt) ∷ []
+
+abbrev pub dev_spellings : Spellings (Unit {0})
+dev_spellings = (codes "dev", tt) ∷ []
+
+abbrev pub IsSpelling : {A : Type 0} → Spellings A → List ℕ → A → Type 0
+IsSpelling [] word a = ⊥
+IsSpelling (s ∷ rest) word a = ((map to_ascii_lowercase word ≡ s.0) × (a ≡ s.1)) ⊎ IsSpelling rest word a
+
+-- a part that is spelled: separator, spelling, separator, count; then come after. A separator directly
+-- after the spelling belongs to the part, and so do digits that then stand there.
+pub record IsSpelled {A : Type 0} (table : Spellings A) (part after : List ℕ) (a : A) (n : ℕ) : Type 0 where
+  pub before : List ℕ
+  pub word : List ℕ
+  pub between : List ℕ
+  pub digits : List ℕ
+  pub cut : part ≡ before ++ (word ++ (between ++ digits))
+  pub first : IsSeparator before
+  pub spelling : IsSpelling table word a
+  pub second : IsSeparator between
+  pub count : IsCount digits n
+  pub keeps_separator : between ≡ [] → digits ≡ [] → starts is_separator after ≡ false
+  pub keeps_digits : starts is_ascii_digit after ≡ false
+
+abbrev pub IsPre : List ℕ → List ℕ → Option Prerelease → Type 0
+IsPre part after None = part ≡ []
+IsPre part after (Some p) = IsSpelled pre_spellings part after p.kind p.number
+
+abbrev pub IsPost : List ℕ → List ℕ → Option ℕ → Type 0
+IsPost part after None = part ≡ []
+IsPost part after (Some n) = ((digits : List ℕ) × IsNumber digits n × (part ≡ codes "-" ++ digits)) ⊎ IsSpelled post_spellings part after tt n
+
+abbrev pub IsDev : List ℕ → List ℕ → Option ℕ → Type 0
+IsDev part after None = part ≡ []
+IsDev part after (Some n) = IsSpelled dev_spellings part after tt n
+
+-- digits whose value fits are a number, and every other segment is its lower-cased text
+abbrev pub segment_of : List ℕ → Segment
+segment_of text =
+    if list_all is_ascii_digit text && nat_lt (digits_value 10 text) (2 ^ 64) then Number (digits_value 10 text)
+    else Text (map to_ascii_lowercase text)
+
+-- one or more ASCII letters and digits
+abbrev pub IsSegment : List ℕ → Segment → Type 0
+IsSegment text s = (0 < length text) × (list_all is_ascii_alphanumeric text ≡ true) × (s ≡ segment_of text)
+
+-- segments joined by separators
+abbrev pub AreSegments : List ℕ → List Segment → Type 0
+AreSegments text [] = ⊥
+AreSegments text (s ∷ []) = IsSegment text s
+AreSegments text (s ∷ t ∷ rest) = (first after : List ℕ) × (b : ℕ) × IsSegment first s × (is_separator b ≡ true) × AreSegments after (t ∷ rest) × (text ≡ first ++ (b ∷ after))
+
+-- nothing, or `+` and segments
+abbrev pub IsLocal : List ℕ → List Segment → Type 0
+IsLocal part [] = part ≡ []
+IsLocal part (s ∷ rest) = (text : List ℕ) × AreSegments text (s ∷ rest) × (part ≡ codes "+" ++ text)
+
+-- the text means the record
+pub record Derives (text : List ℕ) (r : Record) : Type 0 where
+  pub w1 : List ℕ
+  pub v : List ℕ
+  pub e : List ℕ
+  pub n : List ℕ
+  pub p : List ℕ
+  pub q : List ℕ
+  pub d : List ℕ
+  pub l : List ℕ
+  pub w2 : List ℕ
+  pub cut : text ≡ w1 ++ (v ++ (e ++ (n ++ (p ++ (q ++ (d ++ (l ++ w2)))))))
+  pub blanks : AreBlanks w1
+  pub mark : IsMark v
+  pub epoch : IsEpoch e r.epoch
+  pub release : IsRelease n r.release
+  pub pre : IsPre p (q ++ (d ++ (l ++ w2))) r.pre
+  pub post : IsPost q (d ++ (l ++ w2)) r.post
+  pub dev : IsDev d (l ++ w2) r.dev
+  pub local : IsLocal l r.local
+  pub end : AreBlanks w2
+  pub no_min : r.min ≡ None
+  pub no_max : r.max ≡ None

@@ -1,0 +1,88 @@
+-- The order of keys is total. Releases compare as what is left of them without the zeros at their end.
+use Rattle.std.proofs.Common.{◌≡◌, ◌==◌, Bool, ℕ, List, [], ◌∷◌, refl, sym, ap, ◌∙◌, arith, subst, if◌then◌else◌}
+use Rattle.std.proofs.lemmas.Bool.Decides.{nat_tests}
+use Rattle.std.specs.Ordering.{nat_cmp, on, ordering_then, eq_by_cmp, as_partial_cmp}
+use Rattle.std.specs.Cmp.{IsPartialOrder, po, IsTotalOrder, IsEquivalence, eq_by_cmp_equiv, nat_cmp_total, on_total, then_total}
+use Rattle.std.specs.Cmp.Lexicographic.{lists_total, nat_list_cmp_total, slice_cmp}
+use Rattle.pep440_version.specs.Key.{Key, key, key_cmp, record_cmp, release_cmp, stage_rank, stage_number, post_rank, post_number, dev_rank, dev_number, segment_cmp, segment_rank, segment_text, segment_number, kind_rank, kind_cmp, prerelease_cmp, pattern_cmp, star_number}
+use Rattle.pep440_version.specs.Record.{Record}
+use Rattle.pep440_version.specs.Segments.{segment}
+use Rattle.pep440_version.specs.declared.prerelease.Prerelease.{Prerelease}
+
+-- x before a release that has no zeros at its end
+abbrev pub before_trimmed : ℕ → List ℕ → List ℕ
+before_trimmed x [] = if x == 0 then [] else x ∷ []
+before_trimmed x (y ∷ ys) = x ∷ y ∷ ys
+
+-- a release without the zeros at its end
+abbrev pub trim : List ℕ → List ℕ
+trim [] = []
+trim (x ∷ xs) = before_trimmed x (trim xs)
+
+trimmed_step : (x y : ℕ) (a b : List ℕ) → ordering_then (nat_cmp x y) (slice_cmp nat_cmp a b) ≡ slice_cmp nat_cmp (before_trimmed x a) (before_trimmed y b)
+trimmed_step x y [] [] = grind (arith, nat_tests)
+trimmed_step x y [] (b ∷ bs) = grind (arith, nat_tests)
+trimmed_step x y (a ∷ rest) [] = grind (arith, nat_tests)
+trimmed_step x y (a ∷ rest) (b ∷ bs) = refl
+
+pub release_cmp-trim : (xs ys : List ℕ) → release_cmp xs ys ≡ on trim (slice_cmp nat_cmp) xs ys
+release_cmp-trim [] [] = refl
+release_cmp-trim [] (y ∷ ys) = ap (ordering_then (nat_cmp 0 y)) (release_cmp-trim [] ys) ∙ trimmed_step 0 y [] (trim ys)
+release_cmp-trim (x ∷ xs) [] = ap (ordering_then (nat_cmp x 0)) (release_cmp-trim xs []) ∙ trimmed_step x 0 (trim xs) []
+release_cmp-trim (x ∷ xs) (y ∷ ys) = ap (ordering_then (nat_cmp x y)) (release_cmp-trim xs ys) ∙ trimmed_step x y (trim xs) (trim ys)
+
+pub release_total : IsTotalOrder release_cmp
+release_total = subst IsTotalOrder (λ i xs ys. sym (release_cmp-trim xs ys) i) (on_total trim nat_list_cmp_total)
+
+pub segment_total : IsTotalOrder segment_cmp
+segment_total = then_total (on_total segment_rank nat_cmp_total) (then_total (on_total segment_text nat_list_cmp_total) (on_total segment_number nat_cmp_total))
+
+pub key_total : IsTotalOrder key_cmp
+key_total = then_total (on_total (λ (k : Key). k.epoch) nat_cmp_total) (then_total (on_total (λ (k : Key). k.release) release_total)
+    (then_total (on_total (λ (k : Key). k.stage) (then_total (on_total stage_rank nat_cmp_total) (on_total stage_number nat_cmp_total)))
+    (then_total (on_total (λ (k : Key). k.post) (then_total (on_total post_rank nat_cmp_total) (on_total post_number nat_cmp_total)))
+    (then_total (on_total (λ (k : Key). k.dev) (then_total (on_total dev_rank nat_cmp_total) (on_total dev_number nat_cmp_total)))
+    (on_total (λ (k : Key). k.local) (lists_total segment_total))))))
+
+pub record_total : IsTotalOrder record_cmp
+record_total = on_total key key_total
+
+pub record_equiv : IsEquivalence (eq_by_cmp record_cmp)
+record_equiv = eq_by_cmp_equiv record_total
+
+-- the same of segments as they are held
+pub held_segment_total : IsTotalOrder (on segment segment_cmp)
+held_segment_total = on_total segment segment_total
+
+pub held_segment_equiv : IsEquivalence (eq_by_cmp (on segment segment_cmp))
+held_segment_equiv = eq_by_cmp_equiv held_segment_total
+
+pub held_segment_po : IsPartialOrder (eq_by_cmp (on segment segment_cmp)) (as_partial_cmp (on segment segment_cmp))
+held_segment_po = po held_segment_total (λ x y. refl)
+
+pub record_po : IsPartialOrder (eq_by_cmp record_cmp) (as_partial_cmp record_cmp)
+record_po = po record_total (λ x y. refl)
+
+pub kind_total : IsTotalOrder kind_cmp
+kind_total = on_total kind_rank nat_cmp_total
+
+pub kind_equiv : IsEquivalence (eq_by_cmp kind_cmp)
+kind_equiv = eq_by_cmp_equiv kind_total
+
+pub kind_po : IsPartialOrder (eq_by_cmp kind_cmp) (as_partial_cmp kind_cmp)
+kind_po = po kind_total (λ x y. refl)
+
+pub prerelease_total : IsTotalOrder prerelease_cmp
+prerelease_total = then_total (on_total (λ (p : Prerelease). p.kind) kind_total) (on_total (λ (p : Prerelease). p.number) nat_cmp_total)
+
+pub prerelease_equiv : IsEquivalence (eq_by_cmp prerelease_cmp)
+prerelease_equiv = eq_by_cmp_equiv prerelease_total
+
+pub prerelease_po : IsPartialOrder (eq_by_cmp prerelease_cmp) (as_partial_cmp prerelease_cmp)
+prerelease_po = po prerelease_total (λ x y. refl)
+
+pub pattern_total : IsTotalOrder pattern_cmp
+pattern_total = then_total (on_total (λ (p : Record × Bool). p.0) record_total) (on_total (λ (p : Record × Bool). star_number p.1) nat_cmp_total)
+
+pub pattern_equiv : IsEquivalence (eq_by_cmp pattern_cmp)
+pattern_equiv = eq_by_cmp_equiv pattern_total

@@ -1,0 +1,57 @@
+-- What a version means (PEP 440, "Public version identifiers" and "Local version identifiers"), apart
+-- from how it is held. min and max are marks of the crate, which no text gives.
+use Rattle.std.specs.Prelude.{ℕ, ◌<◌, ◌^◌, List, [], ◌∷◌, length, Option, Some, None, IfSome, slice_index}
+use Rattle.std.specs.List.{All}
+use Rattle.pep440_version.specs.declared.prerelease.Prerelease.{Prerelease}
+use Rattle.pep440_version.specs.declared.prerelease.PrereleaseKind.TheVariants.{Alpha}
+
+-- a segment of a local version: a text, by its bytes, or a number
+pub data Segment : Type 0 where
+  Text : List ℕ → Segment
+  Number : ℕ → Segment
+
+pub record Record : Type 0 where
+  pub epoch : ℕ
+  pub release : List ℕ
+  pub pre : Option Prerelease
+  pub post : Option ℕ
+  pub dev : Option ℕ
+  pub local : List Segment
+  pub min : Option ℕ
+  pub max : Option ℕ
+
+-- a number of the crate
+abbrev pub Fits : ℕ → Type 0
+Fits n = n < 2 ^ 64
+
+abbrev pub SegmentFits : Segment → Type 0
+SegmentFits (Text t) = Unit {0}
+SegmentFits (Number n) = Fits n
+
+-- the records that versions mean: each number fits, and there is a release
+pub record IsRecord (r : Record) : Type 0 where
+  pub epoch : Fits r.epoch
+  pub some : 0 < length r.release
+  pub release : (i : ℕ) → Fits (slice_index r.release i)
+  pub pre : IfSome r.pre (λ p. Fits p.number)
+  pub post : IfSome r.post Fits
+  pub dev : IfSome r.dev Fits
+  pub local : All SegmentFits r.local
+  pub min : IfSome r.min Fits
+  pub max : IfSome r.max Fits
+
+-- a release alone
+abbrev pub of_release : List ℕ → Record
+of_release numbers = record { epoch = 0; release = numbers; pre = None; post = None; dev = None; local = []; min = None; max = None }
+
+-- a record of epoch and release alone
+abbrev pub public_record : ℕ → List ℕ → Record
+public_record epoch release = record (of_release release) { epoch = epoch }
+
+-- a record of its parts, without marks
+abbrev pub of_parts : ℕ → List ℕ → Option Prerelease → Option ℕ → Option ℕ → List Segment → Record
+of_parts epoch release pre post dev local = record { epoch = epoch; release = release; pre = pre; post = post; dev = dev; local = local; min = None; max = None }
+
+-- `0a0.dev0`
+abbrev pub least_record : Record
+least_record = of_parts 0 (0 ∷ []) (Some (record { kind = Alpha; number = 0 })) None (Some 0) []

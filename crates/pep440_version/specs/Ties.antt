@@ -1,0 +1,158 @@
+-- Records that tie have the same key, but for zeros at the end of the release; so they feed a hasher alike.
+use Rattle.std.specs.Hash.{u64}
+use Rattle.std.proofs.Common.{◌≡◌, ◌==◌, Bool, ℕ, List, ◌++◌, refl, sym, ap, ◌∙◌, true, cond}
+use Rattle.std.specs.Ordering.{nat_cmp, on, ordering_then, eq_by_cmp}
+use Rattle.std.specs.Cmp.{Equal-is}
+use Rattle.std.specs.Cmp.Lexicographic.{slice_cmp}
+use Rattle.std.specs.FinMap.{nat_cmp-IsAntisymmetric, slice_cmp-IsAntisymmetric}
+use Rattle.std.specs.declared.cmp.Ordering.{Ordering}
+use Rattle.std.specs.declared.cmp.Ordering.TheVariants.{Less, Equal, Greater}
+use Rattle.pep440_version.specs.declared.prerelease.PrereleaseKind.TheVariants.{Alpha, Beta, Rc}
+use Rattle.pep440_version.specs.Feed.{feed, feed_segment, feed_kind, feed_prerelease, feed_pattern}
+use Rattle.pep440_version.specs.Key.{Key, key, key_cmp, record_cmp, Stage, Min, Dev, Pre, Final, PostPlace, NoPost, PostAt, PostTop, DevPlace, DevAt, NoDev, stage_cmp, stage_rank, stage_number, post_cmp, post_rank, post_number, dev_cmp, dev_rank, dev_number, segment_cmp, segment_rank, segment_text, segment_number, kind_rank, kind_cmp, prerelease_cmp, pattern_cmp, star_number}
+use Rattle.pep440_version.specs.KeyLaws.{trim, release_cmp-trim}
+use Rattle.pep440_version.specs.Record.{Record, Segment, Text, Number}
+use Rattle.pep440_version.specs.Segments.{segment}
+use Rattle.pep440_version.specs.declared.segment.LocalSegment.{LocalSegment}
+use Rattle.pep440_version.specs.declared.prerelease.PrereleaseKind.{PrereleaseKind}
+use Rattle.pep440_version.specs.declared.prerelease.Prerelease.{Prerelease}
+
+first : (r s : Ordering) → ordering_then r s ≡ Equal → r ≡ Equal
+first Less s e = cc e
+first Equal s e = refl
+first Greater s e = cc e
+
+second : (r s : Ordering) → ordering_then r s ≡ Equal → s ≡ Equal
+second Less s e = cc e
+second Equal s e = e
+second Greater s e = cc e
+
+stage_from : ℕ → ℕ → Stage
+stage_from rank n = cond (rank == 0) Min (cond (rank == 1) Dev (cond (rank == 2) (Pre Alpha n) (cond (rank == 3) (Pre Beta n) (cond (rank == 4) (Pre Rc n) Final))))
+
+stage_back : (s : Stage) → stage_from (stage_rank s) (stage_number s) ≡ s
+unfolding stage_from
+stage_back Min = refl
+stage_back Dev = refl
+stage_back (Pre Alpha n) = refl
+stage_back (Pre Beta n) = refl
+stage_back (Pre Rc n) = refl
+stage_back Final = refl
+
+post_from : ℕ → ℕ → PostPlace
+post_from rank n = cond (rank == 0) NoPost (cond (rank == 1) (PostAt n) (PostTop n))
+
+post_back : (s : PostPlace) → post_from (post_rank s) (post_number s) ≡ s
+unfolding post_from
+post_back NoPost = refl
+post_back (PostAt n) = refl
+post_back (PostTop n) = refl
+
+dev_from : ℕ → ℕ → DevPlace
+dev_from rank n = cond (rank == 0) (DevAt n) NoDev
+
+dev_back : (s : DevPlace) → dev_from (dev_rank s) (dev_number s) ≡ s
+unfolding dev_from
+dev_back (DevAt n) = refl
+dev_back NoDev = refl
+
+segment_from : ℕ → List ℕ → ℕ → Segment
+segment_from rank t n = cond (rank == 0) (Text t) (Number n)
+
+segment_back : (s : Segment) → segment_from (segment_rank s) (segment_text s) (segment_number s) ≡ s
+unfolding segment_from
+segment_back (Text t) = refl
+segment_back (Number n) = refl
+
+same_number : (m n : ℕ) → nat_cmp m n ≡ Equal → m ≡ n
+same_number = nat_cmp-IsAntisymmetric
+
+same_text : (s t : List ℕ) → slice_cmp nat_cmp s t ≡ Equal → s ≡ t
+same_text = slice_cmp-IsAntisymmetric nat_cmp-IsAntisymmetric
+
+same_stage : (x y : Stage) → stage_cmp x y ≡ Equal → x ≡ y
+same_stage x y e =
+    let rank = same_number _ _ (first _ _ e) in
+    let number = same_number _ _ (second _ _ e) in
+    sym (stage_back x) ∙ (λ i. stage_from (rank i) (number i)) ∙ stage_back y
+
+same_post : (x y : PostPlace) → post_cmp x y ≡ Equal → x ≡ y
+same_post x y e =
+    let rank = same_number _ _ (first _ _ e) in
+    let number = same_number _ _ (second _ _ e) in
+    sym (post_back x) ∙ (λ i. post_from (rank i) (number i)) ∙ post_back y
+
+same_dev : (x y : DevPlace) → dev_cmp x y ≡ Equal → x ≡ y
+same_dev x y e =
+    let rank = same_number _ _ (first _ _ e) in
+    let number = same_number _ _ (second _ _ e) in
+    sym (dev_back x) ∙ (λ i. dev_from (rank i) (number i)) ∙ dev_back y
+
+same_segment : (x y : Segment) → segment_cmp x y ≡ Equal → x ≡ y
+same_segment x y e =
+    let rank = same_number _ _ (first _ _ e) in
+    let rest = second _ _ e in
+    let text = same_text _ _ (first _ _ rest) in
+    let number = same_number _ _ (second _ _ rest) in
+    sym (segment_back x) ∙ (λ i. segment_from (rank i) (text i) (number i)) ∙ segment_back y
+
+-- equal keys, but for zeros at the end of the release
+pub record SameKey (x y : Key) : Type 0 where
+  pub epoch : x.epoch ≡ y.epoch
+  pub release : trim x.release ≡ trim y.release
+  pub stage : x.stage ≡ y.stage
+  pub post : x.post ≡ y.post
+  pub dev : x.dev ≡ y.dev
+  pub local : x.local ≡ y.local
+
+pub ties : (x y : Key) → key_cmp x y ≡ Equal → SameKey x y
+ties x y e =
+    let a = second _ _ e in
+    let b = second _ _ a in
+    let c = second _ _ b in
+    let d = second _ _ c in
+    record {
+      epoch = same_number x.epoch y.epoch (first _ _ e);
+      release = same_text (trim x.release) (trim y.release) (sym (release_cmp-trim x.release y.release) ∙ first _ _ a);
+      stage = same_stage x.stage y.stage (first _ _ b);
+      post = same_post x.post y.post (first _ _ c);
+      dev = same_dev x.dev y.dev (first _ _ d);
+      local = slice_cmp-IsAntisymmetric same_segment x.local y.local (second _ _ d);
+    }
+
+pub feeds_alike : (x y : Record) → eq_by_cmp record_cmp x y ≡ true → feed x ≡ feed y
+feeds_alike x y e =
+    let t = ties (key x) (key y) ((Equal-is (record_cmp x y)).0 e) in
+    rw (t.epoch, t.release, t.stage, t.post, t.dev, t.local) refl
+
+pub segments_feed_alike : (x y : LocalSegment) → eq_by_cmp (on segment segment_cmp) x y ≡ true → feed_segment (segment x) ≡ feed_segment (segment y)
+segments_feed_alike x y e = ap feed_segment (same_segment (segment x) (segment y) ((Equal-is (on segment segment_cmp x y)).0 e))
+
+kind_from : ℕ → PrereleaseKind
+kind_from rank = cond (rank == 0) Alpha (cond (rank == 1) Beta Rc)
+
+kind_back : (k : PrereleaseKind) → kind_from (kind_rank k) ≡ k
+unfolding kind_from
+kind_back Alpha = refl
+kind_back Beta = refl
+kind_back Rc = refl
+
+same_kind : (x y : PrereleaseKind) → kind_cmp x y ≡ Equal → x ≡ y
+same_kind x y e = sym (kind_back x) ∙ ap kind_from (same_number _ _ e) ∙ kind_back y
+
+pub kinds_feed_alike : (x y : PrereleaseKind) → eq_by_cmp kind_cmp x y ≡ true → feed_kind x ≡ feed_kind y
+kinds_feed_alike x y e = ap feed_kind (same_kind x y ((Equal-is (kind_cmp x y)).0 e))
+
+pub prereleases_feed_alike : (x y : Prerelease) → eq_by_cmp prerelease_cmp x y ≡ true → feed_prerelease x ≡ feed_prerelease y
+prereleases_feed_alike x y e =
+    let t = (Equal-is (prerelease_cmp x y)).0 e in
+    let kind = same_kind x.kind y.kind (first _ _ t) in
+    let number = same_number x.number y.number (second _ _ t) in
+    λ i. feed_kind (kind i) ++ u64 (number i)
+
+pub patterns_feed_alike : (p q : Record × Bool) → eq_by_cmp pattern_cmp p q ≡ true → feed_pattern p ≡ feed_pattern q
+patterns_feed_alike p q e =
+    let same = (Equal-is (pattern_cmp p q)).0 e in
+    let version = feeds_alike p.0 q.0 ((Equal-is (record_cmp p.0 q.0)).1 (first _ _ same)) in
+    let star = same_number (star_number p.1) (star_number q.1) (second _ _ same) in
+    λ i. version i ++ u64 (star i)

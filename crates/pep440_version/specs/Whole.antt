@@ -1,0 +1,72 @@
+-- How a whole text is read, from the left: as a pattern, and as a version.
+use Rattle.std.specs.Prelude.{ℕ, ◌-◌, ◌==◌, ◌&&◌, Bool, true, false, List, length, take, drop, Result, Ok, Err, None, if◌then◌else◌}
+use Rattle.pep440_version.specs.Grammar.{is_blank, starts}
+use Rattle.pep440_version.specs.Locals.{local_at}
+use Rattle.pep440_version.specs.Reading.{Read, ◌>>=◌, past, past_mark, starts_number, number_at, release_at}
+use Rattle.pep440_version.specs.Record.{Record, public_record}
+use Rattle.pep440_version.specs.Refusals.{Wildcard, NoLeadingNumber, NoLeadingReleaseNumber, UnexpectedEnd}
+use Rattle.pep440_version.specs.Suffixes.{pre_at, post_at, dev_at}
+use Rattle.pep440_version.specs.Reading.{release_from}
+use Rattle.pep440_version.specs.Refusals.{WildcardNotTrailing, OfVersion, PatternRefusal}
+
+-- the release at the front, after an epoch
+abbrev pub release_after : ℕ → List ℕ → Read ((ℕ × List ℕ) × List ℕ)
+release_after epoch text = release_at (length text) text >>= λ x. Ok ((epoch, x.0), x.1)
+
+-- epoch and release at the front
+unfoldable pub front_at : List ℕ → Read ((ℕ × List ℕ) × List ℕ)
+front_at text =
+    if starts_number text then (number_at text >>= λ n.
+    if starts (λ b. b == 33) n.1 then (if starts_number (drop 1 n.1) then release_after n.0 (drop 1 n.1) else Err NoLeadingReleaseNumber)
+    else release_after 0 text)
+    else Err NoLeadingNumber
+
+-- blanks, a mark, epoch and release
+abbrev pub opening : List ℕ → Read ((ℕ × List ℕ) × List ℕ)
+opening text = front_at (past_mark (past is_blank text))
+
+-- the parts after the release
+unfoldable pub parts_at : ℕ → List ℕ → List ℕ → Read (Record × List ℕ)
+parts_at epoch release text = pre_at text >>= λ p. post_at p.1 >>= λ q. dev_at q.1 >>= λ d. local_at d.1 >>= λ l.
+    Ok (record { epoch = epoch; release = release; pre = p.0; post = q.0; dev = d.0; local = l.0; min = None; max = None }, l.1)
+
+-- the blanks at the end of the text, after the parts
+abbrev pub end_at : List ℕ → Record × List ℕ → Read Record
+end_at text x =
+    if length (past is_blank x.1) == 0 then Ok x.0
+    else Err (UnexpectedEnd (take (length text - length (past is_blank x.1)) text) (past is_blank x.1))
+
+-- a release is read, and what follows it has no star
+abbrev pub closing : List ℕ → (ℕ × List ℕ) × List ℕ → Read Record
+closing text x = parts_at x.0.0 x.0.1 x.1 >>= end_at text
+
+abbrev pub is_star : List ℕ → Bool
+is_star text = starts (λ b. b == 46) text && starts (λ b. b == 42) (drop 1 text)
+
+abbrev pub without_star : Read Record → Result (Record × Bool) PatternRefusal
+without_star (Ok r) = Ok (r, false)
+without_star (Err f) = Err (OfVersion f)
+
+-- from the end of the release on
+abbrev pub pattern_from : List ℕ → Read ((ℕ × List ℕ) × List ℕ) → Result (Record × Bool) PatternRefusal
+pattern_from text (Err f) = Err (OfVersion f)
+pattern_from text (Ok x) =
+    if is_star x.1 then (if length (drop 2 x.1) == 0 then Ok (public_record x.0.0 x.0.1, true) else Err WildcardNotTrailing)
+    else without_star (closing text x)
+
+-- what the text reads as: a record, and whether a star follows
+abbrev pub read_pattern : List ℕ → Result (Record × Bool) PatternRefusal
+read_pattern text = pattern_from text (opening text)
+
+abbrev pub version_of : Result (Record × Bool) PatternRefusal → Read Record
+version_of (Ok x) = if x.1 then Err Wildcard else Ok x.0
+version_of (Err (OfVersion f)) = Err f
+version_of (Err WildcardNotTrailing) = Err Wildcard
+
+-- a version is a pattern without star
+abbrev pub read_version : List ℕ → Read Record
+read_version text = version_of (read_pattern text)
+
+-- epoch and release, after the first number
+abbrev pub release_after_first : ℕ → ℕ → List ℕ → Read ((ℕ × List ℕ) × List ℕ)
+release_after_first epoch first text = release_from first text >>= λ x. Ok ((epoch, x.0), x.1)

@@ -1,0 +1,200 @@
+//! Why a text is no version or no pattern: kinds, errors and the conversions between them.
+ghost use Rattle.std.specs.Prelude.{◌≡◌, Some};
+ghost use Rattle.pep440_version.specs.Errors.{kind_of, pattern_kind_of, refusal_of, pattern_refusal_of, inner_kind, IsVersionKind};
+ghost use Rattle.pep440_version.specs.declared.error.PatternErrorKind.TheVariants.{Version};
+ghost use Rattle.pep440_version.specs.declared.error.ErrorKind.TheVariants.{OutOfMemory};
+
+use std::alloc::{AllocError, AllocFailed};
+
+/// Why a text is no version (PEP 440, "Public version identifiers" and Appendix B).
+///
+/// Of a text that is no version exactly one kind but the last holds.
+#[derive(Debug, PartialEq, Eq, Drop)]
+pub enum ErrorKind {
+    /// The text is a release followed by `.*`, which only a pattern may have.
+    Wildcard,
+    /// A number is above 18446744073709551615.
+    NumberTooBig {
+        /// The whole run of ASCII digits.
+        bytes: Vec<u8>,
+    },
+    /// After blanks and the letter `v` there is no digit.
+    NoLeadingNumber,
+    /// After an epoch there is no digit.
+    NoLeadingReleaseNumber,
+    /// After the start of a local part or of one of its segments there is no ASCII letter or digit.
+    LocalEmpty {
+        /// The `+`, `.`, `-` or `_` after which the segment is missing.
+        precursor: char,
+    },
+    /// The text goes on after a version.
+    UnexpectedEnd {
+        /// The longest front that is a version, with the blanks at its end.
+        version: String,
+        /// The rest of the text.
+        remaining: String,
+    },
+    /// Memory ran out, which says nothing of the text.
+    OutOfMemory,
+}
+
+impl Clone for ErrorKind {
+    ghost is_clone = { λ kind copy. refusal_of copy ≡ refusal_of kind };
+
+    fn clone(&self) -> Result<ErrorKind, AllocError> {
+        match self {
+            ErrorKind::Wildcard => Ok(ErrorKind::Wildcard),
+            ErrorKind::NumberTooBig { bytes } => Ok(ErrorKind::NumberTooBig {
+                bytes: bytes.clone()?,
+            }),
+            ErrorKind::NoLeadingNumber => Ok(ErrorKind::NoLeadingNumber),
+            ErrorKind::NoLeadingReleaseNumber => Ok(ErrorKind::NoLeadingReleaseNumber),
+            ErrorKind::LocalEmpty { precursor } => Ok(ErrorKind::LocalEmpty {
+                precursor: *precursor,
+            }),
+            ErrorKind::UnexpectedEnd { version, remaining } => Ok(ErrorKind::UnexpectedEnd {
+                version: version.clone()?,
+                remaining: remaining.clone()?,
+            }),
+            ErrorKind::OutOfMemory => Ok(ErrorKind::OutOfMemory),
+        }
+    }
+}
+
+impl From<AllocError> for ErrorKind {
+    ghost from_gives = { λ _ kind. kind ≡ OutOfMemory };
+
+    fn from(_refused: AllocError) -> ErrorKind {
+        ErrorKind::OutOfMemory
+    }
+}
+
+impl<T: Drop> From<AllocFailed<T>> for ErrorKind {
+    ghost from_gives = { λ _ kind. kind ≡ OutOfMemory };
+
+    fn from(_refused: AllocFailed<T>) -> ErrorKind {
+        ErrorKind::OutOfMemory
+    }
+}
+
+/// A text is no version, or memory ran out. Two are equal exactly if they say the same.
+#[derive(Debug, PartialEq, Eq, Drop)]
+pub struct VersionParseError {
+    kind: ErrorKind,
+}
+
+impl VersionParseError {
+    /// Why.
+    pub fn kind(&self) -> &ErrorKind
+        ensures { result.now ≡ kind_of self.now }
+    {
+        &self.kind
+    }
+}
+
+impl Clone for VersionParseError {
+    ghost is_clone = { λ error copy. refusal_of (kind_of copy) ≡ refusal_of (kind_of error) };
+
+    fn clone(&self) -> Result<VersionParseError, AllocError> {
+        Ok(VersionParseError {
+            kind: self.kind.clone()?,
+        })
+    }
+}
+
+impl From<ErrorKind> for VersionParseError {
+    ghost from_gives = { λ kind error. kind_of error ≡ kind };
+
+    fn from(kind: ErrorKind) -> VersionParseError {
+        VersionParseError { kind }
+    }
+}
+
+/// Why a text is no version pattern (PEP 440, "Version matching").
+#[derive(Debug, PartialEq, Eq, Drop)]
+pub enum PatternErrorKind {
+    /// The text is no version either, or memory ran out.
+    Version(VersionParseError),
+    /// Something follows the `.*` after a release.
+    WildcardNotTrailing,
+}
+
+impl Clone for PatternErrorKind {
+    ghost is_clone = { λ kind copy. pattern_refusal_of copy ≡ pattern_refusal_of kind };
+
+    fn clone(&self) -> Result<PatternErrorKind, AllocError> {
+        match self {
+            PatternErrorKind::Version(error) => Ok(PatternErrorKind::Version(error.clone()?)),
+            PatternErrorKind::WildcardNotTrailing => Ok(PatternErrorKind::WildcardNotTrailing),
+        }
+    }
+}
+
+impl From<VersionParseError> for PatternErrorKind {
+    ghost from_gives = { λ error kind. kind ≡ Version error };
+
+    fn from(error: VersionParseError) -> PatternErrorKind {
+        PatternErrorKind::Version(error)
+    }
+}
+
+impl From<ErrorKind> for PatternErrorKind {
+    ghost from_gives = { λ kind outer. IsVersionKind kind outer };
+
+    fn from(kind: ErrorKind) -> PatternErrorKind {
+        PatternErrorKind::Version(VersionParseError::from(kind))
+    }
+}
+
+/// A text is no version pattern, or memory ran out. Two are equal exactly if they say the same.
+#[derive(Debug, PartialEq, Eq, Drop)]
+pub struct VersionPatternParseError {
+    kind: PatternErrorKind,
+}
+
+impl VersionPatternParseError {
+    /// Why.
+    pub fn kind(&self) -> &PatternErrorKind
+        ensures { result.now ≡ pattern_kind_of self.now }
+    {
+        &self.kind
+    }
+}
+
+impl Clone for VersionPatternParseError {
+    ghost is_clone = { λ error copy. pattern_refusal_of (pattern_kind_of copy) ≡ pattern_refusal_of (pattern_kind_of error) };
+
+    fn clone(&self) -> Result<VersionPatternParseError, AllocError> {
+        Ok(VersionPatternParseError {
+            kind: self.kind.clone()?,
+        })
+    }
+}
+
+impl From<PatternErrorKind> for VersionPatternParseError {
+    ghost from_gives = { λ kind error. pattern_kind_of error ≡ kind };
+
+    fn from(kind: PatternErrorKind) -> VersionPatternParseError {
+        VersionPatternParseError { kind }
+    }
+}
+
+impl From<VersionParseError> for VersionPatternParseError {
+    ghost from_gives = { λ inner error. pattern_kind_of error ≡ Version inner };
+
+    fn from(error: VersionParseError) -> VersionPatternParseError {
+        VersionPatternParseError {
+            kind: PatternErrorKind::Version(error),
+        }
+    }
+}
+
+impl From<ErrorKind> for VersionPatternParseError {
+    ghost from_gives = { λ kind error. inner_kind (pattern_kind_of error) ≡ Some kind };
+
+    fn from(kind: ErrorKind) -> VersionPatternParseError {
+        VersionPatternParseError {
+            kind: PatternErrorKind::Version(VersionParseError { kind }),
+        }
+    }
+}

@@ -1,0 +1,168 @@
+//! What is given to a hasher: the key, so that equal values are hashed alike.
+ghost use Rattle.std.specs.Prelude.{◌≡◌, length, take, map};
+ghost use Rattle.std.specs.Hash as fed;
+ghost use Rattle.std.specs.List.{flat_map, fold};
+ghost use Rattle.pep440_version.specs.Feed.{feed, feed_kind, feed_prerelease, feed_numbers, feed_stage, feed_post, feed_dev, feed_segment, feed_local, feed_pattern};
+ghost use Rattle.pep440_version.specs.Key.{key};
+ghost use Rattle.pep440_version.specs.KeyLaws.{trim};
+ghost use Rattle.pep440_version.specs.Segments.{segment};
+ghost use Rattle.pep440_version.specs.Ties.{feeds_alike, segments_feed_alike, kinds_feed_alike, prereleases_feed_alike, patterns_feed_alike};
+
+use crate::pattern::VersionPattern;
+use crate::prerelease::{Prerelease, PrereleaseKind};
+use crate::segment::LocalSegment;
+use crate::version::Version;
+use std::hash::{Hash, Hasher};
+
+impl Hash for PrereleaseKind {
+    ghost hash_input = { feed_kind };
+
+    ghost respects_eq = { kinds_feed_alike };
+
+    fn hash<H: Hasher>(&self, state: &mut H) {
+        match self {
+            PrereleaseKind::Alpha => state.write_u64(0),
+            PrereleaseKind::Beta => state.write_u64(1),
+            PrereleaseKind::Rc => state.write_u64(2),
+        }
+    }
+}
+
+impl Hash for Prerelease {
+    ghost hash_input = { feed_prerelease };
+
+    ghost respects_eq = { prereleases_feed_alike };
+
+    fn hash<H: Hasher>(&self, state: &mut H) {
+        self.kind.hash(state);
+        state.write_u64(self.number);
+    }
+}
+
+impl Hash for LocalSegment {
+    ghost hash_input = { λ s. feed_segment (segment s) };
+
+    ghost respects_eq = { segments_feed_alike };
+
+    fn hash<H: Hasher>(&self, state: &mut H) {
+        match self {
+            LocalSegment::String(text) => {
+                state.write_u64(0);
+                state.write_u64(text.len() as u64);
+                state.write(text.as_bytes());
+            }
+            LocalSegment::Number(number) => {
+                state.write_u64(1);
+                state.write_u64(*number);
+            }
+        }
+    }
+}
+
+// The numbers without the zeros at their end.
+fn trimmed(numbers: &[u64]) -> &[u64]
+    ensures { result.now ≡ trim numbers.now }
+{
+    let mut end = numbers.len();
+    while end > 0 && numbers[end - 1] == 0 {
+        end -= 1;
+    }
+    &numbers[..end]
+}
+
+fn hash_numbers<H: Hasher>(numbers: &[u64], state: &mut H)
+    ensures { state.new ≡ fold H.write state.old (feed_numbers numbers.now) }
+{
+    state.write_u64(numbers.len() as u64);
+    u64::hash_slice(numbers, state);
+}
+
+fn hash_stage<H: Hasher>(v: &Version, state: &mut H)
+    ensures { state.new ≡ fold H.write state.old (feed_stage (key v.now).stage) }
+{
+    if v.min().is_some() {
+        state.write_u64(0);
+        return;
+    }
+    match v.pre() {
+        Some(pre) => {
+            let rank = match pre.kind {
+                PrereleaseKind::Alpha => 2,
+                PrereleaseKind::Beta => 3,
+                PrereleaseKind::Rc => 4,
+            };
+            state.write_u64(rank);
+            state.write_u64(pre.number);
+        }
+        None => {
+            if v.dev().is_some() && v.post().is_none() && v.max().is_none() {
+                state.write_u64(1);
+            } else {
+                state.write_u64(5);
+            }
+        }
+    }
+}
+
+fn hash_post<H: Hasher>(v: &Version, state: &mut H)
+    ensures { state.new ≡ fold H.write state.old (feed_post (key v.now).post) }
+{
+    match (v.max(), v.post()) {
+        (Some(max), _) => {
+            state.write_u64(2);
+            state.write_u64(max);
+        }
+        (None, Some(post)) => {
+            state.write_u64(1);
+            state.write_u64(post);
+        }
+        (None, None) => state.write_u64(0),
+    }
+}
+
+fn hash_dev<H: Hasher>(v: &Version, state: &mut H)
+    ensures { state.new ≡ fold H.write state.old (feed_dev (key v.now).dev) }
+{
+    match v.min().or(v.dev()) {
+        Some(dev) => {
+            state.write_u64(0);
+            state.write_u64(dev);
+        }
+        None => state.write_u64(1),
+    }
+}
+
+fn hash_local<H: Hasher>(segments: &[LocalSegment], state: &mut H)
+    ensures { state.new ≡ fold H.write state.old (feed_local (map segment segments.now)) }
+{
+    state.write_u64(segments.len() as u64);
+    for part in segments {
+        part.hash(state);
+    }
+}
+
+impl Hash for Version {
+    ghost hash_input = { feed };
+
+    ghost respects_eq = { feeds_alike };
+
+    fn hash<H: Hasher>(&self, state: &mut H) {
+        state.write_u64(self.epoch());
+        hash_numbers(trimmed(self.release()), state);
+        hash_stage(self, state);
+        hash_post(self, state);
+        hash_dev(self, state);
+        hash_local(self.local(), state);
+    }
+}
+
+impl Hash for VersionPattern {
+    ghost hash_input = { feed_pattern };
+
+    ghost respects_eq = { patterns_feed_alike };
+
+    fn hash<H: Hasher>(&self, state: &mut H) {
+        self.version().hash(state);
+        state.write_u64(if self.is_wildcard() { 1 } else { 0 });
+    }
+}

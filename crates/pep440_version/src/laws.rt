@@ -1,0 +1,40 @@
+//! What holds of texts, records and prints, each as the contract of a function that does nothing.
+ghost use Rattle.std.specs.Prelude.{Ok, Err, ◌≡◌, ◌⊎◌, ℕ, List, Bool};
+ghost use Rattle.pep440_version.specs.Grammar.{Derives};
+ghost use Rattle.pep440_version.specs.Patterns.{DerivesPattern};
+ghost use Rattle.pep440_version.specs.Print.{print};
+ghost use Rattle.pep440_version.specs.Record.{Record, IsRecord};
+ghost use Rattle.pep440_version.specs.Refusals.{PatternRefusal, Refusal, Refuses, RefusesPattern};
+ghost use Rattle.pep440_version.specs.Reread.{Rereads};
+ghost use Rattle.pep440_version.specs.Whole.{read_version, read_pattern};
+
+/// A text means at most one record, and a pattern text at most one record, with a star or without.
+pub fn means_one()
+    ensures version { (text : List ℕ) (r q : Record) → Derives text r → Derives text q → r ≡ q }
+    ensures pattern { (text : List ℕ) (r q : Record) (s t : Bool) → DerivesPattern text r s → DerivesPattern text q t → (r ≡ q) × (s ≡ t) }
+{}
+
+/// A text either means a record or is refused for exactly one reason; so is a pattern text.
+pub fn refused_once()
+    ensures version { (text : List ℕ) (f g : Refusal) → Refuses text f → Refuses text g → f ≡ g }
+    ensures either { (text : List ℕ) → ((r : Record) × Derives text r) ⊎ ((f : Refusal) × Refuses text f) }
+    ensures derived { (text : List ℕ) (r : Record) (f : Refusal) → Derives text r → Refuses text f → ⊥ }
+    ensures pattern { (text : List ℕ) (f g : PatternRefusal) → RefusesPattern text f → RefusesPattern text g → f ≡ g }
+    ensures either_pattern { (text : List ℕ) → ((r : Record) × (s : Bool) × DerivesPattern text r s) ⊎ ((f : PatternRefusal) × RefusesPattern text f) }
+    ensures derived_pattern { (text : List ℕ) (r : Record) (s : Bool) (f : PatternRefusal) → DerivesPattern text r s → RefusesPattern text f → ⊥ }
+{}
+
+/// What a text means is a record of the crate, and its print means it again.
+pub fn meaning_is_printed()
+    ensures bounded { (text : List ℕ) (r : Record) → Derives text r → IsRecord r }
+    ensures rereads { (text : List ℕ) (r : Record) → Derives text r → Rereads r }
+    ensures again { (r : Record) → IsRecord r → Rereads r → Derives (print r) r }
+{}
+
+/// The reading from the left, which computes, gives what a text means and why it is refused.
+pub fn reading_agrees()
+    ensures version { (text : List ℕ) (r : Record) → Derives text r → read_version text ≡ Ok r }
+    ensures refused { (text : List ℕ) (f : Refusal) → Refuses text f → read_version text ≡ Err f }
+    ensures pattern { (text : List ℕ) (r : Record) (s : Bool) → DerivesPattern text r s → read_pattern text ≡ Ok (r, s) }
+    ensures refused_pattern { (text : List ℕ) (f : PatternRefusal) → RefusesPattern text f → read_pattern text ≡ Err f }
+{}

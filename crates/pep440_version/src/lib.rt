@@ -1,0 +1,27 @@
+//! Versions of PEP 440.
+#![tactic(auto)]
+
+mod change;
+mod error;
+mod error_text;
+mod full;
+mod hash;
+pub mod laws;
+mod order;
+mod pattern;
+mod prerelease;
+mod print;
+mod read;
+mod segment;
+mod setters;
+mod version;
+
+pub use change::{Change, ChangeError};
+pub use error::{ErrorKind, PatternErrorKind, VersionParseError, VersionPatternParseError};
+pub use pattern::VersionPattern;
+pub use prerelease::{Prerelease, PrereleaseKind};
+pub use segment::LocalSegment;
+pub use version::{Version, min_version};
+
+#[cfg(test)]
+mod tests;

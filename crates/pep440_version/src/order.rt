@@ -1,0 +1,142 @@
+//! The order of versions: their keys, part by part (PEP 440, "Summary of permitted suffixes and relative ordering").
+ghost use Rattle.std.specs.Prelude.{◌≡◌, refl, length, drop, map};
+ghost use Rattle.pep440_version.specs.Key.{key, post_rank, post_number, dev_rank, dev_number, stage_rank, stage_number, release_cmp, local_cmp, record_cmp, pattern_cmp};
+ghost use Rattle.pep440_version.specs.KeyLaws.{pattern_equiv, record_equiv, record_po, record_total};
+ghost use Rattle.pep440_version.specs.Segments.{segment};
+ghost use Rattle.std.specs.Cmp.{partial_equiv_from_equiv};
+ghost use Rattle.std.specs.Ordering.{as_partial_cmp, eq_by_cmp};
+
+use crate::pattern::VersionPattern;
+use crate::prerelease::PrereleaseKind;
+use crate::segment::LocalSegment;
+use crate::version::Version;
+use std::cmp::Ordering;
+
+// Compares releases as if the shorter were padded with zeros.
+fn cmp_releases(a: &[u64], b: &[u64]) -> Ordering
+    ensures { result ≡ release_cmp a.now b.now }
+{
+    let len = if a.len() < b.len() { b.len() } else { a.len() };
+    for i in 0..len {
+        let x = if i < a.len() { a[i] } else { 0 };
+        let y = if i < b.len() { b[i] } else { 0 };
+        let ordering = x.cmp(&y);
+        if ordering != Ordering::Equal {
+            return ordering;
+        }
+    }
+    Ordering::Equal
+}
+
+// The rank and the number of a version's stage.
+fn stage(v: &Version) -> (u8, u64)
+    ensures { result ≡ (stage_rank (key v.now).stage, stage_number (key v.now).stage) }
+{
+    if v.min().is_some() {
+        return (0, 0);
+    }
+    match v.pre() {
+        Some(pre) => {
+            let rank = match pre.kind {
+                PrereleaseKind::Alpha => 2,
+                PrereleaseKind::Beta => 3,
+                PrereleaseKind::Rc => 4,
+            };
+            (rank, pre.number)
+        }
+        None => {
+            if v.dev().is_some() && v.post().is_none() && v.max().is_none() {
+                (1, 0)
+            } else {
+                (5, 0)
+            }
+        }
+    }
+}
+
+// The rank and the number of a version's place among the posts of its stage.
+fn post_place(v: &Version) -> (u8, u64)
+    ensures { result ≡ (post_rank (key v.now).post, post_number (key v.now).post) }
+{
+    match (v.max(), v.post()) {
+        (Some(max), _) => (2, max),
+        (None, Some(post)) => (1, post),
+        (None, None) => (0, 0),
+    }
+}
+
+// The rank and the number of a version's place among the devs of its post.
+fn dev_place(v: &Version) -> (u8, u64)
+    ensures { result ≡ (dev_rank (key v.now).dev, dev_number (key v.now).dev) }
+{
+    match (v.min(), v.dev()) {
+        (Some(min), _) => (0, min),
+        (None, Some(dev)) => (0, dev),
+        (None, None) => (1, 0),
+    }
+}
+
+impl PartialEq for Version {
+    ghost eq = { eq_by_cmp record_cmp };
+
+    ghost laws = { partial_equiv_from_equiv record_equiv };
+
+    fn eq(&self, other: &Version) -> bool {
+        self.cmp(other) == Ordering::Equal
+    }
+}
+
+impl Eq for Version {
+    ghost laws = { record_equiv };
+}
+
+impl PartialOrd for Version {
+    ghost partial_cmp = { as_partial_cmp record_cmp };
+
+    ghost laws = { record_po };
+
+    fn partial_cmp(&self, other: &Version) -> Option<Ordering> {
+        Some(self.cmp(other))
+    }
+}
+
+impl Ord for Version {
+    ghost cmp = { record_cmp };
+
+    ghost total = { record_total };
+
+    ghost matches_partial_cmp = { λ a b. refl };
+
+    ghost matches_eq = { λ a b. refl };
+
+    fn cmp(&self, other: &Version) -> Ordering {
+        self.epoch()
+            .cmp(&other.epoch())
+            .then(cmp_releases(self.release(), other.release()))
+            .then(stage(self).cmp(&stage(other)))
+            .then(post_place(self).cmp(&post_place(other)))
+            .then(dev_place(self).cmp(&dev_place(other)))
+            .then(cmp_locals(self.local(), other.local()))
+    }
+}
+
+// Segment by segment.
+fn cmp_locals(a: &[LocalSegment], b: &[LocalSegment]) -> Ordering
+    ensures { result ≡ local_cmp (map segment a.now) (map segment b.now) }
+{
+    a.cmp(b)
+}
+
+impl PartialEq for VersionPattern {
+    ghost eq = { eq_by_cmp pattern_cmp };
+
+    ghost laws = { partial_equiv_from_equiv pattern_equiv };
+
+    fn eq(&self, other: &VersionPattern) -> bool {
+        self.version() == other.version() && self.is_wildcard() == other.is_wildcard()
+    }
+}
+
+impl Eq for VersionPattern {
+    ghost laws = { pattern_equiv };
+}

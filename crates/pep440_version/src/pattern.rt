@@ -1,0 +1,165 @@
+//! Version patterns, and the readers of versions and patterns.
+ghost use Rattle.std.specs.Prelude.{◌≡◌, ℕ, List, Bool, true, false, Ok, Err, Some, IfOk, IfErr, IfSome};
+ghost use Rattle.pep440_version.specs.Errors.{Answers, PatternAnswers, pattern_refusal_of, pattern_kind_of, refusal_of, kind_of};
+ghost use Rattle.pep440_version.specs.ErrorTexts.{kind_text_of, refusal_text, pattern_text_of, pattern_refusal_text};
+ghost use Rattle.pep440_version.specs.Grammar.{Derives};
+ghost use Rattle.pep440_version.specs.Patterns.{DerivesPattern};
+ghost use Rattle.pep440_version.specs.Print.{print};
+ghost use Rattle.pep440_version.specs.Record.{Record, IsRecord};
+ghost use Rattle.pep440_version.specs.Refusals.{PatternRefusal, Refusal, Refuses, RefusesPattern};
+ghost use Rattle.pep440_version.specs.Reread.{Rereads};
+ghost use Rattle.pep440_version.specs.Whole.{read_version, read_pattern};
+
+use crate::error::{ErrorKind, PatternErrorKind, VersionParseError, VersionPatternParseError};
+use crate::read;
+use crate::version::Version;
+use std::alloc::{AllocError, Global};
+use std::marker::Model;
+
+/// A version, and whether `.*` follows it, as `1.2.*` (PEP 440, "Version matching").
+///
+/// Patterns are equal where their versions are equal and both have a star or neither has.
+#[derive(Debug, Drop)]
+pub struct VersionPattern {
+    version: Version,
+    wildcard: bool,
+}
+
+impl Model for VersionPattern {
+    ghost use Rattle.std.specs.Prelude.{Bool};
+    ghost use Rattle.pep440_version.specs.Record.{Record};
+
+    ghost Value = { Record × Bool };
+
+    ghost view = { λ p. (p.version, p.wildcard) };
+}
+
+impl VersionPattern {
+    /// The version without a star.
+    pub fn verbatim(version: Version) -> VersionPattern
+        ensures { result ≡ (version, false) }
+    {
+        VersionPattern {
+            version,
+            wildcard: false,
+        }
+    }
+
+    /// The version with a star.
+    pub fn wildcard(version: Version) -> VersionPattern
+        ensures { result ≡ (version, true) }
+    {
+        VersionPattern {
+            version,
+            wildcard: true,
+        }
+    }
+
+    /// The version before the star, or the version alone.
+    pub fn version(&self) -> &Version
+        ensures { result.now ≡ self.now.0 }
+    {
+        &self.version
+    }
+
+    /// The version, taken out of the pattern.
+    pub fn into_version(self) -> Version
+        ensures { result ≡ self.0 }
+    {
+        let VersionPattern { version, .. } = self;
+        version
+    }
+
+    /// Whether a star follows.
+    pub fn is_wildcard(&self) -> bool
+        ensures { result ≡ self.now.1 }
+    {
+        self.wildcard
+    }
+
+    // What the reading from the left gives.
+    fn read(alloc: Global, text: &str) -> Result<VersionPattern, VersionPatternParseError>
+        ensures { PatternAnswers result (read_pattern text.now) }
+    {
+        match read::pattern(alloc, text) {
+            Ok((version, wildcard)) => Ok(VersionPattern { version, wildcard }),
+            Err(kind) => Err(VersionPatternParseError::from(kind)),
+        }
+    }
+
+    /// The pattern that the text means: a version, or epoch and release followed by `.*` and the end
+    /// (PEP 440, "Version matching" and Appendix B).
+    ///
+    /// Takes memory. Every text that means no pattern is refused with its one `PatternErrorKind`; only where
+    /// a request for memory was refused the kind may be `OutOfMemory` of `Version` instead.
+    pub fn from_str(alloc: Global, text: &str) -> Result<VersionPattern, VersionPatternParseError>
+        // What is answered is what the text means.
+        ensures found { IfOk result (λ p. DerivesPattern text.now p.0 p.1) }
+        // What the text means is answered, unless memory runs out.
+        ensures only { (r : Record) (star : Bool) → DerivesPattern text.now r star → PatternAnswers result (Ok (r, star)) }
+        // A refusal is one that the fronts of the text tell.
+        ensures refused { IfErr result (λ e. IfSome (pattern_refusal_of (pattern_kind_of e)) (RefusesPattern text.now)) }
+        // A refusal that the fronts of the text tell is answered, unless memory runs out.
+        ensures decided { (f : PatternRefusal) → RefusesPattern text.now f → PatternAnswers result (Err f) }
+        // The error's text is the refusal's.
+        ensures told { IfErr result (λ e. IfSome (pattern_refusal_of (pattern_kind_of e)) (λ f. pattern_text_of (pattern_kind_of e) ≡ Some (pattern_refusal_text f))) }
+        // The same, as the reading from the left computes it.
+        ensures exact { PatternAnswers result (read_pattern text.now) }
+    {
+        VersionPattern::read(alloc, text)
+    }
+}
+
+impl Clone for VersionPattern {
+    ghost is_clone = { λ pattern copy. copy ≡ pattern };
+
+    fn clone(&self) -> Result<VersionPattern, AllocError> {
+        Ok(VersionPattern {
+            version: self.version.clone()?,
+            wildcard: self.wildcard,
+        })
+    }
+}
+
+impl Version {
+    // What the reading from the left gives: a version is a pattern without a star.
+    fn read(alloc: Global, text: &str) -> Result<Version, VersionParseError>
+        ensures { Answers result (read_version text.now) }
+    {
+        match read::pattern(alloc, text) {
+            Ok((version, false)) => Ok(version),
+            Ok((_, true)) => Err(VersionParseError::from(ErrorKind::Wildcard)),
+            Err(PatternErrorKind::Version(error)) => Err(error),
+            Err(PatternErrorKind::WildcardNotTrailing) => {
+                Err(VersionParseError::from(ErrorKind::Wildcard))
+            }
+        }
+    }
+
+    /// The version that the text means (PEP 440, "Public version identifiers", "Local version identifiers",
+    /// "Normalization" and Appendix B), with blanks (tab, line feed, form feed, carriage return, space) before
+    /// and after it.
+    ///
+    /// Takes memory. Every text that means no version is refused with its one `ErrorKind`; only where a
+    /// request for memory was refused the kind may be `OutOfMemory` instead.
+    pub fn from_str(alloc: Global, text: &str) -> Result<Version, VersionParseError>
+        // What is answered is what the text means.
+        ensures found { IfOk result (λ v. Derives text.now v) }
+        // What the text means is answered, unless memory runs out.
+        ensures only { (r : Record) → Derives text.now r → Answers result (Ok r) }
+        // A refusal is one that the fronts of the text tell.
+        ensures refused { IfErr result (λ e. IfSome (refusal_of (kind_of e)) (Refuses text.now)) }
+        // A refusal that the fronts of the text tell is answered, unless memory runs out.
+        ensures decided { (f : Refusal) → Refuses text.now f → Answers result (Err f) }
+        // The error's text is the refusal's.
+        ensures told { IfErr result (λ e. IfSome (refusal_of (kind_of e)) (λ f. kind_text_of (kind_of e) ≡ Some (refusal_text f))) }
+        // A text that is the print of a record is answered with that record, unless memory runs out.
+        ensures reread { (r : Record) → IsRecord r → Rereads r → text.now ≡ print r → Answers result (Ok r) }
+        // So is the print of what some text means.
+        ensures again { (t : List ℕ) (r : Record) → Derives t r → text.now ≡ print r → Answers result (Ok r) }
+        // The same, as the reading from the left computes it.
+        ensures exact { Answers result (read_version text.now) }
+    {
+        Version::read(alloc, text)
+    }
+}

@@ -1,0 +1,220 @@
+//! Prints in normal form (PEP 440, "Normalization"), the same whatever width and fill are asked for.
+ghost use Rattle.std.specs.Prelude.{Some, map, ◌++◌, ◌<◌, ◌+◌, ◌∷◌, [], codes};
+ghost use Rattle.std.specs.List.{flat_map};
+ghost use Rattle.std.specs.Fmt.{WritesStyledOnOk, decimal};
+ghost use Rattle.pep440_version.specs.Print.{print, quoted, dotted, segment_print, kind_text, prerelease_text, pre_text, epoch_text, local_text, marked};
+ghost use Rattle.pep440_version.specs.Segments.{segment};
+
+use crate::prerelease::{Prerelease, PrereleaseKind};
+use crate::segment::LocalSegment;
+use crate::version::Version;
+use std::fmt;
+
+// A number in decimal, whatever the options of `f`.
+pub(crate) fn write_number<W: fmt::Write>(f: &mut fmt::Formatter<W>, n: u64) -> fmt::Result
+    ensures { WritesStyledOnOk W.write_str_gives f.old result (decimal n) f.new }
+{
+    if n < 10 {
+        return write_digit(f, n);
+    }
+    write_number(f, n / 10)?;
+    write_digit(f, n % 10)
+}
+
+fn write_digit<W: fmt::Write>(f: &mut fmt::Formatter<W>, n: u64) -> fmt::Result
+    requires { n < 10 }
+    ensures { WritesStyledOnOk W.write_str_gives f.old result ((48 + n) ∷ []) f.new }
+{
+    f.write_char((b'0' + n as u8) as char)
+}
+
+// A mark and a number.
+#[tactic(auto, using(crate::proofs::Printing::two_writes))]
+fn write_after_mark<W: fmt::Write>(f: &mut fmt::Formatter<W>, mark: &str, n: u64) -> fmt::Result
+    ensures { WritesStyledOnOk W.write_str_gives f.old result (mark.now ++ decimal n) f.new }
+{
+    f.write_str(mark)?;
+    write_number(f, n)
+}
+
+// Each number after a dot.
+fn write_dotted<W: fmt::Write>(f: &mut fmt::Formatter<W>, numbers: &[u64]) -> fmt::Result
+    ensures { WritesStyledOnOk W.write_str_gives f.old result (flat_map (λ n. codes "." ++ decimal n) numbers.now) f.new }
+{
+    for n in numbers {
+        write_after_mark(f, ".", *n)?;
+    }
+    Ok(())
+}
+
+// The numbers with dots between them.
+fn write_release<W: fmt::Write>(f: &mut fmt::Formatter<W>, release: &[u64]) -> fmt::Result
+    ensures { WritesStyledOnOk W.write_str_gives f.old result (dotted decimal release.now) f.new }
+{
+    match release {
+        [] => Ok(()),
+        [first, rest @ ..] => {
+            write_number(f, *first)?;
+            write_dotted(f, rest)
+        }
+    }
+}
+
+#[tactic(auto, using(crate::proofs::Printing::two_writes))]
+fn write_epoch<W: fmt::Write>(f: &mut fmt::Formatter<W>, epoch: u64) -> fmt::Result
+    ensures { WritesStyledOnOk W.write_str_gives f.old result (epoch_text epoch) f.new }
+{
+    if epoch == 0 {
+        return Ok(());
+    }
+    write_number(f, epoch)?;
+    f.write_str("!")
+}
+
+fn write_kind<W: fmt::Write>(f: &mut fmt::Formatter<W>, kind: PrereleaseKind) -> fmt::Result
+    ensures { WritesStyledOnOk W.write_str_gives f.old result (kind_text kind) f.new }
+{
+    f.write_str(match kind {
+        PrereleaseKind::Alpha => "a",
+        PrereleaseKind::Beta => "b",
+        PrereleaseKind::Rc => "rc",
+    })
+}
+
+#[tactic(auto, using(crate::proofs::Printing::two_writes))]
+fn write_prerelease<W: fmt::Write>(f: &mut fmt::Formatter<W>, pre: Prerelease) -> fmt::Result
+    ensures { WritesStyledOnOk W.write_str_gives f.old result (prerelease_text pre) f.new }
+{
+    write_kind(f, pre.kind)?;
+    write_number(f, pre.number)
+}
+
+fn write_pre<W: fmt::Write>(f: &mut fmt::Formatter<W>, pre: Option<Prerelease>) -> fmt::Result
+    ensures { WritesStyledOnOk W.write_str_gives f.old result (pre_text pre) f.new }
+{
+    match pre {
+        None => Ok(()),
+        Some(pre) => write_prerelease(f, pre),
+    }
+}
+
+fn write_marked<W: fmt::Write>(
+    f: &mut fmt::Formatter<W>,
+    mark: &str,
+    number: Option<u64>,
+) -> fmt::Result
+    ensures { WritesStyledOnOk W.write_str_gives f.old result (marked mark.now number) f.new }
+{
+    match number {
+        None => Ok(()),
+        Some(n) => write_after_mark(f, mark, n),
+    }
+}
+
+fn write_segment<W: fmt::Write>(f: &mut fmt::Formatter<W>, held: &LocalSegment) -> fmt::Result
+    ensures { WritesStyledOnOk W.write_str_gives f.old result (segment_print (segment held.now)) f.new }
+{
+    match held {
+        LocalSegment::String(text) => f.write_str(text.as_str()),
+        LocalSegment::Number(number) => write_number(f, *number),
+    }
+}
+
+#[tactic(auto, using(crate::proofs::Printing::two_writes))]
+fn write_segment_after<W: fmt::Write>(
+    f: &mut fmt::Formatter<W>,
+    mark: &str,
+    held: &LocalSegment,
+) -> fmt::Result
+    ensures { WritesStyledOnOk W.write_str_gives f.old result (mark.now ++ segment_print (segment held.now)) f.new }
+{
+    f.write_str(mark)?;
+    write_segment(f, held)
+}
+
+// Each segment after a dot.
+fn write_segments<W: fmt::Write>(
+    f: &mut fmt::Formatter<W>,
+    segments: &[LocalSegment],
+) -> fmt::Result
+    ensures { WritesStyledOnOk W.write_str_gives f.old result (flat_map (λ s. codes "." ++ segment_print (segment s)) segments.now) f.new }
+{
+    for held in segments {
+        write_segment_after(f, ".", held)?;
+    }
+    Ok(())
+}
+
+fn write_local<W: fmt::Write>(f: &mut fmt::Formatter<W>, local: &[LocalSegment]) -> fmt::Result
+    ensures { WritesStyledOnOk W.write_str_gives f.old result (local_text (map segment local.now)) f.new }
+{
+    match local {
+        [] => Ok(()),
+        [first, rest @ ..] => {
+            write_segment_after(f, "+", first)?;
+            write_segments(f, rest)
+        }
+    }
+}
+
+// The print of a version.
+fn write_version<W: fmt::Write>(f: &mut fmt::Formatter<W>, v: &Version) -> fmt::Result
+    ensures { WritesStyledOnOk W.write_str_gives f.old result (print v.now) f.new }
+{
+    write_epoch(f, v.epoch())?;
+    write_release(f, v.release())?;
+    write_pre(f, v.pre())?;
+    write_marked(f, ".post", v.post())?;
+    write_marked(f, ".dev", v.dev())?;
+    write_local(f, v.local())
+}
+
+impl fmt::Display for PrereleaseKind {
+    ghost output = { λ k. Some (kind_text k) };
+
+    ghost styled_output = { λ k _. Some (kind_text k) };
+
+    fn fmt<W: fmt::Write>(&self, f: &mut fmt::Formatter<W>) -> fmt::Result {
+        write_kind(f, *self)
+    }
+}
+
+impl fmt::Display for Prerelease {
+    ghost output = { λ p. Some (prerelease_text p) };
+
+    ghost styled_output = { λ p _. Some (prerelease_text p) };
+
+    fn fmt<W: fmt::Write>(&self, f: &mut fmt::Formatter<W>) -> fmt::Result {
+        write_prerelease(f, *self)
+    }
+}
+
+impl fmt::Display for LocalSegment {
+    ghost output = { λ s. Some (segment_print (segment s)) };
+
+    ghost styled_output = { λ s _. Some (segment_print (segment s)) };
+
+    fn fmt<W: fmt::Write>(&self, f: &mut fmt::Formatter<W>) -> fmt::Result {
+        write_segment(f, self)
+    }
+}
+
+impl fmt::Display for Version {
+    ghost output = { λ v. Some (print v) };
+
+    ghost styled_output = { λ v _. Some (print v) };
+
+    fn fmt<W: fmt::Write>(&self, f: &mut fmt::Formatter<W>) -> fmt::Result {
+        write_version(f, self)
+    }
+}
+
+impl fmt::Debug for Version {
+    ghost debug_output = { λ v. Some (quoted v) };
+
+    fn fmt<W: fmt::Write>(&self, f: &mut fmt::Formatter<W>) -> fmt::Result {
+        f.write_str("\"")?;
+        write_version(f, self)?;
+        f.write_str("\"")
+    }
+}

@@ -1,0 +1,60 @@
+ghost use Rattle.std.specs.Prelude.{◌≡◌, ◌<◌, ◌==◌, true, length};
+ghost use Rattle.pep440_version.specs.Errors.{Gives};
+ghost use Rattle.pep440_version.specs.Grammar.{starts};
+ghost use Rattle.pep440_version.specs.Reading.{release_from, number_at, goes_on, starts_number};
+
+use super::scan;
+use crate::error::ErrorKind;
+use std::alloc::Global;
+
+pub(crate) fn starts_number(text: &str) -> bool
+    ensures { result ≡ starts_number text.now }
+{
+    match text.as_bytes() {
+        [] => false,
+        [first, ..] => first.is_ascii_digit(),
+    }
+}
+
+// The number at the front, where a digit is, and what follows it.
+#[tactic(auto, unfolding(crate::specs::Reading::number_at))]
+pub(crate) fn number_at(alloc: Global, text: &str) -> Result<(u64, &str), ErrorKind>
+    requires { starts_number text.now ≡ true }
+    ensures { Gives (λ x. (x.0, x.1.now)) result (number_at text.now) }
+{
+    let (digits, rest) = scan::split_digits(text);
+    match scan::value(digits) {
+        Some(number) => Ok((number, rest)),
+        None => Err(ErrorKind::NumberTooBig {
+            bytes: Vec::from_slice(alloc, digits.as_bytes())?,
+        }),
+    }
+}
+
+fn goes_on(text: &str) -> bool
+    ensures { result ≡ goes_on text.now }
+{
+    scan::starts_with(text, b'.') && starts_number(scan::past_ascii(text))
+}
+
+// A release after its first number, and what follows it.
+pub(crate) fn release_from(
+    alloc: Global,
+    first: u64,
+    text: &str,
+) -> Result<(Vec<u64>, &str), ErrorKind>
+    ensures { Gives (λ x. (x.0.items, x.1.now)) result (release_from first text.now) }
+{
+    let mut numbers = Vec::new(alloc);
+    numbers.push(first)?;
+    let mut rest = text;
+    for round in 0..text.len() {
+        if !goes_on(rest) {
+            return Ok((numbers, rest));
+        }
+        let (number, after) = number_at(alloc, scan::past_ascii(rest))?;
+        numbers.push(number)?;
+        rest = after;
+    }
+    Ok((numbers, rest))
+}

@@ -1,0 +1,243 @@
+//! The type `Version`: how one is made, and its parts.
+ghost use Rattle.std.specs.Prelude.{◌≡◌, ◌<◌, ◌||◌, ◌↔◌, [], ◌∷◌, length, Some, None, IfOk, IsTrue, map, is_some, is_none, if◌then◌else◌, true, false};
+ghost use Rattle.std.specs.List.{All};
+ghost use Rattle.pep440_version.specs.Form.{full_record};
+ghost use Rattle.pep440_version.specs.Record.{of_parts, of_release, least_record, IsRecord, SegmentFits};
+ghost use Rattle.pep440_version.specs.Segments.{segment};
+
+use crate::full::Full;
+use crate::prerelease::{Prerelease, PrereleaseKind};
+use crate::segment::LocalSegment;
+use std::alloc::{AllocError, Global};
+use std::marker::Model;
+
+/// A version (PEP 440, "Public version identifiers" and "Local version identifiers"): epoch, release, and
+/// where they are there pre, post, dev, local, and the marks `min` and `max`.
+///
+/// Versions are ordered by their key, so that `1.0` equals `1.0.0`; `release` and the print tell them apart.
+#[derive(Drop)]
+pub struct Version {
+    full: Full,
+}
+
+impl Model for Version {
+    ghost use Rattle.pep440_version.specs.Record.{Record, IsRecord};
+
+    ghost Value = { Record };
+
+    ghost use Rattle.pep440_version.specs.Form.{full_record, IsHeld};
+
+    ghost view = { λ v. full_record v.full };
+
+    ghost invariant = { λ v. IsHeld v.full };
+}
+
+// A number fits, since it is a `u64`.
+fn known_segment(held: &LocalSegment)
+    ensures { SegmentFits (segment held.now) }
+{
+    if let LocalSegment::Number(number) = held {
+        let _fits = *number;
+    }
+}
+
+pub(crate) fn known_segments(segments: &[LocalSegment])
+    ensures { All SegmentFits (map segment segments.now) }
+{
+    for segment in segments {
+        known_segment(segment);
+    }
+}
+
+/// The version `0a0.dev0`. It is not the least one: `0.dev0` is below it.
+///
+/// Takes memory.
+pub fn min_version(alloc: Global) -> Result<Version, AllocError>
+    ensures { IfOk result (λ v. v ≡ least_record) }
+{
+    let mut release = Vec::new(alloc);
+    release.push(0)?;
+    let pre = Prerelease {
+        kind: PrereleaseKind::Alpha,
+        number: 0,
+    };
+    Ok(Version::of_parts(0, release, Some(pre), None, Some(0), Vec::new(alloc)))
+}
+
+impl Version {
+    // The form that holds the record: every version is made here.
+    pub(crate) fn from_full(full: Full) -> Version
+        requires { IsRecord (full_record full) }
+        ensures { result ≡ full_record full }
+    {
+        Version { full }
+    }
+
+    // Each part, to be changed.
+    pub(crate) fn into_full(self, alloc: Global) -> Full
+        ensures value { full_record result ≡ self }
+        ensures valid { IsRecord self }
+    {
+        let Version { full } = self;
+        full
+    }
+
+    // The version of these parts, without marks.
+    pub(crate) fn of_parts(
+        epoch: u64,
+        release: Vec<u64>,
+        pre: Option<Prerelease>,
+        post: Option<u64>,
+        dev: Option<u64>,
+        local: Vec<LocalSegment>,
+    ) -> Version
+        requires { 0 < length release.items }
+        ensures { result ≡ of_parts epoch release.items pre post dev (map segment local.items) }
+    {
+        known_segments(&local);
+        Version::from_full(Full {
+            epoch,
+            release,
+            pre,
+            post,
+            dev,
+            local,
+            min: None,
+            max: None,
+        })
+    }
+
+    /// The version that is this release alone, as `1.2.3` of 1, 2 and 3 (PEP 440, "Final releases").
+    /// The release must not be empty; `is_empty` is its test.
+    ///
+    /// Takes memory.
+    pub fn new(alloc: Global, release: &[u64]) -> Result<Version, AllocError>
+        requires { 0 < length release.now }
+        ensures value { IfOk result (λ v. v ≡ of_release release.now) }
+    {
+        Ok(Version::from_full(Full::new(alloc, release)?))
+    }
+
+    /// The epoch, 0 where none is written (PEP 440, "Version epochs").
+    pub fn epoch(&self) -> u64
+        ensures { result ≡ self.now.epoch }
+    {
+        self.full.epoch
+    }
+
+    /// The release numbers as they were given, zeros at the end included; at least one (PEP 440,
+    /// "Final releases").
+    pub fn release(&self) -> &[u64]
+        ensures value { result.now ≡ self.now.release }
+        // Every version's release is not empty, and its numbers fit.
+        ensures valid { IsRecord self.now }
+    {
+        self.full.release.as_slice()
+    }
+
+    /// The pre-release (PEP 440, "Pre-releases").
+    pub fn pre(&self) -> Option<Prerelease>
+        ensures { result ≡ self.now.pre }
+    {
+        self.full.pre
+    }
+
+    /// The number of the post-release (PEP 440, "Post-releases").
+    pub fn post(&self) -> Option<u64>
+        ensures { result ≡ self.now.post }
+    {
+        self.full.post
+    }
+
+    /// The number of the developmental release (PEP 440, "Developmental releases").
+    pub fn dev(&self) -> Option<u64>
+        ensures { result ≡ self.now.dev }
+    {
+        self.full.dev
+    }
+
+    /// The segments of the local part; none where there is no local part (PEP 440, "Local version
+    /// identifiers").
+    pub fn local(&self) -> &[LocalSegment]
+        ensures { map segment result.now ≡ self.now.local }
+    {
+        self.full.local.as_slice()
+    }
+
+    /// The number of the mark below every version of the same release. No text gives it.
+    pub fn min(&self) -> Option<u64>
+        ensures { result ≡ self.now.min }
+    {
+        self.full.min
+    }
+
+    /// The number of the mark above every post-release of the same release. No text gives it.
+    pub fn max(&self) -> Option<u64>
+        ensures { result ≡ self.now.max }
+    {
+        self.full.max
+    }
+
+    /// Whether there is a pre-release part.
+    pub fn is_pre(&self) -> bool
+        ensures { result ≡ is_some self.now.pre }
+    {
+        self.pre().is_some()
+    }
+
+    /// Whether there is a post-release part.
+    pub fn is_post(&self) -> bool
+        ensures { result ≡ is_some self.now.post }
+    {
+        self.post().is_some()
+    }
+
+    /// Whether there is a developmental part.
+    pub fn is_dev(&self) -> bool
+        ensures { result ≡ is_some self.now.dev }
+    {
+        self.dev().is_some()
+    }
+
+    /// Whether there is a local part.
+    pub fn is_local(&self) -> bool
+        ensures { IsTrue result ↔ (0 < length self.now.local) }
+    {
+        !self.local().is_empty()
+    }
+
+    /// Whether there is a pre-release or a developmental part.
+    pub fn any_prerelease(&self) -> bool
+        ensures { result ≡ (is_some self.now.pre || is_some self.now.dev) }
+    {
+        self.is_pre() || self.is_dev()
+    }
+
+    /// Whether there is neither a pre-release nor a developmental part.
+    pub fn is_stable(&self) -> bool
+        ensures { result ≡ (if is_some self.now.pre || is_some self.now.dev then false else true) }
+    {
+        !self.any_prerelease()
+    }
+
+    /// Whether the version is a release with epoch 0 and has no other part.
+    pub fn is_release_only(&self) -> bool
+        ensures { IsTrue result ↔ (self.now ≡ of_release self.now.release) }
+    {
+        self.epoch() == 0
+            && self.pre().is_none()
+            && self.post().is_none()
+            && self.dev().is_none()
+            && self.local().is_empty()
+            && self.min().is_none()
+            && self.max().is_none()
+    }
+}
+
+impl Clone for Version {
+    ghost is_clone = { λ version copy. copy ≡ version };
+
+    fn clone(&self) -> Result<Version, AllocError> {
+        Ok(Version::from_full(self.full.clone()?))
+    }
+}
