@@ -9,6 +9,7 @@ use Rattle.pep440_version.specs.declared.error.VersionPatternParseError.{Version
 use Rattle.pep440_version.specs.Reading.{Read}
 use Rattle.pep440_version.specs.Refusals.{PatternRefusal, OfVersion, WildcardNotTrailing, Refusal, Wildcard, NumberTooBig, NoLeadingNumber, NoLeadingReleaseNumber, LocalEmpty, UnexpectedEnd}
 
+-- why a text is no version
 abbrev pub kind_of : VersionParseError → ErrorKind
 kind_of e = e.kind
 
@@ -32,6 +33,7 @@ abbrev pub Answers : {X : Type 0} → Result X VersionParseError → Read X → 
 Answers (Ok x) read = read ≡ Ok x
 Answers (Err e) read = IfSome (refusal_of (kind_of e)) (λ f. read ≡ Err f)
 
+-- why a text is no pattern
 abbrev pub pattern_kind_of : VersionPatternParseError → PatternErrorKind
 pattern_kind_of e = e.kind
 
@@ -45,10 +47,12 @@ abbrev pub IsVersionKind : ErrorKind → PatternErrorKind → Type 0
 IsVersionKind k (pattern.Version e) = kind_of e ≡ k
 IsVersionKind k pattern.WildcardNotTrailing = ⊥
 
+-- the refusal of a pattern, or none where memory ran out
 abbrev pub pattern_refusal_of : PatternErrorKind → Option PatternRefusal
 pattern_refusal_of (pattern.Version e) = option_map OfVersion (refusal_of (kind_of e))
 pattern_refusal_of pattern.WildcardNotTrailing = Some WildcardNotTrailing
 
+-- what a function returned, seen by view, is what reading a pattern gives, unless memory ran out
 abbrev pub PatternGives : {X Y : Type 0} → (X → Y) → Result X PatternErrorKind → Result Y PatternRefusal → Type 0
 PatternGives view (Ok x) read = read ≡ Ok (view x)
 PatternGives view (Err e) read = IfSome (pattern_refusal_of e) (λ f. read ≡ Err f)

@@ -9,17 +9,20 @@ use Rattle.pep440_version.specs.Key.{Key, key, Stage, Min, Dev, Pre, Final, stag
 use Rattle.pep440_version.specs.KeyLaws.{trim}
 use Rattle.pep440_version.specs.Record.{Record, Segment, Text, Number}
 
+-- Min 0, Dev 1, Alpha 2, Beta 3, Rc 4, Final 5; a pre-release is followed by its number
 abbrev pub feed_stage : Stage → HashWrites
 feed_stage Min = u64 0
 feed_stage Dev = u64 1
 feed_stage (Pre k n) = u64 (stage_rank (Pre k n)) ++ u64 n
 feed_stage Final = u64 5
 
+-- 0, or 1 and the number, or 2 and the number of the mark
 abbrev pub feed_post : PostPlace → HashWrites
 feed_post NoPost = u64 0
 feed_post (PostAt p) = u64 1 ++ u64 p
 feed_post (PostTop m) = u64 2 ++ u64 m
 
+-- 0 and the number, or 1
 abbrev pub feed_dev : DevPlace → HashWrites
 feed_dev (DevAt d) = u64 0 ++ u64 d
 feed_dev NoDev = u64 1
@@ -33,12 +36,15 @@ feed_segment (Number n) = u64 1 ++ u64 n
 abbrev pub feed_numbers : List ℕ → HashWrites
 feed_numbers numbers = u64 (length numbers) ++ flat_map u64 numbers
 
+-- how many segments, and each of them
 abbrev pub feed_local : List Segment → HashWrites
 feed_local segments = u64 (length segments) ++ flat_map feed_segment segments
 
+-- part after part, the release without the zeros at its end
 abbrev pub feed_key : Key → HashWrites
 feed_key k = u64 k.epoch ++ feed_numbers (trim k.release) ++ feed_stage k.stage ++ feed_post k.post ++ feed_dev k.dev ++ feed_local k.local
 
+-- a version is fed by its key, so equal versions feed alike
 abbrev pub feed : Record → HashWrites
 feed r = feed_key (key r)
 

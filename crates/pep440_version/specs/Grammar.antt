@@ -14,10 +14,12 @@ abbrev pub starts : (ℕ → Bool) → List ℕ → Bool
 starts test [] = false
 starts test (b ∷ rest) = test b
 
--- the bytes 9, 10, 12, 13 and 32
+-- tab, line feed, form feed, carriage return and space: the bytes 9, 10, 12, 13 and 32 (PEP 440, "Leading and
+-- Trailing Whitespace", without the vertical tab)
 abbrev pub is_blank : ℕ → Bool
 is_blank b = (b == 9) || (b == 10) || (b == 12) || (b == 13) || (b == 32)
 
+-- any number of blanks
 abbrev pub AreBlanks : List ℕ → Type 0
 AreBlanks text = list_all is_blank text ≡ true
 
@@ -25,24 +27,25 @@ AreBlanks text = list_all is_blank text ≡ true
 abbrev pub is_v : ℕ → Bool
 is_v b = (b == 118) || (b == 86)
 
--- nothing, or the letter v
+-- nothing, or the letter v (PEP 440, "Preceding v character")
 abbrev pub IsMark : List ℕ → Type 0
 IsMark text = (text ≡ []) ⊎ (text ≡ codes "v") ⊎ (text ≡ codes "V")
 
--- one or more digits, zeros may lead, with a value that fits
+-- one or more digits, zeros may lead, with a value that fits (PEP 440, "Integer Normalization")
 abbrev pub IsNumber : List ℕ → ℕ → Type 0
 IsNumber digits n = (0 < length digits) × (list_all is_ascii_digit digits ≡ true) × (digits_value 10 digits ≡ n) × Fits n
 
--- nothing, or a number and `!`
+-- nothing, or a number and `!` (PEP 440, "Version epochs")
 abbrev pub IsEpoch : List ℕ → ℕ → Type 0
 IsEpoch text epoch = ((text ≡ []) × (epoch ≡ 0)) ⊎ ((digits : List ℕ) × IsNumber digits epoch × (text ≡ digits ++ codes "!"))
 
--- numbers joined by `.`, at least one
+-- numbers joined by `.`, at least one (PEP 440, "Final releases")
 abbrev pub IsRelease : List ℕ → List ℕ → Type 0
 IsRelease text [] = ⊥
 IsRelease text (n ∷ []) = IsNumber text n
 IsRelease text (n ∷ m ∷ rest) = (digits after : List ℕ) × IsNumber digits n × IsRelease after (m ∷ rest) × (text ≡ digits ++ (codes "." ++ after))
 
+-- `.`, `-` and `_`
 abbrev pub is_separator : ℕ → Bool
 is_separator b = (b == 46) || (b == 45) || (b == 95)
 
@@ -50,7 +53,7 @@ is_separator b = (b == 46) || (b == 45) || (b == 95)
 abbrev pub IsSeparator : List ℕ → Type 0
 IsSeparator text = (text ≡ []) ⊎ ((b : ℕ) × (is_separator b ≡ true) × (text ≡ b ∷ []))
 
--- a number, or nothing for 0
+-- a number, or nothing for 0 (PEP 440, "Implicit pre-release number" and its siblings)
 abbrev pub IsCount : List ℕ → ℕ → Type 0
 IsCount text n = ((text ≡ []) × (n ≡ 0)) ⊎ IsNumber text n
 
@@ -58,22 +61,27 @@ IsCount text n = ((text ≡ []) × (n ≡ 0)) ⊎ IsNumber text n
 abbrev pub Spellings : Type 0 → Type 0
 Spellings A = List (List ℕ × A)
 
+-- PEP 440, "Pre-release spelling"
 abbrev pub pre_spellings : Spellings PrereleaseKind
 pre_spellings = (codes "alpha", Alpha) ∷ (codes "a", Alpha) ∷ (codes "beta", Beta) ∷ (codes "b", Beta)
     ∷ (codes "rc", Rc) ∷ (codes "c", Rc) ∷ (codes "preview", Rc) ∷ (codes "pre", Rc) ∷ []
 
+-- PEP 440, "Post release spelling"
 abbrev pub post_spellings : Spellings (Unit {0})
 post_spellings = (codes "post", tt) ∷ (codes "rev", tt) ∷ (codes "r", tt) ∷ []
 
+-- PEP 440, "Development release separators"
 abbrev pub dev_spellings : Spellings (Unit {0})
 dev_spellings = (codes "dev", tt) ∷ []
 
+-- a word of the table, in any case, and what it stands for
 abbrev pub IsSpelling : {A : Type 0} → Spellings A → List ℕ → A → Type 0
 IsSpelling [] word a = ⊥
 IsSpelling (s ∷ rest) word a = ((map to_ascii_lowercase word ≡ s.0) × (a ≡ s.1)) ⊎ IsSpelling rest word a
 
--- a part that is spelled: separator, spelling, separator, count; then come after. A separator directly
--- after the spelling belongs to the part, and so do digits that then stand there.
+-- a part that is spelled: separator, spelling, separator, count, where all but the spelling may be missing;
+-- what comes after the part is given. A separator directly after the spelling belongs to the part, and so do
+-- digits that then stand there.
 pub record IsSpelled {A : Type 0} (table : Spellings A) (part after : List ℕ) (a : A) (n : ℕ) : Type 0 where
   pub before : List ℕ
   pub word : List ℕ
@@ -87,19 +95,23 @@ pub record IsSpelled {A : Type 0} (table : Spellings A) (part after : List ℕ) 
   pub keeps_separator : between ≡ [] → digits ≡ [] → starts is_separator after ≡ false
   pub keeps_digits : starts is_ascii_digit after ≡ false
 
+-- the pre-release part, before what comes after it (PEP 440, "Pre-releases")
 abbrev pub IsPre : List ℕ → List ℕ → Option Prerelease → Type 0
 IsPre part after None = part ≡ []
 IsPre part after (Some p) = IsSpelled pre_spellings part after p.kind p.number
 
+-- the post-release part: `-` and a number, or spelled (PEP 440, "Post-releases", "Implicit post releases")
 abbrev pub IsPost : List ℕ → List ℕ → Option ℕ → Type 0
 IsPost part after None = part ≡ []
 IsPost part after (Some n) = ((digits : List ℕ) × IsNumber digits n × (part ≡ codes "-" ++ digits)) ⊎ IsSpelled post_spellings part after tt n
 
+-- the developmental part (PEP 440, "Developmental releases")
 abbrev pub IsDev : List ℕ → List ℕ → Option ℕ → Type 0
 IsDev part after None = part ≡ []
 IsDev part after (Some n) = IsSpelled dev_spellings part after tt n
 
--- digits whose value fits are a number, and every other segment is its lower-cased text
+-- digits whose value fits are a number, and every other segment is its lower-cased text (PEP 440, "Local version
+-- identifiers", "Case sensitivity")
 abbrev pub segment_of : List ℕ → Segment
 segment_of text =
     if list_all is_ascii_digit text && nat_lt (digits_value 10 text) (2 ^ 64) then Number (digits_value 10 text)
@@ -109,7 +121,7 @@ segment_of text =
 abbrev pub IsSegment : List ℕ → Segment → Type 0
 IsSegment text s = (0 < length text) × (list_all is_ascii_alphanumeric text ≡ true) × (s ≡ segment_of text)
 
--- segments joined by separators
+-- segments joined by separators (PEP 440, "Local version segments")
 abbrev pub AreSegments : List ℕ → List Segment → Type 0
 AreSegments text [] = ⊥
 AreSegments text (s ∷ []) = IsSegment text s
@@ -120,7 +132,7 @@ abbrev pub IsLocal : List ℕ → List Segment → Type 0
 IsLocal part [] = part ≡ []
 IsLocal part (s ∷ rest) = (text : List ℕ) × AreSegments text (s ∷ rest) × (part ≡ codes "+" ++ text)
 
--- the text means the record
+-- the text means the record: it is cut into blanks, the letter v, epoch, release, pre, post, dev, local and blanks
 pub record Derives (text : List ℕ) (r : Record) : Type 0 where
   pub w1 : List ℕ
   pub v : List ℕ

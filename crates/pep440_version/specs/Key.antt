@@ -10,21 +10,25 @@ use Rattle.pep440_version.specs.declared.prerelease.PrereleaseKind.TheVariants.{
 use Rattle.pep440_version.specs.declared.prerelease.Prerelease.{Prerelease}
 use Rattle.pep440_version.specs.Record.{Record, Segment, Text, Number}
 
+-- which of the stages of a release a version stands in; pre-releases by kind, then by number
 pub data Stage : Type 0 where
   Min : Stage
   Dev : Stage
   Pre : PrereleaseKind → ℕ → Stage
   Final : Stage
 
+-- no post-release, the post-release of a number, or the mark above all of them
 pub data PostPlace : Type 0 where
   NoPost : PostPlace
   PostAt : ℕ → PostPlace
   PostTop : ℕ → PostPlace
 
+-- the developmental release of a number, or none, which is above all of them
 pub data DevPlace : Type 0 where
   DevAt : ℕ → DevPlace
   NoDev : DevPlace
 
+-- what versions are compared by
 pub record Key : Type 0 where
   pub epoch : ℕ
   pub release : List ℕ
@@ -54,6 +58,7 @@ dev_of (Some n) dev = DevAt n
 dev_of None (Some d) = DevAt d
 dev_of None None = NoDev
 
+-- the parts of the key, each from the fields that it rests on
 abbrev pub key : Record → Key
 key r = record {
   epoch = r.epoch;
@@ -82,6 +87,7 @@ stage_rank (Pre Beta n) = 3
 stage_rank (Pre Rc n) = 4
 stage_rank Final = 5
 
+-- the number of a pre-release
 abbrev pub stage_number : Stage → ℕ
 stage_number Min = 0
 stage_number Dev = 0
@@ -94,6 +100,7 @@ post_rank NoPost = 0
 post_rank (PostAt p) = 1
 post_rank (PostTop m) = 2
 
+-- the number of a post-release or of the mark
 abbrev pub post_number : PostPlace → ℕ
 post_number NoPost = 0
 post_number (PostAt p) = p
@@ -104,6 +111,7 @@ abbrev pub dev_rank : DevPlace → ℕ
 dev_rank (DevAt d) = 0
 dev_rank NoDev = 1
 
+-- the number of a developmental release
 abbrev pub dev_number : DevPlace → ℕ
 dev_number (DevAt d) = d
 dev_number NoDev = 0
@@ -113,23 +121,29 @@ abbrev pub segment_rank : Segment → ℕ
 segment_rank (Text t) = 0
 segment_rank (Number n) = 1
 
+-- the text, for texts are compared by their bytes
 abbrev pub segment_text : Segment → List ℕ
 segment_text (Text t) = t
 segment_text (Number n) = []
 
+-- the number, for numbers are compared by their value
 abbrev pub segment_number : Segment → ℕ
 segment_number (Text t) = 0
 segment_number (Number n) = n
 
+-- by stage, then by number
 abbrev pub stage_cmp : Stage → Stage → Ordering
 stage_cmp = then_cmp (on stage_rank nat_cmp) (on stage_number nat_cmp)
 
+-- by place, then by number
 abbrev pub post_cmp : PostPlace → PostPlace → Ordering
 post_cmp = then_cmp (on post_rank nat_cmp) (on post_number nat_cmp)
 
+-- by place, then by number
 abbrev pub dev_cmp : DevPlace → DevPlace → Ordering
 dev_cmp = then_cmp (on dev_rank nat_cmp) (on dev_number nat_cmp)
 
+-- texts below numbers, texts by bytes, numbers by value
 abbrev pub segment_cmp : Segment → Segment → Ordering
 segment_cmp = then_cmp (on segment_rank nat_cmp) (then_cmp (on segment_text (slice_cmp nat_cmp)) (on segment_number nat_cmp))
 
@@ -153,6 +167,7 @@ kind_rank Alpha = 0
 kind_rank Beta = 1
 kind_rank Rc = 2
 
+-- Alpha < Beta < Rc
 abbrev pub kind_cmp : PrereleaseKind → PrereleaseKind → Ordering
 kind_cmp = on kind_rank nat_cmp
 
@@ -165,5 +180,6 @@ abbrev pub star_number : Bool → ℕ
 star_number false = 0
 star_number true = 1
 
+-- by version, then by star; patterns are tested for equality alone
 abbrev pub pattern_cmp : Record × Bool → Record × Bool → Ordering
 pattern_cmp = then_cmp (on (λ p. p.0) record_cmp) (on (λ p. star_number p.1) nat_cmp)

@@ -6,6 +6,7 @@ use Rattle.pep440_version.specs.Reading.{Read, ◌>>=◌, lead, past}
 use Rattle.pep440_version.specs.Record.{Segment}
 use Rattle.pep440_version.specs.Refusals.{LocalEmpty}
 
+-- the byte in front
 abbrev pub first_byte : List ℕ → ℕ
 first_byte [] = 0
 first_byte (b ∷ rest) = b

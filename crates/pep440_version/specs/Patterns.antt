@@ -16,6 +16,7 @@ pub record DerivesStar (text : List ℕ) (r : Record) : Type 0 where
   pub release : IsRelease n r.release
   pub plain : r ≡ public_record r.epoch r.release
 
+-- the text means the record, with a star or without
 abbrev pub DerivesPattern : List ℕ → Record → Bool → Type 0
 DerivesPattern text r true = DerivesStar text r
 DerivesPattern text r false = Derives text r

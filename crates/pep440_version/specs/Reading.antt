@@ -7,9 +7,11 @@ use Rattle.std.specs.Str.Parse.{digits_value}
 use Rattle.pep440_version.specs.Grammar.{is_v, starts}
 use Rattle.pep440_version.specs.Refusals.{NumberTooBig, Refusal}
 
+-- what a reader finds, or why the text is refused
 abbrev pub Read : Type 0 → Type 0
 Read A = Result A Refusal
 
+-- a reader, and the next one on what it found
 infixl 10 ◌>>=◌
 abbrev pub ◌>>=◌ : {A B : Type 0} → Result A Refusal → (A → Result B Refusal) → Result B Refusal
 (Ok x) >>= f = f x
@@ -22,9 +24,11 @@ lead test text = take (prefix_len test text) text
 abbrev pub past : (ℕ → Bool) → List ℕ → List ℕ
 past test text = drop (prefix_len test text) text
 
+-- the text after the letter v, where it stands in front
 abbrev pub past_mark : List ℕ → List ℕ
 past_mark text = if starts is_v text then drop 1 text else text
 
+-- a digit stands in front
 abbrev pub starts_number : List ℕ → Bool
 starts_number text = starts is_ascii_digit text
 

@@ -17,6 +17,7 @@ abbrev pub spelled : {A : Type 0} → Spellings A → List ℕ → Option (A × 
 spelled [] text = None
 spelled (s ∷ rest) text = if begins s.0 text then Some (s.1, length s.0) else spelled rest text
 
+-- the text after a separator, where one stands in front
 abbrev pub past_separator : List ℕ → List ℕ
 past_separator text = if starts is_separator text then drop 1 text else text
 
@@ -29,17 +30,21 @@ abbrev pub after_spelling : {A : Type 0} → List ℕ → List ℕ → Option (A
 after_spelling text word None = Ok (None, text)
 after_spelling text word (Some x) = count_at (past_separator (drop x.1 word)) >>= λ n. Ok (Some (x.0, n.0), n.1)
 
+-- a spelled part, or nothing
 abbrev pub suffix_at : {A : Type 0} → Spellings A → List ℕ → Read (Option (A × ℕ) × List ℕ)
 suffix_at table text = after_spelling text (past_separator text) (spelled table (past_separator text))
 
+-- the number of a part that is there
 abbrev pub number_of : {A : Type 0} → Option (A × ℕ) → Option ℕ
 number_of None = None
 number_of (Some x) = Some x.1
 
+-- the pre-release of a part that is there
 abbrev pub prerelease_of : Option (PrereleaseKind × ℕ) → Option Prerelease
 prerelease_of None = None
 prerelease_of (Some x) = Some (record { kind = x.0; number = x.1 })
 
+-- a pre-release, or nothing
 abbrev pub pre_at : List ℕ → Read (Option Prerelease × List ℕ)
 pre_at text = suffix_at pre_spellings text >>= λ x. Ok (prerelease_of x.0, x.1)
 
@@ -47,10 +52,12 @@ pre_at text = suffix_at pre_spellings text >>= λ x. Ok (prerelease_of x.0, x.1)
 abbrev pub is_bare_post : List ℕ → Bool
 is_bare_post text = starts (λ b. b == 45) text && starts_number (drop 1 text)
 
+-- a post-release, or nothing
 abbrev pub post_at : List ℕ → Read (Option ℕ × List ℕ)
 post_at text = if is_bare_post text then (number_at (drop 1 text) >>= λ n. Ok (Some n.0, n.1))
     else (suffix_at post_spellings text >>= λ x. Ok (number_of x.0, x.1))
 
+-- a developmental release, or nothing
 abbrev pub dev_at : List ℕ → Read (Option ℕ × List ℕ)
 dev_at text = suffix_at dev_spellings text >>= λ x. Ok (number_of x.0, x.1)
 

@@ -40,9 +40,11 @@ end_at text x =
 abbrev pub closing : List ℕ → (ℕ × List ℕ) × List ℕ → Read Record
 closing text x = parts_at x.0.0 x.0.1 x.1 >>= end_at text
 
+-- `.*` stands in front
 abbrev pub is_star : List ℕ → Bool
 is_star text = starts (λ b. b == 46) text && starts (λ b. b == 42) (drop 1 text)
 
+-- a version, as a pattern
 abbrev pub without_star : Read Record → Result (Record × Bool) PatternRefusal
 without_star (Ok r) = Ok (r, false)
 without_star (Err f) = Err (OfVersion f)
@@ -58,6 +60,7 @@ pattern_from text (Ok x) =
 abbrev pub read_pattern : List ℕ → Result (Record × Bool) PatternRefusal
 read_pattern text = pattern_from text (opening text)
 
+-- the version that a pattern is; a star is refused
 abbrev pub version_of : Result (Record × Bool) PatternRefusal → Read Record
 version_of (Ok x) = if x.1 then Err Wildcard else Ok x.0
 version_of (Err (OfVersion f)) = Err f
