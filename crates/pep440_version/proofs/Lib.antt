@@ -34,3 +34,4 @@ pub mod RefusalRows
 pub mod Reread
 pub mod Trimming
 pub mod Zeros
+pub mod KeyRows
