@@ -1,0 +1,41 @@
+-- A clone of each held value is that same value.
+use Rattle.std.specs.Prelude.{◌≡◌, ◌⊎◌, List, [], ◌∷◌}
+use Rattle.std.specs.declared.ops.Bound.{Bound}
+use Rattle.std.specs.declared.ops.Bound.TheVariants.{Included, Excluded, Unbounded}
+use Rattle.pep440_ranges.specs.Segments.{Segment}
+
+module _ {V : Type 0} where
+  -- x is the value of the bound
+  abbrev pub IsValueOf : Bound V → V → Type 0
+  IsValueOf (Included y) x = y ≡ x
+  IsValueOf (Excluded y) x = y ≡ x
+  IsValueOf Unbounded x = ⊥
+
+  -- x is the value of a bound of some segment
+  abbrev pub IsHeld : List (Segment V) → V → Type 0
+  IsHeld [] x = ⊥
+  IsHeld (s ∷ ss) x = IsValueOf s.0 x ⊎ IsValueOf s.1 x ⊎ IsHeld ss x
+
+module _ {V : Type 0} (is_clone : V → V → Type 0) where
+  -- a clone of x is x
+  abbrev pub IsCloneSame : V → Type 0
+  IsCloneSame x = (copy : V) → is_clone x copy → copy ≡ x
+
+  -- a clone of each held value is that same value
+  abbrev pub ClonesHeld : List (Segment V) → Type 0
+  ClonesHeld ss = (x : V) → IsHeld ss x → IsCloneSame x
+
+  -- the same of one bound
+  abbrev pub ClonesBound : Bound V → Type 0
+  ClonesBound (Included x) = IsCloneSame x
+  ClonesBound (Excluded x) = IsCloneSame x
+  ClonesBound Unbounded = Unit {0}
+
+  -- the same of each bound in turn, as a loop over the segments meets it
+  abbrev pub ClonesEach : List (Segment V) → Type 0
+  ClonesEach [] = Unit {0}
+  ClonesEach (s ∷ ss) = ClonesBound s.0 × ClonesBound s.1 × ClonesEach ss
+
+-- where a clone is always the same value, a clone of each held value is: of every range at once
+pub clones_held : {V : Type 0} (is_clone : V → V → Type 0) → ((x : V) → IsCloneSame is_clone x) → (ss : List (Segment V)) → ClonesHeld is_clone ss
+clones_held is_clone same ss x held = same x

@@ -1,0 +1,71 @@
+//! A list of segments: its iterator, and its copy.
+
+ghost use Rattle.std.specs.Prelude.{◌≡◌, IfOk};
+ghost use Rattle.std.specs.Iterator.{YieldsFirstBy, item_count};
+ghost use Rattle.pep440_ranges.specs.Clones.{ClonesEach};
+
+use crate::bounds::clone_of;
+use std::alloc::{AllocError, Global};
+use std::marker::Model;
+use std::ops::Bound;
+
+/// Where it starts and where it ends.
+pub(crate) type Segment<V> = (Bound<V>, Bound<V>);
+
+/// The segments of a range in order, as pairs of a start and an end; made by `Ranges::iter`.
+///
+/// It takes no memory. A clause sees it as the list of the segments that are left.
+#[derive(Drop)]
+pub struct Segments<'a, V> {
+    rest: &'a [Segment<V>],
+}
+
+impl<'a, V> Model for Segments<'a, V> {
+    ghost use Rattle.std.specs.Prelude.{List};
+    ghost use Rattle.pep440_ranges.specs.Segments.{Segment};
+
+    ghost Value = { List (Segment V) };
+
+    ghost view = { λ s. s.rest.now };
+}
+
+impl<'a, V> Segments<'a, V> {
+    /// An iterator over these.
+    pub(crate) fn new(segments: &'a [Segment<V>]) -> Self
+        ensures { result ≡ segments.now }
+    {
+        Segments { rest: segments }
+    }
+}
+
+impl<'a, V> Iterator for Segments<'a, V> {
+    type Item = (&'a Bound<V>, &'a Bound<V>);
+
+    ghost next_gives = { YieldsFirstBy (λ x. (x.0.now, x.1.now)) (λ s. s) };
+
+    ghost remaining = { item_count (λ s. s) };
+
+    /// The next segment, and `None` once all were given.
+    fn next(&mut self) -> Option<(&'a Bound<V>, &'a Bound<V>)> {
+        let (first, others) = self.rest.split_first()?;
+        self.rest = others;
+        Some((&first.0, &first.1))
+    }
+}
+
+/// The same segments, of clones of their values.
+pub(crate) fn copy_of<V: Clone>(
+    alloc: Global,
+    segments: &[Segment<V>],
+) -> Result<Vec<Segment<V>>, AllocError>
+    requires { ClonesEach V.is_clone segments.now }
+    ensures { IfOk result (λ v. v.items ≡ segments.now) }
+{
+    let mut copy = Vec::new(alloc);
+    let mut rest = segments;
+    while let Some((segment, others)) = rest.split_first() {
+        copy.push((clone_of(&segment.0)?, clone_of(&segment.1)?))?;
+        rest = others;
+    }
+    Ok(copy)
+}

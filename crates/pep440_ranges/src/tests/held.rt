@@ -1,0 +1,83 @@
+//! A number that takes memory, and so does its clone.
+
+ghost use Rattle.std.specs.Prelude.{◌≡◌, ℕ};
+ghost use Rattle.std.specs.Ordering.{eq_by_cmp, as_partial_cmp, nat_cmp};
+ghost use Rattle.std.specs.Cmp.{eq_by_cmp_equiv, partial_equiv_from_equiv, po, nat_cmp_total};
+ghost use Rattle.std.proofs.Common.{refl};
+
+use std::alloc::{AllocError, Global};
+use std::cmp::Ordering;
+use std::marker::Model;
+
+#[derive(Drop)]
+pub(crate) struct Held {
+    number: Box<u64>,
+}
+
+impl Model for Held {
+    ghost Value = { ℕ };
+
+    ghost view = { λ h. h.number.value };
+}
+
+impl Held {
+    pub(crate) fn new(alloc: Global, number: u64) -> Result<Held, AllocError> {
+        Ok(Held {
+            number: Box::new(alloc, number)?,
+        })
+    }
+
+    pub(crate) fn number(&self) -> u64
+        ensures { result ≡ self.now }
+    {
+        *self.number
+    }
+}
+
+impl Clone for Held {
+    ghost is_clone = { λ x y. y ≡ x };
+
+    fn clone(&self) -> Result<Held, AllocError> {
+        Ok(Held {
+            number: self.number.clone()?,
+        })
+    }
+}
+
+impl PartialEq for Held {
+    ghost eq = { eq_by_cmp nat_cmp };
+
+    ghost laws = { partial_equiv_from_equiv (eq_by_cmp_equiv nat_cmp_total) };
+
+    fn eq(&self, other: &Held) -> bool {
+        self.cmp(other).is_eq()
+    }
+}
+
+impl Eq for Held {
+    ghost laws = { eq_by_cmp_equiv nat_cmp_total };
+}
+
+impl PartialOrd for Held {
+    ghost partial_cmp = { as_partial_cmp nat_cmp };
+
+    ghost laws = { po nat_cmp_total (λ _ _. refl) };
+
+    fn partial_cmp(&self, other: &Held) -> Option<Ordering> {
+        Some(self.cmp(other))
+    }
+}
+
+impl Ord for Held {
+    ghost cmp = { nat_cmp };
+
+    ghost total = { nat_cmp_total };
+
+    ghost matches_partial_cmp = { λ _ _. refl };
+
+    ghost matches_eq = { λ _ _. refl };
+
+    fn cmp(&self, other: &Held) -> Ordering {
+        self.number().cmp(&other.number())
+    }
+}
