@@ -16,6 +16,7 @@ use Rattle.pep440_version.specs.Whole.{release_after, front_at, opening, parts_a
 use Rattle.pep440_version.proofs.Texts.{both_first, both_second}
 use Rattle.pep440_version.proofs.Found.{bind_ok, chosen, inside, split, drop_one}
 use Rattle.pep440_version.proofs.Spelling.{BeginWithLetters, letters_pre, letters_post, letters_dev}
+use Rattle.pep440_version.proofs.Taken.{some}
 
 abbrev pub Reader : Type 0 → Type 0
 Reader A = List ℕ → Result (A × List ℕ) Refusal
@@ -123,7 +124,7 @@ count_cut t back y e = elim (chosen (starts_number (t ++ back)) _ _ _ e) [
 
 -- ---- spelled parts
 
-separator_end : (t : List ℕ) → IsEnd t (past_separator t)
+pub separator_end : (t : List ℕ) → IsEnd t (past_separator t)
 separator_end [] = ([], refl)
 separator_end (b ∷ t) = elim (cases_Bool (is_separator b)) [
   | inl e ↦ (b ∷ [], rw e refl)
@@ -154,9 +155,6 @@ begins_cut (c ∷ cs) (b ∷ t) back e = elim (begins_cut cs t back (both_second
   | inl h ↦ inl (rw (both_first (to_ascii_lowercase b == c) _ e) h.0, h.1)
   | inr h ↦ inr h
 ]
-
-some : {A : Type 0} (x y : A) → (let o : Option A = Some x in o) ≡ Some y → x ≡ y
-some {A} x y e = ap (λ (o : Option A). elim o as (λ _. A) [ Some z ↦ z | None ↦ x ]) e
 
 spelled_cut : {A : Type 0} (table : Spellings A) (t back : List ℕ) (x : A × ℕ) → spelled table (t ++ back) ≡ Some x
     → ((spelled table t ≡ Some x) × (drop x.1 (t ++ back) ≡ drop x.1 t ++ back)) ⊎ IsLater back (drop x.1 (t ++ back))
@@ -235,7 +233,7 @@ counted_cut t back y e = elim (separator_cut t back) [
   | inr h ↦ inr (later_end back (past_separator (t ++ back)) y.1 h (count_end (past_separator (t ++ back)) y e))
 ]
 
-drop_end : (k : ℕ) (t : List ℕ) → IsEnd t (drop k t)
+pub drop_end : (k : ℕ) (t : List ℕ) → IsEnd t (drop k t)
 drop_end k t = (take k t, sym (take-append-drop k t))
 
 pub suffix_end : {A : Type 0} (table : Spellings A) → Takes (suffix_at table)
@@ -401,7 +399,7 @@ release_past (suc k) t n y room f e =
       | inr h ↦ subst (IsEnd n.1) (ap (λ (p : List ℕ × List ℕ). p.1) (inside _ _ h.1)) ([], refl)
     ]
 
-end_long : (a b : List ℕ) → IsEnd a b → length b ≤ length a
+pub end_long : (a b : List ℕ) → IsEnd a b → length b ≤ length a
 end_long a b h = let long = ap length h.1 ∙ length-append h.0 b in omega (arith, long)
 
 pub release_cut : (k j : ℕ) (t back : List ℕ) (y : List ℕ × List ℕ) → length (t ++ back) ≤ k → length t ≤ j → starts_number (t ++ back) ≡ true → release_at k (t ++ back) ≡ Ok y
@@ -685,7 +683,7 @@ local_cut (b ∷ t) back y e = elim (chosen (b == 43) _ _ _ e) [
 
 -- ---- the whole
 
-mark_end : (t : List ℕ) → IsEnd t (past_mark t)
+pub mark_end : (t : List ℕ) → IsEnd t (past_mark t)
 mark_end [] = ([], refl)
 mark_end (b ∷ t) = elim (cases_Bool (is_v b)) [
   | inl e ↦ (b ∷ [], rw e refl)

@@ -1,12 +1,10 @@
 -- A text that a line of the refusals tells is refused so.
 use Rattle.std.proofs.Common.{◌≡◌, ◌≤◌, ◌<◌, ◌==◌, ◌⊎◌, ℕ, suc, zero, Bool, true, false, List, [], ◌∷◌, ◌++◌, refl, sym, ap, ◌∙◌, arith, length, inl, inr, Ok, Err, Option, Some, None, codes, subst}
 use Rattle.std.proofs.lemmas.Bool.{cases_Bool}
-use Rattle.std.proofs.lemmas.Bool.Decides.{nat_tests}
 use Rattle.std.proofs.lemmas.List.{append_assoc, append-nil, length-append}
 use Rattle.std.specs.Char.{is_ascii_digit, is_ascii_alphanumeric}
-use Rattle.std.specs.List.{list_all}
 use Rattle.pep440_version.specs.declared.prerelease.Prerelease.{Prerelease}
-use Rattle.pep440_version.specs.Grammar.{AreBlanks, IsMark, is_blank, Spellings, IsSpelled, is_separator, IsPre, IsPost, IsDev, IsLocal, IsSegment, AreSegments, starts}
+use Rattle.pep440_version.specs.Grammar.{AreBlanks, IsMark, is_blank, Spellings, IsSpelled, is_separator, IsPre, IsPost, IsDev, IsLocal, AreSegments, starts}
 use Rattle.pep440_version.specs.Locals.{segments_at, local_at}
 use Rattle.pep440_version.specs.Reading.{past, past_mark}
 use Rattle.pep440_version.specs.Record.{Record, Segment}
@@ -15,12 +13,12 @@ use Rattle.pep440_version.specs.Whole.{opening, front_at, parts_at, is_star, pat
 use Rattle.pep440_version.proofs.Texts.{both_first, past-run, lead-run}
 use Rattle.pep440_version.proofs.Found.{inside}
 use Rattle.pep440_version.proofs.Only.{number_first, number_again}
-use Rattle.pep440_version.proofs.Spelling.{is_letter}
 use Rattle.pep440_version.proofs.Tail.{IsQuiet, pre_again, post_again, dev_again}
-use Rattle.pep440_version.proofs.Follows.{Follows, follows_pre, follows_post, follows_dev}
+use Rattle.pep440_version.proofs.Follows.{Follows, follows_pre, follows_post, follows_dev, plus_no_letter}
 use Rattle.pep440_version.proofs.Bridge.{front_again, opening_again, only}
 use Rattle.pep440_version.proofs.Longest.{Whole, whole}
 use Rattle.pep440_version.proofs.Runs.{IsRun, run_starts, Twin, Stays, Stops, Fails, opening_twins, parts_twin, star_stays, ends_end, lacks_end}
+use Rattle.pep440_version.proofs.Segments.{segment_first, separator_no_alphanumeric}
 
 pub opens_again : (text rest : List ℕ) → Opens text rest → opening text ≡ front_at rest
 opens_again text rest (w1, v, cut, blanks, mark, stop, first) =
@@ -81,13 +79,6 @@ too_big text d (front, rest, r, cut, big, lacks, derived) =
 
 -- ---- a segment that is empty
 
-segment_first : (t rest : List ℕ) (s : Segment) → IsSegment t s → starts is_ascii_alphanumeric (t ++ rest) ≡ true
-segment_first [] rest s h = absurd (omega (arith, h.0))
-segment_first (b ∷ t) rest s h = both_first (is_ascii_alphanumeric b) (list_all is_ascii_alphanumeric t) h.1
-
-separator_no_alphanumeric : (b : ℕ) → is_separator b ≡ true → is_ascii_alphanumeric b ≡ false
-separator_no_alphanumeric b s = grind (arith, nat_tests)
-
 nothing_there : (k c : ℕ) (t : List ℕ) → starts is_ascii_alphanumeric t ≡ false → segments_at k c t ≡ Err (LocalEmpty c)
 unfolding segments_at
 nothing_there zero c t s = refl
@@ -144,10 +135,6 @@ post_before part t a b (Some n) (inr h) s d = inr (spelled_before _ part t a b t
 dev_before : (part t a b : List ℕ) (x : Option ℕ) → IsDev part (t ++ a) x → starts is_separator b ≡ false → starts is_ascii_digit b ≡ false → IsDev part (t ++ b) x
 dev_before part t a b None h s d = h
 dev_before part t a b (Some n) h s d = spelled_before _ part t a b tt n h s d
-
-plus_no_letter : is_letter 43 ≡ false
-unfolding is_letter
-plus_no_letter = refl
 
 -- a text before `+`
 plus_parts : (epoch : ℕ) (release p q d l t : List ℕ) (pre : Option Prerelease) (post dev : Option ℕ) (f : Refusal)

@@ -1,5 +1,5 @@
 -- Exactly one line of the refusals holds of a text that is not derived, and none of one that is.
-use Rattle.std.proofs.Common.{◌≡◌, ◌<◌, ◌==◌, ◌⊎◌, ℕ, suc, zero, Bool, true, false, List, [], ◌∷◌, ◌++◌, refl, sym, ap, ◌∙◌, arith, drop, length, inl, inr, Ok, Err, Result}
+use Rattle.std.proofs.Common.{◌≡◌, ◌<◌, ◌==◌, ◌⊎◌, ℕ, Bool, true, false, List, [], ◌∷◌, ◌++◌, refl, sym, ap, ◌∙◌, arith, drop, length, inl, inr, Ok, Err, Result}
 use Rattle.std.proofs.lemmas.Bool.{cases_Bool}
 use Rattle.std.proofs.lemmas.Bool.Decides.{nat_tests}
 use Rattle.std.proofs.lemmas.List.{append-nil, length-append, append_cancel_left}
@@ -10,7 +10,7 @@ use Rattle.pep440_version.specs.Record.{Record}
 use Rattle.pep440_version.specs.Refusals.{Refusal, Wildcard, NumberTooBig, NoLeadingNumber, NoLeadingReleaseNumber, LocalEmpty, UnexpectedEnd, PatternRefusal, OfVersion, WildcardNotTrailing, HasStar, IsLongest, Refuses, RefusesPattern}
 use Rattle.pep440_version.specs.Whole.{opening, parts_at, end_at, is_star, without_star, pattern_from, read_pattern, version_of, read_version}
 use Rattle.pep440_version.proofs.Bridge.{only, found, front_again, only_pattern, found_pattern}
-use Rattle.pep440_version.proofs.Longest.{fails}
+use Rattle.pep440_version.proofs.Longest.{fails, some_rest}
 use Rattle.pep440_version.proofs.Decided.{first_decides, opens_again}
 use Rattle.pep440_version.proofs.Sound.{sound, told_star, no_wildcard}
 
@@ -91,10 +91,6 @@ pattern_version text NoLeadingNumber h = (h, λ e. cc e)
 pattern_version text NoLeadingReleaseNumber h = (h, λ e. cc e)
 pattern_version text (LocalEmpty c) h = (h, λ e. cc e)
 pattern_version text (UnexpectedEnd v r) h = (h, λ e. cc e)
-
-some_rest : (n : ℕ) → (n == 0) ≡ false → 0 < n
-some_rest zero e = cc e
-some_rest (suc n) e = omega arith
 
 no_rest : (n : ℕ) → 0 < n → (n == 0) ≡ false
 no_rest n l = grind (arith, nat_tests)

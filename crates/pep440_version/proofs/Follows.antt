@@ -11,6 +11,7 @@ use Rattle.pep440_version.specs.Whole.{is_star}
 use Rattle.pep440_version.proofs.Texts.{both_first, blank_not_digit, blank_not_dot, blank_not_bang}
 use Rattle.pep440_version.proofs.Spelling.{is_letter, is_extension, BeginWithLetters, letters_pre, letters_post, letters_dev, regroup, separator_no_digit, and_false}
 use Rattle.pep440_version.proofs.Tail.{IsQuiet}
+use Rattle.pep440_version.proofs.Segments.{blank_not_separator}
 
 -- no digit, no dot before a digit or a star, no `!`
 pub record Follows (t : List ℕ) : Type 0 where
@@ -64,9 +65,6 @@ follows_spelled table part after a n l h =
     let rest : List ℕ = h.between ++ (h.digits ++ after) in
     rw (regroup table part after a n h) (follows_before h.before (h.word ++ rest) h.first (word_letter table h.word rest a l h.spelling))
 
-blank_not_separator : (b : ℕ) → is_blank b ≡ true → is_separator b ≡ false
-blank_not_separator b h = grind (arith, nat_tests)
-
 blank_not_letter : (b : ℕ) → is_blank b ≡ true → is_letter b ≡ false
 unfolding is_letter
 blank_not_letter b h = grind (arith, nat_tests)
@@ -89,7 +87,7 @@ quiet_blanks (b ∷ w) h =
     let f = both_first (is_blank b) (list_all is_blank w) h in
     record { separator = blank_not_separator b f; letter = blank_not_letter b f; digit = blank_not_digit b f; extension = blank_not_extension b f; bare = rw (blank_not_dash b f) refl }
 
-plus_no_letter : is_letter 43 ≡ false
+pub plus_no_letter : is_letter 43 ≡ false
 unfolding is_letter
 plus_no_letter = refl
 

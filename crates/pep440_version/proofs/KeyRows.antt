@@ -1,11 +1,11 @@
 -- Order, print, feed and changes on examples, by computation.
-use Rattle.std.proofs.Common.{◌≡◌, refl, codes, Ok, Err, Some, None, [], ◌∷◌, ◌++◌, ℕ, List, Option}
+use Rattle.std.proofs.Common.{◌≡◌, refl, codes, Ok, Err, Some, None, [], ◌∷◌, ◌++◌, ℕ, Option}
 use Rattle.std.specs.Hash.{u64}
 use Rattle.std.specs.declared.cmp.Ordering.TheVariants.{Less, Equal, Greater}
 use Rattle.pep440_version.specs.declared.change.ChangeError.TheVariants as error
 use Rattle.pep440_version.specs.declared.prerelease.Prerelease.{Prerelease}
-use Rattle.pep440_version.specs.declared.prerelease.PrereleaseKind.TheVariants.{Alpha, Beta, Rc}
-use Rattle.pep440_version.specs.Changes.{changed_all, Epoch, Post, Dev, Min, Pre, OnlyRelease, Release}
+use Rattle.pep440_version.specs.declared.prerelease.PrereleaseKind.TheVariants.{Alpha}
+use Rattle.pep440_version.specs.Changes.{changed_all, Epoch, Post, Dev, Min, Pre, Release}
 use Rattle.pep440_version.specs.Feed.{feed}
 use Rattle.pep440_version.specs.Key.{record_cmp}
 use Rattle.pep440_version.specs.Record.{Record, Text, Number, of_release, of_parts}

@@ -9,6 +9,7 @@ use Rattle.pep440_version.specs.Grammar.{IsMark, IsNumber, IsEpoch, IsRelease, i
 use Rattle.pep440_version.specs.Record.{Record, Segment}
 use Rattle.pep440_version.proofs.Texts.{both_first, both_second}
 use Rattle.pep440_version.proofs.Runs.{Lacks, AllLetters, all_letters, letters_of_pre, letters_of_post, letters_of_dev}
+use Rattle.pep440_version.proofs.Segments.{blank_not_plus}
 
 lacks_cons : (b : ℕ) (t : List ℕ) → (b == 43) ≡ false → Lacks t → Lacks (b ∷ t)
 lacks_cons b t e h = rw e h
@@ -26,9 +27,6 @@ lacks_of p not (b ∷ t) h = lacks_cons b t (not b (both_first (p b) _ h)) (lack
 
 digit_not_plus : (b : ℕ) → is_ascii_digit b ≡ true → (b == 43) ≡ false
 digit_not_plus b h = grind (arith, nat_tests)
-
-blank_not_plus : (b : ℕ) → is_blank b ≡ true → (b == 43) ≡ false
-blank_not_plus b h = grind (arith, nat_tests)
 
 separator_not_plus : (b : ℕ) → is_separator b ≡ true → (b == 43) ≡ false
 separator_not_plus b h = grind (arith, nat_tests)

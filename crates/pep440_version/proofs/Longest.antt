@@ -1,5 +1,5 @@
 -- The front at which the reading stops is the longest that the grammar derives.
-use Rattle.std.proofs.Common.{◌≡◌, ◌≤◌, ◌<◌, ◌-◌, ◌==◌, ◌⊎◌, ℕ, suc, zero, Bool, true, false, List, [], ◌∷◌, ◌++◌, refl, sym, ap, ◌∙◌, arith, drop, take, length, inl, inr, Ok, Err, Result, subst}
+use Rattle.std.proofs.Common.{◌≡◌, ◌<◌, ◌-◌, ◌==◌, ◌⊎◌, ℕ, suc, zero, Bool, true, false, List, [], ◌∷◌, ◌++◌, refl, sym, ap, ◌∙◌, arith, drop, take, length, inl, inr, Ok, Err, Result, subst}
 use Rattle.std.proofs.lemmas.Bool.{cases_Bool}
 use Rattle.std.proofs.lemmas.List.{length-append}
 use Rattle.std.proofs.Math.Seq.{take-append_seam}
@@ -11,7 +11,7 @@ use Rattle.pep440_version.specs.Refusals.{Refusal, Wildcard, UnexpectedEnd, IsLo
 use Rattle.pep440_version.specs.Whole.{opening, parts_at, end_at, is_star, pattern_from, read_pattern, version_of, read_version, without_star}
 use Rattle.pep440_version.proofs.Texts.{both_first, both_second}
 use Rattle.pep440_version.proofs.Found.{inside, split, blank_end}
-use Rattle.pep440_version.proofs.Cutting.{past_cut, IsEnd, IsLater, end_of, later_end, past_one, opening_end, opening_cut, parts_end, parts_cut}
+use Rattle.pep440_version.proofs.Cutting.{past_cut, IsEnd, IsLater, end_of, later_end, past_one, opening_end, opening_cut, parts_end, parts_cut, end_long}
 use Rattle.pep440_version.proofs.Parts.{parts_take}
 use Rattle.pep440_version.proofs.Bridge.{opening_takes, derived, version_is, sure, only}
 
@@ -83,9 +83,6 @@ whole text r e = by (opening text) refl (version_is (read_pattern text) r e)
 
 -- ---- the longest front
 
-long_end : (a b : List ℕ) → IsEnd a b → length b ≤ length a
-long_end a b h = let long = ap length h.1 ∙ length-append h.0 b in omega (arith, long)
-
 not_later : (a : List ℕ) → IsLater a a → ⊥
 not_later a h = let long = ap length h.2 ∙ length-append h.0 a in omega (arith, long, h.1)
 
@@ -93,7 +90,7 @@ past_end : (p : ℕ → Bool) (front back : List ℕ) → list_all p front ≡ t
 past_end p [] back h = (lead p back, split p back)
 past_end p (x ∷ front) back h = subst (IsEnd back) (sym (past_one p x (front ++ back) (both_first (p x) (list_all p front) h))) (past_end p front back (both_second (p x) (list_all p front) h))
 
-some_rest : (n : ℕ) → (n == 0) ≡ false → 0 < n
+pub some_rest : (n : ℕ) → (n == 0) ≡ false → 0 < n
 some_rest zero e = cc e
 some_rest (suc n) e = omega arith
 
@@ -168,7 +165,7 @@ longest text x z s =
         means = z.0;
         derived = subst (λ l. Derives l z.0) (sym front) (front_means cut.0 x z (subst (λ l. Stopped l x z) cut.1 s));
         longest = λ other after q e d.
-            let l1 = long_end after rest (derived_end other after q x z d (subst (λ l. Stopped l x z) e s)) in
+            let l1 = end_long after rest (derived_end other after q x z d (subst (λ l. Stopped l x z) e s)) in
             let l2 = ap length e ∙ length-append other after in
             let l3 = ap length front in
             omega (arith, l1, l2, l3, long);

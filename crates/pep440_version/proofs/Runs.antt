@@ -1,5 +1,5 @@
 -- A run of digits above the limit, and `0` in its place: what is read before it does not change.
-use Rattle.std.proofs.Common.{◌≡◌, ◌≤◌, ◌<◌, ◌^◌, ◌==◌, ◌&&◌, ◌||◌, ◌⊎◌, ℕ, suc, zero, Bool, true, false, List, [], ◌∷◌, ◌++◌, refl, sym, ap, ◌∙◌, arith, drop, take, length, inl, inr, Ok, Err, Option, Some, None, codes, subst, nat_lt, nat_le, eqb-true}
+use Rattle.std.proofs.Common.{◌≡◌, ◌≤◌, ◌<◌, ◌^◌, ◌==◌, ◌&&◌, ◌||◌, ◌⊎◌, ℕ, suc, zero, Bool, true, false, List, [], ◌∷◌, ◌++◌, refl, sym, ap, ◌∙◌, arith, drop, length, inl, inr, Ok, Err, Option, Some, None, codes, subst, nat_lt, nat_le, eqb-true}
 use Rattle.std.proofs.lemmas.Bool.{cases_Bool, le-ltb}
 use Rattle.std.proofs.lemmas.Bool.Decides.{nat_tests}
 use Rattle.std.proofs.lemmas.List.{append_assoc, append-nil, length-append, append_cancel_right}
@@ -12,10 +12,11 @@ use Rattle.pep440_version.specs.Reading.{Read, ◌>>=◌, lead, past, starts_num
 use Rattle.pep440_version.specs.Refusals.{Refusal, NumberTooBig, NoLeadingNumber, NoLeadingReleaseNumber, ends}
 use Rattle.pep440_version.specs.Suffixes.{begins, spelled, past_separator, count_at, suffix_at, number_of, prerelease_of, pre_at, is_bare_post, post_at, dev_at}
 use Rattle.pep440_version.specs.Whole.{release_after, front_at, opening, parts_at, is_star}
-use Rattle.pep440_version.proofs.Texts.{both_first, both_second, lead-run}
+use Rattle.pep440_version.proofs.Texts.{both_first, both_second, lead-run, digit_not_blank, digit_not_v}
 use Rattle.pep440_version.proofs.Found.{chosen, split}
-use Rattle.pep440_version.proofs.Spelling.{is_letter}
-use Rattle.pep440_version.proofs.Cutting.{Reader, IsEnd, end_of, past_one, lead_one, record_of}
+use Rattle.pep440_version.proofs.Spelling.{is_letter, digit_no_separator, digit_no_letter}
+use Rattle.pep440_version.proofs.Cutting.{Reader, IsEnd, end_of, past_one, lead_one, record_of, number_end, separator_end, drop_end, end_long, mark_end}
+use Rattle.pep440_version.proofs.Taken.{some}
 
 -- digits above the limit, and no digit after them
 pub record IsRun (d after : List ℕ) : Type 0 where
@@ -31,7 +32,7 @@ pub run_refused : (d after : List ℕ) → IsRun d after → number_at (d ++ aft
 unfolding number_at
 run_refused d after r = rw (lead-run is_ascii_digit d after r.digits r.stops, le-ltb (digits_value 10 d) (2 ^ 64) r.big) refl
 
-number_zero : number_at (codes "0") ≡ Ok (0, [])
+pub number_zero : number_at (codes "0") ≡ Ok (0, [])
 unfolding number_at
 number_zero = refl
 
@@ -119,19 +120,6 @@ count_twins (b ∷ t) d after r e = elim (cases_Bool (is_ascii_digit b)) [
 
 -- ---- what digits are not
 
-digit_not_separator : (b : ℕ) → is_ascii_digit b ≡ true → is_separator b ≡ false
-digit_not_separator b h = grind (arith, nat_tests)
-
-digit_not_letter : (b : ℕ) → is_ascii_digit b ≡ true → is_letter b ≡ false
-unfolding is_letter
-digit_not_letter b h = grind (arith, nat_tests)
-
-digit_not_blank : (b : ℕ) → is_ascii_digit b ≡ true → is_blank b ≡ false
-digit_not_blank b h = grind (arith, nat_tests)
-
-digit_not_v : (b : ℕ) → is_ascii_digit b ≡ true → is_v b ≡ false
-digit_not_v b h = grind (arith, nat_tests)
-
 digit_not : (b c : ℕ) → is_ascii_digit b ≡ true → c < 48 → (b == c) ≡ false
 digit_not b c h l = grind (arith, nat_tests)
 
@@ -147,13 +135,6 @@ starts_stays p (b ∷ t) z s = refl
 pub separator_stays : (t z : List ℕ) → starts is_separator z ≡ false → past_separator (t ++ z) ≡ past_separator t ++ z
 separator_stays [] z s = rw s refl
 separator_stays (b ∷ t) z s = elim (cases_Bool (is_separator b)) [ inl h ↦ rw h refl | inr h ↦ rw h refl ]
-
-pub separator_end : (t : List ℕ) → IsEnd t (past_separator t)
-separator_end [] = ([], refl)
-separator_end (b ∷ t) = elim (cases_Bool (is_separator b)) [
-  | inl e ↦ (b ∷ [], rw e refl)
-  | inr e ↦ ([], rw e refl)
-]
 
 pub past_stays : (p : ℕ → Bool) (t z : List ℕ) → starts p z ≡ false → past p (t ++ z) ≡ past p t ++ z
 past_stays p [] [] s = refl
@@ -191,18 +172,12 @@ begins_drop [] t z e = refl
 begins_drop (c ∷ cs) [] z e = cc e
 begins_drop (c ∷ cs) (b ∷ t) z e = begins_drop cs t z (both_second (to_ascii_lowercase b == c) _ e)
 
-some : {A : Type 0} (x y : A) → (let o : Option A = Some x in o) ≡ Some y → x ≡ y
-some {A} x y e = ap (λ (o : Option A). elim o as (λ _. A) [ Some z ↦ z | None ↦ x ]) e
-
 pub spelled_drop : {A : Type 0} (table : Spellings A) (t z : List ℕ) (x : A × ℕ) → spelled table t ≡ Some x → drop x.1 (t ++ z) ≡ drop x.1 t ++ z
 spelled_drop [] t z x e = cc e
 spelled_drop {A} (s ∷ more) t z x e = elim (chosen (begins s.0 t) _ _ _ e) [
   | inl h ↦ let long : length s.0 ≡ x.1 = ap (λ (p : A × ℕ). p.1) (some _ _ h.1) in subst (λ k. drop k (t ++ z) ≡ drop k t ++ z) long (begins_drop s.0 t z h.0)
   | inr h ↦ spelled_drop more t z x h.1
 ]
-
-drop_end : (k : ℕ) (t : List ℕ) → IsEnd t (drop k t)
-drop_end k t = (take k t, sym (Rattle.std.proofs.lemmas.List.take-append-drop k t))
 
 pub letters_of_pre : AllLetters pre_spellings
 letters_of_pre = (refl, (refl, (refl, (refl, (refl, (refl, (refl, (refl, tt))))))))
@@ -221,7 +196,7 @@ counted_twin : {A : Type 0} (a : A) → Twins (counted_at a)
 unfolding counted_at
 counted_twin {A} a front d after r e =
     let h = separator_end front in
-    twin_after (counted_at a) (λ t. count_at t >>= λ n. Ok (Some (a, n.0), n.1)) front (past_separator front) d after r h (λ z s. rw (separator_stays front z (starts_not is_ascii_digit is_separator digit_not_separator z s)) refl)
+    twin_after (counted_at a) (λ t. count_at t >>= λ n. Ok (Some (a, n.0), n.1)) front (past_separator front) d after r h (λ z s. rw (separator_stays front z (starts_not is_ascii_digit is_separator digit_no_separator z s)) refl)
     (bind_twin count_at (λ n t. Ok (Some (a, n), t)) (past_separator front) d after (count_twins (past_separator front) d after r (ends_end is_ascii_digit front (past_separator front) h e))
     (λ n u g. done_twin (Some (a, n)) u d after) (λ n. (Some (a, n), refl)) r)
 
@@ -230,10 +205,10 @@ unfolding counted_at
 suffix_twins {A} table letters front d after r e = by (spelled table (past_separator front)) refl
   where
     word : (z : List ℕ) → starts_number z ≡ true → past_separator (front ++ z) ≡ past_separator front ++ z
-    word z s = separator_stays front z (starts_not is_ascii_digit is_separator digit_not_separator z s)
+    word z s = separator_stays front z (starts_not is_ascii_digit is_separator digit_no_separator z s)
 
     same : (z : List ℕ) → starts_number z ≡ true → spelled table (past_separator front ++ z) ≡ spelled table (past_separator front)
-    same z s = spelled_stays table (past_separator front) z letters (starts_not is_ascii_digit is_letter digit_not_letter z s)
+    same z s = spelled_stays table (past_separator front) z letters (starts_not is_ascii_digit is_letter digit_no_letter z s)
 
     by : (o : Option (A × ℕ)) → spelled table (past_separator front) ≡ o → Twin (suffix_at table) front d after
     by None o = Stays None front ([], refl) (λ z s. rw (word z s, same z s, o) refl)
@@ -285,12 +260,6 @@ pub goes_short : (t : List ℕ) → goes_on t ≡ true → suc (length (drop 1 t
 goes_short [] e = cc e
 goes_short (b ∷ t) e = refl
 
-pub long_end : (a b : List ℕ) → IsEnd a b → length b ≤ length a
-long_end a b h = let long = ap length h.1 ∙ length-append h.0 b in omega (arith, long)
-
-number_end : (t : List ℕ) (y : ℕ × List ℕ) → number_at t ≡ Ok y → IsEnd t y.1
-number_end = Rattle.pep440_version.proofs.Cutting.number_end
-
 pub no_room : (t : List ℕ) → starts_number t ≡ true → length t ≤ 0 → ⊥
 no_room [] s l = cc s
 no_room (b ∷ t) s l = omega (arith, l)
@@ -307,7 +276,7 @@ fuel (suc k) (suc j) t s a b = by (λ u. fuel k j u) (number_at t) refl
     by again (Ok n) o = elim (cases_Bool (goes_on n.1)) [
       | inl h ↦
           let short = goes_short n.1 h in
-          let long = long_end t n.1 (number_end t n o) in
+          let long = end_long t n.1 (number_end t n o) in
           rw (o, h, again (drop 1 n.1) (both_second _ _ h) (omega (arith, short, long, a)) (omega (arith, short, long, b))) refl
       | inr h ↦ rw (o, h) refl
     ]
@@ -347,7 +316,7 @@ release_then : (m : ℕ) → ((front d after : List ℕ) → length front ≤ m 
 release_then m again b t [] d after a room r end e h = Stays (a ∷ []) [] end (λ z s. release_step b t z [] a (h z) (digit_no_goes z s))
 release_then m again b t (c ∷ u) d after a room r end e h = elim (cases_Bool (c == 46)) [
   | inl dot ↦
-      let short = long_end (b ∷ t) (c ∷ u) end in
+      let short = end_long (b ∷ t) (c ∷ u) end in
       more u (omega (arith, short)) end e (eqb-true c 46 dot) h
   | inr none ↦ Stays (a ∷ []) (c ∷ u) end (λ z s. release_step b t z (c ∷ u) a (h z) (rw none refl))
 ]
@@ -421,13 +390,6 @@ front_twins (b ∷ t) d after r e = elim (cases_Bool (is_ascii_digit b)) [
 pub mark_stays : (t z : List ℕ) → starts is_v z ≡ false → past_mark (t ++ z) ≡ past_mark t ++ z
 mark_stays [] z s = rw s refl
 mark_stays (b ∷ t) z s = elim (cases_Bool (is_v b)) [ inl h ↦ rw h refl | inr h ↦ rw h refl ]
-
-mark_end : (t : List ℕ) → IsEnd t (past_mark t)
-mark_end [] = ([], refl)
-mark_end (b ∷ t) = elim (cases_Bool (is_v b)) [
-  | inl e ↦ (b ∷ [], rw e refl)
-  | inr e ↦ ([], rw e refl)
-]
 
 pub opening_twins : Twins opening
 opening_twins front d after r e =

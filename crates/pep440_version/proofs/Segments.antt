@@ -65,10 +65,10 @@ local_takes t x e = elim (chosen (starts (λ b. b == 43) t) _ _ _ e) [
       ([], subst (IsLocal []) (ap (λ (p : List Segment × List ℕ). p.0) same) refl, ap (λ (p : List Segment × List ℕ). p.1) same)
 ]
 
-separator_no_alphanumeric : (b : ℕ) → is_separator b ≡ true → is_ascii_alphanumeric b ≡ false
+pub separator_no_alphanumeric : (b : ℕ) → is_separator b ≡ true → is_ascii_alphanumeric b ≡ false
 separator_no_alphanumeric b s = grind (arith, nat_tests)
 
-segment_first : (t rest : List ℕ) (s : Segment) → IsSegment t s → starts is_ascii_alphanumeric (t ++ rest) ≡ true
+pub segment_first : (t rest : List ℕ) (s : Segment) → IsSegment t s → starts is_ascii_alphanumeric (t ++ rest) ≡ true
 segment_first [] rest s h = absurd (omega (arith, h.0))
 segment_first (b ∷ t) rest s h = both_first (is_ascii_alphanumeric b) (list_all is_ascii_alphanumeric t) h.1
 
@@ -89,13 +89,13 @@ segments_again (suc k) c t rest (s ∷ u ∷ more) h room a p =
     let later = segments_again k h.2 h.1 rest (u ∷ more) h.5 (omega (arith, long, h.3.0, room)) a p in
     rw (h.6, append_assoc h.0 (h.2 ∷ h.1) rest, segment_first h.0 after s h.3, lead-run is_ascii_alphanumeric h.0 after h.3.1 stop, past-run is_ascii_alphanumeric h.0 after h.3.1 stop, h.4, later, h.3.2) refl
 
-blank_not_separator : (b : ℕ) → is_blank b ≡ true → is_separator b ≡ false
+pub blank_not_separator : (b : ℕ) → is_blank b ≡ true → is_separator b ≡ false
 blank_not_separator b h = grind (arith, nat_tests)
 
 blank_not_alphanumeric : (b : ℕ) → is_blank b ≡ true → is_ascii_alphanumeric b ≡ false
 blank_not_alphanumeric b h = grind (arith, nat_tests)
 
-blank_not_plus : (b : ℕ) → is_blank b ≡ true → (b == 43) ≡ false
+pub blank_not_plus : (b : ℕ) → is_blank b ≡ true → (b == 43) ≡ false
 blank_not_plus b h = grind (arith, nat_tests)
 
 after_local : (w : List ℕ) → AreBlanks w → (starts is_ascii_alphanumeric w ≡ false) × (starts is_separator w ≡ false) × (starts (λ b. b == 43) w ≡ false)

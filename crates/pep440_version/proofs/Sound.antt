@@ -9,14 +9,14 @@ use Rattle.pep440_version.specs.Reading.{Read, ◌>>=◌, lead, past, starts_num
 use Rattle.pep440_version.specs.Record.{Record}
 use Rattle.pep440_version.specs.Refusals.{Refusal, Wildcard, NumberTooBig, NoLeadingNumber, NoLeadingReleaseNumber, LocalEmpty, UnexpectedEnd, OfVersion, ends, Opens, IsBigRun, HasStar, RefusesFirst, Refuses}
 use Rattle.pep440_version.specs.Whole.{release_after, opening, front_at, parts_at, end_at, is_star, without_star, pattern_from, read_pattern, version_of, read_version}
-use Rattle.pep440_version.proofs.Texts.{both_first, both_second, past-stops, lead-all}
+use Rattle.pep440_version.proofs.Texts.{both_first, both_second, past-stops, lead-all, digit_not_blank, digit_not_v}
 use Rattle.pep440_version.proofs.Found.{chosen, inside, split, drop_one, number_takes}
 use Rattle.pep440_version.proofs.Only.{number_first, number_again}
 use Rattle.pep440_version.proofs.Bridge.{front_takes, drop_two}
-use Rattle.pep440_version.proofs.Cutting.{Reader, IsEnd, IsLater, end_of, later_end, opening_end, opening_cut, number_end}
-use Rattle.pep440_version.proofs.Longest.{Fault, AtOpening, AtStar, AtParts, AtEnd, fails, fault, longest, front_derived}
-use Rattle.pep440_version.proofs.Runs.{IsRun, run_starts, run_refused, Twin, Stays, Stops, Fails, opening_twins, ends_append, ends_last, starts_not, starts_stays, past_stays, mark_stays, number_stays, all_release, fuel, release_one, front_zero, no_room, goes_short, long_end}
-use Rattle.pep440_version.proofs.Told.{Stop, StopLater, number_error, bind_err, PartsFault, parts_error}
+use Rattle.pep440_version.proofs.Cutting.{Reader, IsEnd, IsLater, end_of, later_end, opening_end, opening_cut, number_end, end_long}
+use Rattle.pep440_version.proofs.Longest.{Fault, AtOpening, AtStar, AtParts, AtEnd, fails, fault, longest, front_derived, some_rest}
+use Rattle.pep440_version.proofs.Runs.{IsRun, run_starts, run_refused, Twin, Stays, Stops, Fails, opening_twins, ends_append, ends_last, starts_not, starts_stays, past_stays, mark_stays, number_stays, all_release, fuel, release_one, front_zero, no_room, goes_short}
+use Rattle.pep440_version.proofs.Told.{Stop, StopLater, number_error, bind_err, PartsFault, parts_error, not_later}
 use Rattle.pep440_version.proofs.Lacking.{lacks_derived, lacks_front}
 use Rattle.pep440_version.proofs.Decided.{first_decides}
 
@@ -46,7 +46,7 @@ release_stop (suc k) t e s room h = elim (bind_err (number_at t) _ e h) [
       record { d = lead is_ascii_digit t; front = []; after = past is_ascii_digit t; kind = c.0; run = c.1; cut = split is_ascii_digit t; before = refl; value = 0 ∷ []; zero = release_one }
   | inr n ↦ elim (chosen (goes_on n.0.1) _ _ _ n.2) [
     | inl g ↦
-        let long = long_end t n.0.1 (number_end t n.0 n.1) in
+        let long = end_long t n.0.1 (number_end t n.0 n.1) in
         let short = goes_short n.0.1 g.0 in
         elim (bind_err (release_at k (drop 1 n.0.1)) _ e g.1) [
           | inl m ↦ joined n.0 n.1 g.0 (release_stop k (drop 1 n.0.1) e (both_second _ _ g.0) (omega (arith, long, short, room)) m)
@@ -175,12 +175,6 @@ opens text =
 opened_end : (text : List ℕ) → IsEnd text (opened text)
 opened_end text = let m = mark_parts (past is_blank text) in end_of text (past is_blank text) (opened text) (lead is_blank text, split is_blank text) (m.0, m.2)
 
-digit_not_blank : (b : ℕ) → is_ascii_digit b ≡ true → is_blank b ≡ false
-digit_not_blank b h = grind (arith, nat_tests)
-
-digit_not_v : (b : ℕ) → is_ascii_digit b ≡ true → is_v b ≡ false
-digit_not_v b h = grind (arith, nat_tests)
-
 opened_stays : (t z : List ℕ) → starts_number z ≡ true → opened (t ++ z) ≡ opened t ++ z
 opened_stays t z s = ap past_mark (past_stays is_blank t z (starts_not is_ascii_digit is_blank digit_not_blank z s)) ∙ mark_stays (past is_blank t) z (starts_not is_ascii_digit is_v digit_not_v z s)
 
@@ -272,9 +266,6 @@ told_parts_run text f x o h none =
         let first : a ≡ x.0 = ap (λ (p : (ℕ × List ℕ) × List ℕ). p.0) same in
         z (codes "0") refl ∙ (λ i. Ok (first i, left i ++ codes "0"))
 
-not_later : (a b : List ℕ) → IsLater b (a ++ b) → ⊥
-not_later a b h = let long = ap length h.2 ∙ length-append h.0 (a ++ b) in let two = length-append a b in omega (arith, long, two, h.1)
-
 told_empty : (text : List ℕ) (f : Refusal) (x : (ℕ × List ℕ) × List ℕ) → opening text ≡ Ok x → PartsFault x.0.0 x.0.1 x.1 f → RefusesFirst text f
 told_empty text f x o p =
     let g = opening_end text x o in
@@ -293,10 +284,6 @@ told_parts text f x o h = elim (parts_error x.0.0 x.0.1 x.1 f h) [
   | inl s ↦ told_parts_run text f x o s.0 s.1
   | inr p ↦ told_empty text f x o p
 ]
-
-some_rest : (n : ℕ) → (n == 0) ≡ false → 0 < n
-some_rest zero e = cc e
-some_rest (suc n) e = omega arith
 
 refuses_of : (text : List ℕ) (f : Refusal) → RefusesFirst text f → Refuses text f
 refuses_of text Wildcard h = h

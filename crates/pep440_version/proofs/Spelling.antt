@@ -111,7 +111,7 @@ separator_again : (before t : List ℕ) → IsSeparator before → starts is_sep
 separator_again before t (inl e) s = rw (e, s) refl
 separator_again before t (inr h) s = rw (h.2, h.1) refl
 
-digit_no_separator : (b : ℕ) → is_ascii_digit b ≡ true → is_separator b ≡ false
+pub digit_no_separator : (b : ℕ) → is_ascii_digit b ≡ true → is_separator b ≡ false
 digit_no_separator b d = grind (arith, nat_tests)
 
 starts_no_separator : (t : List ℕ) → starts is_ascii_digit t ≡ true → starts is_separator t ≡ false
@@ -177,7 +177,7 @@ none_spelled (s ∷ more) t l n = rw (at s.0 t l.0 n, none_spelled more t l.1 n)
     at (c ∷ cs) [] l n = refl
     at (c ∷ cs) (b ∷ t) l n = rw (no_letter b c n l.0 l.1) refl
 
-digit_no_letter : (b : ℕ) → is_ascii_digit b ≡ true → is_letter b ≡ false
+pub digit_no_letter : (b : ℕ) → is_ascii_digit b ≡ true → is_letter b ≡ false
 unfolding is_letter
 digit_no_letter b d = grind (arith, nat_tests)
 

@@ -1,8 +1,7 @@
 -- Where a text is refused, a line of the refusals tells it.
-use Rattle.std.proofs.Common.{◌≡◌, ◌≤◌, ◌<◌, ◌^◌, ◌==◌, ◌⊎◌, ℕ, suc, zero, Bool, true, false, List, [], ◌∷◌, ◌++◌, refl, sym, ap, ◌∙◌, arith, drop, take, length, inl, inr, Ok, Err, Result, Option, Some, None, codes, subst, nat_lt}
+use Rattle.std.proofs.Common.{◌≡◌, ◌≤◌, ◌<◌, ◌^◌, ◌==◌, ◌⊎◌, ℕ, suc, zero, Bool, true, false, List, [], ◌∷◌, ◌++◌, refl, sym, ap, ◌∙◌, arith, drop, length, inl, inr, Ok, Err, Result, Option, Some, None, codes, subst, nat_lt}
 use Rattle.std.proofs.lemmas.Bool.{cases_Bool, ltb-false}
-use Rattle.std.proofs.lemmas.Bool.Decides.{nat_tests}
-use Rattle.std.proofs.lemmas.List.{append_assoc, append-nil, length-append, append_cancel_right, take-append-drop}
+use Rattle.std.proofs.lemmas.List.{append_assoc, append-nil, length-append, append_cancel_right}
 use Rattle.std.specs.Char.{is_ascii_digit, is_ascii_alphanumeric}
 use Rattle.std.specs.Str.Parse.{digits_value}
 use Rattle.pep440_version.specs.declared.prerelease.Prerelease.{Prerelease}
@@ -15,11 +14,11 @@ use Rattle.pep440_version.specs.Suffixes.{spelled, past_separator, count_at, aft
 use Rattle.pep440_version.specs.Whole.{parts_at}
 use Rattle.pep440_version.proofs.Texts.{both_first, past-stops, lead-all}
 use Rattle.pep440_version.proofs.Found.{chosen, inside, split, drop_one, lead-some}
-use Rattle.pep440_version.proofs.Spelling.{BeginWithLetters, letters_pre, letters_post, letters_dev, is_letter}
+use Rattle.pep440_version.proofs.Spelling.{BeginWithLetters, letters_pre, letters_post, letters_dev, is_letter, digit_no_separator, digit_no_letter}
 use Rattle.pep440_version.proofs.Segments.{local_again, segments_cons, lead_segment, separator_head}
-use Rattle.pep440_version.proofs.Cutting.{done, done_cuts, suffix_end, spelled_nothing, Reader, IsEnd, IsLater, end_of, Takes, Cuts, bind_takes, bind_cuts, pre_end, post_end, dev_end, pre_cut, post_cut, dev_cut, record_of}
+use Rattle.pep440_version.proofs.Cutting.{done, done_cuts, suffix_end, spelled_nothing, Reader, IsEnd, IsLater, end_of, Takes, Cuts, bind_takes, bind_cuts, pre_end, post_end, dev_end, pre_cut, post_cut, dev_cut, record_of, drop_end, separator_end}
 use Rattle.pep440_version.proofs.Longest.{fails}
-use Rattle.pep440_version.proofs.Runs.{IsRun, run_starts, Twin, Twins, Stays, Stops, Fails, ends_append, ends_last, starts_not, separator_stays, separator_end, spelled_stays, spelled_drop, AllLetters, letters_of_pre, letters_of_post, letters_of_dev, suffix_twins, pre_twins, post_twins, dev_twins}
+use Rattle.pep440_version.proofs.Runs.{IsRun, run_starts, Twin, Twins, Stays, Stops, Fails, ends_append, ends_last, starts_not, separator_stays, spelled_stays, spelled_drop, AllLetters, letters_of_pre, letters_of_post, letters_of_dev, suffix_twins, pre_twins, post_twins, dev_twins, number_zero}
 
 -- a reader that stops at a number above the limit, and reads the text with `0` in its place
 pub record Stop {A : Type 0} (f : Reader A) (t : List ℕ) (e : Refusal) : Type 0 where
@@ -32,10 +31,6 @@ pub record Stop {A : Type 0} (f : Reader A) (t : List ℕ) (e : Refusal) : Type 
   pub before : ends is_ascii_digit front ≡ false
   pub value : A
   pub zero : f (front ++ codes "0") ≡ Ok (value, [])
-
-number_zero : number_at (codes "0") ≡ Ok (0, [])
-unfolding number_at
-number_zero = refl
 
 pub number_error : (t : List ℕ) (e : Refusal) → number_at t ≡ Err e → (e ≡ NumberTooBig (lead is_ascii_digit t)) × IsRun (lead is_ascii_digit t) (past is_ascii_digit t)
 unfolding number_at
@@ -92,21 +87,11 @@ bind_stop {A} {B} f k t e takes twins stop idle next h = elim (bind_err (f t) (�
 
 -- ---- spelled parts
 
-digit_not_separator : (b : ℕ) → is_ascii_digit b ≡ true → is_separator b ≡ false
-digit_not_separator b h = grind (arith, nat_tests)
-
-digit_not_letter : (b : ℕ) → is_ascii_digit b ≡ true → is_letter b ≡ false
-unfolding is_letter
-digit_not_letter b h = grind (arith, nat_tests)
-
 count_error : (t : List ℕ) (e : Refusal) → count_at t ≡ Err e → (starts_number t ≡ true) × (e ≡ NumberTooBig (lead is_ascii_digit t)) × IsRun (lead is_ascii_digit t) (past is_ascii_digit t)
 count_error t e h = elim (chosen (starts_number t) _ _ _ h) [
   | inl g ↦ let s = number_error t e g.1 in (g.0, s.0, s.1)
   | inr g ↦ cc g.1
 ]
-
-drop_end : (k : ℕ) (t : List ℕ) → IsEnd t (drop k t)
-drop_end k t = (take k t, sym (take-append-drop k t))
 
 -- the spelling in a front before digits
 record Worded {A : Type 0} (table : Spellings A) (x : A × ℕ) (front z : List ℕ) : Type 0 where
@@ -118,19 +103,19 @@ record Worded {A : Type 0} (table : Spellings A) (x : A × ℕ) (front z : List 
 
 worded_of : {A : Type 0} (table : Spellings A) (x : A × ℕ) (front z : List ℕ) → AllLetters table → starts_number z ≡ true → spelled table (past_separator front) ≡ Some x → Worded table x front z
 worded_of table x front z letters s spell =
-    let sep = starts_not is_ascii_digit is_separator digit_not_separator z s in
+    let sep = starts_not is_ascii_digit is_separator digit_no_separator z s in
     record {
       word = separator_stays front z sep;
       spell = spell;
-      same = spelled_stays table (past_separator front) z letters (starts_not is_ascii_digit is_letter digit_not_letter z s) ∙ spell;
+      same = spelled_stays table (past_separator front) z letters (starts_not is_ascii_digit is_letter digit_no_letter z s) ∙ spell;
       rest = spelled_drop table (past_separator front) z x spell;
       left = separator_stays (drop x.1 (past_separator front)) z sep;
     }
 
 worded : {A : Type 0} (table : Spellings A) (x : A × ℕ) (front z : List ℕ) → AllLetters table → starts_number z ≡ true → spelled table (past_separator (front ++ z)) ≡ Some x → Worded table x front z
 worded table x front z letters s spell =
-    let word = separator_stays front z (starts_not is_ascii_digit is_separator digit_not_separator z s) in
-    worded_of table x front z letters s (sym (spelled_stays table (past_separator front) z letters (starts_not is_ascii_digit is_letter digit_not_letter z s)) ∙ ap (spelled table) (sym word) ∙ spell)
+    let word = separator_stays front z (starts_not is_ascii_digit is_separator digit_no_separator z s) in
+    worded_of table x front z letters s (sym (spelled_stays table (past_separator front) z letters (starts_not is_ascii_digit is_letter digit_no_letter z s)) ∙ ap (spelled table) (sym word) ∙ spell)
 
 worded_left : {A : Type 0} (table : Spellings A) (x : A × ℕ) (front z : List ℕ) → Worded table x front z → past_separator (drop x.1 (past_separator (front ++ z))) ≡ past_separator (drop x.1 (past_separator front)) ++ z
 worded_left table x front z w = ap (λ l. past_separator (drop x.1 l)) w.word ∙ ap past_separator w.rest ∙ w.left
@@ -408,7 +393,7 @@ pub record PartsFault (epoch : ℕ) (release : List ℕ) (t : List ℕ) (e : Ref
   pub precursor : IsPrecursor r c
   pub stop : starts is_ascii_alphanumeric rest ≡ false
 
-not_later : (a b : List ℕ) → IsLater b (a ++ b) → ⊥
+pub not_later : (a b : List ℕ) → IsLater b (a ++ b) → ⊥
 not_later a b h = let long = ap length h.2 ∙ length-append h.0 (a ++ b) in let two = length-append a b in omega (arith, long, two, h.1)
 
 parts_local : (epoch : ℕ) (release t : List ℕ) (e : Refusal) (x : Suffixed × List ℕ) → suffixes_at t ≡ Ok x → LocalFault x.1 e → PartsFault epoch release t e

@@ -6,8 +6,8 @@ use Rattle.pep440_version.specs.declared.prerelease.PrereleaseKind.{PrereleaseKi
 use Rattle.pep440_version.specs.declared.prerelease.PrereleaseKind.TheVariants.{Alpha, Beta, Rc}
 use Rattle.pep440_version.specs.declared.prerelease.Prerelease.{Prerelease}
 use Rattle.pep440_version.specs.Key.{Key, key, Stage, Min, Dev, Pre, Final, stage_rank, PostPlace, NoPost, PostAt, PostTop, DevPlace, DevAt, NoDev, star_number}
-use Rattle.pep440_version.specs.KeyLaws.{trim}
 use Rattle.pep440_version.specs.Record.{Record, Segment, Text, Number}
+use Rattle.pep440_version.specs.Trim.{trim}
 
 -- Min 0, Dev 1, Alpha 2, Beta 3, Rc 4, Final 5; a pre-release is followed by its number
 abbrev pub feed_stage : Stage → HashWrites

@@ -1,28 +1,38 @@
 -- The order of keys is total. Releases compare as what is left of them without the zeros at their end.
-use Rattle.std.proofs.Common.{◌≡◌, ◌==◌, Bool, ℕ, List, [], ◌∷◌, refl, sym, ap, ◌∙◌, arith, subst, if◌then◌else◌}
-use Rattle.std.proofs.lemmas.Bool.Decides.{nat_tests}
+use Rattle.std.proofs.Common.{◌≡◌, Bool, ℕ, zero, suc, if◌then◌else◌, List, [], ◌∷◌, refl, sym, ap, ◌∙◌, subst}
+use Rattle.std.proofs.Math.Dec.{eqb-suc-zero}
+use Rattle.std.proofs.Math.Nat.{zero-lt-suc}
+use Rattle.std.specs.declared.cmp.Ordering.TheVariants.{Less, Equal, Greater}
 use Rattle.std.specs.Ordering.{nat_cmp, on, ordering_then, eq_by_cmp, as_partial_cmp}
-use Rattle.std.specs.Cmp.{IsPartialOrder, po, IsTotalOrder, IsEquivalence, eq_by_cmp_equiv, nat_cmp_total, on_total, then_total}
+use Rattle.std.specs.Cmp.{IsPartialOrder, po, IsTotalOrder, IsEquivalence, eq_by_cmp_equiv, nat_cmp_total, nat_cmp_is, on_total, then_total}
 use Rattle.std.specs.Cmp.Lexicographic.{lists_total, nat_list_cmp_total, slice_cmp}
 use Rattle.pep440_version.specs.Key.{Key, key, key_cmp, record_cmp, release_cmp, stage_rank, stage_number, post_rank, post_number, dev_rank, dev_number, segment_cmp, segment_rank, segment_text, segment_number, kind_rank, kind_cmp, prerelease_cmp, pattern_cmp, star_number}
 use Rattle.pep440_version.specs.Record.{Record}
 use Rattle.pep440_version.specs.Segments.{segment}
+use Rattle.pep440_version.specs.Trim.{trim, before_trimmed}
 use Rattle.pep440_version.specs.declared.prerelease.Prerelease.{Prerelease}
 
--- x before a release that has no zeros at its end
-abbrev pub before_trimmed : ℕ → List ℕ → List ℕ
-before_trimmed x [] = if x == 0 then [] else x ∷ []
-before_trimmed x (y ∷ ys) = x ∷ y ∷ ys
+below_suc : (y : ℕ) → nat_cmp 0 (suc y) ≡ Less
+below_suc y = sym (nat_cmp_is 0 (suc y) Less (zero-lt-suc y))
 
--- a release without the zeros at its end
-abbrev pub trim : List ℕ → List ℕ
-trim [] = []
-trim (x ∷ xs) = before_trimmed x (trim xs)
+above_zero : (x : ℕ) → nat_cmp (suc x) 0 ≡ Greater
+above_zero x = sym (nat_cmp_is (suc x) 0 Greater (zero-lt-suc x))
+
+-- a number that is not zero stays at the end
+before_suc : (x : ℕ) → before_trimmed (suc x) [] ≡ suc x ∷ []
+before_suc x = ap (λ b. if b then [] else suc x ∷ []) (eqb-suc-zero x)
 
 trimmed_step : (x y : ℕ) (a b : List ℕ) → ordering_then (nat_cmp x y) (slice_cmp nat_cmp a b) ≡ slice_cmp nat_cmp (before_trimmed x a) (before_trimmed y b)
-trimmed_step x y [] [] = grind (arith, nat_tests)
-trimmed_step x y [] (b ∷ bs) = grind (arith, nat_tests)
-trimmed_step x y (a ∷ rest) [] = grind (arith, nat_tests)
+trimmed_step zero zero [] [] = refl
+trimmed_step zero (suc y) [] [] = ap (λ o. ordering_then o Equal) (below_suc y) ∙ sym (ap (slice_cmp nat_cmp []) (before_suc y))
+trimmed_step (suc x) zero [] [] = ap (λ o. ordering_then o Equal) (above_zero x) ∙ sym (ap (λ l. slice_cmp nat_cmp l []) (before_suc x))
+trimmed_step (suc x) (suc y) [] [] = sym (λ i. slice_cmp nat_cmp (before_suc x i) (before_suc y i))
+trimmed_step zero zero [] (b ∷ bs) = refl
+trimmed_step zero (suc y) [] (b ∷ bs) = ap (λ o. ordering_then o Less) (below_suc y)
+trimmed_step (suc x) y [] (b ∷ bs) = sym (ap (λ l. slice_cmp nat_cmp l (y ∷ b ∷ bs)) (before_suc x))
+trimmed_step zero zero (a ∷ rest) [] = refl
+trimmed_step (suc x) zero (a ∷ rest) [] = ap (λ o. ordering_then o Greater) (above_zero x)
+trimmed_step x (suc y) (a ∷ rest) [] = sym (ap (λ l. slice_cmp nat_cmp (x ∷ a ∷ rest) l) (before_suc y))
 trimmed_step x y (a ∷ rest) (b ∷ bs) = refl
 
 pub release_cmp-trim : (xs ys : List ℕ) → release_cmp xs ys ≡ on trim (slice_cmp nat_cmp) xs ys

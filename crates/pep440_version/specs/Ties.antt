@@ -10,9 +10,10 @@ use Rattle.std.specs.declared.cmp.Ordering.TheVariants.{Less, Equal, Greater}
 use Rattle.pep440_version.specs.declared.prerelease.PrereleaseKind.TheVariants.{Alpha, Beta, Rc}
 use Rattle.pep440_version.specs.Feed.{feed, feed_segment, feed_kind, feed_prerelease, feed_pattern}
 use Rattle.pep440_version.specs.Key.{Key, key, key_cmp, record_cmp, Stage, Min, Dev, Pre, Final, PostPlace, NoPost, PostAt, PostTop, DevPlace, DevAt, NoDev, stage_cmp, stage_rank, stage_number, post_cmp, post_rank, post_number, dev_cmp, dev_rank, dev_number, segment_cmp, segment_rank, segment_text, segment_number, kind_rank, kind_cmp, prerelease_cmp, pattern_cmp, star_number}
-use Rattle.pep440_version.specs.KeyLaws.{trim, release_cmp-trim}
+use Rattle.pep440_version.specs.KeyLaws.{release_cmp-trim}
 use Rattle.pep440_version.specs.Record.{Record, Segment, Text, Number}
 use Rattle.pep440_version.specs.Segments.{segment}
+use Rattle.pep440_version.specs.Trim.{trim}
 use Rattle.pep440_version.specs.declared.segment.LocalSegment.{LocalSegment}
 use Rattle.pep440_version.specs.declared.prerelease.PrereleaseKind.{PrereleaseKind}
 use Rattle.pep440_version.specs.declared.prerelease.Prerelease.{Prerelease}

@@ -2,12 +2,10 @@
 use Rattle.std.specs.Prelude.{ℕ, ◌-◌, ◌==◌, ◌&&◌, Bool, true, false, List, length, take, drop, Result, Ok, Err, None, if◌then◌else◌}
 use Rattle.pep440_version.specs.Grammar.{is_blank, starts}
 use Rattle.pep440_version.specs.Locals.{local_at}
-use Rattle.pep440_version.specs.Reading.{Read, ◌>>=◌, past, past_mark, starts_number, number_at, release_at}
+use Rattle.pep440_version.specs.Reading.{Read, ◌>>=◌, past, past_mark, starts_number, number_at, release_at, release_from}
 use Rattle.pep440_version.specs.Record.{Record, public_record}
-use Rattle.pep440_version.specs.Refusals.{Wildcard, NoLeadingNumber, NoLeadingReleaseNumber, UnexpectedEnd}
+use Rattle.pep440_version.specs.Refusals.{Wildcard, NoLeadingNumber, NoLeadingReleaseNumber, UnexpectedEnd, WildcardNotTrailing, OfVersion, PatternRefusal}
 use Rattle.pep440_version.specs.Suffixes.{pre_at, post_at, dev_at}
-use Rattle.pep440_version.specs.Reading.{release_from}
-use Rattle.pep440_version.specs.Refusals.{WildcardNotTrailing, OfVersion, PatternRefusal}
 
 -- the release at the front, after an epoch
 abbrev pub release_after : ℕ → List ℕ → Read ((ℕ × List ℕ) × List ℕ)

@@ -11,7 +11,7 @@ use std::alloc::{AllocError, AllocFailed};
 /// Of a text that is no version exactly one kind but the last holds.
 #[derive(Debug, PartialEq, Eq, Drop)]
 pub enum ErrorKind {
-    /// The text is a release followed by `.*`, which only a pattern may have.
+    /// The text begins as epoch and release followed by `.*`, which only a pattern may have.
     Wildcard,
     /// A number is above 18446744073709551615.
     NumberTooBig {

@@ -4,9 +4,9 @@ ghost use Rattle.std.specs.Hash as fed;
 ghost use Rattle.std.specs.List.{flat_map, fold};
 ghost use Rattle.pep440_version.specs.Feed.{feed, feed_kind, feed_prerelease, feed_numbers, feed_stage, feed_post, feed_dev, feed_segment, feed_local, feed_pattern};
 ghost use Rattle.pep440_version.specs.Key.{key};
-ghost use Rattle.pep440_version.specs.KeyLaws.{trim};
 ghost use Rattle.pep440_version.specs.Segments.{segment};
 ghost use Rattle.pep440_version.specs.Ties.{feeds_alike, segments_feed_alike, kinds_feed_alike, prereleases_feed_alike, patterns_feed_alike};
+ghost use Rattle.pep440_version.specs.Trim.{trim};
 
 use crate::pattern::VersionPattern;
 use crate::prerelease::{Prerelease, PrereleaseKind};

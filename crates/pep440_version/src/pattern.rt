@@ -1,7 +1,7 @@
 //! Version patterns, and the readers of versions and patterns.
 ghost use Rattle.std.specs.Prelude.{◌≡◌, ℕ, List, Bool, true, false, Ok, Err, Some, IfOk, IfErr, IfSome};
-ghost use Rattle.pep440_version.specs.Errors.{Answers, PatternAnswers, pattern_refusal_of, pattern_kind_of, refusal_of, kind_of};
 ghost use Rattle.pep440_version.specs.ErrorTexts.{kind_text_of, refusal_text, pattern_text_of, pattern_refusal_text};
+ghost use Rattle.pep440_version.specs.Errors.{Answers, PatternAnswers, pattern_refusal_of, pattern_kind_of, refusal_of, kind_of};
 ghost use Rattle.pep440_version.specs.Grammar.{Derives};
 ghost use Rattle.pep440_version.specs.Patterns.{DerivesPattern};
 ghost use Rattle.pep440_version.specs.Print.{print};

@@ -2,9 +2,9 @@
 ghost use Rattle.std.specs.Prelude.{◌≡◌, ◌<◌, [], length, None, IfOk, map};
 ghost use Rattle.pep440_version.specs.Feed.{feed};
 ghost use Rattle.pep440_version.specs.Key.{record_cmp};
-ghost use Rattle.pep440_version.specs.KeyLaws.{trim};
 ghost use Rattle.pep440_version.specs.Record.{of_release};
 ghost use Rattle.pep440_version.specs.Segments.{segment};
+ghost use Rattle.pep440_version.specs.Trim.{trim};
 ghost use Rattle.std.specs.declared.cmp.Ordering.TheVariants.{Equal};
 
 use crate::prerelease::Prerelease;

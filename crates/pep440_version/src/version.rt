@@ -164,14 +164,16 @@ impl Version {
         self.full.local.as_slice()
     }
 
-    /// The number of the mark below every version of the same release. No text gives it.
+    /// The number of the mark `min`, which stands below every version of the same epoch and release without it.
+    /// No text gives it.
     pub fn min(&self) -> Option<u64>
         ensures { result ≡ self.now.min }
     {
         self.full.min
     }
 
-    /// The number of the mark above every post-release of the same release. No text gives it.
+    /// The number of the mark `max`, which stands above every post-release of the same release and pre-release.
+    /// No text gives it.
     pub fn max(&self) -> Option<u64>
         ensures { result ≡ self.now.max }
     {
@@ -220,7 +222,7 @@ impl Version {
         !self.any_prerelease()
     }
 
-    /// Whether the version is a release with epoch 0 and has no other part.
+    /// Whether the version is a release with epoch 0 and has no other part and no mark.
     pub fn is_release_only(&self) -> bool
         ensures { IsTrue result ↔ (self.now ≡ of_release self.now.release) }
     {

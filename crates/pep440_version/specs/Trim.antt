@@ -1,0 +1,12 @@
+-- A release without the zeros at its end, which the order and the hash do not see.
+use Rattle.std.specs.Prelude.{ℕ, ◌==◌, List, [], ◌∷◌, if◌then◌else◌}
+
+-- x before a release that has no zeros at its end
+abbrev pub before_trimmed : ℕ → List ℕ → List ℕ
+before_trimmed x [] = if x == 0 then [] else x ∷ []
+before_trimmed x (y ∷ ys) = x ∷ y ∷ ys
+
+-- a release without the zeros at its end
+abbrev pub trim : List ℕ → List ℕ
+trim [] = []
+trim (x ∷ xs) = before_trimmed x (trim xs)
