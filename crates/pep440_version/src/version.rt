@@ -165,7 +165,7 @@ impl Version {
     }
 
     /// The number of the mark `min`, which stands below every version of the same epoch and release without it.
-    /// No text gives it.
+    /// No text gives it. Of an owned version write `Version::min(&version)`, since `version.min()` is `Ord::min`.
     pub fn min(&self) -> Option<u64>
         ensures { result ≡ self.now.min }
     {
@@ -173,7 +173,7 @@ impl Version {
     }
 
     /// The number of the mark `max`, which stands above every post-release of the same release and pre-release.
-    /// No text gives it.
+    /// No text gives it. Of an owned version write `Version::max(&version)`, since `version.max()` is `Ord::max`.
     pub fn max(&self) -> Option<u64>
         ensures { result ≡ self.now.max }
     {

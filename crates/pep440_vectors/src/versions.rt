@@ -1,0 +1,16 @@
+//! Versions and patterns.
+mod again;
+mod calls;
+mod changes;
+mod copies;
+mod edited;
+mod errors;
+mod extremes;
+mod hashing;
+mod kept;
+mod order;
+mod patterns;
+mod printing;
+mod reading;
+mod refusals;
+mod sweeps;

@@ -1,0 +1,76 @@
+//! Values for the tests that are run with one request for memory refused: what was refused is asked for again,
+//! and is then given.
+use super::calls::Refused;
+use pep440_version::{ErrorKind, Version, VersionParseError};
+use std::alloc::Global;
+use std::fmt::Display;
+use std::test::Fail;
+
+/// How often a call is made: of two at most one is refused.
+pub const TRIES: usize = 2;
+
+/// What a test says whose call was refused each time.
+pub fn refused_each_time() -> Fail {
+    Fail::new("each try was refused")
+}
+
+/// The version that the text means.
+pub fn version(rt: HostRuntime, text: &str) -> Result<Version, Fail> {
+    match Version::from_str(rt.alloc(), text) {
+        Ok(version) => Ok(version),
+        Err(_) => Ok(Version::from_str(rt.alloc(), text)?),
+    }
+}
+
+/// The text.
+pub fn owned(rt: HostRuntime, text: &str) -> Result<String, Fail> {
+    match String::from_str(rt.alloc(), text) {
+        Ok(owned) => Ok(owned),
+        Err(_) => Ok(String::from_str(rt.alloc(), text)?),
+    }
+}
+
+/// The items.
+pub fn items<T: Copy>(rt: HostRuntime, items: &[T]) -> Result<Vec<T>, Fail> {
+    match Vec::from_slice(rt.alloc(), items) {
+        Ok(owned) => Ok(owned),
+        Err(_) => Ok(Vec::from_slice(rt.alloc(), items)?),
+    }
+}
+
+/// The print.
+pub fn printed<T: Display>(alloc: Global, value: &T) -> Result<String, Fail> {
+    match value.to_string(alloc) {
+        Ok(text) => Ok(text),
+        Err(_) => Ok(value.to_string(alloc)?),
+    }
+}
+
+/// Why the text is no version.
+pub fn refusal(rt: HostRuntime, text: &str) -> Result<VersionParseError, Fail> {
+    for _ in 0..TRIES {
+        if let Err(error) = Version::from_str(rt.alloc(), text) {
+            if *error.kind() != ErrorKind::OutOfMemory {
+                return Ok(error);
+            }
+        }
+    }
+    Err(refused_each_time())
+}
+
+/// Whether the kind says so; takes no memory.
+pub fn says(kind: &ErrorKind, refused: Refused<'_>) -> bool {
+    match (kind, refused) {
+        (ErrorKind::Wildcard, Refused::Wildcard) => true,
+        (ErrorKind::NumberTooBig { bytes }, Refused::TooBig(digits)) => {
+            bytes.as_slice() == digits.as_bytes()
+        }
+        (ErrorKind::NoLeadingNumber, Refused::NoNumber) => true,
+        (ErrorKind::NoLeadingReleaseNumber, Refused::NoRelease) => true,
+        (ErrorKind::LocalEmpty { precursor }, Refused::LocalEmpty(c)) => *precursor == c,
+        (ErrorKind::UnexpectedEnd { version, remaining }, Refused::End(front, rest)) => {
+            version.as_str() == front && remaining.as_str() == rest
+        }
+        _ => false,
+    }
+}

@@ -1,0 +1,193 @@
+//! Copies of each type, also to be run with each request for memory refused in turn.
+use super::again;
+use super::again::{TRIES, refused_each_time};
+use super::calls::Refused;
+use pep440_version::{
+    Change, LocalSegment, PatternErrorKind, VersionPattern, VersionPatternParseError,
+};
+use std::test::Fail;
+
+#[test]
+fn sweep_clone_version(rt: HostRuntime) -> Result<(), Fail> {
+    let print = "1!1.0a2.post3.dev0+ubuntu.1";
+    let whole = again::version(rt, print)?;
+    for _ in 0..TRIES {
+        let copy: Result<_, _> = whole.clone();
+        assert_eq!(rt; again::printed(rt.alloc(), &whole)?.as_str(), print);
+        if let Ok(copy) = copy {
+            assert!(rt; copy == whole);
+            assert_eq!(rt; again::printed(rt.alloc(), &copy)?.as_str(), print);
+            return Ok(());
+        }
+    }
+    Err(refused_each_time())
+}
+
+#[test]
+fn sweep_clone_segment(rt: HostRuntime) -> Result<(), Fail> {
+    let segment = LocalSegment::String(again::owned(rt, "ubuntu")?);
+    for _ in 0..TRIES {
+        let copy: Result<_, _> = segment.clone();
+        assert!(rt; matches!(&segment, LocalSegment::String(text) if text.as_str() == "ubuntu"));
+        if let Ok(copy) = copy {
+            assert!(rt; matches!(&copy, LocalSegment::String(text) if text.as_str() == "ubuntu"));
+            return Ok(());
+        }
+    }
+    Err(refused_each_time())
+}
+
+#[test]
+fn sweep_clone_pattern(rt: HostRuntime) -> Result<(), Fail> {
+    let pattern = VersionPattern::wildcard(again::version(rt, "1.2")?);
+    for _ in 0..TRIES {
+        let copy: Result<_, _> = pattern.clone();
+        assert_eq!(rt; pattern.version().release(), [1, 2].as_slice());
+        if let Ok(copy) = copy {
+            assert!(rt; copy.is_wildcard());
+            assert_eq!(rt; copy.version().release(), [1, 2].as_slice());
+            return Ok(());
+        }
+    }
+    Err(refused_each_time())
+}
+
+// Whether the change sets this release.
+fn sets_release(change: &Change, want: &[u64]) -> bool {
+    matches!(change, Change::Release(numbers) if numbers.as_slice() == want)
+}
+
+#[test]
+fn sweep_clone_release_change(rt: HostRuntime) -> Result<(), Fail> {
+    let change = Change::Release(again::items(rt, &[1, 2])?);
+    for _ in 0..TRIES {
+        let copy: Result<_, _> = change.clone();
+        assert!(rt; sets_release(&change, &[1, 2]));
+        if let Ok(copy) = copy {
+            assert!(rt; sets_release(&copy, &[1, 2]));
+            return Ok(());
+        }
+    }
+    Err(refused_each_time())
+}
+
+// Whether the change sets a local part of this one text.
+fn sets_local(change: &Change, want: &str) -> bool {
+    let Change::Local(segments) = change else {
+        return false;
+    };
+    matches!(segments.as_slice(), [LocalSegment::String(text)] if text.as_str() == want)
+}
+
+#[test]
+fn sweep_clone_local_change(rt: HostRuntime) -> Result<(), Fail> {
+    for _ in 0..TRIES {
+        let mut segments = Vec::new(rt.alloc());
+        if segments
+            .push(LocalSegment::String(again::owned(rt, "ab")?))
+            .is_err()
+        {
+            continue;
+        }
+        let change = Change::Local(segments);
+        let copy: Result<_, _> = change.clone();
+        assert!(rt; sets_local(&change, "ab"));
+        if let Ok(copy) = copy {
+            assert!(rt; sets_local(&copy, "ab"));
+            return Ok(());
+        }
+    }
+    Err(refused_each_time())
+}
+
+#[test]
+fn clone_small_changes(rt: HostRuntime) -> Result<(), Fail> {
+    assert!(rt; matches!(Change::Epoch(3).clone()?, Change::Epoch(3)));
+    assert!(rt; matches!(Change::Pre(None).clone()?, Change::Pre(None)));
+    assert!(rt; matches!(Change::Post(Some(3)).clone()?, Change::Post(Some(3))));
+    assert!(rt; matches!(Change::Dev(Some(3)).clone()?, Change::Dev(Some(3))));
+    assert!(rt; matches!(Change::WithoutLocal.clone()?, Change::WithoutLocal));
+    assert!(rt; matches!(Change::OnlyRelease.clone()?, Change::OnlyRelease));
+    assert!(rt; matches!(Change::Min(Some(3)).clone()?, Change::Min(Some(3))));
+    assert!(rt; matches!(Change::Max(Some(3)).clone()?, Change::Max(Some(3))));
+    Ok(())
+}
+
+const ROWS: [(&str, Refused<'static>); 6] = [
+    ("1.0prev", Refused::End("1.0pre", "v")),
+    (
+        "1.18446744073709551616",
+        Refused::TooBig("18446744073709551616"),
+    ),
+    ("1.0+a.", Refused::LocalEmpty('.')),
+    ("1.*", Refused::Wildcard),
+    ("1!", Refused::NoRelease),
+    ("", Refused::NoNumber),
+];
+
+#[test]
+fn sweep_clone_kind(rt: HostRuntime) -> Result<(), Fail> {
+    for (text, want) in ROWS {
+        let error = again::refusal(rt, text)?;
+        let copy = match error.kind().clone() {
+            Ok(copy) => copy,
+            Err(_) => error.kind().clone()?,
+        };
+        assert!(rt; again::says(error.kind(), want));
+        assert!(rt; again::says(&copy, want), "of {text:?}");
+    }
+    Ok(())
+}
+
+#[test]
+fn sweep_clone_error(rt: HostRuntime) -> Result<(), Fail> {
+    for (text, want) in ROWS {
+        let error = again::refusal(rt, text)?;
+        let copy = match error.clone() {
+            Ok(copy) => copy,
+            Err(_) => error.clone()?,
+        };
+        assert!(rt; again::says(error.kind(), want));
+        assert!(rt; again::says(copy.kind(), want), "of {text:?}");
+    }
+    Ok(())
+}
+
+#[test]
+fn sweep_clone_pattern_kind(rt: HostRuntime) -> Result<(), Fail> {
+    let kind = PatternErrorKind::Version(again::refusal(rt, "1.0prev")?);
+    let copy = match kind.clone() {
+        Ok(copy) => copy,
+        Err(_) => kind.clone()?,
+    };
+    for held in [&kind, &copy] {
+        let PatternErrorKind::Version(error) = held else {
+            return Err(Fail::new("another kind"));
+        };
+        assert!(rt; again::says(error.kind(), Refused::End("1.0pre", "v")));
+    }
+    Ok(())
+}
+
+#[test]
+fn sweep_clone_pattern_error(rt: HostRuntime) -> Result<(), Fail> {
+    let error = VersionPatternParseError::from(again::refusal(rt, "1.0prev")?);
+    let copy = match error.clone() {
+        Ok(copy) => copy,
+        Err(_) => error.clone()?,
+    };
+    for held in [&error, &copy] {
+        let PatternErrorKind::Version(inner) = held.kind() else {
+            return Err(Fail::new("another kind"));
+        };
+        assert!(rt; again::says(inner.kind(), Refused::End("1.0pre", "v")));
+    }
+    Ok(())
+}
+
+#[test]
+fn star_is_copied(rt: HostRuntime) -> Result<(), Fail> {
+    let kind = PatternErrorKind::WildcardNotTrailing.clone()?;
+    assert_eq!(rt; kind, PatternErrorKind::WildcardNotTrailing);
+    Ok(())
+}

@@ -1,0 +1,151 @@
+//! Why texts are no version: the kind, what it holds, and its text.
+use super::calls::{Refused, kind};
+use pep440_version::Version;
+use std::alloc::Global;
+use std::process::Abort;
+use std::test::Fail;
+
+// Asserts that the text is refused so.
+fn assert_refused(
+    rt: &impl Abort,
+    alloc: Global,
+    text: &str,
+    refused: Refused<'_>,
+    told: &str,
+) -> Result<(), Fail> {
+    match Version::from_str(alloc, text) {
+        Ok(_) => assert!(rt; false, "{text:?} was read"),
+        Err(error) => {
+            let want = kind(alloc, refused)?;
+            assert_eq!(rt; *error.kind(), want, "of {text:?}");
+            assert_eq!(rt; error.to_string(alloc)?.as_str(), told, "of {text:?}");
+        }
+    }
+    Ok(())
+}
+
+const NO_NUMBER: &str =
+    "expected version to start with a number, but no leading ASCII digits were found";
+
+const NO_RELEASE: &str =
+    "expected version to have a non-empty release component after an epoch, but no ASCII digits after the epoch were found";
+
+const TOO_BIG: &str =
+    "expected number less than or equal to 18446744073709551615, but number found in \"18446744073709551616\" exceeds it";
+
+const WILDCARD: &str = "wildcards are not allowed in a version";
+
+const PLUS: &str =
+    "found a `+` indicating the start of a local component in a version, but did not find any alphanumeric ASCII segment following the `+`";
+
+const DOT: &str =
+    "found a `.` indicating the start of a local component in a version, but did not find any alphanumeric ASCII segment following the `.`";
+
+#[test]
+fn each_kind(rt: HostRuntime) -> Result<(), Fail> {
+    let rows = [
+        ("", Refused::NoNumber, NO_NUMBER),
+        ("x", Refused::NoNumber, NO_NUMBER),
+        ("1!", Refused::NoRelease, NO_RELEASE),
+        (
+            "18446744073709551616",
+            Refused::TooBig("18446744073709551616"),
+            TOO_BIG,
+        ),
+        (
+            "1.18446744073709551616",
+            Refused::TooBig("18446744073709551616"),
+            TOO_BIG,
+        ),
+        ("1.*", Refused::Wildcard, WILDCARD),
+        ("1.2.*.4", Refused::Wildcard, WILDCARD),
+        ("1.0+", Refused::LocalEmpty('+'), PLUS),
+        ("1.0+a.", Refused::LocalEmpty('.'), DOT),
+    ];
+    for (text, refused, told) in rows {
+        assert_refused(&rt, rt.alloc(), text, refused, told)?;
+    }
+    Ok(())
+}
+
+#[test]
+fn longest_fronts(rt: HostRuntime) -> Result<(), Fail> {
+    let rows = [
+        ("1.0.", "1.0", "."),
+        ("1.0prev", "1.0pre", "v"),
+        ("1.0 x", "1.0 ", "x"),
+        ("1.0a1.*", "1.0a1", ".*"),
+        ("1.0-dev1.*", "1.0-dev1", ".*"),
+        ("1.0pre-view", "1.0pre-", "view"),
+        ("1.0a-_1", "1.0a-", "_1"),
+        ("1.0-A.*", "1.0-A.", "*"),
+        ("1.0-", "1.0", "-"),
+        ("1.0--1", "1.0", "--1"),
+        ("1.0.post.-1", "1.0.post.", "-1"),
+        ("1!2!3", "1!2", "!3"),
+        ("1.0\u{b}", "1.0", "\u{b}"),
+        ("1.0\u{a0}", "1.0", "\u{a0}"),
+        ("1.0+aä", "1.0+a", "ä"),
+        ("1.0x18446744073709551616", "1.0", "x18446744073709551616"),
+    ];
+    for (text, front, rest) in rows {
+        let told = format!(in rt.alloc();
+            "after parsing `{front}`, found `{rest}`, which is not part of a valid version"
+        )?;
+        assert_refused(
+            &rt,
+            rt.alloc(),
+            text,
+            Refused::End(front, rest),
+            told.as_str(),
+        )?;
+    }
+    Ok(())
+}
+
+#[test]
+fn longest_front_is_told(rt: HostRuntime) -> Result<(), Fail> {
+    assert_refused(
+        &rt,
+        rt.alloc(),
+        "1.0prev",
+        Refused::End("1.0pre", "v"),
+        "after parsing `1.0pre`, found `v`, which is not part of a valid version",
+    )
+}
+
+#[test]
+fn number_too_big_in_each_place(rt: HostRuntime) -> Result<(), Fail> {
+    let rows = [
+        "18446744073709551616!1",
+        "1!18446744073709551616",
+        "1.18446744073709551616",
+        "1a18446744073709551616",
+        "1-18446744073709551616",
+        "1.post18446744073709551616",
+        "1.dev18446744073709551616",
+    ];
+    for text in rows {
+        assert_refused(
+            &rt,
+            rt.alloc(),
+            text,
+            Refused::TooBig("18446744073709551616"),
+            TOO_BIG,
+        )?;
+    }
+    Ok(())
+}
+
+#[test]
+fn foreign_characters(rt: HostRuntime) -> Result<(), Fail> {
+    let rows = [
+        ("１.0", Refused::NoNumber, NO_NUMBER),
+        ("vv1", Refused::NoNumber, NO_NUMBER),
+        ("1.0+ä", Refused::LocalEmpty('+'), PLUS),
+    ];
+    for (text, refused, told) in rows {
+        assert_refused(&rt, rt.alloc(), text, refused, told)?;
+    }
+    Ok(())
+}
