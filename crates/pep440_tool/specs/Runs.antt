@@ -1,0 +1,40 @@
+-- How a run of the program may end.
+use Rattle.std.specs.Prelude.{◌≡◌, ℕ, ◌≤◌, ◌⊎◌, Bool, true, false, List, [], ◌++◌, Option}
+use Rattle.std.specs.Io.KnownBytes.{Consumes, Appends, IsAtEnd}
+use Rattle.pep440_tool.specs.Answers.{answer_of, needs_input}
+use Rattle.pep440_tool.specs.Texts.{memory_text}
+
+-- a beginning of `all` was written, which may be nothing or the whole
+pub record WroteFront (old new : Option (List ℕ)) (all : List ℕ) : Type 0 where
+  pub front : List ℕ
+  pub rest : List ℕ
+  pub wrote : Appends old new front
+  pub whole : all ≡ front ++ rest
+
+-- What a run does with its reader and its writer. `remaining` and `contents` are the bytes that a reader has left and that a writer holds.
+module _ {R W : Type 0} (remaining : R → Option (List ℕ)) (contents : W → Option (List ℕ)) where
+  -- the whole input was read, where the words want it, and nothing was read elsewhere
+  abbrev pub TookInput : Bool → R → R → List ℕ → Type 0
+  TookInput true old new input = Consumes (remaining old) (remaining new) input × IsAtEnd (remaining new)
+  TookInput false old new input = (input ≡ []) × (new ≡ old)
+
+  -- the answer was written, and its status is the result
+  pub record IsAnswered (words : List (List ℕ)) (reader reader' : R) (writer writer' : W) (status : ℕ) : Type 0 where
+    pub input : List ℕ
+    pub took : TookInput (needs_input words) reader reader' input
+    pub wrote : Appends (contents writer) (contents writer') (answer_of words input).output
+    pub ended : status ≡ (answer_of words input).status
+
+  -- a beginning of the answer was written, once the input was read
+  pub record IsCutAnswer (words : List (List ℕ)) (reader reader' : R) (writer writer' : W) : Type 0 where
+    pub input : List ℕ
+    pub took : TookInput (needs_input words) reader reader' input
+    pub wrote : WroteFront (contents writer) (contents writer') (answer_of words input).output
+
+  -- by its status, what a run read and wrote
+  pub record RunEnds (words : List (List ℕ)) (reader reader' : R) (writer writer' : W) (status : ℕ) : Type 0 where
+    pub known : status ≤ 4
+    pub answered : status ≤ 2 → IsAnswered words reader reader' writer writer' status
+    pub memory : status ≡ 3 → Appends (contents writer) (contents writer') memory_text
+    pub failed : status ≡ 4 → IsCutAnswer words reader reader' writer writer' ⊎ WroteFront (contents writer) (contents writer') memory_text
+    pub unread : needs_input words ≡ false → reader' ≡ reader

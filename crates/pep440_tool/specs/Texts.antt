@@ -1,0 +1,12 @@
+-- The fixed texts of the program, each a line of its own.
+use Rattle.std.specs.Prelude.{ℕ, List, [], ◌∷◌, ◌++◌, codes}
+
+-- the text and a newline
+abbrev pub line : List ℕ → List ℕ
+line text = text ++ 10 ∷ []
+
+abbrev pub usage_text : List ℕ
+usage_text = codes "usage: pep440 show V / compare A B / match SPECS V / edit V CHANGE.. / range SPECS / filter SPECS\n"
+
+abbrev pub memory_text : List ℕ
+memory_text = codes "error: out of memory\n"

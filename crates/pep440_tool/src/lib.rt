@@ -1,0 +1,17 @@
+//! The program `pep440` as a function of its words and its input, and over any reader and any writer.
+#![tactic(auto)]
+
+mod change_word;
+mod command;
+mod editing;
+mod output;
+mod program;
+mod reading;
+mod stream;
+
+pub use command::answer;
+pub use output::Answer;
+pub use program::{refuse, run};
+
+#[cfg(test)]
+mod tests;

@@ -1,0 +1,45 @@
+// What the program writes, and its status.
+ghost use Rattle.std.specs.Prelude.{◌≡◌, IfOk, ◌++◌, codes};
+ghost use Rattle.pep440_tool.specs.Said.{said};
+ghost use Rattle.pep440_tool.specs.Answers.{shown, refused, usage_answer};
+
+use std::alloc::{AllocError, Global};
+
+/// What the program writes, and the status that it ends with.
+#[derive(Debug, Drop)]
+pub struct Answer {
+    pub output: Vec<u8>,
+    pub status: u8,
+}
+
+const USAGE: &str =
+    "usage: pep440 show V / compare A B / match SPECS V / edit V CHANGE.. / range SPECS / filter SPECS\n";
+
+/// The text as a line, with status 0.
+pub fn shown(alloc: Global, text: &str) -> Result<Answer, AllocError>
+    ensures { IfOk result (λ a. said a ≡ shown text.now) }
+{
+    let mut output = Vec::from_slice(alloc, text.as_bytes())?;
+    output.push(b'\n')?;
+    Ok(Answer { output, status: 0 })
+}
+
+/// The fault as a line, with status 1.
+pub fn refused(alloc: Global, text: &str) -> Result<Answer, AllocError>
+    ensures { IfOk result (λ a. said a ≡ refused text.now) }
+{
+    let mut output = Vec::from_slice(alloc, b"error: ")?;
+    output.extend_from_slice(text.as_bytes())?;
+    output.push(b'\n')?;
+    Ok(Answer { output, status: 1 })
+}
+
+/// The usage line, with status 2.
+pub fn usage(alloc: Global) -> Result<Answer, AllocError>
+    ensures { IfOk result (λ a. said a ≡ usage_answer) }
+{
+    Ok(Answer {
+        output: Vec::from_slice(alloc, USAGE.as_bytes())?,
+        status: 2,
+    })
+}

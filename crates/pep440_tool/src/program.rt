@@ -1,0 +1,48 @@
+// The program over any reader and any writer.
+ghost use Rattle.std.specs.Prelude.{◌≡◌, ◌⊎◌, ◌≤◌, map, string_bytes};
+ghost use Rattle.pep440_tool.specs.Texts.{memory_text};
+ghost use Rattle.std.specs.Io.KnownBytes.{Appends};
+ghost use Rattle.pep440_tool.specs.Runs.{RunEnds, WroteFront};
+
+use crate::command::{answer, wants_input};
+use crate::stream::{ReadFailure, read_whole, write_whole};
+use std::alloc::Global;
+use std::io::{Read, Write};
+
+const MEMORY: &str = "error: out of memory\n";
+
+/// Answers the words, with the input where they want it, and returns the status of the process.
+pub fn run<R: Read, W: Write>(alloc: Global, words: &[String], reader: &mut R, writer: &mut W) -> u8
+    ensures { RunEnds R.remaining W.contents (map string_bytes words.now) reader.old reader.new writer.old writer.new result }
+{
+    let mut input = Vec::new(alloc);
+    if wants_input(words) {
+        match read_whole(alloc, reader) {
+            Ok(bytes) => input = bytes,
+            Err(ReadFailure::Io) => return 4,
+            Err(ReadFailure::OutOfMemory) => return refuse(writer),
+        }
+    }
+    let Ok(said) = answer(alloc, words, input.as_slice()) else {
+        return refuse(writer);
+    };
+    if write_whole(writer, said.output.as_slice()) {
+        said.status
+    } else {
+        4
+    }
+}
+
+/// Writes that memory ran out, which takes none, and returns the status of the process: 3, or 4 where the writer
+/// failed or took no byte.
+pub fn refuse<W: Write>(writer: &mut W) -> u8
+    ensures status { (result ≡ 3) ⊎ (result ≡ 4) }
+    ensures whole { result ≡ 3 → Appends (W.contents writer.old) (W.contents writer.new) memory_text }
+    ensures cut { WroteFront (W.contents writer.old) (W.contents writer.new) memory_text }
+{
+    if write_whole(writer, MEMORY.as_bytes()) {
+        3
+    } else {
+        4
+    }
+}

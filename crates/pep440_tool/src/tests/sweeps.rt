@@ -1,0 +1,109 @@
+// Each row, or want of memory and then the row. They are run also with each request for memory refused in turn.
+use super::support::{After, Manner, Trickle, run_over, split_words};
+use std::alloc::Global;
+use std::test::Fail;
+
+/// The row, or the memory text and then the row: a second run meets no refusal.
+fn answers_after_refusal(alloc: Global, words: &str, line: &str, want: u8) -> bool {
+    let Ok(list) = split_words(alloc, words) else {
+        return true;
+    };
+    for _ in 0..2 {
+        let mut unread = Trickle::new(b"never read", After::Fails);
+        let (status, sink) = run_over(
+            alloc,
+            list.as_slice(),
+            &mut unread,
+            Manner::TakesAtMost(512),
+        );
+        if status != 3 {
+            return status == want && sink.bytes() == line.as_bytes() && unread.calls == 0;
+        }
+        if sink.bytes() != "error: out of memory\n".as_bytes() {
+            return false;
+        }
+    }
+    false
+}
+
+#[test]
+fn sweep_show(rt: HostRuntime) -> Result<(), Fail> {
+    let words = "show|  V1!1.0-Alpha.2-3.DEV+Ubuntu-01 ";
+    let line = "1!1.0a2.post3.dev0+ubuntu.1\n";
+    assert!(rt; answers_after_refusal(rt.alloc(), words, line, 0));
+    Ok(())
+}
+
+#[test]
+fn sweep_show_refused(rt: HostRuntime) -> Result<(), Fail> {
+    let words = "show|1.0prev";
+    let line = "error: after parsing `1.0pre`, found `v`, which is not part of a valid version\n";
+    assert!(rt; answers_after_refusal(rt.alloc(), words, line, 1));
+    Ok(())
+}
+
+#[test]
+fn sweep_show_too_big(rt: HostRuntime) -> Result<(), Fail> {
+    let words = "show|18446744073709551616";
+    let line =
+        "error: expected number less than or equal to 18446744073709551615, but number found in \"18446744073709551616\" exceeds it\n";
+    assert!(rt; answers_after_refusal(rt.alloc(), words, line, 1));
+    Ok(())
+}
+
+#[test]
+fn sweep_compare(rt: HostRuntime) -> Result<(), Fail> {
+    let words = "compare|1.0+local|1.0";
+    let line = ">\n";
+    assert!(rt; answers_after_refusal(rt.alloc(), words, line, 0));
+    Ok(())
+}
+
+#[test]
+fn sweep_compare_refused(rt: HostRuntime) -> Result<(), Fail> {
+    let words = "compare|1.0+local|1.*";
+    let line = "error: wildcards are not allowed in a version\n";
+    assert!(rt; answers_after_refusal(rt.alloc(), words, line, 1));
+    Ok(())
+}
+
+#[test]
+fn sweep_edit(rt: HostRuntime) -> Result<(), Fail> {
+    let words = "edit|1.0a1|post=2|dev=0|epoch=3";
+    let line = "3!1.0a1.post2.dev0\n";
+    assert!(rt; answers_after_refusal(rt.alloc(), words, line, 0));
+    Ok(())
+}
+
+#[test]
+fn sweep_edit_texts(rt: HostRuntime) -> Result<(), Fail> {
+    let words = "edit|1.0|release=1.2.3|local=AB.07.x|max=3|min=0";
+    let line = "1.2.3+ab.7.x~min0~max3\n";
+    assert!(rt; answers_after_refusal(rt.alloc(), words, line, 0));
+    Ok(())
+}
+
+#[test]
+fn sweep_edit_refused(rt: HostRuntime) -> Result<(), Fail> {
+    let words = "edit|1.0a1|min=0";
+    let line = "error: change 1: min is not allowed on pre-release or dev versions\n";
+    assert!(rt; answers_after_refusal(rt.alloc(), words, line, 1));
+    Ok(())
+}
+
+#[test]
+fn sweep_edit_not_a_change(rt: HostRuntime) -> Result<(), Fail> {
+    let words = "edit|1.0|post=x";
+    let line = "error: change 1: not a change\n";
+    assert!(rt; answers_after_refusal(rt.alloc(), words, line, 1));
+    Ok(())
+}
+
+#[test]
+fn sweep_usage(rt: HostRuntime) -> Result<(), Fail> {
+    let words = "show";
+    let line =
+        "usage: pep440 show V / compare A B / match SPECS V / edit V CHANGE.. / range SPECS / filter SPECS\n";
+    assert!(rt; answers_after_refusal(rt.alloc(), words, line, 2));
+    Ok(())
+}
