@@ -1,14 +1,15 @@
 -- Records that tie have the same key, but for zeros at the end of the release; so they feed a hasher alike.
 use Rattle.std.specs.Hash.{u64}
 use Rattle.std.proofs.Common.{◌≡◌, ◌==◌, Bool, ℕ, List, ◌++◌, refl, sym, ap, ◌∙◌, true, cond}
-use Rattle.std.specs.Ordering.{nat_cmp, on, ordering_then, eq_by_cmp}
+use Rattle.std.specs.Ordering.{nat_cmp, on, ordering_then, eq_by_cmp, is_eq}
+use Rattle.std.proofs.lemmas.Bool.{true≢false}
 use Rattle.std.specs.Cmp.{Equal-is}
 use Rattle.std.specs.Cmp.Lexicographic.{slice_cmp}
 use Rattle.std.specs.FinMap.{nat_cmp-IsAntisymmetric, slice_cmp-IsAntisymmetric}
 use Rattle.std.specs.declared.cmp.Ordering.{Ordering}
 use Rattle.std.specs.declared.cmp.Ordering.TheVariants.{Less, Equal, Greater}
 use Rattle.pep440_version.specs.declared.prerelease.PrereleaseKind.TheVariants.{Alpha, Beta, Rc}
-use Rattle.pep440_version.specs.Feed.{feed, feed_segment, feed_kind, feed_prerelease, feed_pattern}
+use Rattle.pep440_version.specs.Feed.{feed, feed_numbers, feed_stage, feed_post, feed_dev, feed_local, feed_segment, feed_kind, feed_prerelease, feed_pattern}
 use Rattle.pep440_version.specs.Key.{Key, key, key_cmp, record_cmp, Stage, Min, Dev, Pre, Final, PostPlace, NoPost, PostAt, PostTop, DevPlace, DevAt, NoDev, stage_cmp, stage_rank, stage_number, post_cmp, post_rank, post_number, dev_cmp, dev_rank, dev_number, segment_cmp, segment_rank, segment_text, segment_number, kind_rank, kind_cmp, prerelease_cmp, pattern_cmp, star_number}
 use Rattle.pep440_version.specs.KeyLaws.{release_cmp-trim}
 use Rattle.pep440_version.specs.Record.{Record, Segment, Text, Number}
@@ -18,15 +19,16 @@ use Rattle.pep440_version.specs.declared.segment.LocalSegment.{LocalSegment}
 use Rattle.pep440_version.specs.declared.prerelease.PrereleaseKind.{PrereleaseKind}
 use Rattle.pep440_version.specs.declared.prerelease.Prerelease.{Prerelease}
 
+-- both parts of a comparison that ties tie
 first : (r s : Ordering) → ordering_then r s ≡ Equal → r ≡ Equal
-first Less s e = cc e
+first Less s e = absurd (true≢false (sym (ap is_eq e)))
 first Equal s e = refl
-first Greater s e = cc e
+first Greater s e = absurd (true≢false (sym (ap is_eq e)))
 
 second : (r s : Ordering) → ordering_then r s ≡ Equal → s ≡ Equal
-second Less s e = cc e
+second Less s e = absurd (true≢false (sym (ap is_eq e)))
 second Equal s e = e
-second Greater s e = cc e
+second Greater s e = absurd (true≢false (sym (ap is_eq e)))
 
 stage_from : ℕ → ℕ → Stage
 stage_from rank n = cond (rank == 0) Min (cond (rank == 1) Dev (cond (rank == 2) (Pre Alpha n) (cond (rank == 3) (Pre Beta n) (cond (rank == 4) (Pre Rc n) Final))))
@@ -124,7 +126,7 @@ ties x y e =
 pub feeds_alike : (x y : Record) → eq_by_cmp record_cmp x y ≡ true → feed x ≡ feed y
 feeds_alike x y e =
     let t = ties (key x) (key y) ((Equal-is (record_cmp x y)).0 e) in
-    rw (t.epoch, t.release, t.stage, t.post, t.dev, t.local) refl
+    λ i. u64 (t.epoch i) ++ feed_numbers (t.release i) ++ feed_stage (t.stage i) ++ feed_post (t.post i) ++ feed_dev (t.dev i) ++ feed_local (t.local i)
 
 pub segments_feed_alike : (x y : LocalSegment) → eq_by_cmp (on segment segment_cmp) x y ≡ true → feed_segment (segment x) ≡ feed_segment (segment y)
 segments_feed_alike x y e = ap feed_segment (same_segment (segment x) (segment y) ((Equal-is (on segment segment_cmp x y)).0 e))

@@ -5,8 +5,6 @@ use crate::run;
 use std::alloc::{AllocError, Global};
 use std::io::{Error, ErrorKind, Read, Write};
 
-pub const BIG: &str = "18446744073709551616";
-
 pub const USAGE: &str =
     "usage: pep440 show V / compare A B / match SPECS V / edit V CHANGE.. / range SPECS / filter SPECS\n";
 
