@@ -1,0 +1,11 @@
+pub mod Scanning
+pub mod Cuts
+pub mod Spelled
+pub mod Tells
+pub mod Answered
+pub mod Prints
+pub mod Steps
+pub mod Plain
+pub mod Told
+pub mod Shown
+pub mod Again

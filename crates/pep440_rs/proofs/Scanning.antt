@@ -1,0 +1,49 @@
+-- A text in its characters, as the longest run at its front is read.
+use Rattle.std.proofs.Common.{◌≡◌, ◌-◌, ◌∙◌, ℕ, List, ◌∷◌, ◌++◌, Bool, true, false, length, take, drop, refl, sym, ap, arith}
+use Rattle.std.proofs.lemmas.List.{append_cancel_right, drop_at, length-append, nil_from_length, take_at}
+use Rattle.std.proofs.lemmas.Str.{chars-nil, chars_past_char, encodes-append, encodes-chars}
+use Rattle.std.specs.Char.{encode_utf8}
+use Rattle.std.specs.Str.{IsUtf8, chars, encode_utf8_all}
+use Rattle.pep440_version.specs.Reading.{EndsWith, lead, past}
+use Rattle.pep440_version.proofs.Cutting.{past_one}
+use Rattle.pep440_version.proofs.Ends.{ends_then}
+use Rattle.pep440_version.proofs.Found.{split}
+
+past_here : (test : ℕ → Bool) (c : ℕ) (cs : List ℕ) → test c ≡ false → past test (c ∷ cs) ≡ c ∷ cs
+past_here test c cs e = rw e refl
+
+-- the run ends before this character
+pub run_stops : (test : ℕ → Bool) (text rest next : List ℕ) (c : ℕ) → IsUtf8 rest → rest ≡ encode_utf8 c ++ next → test c ≡ false → past test (chars text) ≡ past test (chars rest) → chars rest ≡ past test (chars text)
+run_stops test text rest next c utf8 step fails before =
+    let here = chars_past_char rest next c utf8 step in
+    here ∙ sym (past_here test c (chars next) fails) ∙ sym (ap (past test) here) ∙ sym before
+
+-- the run goes past this character
+pub run_goes_on : (test : ℕ → Bool) (text rest next : List ℕ) (c : ℕ) → IsUtf8 rest → rest ≡ encode_utf8 c ++ next → test c ≡ true → past test (chars text) ≡ past test (chars rest) → past test (chars text) ≡ past test (chars next)
+run_goes_on test text rest next c utf8 step passes before =
+    before ∙ ap (past test) (chars_past_char rest next c utf8 step) ∙ past_one test c (chars next) passes
+
+-- the run ends with the text
+pub run_ends : (test : ℕ → Bool) (text rest : List ℕ) → length rest ≡ 0 → past test (chars text) ≡ past test (chars rest) → chars rest ≡ past test (chars text)
+run_ends test text rest none before =
+    let empty = ap chars (nil_from_length rest none) ∙ chars-nil in
+    empty ∙ sym (ap (past test) empty) ∙ sym before
+
+pub ends_further : (text rest next front : List ℕ) → EndsWith text rest → rest ≡ front ++ next → EndsWith text next
+ends_further text rest next front h step = ends_then text rest next h (front, step)
+
+-- the bytes of the run and those of what follows it
+pub run_bytes : (test : ℕ → Bool) (text rest : List ℕ) → IsUtf8 text → IsUtf8 rest → EndsWith text rest → chars rest ≡ past test (chars text)
+    → (take (length text - length rest) text ≡ encode_utf8_all (lead test (chars text))) × (drop (length text - length rest) text ≡ rest)
+run_bytes test text rest utf8 utf8_rest h e =
+    let long = ap length h.1 ∙ length-append h.0 rest in
+    let at : length h.0 ≡ length text - length rest = omega (arith, long) in
+    let behind : encode_utf8_all (past test (chars text)) ≡ rest = ap encode_utf8_all (sym e) ∙ encodes-chars rest utf8_rest in
+    let whole : text ≡ encode_utf8_all (lead test (chars text)) ++ rest =
+    sym (encodes-chars text utf8) ∙ ap encode_utf8_all (split test (chars text)) ∙ encodes-append (lead test (chars text)) (past test (chars text))
+    ∙ ap (λ t. encode_utf8_all (lead test (chars text)) ++ t) behind in
+    let front = append_cancel_right h.0 (encode_utf8_all (lead test (chars text))) rest (sym h.1 ∙ whole) in
+    (ap (take (length text - length rest)) h.1 ∙ take_at h.0 rest _ at ∙ front, ap (drop (length text - length rest)) h.1 ∙ drop_at h.0 rest _ at)
+
+pub rest_bytes : (test : ℕ → Bool) (text rest : List ℕ) → IsUtf8 rest → chars rest ≡ past test (chars text) → rest ≡ encode_utf8_all (past test (chars text))
+rest_bytes test text rest utf8 e = sym (encodes-chars rest utf8) ∙ ap encode_utf8_all e

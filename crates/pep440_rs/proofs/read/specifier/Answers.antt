@@ -1,0 +1,36 @@
+use Rattle.std.proofs.Common.{◌≡◌, ◌∙◌, ap, subst, sym}
+use Rattle.std.specs.Char.{is_whitespace, is_not_whitespace}
+use Rattle.std.specs.Str.{chars, encode_utf8_all}
+use Rattle.pep440_version.specs.Reading.{lead, past}
+use Rattle.pep440_rs.specs.Errors.{SpecifierGives}
+use Rattle.pep440_rs.specs.SpecifierGrammar.{is_operator_char}
+use Rattle.pep440_rs.specs.SpecifierReading.{from_rest, from_version, read_specifier}
+use Rattle.pep440_rs.proofs.Steps.{known_operator, names_operator, no_operator, operator_bytes, unknown_operator}
+use Rattle.pep440_rs.proofs.read.specifier.Goals as goal
+
+pub returns-then-is_empty : goal.returns-then-is_empty
+returns-then-is_empty c =
+    let is = operator_bytes c.args.text.now c.past_blanks.result.now c.split_run.result.0.now c.past_blanks.ensures.back c.split_run.ensures.front in
+    (no_operator c.args.text.now _ is (sym c.is_empty.ensures ∙ c.if-is_empty.true), λ e. cc e)
+
+pub returns-in-Err : goal.returns-in-Err
+returns-in-Err c =
+    let is = operator_bytes c.args.text.now c.past_blanks.result.now c.split_run.result.0.now c.past_blanks.ensures.back c.split_run.ensures.front in
+    let some = sym c.is_empty.ensures ∙ c.if-is_empty.false in (
+      names_operator c.of_operator.result _ (read_specifier c.args.text.now) c.split_run.result.0.now c.of_operator.ensures.refusal c.in-Err.ensures.refused
+          (unknown_operator c.args.text.now c.split_run.result.0.now is some (λ o h. cc (c.in-Err.ensures.only o h))),
+      c.of_operator.ensures.lifted,
+    )
+
+pub returns : goal.returns
+returns c =
+    let is = operator_bytes c.args.text.now c.past_blanks.result.now c.split_run.result.0.now c.past_blanks.ensures.back c.split_run.ensures.front in
+    let some = sym c.is_empty.ensures ∙ c.if-is_empty.false in
+    let opened : chars c.past_blanks-2.result.now ≡ from_version c.args.text.now =
+    c.past_blanks-2.ensures.back ∙ ap (past is_whitespace) (c.split_run.ensures.back ∙ ap (past is_operator_char) c.past_blanks.ensures.back) in
+    let version : encode_utf8_all (lead is_not_whitespace (from_version c.args.text.now)) ≡ c.split_run-2.result.0.now =
+    ap (λ cs. encode_utf8_all (lead is_not_whitespace cs)) (sym opened) ∙ sym c.split_run-2.ensures.front in
+    let rest : encode_utf8_all (from_rest c.args.text.now) ≡ c.past_blanks-3.result.now =
+    ap (λ cs. encode_utf8_all (past is_whitespace (past is_not_whitespace cs))) (sym opened)
+    ∙ ap (λ cs. encode_utf8_all (past is_whitespace cs)) (sym c.split_run-2.ensures.back) ∙ sym c.past_blanks-3.ensures.bytes in
+    subst (SpecifierGives c.with_version.result) (sym (known_operator c.args.text.now c.split_run.result.0.now _ _ c.in-Ok.operator is some c.in-Ok.ensures.found version rest)) c.with_version.ensures

@@ -1,0 +1,58 @@
+-- The texts of the errors. Of an operator whose text has bytes that are escaped in quotes, or is not ASCII, nothing
+-- is said; no reader of specifiers answers one.
+use Rattle.std.specs.Prelude.{ℕ, List, ◌++◌, ◌==◌, ◌&&◌, Bool, not, nat_le, nat_lt, Option, Some, None, codes, string_bytes, if◌then◌else◌}
+use Rattle.std.specs.List.{list_all}
+use Rattle.pep440_version.specs.Errors.{pattern_kind_of}
+use Rattle.pep440_version.specs.ErrorTexts.{pattern_refusal_text, pattern_text_of}
+use Rattle.pep440_version.specs.Print.{dotted, segment_print}
+use Rattle.pep440_rs.specs.Build.{BuildRefusal, OperatorLocalCombo, OperatorWithStar, CompatibleRelease}
+use Rattle.pep440_rs.specs.Errors.{build_kind_of, build_refusal_of, operator_kind_of}
+use Rattle.pep440_rs.specs.Operators.{operator_text}
+use Rattle.pep440_rs.specs.SpecifierGrammar.{SpecifierRefusal, MissingOperator, InvalidOperator, MissingVersion, InvalidVersion, InvalidSpecifier, InvalidTrailing}
+use Rattle.pep440_rs.specs.declared.error.BuildErrorKind.{BuildErrorKind}
+use Rattle.pep440_rs.specs.declared.error.OperatorErrorKind.{OperatorErrorKind}
+use Rattle.pep440_rs.specs.declared.error.OperatorErrorKind.TheVariants as operator
+use Rattle.pep440_rs.specs.declared.error.ParseErrorKind.{ParseErrorKind}
+use Rattle.pep440_rs.specs.declared.error.ParseErrorKind.TheVariants as parse
+
+-- a byte that stands in quotes as it is
+abbrev pub is_unescaped : ℕ → Bool
+is_unescaped b = nat_le 32 b && nat_lt b 127 && not (b == 34) && not (b == 92)
+
+abbrev pub unknown_text : List ℕ → List ℕ
+unknown_text got = codes "no such comparison operator \"" ++ (got ++ codes "\", must be one of ~= == != <= >= < > ===")
+
+abbrev pub operator_text_of : OperatorErrorKind → Option (List ℕ)
+operator_text_of (operator.Unknown got) = if list_all is_unescaped (string_bytes got) then Some (unknown_text (string_bytes got)) else None
+operator_text_of operator.OutOfMemory = Some (codes "out of memory")
+
+abbrev pub build_text : BuildRefusal → List ℕ
+build_text (OperatorLocalCombo o r) = codes "Operator " ++ (operator_text o ++ (codes " is incompatible with versions containing non-empty local segments (`+"
+    ++ (dotted segment_print r.local ++ codes "`)")))
+build_text (OperatorWithStar o) = codes "Operator " ++ (operator_text o ++ codes " cannot be used with a wildcard version specifier")
+build_text CompatibleRelease = codes "The ~= operator requires at least two segments in the release version"
+
+abbrev pub build_error_text : BuildErrorKind → List ℕ
+build_error_text kind = build_text (build_refusal_of kind)
+
+abbrev pub trailing_text : List ℕ → List ℕ
+trailing_text rest = codes "Trailing `" ++ (rest ++ codes "` is not allowed")
+
+-- the text of a refusal
+abbrev pub specifier_refusal_text : SpecifierRefusal → List ℕ
+specifier_refusal_text MissingOperator = codes "Unexpected end of version specifier, expected operator"
+specifier_refusal_text (InvalidOperator got) = unknown_text got
+specifier_refusal_text MissingVersion = codes "Unexpected end of version specifier, expected version"
+specifier_refusal_text (InvalidVersion f) = pattern_refusal_text f
+specifier_refusal_text (InvalidSpecifier b) = build_text b
+specifier_refusal_text (InvalidTrailing rest) = trailing_text rest
+
+-- the text of an error; one that holds an inner error has the inner text
+abbrev pub specifier_text_of : ParseErrorKind → Option (List ℕ)
+specifier_text_of parse.MissingOperator = Some (specifier_refusal_text MissingOperator)
+specifier_text_of (parse.InvalidOperator e) = operator_text_of (operator_kind_of e)
+specifier_text_of parse.MissingVersion = Some (specifier_refusal_text MissingVersion)
+specifier_text_of (parse.InvalidVersion e) = pattern_text_of (pattern_kind_of e)
+specifier_text_of (parse.InvalidSpecifier e) = Some (build_error_text (build_kind_of e))
+specifier_text_of (parse.InvalidTrailing rest) = Some (trailing_text (string_bytes rest))
+specifier_text_of parse.OutOfMemory = Some (codes "out of memory")

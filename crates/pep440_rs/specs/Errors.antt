@@ -1,0 +1,63 @@
+-- What an error says, apart from where it lies in memory.
+use Rattle.std.specs.Prelude.{◌≡◌, ℕ, List, Option, option_map, Some, None, Result, Ok, Err, string_bytes, IfSome}
+use Rattle.pep440_version.specs.Errors.{pattern_kind_of, pattern_refusal_of}
+use Rattle.pep440_rs.specs.Build.{BuildRefusal, OperatorLocalCombo, OperatorWithStar, CompatibleRelease}
+use Rattle.pep440_rs.specs.SpecifierGrammar.{SpecifierRefusal, MissingOperator, InvalidOperator, MissingVersion, InvalidVersion, InvalidSpecifier, InvalidTrailing}
+use Rattle.pep440_rs.specs.Specifiers.{Spec}
+use Rattle.pep440_rs.specs.declared.error.OperatorErrorKind.{OperatorErrorKind}
+use Rattle.pep440_rs.specs.declared.error.OperatorErrorKind.TheVariants as operator
+use Rattle.pep440_rs.specs.declared.error.OperatorParseError.{OperatorParseError}
+use Rattle.pep440_rs.specs.declared.error.BuildErrorKind.{BuildErrorKind}
+use Rattle.pep440_rs.specs.declared.error.BuildErrorKind.TheVariants as build
+use Rattle.pep440_rs.specs.declared.error.VersionSpecifierBuildError.{VersionSpecifierBuildError}
+use Rattle.pep440_rs.specs.declared.error.ParseErrorKind.{ParseErrorKind}
+use Rattle.pep440_rs.specs.declared.error.ParseErrorKind.TheVariants as parse
+use Rattle.pep440_rs.specs.declared.error.VersionSpecifierParseError.{VersionSpecifierParseError}
+
+abbrev pub operator_kind_of : OperatorParseError → OperatorErrorKind
+operator_kind_of e = e.kind
+
+-- the text that is no operator, or none where memory ran out
+abbrev pub unknown_of : OperatorErrorKind → Option (List ℕ)
+unknown_of (operator.Unknown got) = Some (string_bytes got)
+unknown_of operator.OutOfMemory = None
+
+abbrev pub build_kind_of : VersionSpecifierBuildError → BuildErrorKind
+build_kind_of e = e.kind
+
+abbrev pub build_refusal_of : BuildErrorKind → BuildRefusal
+build_refusal_of (build.OperatorLocalCombo o v) = OperatorLocalCombo o v
+build_refusal_of (build.OperatorWithStar o) = OperatorWithStar o
+build_refusal_of build.CompatibleRelease = CompatibleRelease
+
+-- what was built is what the rules give
+abbrev pub Builds : Result Spec VersionSpecifierBuildError → Result Spec BuildRefusal → Type 0
+Builds (Ok s) rules = rules ≡ Ok s
+Builds (Err e) rules = rules ≡ Err (build_refusal_of (build_kind_of e))
+
+abbrev pub parse_kind_of : VersionSpecifierParseError → ParseErrorKind
+parse_kind_of e = e.kind
+
+-- the refusal, or none where memory ran out
+abbrev pub specifier_refusal_of : ParseErrorKind → Option SpecifierRefusal
+specifier_refusal_of parse.MissingOperator = Some MissingOperator
+specifier_refusal_of (parse.InvalidOperator e) = option_map InvalidOperator (unknown_of (operator_kind_of e))
+specifier_refusal_of parse.MissingVersion = Some MissingVersion
+specifier_refusal_of (parse.InvalidVersion e) = option_map InvalidVersion (pattern_refusal_of (pattern_kind_of e))
+specifier_refusal_of (parse.InvalidSpecifier e) = Some (InvalidSpecifier (build_refusal_of (build_kind_of e)))
+specifier_refusal_of (parse.InvalidTrailing rest) = Some (InvalidTrailing (string_bytes rest))
+specifier_refusal_of parse.OutOfMemory = None
+
+-- want of memory is said by the last kind, and not inside another
+abbrev pub IsLifted : ParseErrorKind → Type 0
+IsLifted kind = specifier_refusal_of kind ≡ None → kind ≡ parse.OutOfMemory
+
+-- what was read is what reading gives, unless memory ran out
+abbrev pub SpecifierGives : Result Spec ParseErrorKind → Result Spec SpecifierRefusal → Type 0
+SpecifierGives (Ok s) read = read ≡ Ok s
+SpecifierGives (Err kind) read = IfSome (specifier_refusal_of kind) (λ f. read ≡ Err f) × IsLifted kind
+
+-- the same of the public reader
+abbrev pub SpecifierAnswers : Result Spec VersionSpecifierParseError → Result Spec SpecifierRefusal → Type 0
+SpecifierAnswers (Ok s) read = read ≡ Ok s
+SpecifierAnswers (Err e) read = IfSome (specifier_refusal_of (parse_kind_of e)) (λ f. read ≡ Err f)

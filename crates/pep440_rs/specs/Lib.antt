@@ -1,0 +1,9 @@
+pub mod Operators
+pub mod OperatorLaws
+pub mod Specifiers
+pub mod SpecifierLaws
+pub mod Build
+pub mod SpecifierGrammar
+pub mod SpecifierReading
+pub mod Errors
+pub mod ErrorTexts

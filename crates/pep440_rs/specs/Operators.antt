@@ -1,0 +1,99 @@
+-- The comparison operators (PEP 440, "Version specifiers"): how each is written, what it turns into, and what
+-- may stand beside it. A star form is written as its plain form, and `.*` follows the version.
+use Rattle.std.specs.Prelude.{◌≡◌, ℕ, List, Bool, true, false, Option, Some, None, codes}
+use Rattle.std.specs.Hash.{HashWrites, u64}
+use Rattle.std.specs.Ordering.{nat_cmp, on}
+use Rattle.std.specs.declared.cmp.Ordering.{Ordering}
+use Rattle.pep440_rs.specs.declared.operator.Operator.{Operator}
+use Rattle.pep440_rs.specs.declared.operator.Operator.TheVariants.{Equal, EqualStar, ExactEqual, NotEqual, NotEqualStar, TildeEqual, LessThan, LessThanEqual, GreaterThan, GreaterThanEqual}
+
+abbrev pub operator_text : Operator → List ℕ
+operator_text Equal = codes "=="
+operator_text EqualStar = codes "=="
+operator_text ExactEqual = codes "==="
+operator_text NotEqual = codes "!="
+operator_text NotEqualStar = codes "!="
+operator_text TildeEqual = codes "~="
+operator_text LessThan = codes "<"
+operator_text LessThanEqual = codes "<="
+operator_text GreaterThan = codes ">"
+operator_text GreaterThanEqual = codes ">="
+
+abbrev pub is_star : Operator → Bool
+is_star Equal = false
+is_star EqualStar = true
+is_star ExactEqual = false
+is_star NotEqual = false
+is_star NotEqualStar = true
+is_star TildeEqual = false
+is_star LessThan = false
+is_star LessThanEqual = false
+is_star GreaterThan = false
+is_star GreaterThanEqual = false
+
+-- a text is that of an operator without a star
+abbrev pub Spells : List ℕ → Operator → Type 0
+Spells text o = (text ≡ operator_text o) × (is_star o ≡ false)
+
+abbrev pub negated : Operator → Option Operator
+negated Equal = Some NotEqual
+negated EqualStar = Some NotEqualStar
+negated ExactEqual = Some NotEqual
+negated NotEqual = Some Equal
+negated NotEqualStar = Some EqualStar
+negated TildeEqual = None
+negated LessThan = Some GreaterThanEqual
+negated LessThanEqual = Some GreaterThan
+negated GreaterThan = Some LessThanEqual
+negated GreaterThanEqual = Some LessThan
+
+-- a specifier with this operator holds nothing below some version
+abbrev pub has_lower_bound : Operator → Bool
+has_lower_bound Equal = true
+has_lower_bound EqualStar = true
+has_lower_bound ExactEqual = true
+has_lower_bound NotEqual = false
+has_lower_bound NotEqualStar = false
+has_lower_bound TildeEqual = true
+has_lower_bound LessThan = false
+has_lower_bound LessThanEqual = false
+has_lower_bound GreaterThan = true
+has_lower_bound GreaterThanEqual = true
+
+-- a version with a local part may follow
+abbrev pub allows_local : Operator → Bool
+allows_local Equal = true
+allows_local EqualStar = false
+allows_local ExactEqual = true
+allows_local NotEqual = true
+allows_local NotEqualStar = false
+allows_local TildeEqual = false
+allows_local LessThan = false
+allows_local LessThanEqual = false
+allows_local GreaterThan = false
+allows_local GreaterThanEqual = false
+
+-- the place in the enum, from 0
+abbrev pub operator_rank : Operator → ℕ
+operator_rank Equal = 0
+operator_rank EqualStar = 1
+operator_rank ExactEqual = 2
+operator_rank NotEqual = 3
+operator_rank NotEqualStar = 4
+operator_rank TildeEqual = 5
+operator_rank LessThan = 6
+operator_rank LessThanEqual = 7
+operator_rank GreaterThan = 8
+operator_rank GreaterThanEqual = 9
+
+abbrev pub operator_cmp : Operator → Operator → Ordering
+operator_cmp = on operator_rank nat_cmp
+
+-- what an operator gives a hasher
+abbrev pub feed_operator : Operator → HashWrites
+feed_operator o = u64 (operator_rank o)
+
+-- what negating twice ends at: the operator itself, but `===` ends at `==`
+abbrev pub given_back : Operator → Operator
+given_back ExactEqual = Equal
+given_back o = o

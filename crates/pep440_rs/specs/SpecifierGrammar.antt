@@ -1,0 +1,68 @@
+-- The texts of specifiers (PEP 440, "Version specifiers"): blanks, an operator, blanks, a version, blanks and the
+-- end. A blank is a character that Unicode calls white space.
+use Rattle.std.specs.Prelude.{◌≡◌, ◌<◌, ◌||◌, ◌==◌, ℕ, List, [], ◌++◌, Bool, true, false, length, Ok, Err}
+use Rattle.std.specs.Char.{is_whitespace, is_not_whitespace}
+use Rattle.std.specs.List.{list_all}
+use Rattle.std.specs.Str.{chars}
+use Rattle.std.specs.Str.{encode_utf8_all}
+use Rattle.pep440_version.specs.Grammar.{starts}
+use Rattle.pep440_version.specs.Patterns.{DerivesPattern}
+use Rattle.pep440_version.specs.Record.{Record}
+use Rattle.pep440_version.specs.Refusals.{PatternRefusal, RefusesPattern}
+use Rattle.pep440_rs.specs.Build.{BuildRefusal, built_pattern}
+use Rattle.pep440_rs.specs.Operators.{Spells}
+use Rattle.pep440_rs.specs.Specifiers.{Spec}
+use Rattle.pep440_rs.specs.declared.operator.Operator.{Operator}
+
+-- `=`, `!`, `~`, `<` and `>`
+abbrev pub is_operator_char : ℕ → Bool
+is_operator_char c = (c == 61) || (c == 33) || (c == 126) || (c == 60) || (c == 62)
+
+-- part passes the test and goes on as long as can be, where rest follows
+abbrev pub IsRun : (ℕ → Bool) → List ℕ → List ℕ → Type 0
+IsRun test part rest = (list_all test part ≡ true) × (starts test rest ≡ false)
+
+-- the characters of a text in six parts, each but the last as long as can be: blanks, an operator, blanks, a
+-- version, blanks, and the rest
+pub record Cut (text : List ℕ) : Type 0 where
+  pub before : List ℕ
+  pub operator : List ℕ
+  pub between : List ℕ
+  pub version : List ℕ
+  pub after : List ℕ
+  pub rest : List ℕ
+  pub cut : chars text ≡ before ++ (operator ++ (between ++ (version ++ (after ++ rest))))
+  pub before_run : IsRun is_whitespace before (operator ++ (between ++ (version ++ (after ++ rest))))
+  pub operator_run : IsRun is_operator_char operator (between ++ (version ++ (after ++ rest)))
+  pub between_run : IsRun is_whitespace between (version ++ (after ++ rest))
+  pub version_run : IsRun is_not_whitespace version (after ++ rest)
+  pub after_run : IsRun is_whitespace after rest
+
+-- the operator and the version of a cut: the operator is one, and the version means a record, with a star or without
+pub record Reads {text : List ℕ} (c : Cut text) (o : Operator) (r : Record) (star : Bool) : Type 0 where
+  pub operator : Spells (encode_utf8_all c.operator) o
+  pub version : DerivesPattern (encode_utf8_all c.version) r star
+
+-- the text means the specifier
+abbrev pub DerivesSpecifier : List ℕ → Spec → Type 0
+DerivesSpecifier text s = (c : Cut text) × (o : Operator) × (r : Record) × (star : Bool) × Reads c o r star
+    × (built_pattern o r star ≡ Ok s) × (c.rest ≡ [])
+
+-- why a text is no specifier
+pub data SpecifierRefusal : Type 0 where
+  MissingOperator : SpecifierRefusal
+  InvalidOperator : (got : List ℕ) → SpecifierRefusal
+  MissingVersion : SpecifierRefusal
+  InvalidVersion : PatternRefusal → SpecifierRefusal
+  InvalidSpecifier : BuildRefusal → SpecifierRefusal
+  InvalidTrailing : (rest : List ℕ) → SpecifierRefusal
+
+-- asked in this order: each speaks of a text of which none before it holds
+abbrev pub RefusesSpecifier : List ℕ → SpecifierRefusal → Type 0
+RefusesSpecifier text MissingOperator = (c : Cut text) × (c.operator ≡ [])
+RefusesSpecifier text (InvalidOperator got) = (c : Cut text) × (0 < length c.operator) × (got ≡ encode_utf8_all c.operator) × ((o : Operator) → Spells got o → ⊥)
+RefusesSpecifier text MissingVersion = (c : Cut text) × (o : Operator) × Spells (encode_utf8_all c.operator) o × (c.version ≡ [])
+RefusesSpecifier text (InvalidVersion f) = (c : Cut text) × (o : Operator) × Spells (encode_utf8_all c.operator) o × (0 < length c.version) × RefusesPattern (encode_utf8_all c.version) f
+RefusesSpecifier text (InvalidSpecifier b) = (c : Cut text) × (o : Operator) × (r : Record) × (star : Bool) × Reads c o r star × (built_pattern o r star ≡ Err b)
+RefusesSpecifier text (InvalidTrailing rest) = (c : Cut text) × (o : Operator) × (r : Record) × (star : Bool) × (s : Spec) × Reads c o r star
+    × (built_pattern o r star ≡ Ok s) × (0 < length c.rest) × (rest ≡ encode_utf8_all c.rest)

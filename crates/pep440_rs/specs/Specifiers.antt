@@ -1,0 +1,35 @@
+-- What a specifier means: an operator and the record of a version (PEP 440, "Version specifiers"); and how it is
+-- printed, ordered and fed to a hasher.
+use Rattle.std.specs.Prelude.{◌≡◌, ◌<◌, ◌++◌, ℕ, List, [], codes, length, if◌then◌else◌}
+use Rattle.std.specs.Hash.{HashWrites}
+use Rattle.std.specs.Ordering.{on, then_cmp}
+use Rattle.std.specs.declared.cmp.Ordering.{Ordering}
+use Rattle.pep440_version.specs.Feed.{feed}
+use Rattle.pep440_version.specs.Key.{record_cmp}
+use Rattle.pep440_version.specs.Print.{print}
+use Rattle.pep440_version.specs.Record.{Record}
+use Rattle.pep440_rs.specs.Operators.{feed_operator, is_star, operator_cmp, operator_text}
+use Rattle.pep440_rs.specs.declared.operator.Operator.{Operator}
+use Rattle.pep440_rs.specs.declared.operator.Operator.TheVariants.{TildeEqual}
+
+pub record Spec : Type 0 where
+  pub operator : Operator
+  pub version : Record
+
+-- `~=` stands before two release numbers or more (PEP 440, "Compatible release")
+abbrev pub IsSpec : Spec → Type 0
+IsSpec s = s.operator ≡ TildeEqual → 1 < length s.version.release
+
+abbrev pub star_text : Operator → List ℕ
+star_text o = if is_star o then codes ".*" else []
+
+-- the operator, the version, and `.*` for a star form
+abbrev pub spec_print : Spec → List ℕ
+spec_print s = operator_text s.operator ++ (print s.version ++ star_text s.operator)
+
+-- by operator, then by version
+abbrev pub spec_cmp : Spec → Spec → Ordering
+spec_cmp = then_cmp (on (λ (s : Spec). s.operator) operator_cmp) (on (λ (s : Spec). s.version) record_cmp)
+
+abbrev pub feed_spec : Spec → HashWrites
+feed_spec s = feed_operator s.operator ++ feed s.version

@@ -1,0 +1,64 @@
+//! The readers of specifiers.
+ghost use Rattle.std.specs.Prelude.{◌==◌, length, Ok, Err, if◌then◌else◌};
+ghost use Rattle.pep440_version.specs.Whole.{read_pattern};
+ghost use Rattle.pep440_rs.specs.Build.{built_pattern};
+ghost use Rattle.pep440_rs.specs.Errors.{SpecifierGives};
+ghost use Rattle.pep440_rs.specs.SpecifierGrammar.{MissingVersion};
+ghost use Rattle.pep440_rs.specs.SpecifierReading.{ended, read_specifier, with_pattern};
+
+use crate::error::ParseErrorKind;
+use crate::operator::Operator;
+use crate::scan::{Run, past_blanks, split_run};
+use crate::specifier::VersionSpecifier;
+use pep440_version::VersionPattern;
+use std::alloc::Global;
+
+// The specifier of its parts, where nothing is left.
+fn with_pattern(
+    alloc: Global,
+    operator: Operator,
+    pattern: VersionPattern,
+    rest: &str,
+) -> Result<VersionSpecifier, ParseErrorKind>
+    ensures { SpecifierGives result (ended (built_pattern operator pattern.0 pattern.1) rest.now) }
+{
+    let specifier = VersionSpecifier::from_pattern(operator, pattern)?;
+    if rest.is_empty() {
+        return Ok(specifier);
+    }
+    Err(ParseErrorKind::InvalidTrailing(String::from_str(alloc, rest)?))
+}
+
+// The same, where the version is yet to be read.
+fn with_version(
+    alloc: Global,
+    operator: Operator,
+    version: &str,
+    rest: &str,
+) -> Result<VersionSpecifier, ParseErrorKind>
+    ensures { SpecifierGives result (if length version.now == 0 then Err MissingVersion else with_pattern operator (read_pattern version.now) rest.now) }
+{
+    if version.is_empty() {
+        return Err(ParseErrorKind::MissingVersion);
+    }
+    match VersionPattern::from_str(alloc, version) {
+        Ok(pattern) => with_pattern(alloc, operator, pattern, rest),
+        Err(error) => Err(ParseErrorKind::of_version(error)),
+    }
+}
+
+// What the text reads as.
+pub(crate) fn specifier(alloc: Global, text: &str) -> Result<VersionSpecifier, ParseErrorKind>
+    ensures { SpecifierGives result (read_specifier text.now) }
+{
+    let (spelled, behind) = split_run(past_blanks(text), Run::Operator);
+    if spelled.is_empty() {
+        return Err(ParseErrorKind::MissingOperator);
+    }
+    let operator = match Operator::from_str(alloc, spelled) {
+        Ok(operator) => operator,
+        Err(error) => return Err(ParseErrorKind::of_operator(error)),
+    };
+    let (version, behind) = split_run(past_blanks(behind), Run::Word);
+    with_version(alloc, operator, version, past_blanks(behind))
+}

@@ -1,0 +1,59 @@
+//! The runs that a text is made of.
+ghost use Rattle.std.specs.Prelude.{◌≡◌};
+ghost use Rattle.std.specs.Char.{is_whitespace};
+ghost use Rattle.std.specs.Str.{chars, encode_utf8_all};
+ghost use Rattle.pep440_version.specs.Reading.{lead, past, EndsWith};
+ghost use Rattle.pep440_rs.specs.SpecifierReading.{passes};
+
+// What a run is made of.
+#[derive(Clone, Copy)]
+pub(crate) enum Run {
+    Blanks,
+    Operator,
+    Word,
+}
+
+impl Run {
+    fn passes(self, c: char) -> bool
+        ensures { result ≡ passes self c }
+    {
+        match self {
+            Run::Blanks => c.is_whitespace(),
+            Run::Operator => matches!(c, '=' | '!' | '~' | '<' | '>'),
+            Run::Word => !c.is_whitespace(),
+        }
+    }
+}
+
+// What follows the longest run at the front.
+fn past_run(text: &str, run: Run) -> &str
+    ensures back { chars result.now ≡ past (passes run) (chars text.now) }
+    ensures ends { EndsWith text.now result.now }
+{
+    let mut characters = text.chars();
+    let mut rest = text;
+    while let Some(c) = characters.next() {
+        if !run.passes(c) {
+            return rest;
+        }
+        rest = characters.as_str();
+    }
+    rest
+}
+
+// The longest run at the front, and what follows it.
+pub(crate) fn split_run(text: &str, run: Run) -> (&str, &str)
+    ensures front { result.0.now ≡ encode_utf8_all (lead (passes run) (chars text.now)) }
+    ensures back { chars result.1.now ≡ past (passes run) (chars text.now) }
+    ensures bytes { result.1.now ≡ encode_utf8_all (past (passes run) (chars text.now)) }
+{
+    let rest = past_run(text, run);
+    text.split_at(text.len() - rest.len())
+}
+
+pub(crate) fn past_blanks(text: &str) -> &str
+    ensures back { chars result.now ≡ past is_whitespace (chars text.now) }
+    ensures bytes { result.now ≡ encode_utf8_all (past is_whitespace (chars text.now)) }
+{
+    split_run(text, Run::Blanks).1
+}
