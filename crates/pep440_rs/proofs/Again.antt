@@ -26,7 +26,7 @@ use Rattle.pep440_rs.proofs.Shown.{begins_still, blank_not_shown, digit_not_oper
 -- ---- what stands before a star
 
 -- a text without its star means the record alone
-unstar : (text : List ℕ) (r : Record) → (h : DerivesStar text r) → Derives (h.w1 ++ (h.v ++ (h.e ++ h.n))) r
+pub unstar : (text : List ℕ) (r : Record) → (h : DerivesStar text r) → Derives (h.w1 ++ (h.v ++ (h.e ++ h.n))) r
 unstar text r h = record {
   w1 = h.w1;
   v = h.v;
@@ -92,7 +92,7 @@ star_print text r h =
 
 -- ---- an operator and a version, with nothing around them
 
-operator_chars : (o : Operator) → list_all is_operator_char (operator_text o) ≡ true
+pub operator_chars : (o : Operator) → list_all is_operator_char (operator_text o) ≡ true
 operator_chars Equal = refl
 operator_chars EqualStar = refl
 operator_chars ExactEqual = refl
@@ -155,7 +155,7 @@ chosen true b x y v s e = cc e
 chosen false true x y v s e = cc e
 chosen false false x y v s e = cc e
 
-built_is : (o : Operator) (r : Record) (s : Spec) → built o r ≡ Ok s → record { operator = o; version = r } ≡ s
+pub built_is : (o : Operator) (r : Record) (s : Spec) → built o r ≡ Ok s → record { operator = o; version = r } ≡ s
 built_is o r s e = chosen (has_local r && not (allows_local o)) (is_compatible o && nat_lt (length r.release) 2) (OperatorLocalCombo o r) CompatibleRelease _ s e
 
 again_star : (o p : Operator) (r : Record) (s : Spec) (u : List ℕ) → is_star o ≡ false → DerivesStar u r → built_pattern o r true ≡ Ok s → built p r ≡ Ok s

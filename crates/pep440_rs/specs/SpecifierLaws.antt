@@ -21,12 +21,13 @@ spec_equiv = eq_by_cmp_equiv spec_total
 pub spec_po : IsPartialOrder (eq_by_cmp spec_cmp) (as_partial_cmp spec_cmp)
 spec_po = po spec_total (λ x y. refl)
 
-first : (r s : Ordering) → ordering_then r s ≡ Equal → r ≡ Equal
+-- both parts of a comparison that ties tie
+pub first : (r s : Ordering) → ordering_then r s ≡ Equal → r ≡ Equal
 first Less s e = absurd (true≢false (sym (ap is_eq e)))
 first Equal s e = refl
 first Greater s e = absurd (true≢false (sym (ap is_eq e)))
 
-second : (r s : Ordering) → ordering_then r s ≡ Equal → s ≡ Equal
+pub second : (r s : Ordering) → ordering_then r s ≡ Equal → s ≡ Equal
 second Less s e = absurd (true≢false (sym (ap is_eq e)))
 second Equal s e = e
 second Greater s e = absurd (true≢false (sym (ap is_eq e)))

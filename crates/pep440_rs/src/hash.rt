@@ -1,8 +1,13 @@
 //! What is given to a hasher, so that equal values are hashed alike.
+ghost use Rattle.std.specs.Prelude.{◌≡◌};
+ghost use Rattle.std.specs.List.{flat_map, fold};
+ghost use Rattle.pep440_rs.specs.ListLaws.{lists_feed_alike};
+ghost use Rattle.pep440_rs.specs.Lists.{feed_list};
 ghost use Rattle.pep440_rs.specs.SpecifierLaws.{specs_feed_alike};
 ghost use Rattle.pep440_rs.specs.Specifiers.{feed_spec};
 
 use crate::specifier::VersionSpecifier;
+use crate::specifiers::VersionSpecifiers;
 use std::hash::{Hash, Hasher};
 
 impl Hash for VersionSpecifier {
@@ -13,5 +18,25 @@ impl Hash for VersionSpecifier {
     fn hash<H: Hasher>(&self, state: &mut H) {
         self.operator().hash(state);
         self.version().hash(state);
+    }
+}
+
+fn hash_members<H: Hasher>(members: &[VersionSpecifier], state: &mut H)
+    ensures { state.new ≡ fold H.write state.old (flat_map feed_spec members.now) }
+{
+    for member in members {
+        member.hash(state);
+    }
+}
+
+impl Hash for VersionSpecifiers {
+    ghost hash_input = { feed_list };
+
+    ghost respects_eq = { lists_feed_alike };
+
+    fn hash<H: Hasher>(&self, state: &mut H) {
+        let members = self.as_slice();
+        state.write_u64(members.len() as u64);
+        hash_members(members, state);
     }
 }

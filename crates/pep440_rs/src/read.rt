@@ -1,12 +1,16 @@
 //! The readers of specifiers.
-ghost use Rattle.std.specs.Prelude.{◌==◌, length, Ok, Err, if◌then◌else◌};
+ghost use Rattle.std.specs.Prelude.{◌==◌, ◌<◌, ◌+◌, ◌^◌, ◌≡◌, ◌++◌, ◌∷◌, [], length, Ok, IfOk, Err, IfErr, if◌then◌else◌};
 ghost use Rattle.pep440_version.specs.Whole.{read_pattern};
 ghost use Rattle.pep440_rs.specs.Build.{built_pattern};
 ghost use Rattle.pep440_rs.specs.Errors.{SpecifierGives};
+ghost use Rattle.pep440_rs.specs.ListErrors.{IsListLifted, IsSpan, MembersGive, PieceGives};
+ghost use Rattle.pep440_rs.specs.ListReading.{read_members};
 ghost use Rattle.pep440_rs.specs.SpecifierGrammar.{MissingVersion};
 ghost use Rattle.pep440_rs.specs.SpecifierReading.{ended, read_specifier, with_pattern};
+ghost use Rattle.pep440_rs.specs.Specifiers.{Spec};
 
-use crate::error::ParseErrorKind;
+use crate::error::{ParseErrorKind, VersionSpecifierParseError};
+use crate::list_error::SpecifiersErrorKind;
 use crate::operator::Operator;
 use crate::scan::{Run, past_blanks, split_run};
 use crate::specifier::VersionSpecifier;
@@ -61,4 +65,69 @@ pub(crate) fn specifier(alloc: Global, text: &str) -> Result<VersionSpecifier, P
     };
     let (version, behind) = split_run(past_blanks(behind), Run::Word);
     with_version(alloc, operator, version, past_blanks(behind))
+}
+
+// What a piece of a list reads as, which begins at this byte.
+fn piece(alloc: Global, start: usize, piece: &str) -> Result<VersionSpecifier, SpecifiersErrorKind>
+    requires { start + length piece.now < 2 ^ 64 }
+    ensures value { PieceGives start piece.now result (read_specifier piece.now) }
+    ensures lifted { IfErr result IsListLifted }
+{
+    match specifier(alloc, piece) {
+        Ok(specifier) => Ok(specifier),
+        Err(ParseErrorKind::OutOfMemory) => Err(SpecifiersErrorKind::OutOfMemory),
+        Err(kind) => Err(SpecifiersErrorKind::Piece {
+            error: VersionSpecifierParseError::from(kind),
+            start,
+            stop: start + piece.len(),
+        }),
+    }
+}
+
+// One more member, which a piece that begins at this byte reads as.
+fn add_piece(
+    alloc: Global,
+    members: &mut Vec<VersionSpecifier>,
+    start: usize,
+    text: &str,
+) -> Result<(), SpecifiersErrorKind>
+    requires { start + length text.now < 2 ^ 64 }
+    ensures added { IfOk result (λ _. (s : Spec) × (read_specifier text.now ≡ Ok s) × (members.new.items ≡ members.old.items ++ s ∷ [])) }
+    ensures refused { IfErr result (λ kind. PieceGives start text.now (Err kind) (read_specifier text.now)) }
+    ensures lifted { IfErr result IsListLifted }
+{
+    let member = match piece(alloc, start, text) {
+        Ok(member) => member,
+        Err(kind) => return Err(kind),
+    };
+    match members.push(member) {
+        Ok(()) => Ok(()),
+        Err(_) => Err(SpecifiersErrorKind::OutOfMemory),
+    }
+}
+
+// The members of a list, in the order of the text.
+pub(crate) fn members(
+    alloc: Global,
+    text: &str,
+) -> Result<Vec<VersionSpecifier>, SpecifiersErrorKind>
+    ensures value { MembersGive (λ v. v.items) result (read_members text.now) }
+    ensures lifted { IfErr result IsListLifted }
+    ensures span { IfErr result (IsSpan text.now) }
+{
+    let mut members = Vec::new(alloc);
+    if text.is_empty() {
+        return Ok(members);
+    }
+    let mut rest = text;
+    while let Some((front, later)) = rest.split_once(',') {
+        if let Err(kind) = add_piece(alloc, &mut members, text.len() - rest.len(), front) {
+            return Err(kind);
+        }
+        rest = later;
+    }
+    match add_piece(alloc, &mut members, text.len() - rest.len(), rest) {
+        Ok(()) => Ok(members),
+        Err(kind) => Err(kind),
+    }
 }

@@ -1,0 +1,11 @@
+use Rattle.pep440_rs.proofs.Kept.{kept_step}
+use Rattle.pep440_rs.specs.Bounds.{range_of}
+use Rattle.pep440_rs.proofs.lists.list_range.Goals as goal
+
+pub loop-member-preserved : goal.loop-member-preserved
+loop-member-preserved c = record {
+  can = tt;
+  ends = tt;
+  kept = kept_step range_of c.loop-member.range c.in_ok-next.next c.in_ok-range-2.range c.in-Some.member _ _ c.args.members.items c.in-Some.ensures.steps.0 c.in_ok-next.ensures.range
+      c.in_ok-range-2.ensures.segments c.loop-member.invariant.kept;
+}

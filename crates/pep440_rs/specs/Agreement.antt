@@ -1,0 +1,134 @@
+-- When the range of a specifier holds exactly the versions that the specifier contains (PEP 440, "Version
+-- specifiers"), and which side stays where it doesn't.
+use Rattle.std.specs.Prelude.{◌≡◌, ◌≢◌, ◌↔◌, ℕ, ◌+◌, ◌≤◌, Bool, true, false, not, ◌&&◌, ◌||◌, List, [], ◌∷◌, Option, Some, None, is_some, IsTrue, count_by, length, if◌then◌else◌}
+use Rattle.std.specs.List.{All, Any, list_all}
+use Rattle.pep440_rs.specs.Bounds.{Segments, range_of, release_range_of, list_range}
+use Rattle.pep440_rs.specs.Matching.{matches, list_matches, same_release, any_prerelease}
+use Rattle.pep440_rs.specs.Specifiers.{Spec}
+use Rattle.pep440_rs.specs.declared.operator.Operator.{Operator}
+use Rattle.pep440_rs.specs.declared.operator.Operator.TheVariants.{Equal, EqualStar, ExactEqual, NotEqual, NotEqualStar, TildeEqual, LessThan, LessThanEqual, GreaterThan, GreaterThanEqual}
+use Rattle.pep440_ranges.specs.Segments.{contains, IsRange}
+use Rattle.pep440_version.specs.Key.{record_cmp}
+use Rattle.pep440_version.specs.Record.{Record, of_release, public_record}
+
+-- ---- what is presupposed of the versions
+
+-- a version without local part and without marks
+pub record IsPlain (v : Record) : Type 0 where
+  pub local : v.local ≡ []
+  pub min : v.min ≡ None
+  pub max : v.max ≡ None
+
+-- a version that a specifier's text can give beside the operator: beside a star a release with its epoch,
+-- beside `==` and `!=` any version, beside the others one without local part; `===` is left out
+abbrev pub IsOperand : Operator → Record → Type 0
+IsOperand Equal s = Unit {0}
+IsOperand NotEqual s = Unit {0}
+IsOperand ExactEqual s = ⊥
+IsOperand EqualStar s = s ≡ public_record s.epoch s.release
+IsOperand NotEqualStar s = s ≡ public_record s.epoch s.release
+IsOperand TildeEqual s = IsPlain s
+IsOperand LessThan s = IsPlain s
+IsOperand LessThanEqual s = IsPlain s
+IsOperand GreaterThan s = IsPlain s
+IsOperand GreaterThanEqual s = IsPlain s
+
+-- a release, with neither pre, post nor dev
+abbrev pub is_final : Record → Bool
+is_final s = not (is_some s.pre) && not (is_some s.post) && not (is_some s.dev)
+
+-- no suffix stands on which range and matching part. For `<`: the two differ in epoch or release, or s isn't
+-- a post-release, or it has pre or dev. For `>`: they differ so, or v isn't a post-release, or s is final
+abbrev pub IsSuffixComparable : Operator → Record → Record → Type 0
+IsSuffixComparable LessThan s v = IsTrue (not (same_release s v) || not (is_some s.post) || any_prerelease s)
+IsSuffixComparable GreaterThan s v = IsTrue (not (same_release s v) || not (is_some v.post) || is_final s)
+IsSuffixComparable _ s v = Unit {0}
+
+-- range and matching can be compared
+pub record IsComparable (op : Operator) (s v : Record) : Type 0 where
+  pub operand : IsOperand op s
+  pub plain : IsPlain v
+  pub suffixes : IsSuffixComparable op s v
+
+-- ---- the whole order
+
+-- the range holds exactly what the specifier contains
+abbrev pub Agrees : Operator → Record → Segments → Type 0
+Agrees op s range = (v : Record) → IsComparable op s v → contains record_cmp range v ≡ matches op s v
+
+-- whatever the suffixes, the range of `<`, and that of `>` a post-release, holds only what matches
+abbrev pub is_narrow : Operator → Record → Bool
+is_narrow LessThan s = true
+is_narrow GreaterThan s = is_some s.post
+is_narrow _ s = false
+
+abbrev pub HoldsOnlyMatches : Operator → Record → Segments → Type 0
+HoldsOnlyMatches op s range = IsTrue (is_narrow op s) → IsPlain s → (v : Record) → IsPlain v → IsTrue (contains record_cmp range v) → IsTrue (matches op s v)
+
+-- and the range of `>` another version holds all that matches
+abbrev pub is_wide : Operator → Record → Bool
+is_wide GreaterThan s = not (is_some s.post)
+is_wide _ s = false
+
+abbrev pub HoldsAllMatches : Operator → Record → Segments → Type 0
+HoldsAllMatches op s range = IsTrue (is_wide op s) → IsPlain s → (v : Record) → IsPlain v → IsTrue (matches op s v) → IsTrue (contains record_cmp range v)
+
+-- of a list: where each member can be compared
+abbrev pub ListAgrees : List Spec → Segments → Type 0
+ListAgrees members range = (v : Record) → All (λ m. IsComparable m.operator m.version v) members → contains record_cmp range v ≡ list_matches members v
+
+-- ---- releases alone
+
+-- a release with epoch 0 and nothing else
+abbrev pub IsReleaseOnly : Record → Type 0
+IsReleaseOnly v = v ≡ of_release v.release
+
+-- specifier and candidate are releases alone, and the operator isn't `===`
+pub record IsReleaseComparable (op : Operator) (s v : Record) : Type 0 where
+  pub operator : op ≢ ExactEqual
+  pub operand : IsReleaseOnly s
+  pub candidate : IsReleaseOnly v
+
+-- the release-only range holds exactly the releases that the specifier contains
+abbrev pub ReleaseAgrees : Operator → Record → Segments → Type 0
+ReleaseAgrees op s range = (v : Record) → IsReleaseComparable op s v → contains record_cmp range v ≡ matches op s v
+
+abbrev pub ReleaseListAgrees : List Spec → Segments → Type 0
+ReleaseListAgrees members range = (v : Record) → All (λ m. IsReleaseComparable m.operator m.version v) members → contains record_cmp range v ≡ list_matches members v
+
+-- ---- lists, by either conversion
+
+-- v lies in the range of the specifier, which isn't refused
+abbrev pub is_held : Option Segments → Record → Bool
+is_held None v = false
+is_held (Some range) v = contains record_cmp range v
+
+-- `!=` and `!=` star, whose range is a complement
+abbrev pub is_exclusion : Operator → Bool
+is_exclusion NotEqual = true
+is_exclusion NotEqualStar = true
+is_exclusion _ = false
+
+abbrev pub exclusions : List Spec → ℕ
+exclusions members = count_by (λ m. is_exclusion m.operator) members
+
+-- the range of a list has at most one segment more than the list has exclusions
+abbrev pub HasFewSegments : List Spec → Segments → Type 0
+HasFewSegments members range = length range ≤ 1 + exclusions members
+
+module _ (conversion : Operator → Record → Option Segments) where
+  -- the segments are valid and apart
+  abbrev pub GivesRanges : Type 0
+  GivesRanges = (op : Operator) (s : Record) (range : Segments) → conversion op s ≡ Some range → IsRange record_cmp range
+
+  -- at most one segment, and at most two of an exclusion
+  abbrev pub GivesFew : Type 0
+  GivesFew = (op : Operator) (s : Record) (range : Segments) → conversion op s ≡ Some range → length range ≤ (if is_exclusion op then 2 else 1)
+
+  -- the range of a list holds what the range of each member holds
+  abbrev pub HoldsInEach : List Spec → Segments → Type 0
+  HoldsInEach members range = (v : Record) → contains record_cmp range v ≡ list_all (λ m. is_held (conversion m.operator m.version) v) members
+
+  -- the list is refused exactly where some member is
+  abbrev pub RefusedByAMember : List Spec → Type 0
+  RefusedByAMember members = (list_range conversion members ≡ None) ↔ Any (λ m. conversion m.operator m.version ≡ None) members

@@ -1,0 +1,75 @@
+-- When the members made of bounds contain exactly the releases within the bounds.
+use Rattle.std.specs.Prelude.{◌≡◌, ◌==◌, Bool, true, false, not, ◌||◌, IsTrue, List, [], ◌∷◌, length}
+use Rattle.std.specs.List.{All}
+use Rattle.std.specs.List.Sorted.{IsPermutation}
+use Rattle.std.specs.Ordering.{is_lt, is_le}
+use Rattle.std.specs.declared.ops.Bound.{Bound}
+use Rattle.std.specs.declared.ops.Bound.TheVariants.{Included, Excluded, Unbounded}
+use Rattle.pep440_rs.specs.Agreement.{IsReleaseOnly}
+use Rattle.pep440_rs.specs.Matching.{list_matches}
+use Rattle.pep440_rs.specs.Specifiers.{Spec}
+use Rattle.pep440_rs.specs.Members.{pair_members, gap_members, list_members}
+use Rattle.pep440_ranges.specs.Bounds.{is_valid, turned}
+use Rattle.pep440_ranges.specs.Segments.{Segment, lies_in, contains}
+use Rattle.pep440_version.specs.Key.{record_cmp}
+use Rattle.pep440_version.specs.Record.{Record}
+
+-- ---- what is presupposed of the bounds
+
+-- the bound's version is a release alone
+abbrev pub IsReleaseBound : Bound Record → Type 0
+IsReleaseBound (Included v) = IsReleaseOnly v
+IsReleaseBound (Excluded v) = IsReleaseOnly v
+IsReleaseBound Unbounded = Unit {0}
+
+abbrev pub IsReleasePair : Segment Record → Type 0
+IsReleasePair p = IsReleaseBound p.0 × IsReleaseBound p.1
+
+-- an end and the next start: the end is below the start, or equal to it and not both are included
+abbrev pub is_followed : Bound Record → Bound Record → Bool
+is_followed Unbounded start = false
+is_followed (Included v) Unbounded = false
+is_followed (Excluded v) Unbounded = false
+is_followed (Included v) (Included w) = is_lt (record_cmp v w)
+is_followed (Included v) (Excluded w) = is_le (record_cmp v w)
+is_followed (Excluded v) (Included w) = is_le (record_cmp v w)
+is_followed (Excluded v) (Excluded w) = is_le (record_cmp v w)
+
+-- the pairs are valid segments, each followed by the next, and the first follows what ends so
+abbrev pub IsOrderedAfter : Bound Record → List (Segment Record) → Type 0
+IsOrderedAfter end [] = Unit {0}
+IsOrderedAfter end (p ∷ pairs) = IsTrue (is_followed end p.0) × IsTrue (is_valid record_cmp p.0 p.1) × IsOrderedAfter p.1 pairs
+
+-- the pairs are valid segments, each followed by the next, and there is one
+abbrev pub IsOrdered : List (Segment Record) → Type 0
+IsOrdered [] = ⊥
+IsOrdered (p ∷ pairs) = IsTrue (is_valid record_cmp p.0 p.1) × IsOrderedAfter p.1 pairs
+
+-- the gap between an end and a start has nothing in it, or gives a member
+abbrev pub is_known_gap : Bound Record → Bound Record → Bool
+is_known_gap end start = not (is_valid record_cmp (turned end) (turned start)) || not (length (gap_members end start) == 0)
+
+abbrev pub KnowsGapsAfter : Bound Record → List (Segment Record) → Type 0
+KnowsGapsAfter end [] = Unit {0}
+KnowsGapsAfter end (p ∷ pairs) = IsTrue (is_known_gap end p.0) × KnowsGapsAfter p.1 pairs
+
+-- so is each gap of the list
+abbrev pub KnowsGaps : List (Segment Record) → Type 0
+KnowsGaps [] = Unit {0}
+KnowsGaps (p ∷ pairs) = KnowsGapsAfter p.1 pairs
+
+-- ---- the statements
+
+-- the members of one pair together contain exactly the releases within it
+abbrev pub PairAgrees : Type 0
+PairAgrees = (p : Segment Record) → IsReleasePair p → (v : Record) → IsReleaseOnly v → list_matches (pair_members p.0 p.1) v ≡ lies_in record_cmp p v
+
+-- the members of a list of pairs, however arranged, contain every release within the pairs
+abbrev pub ContainsWithin : Type 0
+ContainsWithin = (pairs : List (Segment Record)) (members : List Spec) → IsOrdered pairs → All IsReleasePair pairs → IsPermutation (list_members pairs) members →
+    (v : Record) → IsReleaseOnly v → IsTrue (contains record_cmp pairs v) → IsTrue (list_matches members v)
+
+-- and no other release, where each gap is known
+abbrev pub ContainsOnlyWithin : Type 0
+ContainsOnlyWithin = (pairs : List (Segment Record)) (members : List Spec) → IsOrdered pairs → All IsReleasePair pairs → KnowsGaps pairs → IsPermutation (list_members pairs) members →
+    (v : Record) → IsReleaseOnly v → list_matches members v ≡ contains record_cmp pairs v

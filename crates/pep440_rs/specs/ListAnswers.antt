@@ -1,0 +1,30 @@
+-- What a list's reader answers.
+use Rattle.std.specs.Prelude.{◌≡◌, ℕ, List, [], Result, Ok, Err, string_bytes, IfSome}
+use Rattle.pep440_rs.specs.Arrangement.{Arranges}
+use Rattle.pep440_rs.specs.ListErrors.{list_refusal_of}
+use Rattle.pep440_rs.specs.ListGrammar.{PieceRefusal}
+use Rattle.pep440_rs.specs.Specifiers.{Spec}
+use Rattle.pep440_rs.specs.declared.list_error.SpecifiersErrorKind.{SpecifiersErrorKind}
+use Rattle.pep440_rs.specs.declared.list_error.SpecifiersErrorKind.TheVariants.{Piece, OutOfMemory}
+use Rattle.pep440_rs.specs.declared.list_error.VersionSpecifiersParseError.{VersionSpecifiersParseError}
+
+abbrev pub list_kind_of : VersionSpecifiersParseError → SpecifiersErrorKind
+list_kind_of e = e.kind
+
+abbrev pub line_of : VersionSpecifiersParseError → List ℕ
+line_of e = string_bytes e.line
+
+-- the whole text of a refused piece, and nothing where memory ran out
+abbrev pub line_for : List ℕ → SpecifiersErrorKind → List ℕ
+line_for text (Piece error start stop) = text
+line_for text OutOfMemory = []
+
+-- the answer is this outcome, unless memory ran out
+abbrev pub ListAnswers : Result (List Spec) VersionSpecifiersParseError → Result (List Spec) PieceRefusal → Type 0
+ListAnswers (Ok list) outcome = outcome ≡ Ok list
+ListAnswers (Err e) outcome = IfSome (list_refusal_of (list_kind_of e)) (λ f. outcome ≡ Err f)
+
+-- the answer is the arrangement of the members that reading gives, or its refusal, unless memory ran out
+abbrev pub ListReads : Result (List Spec) VersionSpecifiersParseError → Result (List Spec) PieceRefusal → Type 0
+ListReads (Ok list) read = (members : List Spec) × (read ≡ Ok members) × Arranges members list
+ListReads (Err e) read = IfSome (list_refusal_of (list_kind_of e)) (λ f. read ≡ Err f)

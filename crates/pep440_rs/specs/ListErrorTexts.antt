@@ -1,0 +1,28 @@
+-- The text of a list's error: the refusal of the piece, the whole text, and a line that marks the piece.
+use Rattle.std.specs.Prelude.{ℕ, List, ◌++◌, Option, Some, option_map, codes, replicate, chars, false, slice_range}
+use Rattle.unicode_width.specs.Width.{str_width}
+use Rattle.pep440_rs.specs.ErrorTexts.{specifier_refusal_text, specifier_text_of}
+use Rattle.pep440_rs.specs.Errors.{parse_kind_of}
+use Rattle.pep440_rs.specs.ListGrammar.{PieceRefusal}
+use Rattle.pep440_rs.specs.declared.list_error.SpecifiersErrorKind.{SpecifiersErrorKind}
+use Rattle.pep440_rs.specs.declared.list_error.SpecifiersErrorKind.TheVariants.{Piece, OutOfMemory}
+
+-- the columns that a text takes
+abbrev pub columns : List ℕ → ℕ
+columns text = str_width false (chars text)
+
+-- blanks for the columns before the span, and a caret for each of its columns
+abbrev pub caret_line : List ℕ → ℕ → ℕ → List ℕ
+caret_line line start stop = replicate (columns (slice_range line 0 start)) 32 ++ (replicate (columns (slice_range line start stop)) 94 ++ codes "\n")
+
+abbrev pub piece_text : List ℕ → List ℕ → ℕ → ℕ → List ℕ
+piece_text inner line start stop = codes "Failed to parse version: " ++ (inner ++ (codes ":\n" ++ (line ++ (codes "\n" ++ caret_line line start stop))))
+
+-- the text of a refusal
+abbrev pub list_refusal_text : PieceRefusal → List ℕ → List ℕ
+list_refusal_text f line = piece_text (specifier_refusal_text f.error) line f.start f.stop
+
+-- the text of an error
+abbrev pub list_text_of : SpecifiersErrorKind → List ℕ → Option (List ℕ)
+list_text_of (Piece error start stop) line = option_map (λ inner. piece_text inner line start stop) (specifier_text_of (parse_kind_of error))
+list_text_of OutOfMemory line = Some (codes "out of memory")

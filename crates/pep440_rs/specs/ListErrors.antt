@@ -1,0 +1,44 @@
+-- What the kind of a list's error says, apart from where it lies in memory.
+use Rattle.std.specs.Prelude.{◌≡◌, ◌≤◌, ◌+◌, ℕ, List, Option, option_map, None, Result, Ok, Err, IfSome, IsCharBoundary, length}
+use Rattle.pep440_rs.specs.Errors.{parse_kind_of, specifier_refusal_of}
+use Rattle.pep440_rs.specs.ListGrammar.{PieceRefusal}
+use Rattle.pep440_rs.specs.SpecifierGrammar.{SpecifierRefusal}
+use Rattle.pep440_rs.specs.Specifiers.{Spec}
+use Rattle.pep440_rs.specs.declared.list_error.SpecifiersErrorKind.{SpecifiersErrorKind}
+use Rattle.pep440_rs.specs.declared.list_error.SpecifiersErrorKind.TheVariants.{Piece, OutOfMemory}
+
+-- the refusal, or none where memory ran out
+abbrev pub list_refusal_of : SpecifiersErrorKind → Option PieceRefusal
+list_refusal_of (Piece error start stop) = option_map (λ f. record { error = f; start = start; stop = stop }) (specifier_refusal_of (parse_kind_of error))
+list_refusal_of OutOfMemory = None
+
+-- where the piece begins and ends
+abbrev pub start_of : SpecifiersErrorKind → ℕ
+start_of (Piece error start stop) = start
+start_of OutOfMemory = 0
+
+abbrev pub stop_of : SpecifiersErrorKind → ℕ
+stop_of (Piece error start stop) = stop
+stop_of OutOfMemory = 0
+
+-- the piece is a part of the text, and the text may be cut at both its ends
+pub record IsSpan (text : List ℕ) (kind : SpecifiersErrorKind) : Type 0 where
+  pub in_order : start_of kind ≤ stop_of kind
+  pub starts : IsCharBoundary text (start_of kind)
+  pub stops : IsCharBoundary text (stop_of kind)
+
+-- want of memory is said by the last kind, and not inside another
+abbrev pub IsListLifted : SpecifiersErrorKind → Type 0
+IsListLifted kind = list_refusal_of kind ≡ None → kind ≡ OutOfMemory
+
+-- a piece that begins at start was read as reading gives it, unless memory ran out
+abbrev pub PieceGives : ℕ → List ℕ → Result Spec SpecifiersErrorKind → Result Spec SpecifierRefusal → Type 0
+PieceGives start piece (Ok s) read = read ≡ Ok s
+PieceGives start piece (Err OutOfMemory) read = Unit {0}
+PieceGives start piece (Err (Piece error begin end)) read =
+    IfSome (specifier_refusal_of (parse_kind_of error)) (λ f. read ≡ Err f) × (begin ≡ start) × (end ≡ start + length piece)
+
+-- the members, seen by view, were read as reading gives them, unless memory ran out
+abbrev pub MembersGive : {X : Type 0} → (X → List Spec) → Result X SpecifiersErrorKind → Result (List Spec) PieceRefusal → Type 0
+MembersGive view (Ok members) read = read ≡ Ok (view members)
+MembersGive view (Err kind) read = IfSome (list_refusal_of kind) (λ f. read ≡ Err f)

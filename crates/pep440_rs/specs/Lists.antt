@@ -1,0 +1,23 @@
+-- How a list of specifiers is printed, ordered and fed to a hasher.
+use Rattle.std.specs.Prelude.{ℕ, List, [], ◌∷◌, ◌++◌, codes, length}
+use Rattle.std.specs.Cmp.Lexicographic.{slice_cmp}
+use Rattle.std.specs.Hash.{HashWrites, u64}
+use Rattle.std.specs.List.{flat_map}
+use Rattle.std.specs.declared.cmp.Ordering.{Ordering}
+use Rattle.pep440_rs.specs.Specifiers.{Spec, feed_spec, spec_cmp, spec_print}
+
+-- the prints of the members, with this text between them
+abbrev pub joined : List ℕ → List Spec → List ℕ
+joined between [] = []
+joined between (s ∷ rest) = spec_print s ++ flat_map (λ t. between ++ spec_print t) rest
+
+abbrev pub list_print : List Spec → List ℕ
+list_print list = joined (codes ", ") list
+
+-- member by member, and a beginning of a longer list is less
+abbrev pub list_cmp : List Spec → List Spec → Ordering
+list_cmp = slice_cmp spec_cmp
+
+-- the count, then the members
+abbrev pub feed_list : List Spec → HashWrites
+feed_list list = u64 (length list) ++ flat_map feed_spec list

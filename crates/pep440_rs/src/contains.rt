@@ -1,0 +1,88 @@
+//! Whether a specifier contains a version.
+ghost use Rattle.std.specs.Prelude.{◌≡◌, ◌≢◌, length, drop};
+ghost use Rattle.pep440_rs.specs.Matching.{matches, candidate, same_release, begins_with, has_prefix, is_early, is_late};
+ghost use Rattle.pep440_version.specs.Key.{record_cmp};
+
+use crate::compare::{cmp_releases, cmp_without_local};
+use crate::operator::Operator;
+use crate::raised::without_last;
+use pep440_version::Version;
+use std::cmp::Ordering;
+
+// The order of the candidate, without its local part if the specifier has none, and the specifier.
+fn cmp_candidate(specifier: &Version, version: &Version) -> Ordering
+    ensures { result ≡ record_cmp (candidate specifier.now version.now) specifier.now }
+{
+    if specifier.is_local() {
+        version.cmp(specifier)
+    } else {
+        cmp_without_local(version, specifier)
+    }
+}
+
+// The release, padded with zeros, begins with these numbers.
+fn begins_with(numbers: &[u64], prefix: &[u64]) -> bool
+    ensures { result ≡ begins_with numbers.now prefix.now }
+{
+    for i in 0..prefix.len() {
+        let number = if i < numbers.len() { numbers[i] } else { 0 };
+        if number != prefix[i] {
+            return false;
+        }
+    }
+    true
+}
+
+fn has_prefix(specifier: &Version, prefix: &[u64], version: &Version) -> bool
+    ensures { result ≡ has_prefix specifier.now prefix.now version.now }
+{
+    version.epoch() == specifier.epoch() && begins_with(version.release(), prefix)
+}
+
+fn same_release(specifier: &Version, version: &Version) -> bool
+    ensures { result ≡ same_release specifier.now version.now }
+{
+    version.epoch() == specifier.epoch()
+        && cmp_releases(version.release(), specifier.release()) == Ordering::Equal
+}
+
+fn is_early(specifier: &Version, version: &Version) -> bool
+    ensures { result ≡ is_early specifier.now version.now }
+{
+    same_release(specifier, version) && !specifier.any_prerelease() && version.any_prerelease()
+}
+
+fn is_late(specifier: &Version, version: &Version) -> bool
+    ensures { result ≡ is_late specifier.now version.now }
+{
+    same_release(specifier, version)
+        && ((version.is_post() && !specifier.is_post())
+            || (specifier.is_local() && version.is_local()))
+}
+
+/// Whether a specifier of this operator and version contains the candidate (PEP 440, "Version specifiers"). The
+/// operator must not be `===`, which compares prints. Takes no memory.
+pub fn contains(operator: Operator, specifier: &Version, version: &Version) -> bool
+    requires { operator ≢ Operator.ExactEqual }
+    ensures { result ≡ matches operator specifier.now version.now }
+{
+    match operator {
+        Operator::Equal => cmp_candidate(specifier, version) == Ordering::Equal,
+        Operator::NotEqual => cmp_candidate(specifier, version) != Ordering::Equal,
+        Operator::EqualStar => has_prefix(specifier, specifier.release(), version),
+        Operator::NotEqualStar => !has_prefix(specifier, specifier.release(), version),
+        Operator::TildeEqual => {
+            has_prefix(specifier, without_last(specifier.release()), version)
+                && cmp_candidate(specifier, version) != Ordering::Less
+        }
+        Operator::LessThan => {
+            cmp_candidate(specifier, version) == Ordering::Less && !is_early(specifier, version)
+        }
+        Operator::LessThanEqual => cmp_candidate(specifier, version) != Ordering::Greater,
+        Operator::GreaterThan => {
+            cmp_candidate(specifier, version) == Ordering::Greater && !is_late(specifier, version)
+        }
+        Operator::GreaterThanEqual => cmp_candidate(specifier, version) != Ordering::Less,
+        Operator::ExactEqual => false,
+    }
+}

@@ -1,0 +1,68 @@
+//! What holds of matching and of ranges, each as the contract of a function that does nothing.
+ghost use Rattle.std.specs.Prelude.{◌≡◌, Some, List, not};
+ghost use Rattle.pep440_rs.specs.Agreement.{Agrees, HoldsOnlyMatches, HoldsAllMatches, ReleaseAgrees, ListAgrees, ReleaseListAgrees, HoldsInEach, HasFewSegments, RefusedByAMember, GivesRanges, GivesFew};
+ghost use Rattle.pep440_rs.specs.BoundsAgreement.{PairAgrees, ContainsWithin, ContainsOnlyWithin};
+ghost use Rattle.pep440_rs.specs.Bounds.{Segments, range_of, release_range_of, list_range};
+ghost use Rattle.pep440_rs.specs.Matching.{matches};
+ghost use Rattle.pep440_rs.specs.Specifiers.{Spec};
+ghost use Rattle.pep440_version.specs.Record.{Record};
+ghost use Rattle.pep440_rs.specs.Refused.{RefusedAtMax, raised_number, raised_release_number};
+
+use crate::operator::Operator;
+
+/// `!=` contains exactly what `==` doesn't, and `!=` star exactly what `==` star doesn't.
+pub fn exclusions()
+    ensures whole { (s v : Record) → matches Operator.NotEqual s v ≡ not (matches Operator.Equal s v) }
+    ensures star { (s v : Record) → matches Operator.NotEqualStar s v ≡ not (matches Operator.EqualStar s v) }
+{}
+
+/// Where range and matching can be compared, the range holds exactly what the specifier contains; else one side
+/// stays.
+pub fn range_agrees()
+    ensures agrees { (op : Operator) (s : Record) (range : Segments) → range_of op s ≡ Some range → Agrees op s range }
+    ensures within { (op : Operator) (s : Record) (range : Segments) → range_of op s ≡ Some range → HoldsOnlyMatches op s range }
+    ensures around { (op : Operator) (s : Record) (range : Segments) → range_of op s ≡ Some range → HoldsAllMatches op s range }
+{}
+
+/// Of releases alone the release-only range holds exactly what the specifier contains.
+pub fn release_range_agrees()
+    ensures { (op : Operator) (s : Record) (range : Segments) → release_range_of op s ≡ Some range → ReleaseAgrees op s range }
+{}
+
+/// The same of lists, by either conversion.
+pub fn list_agrees()
+    ensures whole { (members : List Spec) (range : Segments) → list_range range_of members ≡ Some range → ListAgrees members range }
+    ensures release { (members : List Spec) (range : Segments) → list_range release_range_of members ≡ Some range → ReleaseListAgrees members range }
+{}
+
+/// The range of a list is the intersection of its members' ranges, and refused exactly where one of them is.
+pub fn list_is_intersection()
+    ensures whole { (members : List Spec) (range : Segments) → list_range range_of members ≡ Some range → HoldsInEach range_of members range }
+    ensures release { (members : List Spec) (range : Segments) → list_range release_range_of members ≡ Some range → HoldsInEach release_range_of members range }
+    ensures refused { (members : List Spec) → RefusedByAMember range_of members }
+    ensures release_refused { (members : List Spec) → RefusedByAMember release_range_of members }
+{}
+
+/// Each conversion gives a range, and ranges stay small.
+pub fn ranges_stay_small()
+    ensures apart { GivesRanges range_of }
+    ensures few { GivesFew range_of }
+    ensures release_apart { GivesRanges release_range_of }
+    ensures release_few { GivesFew release_range_of }
+    ensures whole { (members : List Spec) (range : Segments) → list_range range_of members ≡ Some range → HasFewSegments members range }
+    ensures release { (members : List Spec) (range : Segments) → list_range release_range_of members ≡ Some range → HasFewSegments members range }
+{}
+
+/// A conversion is refused exactly where a number to be raised is the greatest there is.
+pub fn refused_at_max()
+    ensures whole { RefusedAtMax range_of raised_number }
+    ensures release { RefusedAtMax release_range_of raised_release_number }
+{}
+
+/// The members made of bounds contain the releases within the bounds: those of one pair exactly these, those of
+/// a list of pairs all of these, and no other where each gap is known.
+pub fn bounds_agree()
+    ensures pair { PairAgrees }
+    ensures all { ContainsWithin }
+    ensures only { ContainsOnlyWithin }
+{}

@@ -1,0 +1,86 @@
+//! The range of a list of specifiers, by either conversion.
+ghost use Rattle.std.specs.Prelude.{◌≡◌, IfOk, IsErrOf, Some, None};
+ghost use Rattle.pep440_rs.specs.Agreement.{ListAgrees, ReleaseListAgrees, HoldsInEach, HasFewSegments};
+ghost use Rattle.pep440_rs.specs.Bounds.{range_of, release_range_of, list_range};
+
+use crate::convert::specifier_to_range;
+use crate::range_error::RangeError;
+use crate::release_only::release_specifier_to_range;
+use crate::specifier::VersionSpecifier;
+use crate::specifiers::VersionSpecifiers;
+use pep440_ranges::Ranges;
+use pep440_version::Version;
+use std::alloc::Global;
+
+// The intersection of the members' ranges, in the list's order.
+fn list_range(alloc: Global, members: Vec<VersionSpecifier>) -> Result<Ranges<Version>, RangeError>
+    ensures range { IfOk result (λ r. list_range range_of members.items ≡ Some r) }
+    ensures refused { IsErrOf result RangeError.NumberAtMax → list_range range_of members.items ≡ None }
+{
+    let mut range = Ranges::full(alloc)?;
+    for member in members {
+        let next = specifier_to_range(alloc, member)?;
+        range = range.intersection(alloc, &next)?;
+    }
+    Ok(range)
+}
+
+/// The range of a list: all versions, intersected with each member's range in the list's order.
+///
+/// Takes memory. Answers `NumberAtMax` where that is the answer of some member, also where the members before it
+/// leave no version, and `OutOfMemory` where memory is refused.
+pub fn specifiers_to_ranges(
+    alloc: Global,
+    specifiers: VersionSpecifiers,
+) -> Result<Ranges<Version>, RangeError>
+    ensures range { IfOk result (λ r. list_range range_of specifiers ≡ Some r) }
+    ensures refused { IsErrOf result RangeError.NumberAtMax → list_range range_of specifiers ≡ None }
+    // It holds exactly what the list contains, where range and matching of each member can be compared.
+    ensures agrees { IfOk result (λ r. ListAgrees specifiers r) }
+    // It holds what the range of each member holds.
+    ensures set { IfOk result (λ r. HoldsInEach range_of specifiers r) }
+    // It has at most one segment more than the list has exclusions.
+    ensures count { IfOk result (λ r. HasFewSegments specifiers r) }
+{
+    let members = specifiers.into_members();
+    let range = list_range(alloc, members)?;
+    Ok(range)
+}
+
+// The same by releases alone.
+fn release_list_range(
+    alloc: Global,
+    members: Vec<VersionSpecifier>,
+) -> Result<Ranges<Version>, RangeError>
+    ensures range { IfOk result (λ r. list_range release_range_of members.items ≡ Some r) }
+    ensures refused { IsErrOf result RangeError.NumberAtMax → list_range release_range_of members.items ≡ None }
+{
+    let mut range = Ranges::full(alloc)?;
+    for member in members {
+        let next = release_specifier_to_range(alloc, member)?;
+        range = range.intersection(alloc, &next)?;
+    }
+    Ok(range)
+}
+
+/// The release-only range of a list: all versions, intersected with each member's in the list's order.
+///
+/// Takes memory. Answers `NumberAtMax` where that is the answer of some member, also where the members before it
+/// leave no version, and `OutOfMemory` where memory is refused.
+pub fn release_specifiers_to_ranges(
+    alloc: Global,
+    specifiers: VersionSpecifiers,
+) -> Result<Ranges<Version>, RangeError>
+    ensures range { IfOk result (λ r. list_range release_range_of specifiers ≡ Some r) }
+    ensures refused { IsErrOf result RangeError.NumberAtMax → list_range release_range_of specifiers ≡ None }
+    // Of releases alone it holds exactly what the list contains.
+    ensures agrees { IfOk result (λ r. ReleaseListAgrees specifiers r) }
+    // It holds what the range of each member holds.
+    ensures set { IfOk result (λ r. HoldsInEach release_range_of specifiers r) }
+    // It has at most one segment more than the list has exclusions.
+    ensures count { IfOk result (λ r. HasFewSegments specifiers r) }
+{
+    let members = specifiers.into_members();
+    let range = release_list_range(alloc, members)?;
+    Ok(range)
+}
