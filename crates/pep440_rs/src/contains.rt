@@ -1,12 +1,17 @@
-//! Whether a specifier contains a version.
-ghost use Rattle.std.specs.Prelude.{◌≡◌, ◌≢◌, length, drop};
-ghost use Rattle.pep440_rs.specs.Matching.{matches, candidate, same_release, begins_with, has_prefix, is_early, is_late};
+//! Whether a specifier or a list contains a version.
+ghost use Rattle.std.specs.Prelude.{◌≡◌, ◌≢◌, length, drop, not, IfOk, IsOk};
+ghost use Rattle.std.specs.List.{All};
+ghost use Rattle.pep440_rs.specs.Matching.{matches, list_matches, candidate, same_release, begins_with, has_prefix, is_early, is_late};
+ghost use Rattle.pep440_rs.specs.declared.operator.Operator.TheVariants.{Equal, EqualStar, ExactEqual, NotEqual, NotEqualStar};
 ghost use Rattle.pep440_version.specs.Key.{record_cmp};
 
 use crate::compare::{cmp_releases, cmp_without_local};
 use crate::operator::Operator;
 use crate::raised::without_last;
+use crate::specifier::VersionSpecifier;
+use crate::specifiers::VersionSpecifiers;
 use pep440_version::Version;
+use std::alloc::{AllocError, Global};
 use std::cmp::Ordering;
 
 // The order of the candidate, without its local part if the specifier has none, and the specifier.
@@ -60,9 +65,8 @@ fn is_late(specifier: &Version, version: &Version) -> bool
             || (specifier.is_local() && version.is_local()))
 }
 
-/// Whether a specifier of this operator and version contains the candidate (PEP 440, "Version specifiers"). The
-/// operator must not be `===`, which compares prints. Takes no memory.
-pub fn contains(operator: Operator, specifier: &Version, version: &Version) -> bool
+// Whether a specifier of this operator, which is not `===`, contains the candidate.
+fn holds(operator: Operator, specifier: &Version, version: &Version) -> bool
     requires { operator ≢ Operator.ExactEqual }
     ensures { result ≡ matches operator specifier.now version.now }
 {
@@ -84,5 +88,44 @@ pub fn contains(operator: Operator, specifier: &Version, version: &Version) -> b
         }
         Operator::GreaterThanEqual => cmp_candidate(specifier, version) != Ordering::Less,
         Operator::ExactEqual => false,
+    }
+}
+
+impl VersionSpecifier {
+    /// Whether the specifier contains the version (PEP 440, "Version specifiers"). A specifier whose version has no
+    /// local part looks past that of the candidate.
+    ///
+    /// Takes memory for `===` alone, which compares prints; with any other operator it always answers.
+    pub fn contains(&self, alloc: Global, version: &Version) -> Result<bool, AllocError>
+        ensures value { IfOk result (λ b. b ≡ matches self.now.operator self.now.version version.now) }
+        ensures answered { self.now.operator ≢ ExactEqual → IsOk result }
+        // `!=` contains exactly what `==` does not, and `!=` star exactly what `==` star does not.
+        ensures excluded { self.now.operator ≡ NotEqual → IfOk result (λ b. b ≡ not (matches Equal self.now.version version.now)) }
+        ensures excluded_star { self.now.operator ≡ NotEqualStar → IfOk result (λ b. b ≡ not (matches EqualStar self.now.version version.now)) }
+    {
+        if *self.operator() == Operator::ExactEqual {
+            let wanted = self.version().to_string(alloc)?;
+            let found = version.to_string(alloc)?;
+            return Ok(wanted == found);
+        }
+        Ok(holds(*self.operator(), self.version(), version))
+    }
+}
+
+impl VersionSpecifiers {
+    /// Whether each member contains the version; so the empty list contains every version. The first member that
+    /// does not, or that lacks memory, decides (PEP 440, "Version specifiers").
+    ///
+    /// Takes memory for members with `===` alone; where there are none it always answers.
+    pub fn contains(&self, alloc: Global, version: &Version) -> Result<bool, AllocError>
+        ensures value { IfOk result (λ b. b ≡ list_matches self.now version.now) }
+        ensures answered { All (λ m. m.operator ≢ ExactEqual) self.now → IsOk result }
+    {
+        for member in self.as_slice() {
+            if !member.contains(alloc, version)? {
+                return Ok(false);
+            }
+        }
+        Ok(true)
     }
 }
