@@ -1,6 +1,7 @@
 pub mod Bytes
+pub mod Filtered
 pub mod Items
 pub mod Numbers
 pub mod Refused
+pub mod Segments
 pub mod Texts
-pub mod Meanings

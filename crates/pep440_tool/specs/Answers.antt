@@ -1,23 +1,36 @@
--- What the program answers to its words.
-use Rattle.std.specs.Prelude.{ℕ, List, [], ◌∷◌, ◌++◌, Bool, false, codes, bytes_eq, Result, Ok, Err, if◌then◌else◌}
+-- What the program answers: bytes and a status. Each command's answer is told by what its words mean.
+use Rattle.std.specs.Prelude.{◌≡◌, ◌⊎◌, ℕ, List, [], ◌∷◌, ◌++◌, Bool, true, false, codes, map, Option, Some, None, Result, Ok, Err}
 use Rattle.std.specs.Fmt.{decimal}
+use Rattle.std.specs.List.{flat_map}
 use Rattle.std.specs.declared.cmp.Ordering.{Ordering}
 use Rattle.std.specs.declared.cmp.Ordering.TheVariants.{Less, Equal, Greater}
-use Rattle.pep440_version.specs.declared.change.ChangeError.{ChangeError}
-use Rattle.std.specs.Result.{result_map_both}
+use Rattle.std.specs.declared.ops.Bound.{Bound}
+use Rattle.std.specs.declared.ops.Bound.TheVariants.{Included, Excluded, Unbounded}
+use Rattle.pep440_ranges.specs.Segments.{Segment}
+use Rattle.pep440_rs.specs.Bounds.{Segments, range_of, list_range}
+use Rattle.pep440_rs.specs.ListErrorTexts.{list_refusal_text}
+use Rattle.pep440_rs.specs.ListGrammar.{DerivesList, PieceRefusal, RefusesList}
+use Rattle.pep440_rs.specs.Matching.{list_matches}
+use Rattle.pep440_rs.specs.Specifiers.{Spec}
 use Rattle.pep440_version.specs.Changes.{Edit, changed_all}
 use Rattle.pep440_version.specs.ErrorTexts.{refusal_text, change_error_text}
+use Rattle.pep440_version.specs.Grammar.{Derives}
 use Rattle.pep440_version.specs.Key.{record_cmp}
 use Rattle.pep440_version.specs.Print.{print, marked}
 use Rattle.pep440_version.specs.Record.{Record}
-use Rattle.pep440_version.specs.Whole.{read_version}
+use Rattle.pep440_version.specs.Refusals.{Refusal, Refuses}
+use Rattle.pep440_version.specs.declared.change.ChangeError.{ChangeError}
 use Rattle.pep440_tool.specs.ChangeWords.{changes_of}
-use Rattle.pep440_tool.specs.Texts.{line, usage_text}
+use Rattle.pep440_tool.specs.Texts.{line, lines_of, usage_text}
 
 -- what is written, and the status of the process
 pub record ToolAnswer : Type 0 where
   pub output : List ℕ
   pub status : ℕ
+
+-- answered: the texts, each as a line
+abbrev pub shown_lines : List (List ℕ) → ToolAnswer
+shown_lines texts = record { output = lines_of texts; status = 0 }
 
 -- answered: the text as a line
 abbrev pub shown : List ℕ → ToolAnswer
@@ -27,32 +40,46 @@ shown text = record { output = line text; status = 0 }
 abbrev pub refused : List ℕ → ToolAnswer
 refused text = record { output = line (codes "error: " ++ text); status = 1 }
 
+-- refused: the text of a list's fault ends its own lines
+abbrev pub refused_list : List ℕ → ToolAnswer
+refused_list text = record { output = codes "error: " ++ text; status = 1 }
+
 -- no such command, or a wrong number of words
 abbrev pub usage_answer : ToolAnswer
 usage_answer = record { output = usage_text; status = 2 }
 
--- goes on with what was read, or ends with the answer that refuses it
-abbrev pub go_on : {A : Type 0} → Result A ToolAnswer → (A → ToolAnswer) → ToolAnswer
-go_on (Ok x) next = next x
-go_on (Err answer) next = answer
+-- ---- words that mean something, or are refused
 
--- the record that a word means; a word that means none is refused
-unfoldable pub record_of : List ℕ → Result Record ToolAnswer
-record_of word = result_map_both (λ r. r) (λ f. refused (refusal_text f)) (read_version word)
+-- the answer says why the word means no version
+abbrev pub RefusesWord : List ℕ → ToolAnswer → Type 0
+RefusesWord word a = (f : Refusal) × Refuses word f × (a ≡ refused (refusal_text f))
+
+-- the word means a version of which this holds, or the answer says why it means none
+abbrev pub Reads : List ℕ → (Record → Type 0) → ToolAnswer → Type 0
+Reads word Then a = ((r : Record) × Derives word r × Then r) ⊎ RefusesWord word a
+
+-- the answer says why the word means no list
+abbrev pub RefusesListWord : List ℕ → ToolAnswer → Type 0
+RefusesListWord word a = (f : PieceRefusal) × RefusesList word f × (a ≡ refused_list (list_refusal_text f word))
+
+-- the word means a list of which this holds, or the answer says why it means none
+abbrev pub ReadsList : List ℕ → (List Spec → Type 0) → ToolAnswer → Type 0
+ReadsList word Then a = ((list : List Spec) × DerivesList word list × Then list) ⊎ RefusesListWord word a
+
+-- ---- versions
 
 -- `show V`: the print of V
-abbrev pub show_answer : List ℕ → ToolAnswer
-show_answer text = go_on (record_of text) (λ r. shown (print r))
+abbrev pub ShowAnswer : List ℕ → ToolAnswer → Type 0
+ShowAnswer text a = Reads text (λ r. a ≡ shown (print r)) a
 
 abbrev pub sign_of : Ordering → List ℕ
 sign_of Less = codes "<"
 sign_of Equal = codes "="
 sign_of Greater = codes ">"
 
--- `compare A B`: how A stands to B
-abbrev pub compare_answer : List ℕ → List ℕ → ToolAnswer
-compare_answer left right =
-    go_on (record_of left) (λ r. go_on (record_of right) (λ q. shown (sign_of (record_cmp r q))))
+-- `compare A B`: how A stands to B; A is read first
+abbrev pub CompareAnswer : List ℕ → List ℕ → ToolAnswer → Type 0
+CompareAnswer left right a = Reads left (λ r. Reads right (λ q. a ≡ shown (sign_of (record_cmp r q))) a) a
 
 -- the print, and then the marks that it leaves out
 abbrev pub marked_print : Record → List ℕ
@@ -66,47 +93,49 @@ edited_answer (Err e) = refused (change_error_text e)
 abbrev pub not_a_change_text : ℕ → List ℕ
 not_a_change_text place = codes "change " ++ (decimal place ++ codes ": not a change")
 
--- the changes that words ask for; a word that asks for none is refused by its place
-unfoldable pub edits_of : List (List ℕ) → Result (List Edit) ToolAnswer
-edits_of words = result_map_both (λ edits. edits) (λ place. refused (not_a_change_text place)) (changes_of 1 words)
+-- the version after the changes; before one is made, a word that asks for none is refused by its place
+abbrev pub changed_answer : Record → Result (List Edit) ℕ → ToolAnswer
+changed_answer r (Ok edits) = edited_answer (changed_all 1 r edits)
+changed_answer r (Err place) = refused (not_a_change_text place)
 
--- `edit V CHANGE..`: all words are read before a change is made
-abbrev pub edit_answer : List ℕ → List (List ℕ) → ToolAnswer
-edit_answer text words =
-    go_on (record_of text) (λ r. go_on (edits_of words) (λ edits. edited_answer (changed_all 1 r edits)))
+-- `edit V CHANGE..`: V is read, then all the words, and then the changes are made
+abbrev pub EditAnswer : List ℕ → List (List ℕ) → ToolAnswer → Type 0
+EditAnswer text words a = Reads text (λ r. a ≡ changed_answer r (changes_of 1 words)) a
 
--- the words after the command, where their number is right
-abbrev pub show_words : List (List ℕ) → ToolAnswer
-show_words [] = usage_answer
-show_words (text ∷ []) = show_answer text
-show_words (text ∷ more ∷ rest) = usage_answer
+-- ---- lists of specifiers
 
-abbrev pub compare_with : List ℕ → List (List ℕ) → ToolAnswer
-compare_with left [] = usage_answer
-compare_with left (right ∷ []) = compare_answer left right
-compare_with left (right ∷ more ∷ rest) = usage_answer
+abbrev pub yes_or_no : Bool → List ℕ
+yes_or_no true = codes "yes"
+yes_or_no false = codes "no"
 
-abbrev pub compare_words : List (List ℕ) → ToolAnswer
-compare_words [] = usage_answer
-compare_words (left ∷ words) = compare_with left words
+-- `match SPECS V`: whether the list contains the version; SPECS is read first
+abbrev pub MatchAnswer : List ℕ → List ℕ → ToolAnswer → Type 0
+MatchAnswer specifiers text a = ReadsList specifiers (λ list. Reads text (λ r. a ≡ shown (yes_or_no (list_matches list r))) a) a
 
-abbrev pub edit_words : List (List ℕ) → ToolAnswer
-edit_words [] = usage_answer
-edit_words (text ∷ changes) = edit_answer text changes
+-- where a segment begins: square for included, round for excluded; a side that is open is a star
+abbrev pub start_text : Bound Record → List ℕ
+start_text (Included v) = codes "[" ++ marked_print v
+start_text (Excluded v) = codes "(" ++ marked_print v
+start_text Unbounded = codes "(*"
 
--- a command and the words after it
-abbrev pub command_answer : List ℕ → List (List ℕ) → ToolAnswer
-command_answer command words =
-    if bytes_eq command (codes "show") then show_words words
-    else if bytes_eq command (codes "compare") then compare_words words
-    else if bytes_eq command (codes "edit") then edit_words words
-    else usage_answer
+abbrev pub end_text : Bound Record → List ℕ
+end_text (Included v) = marked_print v ++ codes "]"
+end_text (Excluded v) = marked_print v ++ codes ")"
+end_text Unbounded = codes "*)"
 
--- the answer to words and the bytes of the input
-abbrev pub answer_of : List (List ℕ) → List ℕ → ToolAnswer
-answer_of [] input = usage_answer
-answer_of (command ∷ words) input = command_answer command words
+abbrev pub segment_text : Segment Record → List ℕ
+segment_text s = start_text s.0 ++ (codes ", " ++ end_text s.1)
 
--- whether these words want the input: no command reads it yet
-abbrev pub needs_input : List (List ℕ) → Bool
-needs_input words = false
+-- the segments, a line each
+abbrev pub segments_answer : Segments → ToolAnswer
+segments_answer [] = shown (codes "empty")
+segments_answer (s ∷ rest) = shown_lines (map segment_text (s ∷ rest))
+
+-- or that a number would have to be raised that can't be
+abbrev pub range_answer : Option Segments → ToolAnswer
+range_answer (Some range) = segments_answer range
+range_answer None = refused (codes "a number of 18446744073709551615 cannot be raised")
+
+-- `range SPECS`: the range of the list
+abbrev pub RangeAnswer : List ℕ → ToolAnswer → Type 0
+RangeAnswer specifiers a = ReadsList specifiers (λ list. a ≡ range_answer (list_range range_of list)) a

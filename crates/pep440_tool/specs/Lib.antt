@@ -1,6 +1,7 @@
 pub mod Texts
 pub mod ChangeWords
 pub mod Answers
+pub mod Lines
+pub mod Commands
 pub mod Runs
 pub mod Said
-pub mod Meanings

@@ -1,7 +1,8 @@
 -- How a run of the program may end.
 use Rattle.std.specs.Prelude.{◌≡◌, ℕ, ◌≤◌, ◌⊎◌, Bool, true, false, List, [], ◌++◌, Option}
 use Rattle.std.specs.Io.KnownBytes.{Consumes, Appends, IsAtEnd}
-use Rattle.pep440_tool.specs.Answers.{answer_of, needs_input}
+use Rattle.pep440_tool.specs.Answers.{ToolAnswer}
+use Rattle.pep440_tool.specs.Commands.{IsAnswer, asked, reads_input}
 use Rattle.pep440_tool.specs.Texts.{memory_text}
 
 -- a beginning of `all` was written, which may be nothing or the whole
@@ -21,15 +22,19 @@ module _ {R W : Type 0} (remaining : R → Option (List ℕ)) (contents : W → 
   -- the answer was written, and its status is the result
   pub record IsAnswered (words : List (List ℕ)) (reader reader' : R) (writer writer' : W) (status : ℕ) : Type 0 where
     pub input : List ℕ
-    pub took : TookInput (needs_input words) reader reader' input
-    pub wrote : Appends (contents writer) (contents writer') (answer_of words input).output
-    pub ended : status ≡ (answer_of words input).status
+    pub took : TookInput (reads_input (asked words)) reader reader' input
+    pub answer : ToolAnswer
+    pub is : IsAnswer (asked words) input answer
+    pub wrote : Appends (contents writer) (contents writer') answer.output
+    pub ended : status ≡ answer.status
 
   -- a beginning of the answer was written, once the input was read
   pub record IsCutAnswer (words : List (List ℕ)) (reader reader' : R) (writer writer' : W) : Type 0 where
     pub input : List ℕ
-    pub took : TookInput (needs_input words) reader reader' input
-    pub wrote : WroteFront (contents writer) (contents writer') (answer_of words input).output
+    pub took : TookInput (reads_input (asked words)) reader reader' input
+    pub answer : ToolAnswer
+    pub is : IsAnswer (asked words) input answer
+    pub wrote : WroteFront (contents writer) (contents writer') answer.output
 
   -- by its status, what a run read and wrote
   pub record RunEnds (words : List (List ℕ)) (reader reader' : R) (writer writer' : W) (status : ℕ) : Type 0 where
@@ -37,4 +42,4 @@ module _ {R W : Type 0} (remaining : R → Option (List ℕ)) (contents : W → 
     pub answered : status ≤ 2 → IsAnswered words reader reader' writer writer' status
     pub memory : status ≡ 3 → Appends (contents writer) (contents writer') memory_text
     pub failed : status ≡ 4 → IsCutAnswer words reader reader' writer writer' ⊎ WroteFront (contents writer) (contents writer') memory_text
-    pub unread : needs_input words ≡ false → reader' ≡ reader
+    pub unread : reads_input (asked words) ≡ false → reader' ≡ reader

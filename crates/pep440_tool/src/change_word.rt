@@ -7,7 +7,7 @@ ghost use Rattle.pep440_tool.specs.ChangeWords.{is_run, number_of, after, of_kin
 ghost use Rattle.pep440_version.specs.Changes.{edit};
 ghost use Rattle.pep440_version.specs.Segments.{segment};
 
-use pep440_version::{Change, LocalSegment, Prerelease, PrereleaseKind};
+use pep440_rs::{Change, LocalSegment, Prerelease, PrereleaseKind};
 use std::alloc::{AllocError, Global};
 
 fn is_digits(text: &str) -> bool

@@ -1,15 +1,16 @@
 // The command `edit`.
 ghost use Rattle.std.specs.Prelude.{◌≡◌, map, string_bytes, IfOk};
 ghost use Rattle.std.specs.Result.{result_map_both};
-ghost use Rattle.pep440_tool.specs.Answers.{edit_answer, edits_of, not_a_change_text, refused, marked_print, edited_answer};
+ghost use Rattle.pep440_tool.specs.Answers.{EditAnswer, edited_answer, not_a_change_text, refused};
 ghost use Rattle.pep440_tool.specs.ChangeWords.{changes_of};
 ghost use Rattle.pep440_tool.specs.Said.{said};
 ghost use Rattle.pep440_version.specs.Changes.{changed_all, edit};
 
 use crate::change_word::change;
 use crate::output::{Answer, refused, shown};
+use crate::printing::marked_print;
 use crate::reading::read;
-use pep440_version::{Change, ChangeError, Version};
+use pep440_rs::{Change, ChangeError, Version};
 use std::alloc::{AllocError, Global};
 
 /// The answer that refuses a word by its place.
@@ -34,31 +35,6 @@ fn find_changes(alloc: Global, words: &[String]) -> Result<Result<Vec<Change>, u
     Ok(Ok(changes))
 }
 
-/// The changes that the words ask for, or the answer that refuses a word.
-#[tactic(auto, unfolding(crate::specs::Answers::edits_of))]
-fn changes(alloc: Global, words: &[String]) -> Result<Result<Vec<Change>, Answer>, AllocError>
-    ensures { IfOk result (λ r. result_map_both (λ v. map edit v.items) said r ≡ edits_of (map string_bytes words.now)) }
-{
-    match find_changes(alloc, words)? {
-        Ok(changes) => Ok(Ok(changes)),
-        Err(place) => Ok(Err(not_a_change(alloc, place)?)),
-    }
-}
-
-/// The print, and then the marks that it leaves out.
-fn marked_print(alloc: Global, version: &Version) -> Result<String, AllocError>
-    ensures { IfOk result (λ t. string_bytes t ≡ marked_print version.now) }
-{
-    let mut text = version.to_string(alloc)?;
-    if let Some(min) = version.min() {
-        text.push_str(format!(in alloc; "~min{min}")?.as_str())?;
-    }
-    if let Some(max) = version.max() {
-        text.push_str(format!(in alloc; "~max{max}")?.as_str())?;
-    }
-    Ok(text)
-}
-
 /// The version after the changes, or why they can't be made.
 fn edited(alloc: Global, version: Version, changes: &[Change]) -> Result<Answer, AllocError>
     ensures { IfOk result (λ a. said a ≡ edited_answer (changed_all 1 version (map edit changes.now))) }
@@ -72,14 +48,14 @@ fn edited(alloc: Global, version: Version, changes: &[Change]) -> Result<Answer,
 
 /// `edit V CHANGE..`: all words are read before a change is made.
 pub fn edit(alloc: Global, word: &str, words: &[String]) -> Result<Answer, AllocError>
-    ensures { IfOk result (λ a. said a ≡ edit_answer word.now (map string_bytes words.now)) }
+    ensures { IfOk result (λ a. EditAnswer word.now (map string_bytes words.now) (said a)) }
 {
     let version = match read(alloc, word)? {
         Ok(version) => version,
         Err(answer) => return Ok(answer),
     };
-    match changes(alloc, words)? {
+    match find_changes(alloc, words)? {
         Ok(changes) => edited(alloc, version, changes.as_slice()),
-        Err(answer) => Ok(answer),
+        Err(place) => not_a_change(alloc, place),
     }
 }

@@ -4,8 +4,11 @@
 mod change_word;
 mod command;
 mod editing;
+mod filtering;
 mod output;
+mod printing;
 mod program;
+mod ranging;
 mod reading;
 mod stream;
 

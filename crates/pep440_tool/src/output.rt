@@ -1,7 +1,7 @@
 // What the program writes, and its status.
-ghost use Rattle.std.specs.Prelude.{◌≡◌, IfOk, ◌++◌, codes};
+ghost use Rattle.std.specs.Prelude.{◌≡◌, IfOk, ◌++◌, codes, string_bytes};
 ghost use Rattle.pep440_tool.specs.Said.{said};
-ghost use Rattle.pep440_tool.specs.Answers.{shown, refused, usage_answer};
+ghost use Rattle.pep440_tool.specs.Answers.{shown, refused, refused_list, usage_answer};
 
 use std::alloc::{AllocError, Global};
 
@@ -24,6 +24,16 @@ pub fn shown(alloc: Global, text: &str) -> Result<Answer, AllocError>
     Ok(Answer { output, status: 0 })
 }
 
+/// The text, which is made of whole lines, with status 0.
+pub fn shown_lines(text: String) -> Answer
+    ensures { said result ≡ record { output = string_bytes text; status = 0 } }
+{
+    Answer {
+        output: text.into_bytes(),
+        status: 0,
+    }
+}
+
 /// The fault as a line, with status 1.
 pub fn refused(alloc: Global, text: &str) -> Result<Answer, AllocError>
     ensures { IfOk result (λ a. said a ≡ refused text.now) }
@@ -31,6 +41,15 @@ pub fn refused(alloc: Global, text: &str) -> Result<Answer, AllocError>
     let mut output = Vec::from_slice(alloc, b"error: ")?;
     output.extend_from_slice(text.as_bytes())?;
     output.push(b'\n')?;
+    Ok(Answer { output, status: 1 })
+}
+
+/// The fault of a list, which ends its own lines, with status 1.
+pub fn refused_list(alloc: Global, text: &str) -> Result<Answer, AllocError>
+    ensures { IfOk result (λ a. said a ≡ refused_list text.now) }
+{
+    let mut output = Vec::from_slice(alloc, b"error: ")?;
+    output.extend_from_slice(text.as_bytes())?;
     Ok(Answer { output, status: 1 })
 }
 

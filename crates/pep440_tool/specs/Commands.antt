@@ -1,0 +1,60 @@
+-- What words ask for, and the answer to it.
+use Rattle.std.specs.Prelude.{◌≡◌, ℕ, List, [], ◌∷◌, Bool, true, false, codes, bytes_eq, if◌then◌else◌}
+use Rattle.pep440_tool.specs.Answers.{ToolAnswer, CompareAnswer, EditAnswer, MatchAnswer, RangeAnswer, ShowAnswer, usage_answer}
+use Rattle.pep440_tool.specs.Lines.{FilterAnswer}
+
+-- what words ask for; the usage line where there is no such command, or the number of words is wrong
+pub data Asked : Type 0 where
+  Show : List ℕ → Asked
+  Compare : List ℕ → List ℕ → Asked
+  Match : List ℕ → List ℕ → Asked
+  Edit : List ℕ → List (List ℕ) → Asked
+  Range : List ℕ → Asked
+  Filter : List ℕ → Asked
+  Usage : Asked
+
+-- a command of one word, of two, and of one and any number more
+abbrev pub one : (List ℕ → Asked) → List (List ℕ) → Asked
+one command [] = Usage
+one command (a ∷ []) = command a
+one command (a ∷ b ∷ rest) = Usage
+
+abbrev pub two : (List ℕ → List ℕ → Asked) → List (List ℕ) → Asked
+two command [] = Usage
+two command (a ∷ []) = Usage
+two command (a ∷ b ∷ []) = command a b
+two command (a ∷ b ∷ c ∷ rest) = Usage
+
+abbrev pub one_or_more : (List ℕ → List (List ℕ) → Asked) → List (List ℕ) → Asked
+one_or_more command [] = Usage
+one_or_more command (a ∷ rest) = command a rest
+
+-- a command and the words after it
+abbrev pub asked_by : List ℕ → List (List ℕ) → Asked
+asked_by command words =
+    if bytes_eq command (codes "show") then one Show words
+    else if bytes_eq command (codes "compare") then two Compare words
+    else if bytes_eq command (codes "match") then two Match words
+    else if bytes_eq command (codes "edit") then one_or_more Edit words
+    else if bytes_eq command (codes "range") then one Range words
+    else if bytes_eq command (codes "filter") then one Filter words
+    else Usage
+
+abbrev pub asked : List (List ℕ) → Asked
+asked [] = Usage
+asked (command ∷ words) = asked_by command words
+
+-- the answer to what is asked, with these bytes as the input
+abbrev pub IsAnswer : Asked → List ℕ → ToolAnswer → Type 0
+IsAnswer (Show v) input a = ShowAnswer v a
+IsAnswer (Compare v w) input a = CompareAnswer v w a
+IsAnswer (Match specifiers v) input a = MatchAnswer specifiers v a
+IsAnswer (Edit v changes) input a = EditAnswer v changes a
+IsAnswer (Range specifiers) input a = RangeAnswer specifiers a
+IsAnswer (Filter specifiers) input a = FilterAnswer specifiers input a
+IsAnswer Usage input a = a ≡ usage_answer
+
+-- `filter` alone reads the input
+abbrev pub reads_input : Asked → Bool
+reads_input (Filter specifiers) = true
+reads_input _ = false
