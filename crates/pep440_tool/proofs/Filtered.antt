@@ -63,7 +63,7 @@ kept_line list texts versions new place left later text o cut m is k = record {
   means = means_more k.before k.found text o k.means m;
   place_is = length_more k.before text ∙ ap (λ (n : ℕ). n + 1) k.place_is;
   versions_are = is ∙ ap (λ (vs : List Record). vs ++ kept list o) k.versions_are ∙ ap (λ (vs : List Record). flat_map (kept list) k.found ++ vs) (sym (append-nil (kept list o)))
-    ∙ sym (flat_map-append (kept list) k.found (o ∷ []));
+      ∙ sym (flat_map-append (kept list) k.found (o ∷ []));
 }
 
 -- a line is refused

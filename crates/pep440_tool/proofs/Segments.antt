@@ -22,7 +22,7 @@ written_more range left later s text new cut is w = record {
   before = w.before ++ s ∷ [];
   split = append_assoc w.before (s ∷ []) later ∙ ap (λ (ss : Segments). w.before ++ ss) (sym cut) ∙ w.split;
   text_is = is ∙ ap (λ (t : List ℕ). t ++ lines_of (segment_text s ∷ [])) w.text_is ∙ sym (flat_map-append line (map segment_text w.before) (segment_text s ∷ []))
-    ∙ ap lines_of (sym (map-append segment_text w.before (s ∷ [])));
+      ∙ ap lines_of (sym (map-append segment_text w.before (s ∷ [])));
 }
 
 pub written_all : (range : Segments) (text : List ℕ) → Written range [] text → text ≡ lines_of (map segment_text range)

@@ -1,4 +1,5 @@
 // Rows of words and what they answer, runs over readers and writers that fail, and refused memory.
+mod lists;
 mod rows;
 mod runs;
 mod support;

@@ -41,7 +41,7 @@ fn run_always_fails(rt: HostRuntime) -> Result<(), Fail> {
             1,
             "error: wildcards are not allowed in a version\n",
         ),
-        (&["filter", ">=1"], 2, USAGE),
+        (&["match", ">=1"], 2, USAGE),
     ] {
         let words = words_of(rt.alloc(), texts)?;
         let mut unread = Trickle::new(b"never read", After::Fails);

@@ -1,5 +1,5 @@
 // Each row, or want of memory and then the row. They are run also with each request for memory refused in turn.
-use super::support::{After, Manner, Trickle, run_over, split_words};
+use super::support::{After, Manner, Trickle, run_over, split_words, words_of};
 use std::alloc::Global;
 use std::test::Fail;
 
@@ -105,5 +105,73 @@ fn sweep_usage(rt: HostRuntime) -> Result<(), Fail> {
     let line =
         "usage: pep440 show V / compare A B / match SPECS V / edit V CHANGE.. / range SPECS / filter SPECS\n";
     assert!(rt; answers_after_refusal(rt.alloc(), words, line, 2));
+    Ok(())
+}
+
+#[test]
+fn sweep_match(rt: HostRuntime) -> Result<(), Fail> {
+    assert!(rt; answers_after_refusal(rt.alloc(), "match|>=1.0,===1.1+x|1.1+x", "yes\n", 0));
+    Ok(())
+}
+
+#[test]
+fn sweep_match_refused(rt: HostRuntime) -> Result<(), Fail> {
+    let line =
+        "error: Failed to parse version: no such comparison operator \"=>\", must be one of ~= == != <= >= < > ===:\n>=1.0, =>2\n      ^^^^\n";
+    assert!(rt; answers_after_refusal(rt.alloc(), "match|>=1.0, =>2|1", line, 1));
+    Ok(())
+}
+
+#[test]
+fn sweep_range(rt: HostRuntime) -> Result<(), Fail> {
+    let lines = "[1.0, 1.5)\n(1.5, 2.0~min0)\n";
+    assert!(rt; answers_after_refusal(rt.alloc(), "range|>=1.0,<2.0,!=1.5", lines, 0));
+    Ok(())
+}
+
+#[test]
+fn sweep_range_refused(rt: HostRuntime) -> Result<(), Fail> {
+    let line = "error: a number of 18446744073709551615 cannot be raised\n";
+    assert!(rt; answers_after_refusal(rt.alloc(), "range|~=1.18446744073709551615.0", line, 1));
+    Ok(())
+}
+
+/// The same of a `filter`, which reads its input anew each time.
+fn filters_after_refusal(
+    alloc: Global,
+    specifiers: &str,
+    input: &[u8],
+    output: &str,
+    want: u8,
+) -> bool {
+    let Ok(list) = words_of(alloc, &["filter", specifiers]) else {
+        return true;
+    };
+    for _ in 0..2 {
+        let mut lines = Trickle::new(input, After::End);
+        let manner = Manner::TakesAtMost(512);
+        let (status, sink) = run_over(alloc, list.as_slice(), &mut lines, manner);
+        if status != 3 {
+            return status == want && sink.bytes() == output.as_bytes();
+        }
+        if sink.bytes() != "error: out of memory\n".as_bytes() {
+            return false;
+        }
+    }
+    false
+}
+
+#[test]
+fn sweep_filter(rt: HostRuntime) -> Result<(), Fail> {
+    let (input, output) = ("1.1.0\n2.0\n1.0.0\n1.0\n", "1.0.0\n1.0\n2.0\n");
+    assert!(rt; filters_after_refusal(rt.alloc(), ">=1.0,!=1.1", input.as_bytes(), output, 0));
+    Ok(())
+}
+
+#[test]
+fn sweep_filter_refused(rt: HostRuntime) -> Result<(), Fail> {
+    let output =
+        "error: line 2: expected version to start with a number, but no leading ASCII digits were found\n";
+    assert!(rt; filters_after_refusal(rt.alloc(), ">=1", b"1.0\nx\n", output, 1));
     Ok(())
 }

@@ -9,6 +9,6 @@ returns c = inl (
   c.in-Ok.list,
   rw c.in-Ok.is at c.in_ok-list.ensures,
   inl (shows_kept c.in-Ok.list (lines c.args.input.now) (said c.shown_lines.result) c.in-Ok-2.versions.items c.sort.new.self.items (string_bytes c.in_ok-to_string.field-0)
-  (rw c.in-Ok-2.is at c.in_ok-versions.ensures) c.in_ok-sort.ensures.permutation c.in_ok-sort.ensures.sorted c.in_ok-sort.ensures.stable
-  (rw c.as_slice.ensures.value at c.in_ok-to_string.ensures.ok) c.shown_lines.ensures),
+      (rw c.in-Ok-2.is at c.in_ok-versions.ensures) c.in_ok-sort.ensures.permutation c.in_ok-sort.ensures.sorted c.in_ok-sort.ensures.stable
+      (rw c.as_slice.ensures.value at c.in_ok-to_string.ensures.ok) c.shown_lines.ensures),
 )
