@@ -38,10 +38,9 @@ pub fn shown_lines(text: String) -> Answer
 pub fn refused(alloc: Global, text: &str) -> Result<Answer, AllocError>
     ensures { IfOk result (λ a. said a ≡ refused text.now) }
 {
-    let mut output = Vec::from_slice(alloc, b"error: ")?;
-    output.extend_from_slice(text.as_bytes())?;
-    output.push(b'\n')?;
-    Ok(Answer { output, status: 1 })
+    let mut answer = refused_list(alloc, text)?;
+    answer.output.push(b'\n')?;
+    Ok(answer)
 }
 
 /// The fault of a list, which ends its own lines, with status 1.
