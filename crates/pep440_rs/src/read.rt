@@ -1,5 +1,6 @@
 //! The readers of specifiers.
 ghost use Rattle.std.specs.Prelude.{◌==◌, ◌<◌, ◌+◌, ◌^◌, ◌≡◌, ◌++◌, ◌∷◌, [], length, Ok, IfOk, Err, IfErr, if◌then◌else◌};
+ghost use Rattle.pep440_version.specs.Errors.{PatternAnswers};
 ghost use Rattle.pep440_version.specs.Whole.{read_pattern};
 ghost use Rattle.pep440_rs.specs.Build.{built_pattern};
 ghost use Rattle.pep440_rs.specs.Errors.{SpecifierGives};
@@ -14,7 +15,7 @@ use crate::list_error::SpecifiersErrorKind;
 use crate::operator::Operator;
 use crate::scan::{Run, past_blanks, split_run};
 use crate::specifier::VersionSpecifier;
-use pep440_version::VersionPattern;
+use pep440_version::{VersionPattern, VersionPatternParseError};
 use std::alloc::Global;
 
 // The specifier of its parts, where nothing is left.
@@ -33,6 +34,13 @@ fn with_pattern(
     Err(ParseErrorKind::InvalidTrailing(String::from_str(alloc, rest)?))
 }
 
+// What the text reads as, by what the reader of patterns promises.
+fn pattern(alloc: Global, text: &str) -> Result<VersionPattern, VersionPatternParseError>
+    ensures { PatternAnswers result (read_pattern text.now) }
+{
+    VersionPattern::from_str(alloc, text)
+}
+
 // The same, where the version is yet to be read.
 fn with_version(
     alloc: Global,
@@ -45,7 +53,7 @@ fn with_version(
     if version.is_empty() {
         return Err(ParseErrorKind::MissingVersion);
     }
-    match VersionPattern::from_str(alloc, version) {
+    match pattern(alloc, version) {
         Ok(pattern) => with_pattern(alloc, operator, pattern, rest),
         Err(error) => Err(ParseErrorKind::of_version(error)),
     }

@@ -226,8 +226,6 @@ impl VersionSpecifier {
         ensures lifted { IfErr result (λ e. IsLifted (parse_kind_of e)) }
         // The print of what some text means is answered with that, unless memory runs out.
         ensures again { (t : List ℕ) (s : Spec) → DerivesSpecifier t s → text.now ≡ spec_print s → SpecifierAnswers result (Ok s) }
-        // The same, as the reading from the left computes it.
-        ensures exact { SpecifierAnswers result (read_specifier text.now) }
     {
         VersionSpecifier::read(alloc, text)
     }

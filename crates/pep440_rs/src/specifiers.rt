@@ -131,8 +131,6 @@ impl VersionSpecifiers {
         ensures again { (t : List ℕ) (list : List Spec) → DerivesList t list → text.now ≡ list_print list → ListAnswers result (Ok list) }
         // So is its form with commas alone between the members.
         ensures joined { (t : List ℕ) (list : List Spec) → DerivesList t list → text.now ≡ joined (codes ",") list → ListAnswers result (Ok list) }
-        // The same, as the reading from the left computes the members.
-        ensures exact { ListReads result (read_members text.now) }
     {
         VersionSpecifiers::read(alloc, text)
     }

@@ -103,8 +103,6 @@ impl VersionPattern {
         ensures decided { (f : PatternRefusal) → RefusesPattern text.now f → PatternAnswers result (Err f) }
         // The error's text is the refusal's.
         ensures told { IfErr result (λ e. IfSome (pattern_refusal_of (pattern_kind_of e)) (λ f. pattern_text_of (pattern_kind_of e) ≡ Some (pattern_refusal_text f))) }
-        // The same, as the reading from the left computes it.
-        ensures exact { PatternAnswers result (read_pattern text.now) }
     {
         VersionPattern::read(alloc, text)
     }
@@ -157,8 +155,6 @@ impl Version {
         ensures reread { (r : Record) → IsRecord r → Rereads r → text.now ≡ print r → Answers result (Ok r) }
         // So is the print of what some text means.
         ensures again { (t : List ℕ) (r : Record) → Derives t r → text.now ≡ print r → Answers result (Ok r) }
-        // The same, as the reading from the left computes it.
-        ensures exact { Answers result (read_version text.now) }
     {
         Version::read(alloc, text)
     }
