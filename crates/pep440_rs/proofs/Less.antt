@@ -5,14 +5,14 @@ use Rattle.std.specs.Ordering.{ordering_then, is_lt, is_eq}
 use Rattle.std.specs.declared.cmp.Ordering.{Ordering}
 use Rattle.std.specs.declared.cmp.Ordering.TheVariants as ord
 use Rattle.std.specs.declared.ops.Bound.TheVariants.{Excluded, Unbounded}
-use Rattle.pep440_rs.proofs.VersionOrder.{base_cmp, suffix_cmp, by_parts, same_base, plain, only_end}
+use Rattle.pep440_rs.proofs.VersionOrder.{by_parts, same_base, plain, only_end}
 use Rattle.pep440_rs.proofs.Suffixes.{above_min, early}
 use Rattle.pep440_rs.specs.Agreement.{IsSuffixComparable}
 use Rattle.pep440_rs.specs.Bounds.{less}
 use Rattle.pep440_rs.specs.Matching.{matches, same_release, any_prerelease}
 use Rattle.pep440_rs.specs.declared.operator.Operator.TheVariants.{LessThan}
 use Rattle.pep440_ranges.specs.Segments.{contains}
-use Rattle.pep440_version.specs.Key.{record_cmp}
+use Rattle.pep440_version.specs.Key.{base_cmp, suffix_cmp, record_cmp}
 use Rattle.pep440_version.specs.Record.{Record}
 
 -- the test of the suffixes, under an equal base

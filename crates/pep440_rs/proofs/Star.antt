@@ -5,7 +5,7 @@ use Rattle.std.specs.Ordering.{nat_cmp, ordering_then, is_lt, is_ge}
 use Rattle.std.specs.declared.cmp.Ordering.{Ordering}
 use Rattle.std.specs.declared.cmp.Ordering.TheVariants as ord
 use Rattle.std.specs.declared.ops.Bound.TheVariants.{Included, Excluded}
-use Rattle.pep440_rs.proofs.VersionOrder.{base_cmp, suffix_cmp, by_parts, plain, turn_le, ge_not_lt, both}
+use Rattle.pep440_rs.proofs.VersionOrder.{by_parts, plain, turn_le, ge_not_lt, both}
 use Rattle.pep440_rs.proofs.Prefix.{mapped, IsRaised, raised_is, prefix_bounds, step_more, below_front}
 use Rattle.pep440_rs.proofs.Suffixes.{from_dev}
 use Rattle.pep440_rs.specs.Bounds.{Segments, raised, compatible, compatible_end, star, star_end}
@@ -14,7 +14,7 @@ use Rattle.pep440_rs.specs.declared.operator.Operator.TheVariants.{TildeEqual}
 use Rattle.pep440_ranges.proofs.Laws.{one_segment_holds_between, one_segment_is_range, gaps_hold_the_rest}
 use Rattle.pep440_ranges.specs.Complement.{gaps}
 use Rattle.pep440_ranges.specs.Segments.{contains}
-use Rattle.pep440_version.specs.Key.{record_cmp, release_cmp}
+use Rattle.pep440_version.specs.Key.{base_cmp, suffix_cmp, record_cmp, release_cmp}
 use Rattle.pep440_version.specs.KeyLaws.{record_total}
 use Rattle.pep440_version.specs.Record.{Record, of_parts, public_record}
 

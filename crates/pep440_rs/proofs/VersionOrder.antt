@@ -6,37 +6,16 @@ use Rattle.std.specs.declared.cmp.Ordering.{Ordering}
 use Rattle.std.specs.declared.cmp.Ordering.TheVariants as ord
 use Rattle.pep440_rs.specs.Agreement.{IsPlain}
 use Rattle.pep440_rs.specs.Matching.{same_release}
-use Rattle.pep440_version.specs.Key.{key, record_cmp, release_cmp, stage_cmp, post_cmp, dev_cmp, local_cmp}
+use Rattle.pep440_version.specs.Key.{base_cmp, suffix_cmp, key, record_cmp, release_cmp, stage_cmp, post_cmp, dev_cmp, local_cmp}
 use Rattle.pep440_version.specs.KeyLaws.{record_total}
 use Rattle.pep440_version.specs.Record.{Record, of_parts}
 
 -- ---- by parts
 
-abbrev pub base_cmp : Record → Record → Ordering
-base_cmp v s = ordering_then (nat_cmp v.epoch s.epoch) (release_cmp v.release s.release)
-
-abbrev pub suffix_cmp : Record → Record → Ordering
-suffix_cmp v s = ordering_then (stage_cmp (key v).stage (key s).stage) (ordering_then (post_cmp (key v).post (key s).post) (dev_cmp (key v).dev (key s).dev))
-
 then_assoc : (a b c : Ordering) → ordering_then a (ordering_then b c) ≡ ordering_then (ordering_then a b) c
 then_assoc ord.Less b c = refl
 then_assoc ord.Equal b c = refl
 then_assoc ord.Greater b c = refl
-
--- a chain from the left, and from the right
-then_two : (d e : Ordering) → ordering_then d e ≡ ordering_then d (ordering_then e ord.Equal)
-then_two ord.Less e = refl
-then_two ord.Greater e = refl
-then_two ord.Equal ord.Less = refl
-then_two ord.Equal ord.Equal = refl
-then_two ord.Equal ord.Greater = refl
-
-pub then_five : (a b c d e : Ordering) →
-    ordering_then (ordering_then (ordering_then (ordering_then a b) c) d) e ≡ ordering_then a (ordering_then b (ordering_then c (ordering_then d (ordering_then e ord.Equal))))
-then_five ord.Less b c d e = refl
-then_five ord.Greater b c d e = refl
-then_five ord.Equal b c d e =
-    sym (then_assoc (ordering_then b c) d e) ∙ sym (then_assoc b c (ordering_then d e)) ∙ ap (λ o. ordering_then b (ordering_then c o)) (then_two d e)
 
 pub by_parts : (v s : Record) → record_cmp v s ≡ ordering_then (base_cmp v s) (ordering_then (suffix_cmp v s) (local_cmp v.local s.local))
 by_parts v s =

@@ -5,12 +5,11 @@ ghost use Rattle.pep440_rs.specs.Matching.{matches, list_matches, candidate, sam
 ghost use Rattle.pep440_rs.specs.declared.operator.Operator.TheVariants.{Equal, EqualStar, ExactEqual, NotEqual, NotEqualStar};
 ghost use Rattle.pep440_version.specs.Key.{record_cmp};
 
-use crate::compare::{cmp_releases, cmp_without_local};
 use crate::operator::Operator;
 use crate::raised::without_last;
 use crate::specifier::VersionSpecifier;
 use crate::specifiers::VersionSpecifiers;
-use pep440_version::Version;
+use pep440_version::{Version, cmp_releases, cmp_without_local};
 use std::alloc::{AllocError, Global};
 use std::cmp::Ordering;
 

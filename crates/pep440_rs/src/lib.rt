@@ -4,7 +4,6 @@
 //! `pep440_version` and `pep440_ranges` offer is offered here under the same names.
 #![tactic(auto)]
 
-mod compare;
 mod contains;
 mod convert;
 mod error;

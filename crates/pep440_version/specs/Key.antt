@@ -161,6 +161,14 @@ key_cmp = then_cmp (on (λ (k : Key). k.epoch) nat_cmp) (then_cmp (on (λ (k : K
 abbrev pub record_cmp : Record → Record → Ordering
 record_cmp = on key key_cmp
 
+-- by epoch, then by release
+abbrev pub base_cmp : Record → Record → Ordering
+base_cmp r q = ordering_then (nat_cmp r.epoch q.epoch) (release_cmp r.release q.release)
+
+-- by what follows the release, up to the local part
+abbrev pub suffix_cmp : Record → Record → Ordering
+suffix_cmp r q = ordering_then (stage_cmp (key r).stage (key q).stage) (ordering_then (post_cmp (key r).post (key q).post) (dev_cmp (key r).dev (key q).dev))
+
 -- Alpha < Beta < Rc
 abbrev pub kind_rank : PrereleaseKind → ℕ
 kind_rank Alpha = 0

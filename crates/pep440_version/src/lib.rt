@@ -22,6 +22,7 @@ mod version;
 
 pub use change::{Change, ChangeError};
 pub use error::{ErrorKind, PatternErrorKind, VersionParseError, VersionPatternParseError};
+pub use order::{cmp_releases, cmp_without_local};
 pub use pattern::VersionPattern;
 pub use prerelease::{Prerelease, PrereleaseKind};
 pub use segment::LocalSegment;

@@ -1,6 +1,6 @@
 //! The order of versions: their keys, part by part (PEP 440, "Summary of permitted suffixes and relative ordering").
-ghost use Rattle.std.specs.Prelude.{◌≡◌, refl, length, drop, map};
-ghost use Rattle.pep440_version.specs.Key.{key, post_rank, post_number, dev_rank, dev_number, stage_rank, stage_number, release_cmp, local_cmp, record_cmp, pattern_cmp};
+ghost use Rattle.std.specs.Prelude.{◌≡◌, [], refl, length, drop, map};
+ghost use Rattle.pep440_version.specs.Key.{base_cmp, suffix_cmp, key, post_rank, post_number, dev_rank, dev_number, stage_rank, stage_number, release_cmp, local_cmp, record_cmp, pattern_cmp};
 ghost use Rattle.pep440_version.specs.KeyLaws.{pattern_equiv, record_equiv, record_po, record_total};
 ghost use Rattle.pep440_version.specs.Segments.{segment};
 ghost use Rattle.std.specs.Cmp.{partial_equiv_from_equiv};
@@ -12,8 +12,10 @@ use crate::segment::LocalSegment;
 use crate::version::Version;
 use std::cmp::Ordering;
 
-// Compares releases as if the shorter were padded with zeros.
-fn cmp_releases(a: &[u64], b: &[u64]) -> Ordering
+/// The order of two releases as if the shorter were padded with zeros (PEP 440, "Public version identifiers").
+///
+/// Takes no memory.
+pub fn cmp_releases(a: &[u64], b: &[u64]) -> Ordering
     ensures { result ≡ release_cmp a.now b.now }
 {
     let len = if a.len() < b.len() { b.len() } else { a.len() };
@@ -76,6 +78,38 @@ fn dev_place(v: &Version) -> (u8, u64)
     }
 }
 
+// The order by epoch, then by release.
+fn cmp_bases(a: &Version, b: &Version) -> Ordering
+    ensures { result ≡ base_cmp a.now b.now }
+{
+    match a.epoch().cmp(&b.epoch()) {
+        Ordering::Equal => cmp_releases(a.release(), b.release()),
+        ordering => ordering,
+    }
+}
+
+// The order by what follows the release, up to the local part.
+fn cmp_suffixes(a: &Version, b: &Version) -> Ordering
+    ensures { result ≡ suffix_cmp a.now b.now }
+{
+    stage(a)
+        .cmp(&stage(b))
+        .then(post_place(a).cmp(&post_place(b)))
+        .then(dev_place(a).cmp(&dev_place(b)))
+}
+
+/// The order of two versions as if neither had a local part (PEP 440, "Version matching").
+///
+/// Takes no memory.
+pub fn cmp_without_local(a: &Version, b: &Version) -> Ordering
+    ensures { result ≡ record_cmp (record a.now { local = [] }) (record b.now { local = [] }) }
+{
+    match cmp_bases(a, b) {
+        Ordering::Equal => cmp_suffixes(a, b),
+        ordering => ordering,
+    }
+}
+
 impl PartialEq for Version {
     ghost eq = { eq_by_cmp record_cmp };
 
@@ -110,13 +144,10 @@ impl Ord for Version {
     ghost matches_eq = { λ a b. refl };
 
     fn cmp(&self, other: &Version) -> Ordering {
-        self.epoch()
-            .cmp(&other.epoch())
-            .then(cmp_releases(self.release(), other.release()))
-            .then(stage(self).cmp(&stage(other)))
-            .then(post_place(self).cmp(&post_place(other)))
-            .then(dev_place(self).cmp(&dev_place(other)))
-            .then(cmp_locals(self.local(), other.local()))
+        match cmp_without_local(self, other) {
+            Ordering::Equal => cmp_locals(self.local(), other.local()),
+            ordering => ordering,
+        }
     }
 }
 
