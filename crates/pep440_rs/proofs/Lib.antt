@@ -9,6 +9,7 @@ pub mod Plain
 pub mod Told
 pub mod Shown
 pub mod Again
+pub mod OneMeaning
 pub mod Patterns
 pub mod Pieces
 pub mod Around

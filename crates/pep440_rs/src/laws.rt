@@ -1,5 +1,7 @@
 //! What holds of matching and of ranges, each as the contract of a function that does nothing.
-ghost use Rattle.std.specs.Prelude.{◌≡◌, Some, List, not};
+ghost use Rattle.std.specs.Prelude.{◌≡◌, ◌⊎◌, ℕ, Some, List, not};
+ghost use Rattle.pep440_rs.specs.ListGrammar.{DerivesList, PieceRefusal, RefusesList};
+ghost use Rattle.pep440_rs.specs.SpecifierGrammar.{DerivesSpecifier, RefusesSpecifier, SpecifierRefusal};
 ghost use Rattle.pep440_rs.specs.Agreement.{Agrees, HoldsOnlyMatches, HoldsAllMatches, ReleaseAgrees, ListAgrees, ReleaseListAgrees, HoldsInEach, HasFewSegments, RefusedByAMember, GivesRanges, GivesFew};
 ghost use Rattle.pep440_rs.specs.BoundsAgreement.{PairAgrees, ContainsWithin, ContainsOnlyWithin};
 ghost use Rattle.pep440_rs.specs.Bounds.{Segments, range_of, release_range_of, list_range};
@@ -9,6 +11,22 @@ ghost use Rattle.pep440_version.specs.Record.{Record};
 ghost use Rattle.pep440_rs.specs.Refused.{RefusedAtMax, raised_number, raised_release_number};
 
 use crate::operator::Operator;
+
+/// A text means at most one specifier, and a text at most one list.
+pub fn means_one()
+    ensures specifier { (text : List ℕ) (s t : Spec) → DerivesSpecifier text s → DerivesSpecifier text t → s ≡ t }
+    ensures list { (text : List ℕ) (l m : List Spec) → DerivesList text l → DerivesList text m → l ≡ m }
+{}
+
+/// A text either means a specifier or is refused for exactly one reason; no text both means a list and is refused,
+/// and it is refused for at most one reason.
+pub fn refused_once()
+    ensures specifier { (text : List ℕ) (f g : SpecifierRefusal) → RefusesSpecifier text f → RefusesSpecifier text g → f ≡ g }
+    ensures either { (text : List ℕ) → ((s : Spec) × DerivesSpecifier text s) ⊎ ((f : SpecifierRefusal) × RefusesSpecifier text f) }
+    ensures derived { (text : List ℕ) (s : Spec) (f : SpecifierRefusal) → DerivesSpecifier text s → RefusesSpecifier text f → ⊥ }
+    ensures list { (text : List ℕ) (f g : PieceRefusal) → RefusesList text f → RefusesList text g → f ≡ g }
+    ensures derived_list { (text : List ℕ) (l : List Spec) (f : PieceRefusal) → DerivesList text l → RefusesList text f → ⊥ }
+{}
 
 /// `!=` contains exactly what `==` doesn't, and `!=` star exactly what `==` star doesn't.
 pub fn exclusions()
