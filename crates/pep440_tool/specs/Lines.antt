@@ -28,10 +28,10 @@ is_skipped text = list_all is_line_blank text
 
 -- ---- lines that mean something, or are refused
 
--- a line is skipped, or means a version
+-- a line is skipped, or is UTF-8 and means a version
 abbrev pub LineMeans : List ℕ → Option Record → Type 0
 LineMeans text None = IsTrue (is_skipped text)
-LineMeans text (Some r) = Derives text r
+LineMeans text (Some r) = IsTrue (not (is_skipped text)) × IsUtf8 text × Derives text r
 
 -- so each line, in order
 abbrev pub LinesMean : List (List ℕ) → List (Option Record) → Type 0

@@ -5,6 +5,7 @@ mod change_word;
 mod command;
 mod editing;
 mod filtering;
+pub mod laws;
 mod output;
 mod printing;
 mod program;
