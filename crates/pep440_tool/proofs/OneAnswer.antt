@@ -1,25 +1,23 @@
 -- There is at most one answer to what is asked.
-use Rattle.std.proofs.Common.{◌≡◌, ◌⊎◌, inl, inr, ℕ, suc, ◌+◌, Bool, true, false, not, List, [], ◌∷◌, ◌++◌, map, length, Option, Some, None, IsTrue, refl, sym, ap, subst, ◌∙◌, codes}
+use Rattle.std.proofs.Common.{◌≡◌, ◌⊎◌, inl, inr, ℕ, suc, ◌+◌, Bool, true, false, not, List, [], ◌∷◌, ◌++◌, map, length, Option, Some, None, IsTrue, refl, sym, ap, subst, ◌∙◌}
 use Rattle.std.specs.List.{flat_map}
 use Rattle.std.specs.Ordering.{is_lt}
 use Rattle.std.proofs.lemmas.List.Sorted.{ranks_by}
-use Rattle.pep440_rs.specs.Bounds.{list_range, range_of}
 use Rattle.pep440_rs.specs.ListErrorTexts.{list_refusal_text}
-use Rattle.pep440_rs.specs.ListGrammar.{DerivesList, PieceRefusal, RefusesList}
+use Rattle.pep440_rs.specs.ListGrammar.{PieceRefusal}
 use Rattle.pep440_rs.specs.Specifiers.{Spec}
 use Rattle.pep440_rs.proofs.Arranged.{same_by_ties}
 use Rattle.pep440_rs.proofs.OneMeaning.{not_both_list, one_list, one_list_refusal}
 use Rattle.pep440_version.specs.ErrorTexts.{refusal_text}
-use Rattle.pep440_version.specs.Grammar.{Derives}
 use Rattle.pep440_version.specs.Key.{record_cmp}
 use Rattle.pep440_version.specs.KeyLaws.{record_total}
 use Rattle.pep440_version.specs.Print.{print}
 use Rattle.pep440_version.specs.Record.{Record}
-use Rattle.pep440_version.specs.Refusals.{Refusal, Refuses}
+use Rattle.pep440_version.specs.Refusals.{Refusal}
 use Rattle.pep440_version.proofs.Bridge.{one_record}
 use Rattle.pep440_version.proofs.Exactly.{not_both, one_refusal}
 use Rattle.pep440_tool.specs.Answers.{Reads, ReadsList, ToolAnswer, refused, refused_list, shown_lines}
-use Rattle.pep440_tool.specs.Commands.{Asked, Show, Compare, Match, Edit, Range, Filter, Usage, IsAnswer}
+use Rattle.pep440_tool.specs.Commands.{Show, Compare, Match, Edit, Range, Filter, Usage}
 use Rattle.pep440_tool.specs.Lines.{ArrangesVersions, LineFault, LineMeans, LinesMean, RefusesLine, ShowsKept, is_skipped, kept, line_fault_text, lines}
 use Rattle.pep440_tool.specs.OneAnswer.{AnswersOnce}
 

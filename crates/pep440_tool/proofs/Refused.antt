@@ -1,5 +1,5 @@
 -- Words and lines that are refused, by the texts of their errors.
-use Rattle.std.proofs.Common.{◌≡◌, ◌≢◌, ℕ, List, Option, Some, None, IsTrue, IfSome, is_none, not, true, false, refl, sym, ap, ◌∙◌, inr}
+use Rattle.std.proofs.Common.{◌≡◌, ◌≢◌, ℕ, List, Option, Some, None, IfSome, is_none, not, false, refl, ap, ◌∙◌, inr}
 use Rattle.std.specs.Str.{IsUtf8}
 use Rattle.pep440_rs.specs.ListErrorTexts.{list_refusal_text}
 use Rattle.pep440_rs.specs.ListGrammar.{PieceRefusal, RefusesList}

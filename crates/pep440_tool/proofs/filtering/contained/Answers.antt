@@ -1,4 +1,4 @@
-use Rattle.std.proofs.Common.{◌+◌, ◌∙◌, None, Some, ap, append-nil, length, rules, sym}
+use Rattle.std.proofs.Common.{◌∙◌, None, Some, ap, append-nil, length, rules, sym}
 use Rattle.pep440_tool.specs.Lines.{lines}
 use Rattle.pep440_tool.proofs.Filtered.{kept_in, kept_line, kept_none, kept_out, lines_left, room_more}
 use Rattle.pep440_tool.proofs.filtering.contained.Goals as goal
