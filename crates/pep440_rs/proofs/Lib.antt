@@ -21,6 +21,7 @@ pub mod BoundsRows
 pub mod Count
 pub mod Examples
 pub mod Greater
+pub mod JsonStrings
 pub mod Kept
 pub mod LastRaised
 pub mod Less

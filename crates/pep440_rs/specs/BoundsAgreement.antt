@@ -1,5 +1,5 @@
 -- When the members made of bounds contain exactly the releases within the bounds.
-use Rattle.std.specs.Prelude.{◌≡◌, ◌==◌, Bool, true, false, not, ◌||◌, IsTrue, List, [], ◌∷◌, length}
+use Rattle.std.specs.Prelude.{◌≡◌, ◌==◌, Bool, false, not, ◌||◌, IsTrue, List, [], ◌∷◌, length}
 use Rattle.std.specs.List.{All}
 use Rattle.std.specs.List.Sorted.{IsPermutation}
 use Rattle.std.specs.Ordering.{is_lt, is_le}
@@ -60,16 +60,27 @@ KnowsGaps (p ∷ pairs) = KnowsGapsAfter p.1 pairs
 
 -- ---- the statements
 
+-- the members together contain exactly the releases within the pair
+abbrev pub MatchesWithin : Segment Record → List Spec → Type 0
+MatchesWithin p members = (v : Record) → IsReleaseOnly v → list_matches members v ≡ lies_in record_cmp p v
+
+-- the members together contain every release within the pairs
+abbrev pub HoldsWithin : List (Segment Record) → List Spec → Type 0
+HoldsWithin pairs members = (v : Record) → IsReleaseOnly v → IsTrue (contains record_cmp pairs v) → IsTrue (list_matches members v)
+
+-- and no other release
+abbrev pub HoldsOnlyWithin : List (Segment Record) → List Spec → Type 0
+HoldsOnlyWithin pairs members = (v : Record) → IsReleaseOnly v → list_matches members v ≡ contains record_cmp pairs v
+
 -- the members of one pair together contain exactly the releases within it
 abbrev pub PairAgrees : Type 0
-PairAgrees = (p : Segment Record) → IsReleasePair p → (v : Record) → IsReleaseOnly v → list_matches (pair_members p.0 p.1) v ≡ lies_in record_cmp p v
+PairAgrees = (p : Segment Record) → IsReleasePair p → MatchesWithin p (pair_members p.0 p.1)
 
 -- the members of a list of pairs, however arranged, contain every release within the pairs
 abbrev pub ContainsWithin : Type 0
-ContainsWithin = (pairs : List (Segment Record)) (members : List Spec) → IsOrdered pairs → All IsReleasePair pairs → IsPermutation (list_members pairs) members →
-    (v : Record) → IsReleaseOnly v → IsTrue (contains record_cmp pairs v) → IsTrue (list_matches members v)
+ContainsWithin = (pairs : List (Segment Record)) (members : List Spec) → IsOrdered pairs → All IsReleasePair pairs → IsPermutation (list_members pairs) members → HoldsWithin pairs members
 
 -- and no other release, where each gap is known
 abbrev pub ContainsOnlyWithin : Type 0
 ContainsOnlyWithin = (pairs : List (Segment Record)) (members : List Spec) → IsOrdered pairs → All IsReleasePair pairs → KnowsGaps pairs → IsPermutation (list_members pairs) members →
-    (v : Record) → IsReleaseOnly v → list_matches members v ≡ contains record_cmp pairs v
+    HoldsOnlyWithin pairs members

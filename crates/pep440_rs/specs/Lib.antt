@@ -17,7 +17,9 @@ pub mod ErrorTexts
 pub mod ListErrorTexts
 pub mod Agreement
 pub mod Bounds
+pub mod BoundErrors
 pub mod BoundsAgreement
 pub mod Matching
 pub mod Members
 pub mod Refused
+pub mod Json

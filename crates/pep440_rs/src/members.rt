@@ -1,15 +1,15 @@
 //! Specifiers from bounds on releases.
-ghost use Rattle.std.specs.Prelude.{◌≡◌, ◌++◌, IfOk, OnOk, length};
-ghost use Rattle.pep440_rs.specs.Members.{is_next, lower_member, upper_member, outer_members, pair_members, gap_members, gaps_members, last_end, list_members};
+ghost use Rattle.std.specs.Prelude.{◌≡◌, ◌++◌, IfOk, OnOk};
+ghost use Rattle.pep440_rs.specs.Members.{is_next, lower_member, upper_member, pair_members, gap_members, gaps_members, last_end, list_members};
 
-use crate::operator::Operator;
+use crate::release_bounds::ReleaseBounds;
 use crate::specifier::VersionSpecifier;
 use pep440_version::Version;
 use std::alloc::{AllocError, Global};
 use std::ops::Bound;
 
 // Two numbers each, the first alike, and the second of the second release one more.
-pub(crate) fn is_next(release: &[u64], next: &[u64]) -> bool
+fn is_next(release: &[u64], next: &[u64]) -> bool
     ensures { result ≡ is_next release.now next.now }
 {
     if release.len() != 2 || next.len() != 2 {
@@ -44,51 +44,47 @@ pub(crate) fn upper_member(bound: &Bound<Version>) -> Result<Option<VersionSpeci
     })
 }
 
-// The lower bound's member, then the upper's.
-fn push_outer(
-    members: &mut Vec<VersionSpecifier>,
+// The members of a pair: one where one says it all, else the lower bound's, then the upper's.
+pub(crate) fn pair_members(
     start: &Bound<Version>,
     end: &Bound<Version>,
-) -> Result<(), AllocError>
-    ensures { OnOk result (members.new.items ≡ members.old.items ++ outer_members start.now end.now) }
+) -> Result<ReleaseBounds, AllocError>
+    ensures { IfOk result (λ m. m ≡ pair_members start.now end.now) }
 {
-    if let Some(member) = lower_member(start)? {
-        members.push(member)?;
+    match (start, end) {
+        (Bound::Included(v), Bound::Included(w)) => {
+            if v == w {
+                let member = VersionSpecifier::equals_version(v.clone()?);
+                return Ok(ReleaseBounds::new(Some(member), None));
+            }
+        }
+        (Bound::Included(v), Bound::Excluded(w)) => {
+            if is_next(v.release(), w.release()) {
+                let member = VersionSpecifier::equals_star_version(v.clone()?);
+                return Ok(ReleaseBounds::new(Some(member), None));
+            }
+        }
+        _ => {}
     }
-    if let Some(member) = upper_member(end)? {
-        members.push(member)?;
-    }
-    Ok(())
+    Ok(ReleaseBounds::new(lower_member(start)?, upper_member(end)?))
 }
 
-// The members of a pair: one where one says it all.
-pub(crate) fn push_pair(
+// The members of a pair, after those that are there.
+fn push_pair(
     members: &mut Vec<VersionSpecifier>,
     start: &Bound<Version>,
     end: &Bound<Version>,
 ) -> Result<(), AllocError>
     ensures { OnOk result (members.new.items ≡ members.old.items ++ pair_members start.now end.now) }
 {
-    match (start, end) {
-        (Bound::Included(v), Bound::Included(w)) => {
-            if v == w {
-                members.push(VersionSpecifier::equals_version(v.clone()?))?;
-                return Ok(());
-            }
-        }
-        (Bound::Included(v), Bound::Excluded(w)) => {
-            if is_next(v.release(), w.release()) {
-                members.push(VersionSpecifier::equals_star_version(v.clone()?))?;
-                return Ok(());
-            }
-        }
-        _ => {}
+    for member in pair_members(start, end)? {
+        members.push(member)?;
     }
-    push_outer(members, start, end)
+    Ok(())
 }
 
 // What excludes the gap between an end and the next start, where a member does.
-pub(crate) fn push_gap(
+fn push_gap(
     members: &mut Vec<VersionSpecifier>,
     end: &Bound<Version>,
     start: &Bound<Version>,

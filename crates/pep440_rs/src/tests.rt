@@ -1,3 +1,7 @@
+mod bounds;
+mod json;
 mod lists;
 mod single;
+mod sweep_bounds;
+mod sweep_json;
 mod sweeps;

@@ -1,0 +1,103 @@
+//! The calls that make specifiers of bounds, with one request for memory refused: of two calls one answers at most
+//! its want of memory, and every other answer is that with ample memory.
+use super::bounds::release;
+use crate::{BoundError, Operator, Version, VersionSpecifier, VersionSpecifiers};
+use std::ops::Bound;
+use std::test::Fail;
+
+// Whether the answer is this operator's specifier, or want of memory.
+fn is_of(answer: &Result<Option<VersionSpecifier>, BoundError>, operator: Operator) -> bool {
+    match answer {
+        Ok(Some(member)) => *member.operator() == operator,
+        Ok(None) => false,
+        Err(error) => *error == BoundError::OutOfMemory,
+    }
+}
+
+#[test]
+fn sweep_from_lower_bound(rt: HostRuntime) -> Result<(), Fail> {
+    let Ok(version) = release(rt, &[1, 0]) else {
+        return Ok(())
+    };
+    let bound = Bound::Excluded(version);
+    let first = VersionSpecifier::from_lower_bound(rt.alloc(), &bound);
+    let second = VersionSpecifier::from_lower_bound(rt.alloc(), &bound);
+    assert!(rt; is_of(&first, Operator::GreaterThan) && is_of(&second, Operator::GreaterThan));
+    assert!(rt; first.is_ok() || second.is_ok());
+    Ok(())
+}
+
+#[test]
+fn sweep_from_upper_bound(rt: HostRuntime) -> Result<(), Fail> {
+    let Ok(version) = release(rt, &[1, 0]) else {
+        return Ok(())
+    };
+    let bound = Bound::Included(version);
+    let first = VersionSpecifier::from_upper_bound(rt.alloc(), &bound);
+    let second = VersionSpecifier::from_upper_bound(rt.alloc(), &bound);
+    assert!(rt; is_of(&first, Operator::LessThanEqual) && is_of(&second, Operator::LessThanEqual));
+    assert!(rt; first.is_ok() || second.is_ok());
+    Ok(())
+}
+
+#[test]
+fn sweep_bound_error(rt: HostRuntime) -> Result<(), Fail> {
+    let Ok(version) = Version::from_str(rt.alloc(), "1.0+x") else {
+        return Ok(())
+    };
+    let bound = Bound::Included(version);
+    for _turn in 0..2 {
+        match VersionSpecifier::from_lower_bound(rt.alloc(), &bound) {
+            Ok(_) => assert!(rt; false),
+            Err(error) => {
+                if let Ok(copy) = error.clone() {
+                    assert!(rt; copy == error);
+                }
+            }
+        }
+    }
+    Ok(())
+}
+
+#[test]
+fn sweep_pair(rt: HostRuntime) -> Result<(), Fail> {
+    let Ok(low) = release(rt, &[1, 0]) else {
+        return Ok(())
+    };
+    let Ok(high) = release(rt, &[2, 0]) else {
+        return Ok(())
+    };
+    let (start, end) = (Bound::Included(low), Bound::Excluded(high));
+    let mut refused = 0u64;
+    for _turn in 0..2 {
+        match VersionSpecifier::from_release_only_bounds(rt.alloc(), (&start, &end)) {
+            Ok(members) => assert_eq!(rt; members.count(), 2),
+            Err(_) => refused = refused.saturating_add(1),
+        }
+    }
+    assert!(rt; refused < 2);
+    Ok(())
+}
+
+#[test]
+fn sweep_pairs(rt: HostRuntime) -> Result<(), Fail> {
+    let (Ok(a), Ok(b)) = (release(rt, &[3, 7]), release(rt, &[3, 8])) else {
+        return Ok(())
+    };
+    let (Ok(c), Ok(d)) = (release(rt, &[3, 9]), release(rt, &[4])) else {
+        return Ok(())
+    };
+    let pairs = [
+        (Bound::Included(a), Bound::Excluded(b)),
+        (Bound::Included(c), Bound::Included(d)),
+    ];
+    let mut refused = 0u64;
+    for _turn in 0..2 {
+        match VersionSpecifiers::from_release_only_bounds(rt.alloc(), &pairs) {
+            Ok(list) => assert_eq!(rt; list.as_slice().len(), 3),
+            Err(_) => refused = refused.saturating_add(1),
+        }
+    }
+    assert!(rt; refused < 2);
+    Ok(())
+}
