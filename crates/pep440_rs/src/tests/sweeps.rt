@@ -1,80 +1,100 @@
-//! Each call that takes memory, with one request for memory refused: it answers what it answers with ample memory,
-//! or its want of memory, and then, asked again, what it answers with ample memory.
+//! Each call that takes memory, made twice with one request for memory refused: it answers what it answers with ample
+//! memory, or, at most once, its want of memory.
 use crate::{
     Operator, OperatorErrorKind, ParseErrorKind, SpecifiersErrorKind, VersionSpecifier,
     VersionSpecifiers,
 };
+use pep440_version::Version;
 use std::test::Fail;
 
 #[test]
 fn sweep_operator(rt: HostRuntime) -> Result<(), Fail> {
-    if let Err(error) = Operator::from_str(rt.alloc(), "=>") {
-        match error.kind() {
-            OperatorErrorKind::OutOfMemory => {}
-            OperatorErrorKind::Unknown { got } => assert_eq!(rt; got.as_str(), "=>"),
+    let mut refused: u32 = 0;
+    for _turn in 0..2 {
+        match Operator::from_str(rt.alloc(), "=>") {
+            Ok(_) => assert!(rt; false),
+            Err(error) => match error.kind() {
+                OperatorErrorKind::OutOfMemory => refused = refused.saturating_add(1),
+                OperatorErrorKind::Unknown { got } => assert_eq!(rt; got.as_str(), "=>"),
+            },
         }
     }
-    match Operator::from_str(rt.alloc(), "=>") {
-        Ok(_) => assert!(rt; false),
-        Err(error) => assert!(rt; matches!(error.kind(), OperatorErrorKind::Unknown { .. })),
+    assert!(rt; refused <= 1);
+    Ok(())
+}
+
+#[test]
+fn sweep_refused_specifier(rt: HostRuntime) -> Result<(), Fail> {
+    let mut refused: u32 = 0;
+    for _turn in 0..2 {
+        match VersionSpecifier::from_str(rt.alloc(), ">=1.0a1+x 2") {
+            Ok(_) => assert!(rt; false),
+            Err(error) => match error.kind() {
+                ParseErrorKind::OutOfMemory => refused = refused.saturating_add(1),
+                kind => assert!(rt; matches!(kind, ParseErrorKind::InvalidSpecifier(_))),
+            },
+        }
     }
+    assert!(rt; refused <= 1);
     Ok(())
 }
 
 #[test]
 fn sweep_specifier(rt: HostRuntime) -> Result<(), Fail> {
-    match VersionSpecifier::from_str(rt.alloc(), ">=1.0a1+x 2") {
-        Ok(_) => assert!(rt; false),
-        Err(error) => assert!(rt;
-            matches!(
-                error.kind(),
-                ParseErrorKind::OutOfMemory | ParseErrorKind::InvalidSpecifier(_)
-            )
-        ),
-    }
-    match VersionSpecifier::from_str(rt.alloc(), "==1.0a1+x") {
-        Ok(specifier) => assert!(rt; *specifier.operator() == Operator::Equal),
-        Err(error) => assert!(rt; matches!(error.kind(), ParseErrorKind::OutOfMemory)),
-    }
-    match VersionSpecifier::from_str(rt.alloc(), "==1.0a1+x") {
-        Ok(specifier) => {
-            if let Ok(copy) = specifier.clone() {
-                assert!(rt; copy == specifier);
+    let mut refused: u32 = 0;
+    for _turn in 0..2 {
+        match VersionSpecifier::from_str(rt.alloc(), "==1.0a1+x") {
+            Ok(specifier) => {
+                assert!(rt; *specifier.operator() == Operator::Equal);
+                match specifier.clone() {
+                    Ok(copy) => assert!(rt; copy == specifier),
+                    Err(_) => refused = refused.saturating_add(1),
+                }
+            }
+            Err(error) => {
+                assert!(rt; matches!(error.kind(), ParseErrorKind::OutOfMemory));
+                refused = refused.saturating_add(1);
             }
         }
-        Err(_) => assert!(rt; false),
     }
+    assert!(rt; refused <= 1);
     Ok(())
 }
 
 #[test]
 fn sweep_list(rt: HostRuntime) -> Result<(), Fail> {
-    match VersionSpecifiers::from_str(rt.alloc(), "<2,>=1") {
-        Ok(list) => assert_eq!(rt; list.as_slice().len(), 2),
-        Err(error) => {
-            assert!(rt; matches!(error.kind(), SpecifiersErrorKind::OutOfMemory));
-            assert_eq!(rt; error.line(), "");
-        }
-    }
-    match VersionSpecifiers::from_str(rt.alloc(), "<2,>=1") {
-        Ok(list) => {
-            assert_eq!(rt; list.as_slice().len(), 2);
-            if let Ok(copy) = list.clone() {
-                assert!(rt; copy == list);
+    let mut refused: u32 = 0;
+    for _turn in 0..2 {
+        match VersionSpecifiers::from_str(rt.alloc(), "<2,>=1") {
+            Ok(list) => {
+                assert_eq!(rt; list.as_slice().len(), 2);
+                match list.clone() {
+                    Ok(copy) => assert!(rt; copy == list),
+                    Err(_) => refused = refused.saturating_add(1),
+                }
+            }
+            Err(error) => {
+                assert!(rt; matches!(error.kind(), SpecifiersErrorKind::OutOfMemory));
+                assert_eq!(rt; error.line(), "");
+                refused = refused.saturating_add(1);
             }
         }
-        Err(_) => assert!(rt; false),
     }
+    assert!(rt; refused <= 1);
     Ok(())
 }
 
 #[test]
 fn sweep_refused_list(rt: HostRuntime) -> Result<(), Fail> {
+    let mut refused: u32 = 0;
     for _turn in 0..2 {
         match VersionSpecifiers::from_str(rt.alloc(), "<2,x") {
             Ok(_) => assert!(rt; false),
             Err(error) => match error.kind() {
-                SpecifiersErrorKind::OutOfMemory => assert_eq!(rt; error.line(), ""),
+                SpecifiersErrorKind::OutOfMemory => {
+                    assert_eq!(rt; error.line(), "");
+                    refused = refused.saturating_add(1);
+                }
                 SpecifiersErrorKind::Piece { start, stop, .. } => {
                     assert_eq!(rt; *start, 3);
                     assert_eq!(rt; *stop, 4);
@@ -83,24 +103,49 @@ fn sweep_refused_list(rt: HostRuntime) -> Result<(), Fail> {
             },
         }
     }
+    assert!(rt; refused <= 1);
     Ok(())
 }
 
 #[test]
-fn sweep_one(rt: HostRuntime) -> Result<(), Fail> {
-    let Ok(first) = VersionSpecifier::from_str(rt.alloc(), "==1.0") else {
-        return Ok(())
-    };
-    let Ok(second) = VersionSpecifier::from_str(rt.alloc(), "==1.0") else {
-        return Ok(())
-    };
-    if let Ok(list) = VersionSpecifiers::from_specifier(rt.alloc(), first) {
-        assert_eq!(rt; list.as_slice().len(), 1);
-        return Ok(());
+fn sweep_from_specifier(rt: HostRuntime) -> Result<(), Fail> {
+    let mut refused: u32 = 0;
+    for _turn in 0..2 {
+        let Ok(version) = Version::new(rt.alloc(), &[1, 0]) else {
+            return Ok(());
+        };
+        let specifier = VersionSpecifier::equals_version(version);
+        match VersionSpecifiers::from_specifier(rt.alloc(), specifier) {
+            Ok(list) => assert_eq!(rt; list.as_slice().len(), 1),
+            Err(_) => refused = refused.saturating_add(1),
+        }
     }
-    match VersionSpecifiers::from_specifier(rt.alloc(), second) {
-        Ok(list) => assert_eq!(rt; list.as_slice().len(), 1),
-        Err(_) => assert!(rt; false),
+    assert!(rt; refused <= 1);
+    Ok(())
+}
+
+/// So many members that sorting them takes memory.
+#[test]
+fn sweep_from_specifiers(rt: HostRuntime) -> Result<(), Fail> {
+    let mut refused: u32 = 0;
+    for _turn in 0..2 {
+        let mut members = Vec::new(rt.alloc());
+        for number in 0..64 {
+            let Ok(version) = Version::new(rt.alloc(), &[64 - number]) else {
+                return Ok(());
+            };
+            if members
+                .push(VersionSpecifier::equals_version(version))
+                .is_err()
+            {
+                return Ok(());
+            }
+        }
+        match VersionSpecifiers::from_specifiers(rt.alloc(), members) {
+            Ok(list) => assert_eq!(rt; list.as_slice().len(), 64),
+            Err(_) => refused = refused.saturating_add(1),
+        }
     }
+    assert!(rt; refused <= 1);
     Ok(())
 }
