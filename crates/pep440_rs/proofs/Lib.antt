@@ -38,3 +38,6 @@ pub mod Releases
 pub mod Single
 pub mod Star
 pub mod Suffixes
+pub mod Operands
+pub mod AtMax
+pub mod TextAgreement

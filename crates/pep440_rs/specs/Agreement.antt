@@ -1,8 +1,8 @@
 -- When the range of a specifier holds exactly the versions that the specifier contains (PEP 440, "Version
 -- specifiers"), and which side stays where it doesn't.
-use Rattle.std.specs.Prelude.{◌≡◌, ◌≢◌, ◌↔◌, ℕ, ◌+◌, ◌≤◌, Bool, true, false, not, ◌&&◌, ◌||◌, List, [], ◌∷◌, Option, Some, None, is_some, IsTrue, count_by, length, if◌then◌else◌}
+use Rattle.std.specs.Prelude.{◌≡◌, ◌≢◌, ◌↔◌, ℕ, ◌+◌, ◌≤◌, Bool, true, false, not, ◌&&◌, ◌||◌, List, [], Option, Some, None, is_some, IsTrue, count_by, length, if◌then◌else◌}
 use Rattle.std.specs.List.{All, Any, list_all}
-use Rattle.pep440_rs.specs.Bounds.{Segments, range_of, release_range_of, list_range}
+use Rattle.pep440_rs.specs.Bounds.{Segments, list_range}
 use Rattle.pep440_rs.specs.Matching.{matches, list_matches, same_release, any_prerelease}
 use Rattle.pep440_rs.specs.Specifiers.{Spec}
 use Rattle.pep440_rs.specs.declared.operator.Operator.{Operator}
@@ -32,6 +32,10 @@ IsOperand LessThan s = IsPlain s
 IsOperand LessThanEqual s = IsPlain s
 IsOperand GreaterThan s = IsPlain s
 IsOperand GreaterThanEqual s = IsPlain s
+
+-- the version of a specifier, unless it is `===`, is one that a text can give beside its operator
+abbrev pub HasOperand : Spec → Type 0
+HasOperand s = s.operator ≢ ExactEqual → IsOperand s.operator s.version
 
 -- a release, with neither pre, post nor dev
 abbrev pub is_final : Record → Bool
@@ -76,6 +80,27 @@ HoldsAllMatches op s range = IsTrue (is_wide op s) → IsPlain s → (v : Record
 -- of a list: where each member can be compared
 abbrev pub ListAgrees : List Spec → Segments → Type 0
 ListAgrees members range = (v : Record) → All (λ m. IsComparable m.operator m.version v) members → contains record_cmp range v ≡ list_matches members v
+
+-- ---- of what a text gives
+
+-- range and matching of a specifier that a text gives can be compared at v
+pub record IsCandidate (s : Spec) (v : Record) : Type 0 where
+  pub operator : s.operator ≢ ExactEqual
+  pub plain : IsPlain v
+  pub suffixes : IsSuffixComparable s.operator s.version v
+
+abbrev pub AgreesThere : Spec → Segments → Type 0
+AgreesThere s range = (v : Record) → IsCandidate s v → contains record_cmp range v ≡ matches s.operator s.version v
+
+abbrev pub ListAgreesThere : List Spec → Segments → Type 0
+ListAgreesThere members range = (v : Record) → All (λ m. IsCandidate m v) members → contains record_cmp range v ≡ list_matches members v
+
+-- and the side that stays
+abbrev pub HoldsOnlyMatchesThere : Spec → Segments → Type 0
+HoldsOnlyMatchesThere s range = IsTrue (is_narrow s.operator s.version) → (v : Record) → IsPlain v → IsTrue (contains record_cmp range v) → IsTrue (matches s.operator s.version v)
+
+abbrev pub HoldsAllMatchesThere : Spec → Segments → Type 0
+HoldsAllMatchesThere s range = IsTrue (is_wide s.operator s.version) → (v : Record) → IsPlain v → IsTrue (matches s.operator s.version v) → IsTrue (contains record_cmp range v)
 
 -- ---- releases alone
 

@@ -14,6 +14,8 @@ use Rattle.pep440_rs.specs.declared.error.OperatorErrorKind.{OperatorErrorKind}
 use Rattle.pep440_rs.specs.declared.error.OperatorErrorKind.TheVariants as operator
 use Rattle.pep440_rs.specs.declared.error.ParseErrorKind.{ParseErrorKind}
 use Rattle.pep440_rs.specs.declared.error.ParseErrorKind.TheVariants as parse
+use Rattle.pep440_rs.specs.declared.range_error.RangeError.{RangeError}
+use Rattle.pep440_rs.specs.declared.range_error.RangeError.TheVariants as range
 
 -- a byte that stands in quotes as it is
 abbrev pub is_unescaped : ℕ → Bool
@@ -56,3 +58,8 @@ specifier_text_of (parse.InvalidVersion e) = pattern_text_of (pattern_kind_of e)
 specifier_text_of (parse.InvalidSpecifier e) = Some (build_error_text (build_kind_of e))
 specifier_text_of (parse.InvalidTrailing rest) = Some (trailing_text (string_bytes rest))
 specifier_text_of parse.OutOfMemory = Some (codes "out of memory")
+
+-- why a conversion into a range is refused
+abbrev pub range_error_text : RangeError → List ℕ
+range_error_text range.NumberAtMax = codes "a number of 18446744073709551615 cannot be raised"
+range_error_text range.OutOfMemory = codes "out of memory"

@@ -1,9 +1,13 @@
 -- Which number a conversion raises. The conversion is refused exactly where that number is the greatest there is.
-use Rattle.std.specs.Prelude.{◌≡◌, ◌↔◌, ◌≤◌, ℕ, List, [], ◌∷◌, length, Option, Some, None}
-use Rattle.pep440_rs.specs.Bounds.{Segments, range_of, release_range_of}
+use Rattle.std.specs.Prelude.{◌≡◌, ◌==◌, ◌↔◌, ◌≤◌, ℕ, List, [], ◌∷◌, length, Bool, true, false, Option, Some, None, Result, Ok, Err}
+use Rattle.std.specs.List.{list_any}
+use Rattle.pep440_rs.specs.Bounds.{Segments}
 use Rattle.pep440_rs.specs.Matching.{without_last}
+use Rattle.pep440_rs.specs.Specifiers.{Spec}
 use Rattle.pep440_rs.specs.declared.operator.Operator.{Operator}
 use Rattle.pep440_rs.specs.declared.operator.Operator.TheVariants.{EqualStar, NotEqualStar, TildeEqual, GreaterThan}
+use Rattle.pep440_rs.specs.declared.range_error.RangeError.{RangeError}
+use Rattle.pep440_rs.specs.declared.range_error.RangeError.TheVariants.{NumberAtMax, OutOfMemory}
 use Rattle.pep440_version.specs.Record.{Record}
 use Rattle.pep440_version.specs.declared.prerelease.Prerelease.{Prerelease}
 
@@ -45,3 +49,29 @@ HasNumbers _ s = 1 ≤ length s.release
 
 abbrev pub RefusedAtMax : (Operator → Record → Option Segments) → (Operator → Record → Option ℕ) → Type 0
 RefusedAtMax conversion number = (op : Operator) (s : Record) → HasNumbers op s → (conversion op s ≡ None) ↔ (number op s ≡ Some 18446744073709551615)
+
+-- ---- what is answered there
+
+-- a number is raised, and it is the greatest there is
+abbrev pub is_at_max : Option ℕ → Bool
+is_at_max None = false
+is_at_max (Some n) = n == 18446744073709551615
+
+-- of a specifier, by either conversion; of a list, in some member
+abbrev pub raises_max : Spec → Bool
+raises_max s = is_at_max (raised_number s.operator s.version)
+
+abbrev pub release_raises_max : Spec → Bool
+release_raises_max s = is_at_max (raised_release_number s.operator s.version)
+
+abbrev pub some_raises_max : List Spec → Bool
+some_raises_max members = list_any raises_max members
+
+abbrev pub some_release_raises_max : List Spec → Bool
+some_release_raises_max members = list_any release_raises_max members
+
+-- a conversion is refused for another cause than memory exactly where the greatest number there is has to be raised
+abbrev pub TellsMax : Bool → Result Segments RangeError → Type 0
+TellsMax at_max (Ok range) = at_max ≡ false
+TellsMax at_max (Err NumberAtMax) = at_max ≡ true
+TellsMax at_max (Err OutOfMemory) = Unit {0}

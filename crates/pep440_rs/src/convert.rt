@@ -2,6 +2,7 @@
 ghost use Rattle.std.specs.Prelude.{◌≡◌, ◌≤◌, length, IfOk, IsErrOf, Some, None};
 ghost use Rattle.pep440_rs.specs.Agreement.{Agrees, HoldsOnlyMatches, HoldsAllMatches};
 ghost use Rattle.pep440_rs.specs.Bounds.{range_of, greater, compatible, compatible_end, star, star_end};
+ghost use Rattle.pep440_rs.specs.Refused.{TellsMax, raises_max};
 ghost use Rattle.pep440_version.specs.Record.{Record};
 
 use crate::operator::Operator;
@@ -124,7 +125,8 @@ fn range_of(
     }
 }
 
-/// The range of a specifier.
+/// The range of a specifier, by the whole order of versions (PEP 440, "Version specifiers" and "Summary of permitted
+/// suffixes and relative ordering").
 ///
 /// Takes memory. Answers `NumberAtMax` where a number that has to be raised is 18446744073709551615, and
 /// `OutOfMemory` where memory is refused.
@@ -134,13 +136,17 @@ pub fn specifier_to_range(
 ) -> Result<Ranges<Version>, RangeError>
     ensures range { IfOk result (λ r. range_of specifier.operator specifier.version ≡ Some r) }
     ensures refused { IsErrOf result RangeError.NumberAtMax → range_of specifier.operator specifier.version ≡ None }
+    // `NumberAtMax` exactly where the number to be raised is the greatest there is, unless memory runs out.
+    ensures at_max { TellsMax (raises_max specifier) result }
     // It holds exactly what the specifier contains, where the two can be compared.
     ensures agrees { IfOk result (λ r. Agrees specifier.operator specifier.version r) }
     // Whatever the suffixes, one side stays for `<` and `>`.
     ensures within { IfOk result (λ r. HoldsOnlyMatches specifier.operator specifier.version r) }
     ensures around { IfOk result (λ r. HoldsAllMatches specifier.operator specifier.version r) }
 {
+    // From these calls it is known how many release numbers there are at least: for `range_of`, and for `at_max`.
     let _two_numbers = specifier.operator();
+    let _one_number = specifier.version().release();
     let (operator, version) = specifier.into_parts();
     let range = range_of(alloc, operator, version)?;
     Ok(range)

@@ -5,7 +5,7 @@ ghost use Rattle.std.specs.List.{flat_map, list_all};
 ghost use Rattle.pep440_version.specs.Print.{dotted, segment_print};
 ghost use Rattle.pep440_version.specs.Segments.{segment};
 ghost use Rattle.pep440_rs.specs.Errors.{build_kind_of, operator_kind_of, parse_kind_of};
-ghost use Rattle.pep440_rs.specs.ErrorTexts.{build_error_text, is_unescaped, operator_text_of, specifier_text_of, unknown_text};
+ghost use Rattle.pep440_rs.specs.ErrorTexts.{build_error_text, is_unescaped, operator_text_of, range_error_text, specifier_text_of, unknown_text};
 ghost use Rattle.pep440_rs.specs.Operators.{operator_text};
 
 use crate::error::{
@@ -13,6 +13,7 @@ use crate::error::{
     VersionSpecifierBuildError, VersionSpecifierParseError,
 };
 use crate::operator::Operator;
+use crate::range_error::RangeError;
 use pep440_version::LocalSegment;
 use std::error::Error;
 use std::fmt;
@@ -219,3 +220,20 @@ impl fmt::Display for VersionSpecifierParseError {
 }
 
 impl Error for VersionSpecifierParseError {}
+
+impl fmt::Display for RangeError {
+    ghost output = { λ e. Some (range_error_text e) };
+
+    ghost styled_output = { λ e _. Some (range_error_text e) };
+
+    fn fmt<W: fmt::Write>(&self, f: &mut fmt::Formatter<W>) -> fmt::Result {
+        match self {
+            RangeError::NumberAtMax => f.write_str(
+                "a number of 18446744073709551615 cannot be raised",
+            ),
+            RangeError::OutOfMemory => f.write_str("out of memory"),
+        }
+    }
+}
+
+impl Error for RangeError {}

@@ -1,11 +1,12 @@
 //! What holds of matching and of ranges, each as the contract of a function that does nothing.
 ghost use Rattle.std.specs.Prelude.{◌≡◌, ◌⊎◌, ℕ, Some, List, not};
-ghost use Rattle.pep440_rs.specs.ListGrammar.{DerivesList, PieceRefusal, RefusesList};
-ghost use Rattle.pep440_rs.specs.SpecifierGrammar.{DerivesSpecifier, RefusesSpecifier, SpecifierRefusal};
-ghost use Rattle.pep440_rs.specs.Agreement.{Agrees, HoldsOnlyMatches, HoldsAllMatches, ReleaseAgrees, ListAgrees, ReleaseListAgrees, HoldsInEach, HasFewSegments, RefusedByAMember, GivesRanges, GivesFew};
+ghost use Rattle.std.specs.List.{All};
+ghost use Rattle.pep440_rs.specs.Agreement.{Agrees, AgreesThere, ListAgreesThere, HoldsOnlyMatchesThere, HoldsAllMatchesThere, HasOperand, HoldsOnlyMatches, HoldsAllMatches, ReleaseAgrees, ListAgrees, ReleaseListAgrees, HoldsInEach, HasFewSegments, RefusedByAMember, GivesRanges, GivesFew};
 ghost use Rattle.pep440_rs.specs.BoundsAgreement.{PairAgrees, ContainsWithin, ContainsOnlyWithin};
 ghost use Rattle.pep440_rs.specs.Bounds.{Segments, range_of, release_range_of, list_range};
+ghost use Rattle.pep440_rs.specs.ListGrammar.{DerivesList, PieceRefusal, RefusesList};
 ghost use Rattle.pep440_rs.specs.Matching.{matches};
+ghost use Rattle.pep440_rs.specs.SpecifierGrammar.{DerivesSpecifier, RefusesSpecifier, SpecifierRefusal};
 ghost use Rattle.pep440_rs.specs.Specifiers.{Spec};
 ghost use Rattle.pep440_version.specs.Record.{Record};
 ghost use Rattle.pep440_rs.specs.Refused.{RefusedAtMax, raised_number, raised_release_number};
@@ -34,12 +35,29 @@ pub fn exclusions()
     ensures star { (s v : Record) → matches Operator.NotEqualStar s v ≡ not (matches Operator.EqualStar s v) }
 {}
 
+/// What a text gives beside an operator other than `===` is a version for which range and matching can be compared:
+/// beside a star a release with its epoch, beside `==` and `!=` any version, beside the others one without local
+/// part (PEP 440, "Version specifiers"). So it is of each member of a list that a text gives.
+pub fn texts_give_operands()
+    ensures single { (text : List ℕ) (s : Spec) → DerivesSpecifier text s → HasOperand s }
+    ensures list { (text : List ℕ) (list : List Spec) → DerivesList text list → All HasOperand list }
+{}
+
 /// Where range and matching can be compared, the range holds exactly what the specifier contains; else one side
 /// stays.
 pub fn range_agrees()
     ensures agrees { (op : Operator) (s : Record) (range : Segments) → range_of op s ≡ Some range → Agrees op s range }
     ensures within { (op : Operator) (s : Record) (range : Segments) → range_of op s ≡ Some range → HoldsOnlyMatches op s range }
     ensures around { (op : Operator) (s : Record) (range : Segments) → range_of op s ≡ Some range → HoldsAllMatches op s range }
+{}
+
+/// The same of what a text gives, whose version is always one for which the two can be compared: the operator is not
+/// `===`, the candidate has no local part and no marks, and no suffix stands on which range and matching part.
+pub fn range_of_text_agrees()
+    ensures single { (text : List ℕ) (s : Spec) (range : Segments) → DerivesSpecifier text s → range_of s.operator s.version ≡ Some range → AgreesThere s range }
+    ensures list { (text : List ℕ) (list : List Spec) (range : Segments) → DerivesList text list → list_range range_of list ≡ Some range → ListAgreesThere list range }
+    ensures within { (text : List ℕ) (s : Spec) (range : Segments) → DerivesSpecifier text s → range_of s.operator s.version ≡ Some range → HoldsOnlyMatchesThere s range }
+    ensures around { (text : List ℕ) (s : Spec) (range : Segments) → DerivesSpecifier text s → range_of s.operator s.version ≡ Some range → HoldsAllMatchesThere s range }
 {}
 
 /// Of releases alone the release-only range holds exactly what the specifier contains.

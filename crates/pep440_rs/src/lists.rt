@@ -2,6 +2,7 @@
 ghost use Rattle.std.specs.Prelude.{◌≡◌, IfOk, IsErrOf, Some, None};
 ghost use Rattle.pep440_rs.specs.Agreement.{ListAgrees, ReleaseListAgrees, HoldsInEach, HasFewSegments};
 ghost use Rattle.pep440_rs.specs.Bounds.{range_of, release_range_of, list_range};
+ghost use Rattle.pep440_rs.specs.Refused.{TellsMax, some_raises_max, some_release_raises_max};
 
 use crate::convert::specifier_to_range;
 use crate::range_error::RangeError;
@@ -16,6 +17,7 @@ use std::alloc::Global;
 fn list_range(alloc: Global, members: Vec<VersionSpecifier>) -> Result<Ranges<Version>, RangeError>
     ensures range { IfOk result (λ r. list_range range_of members.items ≡ Some r) }
     ensures refused { IsErrOf result RangeError.NumberAtMax → list_range range_of members.items ≡ None }
+    ensures at_max { TellsMax (some_raises_max members.items) result }
 {
     let mut range = Ranges::full(alloc)?;
     for member in members {
@@ -25,7 +27,8 @@ fn list_range(alloc: Global, members: Vec<VersionSpecifier>) -> Result<Ranges<Ve
     Ok(range)
 }
 
-/// The range of a list: all versions, intersected with each member's range in the list's order.
+/// The range of a list: all versions, intersected with each member's range in the list's order (PEP 440, "Version
+/// specifiers": a version must match each of them).
 ///
 /// Takes memory. Answers `NumberAtMax` where that is the answer of some member, also where the members before it
 /// leave no version, and `OutOfMemory` where memory is refused.
@@ -35,6 +38,8 @@ pub fn specifiers_to_ranges(
 ) -> Result<Ranges<Version>, RangeError>
     ensures range { IfOk result (λ r. list_range range_of specifiers ≡ Some r) }
     ensures refused { IsErrOf result RangeError.NumberAtMax → list_range range_of specifiers ≡ None }
+    // `NumberAtMax` exactly where some member has to raise the greatest number there is, unless memory runs out.
+    ensures at_max { TellsMax (some_raises_max specifiers) result }
     // It holds exactly what the list contains, where range and matching of each member can be compared.
     ensures agrees { IfOk result (λ r. ListAgrees specifiers r) }
     // It holds what the range of each member holds.
@@ -54,6 +59,7 @@ fn release_list_range(
 ) -> Result<Ranges<Version>, RangeError>
     ensures range { IfOk result (λ r. list_range release_range_of members.items ≡ Some r) }
     ensures refused { IsErrOf result RangeError.NumberAtMax → list_range release_range_of members.items ≡ None }
+    ensures at_max { TellsMax (some_release_raises_max members.items) result }
 {
     let mut range = Ranges::full(alloc)?;
     for member in members {
@@ -63,7 +69,8 @@ fn release_list_range(
     Ok(range)
 }
 
-/// The release-only range of a list: all versions, intersected with each member's in the list's order.
+/// The release-only range of a list: all versions, intersected with each member's in the list's order (PEP 440,
+/// "Version specifiers" and "Final releases").
 ///
 /// Takes memory. Answers `NumberAtMax` where that is the answer of some member, also where the members before it
 /// leave no version, and `OutOfMemory` where memory is refused.
@@ -73,6 +80,8 @@ pub fn release_specifiers_to_ranges(
 ) -> Result<Ranges<Version>, RangeError>
     ensures range { IfOk result (λ r. list_range release_range_of specifiers ≡ Some r) }
     ensures refused { IsErrOf result RangeError.NumberAtMax → list_range release_range_of specifiers ≡ None }
+    // `NumberAtMax` exactly where some member has to raise the greatest number there is, unless memory runs out.
+    ensures at_max { TellsMax (some_release_raises_max specifiers) result }
     // Of releases alone it holds exactly what the list contains.
     ensures agrees { IfOk result (λ r. ReleaseListAgrees specifiers r) }
     // It holds what the range of each member holds.

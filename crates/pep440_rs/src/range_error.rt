@@ -1,13 +1,13 @@
 //! Why a conversion into a range is refused.
-
 use std::alloc::{AllocError, AllocFailed};
 
 /// Why a conversion into a range is refused.
-#[derive(Debug, Drop)]
+#[derive(Debug, Clone, Copy, PartialEq, Eq)]
 pub enum RangeError {
-    /// A number that has to be raised is 18446744073709551615.
+    /// A number that has to be raised is 18446744073709551615, the greatest there is; of a list it is so in some
+    /// member.
     NumberAtMax,
-    /// Memory was refused.
+    /// Memory ran out, which says nothing of the specifiers.
     OutOfMemory,
 }
 

@@ -2,6 +2,7 @@
 ghost use Rattle.std.specs.Prelude.{◌≡◌, ◌≤◌, ◌<◌, length, IfOk, IsErrOf, Some, None};
 ghost use Rattle.pep440_rs.specs.Agreement.{ReleaseAgrees};
 ghost use Rattle.pep440_rs.specs.Bounds.{release_range_of, release_up_to};
+ghost use Rattle.pep440_rs.specs.Refused.{TellsMax, release_raises_max};
 ghost use Rattle.pep440_version.specs.Record.{Record, of_release};
 
 use crate::operator::Operator;
@@ -74,7 +75,8 @@ fn release_range_of(
     }
 }
 
-/// The release-only range of a specifier: that of its release, whatever its other parts.
+/// The release-only range of a specifier: that of its release, whatever its other parts (PEP 440, "Version
+/// specifiers" and "Final releases").
 ///
 /// Takes memory. Answers `NumberAtMax` where a number that has to be raised is 18446744073709551615, and
 /// `OutOfMemory` where memory is refused.
@@ -84,9 +86,14 @@ pub fn release_specifier_to_range(
 ) -> Result<Ranges<Version>, RangeError>
     ensures range { IfOk result (λ r. release_range_of specifier.operator specifier.version ≡ Some r) }
     ensures refused { IsErrOf result RangeError.NumberAtMax → release_range_of specifier.operator specifier.version ≡ None }
+    // `NumberAtMax` exactly where the number to be raised is the greatest there is, unless memory runs out.
+    ensures at_max { TellsMax (release_raises_max specifier) result }
     // Of releases alone it holds exactly what the specifier contains.
     ensures agrees { IfOk result (λ r. ReleaseAgrees specifier.operator specifier.version r) }
 {
-    let range = release_range_of(alloc, *specifier.operator(), specifier.version())?;
+    let version = specifier.version();
+    // From this call it is known that there is a release number: for `at_max`.
+    let _one_number = version.release();
+    let range = release_range_of(alloc, *specifier.operator(), version)?;
     Ok(range)
 }

@@ -1,6 +1,7 @@
 //! Single specifiers: how one is made, and its parts.
 ghost use Rattle.std.specs.Prelude.{◌≡◌, ◌||◌, ◌<◌, length, is_some, Ok, Err, Some, IfOk, IfErr, IfSome, ℕ, List, Bool};
 ghost use Rattle.pep440_version.specs.Record.{Record};
+ghost use Rattle.pep440_rs.specs.Agreement.{HasOperand};
 ghost use Rattle.pep440_rs.specs.Build.{built, built_pattern};
 ghost use Rattle.pep440_rs.specs.Errors.{Builds, SpecifierAnswers, specifier_refusal_of, parse_kind_of, IsLifted};
 ghost use Rattle.pep440_rs.specs.ErrorTexts.{specifier_text_of, specifier_refusal_text};
@@ -214,6 +215,8 @@ impl VersionSpecifier {
     ) -> Result<VersionSpecifier, VersionSpecifierParseError>
         // What is answered is what the text means.
         ensures found { IfOk result (λ s. DerivesSpecifier text.now s) }
+        // Its version is one that a text can give beside the operator, as the agreement of ranges asks.
+        ensures operand { IfOk result HasOperand }
         // What the text means is answered, unless memory runs out.
         ensures only { (s : Spec) → DerivesSpecifier text.now s → SpecifierAnswers result (Ok s) }
         // A refusal is the one of the text.

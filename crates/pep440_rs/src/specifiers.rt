@@ -1,7 +1,9 @@
 //! Lists of specifiers: how one is made, and its members.
 ghost use Rattle.std.specs.Prelude.{◌≡◌, ◌==◌, ◌<◌, ◌∷◌, [], ℕ, List, codes, length, IfOk, IfErr, IfSome, Some, Ok, Err};
+ghost use Rattle.std.specs.List.{All};
 ghost use Rattle.std.specs.Slice.Iter.{iter_rest};
 ghost use Rattle.std.specs.Vec.Iter.{into_iter_items};
+ghost use Rattle.pep440_rs.specs.Agreement.{HasOperand};
 ghost use Rattle.pep440_rs.specs.Arrangement.{Arranges, IsArranged, version_cmp};
 ghost use Rattle.pep440_rs.specs.ListAnswers.{ListAnswers, ListReads, line_for, line_of, list_kind_of};
 ghost use Rattle.pep440_rs.specs.ListErrors.{IsListLifted, list_refusal_of};
@@ -115,6 +117,8 @@ impl VersionSpecifiers {
     ) -> Result<VersionSpecifiers, VersionSpecifiersParseError>
         // What is answered is what the text means.
         ensures found { IfOk result (λ list. DerivesList text.now list) }
+        // The version of each member is one that a text can give beside the operator, as the agreement of ranges asks.
+        ensures operand { IfOk result (λ list. All HasOperand list) }
         // What the text means is answered, unless memory runs out.
         ensures only { (list : List Spec) → DerivesList text.now list → ListAnswers result (Ok list) }
         // A refusal is that of the first refused piece.

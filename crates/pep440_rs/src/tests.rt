@@ -1,6 +1,9 @@
 mod bounds;
 mod json;
 mod lists;
+mod matching;
+mod range_sweeps;
+mod ranges;
 mod single;
 mod sweep_bounds;
 mod sweep_json;

@@ -1,9 +1,13 @@
 use Rattle.pep440_rs.proofs.Answered.{is_again, is_decided, is_found, is_only, is_refused}
+use Rattle.pep440_rs.proofs.Operands.{answered_operand}
 use Rattle.pep440_rs.proofs.Told.{is_told}
 use Rattle.pep440_rs.proofs.specifier.VersionSpecifier.from_str.Goals as goal
 
 pub returns-clause-found : goal.returns-clause-found
 returns-clause-found c = is_found c.args.text.now _ c.read.ensures.value
+
+pub returns-clause-operand : goal.returns-clause-operand
+returns-clause-operand c = answered_operand c.args.text.now _ (is_found c.args.text.now _ c.read.ensures.value)
 
 pub returns-clause-only : goal.returns-clause-only
 returns-clause-only c = is_only c.args.text.now _ c.read.ensures.value
