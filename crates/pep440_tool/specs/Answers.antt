@@ -7,10 +7,12 @@ use Rattle.std.specs.declared.ops.Bound.{Bound}
 use Rattle.std.specs.declared.ops.Bound.TheVariants.{Included, Excluded, Unbounded}
 use Rattle.pep440_ranges.specs.Segments.{Segment}
 use Rattle.pep440_rs.specs.Bounds.{Segments, range_of, list_range}
+use Rattle.pep440_rs.specs.ErrorTexts.{range_error_text}
 use Rattle.pep440_rs.specs.ListErrorTexts.{list_refusal_text}
 use Rattle.pep440_rs.specs.ListGrammar.{DerivesList, PieceRefusal, RefusesList}
 use Rattle.pep440_rs.specs.Matching.{list_matches}
 use Rattle.pep440_rs.specs.Specifiers.{Spec}
+use Rattle.pep440_rs.specs.declared.range_error.RangeError.TheVariants.{NumberAtMax}
 use Rattle.pep440_version.specs.Changes.{Edit, changed_all}
 use Rattle.pep440_version.specs.ErrorTexts.{refusal_text, change_error_text}
 use Rattle.pep440_version.specs.Grammar.{Derives}
@@ -133,7 +135,7 @@ segments_answer (s ∷ rest) = shown_lines (map segment_text (s ∷ rest))
 -- or that a number would have to be raised that can't be
 abbrev pub range_answer : Option Segments → ToolAnswer
 range_answer (Some range) = segments_answer range
-range_answer None = refused (codes "a number of 18446744073709551615 cannot be raised")
+range_answer None = refused (range_error_text NumberAtMax)
 
 -- `range SPECS`: the range of the list
 abbrev pub RangeAnswer : List ℕ → ToolAnswer → Type 0

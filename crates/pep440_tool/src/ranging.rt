@@ -81,9 +81,7 @@ pub fn range(alloc: Global, word: &str) -> Result<Answer, AllocError>
     };
     match specifiers_to_ranges(alloc, list) {
         Ok(range) => segments(alloc, &range),
-        Err(RangeError::NumberAtMax) => {
-            refused(alloc, "a number of 18446744073709551615 cannot be raised")
-        }
         Err(RangeError::OutOfMemory) => Err(AllocError),
+        Err(error) => refused(alloc, error.to_string(alloc)?.as_str()),
     }
 }
