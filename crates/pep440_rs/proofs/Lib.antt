@@ -14,6 +14,8 @@ pub mod Patterns
 pub mod Pieces
 pub mod Around
 pub mod Arranged
+pub mod Associates
+pub mod Neighbours
 pub mod ListTells
 pub mod ListTold
 pub mod ListAgain

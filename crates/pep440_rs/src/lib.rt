@@ -17,6 +17,7 @@ pub mod laws;
 mod list_error;
 mod list_text;
 mod lists;
+mod meet;
 mod members;
 mod operator;
 mod order;

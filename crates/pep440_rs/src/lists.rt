@@ -5,6 +5,7 @@ ghost use Rattle.pep440_rs.specs.Bounds.{range_of, release_range_of, list_range}
 ghost use Rattle.pep440_rs.specs.Refused.{TellsMax, some_raises_max, some_release_raises_max};
 
 use crate::convert::specifier_to_range;
+use crate::meet::meet;
 use crate::range_error::RangeError;
 use crate::release_only::release_specifier_to_range;
 use crate::specifier::VersionSpecifier;
@@ -13,17 +14,19 @@ use pep440_ranges::Ranges;
 use pep440_version::Version;
 use std::alloc::Global;
 
-// The intersection of the members' ranges, in the list's order.
+// The intersection of the members' ranges, in the list's order. Each member is asked first, so that none is left out
+// where those before it leave nothing.
 fn list_range(alloc: Global, members: Vec<VersionSpecifier>) -> Result<Ranges<Version>, RangeError>
     ensures range { IfOk result (λ r. list_range range_of members.items ≡ Some r) }
     ensures refused { IsErrOf result RangeError.NumberAtMax → list_range range_of members.items ≡ None }
     ensures at_max { TellsMax (some_raises_max members.items) result }
 {
-    let mut range = Ranges::full(alloc)?;
+    let mut ranges = Vec::new(alloc);
     for member in members {
         let next = specifier_to_range(alloc, member)?;
-        range = range.intersection(alloc, &next)?;
+        ranges.push(next)?;
     }
+    let range = meet(alloc, ranges)?;
     Ok(range)
 }
 
@@ -61,11 +64,12 @@ fn release_list_range(
     ensures refused { IsErrOf result RangeError.NumberAtMax → list_range release_range_of members.items ≡ None }
     ensures at_max { TellsMax (some_release_raises_max members.items) result }
 {
-    let mut range = Ranges::full(alloc)?;
+    let mut ranges = Vec::new(alloc);
     for member in members {
         let next = release_specifier_to_range(alloc, member)?;
-        range = range.intersection(alloc, &next)?;
+        ranges.push(next)?;
     }
+    let range = meet(alloc, ranges)?;
     Ok(range)
 }
 
