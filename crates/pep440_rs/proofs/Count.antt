@@ -1,12 +1,12 @@
 -- What each conversion gives is a range, of at most one segment, and of two for an exclusion.
-use Rattle.std.proofs.Common.{◌≡◌, ℕ, ◌+◌, ◌≤◌, Bool, true, false, cond, List, [], ◌∷◌, length, Option, Some, None, refl, ap, sym, ◌∙◌, count_by, arith}
+use Rattle.std.proofs.Common.{◌≡◌, ℕ, ◌≤◌, Bool, true, false, cond, List, [], ◌∷◌, length, Option, Some, None, refl, ap, arith}
 use Rattle.std.proofs.lemmas.Cmp.{tied_itself}
 use Rattle.std.specs.Ordering.{is_le}
 use Rattle.std.specs.declared.ops.Bound.{Bound}
 use Rattle.std.specs.declared.ops.Bound.TheVariants.{Included, Excluded}
 use Rattle.pep440_rs.proofs.Prefix.{mapped, some_is}
 use Rattle.pep440_rs.specs.Agreement.{GivesRanges, GivesFew, is_exclusion}
-use Rattle.pep440_rs.specs.Bounds.{Segments, range_of, release_range_of, range_of_release, release_up_to, alone, below, less, greater, compatible_end, star, star_end, next_number, raised, from_to}
+use Rattle.pep440_rs.specs.Bounds.{Segments, range_of, release_range_of, release_up_to, alone, below, less, greater, compatible_end, star, star_end, next_number, raised, from_to}
 use Rattle.pep440_rs.specs.Matching.{any_prerelease, without_last}
 use Rattle.pep440_rs.specs.declared.operator.Operator.{Operator}
 use Rattle.pep440_rs.specs.declared.operator.Operator.TheVariants.{Equal, EqualStar, ExactEqual, NotEqual, NotEqualStar, TildeEqual, LessThan, LessThanEqual, GreaterThan, GreaterThanEqual}

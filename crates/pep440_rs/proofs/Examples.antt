@@ -1,7 +1,6 @@
 -- Versions of the examples.
-use Rattle.std.proofs.Common.{ℕ, List, [], ◌∷◌, Option, Some, None}
-use Rattle.pep440_version.specs.Record.{Record, Text, of_release, public_record}
-use Rattle.pep440_version.specs.declared.prerelease.Prerelease.{Prerelease}
+use Rattle.std.proofs.Common.{ℕ, [], ◌∷◌, Some}
+use Rattle.pep440_version.specs.Record.{Record, Text, of_release}
 use Rattle.pep440_version.specs.declared.prerelease.PrereleaseKind.{PrereleaseKind}
 
 abbrev pub greatest : ℕ

@@ -1,18 +1,17 @@
 -- `>`: its range agrees with matching; that of a post-release lies within it whatever the suffixes, and that of
 -- another version around it.
-use Rattle.std.proofs.Common.{◌≡◌, ℕ, Bool, true, false, not, ◌&&◌, ◌||◌, IsTrue, List, [], ◌∷◌, Option, Some, None, is_some, refl, sym, ap, ◌∙◌}
+use Rattle.std.proofs.Common.{◌≡◌, ℕ, Bool, true, false, not, ◌&&◌, ◌||◌, IsTrue, List, [], Option, Some, None, is_some, refl, sym, ap, ◌∙◌}
 use mathlib.Core.Bool.{true≢false}
 use Rattle.std.specs.Ordering.{ordering_then, is_lt, is_le, is_gt, is_eq}
 use Rattle.std.specs.declared.cmp.Ordering.{Ordering}
 use Rattle.std.specs.declared.cmp.Ordering.TheVariants as ord
-use Rattle.std.specs.declared.ops.Bound.TheVariants.{Included, Excluded, Unbounded}
 use Rattle.pep440_rs.proofs.Less.{in_equal}
 use Rattle.pep440_rs.proofs.VersionOrder.{by_parts, same_base, plain, turn_le, turn_lt, only_start, both}
 use Rattle.pep440_rs.proofs.Prefix.{mapped, some_is, next_is}
 use Rattle.pep440_rs.proofs.Suffixes.{above_dev, above_post, post_within, above_max}
 use Rattle.pep440_rs.specs.Agreement.{IsSuffixComparable, is_final}
 use Rattle.pep440_rs.specs.Bounds.{Segments, greater, next_number, from, above}
-use Rattle.pep440_rs.specs.Matching.{matches, same_release, is_late}
+use Rattle.pep440_rs.specs.Matching.{matches}
 use Rattle.pep440_rs.specs.declared.operator.Operator.TheVariants.{GreaterThan}
 use Rattle.pep440_ranges.specs.Segments.{contains}
 use Rattle.pep440_version.specs.Key.{base_cmp, suffix_cmp, record_cmp}

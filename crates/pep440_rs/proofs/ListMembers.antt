@@ -1,18 +1,18 @@
 -- The members of a list of pairs contain the releases within the pairs.
-use Rattle.std.proofs.Common.{◌≡◌, ◌⊎◌, inl, inr, ℕ, ◌+◌, Bool, true, false, not, ◌&&◌, ◌||◌, IsTrue, List, [], ◌∷◌, ◌++◌, length, refl, sym, ap, ◌∙◌, arith}
+use Rattle.std.proofs.Common.{◌≡◌, ◌⊎◌, inl, inr, Bool, true, false, not, ◌&&◌, ◌||◌, List, [], ◌∷◌, refl, sym, ap, ◌∙◌, arith}
 use mathlib.Core.Bool.{true≢false}
 use Rattle.std.proofs.lemmas.List.Elements.{All-tail}
 use Rattle.std.proofs.lemmas.List.Sorted.{All-permutation, IsPermutation-sym}
 use Rattle.std.proofs.lemmas.List.Sums.{AllPass-from_list_all, list_all-from_AllPass}
-use Rattle.std.specs.List.{All, list_all}
+use Rattle.std.specs.List.{All}
 use Rattle.std.specs.List.Sorted.{IsPermutation}
 use Rattle.std.specs.Ordering.{is_lt, is_le}
 use Rattle.std.specs.declared.ops.Bound.{Bound}
 use Rattle.std.specs.declared.ops.Bound.TheVariants.{Included, Excluded, Unbounded}
 use Rattle.pep440_rs.proofs.VersionOrder.{turn_le, both}
-use Rattle.pep440_rs.proofs.PairMembers.{append_matches, pair_agrees, is_outside, gap_holds, gap_only}
+use Rattle.pep440_rs.proofs.PairMembers.{append_matches, pair_agrees, gap_holds, gap_only}
 use Rattle.pep440_rs.specs.Agreement.{IsReleaseOnly}
-use Rattle.pep440_rs.specs.BoundsAgreement.{IsReleaseBound, IsReleasePair, is_followed, IsOrderedAfter, IsOrdered, KnowsGapsAfter, KnowsGaps, ContainsWithin, ContainsOnlyWithin}
+use Rattle.pep440_rs.specs.BoundsAgreement.{IsReleaseBound, IsReleasePair, is_followed, IsOrderedAfter, KnowsGapsAfter, ContainsWithin, ContainsOnlyWithin}
 use Rattle.pep440_rs.specs.Matching.{matches, list_matches}
 use Rattle.pep440_rs.specs.Specifiers.{Spec}
 use Rattle.pep440_rs.specs.Members.{pair_members, gap_members, gaps_members, last_end, list_members}

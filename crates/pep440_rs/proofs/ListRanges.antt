@@ -1,10 +1,9 @@
 -- Lists: the fold of intersections holds what each member's range holds.
-use Rattle.std.proofs.Common.{◌≡◌, ◌↔◌, ℕ, zero, suc, ◌+◌, ◌-◌, ◌≤◌, ◌<◌, Bool, true, false, ◌&&◌, List, [], ◌∷◌, length, Option, Some, None, option_and_then, count_by, cond, slice_index_or, refl, sym, ap, ◌∙◌, subst, arith}
-use mathlib.Core.Bool.{true≢false}
+use Rattle.std.proofs.Common.{◌≡◌, ℕ, zero, suc, ◌+◌, ◌≤◌, ◌<◌, Bool, true, false, ◌&&◌, List, [], ◌∷◌, length, Option, Some, None, option_and_then, cond, slice_index_or, refl, sym, ap, ◌∙◌, arith}
 use Rattle.std.proofs.lemmas.List.Elements.{All-tail}
 use Rattle.std.proofs.lemmas.List.Sums.{sum_by-append}
 use Rattle.std.specs.List.{All, Any, list_all}
-use Rattle.pep440_rs.specs.Agreement.{Agrees, ReleaseAgrees, IsComparable, IsReleaseComparable, ListAgrees, ReleaseListAgrees, GivesRanges, GivesFew, HoldsInEach, HasFewSegments, RefusedByAMember, is_held, is_exclusion, exclusions}
+use Rattle.pep440_rs.specs.Agreement.{IsComparable, IsReleaseComparable, ListAgrees, ReleaseListAgrees, GivesRanges, GivesFew, HoldsInEach, HasFewSegments, RefusedByAMember, is_held, is_exclusion, exclusions}
 use Rattle.pep440_rs.specs.Bounds.{Segments, range_of, release_range_of, range_from, list_range, full}
 use Rattle.pep440_rs.specs.Matching.{matches, list_matches}
 use Rattle.pep440_rs.specs.Specifiers.{Spec}
@@ -15,7 +14,6 @@ use Rattle.pep440_ranges.specs.Segments.{contains, IsRange}
 use Rattle.pep440_version.specs.Key.{record_cmp}
 use Rattle.pep440_version.specs.KeyLaws.{record_total}
 use Rattle.pep440_version.specs.Record.{Record}
-use Rattle.pep440_rs.proofs.Count.{gives_ranges, gives_few, gives_release_ranges, gives_few_by_release}
 use Rattle.pep440_rs.proofs.Prefix.{some_is}
 use Rattle.pep440_rs.proofs.Releases.{release_agrees}
 use Rattle.pep440_rs.proofs.Single.{agrees}

@@ -1,25 +1,24 @@
 -- The members of one pair of bounds, and of one gap, between releases.
-use Rattle.std.proofs.Common.{◌≡◌, ◌==◌, ℕ, ◌+◌, Bool, true, false, not, ◌&&◌, ◌||◌, cond, List, [], ◌∷◌, ◌++◌, Option, Some, None, option_to_list, length, refl, sym, ap, ◌∙◌, subst, arith}
+use Rattle.std.proofs.Common.{◌≡◌, ◌==◌, ℕ, ◌+◌, Bool, true, false, not, ◌&&◌, ◌||◌, cond, List, [], ◌∷◌, ◌++◌, option_to_list, length, refl, sym, ap, ◌∙◌, subst, arith}
 use mathlib.Core.Bool.{true≢false}
 use Rattle.std.proofs.lemmas.Bool.Decides.{nat_tests}
 use Rattle.std.proofs.lemmas.List.Folds.{list_all-append}
-use Rattle.std.specs.List.{list_all}
 use Rattle.std.specs.Ordering.{ordering_reverse, is_lt, is_le, is_eq}
 use Rattle.std.specs.declared.cmp.Ordering.{Ordering}
 use Rattle.std.specs.declared.cmp.Ordering.TheVariants as ord
 use Rattle.std.specs.declared.ops.Bound.{Bound}
 use Rattle.std.specs.declared.ops.Bound.TheVariants.{Included, Excluded, Unbounded}
-use Rattle.pep440_rs.proofs.VersionOrder.{turn_le, both, only_end}
+use Rattle.pep440_rs.proofs.VersionOrder.{turn_le, both}
 use Rattle.pep440_rs.proofs.ReleaseMatching.{equal_is, from_matches, above_matches, up_to_matches, below_matches, star_matches}
 use Rattle.pep440_rs.specs.Agreement.{IsReleaseOnly}
-use Rattle.pep440_rs.specs.BoundsAgreement.{IsReleaseBound, IsReleasePair, PairAgrees, is_known_gap}
+use Rattle.pep440_rs.specs.BoundsAgreement.{IsReleaseBound, PairAgrees, is_known_gap}
 use Rattle.pep440_rs.specs.Matching.{matches, list_matches}
 use Rattle.pep440_rs.specs.Specifiers.{Spec}
 use Rattle.pep440_rs.specs.Members.{spec, is_next, lower_member, upper_member, outer_members, pair_members, gap_members}
 use Rattle.pep440_rs.specs.declared.operator.Operator.TheVariants.{Equal, EqualStar, NotEqual, NotEqualStar, LessThan, LessThanEqual, GreaterThan, GreaterThanEqual}
 use Rattle.pep440_ranges.proofs.Places.{below, start_place, end_place, value_place, valid_is, upto_is, from_is, le_le}
-use Rattle.pep440_ranges.specs.Bounds.{is_valid, turned, is_from_start, is_up_to_end}
-use Rattle.pep440_ranges.specs.Segments.{Segment, lies_in}
+use Rattle.pep440_ranges.specs.Bounds.{is_valid, is_from_start, is_up_to_end}
+use Rattle.pep440_ranges.specs.Segments.{lies_in}
 use Rattle.pep440_version.specs.Key.{record_cmp}
 use Rattle.pep440_version.specs.KeyLaws.{record_total}
 use Rattle.pep440_version.specs.Record.{Record, of_release}

@@ -1,10 +1,9 @@
 -- A conversion is refused exactly where the number that it raises is the greatest there is.
-use Rattle.std.proofs.Common.{◌≡◌, ◌↔◌, ℕ, ◌+◌, ◌≤◌, ◌==◌, Bool, true, false, cond, List, [], ◌∷◌, length, Option, Some, None, option_map, refl, sym, ap, ◌∙◌, arith}
+use Rattle.std.proofs.Common.{◌≡◌, ◌↔◌, ℕ, ◌+◌, ◌≤◌, ◌==◌, Bool, true, false, cond, List, [], ◌∷◌, length, Option, Some, None, option_map, refl, ap, arith}
 use Rattle.std.proofs.lemmas.Bool.Decides.{nat_tests}
-use Rattle.pep440_rs.specs.Bounds.{Segments, range_of, release_range_of, release_up_to, greater, star, star_end, next_number, raised}
+use Rattle.pep440_rs.specs.Bounds.{range_of, release_range_of, release_up_to, greater, star, star_end, next_number, raised}
 use Rattle.pep440_rs.specs.Matching.{without_last}
-use Rattle.pep440_rs.specs.Refused.{last, raised_by_greater, raised_by_star, raised_number, raised_release_number, HasNumbers, RefusedAtMax}
-use Rattle.pep440_rs.specs.declared.operator.Operator.{Operator}
+use Rattle.pep440_rs.specs.Refused.{last, raised_by_greater, raised_by_star, raised_number, raised_release_number, RefusedAtMax}
 use Rattle.pep440_rs.specs.declared.operator.Operator.TheVariants.{Equal, EqualStar, ExactEqual, NotEqual, NotEqualStar, TildeEqual, LessThan, LessThanEqual, GreaterThan, GreaterThanEqual}
 use Rattle.pep440_version.specs.Record.{Record}
 use Rattle.pep440_version.specs.declared.prerelease.Prerelease.{Prerelease}

@@ -1,5 +1,5 @@
 -- Matching between releases, operator by operator, as the order says it.
-use Rattle.std.proofs.Common.{◌≡◌, ℕ, ◌+◌, Bool, true, false, not, ◌&&◌, ◌||◌, List, [], ◌∷◌, refl, sym, ap, ◌∙◌, subst}
+use Rattle.std.proofs.Common.{◌≡◌, ℕ, ◌+◌, not, ◌&&◌, List, [], ◌∷◌, refl, sym, ap, ◌∙◌, subst}
 use Rattle.std.specs.Ordering.{is_lt, is_le, is_gt, is_eq}
 use Rattle.pep440_rs.proofs.VersionOrder.{turn_le, turn_lt, ge_not_lt, both}
 use Rattle.pep440_rs.proofs.Prefix.{prefix_bounds}

@@ -1,15 +1,15 @@
 -- The release-only range of each specifier agrees with matching of releases.
-use Rattle.std.proofs.Common.{◌≡◌, ℕ, Bool, true, false, not, ◌&&◌, ◌||◌, List, [], ◌∷◌, Some, None, refl, sym, ap, ◌∙◌, subst}
-use Rattle.std.specs.Ordering.{ordering_then, nat_cmp, is_lt, is_le, is_gt}
+use Rattle.std.proofs.Common.{◌≡◌, ℕ, Bool, true, false, not, ◌&&◌, ◌||◌, List, Some, refl, sym, ap, ◌∙◌, subst}
+use Rattle.std.specs.Ordering.{is_lt, is_le, is_gt}
 use Rattle.std.specs.declared.cmp.Ordering.TheVariants as ord
 use Rattle.std.specs.declared.ops.Bound.TheVariants.{Included, Excluded}
-use Rattle.pep440_rs.proofs.VersionOrder.{by_parts, plain, turn_le, turn_lt, ge_not_lt, only_start, only_end, both}
+use Rattle.pep440_rs.proofs.VersionOrder.{by_parts, turn_le, turn_lt, ge_not_lt, only_start, only_end, both}
 use Rattle.pep440_rs.proofs.Prefix.{mapped, some_is, raised_is, prefix_bounds}
 use Rattle.pep440_rs.proofs.Single.{alone_holds, others_hold}
 use Rattle.pep440_rs.proofs.Star.{lt_base, tilde_holds}
-use Rattle.pep440_rs.specs.Agreement.{IsReleaseOnly, ReleaseAgrees}
+use Rattle.pep440_rs.specs.Agreement.{ReleaseAgrees}
 use Rattle.pep440_rs.specs.Bounds.{Segments, range_of_release, release_range_of, release_up_to, raised}
-use Rattle.pep440_rs.specs.Matching.{matches, begins_with, has_prefix, same_release, without_last}
+use Rattle.pep440_rs.specs.Matching.{matches, begins_with, same_release, without_last}
 use Rattle.pep440_rs.specs.declared.operator.Operator.{Operator}
 use Rattle.pep440_rs.specs.declared.operator.Operator.TheVariants.{Equal, EqualStar, ExactEqual, NotEqual, NotEqualStar, TildeEqual, LessThan, LessThanEqual, GreaterThan, GreaterThanEqual}
 use Rattle.pep440_ranges.proofs.Laws.{one_segment_holds_between, one_segment_is_range, gaps_hold_the_rest}

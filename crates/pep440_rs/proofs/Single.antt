@@ -1,5 +1,5 @@
 -- The range of each specifier agrees with matching.
-use Rattle.std.proofs.Common.{◌≡◌, ℕ, Bool, true, false, cond, not, ◌&&◌, ◌||◌, IsTrue, List, [], ◌∷◌, Option, Some, None, option_map, is_some, length, ◌==◌, refl, sym, ap, ◌∙◌, subst}
+use Rattle.std.proofs.Common.{◌≡◌, ℕ, Bool, true, false, cond, not, ◌&&◌, ◌||◌, IsTrue, Option, Some, None, is_some, refl, sym, ap, ◌∙◌, subst}
 use mathlib.Core.Bool.{true≢false}
 use Rattle.std.specs.Ordering.{ordering_reverse, is_lt, is_le, is_eq}
 use Rattle.std.specs.declared.cmp.Ordering.{Ordering}
@@ -9,7 +9,7 @@ use Rattle.pep440_rs.proofs.Less.{less_agrees, less_within}
 use Rattle.pep440_rs.proofs.VersionOrder.{plain, is_plain, turn_le, ge_not_lt, only_start, only_end}
 use Rattle.pep440_rs.proofs.Prefix.{some_is}
 use Rattle.pep440_rs.proofs.Star.{star_agrees, not_star_agrees, tilde_agrees}
-use Rattle.pep440_rs.specs.Agreement.{IsPlain, IsOperand, IsSuffixComparable, IsComparable, Agrees, HoldsOnlyMatches, HoldsAllMatches}
+use Rattle.pep440_rs.specs.Agreement.{IsPlain, IsOperand, IsSuffixComparable, Agrees, HoldsOnlyMatches, HoldsAllMatches}
 use Rattle.pep440_rs.specs.Bounds.{Segments, range_of, alone, greater}
 use Rattle.pep440_rs.specs.Matching.{matches, candidate, has_local}
 use Rattle.pep440_rs.specs.declared.operator.Operator.{Operator}

@@ -1,5 +1,5 @@
 -- `==` star and `~=`: what lies between first developmental releases has the prefix.
-use Rattle.std.proofs.Common.{◌≡◌, ℕ, ◌==◌, Bool, true, false, not, ◌&&◌, List, [], Option, Some, None, option_map, refl, sym, ap, ◌∙◌, subst}
+use Rattle.std.proofs.Common.{◌≡◌, ℕ, ◌==◌, Bool, true, false, not, ◌&&◌, List, [], Some, None, option_map, refl, sym, ap, ◌∙◌}
 use mathlib.Core.Bool.{true≢false}
 use Rattle.std.specs.Ordering.{nat_cmp, ordering_then, is_lt, is_ge}
 use Rattle.std.specs.declared.cmp.Ordering.{Ordering}
@@ -14,7 +14,7 @@ use Rattle.pep440_rs.specs.declared.operator.Operator.TheVariants.{TildeEqual}
 use Rattle.pep440_ranges.proofs.Laws.{one_segment_holds_between, one_segment_is_range, gaps_hold_the_rest}
 use Rattle.pep440_ranges.specs.Complement.{gaps}
 use Rattle.pep440_ranges.specs.Segments.{contains}
-use Rattle.pep440_version.specs.Key.{base_cmp, suffix_cmp, record_cmp, release_cmp}
+use Rattle.pep440_version.specs.Key.{suffix_cmp, record_cmp, release_cmp}
 use Rattle.pep440_version.specs.KeyLaws.{record_total}
 use Rattle.pep440_version.specs.Record.{Record, of_parts, public_record}
 

@@ -7,7 +7,7 @@ use Rattle.std.specs.declared.cmp.Ordering.{Ordering}
 use Rattle.std.specs.declared.cmp.Ordering.TheVariants as ord
 use Rattle.pep440_version.specs.Key.{suffix_cmp}
 use Rattle.pep440_rs.proofs.VersionOrder.{plain}
-use Rattle.pep440_version.specs.Key.{Stage, Min, Dev, Pre, Final, NoPost, PostAt, PostTop, DevAt, NoDev, stage_of, post_of, dev_of, stage_cmp, post_cmp, dev_cmp}
+use Rattle.pep440_version.specs.Key.{Min, Dev, Pre, Final, NoPost, PostAt, PostTop, DevAt, NoDev, stage_of, post_of, dev_of, stage_cmp, post_cmp, dev_cmp}
 use Rattle.pep440_version.specs.Record.{Record}
 use Rattle.pep440_version.specs.declared.prerelease.Prerelease.{Prerelease}
 use Rattle.pep440_version.specs.declared.prerelease.PrereleaseKind.{PrereleaseKind}

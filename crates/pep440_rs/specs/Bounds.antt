@@ -1,8 +1,7 @@
 -- The ranges of specifiers: for each operator the segments between bounds made of the specifier's version,
 -- or None where a number that has to be raised is the greatest there is. There are two conversions: by the
 -- whole order of versions, and by releases alone.
-use Rattle.std.specs.Prelude.{ℕ, ◌+◌, ◌-◌, ◌^◌, ◌==◌, List, [], ◌∷◌, Option, Some, None, option_map, option_and_then, if◌then◌else◌}
-use Rattle.std.specs.declared.ops.Bound.{Bound}
+use Rattle.std.specs.Prelude.{ℕ, ◌+◌, ◌==◌, List, [], ◌∷◌, Option, Some, None, option_map, option_and_then, if◌then◌else◌}
 use Rattle.std.specs.declared.ops.Bound.TheVariants.{Included, Excluded, Unbounded}
 use Rattle.pep440_rs.specs.Matching.{without_last, any_prerelease}
 use Rattle.pep440_rs.specs.Specifiers.{Spec}
