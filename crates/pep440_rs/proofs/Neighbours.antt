@@ -1,7 +1,7 @@
 -- A fold of intersections whose neighbours are intersected first.
-use Rattle.std.proofs.Common.{◌≡◌, ◌≤◌, ◌+◌, ◌-◌, ℕ, suc, List, [], ◌∷◌, ◌++◌, length, refl, sym, ap, ◌∙◌, arith}
+use Rattle.std.proofs.Common.{◌≡◌, ◌≤◌, ◌+◌, ◌-◌, ℕ, suc, List, [], ◌∷◌, ◌++◌, length, sym, ap, ◌∙◌, arith}
 use Rattle.std.proofs.lemmas.List.Sums.{fold-append}
-use Rattle.std.proofs.lemmas.List.{append_assoc}
+use Rattle.std.proofs.lemmas.List.{append_assoc, length_push}
 use Rattle.std.specs.Prelude.{fold}
 use Rattle.pep440_ranges.specs.Intersection.{overlaps}
 use Rattle.pep440_rs.specs.Bounds.{Segments}
@@ -23,16 +23,12 @@ met_pair now x y both pairs rest e =
     ∙ ap (λ r. met r rest) (sym (overlaps_assoc record_total (met now pairs) x y))
     ∙ sym (fold-append (overlaps record_cmp) now pairs (x ∷ y ∷ rest))
 
-length_one_more : {X : Type 0} (xs : List X) (x : X) → length (xs ++ x ∷ []) ≡ length xs + 1
-length_one_more [] x = refl
-length_one_more (y ∷ xs) x = let more = length_one_more xs x in omega (arith, more)
-
 -- two ranges of those that are left make one pair
 pub fewer : {X : Type 0} (pairs new rest later others : List X) (x first second : X) (all : ℕ) → rest ≡ first ∷ later → later ≡ second ∷ others → new ≡ pairs ++ x ∷ []
     → length pairs + length pairs + length rest ≤ all + (1 - length rest) → length new + length new + length others ≤ all + (1 - length others)
 fewer pairs new rest later others x first second all cut again is few =
     let left : length rest ≡ length others + 1 + 1 = ap length (cut ∙ ap (λ l. first ∷ l) again) ∙ count (length others) in
-    let made : length new ≡ length pairs + 1 = ap length is ∙ length_one_more pairs x in
+    let made : length new ≡ length pairs + 1 = ap length is ∙ length_push pairs x in
     omega (arith, left, made, few)
   where
     count : (n : ℕ) → suc (suc n) ≡ n + 1 + 1

@@ -1,9 +1,10 @@
 -- The lines of the input, cut one by one, and what was found in those before.
-use Rattle.std.proofs.Common.{Bor, ◌≡◌, ◌+◌, ◌<◌, ◌≤◌, ◌==◌, ℕ, List, [], ◌∷◌, ◌++◌, Bool, true, false, length, get_or, map, take, drop, All, Option, Some, None, IfSome, refl, sym, ap, ◌∙◌, append_assoc, append-nil, take-append-drop, arith, if◌then◌else◌}
+use Rattle.std.proofs.Common.{Bor, ◌≡◌, ◌+◌, ◌<◌, ◌≤◌, ◌==◌, ℕ, List, [], ◌∷◌, ◌++◌, Bool, true, false, length, get_or, take, drop, All, Option, Some, None, IfSome, refl, sym, ap, ◌∙◌, append_assoc, append-nil, take-append-drop, arith, if◌then◌else◌}
 use Rattle.std.specs.List.{flat_map}
 use Rattle.std.specs.Option.{option_map_or}
-use Rattle.std.proofs.lemmas.List.{drop_more}
+use Rattle.std.proofs.lemmas.List.{drop_more, length_push}
 use Rattle.std.proofs.lemmas.List.Concat.{flat_map-append}
+use Rattle.std.proofs.lemmas.List.Folds.{flat_map-map}
 use Rattle.std.proofs.lemmas.List.Splits.{slice_split_at}
 use Rattle.pep440_rs.specs.Matching.{list_matches}
 use Rattle.pep440_rs.specs.Specifiers.{Spec}
@@ -13,7 +14,7 @@ use Rattle.pep440_version.specs.Print.{print}
 use Rattle.pep440_version.specs.Record.{Record}
 use Rattle.pep440_tool.specs.Answers.{ToolAnswer, refused}
 use Rattle.pep440_tool.specs.Lines.{LineFault, LineMeans, LinesMean, RefusesLine, ShowsKept, kept, line_fault_text, lines}
-use Rattle.pep440_tool.specs.Texts.{line, lines_of}
+use Rattle.pep440_tool.specs.Texts.{line}
 
 -- the first line ends at the first newline
 pub line_read : (input : List ℕ) (i : ℕ) → i < length input → get_or input i 0 ≡ 10 → All (λ x. (x == 10) ≡ false) (take i input) → lines input ≡ take i input ∷ lines (drop (i + 1) input)
@@ -49,10 +50,6 @@ means_more [] (p ∷ found) text o h m = absurd h
 means_more (t ∷ before) [] text o h m = absurd h
 means_more (t ∷ before) (p ∷ found) text o h m = (h.0, means_more before found text o h.1 m)
 
-length_more : {X : Type 0} (xs : List X) (x : X) → length (xs ++ x ∷ []) ≡ length xs + 1
-length_more [] x = refl
-length_more (y ∷ xs) x = let more = length_more xs x in omega (arith, more)
-
 -- one more line
 pub kept_line : (list : List Spec) (texts : List (List ℕ)) (versions new : List Record) (place : ℕ) (left later : List (List ℕ)) (text : List ℕ) (o : Option Record)
     → left ≡ text ∷ later → LineMeans text o → new ≡ versions ++ kept list o → Kept list texts versions place left → Kept list texts new (place + 1) later
@@ -61,7 +58,7 @@ kept_line list texts versions new place left later text o cut m is k = record {
   before = k.before ++ text ∷ [];
   split = k.split ∙ ap (λ (ls : List (List ℕ)). k.before ++ ls) cut ∙ sym (append_assoc k.before (text ∷ []) later);
   means = means_more k.before k.found text o k.means m;
-  place_is = length_more k.before text ∙ ap (λ (n : ℕ). n + 1) k.place_is;
+  place_is = length_push k.before text ∙ ap (λ (n : ℕ). n + 1) k.place_is;
   versions_are = is ∙ ap (λ (vs : List Record). vs ++ kept list o) k.versions_are ∙ ap (λ (vs : List Record). flat_map (kept list) k.found ++ vs) (sym (append-nil (kept list o)))
       ∙ sym (flat_map-append (kept list) k.found (o ∷ []));
 }
@@ -99,10 +96,6 @@ pub room_more : (all place : ℕ) (rest : Option (Bor (List ℕ))) (text : Bor (
 room_more all place rest text None is less room = tt
 room_more all place rest text (Some r) is less room = let here : place + length text.now ≤ all = rw is at room in omega (arith, here, less)
 
-lines_are : (versions : List Record) → flat_map (λ v. line (print v)) versions ≡ lines_of (map print versions)
-lines_are [] = refl
-lines_are (v ∷ versions) = ap (λ (t : List ℕ). line (print v) ++ t) (lines_are versions)
-
 -- the contained versions in order are shown
 pub shows_kept : (list : List Spec) (texts : List (List ℕ)) (a : ToolAnswer) (versions shown : List Record) (text : List ℕ)
     → (found : List (Option Record)) × LinesMean texts found × (versions ≡ flat_map (kept list) found) → IsPermutation versions shown → IsSorted record_cmp shown → IsStable record_cmp versions shown
@@ -112,5 +105,5 @@ shows_kept list texts a versions shown text k same rises stable lines said = rec
   means = k.1;
   shown = shown;
   arranged = record { same = rw k.2 at same; rises = rises; stable = rw k.2 at stable };
-  told = said ∙ ap (λ (t : List ℕ). record { output = t; status = 0 }) (lines ∙ lines_are shown);
+  told = said ∙ ap (λ (t : List ℕ). record { output = t; status = 0 }) (lines ∙ sym (flat_map-map line print shown));
 }
