@@ -1,6 +1,13 @@
-// Rows of words and what they answer, runs over readers and writers that fail, and refused memory.
-mod lists;
-mod rows;
-mod runs;
-mod support;
-mod sweeps;
+// One pass through the crate: words answered.
+use crate::answer;
+use std::test::Fail;
+
+#[test]
+fn answers(rt: HostRuntime) -> Result<(), Fail> {
+    let mut words = Vec::new(rt.alloc());
+    words.push(String::from_str(rt.alloc(), "show")?)?;
+    words.push(String::from_str(rt.alloc(), "v1.0-a")?)?;
+    let said = answer(rt.alloc(), words.as_slice(), b"never read\n")?;
+    assert!(rt; said.status == 0 && said.output.as_slice() == b"1.0a0\n", "show v1.0-a");
+    Ok(())
+}

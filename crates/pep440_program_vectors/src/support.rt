@@ -1,7 +1,7 @@
-// Readers and writers that fail in stated places, and what a run over them wrote.
+//! Readers and writers that fail in stated places, and what a run over them wrote.
 ghost use Rattle.std.specs.Prelude.{◌≤◌, length, IfOk};
 
-use crate::run;
+use pep440_tool::run;
 use std::alloc::{AllocError, Global};
 use std::io::{Error, ErrorKind, Read, Write};
 

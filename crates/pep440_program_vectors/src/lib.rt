@@ -1,0 +1,13 @@
+//! Worked rows of the program, as tests: words, input, output and status; readers and writers that fail; refused memory.
+#![tactic(auto)]
+
+#[cfg(test)]
+mod lists;
+#[cfg(test)]
+mod rows;
+#[cfg(test)]
+mod runs;
+#[cfg(test)]
+mod support;
+#[cfg(test)]
+mod sweeps;
