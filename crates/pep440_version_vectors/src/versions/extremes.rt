@@ -7,11 +7,10 @@ const GREATEST: &str =
 
 #[test]
 fn greatest_numbers(rt: HostRuntime) -> Result<(), Fail> {
-    assert_eq!(rt; printed(rt, GREATEST)?.as_str(), GREATEST);
-    assert_eq!(rt;
-        printed(rt, "00018446744073709551615")?.as_str(),
-        "18446744073709551615"
-    );
+    let found = printed(rt, GREATEST)?;
+    assert!(rt; found.as_str() == GREATEST, "{found}");
+    let found = printed(rt, "00018446744073709551615")?;
+    assert!(rt; found.as_str() == "18446744073709551615", "{found}");
     Ok(())
 }
 
@@ -22,8 +21,8 @@ fn thousand_release_numbers(rt: HostRuntime) -> Result<(), Fail> {
         text.push_str(".1")?;
     }
     let read = super::calls::version(rt, text.as_str())?;
-    assert_eq!(rt; read.release().len(), 1000);
-    assert_eq!(rt; read.to_string(rt.alloc())?.as_str(), text.as_str());
+    let print = read.to_string(rt.alloc())?;
+    assert!(rt; read.release().len() == 1000 && print == text, "{print}");
     Ok(())
 }
 
@@ -34,7 +33,7 @@ fn thousand_local_segments(rt: HostRuntime) -> Result<(), Fail> {
         text.push_str(".a")?;
     }
     let read = super::calls::version(rt, text.as_str())?;
-    assert_eq!(rt; read.local().len(), 1000);
-    assert_eq!(rt; read.to_string(rt.alloc())?.as_str(), text.as_str());
+    let print = read.to_string(rt.alloc())?;
+    assert!(rt; read.local().len() == 1000 && print == text, "{print}");
     Ok(())
 }

@@ -15,8 +15,11 @@ fn assert_changed(
     marks: (Option<u64>, Option<u64>),
 ) -> Result<(), Fail> {
     let changed = Version::from_str(alloc, text)?.with_changes(alloc, changes)?;
-    assert_eq!(rt; changed.to_string(alloc)?.as_str(), print);
-    assert_eq!(rt; marks_of(&changed), marks);
+    let found = changed.to_string(alloc)?;
+    assert!(rt;
+        found.as_str() == print && marks_of(&changed) == marks,
+        "{print}: {found}"
+    );
     Ok(())
 }
 
@@ -116,13 +119,11 @@ fn assert_refused(
     want: ChangeError,
     told: &str,
 ) -> Result<(), Fail> {
-    match Version::from_str(alloc, text)?.with_changes(alloc, changes) {
-        Ok(_) => assert!(rt; false, "{text} was changed"),
-        Err(error) => {
-            assert_eq!(rt; error, want);
-            assert_eq!(rt; error.to_string(alloc)?.as_str(), told);
-        }
-    }
+    let Err(error) = Version::from_str(alloc, text)?.with_changes(alloc, changes) else {
+        return Err(Fail::new("the changes were made"));
+    };
+    let found = error.to_string(alloc)?;
+    assert!(rt; error == want && found.as_str() == told, "{text}: {found}");
     Ok(())
 }
 

@@ -27,7 +27,7 @@ fn is_answered(
 ) -> Result<bool, Fail> {
     match answer {
         Ok(version) => {
-            assert_eq!(rt; again::printed(alloc, &version)?.as_str(), want);
+            assert!(rt; again::prints(alloc, &version, want)?, "{want}");
             Ok(true)
         }
         Err(_) => Ok(false),
@@ -39,10 +39,10 @@ fn sweep_version_from_str(rt: HostRuntime) -> Result<(), Fail> {
     for _ in 0..TRIES {
         match Version::from_str(rt.alloc(), ROW) {
             Ok(version) => {
-                assert_eq!(rt; again::printed(rt.alloc(), &version)?.as_str(), PRINT);
+                assert!(rt; again::prints(rt.alloc(), &version, PRINT)?, "the print");
                 return Ok(());
             }
-            Err(error) => assert_eq!(rt; *error.kind(), ErrorKind::OutOfMemory),
+            Err(error) => assert!(rt; *error.kind() == ErrorKind::OutOfMemory, "memory"),
         }
     }
     Err(refused_each_time())
@@ -89,11 +89,14 @@ fn sweep_pattern_from_str(rt: HostRuntime) -> Result<(), Fail> {
     for _ in 0..TRIES {
         match VersionPattern::from_str(rt.alloc(), "1.2.3.*") {
             Ok(pattern) => {
-                assert!(rt; pattern.is_wildcard());
-                assert_eq!(rt; pattern.version().release(), [1, 2, 3].as_slice());
+                let release = pattern.version().release();
+                assert!(rt;
+                    pattern.is_wildcard() && release == [1, 2, 3].as_slice(),
+                    "the pattern"
+                );
                 return Ok(());
             }
-            Err(error) => assert_eq!(rt; *error.kind(), memory),
+            Err(error) => assert!(rt; *error.kind() == memory, "memory"),
         }
     }
     Err(refused_each_time())
@@ -107,7 +110,10 @@ fn sweep_pattern_refusals(rt: HostRuntime) -> Result<(), Fail> {
             Ok(_) => return Err(Fail::new("it was read")),
             Err(error) => {
                 if *error.kind() != memory {
-                    assert_eq!(rt; *error.kind(), PatternErrorKind::WildcardNotTrailing);
+                    assert!(rt;
+                        *error.kind() == PatternErrorKind::WildcardNotTrailing,
+                        "a star"
+                    );
                     return Ok(());
                 }
             }
@@ -121,7 +127,7 @@ fn sweep_new(rt: HostRuntime) -> Result<(), Fail> {
     let release = [1, 2, 3];
     for _ in 0..TRIES {
         let answer = Version::new(rt.alloc(), &release);
-        assert_eq!(rt; release, [1, 2, 3]);
+        assert!(rt; release == [1, 2, 3], "what is lent");
         if is_answered(&rt, rt.alloc(), answer, "1.2.3")? {
             return Ok(());
         }
@@ -144,7 +150,7 @@ fn sweep_with_release(rt: HostRuntime) -> Result<(), Fail> {
     let release = [3, 0];
     for _ in 0..TRIES {
         let answer = again::version(rt, "2!1.0a1+x")?.with_release(rt.alloc(), &release);
-        assert_eq!(rt; release, [3, 0]);
+        assert!(rt; release == [3, 0], "what is lent");
         if is_answered(&rt, rt.alloc(), answer, "2!3.0a1+x")? {
             return Ok(());
         }
@@ -240,7 +246,7 @@ fn sweep_only_release(rt: HostRuntime) -> Result<(), Fail> {
     let whole = again::version(rt, PRINT)?;
     for _ in 0..TRIES {
         let answer = whole.only_release(rt.alloc());
-        assert_eq!(rt; again::printed(rt.alloc(), &whole)?.as_str(), PRINT);
+        assert!(rt; again::prints(rt.alloc(), &whole, PRINT)?, "what is lent");
         if is_answered(&rt, rt.alloc(), answer, "1.0")? {
             return Ok(());
         }
@@ -262,8 +268,8 @@ fn version_without_marks(rt: HostRuntime) -> Result<Version, Fail>
 fn sweep_with_min(rt: HostRuntime) -> Result<(), Fail> {
     for _ in 0..TRIES {
         if let Ok(marked) = version_without_marks(rt)?.with_min(rt.alloc(), Some(4)) {
-            assert_eq!(rt; marks(&marked), (Some(4), None));
-            assert_eq!(rt; marked.release(), [1, 0].as_slice());
+            let holds = marks(&marked) == (Some(4), None);
+            assert!(rt; holds && marked.release() == [1, 0].as_slice(), "min");
             return Ok(());
         }
     }
@@ -274,12 +280,17 @@ fn sweep_with_min(rt: HostRuntime) -> Result<(), Fail> {
 fn sweep_with_max(rt: HostRuntime) -> Result<(), Fail> {
     for _ in 0..TRIES {
         if let Ok(marked) = version_without_marks(rt)?.with_max(rt.alloc(), Some(4)) {
-            assert_eq!(rt; marks(&marked), (None, Some(4)));
-            assert_eq!(rt; marked.release(), [1, 0].as_slice());
+            let holds = marks(&marked) == (None, Some(4));
+            assert!(rt; holds && marked.release() == [1, 0].as_slice(), "max");
             return Ok(());
         }
     }
     Err(refused_each_time())
+}
+
+// Whether the change sets the release `2.5`.
+fn sets_two_five(change: &Change) -> bool {
+    matches!(change, Change::Release(numbers) if numbers.as_slice() == [2, 5].as_slice())
 }
 
 #[test]
@@ -292,15 +303,16 @@ fn sweep_with_changes(rt: HostRuntime) -> Result<(), Fail> {
     ];
     for _ in 0..TRIES {
         let answer = again::version(rt, "1.0a1")?.with_changes(rt.alloc(), &changes);
-        if let Change::Release(numbers) = &changes[1] {
-            assert_eq!(rt; numbers.as_slice(), [2, 5].as_slice());
-        }
+        assert!(rt; sets_two_five(&changes[1]), "what is lent");
         match answer {
             Ok(changed) => {
-                assert_eq!(rt; again::printed(rt.alloc(), &changed)?.as_str(), "3!2.5+ab");
+                assert!(rt;
+                    again::prints(rt.alloc(), &changed, "3!2.5+ab")?,
+                    "the changes"
+                );
                 return Ok(());
             }
-            Err(error) => assert_eq!(rt; error, ChangeError::OutOfMemory),
+            Err(error) => assert!(rt; error == ChangeError::OutOfMemory, "memory"),
         }
     }
     Err(refused_each_time())
@@ -319,7 +331,7 @@ fn sweep_refused_changes(rt: HostRuntime) -> Result<(), Fail> {
             Ok(_) => return Err(Fail::new("they were made")),
             Err(ChangeError::OutOfMemory) => {}
             Err(error) => {
-                assert_eq!(rt; error, ChangeError::MinNotAllowed(4));
+                assert!(rt; error == ChangeError::MinNotAllowed(4), "the fourth");
                 return Ok(());
             }
         }
@@ -332,10 +344,10 @@ fn sweep_to_string(rt: HostRuntime) -> Result<(), Fail> {
     let whole = again::version(rt, PRINT)?;
     for _ in 0..TRIES {
         if let Ok(text) = whole.to_string(rt.alloc()) {
-            assert_eq!(rt; text.as_str(), PRINT);
+            assert!(rt; text.as_str() == PRINT, "{text}");
             return Ok(());
         }
-        assert_eq!(rt; whole.release(), [1, 0].as_slice());
+        assert!(rt; whole.release() == [1, 0].as_slice(), "what is lent");
     }
     Err(refused_each_time())
 }
@@ -348,7 +360,7 @@ fn sweep_error_to_string(rt: HostRuntime) -> Result<(), Fail> {
         let text = error.to_string(rt.alloc());
         assert!(rt; again::says(error.kind(), Refused::End("1.0pre", "v")));
         if let Ok(text) = text {
-            assert_eq!(rt; text.as_str(), told);
+            assert!(rt; text.as_str() == told, "{text}");
             return Ok(());
         }
     }

@@ -1,8 +1,8 @@
-// Kinds and errors are equal exactly where they say the same, wherever their texts lie in memory.
+//! Kinds and errors are equal exactly where they say the same, wherever their texts lie in memory.
 ghost use Rattle.std.specs.Prelude.{◌≡◌, ◌↔◌, true};
 ghost use Rattle.pep440_version.specs.Errors.{kind_of, pattern_kind_of, pattern_refusal_of, refusal_of};
 
-use crate::error::{ErrorKind, PatternErrorKind, VersionParseError, VersionPatternParseError};
+use pep440_version::{ErrorKind, PatternErrorKind, VersionParseError, VersionPatternParseError};
 use std::test::Fail;
 
 fn kinds_equal(a: &ErrorKind, b: &ErrorKind) -> bool

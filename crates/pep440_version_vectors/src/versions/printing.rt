@@ -2,7 +2,7 @@
 use super::calls::{Refused, kind, pattern, version};
 use pep440_version::{
     Change, ChangeError, LocalSegment, Prerelease, PrereleaseKind, Version, VersionParseError,
-    VersionPatternParseError,
+    VersionPatternParseError, min_version,
 };
 use std::alloc::Global;
 use std::fmt::{Debug, Display};
@@ -16,20 +16,24 @@ fn assert_prints<T: Display>(
     value: &T,
     want: &str,
 ) -> Result<(), Fail> {
-    assert_eq!(rt; format!(in alloc; "{value}")?.as_str(), want);
-    assert_eq!(rt; format!(in alloc; "{value:>30}")?.as_str(), want);
-    assert_eq!(rt; format!(in alloc; "{value:*<30}")?.as_str(), want);
+    let found = format!(in alloc; "{value}")?;
+    assert!(rt; found.as_str() == want, "{want}: {found}");
+    let found = format!(in alloc; "{value:>30}")?;
+    assert!(rt; found.as_str() == want, "{want}: {found}");
+    let found = format!(in alloc; "{value:*<30}")?;
+    assert!(rt; found.as_str() == want, "{want}: {found}");
     Ok(())
 }
 
+const PRE_RELEASES: [(PrereleaseKind, &str, &str); 3] = [
+    (PrereleaseKind::Alpha, "a", "a2"),
+    (PrereleaseKind::Beta, "b", "b2"),
+    (PrereleaseKind::Rc, "rc", "rc2"),
+];
+
 #[test]
 fn pre_releases(rt: HostRuntime) -> Result<(), Fail> {
-    let rows = [
-        (PrereleaseKind::Alpha, "a", "a2"),
-        (PrereleaseKind::Beta, "b", "b2"),
-        (PrereleaseKind::Rc, "rc", "rc2"),
-    ];
-    for (kind, alone, numbered) in rows {
+    for (kind, alone, numbered) in PRE_RELEASES {
         assert_prints(&rt, rt.alloc(), &kind, alone)?;
         assert_prints(&rt, rt.alloc(), &Prerelease { kind, number: 2 }, numbered)?;
     }
@@ -59,44 +63,41 @@ fn versions(rt: HostRuntime) -> Result<(), Fail> {
 
 #[test]
 fn errors(rt: HostRuntime) -> Result<(), Fail> {
+    let want = "wildcards are not allowed in a version";
     let error = VersionParseError::from(kind(rt.alloc(), Refused::Wildcard)?);
+    assert_prints(&rt, rt.alloc(), &error, want)?;
     assert_prints(
         &rt,
         rt.alloc(),
-        &error,
-        "wildcards are not allowed in a version",
-    )?;
-    let error = VersionPatternParseError::from(error);
-    assert_prints(
-        &rt,
-        rt.alloc(),
-        &error,
-        "wildcards are not allowed in a version",
-    )?;
-    assert_prints(
-        &rt,
-        rt.alloc(),
-        &ChangeError::EmptyRelease(12),
-        "change 12: a release needs at least one number",
+        &VersionPatternParseError::from(error),
+        want,
     )
 }
 
 #[test]
-fn version_in_quotes(rt: HostRuntime) -> Result<(), Fail> {
+fn errors_of_changes(rt: HostRuntime) -> Result<(), Fail> {
+    let want = "change 12: a release needs at least one number";
+    assert_prints(&rt, rt.alloc(), &ChangeError::EmptyRelease(12), want)
+}
+
+#[test]
+fn versions_in_quotes(rt: HostRuntime) -> Result<(), Fail> {
     let shown = format!(in rt.alloc(); "{:?}", version(rt, "v1.0-a")?)?;
-    assert_eq!(rt; shown.as_str(), "\"1.0a0\"");
+    assert!(rt; shown.as_str() == "\"1.0a0\"", "{shown}");
+    let shown = format!(in rt.alloc(); "{:?}", min_version(rt.alloc())?)?;
+    assert!(rt; shown.as_str() == "\"0a0.dev0\"", "{shown}");
     Ok(())
 }
 
 // Asserts that there is a debug form, and that something stands in it.
 fn assert_debugs<T: Debug>(rt: &impl Abort, alloc: Global, value: &T) -> Result<(), Fail> {
     let shown = format!(in alloc; "{value:?}")?;
-    assert!(rt; !shown.is_empty());
+    assert!(rt; !shown.is_empty(), "an empty form");
     Ok(())
 }
 
 #[test]
-fn every_type_has_a_debug_form(rt: HostRuntime) -> Result<(), Fail> {
+fn debug_forms(rt: HostRuntime) -> Result<(), Fail> {
     let pre = Prerelease {
         kind: PrereleaseKind::Rc,
         number: 1,
@@ -106,7 +107,11 @@ fn every_type_has_a_debug_form(rt: HostRuntime) -> Result<(), Fail> {
     assert_debugs(&rt, rt.alloc(), &LocalSegment::Number(1))?;
     assert_debugs(&rt, rt.alloc(), &pattern(rt, "1.*")?)?;
     assert_debugs(&rt, rt.alloc(), &Change::Pre(Some(pre)))?;
-    assert_debugs(&rt, rt.alloc(), &ChangeError::EmptyRelease(1))?;
+    assert_debugs(&rt, rt.alloc(), &ChangeError::EmptyRelease(1))
+}
+
+#[test]
+fn debug_forms_of_errors(rt: HostRuntime) -> Result<(), Fail> {
     let inner = VersionParseError::from(kind(rt.alloc(), Refused::NoRelease)?);
     assert_debugs(&rt, rt.alloc(), inner.kind())?;
     assert_debugs(&rt, rt.alloc(), &inner)?;

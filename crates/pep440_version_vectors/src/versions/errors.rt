@@ -9,39 +9,59 @@ use std::error::Error;
 use std::process::Abort;
 use std::test::Fail;
 
+// A kind that holds texts.
+fn end(rt: HostRuntime) -> Result<ErrorKind, Fail> {
+    Ok(kind(rt.alloc(), Refused::End("1.0", "x"))?)
+}
+
 #[test]
 fn kinds_to_errors(rt: HostRuntime) -> Result<(), Fail> {
-    let end = Refused::End("1.0", "x");
-    let inner = VersionParseError::from(kind(rt.alloc(), end)?);
-    assert_eq!(rt; *inner.kind(), kind(rt.alloc(), end)?);
-    let held = PatternErrorKind::from(VersionParseError::from(kind(rt.alloc(), end)?));
-    assert_eq!(rt; held, PatternErrorKind::Version(inner));
-    let straight = VersionPatternParseError::from(kind(rt.alloc(), end)?);
-    assert_eq!(rt; *straight.kind(), held);
-    let through = VersionPatternParseError::from(VersionParseError::from(kind(rt.alloc(), end)?));
-    assert_eq!(rt; through, straight);
-    let held = PatternErrorKind::from(kind(rt.alloc(), end)?);
-    assert_eq!(rt; VersionPatternParseError::from(held), straight);
+    let inner = VersionParseError::from(end(rt)?);
+    assert!(rt; *inner.kind() == end(rt)?, "an error of a version");
+    let held = PatternErrorKind::from(VersionParseError::from(end(rt)?));
+    assert!(rt;
+        held == PatternErrorKind::Version(inner),
+        "a kind of a pattern"
+    );
+    Ok(())
+}
+
+#[test]
+fn kinds_to_pattern_errors(rt: HostRuntime) -> Result<(), Fail> {
+    let straight = VersionPatternParseError::from(end(rt)?);
+    assert!(rt;
+        *straight.kind() == PatternErrorKind::from(end(rt)?),
+        "its kind"
+    );
+    let through = VersionPatternParseError::from(VersionParseError::from(end(rt)?));
+    assert!(rt; through == straight, "by an error of a version");
+    let through = VersionPatternParseError::from(PatternErrorKind::from(end(rt)?));
+    assert!(rt; through == straight, "by a kind of a pattern");
     Ok(())
 }
 
 #[test]
 fn stars_to_errors(rt: HostRuntime) {
     let error = VersionPatternParseError::from(PatternErrorKind::WildcardNotTrailing);
-    assert_eq!(rt; *error.kind(), PatternErrorKind::WildcardNotTrailing);
+    assert!(rt;
+        *error.kind() == PatternErrorKind::WildcardNotTrailing,
+        "a star"
+    );
 }
 
 #[test]
 fn want_of_memory(rt: HostRuntime) -> Result<(), Fail> {
-    assert_eq!(rt; ErrorKind::from(AllocError), ErrorKind::OutOfMemory);
-    assert_eq!(rt; ChangeError::from(AllocError), ChangeError::OutOfMemory);
-    let error = VersionParseError::from(ErrorKind::OutOfMemory);
-    assert_eq!(rt; error.to_string(rt.alloc())?.as_str(), "out of memory");
-    assert_eq!(rt;
-        ChangeError::OutOfMemory.to_string(rt.alloc())?.as_str(),
-        "out of memory"
+    assert!(rt;
+        ErrorKind::from(AllocError) == ErrorKind::OutOfMemory,
+        "a kind"
     );
-    Ok(())
+    assert!(rt;
+        ChangeError::from(AllocError) == ChangeError::OutOfMemory,
+        "a change"
+    );
+    let error = VersionParseError::from(ErrorKind::OutOfMemory);
+    assert_tells(&rt, rt.alloc(), &error, "out of memory")?;
+    assert_tells(&rt, rt.alloc(), &ChangeError::OutOfMemory, "out of memory")
 }
 
 const DIFFERENT: [Refused<'static>; 9] = [
@@ -62,12 +82,10 @@ fn equal_where_they_say_the_same(rt: HostRuntime) -> Result<(), Fail> {
         for (j, other) in DIFFERENT.iter().enumerate() {
             let a = VersionParseError::from(kind(rt.alloc(), *one)?);
             let b = VersionParseError::from(kind(rt.alloc(), *other)?);
-            assert_eq!(rt; a == b, i == j, "of {a:?} and {b:?}");
-            let (a, b) = (
-                VersionPatternParseError::from(a),
-                VersionPatternParseError::from(b),
-            );
-            assert_eq!(rt; a == b, i == j, "of {a:?} and {b:?}");
+            assert!(rt; (a == b) == (i == j), "rows {i} and {j}");
+            let a = VersionPatternParseError::from(a);
+            let b = VersionPatternParseError::from(b);
+            assert!(rt; (a == b) == (i == j), "rows {i} and {j} of patterns");
         }
     }
     Ok(())
@@ -89,7 +107,8 @@ fn assert_tells<E: Error>(
     error: &E,
     want: &str,
 ) -> Result<(), Fail> {
-    assert_eq!(rt; format!(in alloc; "{error}")?.as_str(), want);
+    let found = format!(in alloc; "{error}")?;
+    assert!(rt; found.as_str() == want, "{found}");
     Ok(())
 }
 

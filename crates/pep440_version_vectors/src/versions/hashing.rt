@@ -2,7 +2,7 @@
 use super::calls::{pattern, version};
 use super::kept::Call::Number;
 use super::kept::{Call, Kept, text};
-use pep440_version::{LocalSegment, Prerelease, PrereleaseKind, Version};
+use pep440_version::{LocalSegment, Prerelease, PrereleaseKind, Version, VersionPattern};
 use std::hash::Hash;
 use std::process::Abort;
 use std::test::Fail;
@@ -97,22 +97,27 @@ fn marks(rt: HostRuntime) -> Result<(), Fail> {
     Ok(())
 }
 
+// A text, where its stage stands, and the number after it.
+const STAGES: [(&str, u64, u64); 5] = [
+    ("1.dev7", 1, 0),
+    ("1a7", 2, 7),
+    ("1b8", 3, 8),
+    ("1rc9", 4, 9),
+    ("1", 5, 0),
+];
+
+// Whether the version gives a hasher the stage and the number, fourth and fifth.
+fn feeds_stage(version: &Version, stage: u64, after: u64) -> bool {
+    let mut kept = Kept::new();
+    version.hash(&mut kept);
+    let calls = kept.calls();
+    calls.get(3) == Some(&Number(stage)) && calls.get(4) == Some(&Number(after))
+}
+
 #[test]
 fn stages(rt: HostRuntime) -> Result<(), Fail> {
-    // Where the stage stands, and the number after it.
-    let rows = [
-        ("1.dev7", 1, 0),
-        ("1a7", 2, 7),
-        ("1b8", 3, 8),
-        ("1rc9", 4, 9),
-        ("1", 5, 0),
-    ];
-    for (name, stage, after) in rows {
-        let mut kept = Kept::new();
-        version(rt, name)?.hash(&mut kept);
-        let calls = kept.calls();
-        assert_eq!(rt; calls.get(3), Some(&Number(stage)), "of {name}");
-        assert_eq!(rt; calls.get(4), Some(&Number(after)), "of {name}");
+    for (text, stage, after) in STAGES {
+        assert!(rt; feeds_stage(&version(rt, text)?, stage, after), "{text}");
     }
     Ok(())
 }
@@ -143,17 +148,19 @@ fn local_segments(rt: HostRuntime) -> Result<(), Fail> {
     Ok(())
 }
 
+// Whether the pattern gives a hasher what `1.0` gives it, and then the number.
+fn feeds_after_one(pattern: &VersionPattern, star: u64) -> bool {
+    let mut kept = Kept::new();
+    pattern.hash(&mut kept);
+    match kept.calls() {
+        [before @ .., last] => before == ONE.as_slice() && *last == Number(star),
+        [] => false,
+    }
+}
+
 #[test]
 fn patterns(rt: HostRuntime) -> Result<(), Fail> {
-    for (name, star) in [("1.0", 0), ("1.0.*", 1)] {
-        let mut kept = Kept::new();
-        pattern(rt, name)?.hash(&mut kept);
-        let [before @ .., last] = kept.calls() else {
-            assert!(rt; false, "nothing was fed");
-            return Ok(());
-        };
-        assert_eq!(rt; before, ONE.as_slice(), "of {name}");
-        assert_eq!(rt; *last, Number(star), "of {name}");
-    }
+    assert!(rt; feeds_after_one(&pattern(rt, "1.0")?, 0), "1.0");
+    assert!(rt; feeds_after_one(&pattern(rt, "1.0.*")?, 1), "1.0.*");
     Ok(())
 }

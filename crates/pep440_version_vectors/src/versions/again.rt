@@ -46,6 +46,11 @@ pub fn printed<T: Display>(alloc: Global, value: &T) -> Result<String, Fail> {
     }
 }
 
+/// Whether the value prints so.
+pub fn prints<T: Display>(alloc: Global, value: &T, want: &str) -> Result<bool, Fail> {
+    Ok(printed(alloc, value)?.as_str() == want)
+}
+
 /// Why the text is no version.
 pub fn refusal(rt: HostRuntime, text: &str) -> Result<VersionParseError, Fail> {
     for _ in 0..TRIES {
