@@ -27,7 +27,9 @@ fn every_part_at_once(rt: HostRuntime) -> Result<(), Fail> {
     Ok(())
 }
 
-const PRINTS: [(&str, &str); 13] = [
+// A text and its print. From `1.1alpha1` on: PEP 440, "Pre-release spelling", "Post release spelling", "Pre-release
+// separators" and the like.
+const PRINTS: [(&str, &str); 39] = [
     (
         "  V1!1.0-Alpha.2-3.DEV+Ubuntu-01 ",
         "1!1.0a2.post3.dev0+ubuntu.1",
@@ -44,10 +46,6 @@ const PRINTS: [(&str, &str); 13] = [
     ("1.0preview3", "1.0rc3"),
     ("1.0c", "1.0rc0"),
     ("1.0+A_b-C.01", "1.0+a.b.c.1"),
-];
-
-// PEP 440, "Pre-release spelling", "Post release spelling", "Pre-release separators" and the like.
-const SPELLINGS: [(&str, &str); 26] = [
     ("1.1alpha1", "1.1a1"),
     ("1.1ALPHA1", "1.1a1"),
     ("1.1beta2", "1.1b2"),
@@ -79,10 +77,6 @@ const SPELLINGS: [(&str, &str); 26] = [
 #[test]
 fn normal_forms(rt: HostRuntime) -> Result<(), Fail> {
     for (text, want) in PRINTS {
-        let found = printed(rt, text)?;
-        assert!(rt; found.as_str() == want, "{text}: {found}");
-    }
-    for (text, want) in SPELLINGS {
         let found = printed(rt, text)?;
         assert!(rt; found.as_str() == want, "{text}: {found}");
     }
