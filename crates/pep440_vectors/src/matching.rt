@@ -1,21 +1,25 @@
 //! What specifiers and lists contain.
-use crate::{Operator, Version, VersionSpecifier, VersionSpecifiers};
+use crate::calls::{list as list_of, specifier as specifier_of, version as version_of};
+use crate::specifiers::built::unchecked;
+use pep440_rs::Operator;
 use std::test::Fail;
+
+mod sweeps;
 
 // A list, a version, and whether the list contains it.
 type Row = (&'static str, &'static str, bool);
 
 // Whether the list contains the version.
 fn contained(rt: HostRuntime, specifiers: &str, version: &str) -> Result<bool, Fail> {
-    let list = VersionSpecifiers::from_str(rt.alloc(), specifiers)?;
-    let candidate = Version::from_str(rt.alloc(), version)?;
+    let list = list_of(rt, specifiers)?;
+    let candidate = version_of(rt, version)?;
     Ok(list.contains(rt.alloc(), &candidate)?)
 }
 
 // The same of the one specifier.
 fn contained_alone(rt: HostRuntime, specifier: &str, version: &str) -> Result<bool, Fail> {
-    let alone = VersionSpecifier::from_str(rt.alloc(), specifier)?;
-    let candidate = Version::from_str(rt.alloc(), version)?;
+    let alone = specifier_of(rt, specifier)?;
+    let candidate = version_of(rt, version)?;
     Ok(alone.contains(rt.alloc(), &candidate)?)
 }
 
@@ -75,10 +79,12 @@ const LISTS: [Row; 10] = [
 #[test]
 fn single(rt: HostRuntime) -> Result<(), Fail> {
     for (specifier, version, expected) in SINGLE {
-        let found = contained_alone(rt, specifier, version)?;
-        assert!(rt; found == expected, "{specifier} alone and {version}");
-        let found = contained(rt, specifier, version)?;
-        assert!(rt; found == expected, "{specifier} and {version}");
+        let alone = contained_alone(rt, specifier, version)?;
+        let listed = contained(rt, specifier, version)?;
+        assert!(rt;
+            alone == expected && listed == expected,
+            "{specifier} and {version}"
+        );
     }
     Ok(())
 }
@@ -89,26 +95,23 @@ fn lists(rt: HostRuntime) -> Result<(), Fail> {
         let found = contained(rt, specifiers, version)?;
         assert!(rt; found == expected, "{specifiers} and {version}");
     }
-    let sorted = VersionSpecifiers::from_str(rt.alloc(), ">=1.16, <2.0")?;
-    let less = sorted
-        .iter()
-        .position(|s| *s.operator() == Operator::LessThan);
-    assert!(rt; less == Some(1));
     Ok(())
 }
 
 // What no text gives: a local part beside `>`, and a suffix beside a star.
+const UNCHECKED: [(Operator, &str, &str, bool); 3] = [
+    (Operator::GreaterThan, "1.0+x", "1.0+y", false),
+    (Operator::GreaterThan, "1.0+x", "1.1+x", true),
+    (Operator::EqualStar, "1.0a1", "1.0", true),
+];
+
 #[test]
-fn unchecked(rt: HostRuntime) -> Result<(), Fail> {
-    let local = Version::from_str(rt.alloc(), "1.0+x")?;
-    let above = VersionSpecifier::greater_than_version(local);
-    let same_release = Version::from_str(rt.alloc(), "1.0+y")?;
-    assert!(rt; !above.contains(rt.alloc(), &same_release)?);
-    let later_release = Version::from_str(rt.alloc(), "1.1+x")?;
-    assert!(rt; above.contains(rt.alloc(), &later_release)?);
-    let pre = Version::from_str(rt.alloc(), "1.0a1")?;
-    let star = VersionSpecifier::equals_star_version(pre);
-    let release = Version::from_str(rt.alloc(), "1.0")?;
-    assert!(rt; star.contains(rt.alloc(), &release)?);
+fn of_no_text(rt: HostRuntime) -> Result<(), Fail> {
+    for (operator, operand, version, expected) in UNCHECKED {
+        let specifier = unchecked(operator, version_of(rt, operand)?)?;
+        let candidate = version_of(rt, version)?;
+        let found = specifier.contains(rt.alloc(), &candidate)?;
+        assert!(rt; found == expected, "{specifier} and {version}");
+    }
     Ok(())
 }

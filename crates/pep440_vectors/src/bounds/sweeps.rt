@@ -1,9 +1,20 @@
 //! The calls that make specifiers of bounds, with one request for memory refused: of two calls one answers at most
 //! its want of memory, and every other answer is that with ample memory.
-use super::bounds::release;
-use crate::{BoundError, Operator, Version, VersionSpecifier, VersionSpecifiers};
+ghost use Rattle.std.specs.Prelude.{◌<◌, length, IfOk};
+ghost use Rattle.pep440_rs.specs.Agreement.{IsReleaseOnly};
+
+use pep440_rs::{BoundError, Operator, Version, VersionSpecifier, VersionSpecifiers};
+use std::alloc::AllocError;
 use std::ops::Bound;
 use std::test::Fail;
+
+// A release alone.
+fn release(rt: HostRuntime, numbers: &[u64]) -> Result<Version, AllocError>
+    requires { 0 < length numbers.now }
+    ensures { IfOk result (λ v. IsReleaseOnly v) }
+{
+    Version::new(rt.alloc(), numbers)
+}
 
 // Whether the answer is this operator's specifier, or want of memory.
 fn is_of(answer: &Result<Option<VersionSpecifier>, BoundError>, operator: Operator) -> bool {

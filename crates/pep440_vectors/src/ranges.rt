@@ -1,0 +1,279 @@
+//! The ranges of specifiers and lists, by either conversion.
+use crate::calls::{list, specifier, version};
+use crate::specifiers::built::unchecked;
+use pep440_rs::{
+    Operator, Prerelease, PrereleaseKind, RangeError, Ranges, Version, VersionSpecifier,
+    VersionSpecifiers, release_specifier_to_range, release_specifiers_to_ranges,
+    specifier_to_range, specifiers_to_ranges,
+};
+use std::ops::Bound;
+use std::test::Fail;
+
+mod sweeps;
+
+// A text, and its range or refusal as `told` writes it.
+type Row = (&'static str, &'static str);
+
+// The print, then min and max.
+fn marked(rt: HostRuntime, version: &Version) -> Result<String, Fail> {
+    let mut text = format!(in rt.alloc(); "{version}")?;
+    if let Some(min) = version.min() {
+        text.push_str(format!(in rt.alloc(); "~min{min}")?.as_str())?;
+    }
+    if let Some(max) = version.max() {
+        text.push_str(format!(in rt.alloc(); "~max{max}")?.as_str())?;
+    }
+    Ok(text)
+}
+
+fn bound(rt: HostRuntime, bound: &Bound<Version>) -> Result<String, Fail> {
+    match bound {
+        Bound::Included(version) => marked(rt, version),
+        Bound::Excluded(version) => marked(rt, version),
+        Bound::Unbounded => Ok(String::from_str(rt.alloc(), "*")?),
+    }
+}
+
+// The segments one after the other, square for included, round for excluded and unbounded; or why there is no range.
+fn told(rt: HostRuntime, range: Result<Ranges<Version>, RangeError>) -> Result<String, Fail> {
+    let range = match range {
+        Ok(range) => range,
+        Err(error) => return Ok(format!(in rt.alloc(); "{error}")?),
+    };
+    let mut text = String::new(rt.alloc());
+    for (start, end) in range.iter() {
+        let open = if matches!(start, Bound::Included(_)) {
+            '['
+        } else {
+            '('
+        };
+        let close = if matches!(end, Bound::Included(_)) {
+            ']'
+        } else {
+            ')'
+        };
+        let from = bound(rt, start)?;
+        let to = bound(rt, end)?;
+        text.push_str(format!(in rt.alloc(); "{open}{from}, {to}{close}")?.as_str())?;
+    }
+    Ok(text)
+}
+
+const REFUSED: &str = "a number of 18446744073709551615 cannot be raised";
+
+// PEP 440, "Version specifiers": by the whole order.
+const WHOLE: [Row; 30] = [
+    ("", "(*, *)"),
+    ("==1.2.*", "[1.2.dev0, 1.3.dev0)"),
+    ("!=1.0.*", "(*, 1.0.dev0)[1.1.dev0, *)"),
+    ("===1.0", "[1.0, 1.0]"),
+    ("==1.0+x", "[1.0+x, 1.0+x]"),
+    ("!=1.0", "(*, 1.0)(1.0, *)"),
+    (">=1.0a1", "[1.0a1, *)"),
+    ("<=1.0", "(*, 1.0]"),
+    ("~=1.2.3", "[1.2.3, 1.3.dev0)"),
+    ("~=1!2.2", "[1!2.2, 1!3.dev0)"),
+    (
+        "~=1.18446744073709551615",
+        "[1.18446744073709551615, 2.dev0)",
+    ),
+    ("<0", "(*, 0~min0)"),
+    ("<1.0a1", "(*, 1.0a1)"),
+    ("<1.0.post1", "(*, 1.0.post1~min0)"),
+    (">1.0", "(1.0~max0, *)"),
+    (">1.0.dev3", "[1.0.dev4, *)"),
+    (">1.0.post1", "[1.0.post2, *)"),
+    (
+        ">1.0a18446744073709551615",
+        "(1.0a18446744073709551615~max0, *)",
+    ),
+    (">=1.0,<1.0", ""),
+    ("<1,>2", ""),
+    (">=1,!=1", "(1, *)"),
+    (">=1.0,<2.0,!=1.5", "[1.0, 1.5)(1.5, 2.0~min0)"),
+    ("~=1.18446744073709551615.0", REFUSED),
+    ("~=18446744073709551615.0", REFUSED),
+    ("==18446744073709551615.*", REFUSED),
+    ("!=1.18446744073709551615.*", REFUSED),
+    (">1.0.dev18446744073709551615", REFUSED),
+    (">1.0.post18446744073709551615", REFUSED),
+    ("<1,>2,==18446744073709551615.*", REFUSED),
+    ("==18446744073709551615.*,<1,>2", REFUSED),
+];
+
+// By releases alone.
+const RELEASES: [Row; 16] = [
+    ("", "(*, *)"),
+    (">=1!2", "[2, *)"),
+    ("==1.2.*", "[1.2, 1.3)"),
+    ("!=1.2.*", "(*, 1.2)[1.3, *)"),
+    ("==1.0+x", "[1.0, 1.0]"),
+    ("===1!1.0", "[1.0, 1.0]"),
+    ("!=1.0a1", "(*, 1.0)(1.0, *)"),
+    ("<=1.0", "(*, 1.0]"),
+    ("<1.0a1", "(*, 1.0)"),
+    (">1.0.post1", "(1.0, *)"),
+    (">1.0.dev18446744073709551615", "(1.0, *)"),
+    ("~=1.2.3", "[1.2.3, 1.3)"),
+    (">=3.7,<4,!=3.8.*", "[3.7, 3.8)[3.9, 4)"),
+    ("==18446744073709551615.*", REFUSED),
+    ("~=18446744073709551615.0", REFUSED),
+    ("<1,>2,==18446744073709551615.*", REFUSED),
+];
+
+// The range of a list by the whole order.
+fn whole_told(rt: HostRuntime, text: &str) -> Result<String, Fail> {
+    let list = list(rt, text)?;
+    told(rt, specifiers_to_ranges(rt.alloc(), list))
+}
+
+// The same of the one specifier.
+fn whole_told_alone(rt: HostRuntime, text: &str) -> Result<String, Fail> {
+    let alone = specifier(rt, text)?;
+    told(rt, specifier_to_range(rt.alloc(), alone))
+}
+
+// The range of a list by releases alone.
+fn releases_told(rt: HostRuntime, text: &str) -> Result<String, Fail> {
+    let list = list(rt, text)?;
+    told(rt, release_specifiers_to_ranges(rt.alloc(), list))
+}
+
+// The same of the one specifier.
+fn releases_told_alone(rt: HostRuntime, text: &str) -> Result<String, Fail> {
+    let alone = specifier(rt, text)?;
+    told(rt, release_specifier_to_range(rt.alloc(), alone))
+}
+
+// Whether the text is of one specifier.
+fn is_of_one(rt: HostRuntime, text: &str) -> Result<bool, Fail> {
+    Ok(list(rt, text)?.as_slice().len() == 1)
+}
+
+#[test]
+fn whole(rt: HostRuntime) -> Result<(), Fail> {
+    for (text, want) in WHOLE {
+        let found = whole_told(rt, text)?;
+        assert!(rt; found.as_str() == want, "{text}: {found}");
+        if is_of_one(rt, text)? {
+            let found = whole_told_alone(rt, text)?;
+            assert!(rt; found.as_str() == want, "{text} alone: {found}");
+        }
+    }
+    Ok(())
+}
+
+#[test]
+fn releases(rt: HostRuntime) -> Result<(), Fail> {
+    for (text, want) in RELEASES {
+        let found = releases_told(rt, text)?;
+        assert!(rt; found.as_str() == want, "{text}: {found}");
+        if is_of_one(rt, text)? {
+            let found = releases_told_alone(rt, text)?;
+            assert!(rt; found.as_str() == want, "{text} alone: {found}");
+        }
+    }
+    Ok(())
+}
+
+// What no text gives: suffixes beside a star.
+const STARS: [Row; 2] = [
+    ("1.0a1", "[1.0a1.dev0, 1.0a2.dev0)"),
+    ("1.0a18446744073709551615", REFUSED),
+];
+
+#[test]
+fn stars(rt: HostRuntime) -> Result<(), Fail> {
+    for (text, want) in STARS {
+        let star = unchecked(Operator::EqualStar, version(rt, text)?)?;
+        let found = told(rt, specifier_to_range(rt.alloc(), star))?;
+        assert!(rt; found.as_str() == want, "{text}: {found}");
+    }
+    Ok(())
+}
+
+// `1.0a1` with a mark `min` that no key shows: the pre-release was set after it.
+fn hidden_min(rt: HostRuntime) -> Result<Version, Fail> {
+    let alpha = Prerelease {
+        kind: PrereleaseKind::Alpha,
+        number: 1,
+    };
+    let marked = Version::new(rt.alloc(), &[1, 0])?.with_min(rt.alloc(), Some(0))?;
+    Ok(marked.with_pre(rt.alloc(), Some(alpha))?)
+}
+
+#[test]
+fn hidden_min_beside_a_star(rt: HostRuntime) -> Result<(), Fail> {
+    let star = VersionSpecifier::equals_star_version(hidden_min(rt)?);
+    let print = star.to_string(rt.alloc())?;
+    assert!(rt; print.as_str() == "==1.0a1.*", "{print}");
+    let range = specifier_to_range(rt.alloc(), star)?;
+    assert!(rt; range.is_empty(), "a range that is not empty");
+    Ok(())
+}
+
+#[test]
+fn above_max(rt: HostRuntime) -> Result<(), Fail> {
+    let marked = Version::new(rt.alloc(), &[1, 0])?.with_max(rt.alloc(), Some(7))?;
+    let above = VersionSpecifier::greater_than_version(marked);
+    let found = told(rt, specifier_to_range(rt.alloc(), above))?;
+    assert!(rt; found.as_str() == "(1.0~max0, *)", "{found}");
+    Ok(())
+}
+
+// Where range and matching part: `>` a pre-release, and `<` a post-release; a version, and whether the specifier
+// contains it. The last is in neither.
+const PARTED: [(&str, &str, bool, bool); 3] = [
+    (">1.0a1", "1.0a2.post1", false, true),
+    ("<1.0.post1", "1.0", true, false),
+    ("<0", "0.dev0", false, false),
+];
+
+// Whether the specifier contains the version, and whether its range does.
+fn held(rt: HostRuntime, text: &str, candidate: &Version) -> Result<(bool, bool), Fail> {
+    let specifier = specifier(rt, text)?;
+    let is_contained = specifier.contains(rt.alloc(), candidate)?;
+    let range = specifier_to_range(rt.alloc(), specifier)?;
+    Ok((is_contained, range.contains(candidate)))
+}
+
+#[test]
+fn parted(rt: HostRuntime) -> Result<(), Fail> {
+    for (text, candidate, contained, within) in PARTED {
+        let found = held(rt, text, &version(rt, candidate)?)?;
+        assert!(rt; found == (contained, within), "{text} and {candidate}");
+    }
+    Ok(())
+}
+
+// `!=1,!=2` and so on, up to `!=1000`.
+fn exclusions(rt: HostRuntime) -> Result<VersionSpecifiers, Fail> {
+    let mut text = String::from_str(rt.alloc(), "!=1")?;
+    for number in 2..1001u64 {
+        text.push_str(format!(in rt.alloc(); ",!={number}")?.as_str())?;
+    }
+    list(rt, text.as_str())
+}
+
+#[test]
+fn thousand_exclusions(rt: HostRuntime) -> Result<(), Fail> {
+    let range = specifiers_to_ranges(rt.alloc(), exclusions(rt)?)?;
+    assert!(rt; range.iter().count() == 1001, "by the whole order");
+    let range = release_specifiers_to_ranges(rt.alloc(), exclusions(rt)?)?;
+    assert!(rt; range.iter().count() == 1001, "by releases");
+    Ok(())
+}
+
+#[test]
+fn errors(rt: HostRuntime) -> Result<(), Fail> {
+    let error = RangeError::NumberAtMax;
+    assert!(rt;
+        error == error.clone()? && error != RangeError::OutOfMemory,
+        "equality"
+    );
+    let wide = format!(in rt.alloc(); "{error:>60}")?;
+    assert!(rt; wide.as_str() == REFUSED, "{wide}");
+    let lack = RangeError::OutOfMemory.to_string(rt.alloc())?;
+    assert!(rt; lack.as_str() == "out of memory", "{lack}");
+    Ok(())
+}
