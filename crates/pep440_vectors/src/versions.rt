@@ -9,6 +9,7 @@ mod extremes;
 mod hashing;
 mod kept;
 mod order;
+mod packed;
 mod patterns;
 mod printing;
 mod reading;

@@ -17,7 +17,7 @@ use std::alloc::{AllocError, Global};
 impl Version {
     /// The version with this release. The release must not be empty; `is_empty` is its test.
     ///
-    /// Takes memory.
+    /// Takes memory only where the answer is not packed.
     pub fn with_release(self, alloc: Global, release: &[u64]) -> Result<Version, AllocError>
         requires { 0 < length release.now }
         ensures value { IfOk result (λ v. v ≡ record self { release = release.now }) }
@@ -33,7 +33,7 @@ impl Version {
 
     /// The version with this epoch.
     ///
-    /// May take memory.
+    /// Takes memory only where the answer is not packed.
     pub fn with_epoch(self, alloc: Global, epoch: u64) -> Result<Version, AllocError>
         ensures value { IfOk result (λ v. v ≡ record self { epoch = epoch }) }
         ensures memory { is_packed (record self { epoch = epoch }) ≡ true → IsOk result }
@@ -45,7 +45,7 @@ impl Version {
 
     /// The version with this pre-release part, or without one.
     ///
-    /// May take memory.
+    /// Takes memory only where the answer is not packed.
     pub fn with_pre(self, alloc: Global, pre: Option<Prerelease>) -> Result<Version, AllocError>
         ensures value { IfOk result (λ v. v ≡ record self { pre = pre }) }
         ensures memory { is_packed (record self { pre = pre }) ≡ true → IsOk result }
@@ -57,7 +57,7 @@ impl Version {
 
     /// The version with this post-release number, or without one.
     ///
-    /// May take memory.
+    /// Takes memory only where the answer is not packed.
     pub fn with_post(self, alloc: Global, post: Option<u64>) -> Result<Version, AllocError>
         ensures value { IfOk result (λ v. v ≡ record self { post = post }) }
         ensures memory { is_packed (record self { post = post }) ≡ true → IsOk result }
@@ -69,7 +69,7 @@ impl Version {
 
     /// The version with this developmental number, or without one.
     ///
-    /// May take memory.
+    /// Takes memory only where the answer is not packed.
     pub fn with_dev(self, alloc: Global, dev: Option<u64>) -> Result<Version, AllocError>
         ensures value { IfOk result (λ v. v ≡ record self { dev = dev }) }
         ensures memory { is_packed (record self { dev = dev }) ≡ true → IsOk result }
@@ -81,7 +81,7 @@ impl Version {
 
     /// The version with these local segments; an empty vector is no local part.
     ///
-    /// May take memory.
+    /// Takes memory only where the answer is not packed.
     pub fn with_local(self, alloc: Global, local: Vec<LocalSegment>) -> Result<Version, AllocError>
         ensures value { IfOk result (λ v. v ≡ record self { local = map segment local.items }) }
         ensures memory { is_packed (record self { local = map segment local.items }) ≡ true → IsOk result }
@@ -106,7 +106,7 @@ impl Version {
 
     /// The version without its local part.
     ///
-    /// May take memory.
+    /// Takes memory only where the answer is not packed.
     pub fn without_local(self, alloc: Global) -> Result<Version, AllocError>
         ensures value { IfOk result (λ v. v ≡ record self { local = [] }) }
         ensures memory { is_packed (record self { local = [] }) ≡ true → IsOk result }
@@ -116,7 +116,7 @@ impl Version {
 
     /// The version that is the release alone, with epoch 0.
     ///
-    /// Takes memory.
+    /// Takes memory only where the answer is not packed.
     pub fn only_release(&self, alloc: Global) -> Result<Version, AllocError>
         ensures value { IfOk result (λ v. v ≡ of_release self.now.release) }
         ensures memory { is_packed (of_release self.now.release) ≡ true → IsOk result }
@@ -127,7 +127,7 @@ impl Version {
     /// The version with this `min` mark, or without one. The version must have neither a pre-release nor a
     /// developmental part, also where the mark is taken away; `any_prerelease` is the test.
     ///
-    /// May take memory.
+    /// Takes memory only where the answer is not packed.
     pub fn with_min(self, alloc: Global, min: Option<u64>) -> Result<Version, AllocError>
         requires no_pre { self.pre ≡ None }
         requires no_dev { self.dev ≡ None }
@@ -142,7 +142,7 @@ impl Version {
     /// The version with this `max` mark, or without one. The version must have neither a post-release nor a
     /// developmental part, also where the mark is taken away; `is_post` and `is_dev` are the tests.
     ///
-    /// May take memory.
+    /// Takes memory only where the answer is not packed.
     pub fn with_max(self, alloc: Global, max: Option<u64>) -> Result<Version, AllocError>
         requires no_post { self.post ≡ None }
         requires no_dev { self.dev ≡ None }

@@ -19,6 +19,10 @@ use std::marker::Model;
 /// where they are there pre, post, dev, local, and the marks `min` and `max`.
 ///
 /// Versions are ordered by their key, so that `1.0` equals `1.0.0`; `release` and the print tell them apart.
+///
+/// A version is packed where its epoch is 0, it has no local part, at most four release numbers, the first at most
+/// 65535 and the others at most 255, and at most one of pre, post, dev, `min` and `max`, whose number is at most
+/// 2097151. It is then held in one word (`laws::word`), without memory.
 #[derive(Drop)]
 pub struct Version {
     form: Form,
@@ -160,7 +164,7 @@ impl Version {
     /// The version that is this release alone, as `1.2.3` of 1, 2 and 3 (PEP 440, "Final releases").
     /// The release must not be empty; `is_empty` is its test.
     ///
-    /// Takes memory only where the release is not packed.
+    /// Takes memory only where the version is not packed.
     pub fn new(alloc: Global, release: &[u64]) -> Result<Version, AllocError>
         requires { 0 < length release.now }
         ensures value { IfOk result (λ v. v ≡ of_release release.now) }
