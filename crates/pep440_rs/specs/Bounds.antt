@@ -59,10 +59,11 @@ from_to start end = one_segment record_cmp (Included start) (Excluded end)
 abbrev pub less : Record → Segments
 less s = if any_prerelease s then below s else below (record s { min = Some 0 })
 
--- `>`, by the dev and post of s: from the next one on, or above the mark that is above all its post-releases
+-- `>`, by the dev and post of s: from the next dev on, from the first developmental release of the next post on, or
+-- above the mark that is above all its post-releases
 abbrev pub greater : Record → Option ℕ → Option ℕ → Option Segments
 greater s (Some dev) post = option_map (λ n. from (record s { dev = Some n })) (next_number dev)
-greater s None (Some post) = option_map (λ n. from (record s { post = Some n })) (next_number post)
+greater s None (Some post) = option_map (λ n. from (record s { post = Some n; dev = Some 0 })) (next_number post)
 greater s None None = Some (above (record s { max = Some 0 }))
 
 -- the end of `~=`: the first developmental release of the next release one number shorter
