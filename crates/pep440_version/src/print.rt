@@ -1,7 +1,7 @@
 //! Prints in normal form (PEP 440, "Normalization"), the same whatever width and fill are asked for.
 ghost use Rattle.std.specs.Prelude.{Some, map, ◌++◌, ◌<◌, ◌+◌, ◌∷◌, [], codes};
 ghost use Rattle.std.specs.List.{flat_map};
-ghost use Rattle.std.specs.Fmt.{WritesStyledOnOk, decimal};
+ghost use Rattle.std.specs.Fmt.{WritesStyledOnOk, DisplaysOnOk, decimal};
 ghost use Rattle.pep440_version.specs.Print.{print, quoted, dotted, segment_print, kind_text, prerelease_text, pre_text, epoch_text, local_text, marked};
 ghost use Rattle.pep440_version.specs.Segments.{segment};
 
@@ -25,7 +25,18 @@ fn write_digit<W: fmt::Write>(f: &mut fmt::Formatter<W>, n: u64) -> fmt::Result
     requires { n < 10 }
     ensures { WritesStyledOnOk W.write_str_gives f.old result ((48 + n) ∷ []) f.new }
 {
-    f.write_char((b'0' + n as u8) as char)
+    f.write_str(match n {
+        0 => "0",
+        1 => "1",
+        2 => "2",
+        3 => "3",
+        4 => "4",
+        5 => "5",
+        6 => "6",
+        7 => "7",
+        8 => "8",
+        _ => "9",
+    })
 }
 
 // A mark and a number.
@@ -209,12 +220,31 @@ impl fmt::Display for Version {
     }
 }
 
+// The print and a quote.
+#[tactic(auto, using(crate::proofs::Printing::two_writes))]
+fn write_closed<W: fmt::Write>(f: &mut fmt::Formatter<W>, v: &Version) -> fmt::Result
+    ensures { WritesStyledOnOk W.write_str_gives f.old result (print v.now ++ codes "\"") f.new }
+{
+    write_version(f, v)?;
+    f.write_str("\"")
+}
+
+// The print in double quotes.
+#[tactic(auto, using(crate::proofs::Printing::two_writes))]
+fn write_quoted<W: fmt::Write>(f: &mut fmt::Formatter<W>, v: &Version) -> fmt::Result
+    ensures { WritesStyledOnOk W.write_str_gives f.old result (quoted v.now) f.new }
+{
+    f.write_str("\"")?;
+    write_closed(f, v)
+}
+
 impl fmt::Debug for Version {
     ghost debug_output = { λ v. Some (quoted v) };
 
-    fn fmt<W: fmt::Write>(&self, f: &mut fmt::Formatter<W>) -> fmt::Result {
-        f.write_str("\"")?;
-        write_version(f, self)?;
-        f.write_str("\"")
+    fn fmt<W: fmt::Write>(&self, f: &mut fmt::Formatter<W>) -> fmt::Result
+        ensures writes { DisplaysOnOk W.write_str_gives f.old result (Some (quoted self.now)) f.new }
+        ensures styled { WritesStyledOnOk W.write_str_gives f.old result (quoted self.now) f.new }
+    {
+        write_quoted(f, self)
     }
 }
