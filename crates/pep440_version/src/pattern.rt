@@ -1,7 +1,7 @@
 //! Version patterns, and the readers of versions and patterns.
 ghost use Rattle.std.specs.Prelude.{◌≡◌, ℕ, List, Bool, true, false, Ok, Err, Some, IfOk, IfErr, IfSome};
-ghost use Rattle.pep440_version.specs.ErrorTexts.{kind_text_of, refusal_text, pattern_text_of, pattern_refusal_text};
-ghost use Rattle.pep440_version.specs.Errors.{Answers, PatternAnswers, pattern_refusal_of, pattern_kind_of, refusal_of, kind_of};
+ghost use Rattle.pep440_version.specs.ErrorTexts.{error_text, refusal_text, pattern_error_text, pattern_refusal_text};
+ghost use Rattle.pep440_version.specs.Errors.{Answers, error_refusal, pattern_error_refusal};
 ghost use Rattle.pep440_version.specs.Grammar.{Derives};
 ghost use Rattle.pep440_version.specs.Patterns.{DerivesPattern};
 ghost use Rattle.pep440_version.specs.Print.{print};
@@ -79,7 +79,7 @@ impl VersionPattern {
 
     // What the reading from the left gives.
     fn read(alloc: Global, text: &str) -> Result<VersionPattern, VersionPatternParseError>
-        ensures { PatternAnswers result (read_pattern text.now) }
+        ensures { Answers pattern_error_refusal result (read_pattern text.now) }
     {
         match read::pattern(alloc, text) {
             Ok((version, wildcard)) => Ok(VersionPattern { version, wildcard }),
@@ -96,13 +96,13 @@ impl VersionPattern {
         // What is answered is what the text means.
         ensures found { IfOk result (λ p. DerivesPattern text.now p.0 p.1) }
         // What the text means is answered, unless memory runs out.
-        ensures only { (r : Record) (star : Bool) → DerivesPattern text.now r star → PatternAnswers result (Ok (r, star)) }
+        ensures only { (r : Record) (star : Bool) → DerivesPattern text.now r star → Answers pattern_error_refusal result (Ok (r, star)) }
         // A refusal is one that the fronts of the text tell.
-        ensures refused { IfErr result (λ e. IfSome (pattern_refusal_of (pattern_kind_of e)) (RefusesPattern text.now)) }
+        ensures refused { IfErr result (λ e. IfSome (pattern_error_refusal e) (RefusesPattern text.now)) }
         // A refusal that the fronts of the text tell is answered, unless memory runs out.
-        ensures decided { (f : PatternRefusal) → RefusesPattern text.now f → PatternAnswers result (Err f) }
+        ensures decided { (f : PatternRefusal) → RefusesPattern text.now f → Answers pattern_error_refusal result (Err f) }
         // The error's text is the refusal's.
-        ensures told { IfErr result (λ e. IfSome (pattern_refusal_of (pattern_kind_of e)) (λ f. pattern_text_of (pattern_kind_of e) ≡ Some (pattern_refusal_text f))) }
+        ensures told { IfErr result (λ e. IfSome (pattern_error_refusal e) (λ f. pattern_error_text (pattern_error_refusal e) ≡ Some (pattern_refusal_text f))) }
     {
         VersionPattern::read(alloc, text)
     }
@@ -122,7 +122,7 @@ impl Clone for VersionPattern {
 impl Version {
     // What the reading from the left gives: a version is a pattern without a star.
     fn read(alloc: Global, text: &str) -> Result<Version, VersionParseError>
-        ensures { Answers result (read_version text.now) }
+        ensures { Answers error_refusal result (read_version text.now) }
     {
         match read::pattern(alloc, text) {
             Ok((version, false)) => Ok(version),
@@ -144,17 +144,17 @@ impl Version {
         // What is answered is what the text means.
         ensures found { IfOk result (λ v. Derives text.now v) }
         // What the text means is answered, unless memory runs out.
-        ensures only { (r : Record) → Derives text.now r → Answers result (Ok r) }
+        ensures only { (r : Record) → Derives text.now r → Answers error_refusal result (Ok r) }
         // A refusal is one that the fronts of the text tell.
-        ensures refused { IfErr result (λ e. IfSome (refusal_of (kind_of e)) (Refuses text.now)) }
+        ensures refused { IfErr result (λ e. IfSome (error_refusal e) (Refuses text.now)) }
         // A refusal that the fronts of the text tell is answered, unless memory runs out.
-        ensures decided { (f : Refusal) → Refuses text.now f → Answers result (Err f) }
+        ensures decided { (f : Refusal) → Refuses text.now f → Answers error_refusal result (Err f) }
         // The error's text is the refusal's.
-        ensures told { IfErr result (λ e. IfSome (refusal_of (kind_of e)) (λ f. kind_text_of (kind_of e) ≡ Some (refusal_text f))) }
+        ensures told { IfErr result (λ e. IfSome (error_refusal e) (λ f. error_text (error_refusal e) ≡ Some (refusal_text f))) }
         // A text that is the print of a record is answered with that record, unless memory runs out.
-        ensures reread { (r : Record) → IsRecord r → Rereads r → text.now ≡ print r → Answers result (Ok r) }
+        ensures reread { (r : Record) → IsRecord r → Rereads r → text.now ≡ print r → Answers error_refusal result (Ok r) }
         // So is the print of what some text means.
-        ensures again { (t : List ℕ) (r : Record) → Derives t r → text.now ≡ print r → Answers result (Ok r) }
+        ensures again { (t : List ℕ) (r : Record) → Derives t r → text.now ≡ print r → Answers error_refusal result (Ok r) }
     {
         Version::read(alloc, text)
     }

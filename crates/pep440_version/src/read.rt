@@ -1,7 +1,7 @@
 ghost use Rattle.std.specs.Prelude.{◌≡◌, ◌<◌, ◌==◌, true, length, Ok, Err};
-ghost use Rattle.pep440_version.specs.Errors.{Gives, PatternGives};
+ghost use Rattle.pep440_version.specs.Errors.{Answers, Gives, pattern_refusal_of};
 ghost use Rattle.pep440_version.specs.Grammar.{starts, is_v};
-ghost use Rattle.pep440_version.specs.Reading.{EndsWith, past_mark, starts_number};
+ghost use Rattle.pep440_version.specs.Reading.{EndsWith, past_v, starts_number};
 ghost use Rattle.pep440_version.specs.Whole.{release_after_first, front_at, opening, parts_at, end_at, closing, is_star, read_pattern};
 
 mod local;
@@ -16,9 +16,9 @@ use crate::error::{ErrorKind, PatternErrorKind, VersionParseError};
 use crate::version::Version;
 use std::alloc::Global;
 
-// The text after its mark.
-fn past_mark(text: &str) -> &str
-    ensures { result.now ≡ past_mark text.now }
+// The text after the letter v, where it stands in front.
+fn past_v(text: &str) -> &str
+    ensures { result.now ≡ past_v text.now }
 {
     if scan::starts_with(text, b'v') || scan::starts_with(text, b'V') {
         scan::past_ascii(text)
@@ -120,9 +120,9 @@ fn is_star(text: &str) -> bool
 
 // What the text reads as, and whether a star follows.
 pub(crate) fn pattern(alloc: Global, text: &str) -> Result<(Version, bool), PatternErrorKind>
-    ensures { PatternGives (λ x. x) result (read_pattern text.now) }
+    ensures { Answers pattern_refusal_of result (read_pattern text.now) }
 {
-    let (epoch, release, rest) = front_at(alloc, past_mark(scan::past_blanks(text)))?;
+    let (epoch, release, rest) = front_at(alloc, past_v(scan::past_blanks(text)))?;
     if !is_star(rest) {
         return Ok((closing(alloc, text, epoch, release, rest)?, false));
     }
