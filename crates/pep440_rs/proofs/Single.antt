@@ -18,7 +18,7 @@ use Rattle.pep440_ranges.specs.Complement.{gaps}
 use Rattle.pep440_ranges.specs.Segments.{contains}
 use Rattle.pep440_version.specs.Key.{record_cmp}
 use Rattle.pep440_version.specs.KeyLaws.{record_total}
-use Rattle.pep440_version.specs.Record.{Record, public_record}
+use Rattle.pep440_version.specs.Record.{Record, epoch_and_release}
 
 -- a candidate without local part is compared as it is
 pub own : (s v : Record) → candidate s (plain v) ≡ plain v
@@ -60,8 +60,8 @@ each : (op : Operator) (s v : Record) → IsOperand op s → IsPlain v → For o
 each Equal s v p q = taken Equal s s v refl q (λ c range h. rw (some_is _ range h) (alone_holds s (plain v) ∙ ap (λ w. is_eq (record_cmp w s)) (sym (own s v))))
 each ExactEqual s v p q = absurd p
 each NotEqual s v p q = taken NotEqual s s v refl q (λ c range h. rw (some_is _ range h) (others_hold s (plain v) ∙ ap (λ w. not (is_eq (record_cmp w s))) (sym (own s v))))
-each EqualStar s v p q = taken EqualStar s (public_record s.epoch s.release) v p q (λ c range h. star_agrees s.epoch s.release v range h)
-each NotEqualStar s v p q = taken NotEqualStar s (public_record s.epoch s.release) v p q (λ c range h. not_star_agrees s.epoch s.release v range h)
+each EqualStar s v p q = taken EqualStar s (epoch_and_release s.epoch s.release) v p q (λ c range h. star_agrees s.epoch s.release v range h)
+each NotEqualStar s v p q = taken NotEqualStar s (epoch_and_release s.epoch s.release) v p q (λ c range h. not_star_agrees s.epoch s.release v range h)
 each TildeEqual s v p q = taken TildeEqual s (plain s) v (is_plain s p) q (λ c range h. tilde_agrees s v range h)
 each LessThan s v p q = taken LessThan s (plain s) v (is_plain s p) q (λ c range h. rw (some_is _ range h) (less_agrees s v c))
 each LessThanEqual s v p q = taken LessThanEqual s (plain s) v (is_plain s p) q (λ c range h. rw (some_is _ range h) (only_end (is_le (record_cmp (plain v) (plain s)))))

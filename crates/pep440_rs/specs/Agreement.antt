@@ -9,7 +9,7 @@ use Rattle.pep440_rs.specs.declared.operator.Operator.{Operator}
 use Rattle.pep440_rs.specs.declared.operator.Operator.TheVariants.{Equal, EqualStar, ExactEqual, NotEqual, NotEqualStar, TildeEqual, LessThan, LessThanEqual, GreaterThan, GreaterThanEqual}
 use Rattle.pep440_ranges.specs.Segments.{contains, IsRange}
 use Rattle.pep440_version.specs.Key.{record_cmp}
-use Rattle.pep440_version.specs.Record.{Record, of_release, public_record}
+use Rattle.pep440_version.specs.Record.{Record, of_release, epoch_and_release}
 
 -- ---- what is presupposed of the versions
 
@@ -25,8 +25,8 @@ abbrev pub IsOperand : Operator → Record → Type 0
 IsOperand Equal s = Unit {0}
 IsOperand NotEqual s = Unit {0}
 IsOperand ExactEqual s = ⊥
-IsOperand EqualStar s = s ≡ public_record s.epoch s.release
-IsOperand NotEqualStar s = s ≡ public_record s.epoch s.release
+IsOperand EqualStar s = s ≡ epoch_and_release s.epoch s.release
+IsOperand NotEqualStar s = s ≡ epoch_and_release s.epoch s.release
 IsOperand TildeEqual s = IsPlain s
 IsOperand LessThan s = IsPlain s
 IsOperand LessThanEqual s = IsPlain s

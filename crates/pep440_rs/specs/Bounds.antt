@@ -11,7 +11,7 @@ use Rattle.pep440_ranges.specs.Complement.{gaps}
 use Rattle.pep440_ranges.specs.Intersection.{overlaps}
 use Rattle.pep440_ranges.specs.Segments.{Segment, one_segment}
 use Rattle.pep440_version.specs.Key.{record_cmp}
-use Rattle.pep440_version.specs.Record.{Record, of_release, public_record}
+use Rattle.pep440_version.specs.Record.{Record, of_release, epoch_and_release}
 use Rattle.pep440_version.specs.declared.prerelease.Prerelease.{Prerelease}
 
 abbrev pub Segments : Type 0
@@ -68,7 +68,7 @@ greater s None None = Some (above (record s { max = Some 0 }))
 
 -- the end of `~=`: the first developmental release of the next release one number shorter
 abbrev pub compatible_end : Record → Option Record
-compatible_end s = option_map (λ release. record (public_record s.epoch release) { dev = Some 0 }) (raised (without_last s.release))
+compatible_end s = option_map (λ release. record (epoch_and_release s.epoch release) { dev = Some 0 }) (raised (without_last s.release))
 
 abbrev pub compatible : Record → Option Segments
 compatible s = option_map (λ end. from_to s end) (compatible_end s)
