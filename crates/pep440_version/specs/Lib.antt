@@ -3,6 +3,7 @@ pub mod Key
 pub mod Trim
 pub mod KeyLaws
 pub mod Segments
+pub mod Inline
 pub mod Form
 pub mod Print
 pub mod Grammar

@@ -11,6 +11,7 @@ mod error_text;
 mod full;
 mod hash;
 pub mod laws;
+mod numbers;
 mod order;
 mod pattern;
 mod prerelease;

@@ -5,7 +5,7 @@ ghost use Rattle.pep440_version.specs.Errors.{Answers, Gives, error_refusal, pat
 ghost use Rattle.pep440_version.specs.Grammar.{Derives, starts, is_v};
 ghost use Rattle.pep440_version.specs.Print.{print};
 ghost use Rattle.pep440_version.specs.Reading.{EndsWith, past_v, starts_number};
-ghost use Rattle.pep440_version.specs.Record.{Record, IsRecord};
+ghost use Rattle.pep440_version.specs.Record.{Record, IsRecord, epoch_and_release};
 ghost use Rattle.pep440_version.specs.Refusals.{Refusal, Refuses};
 ghost use Rattle.pep440_version.specs.Reread.{Rereads};
 ghost use Rattle.pep440_version.specs.Whole.{release_after_first, front_at, opening, parts_at, end_at, closing, is_star, read_pattern, read_version};
@@ -19,6 +19,7 @@ use self::local::local_at;
 use self::number::{number_at, release_from, starts_number};
 use self::suffix::{dev_at, post_at, pre_at};
 use crate::error::{ErrorKind, PatternErrorKind, VersionParseError};
+use crate::numbers::Release;
 use crate::version::Version;
 use std::alloc::Global;
 
@@ -39,8 +40,8 @@ fn release_after<'a>(
     epoch: u64,
     first: u64,
     text: &'a str,
-) -> Result<(u64, Vec<u64>, &'a str), ErrorKind>
-    ensures { Gives (λ x. ((x.0, x.1.items), x.2.now)) result (release_after_first epoch first text.now) }
+) -> Result<(u64, Release, &'a str), ErrorKind>
+    ensures { Gives (λ x. ((x.0, x.1), x.2.now)) result (release_after_first epoch first text.now) }
 {
     let (numbers, rest) = release_from(alloc, first, text)?;
     Ok((epoch, numbers, rest))
@@ -48,8 +49,8 @@ fn release_after<'a>(
 
 // Epoch and release at the front.
 #[tactic(auto, unfolding(crate::specs::Whole::front_at))]
-fn front_at(alloc: Global, text: &str) -> Result<(u64, Vec<u64>, &str), ErrorKind>
-    ensures { Gives (λ x. ((x.0, x.1.items), x.2.now)) result (front_at text.now) }
+fn front_at(alloc: Global, text: &str) -> Result<(u64, Release, &str), ErrorKind>
+    ensures { Gives (λ x. ((x.0, x.1), x.2.now)) result (front_at text.now) }
 {
     if !starts_number(text) {
         return Err(ErrorKind::NoLeadingNumber);
@@ -71,18 +72,18 @@ fn front_at(alloc: Global, text: &str) -> Result<(u64, Vec<u64>, &str), ErrorKin
 fn parts_at(
     alloc: Global,
     epoch: u64,
-    release: Vec<u64>,
+    release: Release,
     text: &str,
 ) -> Result<(Version, &str), ErrorKind>
-    requires { 0 < length release.items }
-    ensures { Gives (λ x. (x.0, x.1.now)) result (parts_at epoch release.items text.now) }
+    requires { 0 < length release }
+    ensures { Gives (λ x. (x.0, x.1.now)) result (parts_at epoch release text.now) }
 {
     let (pre, after_pre) = pre_at(alloc, text)?;
     let (post, after_post) = post_at(alloc, after_pre)?;
     let (dev, after_dev) = dev_at(alloc, after_post)?;
     let (local, rest) = local_at(alloc, after_dev)?;
     Ok((
-        Version::of_parts(epoch, release, pre, post, dev, local),
+        Version::of_parts(alloc, epoch, release, pre, post, dev, local)?,
         rest,
     ))
 }
@@ -107,12 +108,12 @@ fn closing(
     alloc: Global,
     text: &str,
     epoch: u64,
-    release: Vec<u64>,
+    release: Release,
     rest: &str,
 ) -> Result<Version, ErrorKind>
-    requires some { 0 < length release.items }
+    requires some { 0 < length release }
     requires at_end { EndsWith text.now rest.now }
-    ensures { Gives (λ v. v) result (closing text.now ((epoch, release.items), rest.now)) }
+    ensures { Gives (λ v. v) result (closing text.now ((epoch, release), rest.now)) }
 {
     let (version, after) = parts_at(alloc, epoch, release, rest)?;
     end_at(alloc, text, version, after)
@@ -124,6 +125,15 @@ fn is_star(text: &str) -> bool
     scan::starts_with(text, b'.') && scan::starts_with(scan::past_ascii(text), b'*')
 }
 
+// Epoch and release alone.
+fn before_star(alloc: Global, epoch: u64, release: Release) -> Result<Version, ErrorKind>
+    requires { 0 < length release }
+    ensures { Gives (λ v. v) result (Ok (epoch_and_release epoch release)) }
+{
+    let no_local = Vec::new(alloc);
+    Ok(Version::of_parts(alloc, epoch, release, None, None, None, no_local)?)
+}
+
 // What the text reads as, and whether a star follows.
 pub(crate) fn pattern(alloc: Global, text: &str) -> Result<(Version, bool), PatternErrorKind>
     ensures { Answers pattern_refusal_of result (read_pattern text.now) }
@@ -133,10 +143,7 @@ pub(crate) fn pattern(alloc: Global, text: &str) -> Result<(Version, bool), Patt
         return Ok((closing(alloc, text, epoch, release, rest)?, false));
     }
     if rest.len() == 2 {
-        Ok((
-            Version::of_parts(epoch, release, None, None, None, Vec::new(alloc)),
-            true,
-        ))
+        Ok((before_star(alloc, epoch, release)?, true))
     } else {
         Err(PatternErrorKind::WildcardNotTrailing)
     }

@@ -7,6 +7,7 @@ ghost use Rattle.pep440_version.specs.Segments.{segment};
 ghost use Rattle.pep440_version.specs.Trim.{trim};
 ghost use Rattle.std.specs.declared.cmp.Ordering.TheVariants.{Equal};
 
+use crate::numbers::Release;
 use crate::prerelease::Prerelease;
 use crate::segment::LocalSegment;
 use crate::version::{Version, known_segments};
@@ -22,10 +23,10 @@ impl Version {
         // Zeros at the end of the release make no difference to the order and to a hasher.
         ensures zeros { trim release.now ≡ trim self.release → IfOk result (λ v. (record_cmp v self ≡ Equal) × (feed v ≡ feed self)) }
     {
-        let numbers = Vec::from_slice(alloc, release)?;
+        let numbers = Release::from_slice(alloc, release)?;
         let mut full = self.into_full(alloc);
         full.release = numbers;
-        Ok(Version::from_full(full))
+        Version::from_full(alloc, full)
     }
 
     /// The version with this epoch.
@@ -36,7 +37,7 @@ impl Version {
     {
         let mut full = self.into_full(alloc);
         full.epoch = epoch;
-        Ok(Version::from_full(full))
+        Version::from_full(alloc, full)
     }
 
     /// The version with this pre-release part, or without one.
@@ -47,7 +48,7 @@ impl Version {
     {
         let mut full = self.into_full(alloc);
         full.pre = pre;
-        Ok(Version::from_full(full))
+        Version::from_full(alloc, full)
     }
 
     /// The version with this post-release number, or without one.
@@ -58,7 +59,7 @@ impl Version {
     {
         let mut full = self.into_full(alloc);
         full.post = post;
-        Ok(Version::from_full(full))
+        Version::from_full(alloc, full)
     }
 
     /// The version with this developmental number, or without one.
@@ -69,7 +70,7 @@ impl Version {
     {
         let mut full = self.into_full(alloc);
         full.dev = dev;
-        Ok(Version::from_full(full))
+        Version::from_full(alloc, full)
     }
 
     /// The version with these local segments; an empty vector is no local part.
@@ -81,7 +82,7 @@ impl Version {
         known_segments(&local);
         let mut full = self.into_full(alloc);
         full.local = local;
-        Ok(Version::from_full(full))
+        Version::from_full(alloc, full)
     }
 
     // The version with a copy of these local segments.
@@ -125,7 +126,7 @@ impl Version {
     {
         let mut full = self.into_full(alloc);
         full.min = min;
-        Ok(Version::from_full(full))
+        Version::from_full(alloc, full)
     }
 
     /// The version with this `max` mark, or without one. The version must have neither a post-release nor a
@@ -139,6 +140,6 @@ impl Version {
     {
         let mut full = self.into_full(alloc);
         full.max = max;
-        Ok(Version::from_full(full))
+        Version::from_full(alloc, full)
     }
 }

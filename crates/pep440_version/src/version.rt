@@ -6,6 +6,7 @@ ghost use Rattle.pep440_version.specs.Record.{of_parts, of_release, zero_alpha_d
 ghost use Rattle.pep440_version.specs.Segments.{segment};
 
 use crate::full::Full;
+use crate::numbers::{Release, known_numbers};
 use crate::prerelease::{Prerelease, PrereleaseKind};
 use crate::segment::LocalSegment;
 use std::alloc::{AllocError, Global};
@@ -55,22 +56,21 @@ pub(crate) fn known_segments(segments: &[LocalSegment])
 pub fn min_version(alloc: Global) -> Result<Version, AllocError>
     ensures { IfOk result (λ v. v ≡ zero_alpha_dev) }
 {
-    let mut release = Vec::new(alloc);
-    release.push(0)?;
     let pre = Prerelease {
         kind: PrereleaseKind::Alpha,
         number: 0,
     };
-    Ok(Version::of_parts(0, release, Some(pre), None, Some(0), Vec::new(alloc)))
+    let release = Release::one(0);
+    Version::of_parts(alloc, 0, release, Some(pre), None, Some(0), Vec::new(alloc))
 }
 
 impl Version {
     // The form that holds the record: every version is made here.
-    pub(crate) fn from_full(full: Full) -> Version
+    pub(crate) fn from_full(alloc: Global, full: Full) -> Result<Version, AllocError>
         requires { IsRecord (full_record full) }
-        ensures { result ≡ full_record full }
+        ensures value { IfOk result (λ v. v ≡ full_record full) }
     {
-        Version { full }
+        Ok(Version { full })
     }
 
     // Each part, to be changed.
@@ -84,18 +84,20 @@ impl Version {
 
     // The version of these parts, without marks.
     pub(crate) fn of_parts(
+        alloc: Global,
         epoch: u64,
-        release: Vec<u64>,
+        release: Release,
         pre: Option<Prerelease>,
         post: Option<u64>,
         dev: Option<u64>,
         local: Vec<LocalSegment>,
-    ) -> Version
-        requires { 0 < length release.items }
-        ensures { result ≡ of_parts epoch release.items pre post dev (map segment local.items) }
+    ) -> Result<Version, AllocError>
+        requires { 0 < length release }
+        ensures value { IfOk result (λ v. v ≡ of_parts epoch release pre post dev (map segment local.items)) }
     {
+        known_numbers(release.as_slice());
         known_segments(&local);
-        Version::from_full(Full {
+        let full = Full {
             epoch,
             release,
             pre,
@@ -104,7 +106,8 @@ impl Version {
             local,
             min: None,
             max: None,
-        })
+        };
+        Version::from_full(alloc, full)
     }
 
     /// The version that is this release alone, as `1.2.3` of 1, 2 and 3 (PEP 440, "Final releases").
@@ -115,7 +118,7 @@ impl Version {
         requires { 0 < length release.now }
         ensures value { IfOk result (λ v. v ≡ of_release release.now) }
     {
-        Ok(Version::from_full(Full::new(alloc, release)?))
+        Version::from_full(alloc, Full::new(alloc, release)?)
     }
 
     /// The epoch, 0 where none is written (PEP 440, "Version epochs").
@@ -240,6 +243,8 @@ impl Clone for Version {
     ghost is_clone = { λ version copy. copy ≡ version };
 
     fn clone(&self) -> Result<Version, AllocError> {
-        Ok(Version::from_full(self.full.clone()?))
+        Ok(Version {
+            full: self.full.clone()?,
+        })
     }
 }
