@@ -35,3 +35,4 @@ pub mod Reread
 pub mod Trimming
 pub mod Zeros
 pub mod KeyRows
+pub mod Word

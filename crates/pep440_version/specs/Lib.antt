@@ -4,6 +4,7 @@ pub mod Trim
 pub mod KeyLaws
 pub mod Segments
 pub mod Inline
+pub mod Word
 pub mod Form
 pub mod Print
 pub mod Grammar

@@ -13,6 +13,7 @@ mod hash;
 pub mod laws;
 mod numbers;
 mod order;
+mod packed;
 mod pattern;
 mod prerelease;
 mod print;

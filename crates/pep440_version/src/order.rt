@@ -100,7 +100,19 @@ fn cmp_suffixes(a: &Version, b: &Version) -> Ordering
 /// The order of two versions as if neither had a local part (PEP 440, "Version matching").
 ///
 /// Takes no memory.
+#[inline(always)]
 pub fn cmp_without_local(a: &Version, b: &Version) -> Ordering
+    ensures { result ≡ record_cmp (record a.now { local = [] }) (record b.now { local = [] }) }
+{
+    match (a.word(), b.word()) {
+        (Some(first), Some(second)) => first.cmp(second),
+        _ => cmp_parts_without_local(a, b),
+    }
+}
+
+// Part by part, up to the local part.
+#[inline(never)]
+fn cmp_parts_without_local(a: &Version, b: &Version) -> Ordering
     ensures { result ≡ record_cmp (record a.now { local = [] }) (record b.now { local = [] }) }
 {
     match cmp_bases(a, b) {
@@ -114,6 +126,7 @@ impl PartialEq for Version {
 
     ghost laws = { partial_equiv_from_equiv record_equiv };
 
+    #[inline(always)]
     fn eq(&self, other: &Version) -> bool {
         self.cmp(other) == Ordering::Equal
     }
@@ -128,6 +141,7 @@ impl PartialOrd for Version {
 
     ghost laws = { record_po };
 
+    #[inline(always)]
     fn partial_cmp(&self, other: &Version) -> Option<Ordering> {
         Some(self.cmp(other))
     }
@@ -142,11 +156,24 @@ impl Ord for Version {
 
     ghost matches_eq = { λ a b. refl };
 
+    // Two versions that are held in words are compared by these alone.
+    #[inline(always)]
     fn cmp(&self, other: &Version) -> Ordering {
-        match cmp_without_local(self, other) {
-            Ordering::Equal => cmp_locals(self.local(), other.local()),
-            ordering => ordering,
+        match (self.word(), other.word()) {
+            (Some(one), Some(other)) => one.cmp(other),
+            _ => cmp_parts(self, other),
         }
+    }
+}
+
+// Part by part, the local parts too.
+#[inline(never)]
+fn cmp_parts(a: &Version, b: &Version) -> Ordering
+    ensures { result ≡ record_cmp a.now b.now }
+{
+    match cmp_parts_without_local(a, b) {
+        Ordering::Equal => cmp_locals(a.local(), b.local()),
+        ordering => ordering,
     }
 }
 

@@ -1,10 +1,11 @@
 //! Setters: each replaces one part of a version.
-ghost use Rattle.std.specs.Prelude.{◌≡◌, ◌<◌, [], length, None, IfOk, map};
+ghost use Rattle.std.specs.Prelude.{◌≡◌, ◌<◌, [], length, None, IfOk, IsOk, map, true};
 ghost use Rattle.pep440_version.specs.Feed.{feed};
 ghost use Rattle.pep440_version.specs.Key.{record_cmp};
 ghost use Rattle.pep440_version.specs.Record.{of_release};
 ghost use Rattle.pep440_version.specs.Segments.{segment};
 ghost use Rattle.pep440_version.specs.Trim.{trim};
+ghost use Rattle.pep440_version.specs.Word.{is_packed};
 ghost use Rattle.std.specs.declared.cmp.Ordering.TheVariants.{Equal};
 
 use crate::numbers::Release;
@@ -20,6 +21,7 @@ impl Version {
     pub fn with_release(self, alloc: Global, release: &[u64]) -> Result<Version, AllocError>
         requires { 0 < length release.now }
         ensures value { IfOk result (λ v. v ≡ record self { release = release.now }) }
+        ensures memory { is_packed (record self { release = release.now }) ≡ true → IsOk result }
         // Zeros at the end of the release make no difference to the order and to a hasher.
         ensures zeros { trim release.now ≡ trim self.release → IfOk result (λ v. (record_cmp v self ≡ Equal) × (feed v ≡ feed self)) }
     {
@@ -34,6 +36,7 @@ impl Version {
     /// May take memory.
     pub fn with_epoch(self, alloc: Global, epoch: u64) -> Result<Version, AllocError>
         ensures value { IfOk result (λ v. v ≡ record self { epoch = epoch }) }
+        ensures memory { is_packed (record self { epoch = epoch }) ≡ true → IsOk result }
     {
         let mut full = self.into_full(alloc);
         full.epoch = epoch;
@@ -45,6 +48,7 @@ impl Version {
     /// May take memory.
     pub fn with_pre(self, alloc: Global, pre: Option<Prerelease>) -> Result<Version, AllocError>
         ensures value { IfOk result (λ v. v ≡ record self { pre = pre }) }
+        ensures memory { is_packed (record self { pre = pre }) ≡ true → IsOk result }
     {
         let mut full = self.into_full(alloc);
         full.pre = pre;
@@ -56,6 +60,7 @@ impl Version {
     /// May take memory.
     pub fn with_post(self, alloc: Global, post: Option<u64>) -> Result<Version, AllocError>
         ensures value { IfOk result (λ v. v ≡ record self { post = post }) }
+        ensures memory { is_packed (record self { post = post }) ≡ true → IsOk result }
     {
         let mut full = self.into_full(alloc);
         full.post = post;
@@ -67,6 +72,7 @@ impl Version {
     /// May take memory.
     pub fn with_dev(self, alloc: Global, dev: Option<u64>) -> Result<Version, AllocError>
         ensures value { IfOk result (λ v. v ≡ record self { dev = dev }) }
+        ensures memory { is_packed (record self { dev = dev }) ≡ true → IsOk result }
     {
         let mut full = self.into_full(alloc);
         full.dev = dev;
@@ -78,6 +84,7 @@ impl Version {
     /// May take memory.
     pub fn with_local(self, alloc: Global, local: Vec<LocalSegment>) -> Result<Version, AllocError>
         ensures value { IfOk result (λ v. v ≡ record self { local = map segment local.items }) }
+        ensures memory { is_packed (record self { local = map segment local.items }) ≡ true → IsOk result }
     {
         known_segments(&local);
         let mut full = self.into_full(alloc);
@@ -102,6 +109,7 @@ impl Version {
     /// May take memory.
     pub fn without_local(self, alloc: Global) -> Result<Version, AllocError>
         ensures value { IfOk result (λ v. v ≡ record self { local = [] }) }
+        ensures memory { is_packed (record self { local = [] }) ≡ true → IsOk result }
     {
         self.with_local(alloc, Vec::new(alloc))
     }
@@ -111,6 +119,7 @@ impl Version {
     /// Takes memory.
     pub fn only_release(&self, alloc: Global) -> Result<Version, AllocError>
         ensures value { IfOk result (λ v. v ≡ of_release self.now.release) }
+        ensures memory { is_packed (of_release self.now.release) ≡ true → IsOk result }
     {
         Version::new(alloc, self.release())
     }
@@ -123,6 +132,7 @@ impl Version {
         requires no_pre { self.pre ≡ None }
         requires no_dev { self.dev ≡ None }
         ensures value { IfOk result (λ v. v ≡ record self { min = min }) }
+        ensures memory { is_packed (record self { min = min }) ≡ true → IsOk result }
     {
         let mut full = self.into_full(alloc);
         full.min = min;
@@ -137,6 +147,7 @@ impl Version {
         requires no_post { self.post ≡ None }
         requires no_dev { self.dev ≡ None }
         ensures value { IfOk result (λ v. v ≡ record self { max = max }) }
+        ensures memory { is_packed (record self { max = max }) ≡ true → IsOk result }
     {
         let mut full = self.into_full(alloc);
         full.max = max;
