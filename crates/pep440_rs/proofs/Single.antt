@@ -4,7 +4,7 @@ use mathlib.Core.Bool.{true≢false}
 use Rattle.std.specs.Ordering.{ordering_reverse, is_lt, is_le, is_eq}
 use Rattle.std.specs.declared.cmp.Ordering.{Ordering}
 use Rattle.std.specs.declared.cmp.Ordering.TheVariants as ord
-use Rattle.pep440_rs.proofs.Greater.{parts, greater_agrees, greater_within, greater_around}
+use Rattle.pep440_rs.proofs.Greater.{greater_agrees, greater_around}
 use Rattle.pep440_rs.proofs.Less.{less_agrees, less_within}
 use Rattle.pep440_rs.proofs.VersionOrder.{plain, is_plain, turn_le, ge_not_lt, only_start, only_end}
 use Rattle.pep440_rs.proofs.Prefix.{some_is}
@@ -18,7 +18,7 @@ use Rattle.pep440_ranges.specs.Complement.{gaps}
 use Rattle.pep440_ranges.specs.Segments.{contains}
 use Rattle.pep440_version.specs.Key.{record_cmp}
 use Rattle.pep440_version.specs.KeyLaws.{record_total}
-use Rattle.pep440_version.specs.Record.{Record, public_record}
+use Rattle.pep440_version.specs.Record.{Record, epoch_and_release}
 
 -- a candidate without local part is compared as it is
 pub own : (s v : Record) → candidate s (plain v) ≡ plain v
@@ -60,8 +60,8 @@ each : (op : Operator) (s v : Record) → IsOperand op s → IsPlain v → For o
 each Equal s v p q = taken Equal s s v refl q (λ c range h. rw (some_is _ range h) (alone_holds s (plain v) ∙ ap (λ w. is_eq (record_cmp w s)) (sym (own s v))))
 each ExactEqual s v p q = absurd p
 each NotEqual s v p q = taken NotEqual s s v refl q (λ c range h. rw (some_is _ range h) (others_hold s (plain v) ∙ ap (λ w. not (is_eq (record_cmp w s))) (sym (own s v))))
-each EqualStar s v p q = taken EqualStar s (public_record s.epoch s.release) v p q (λ c range h. star_agrees s.epoch s.release v range h)
-each NotEqualStar s v p q = taken NotEqualStar s (public_record s.epoch s.release) v p q (λ c range h. not_star_agrees s.epoch s.release v range h)
+each EqualStar s v p q = taken EqualStar s (epoch_and_release s.epoch s.release) v p q (λ c range h. star_agrees s.epoch s.release v range h)
+each NotEqualStar s v p q = taken NotEqualStar s (epoch_and_release s.epoch s.release) v p q (λ c range h. not_star_agrees s.epoch s.release v range h)
 each TildeEqual s v p q = taken TildeEqual s (plain s) v (is_plain s p) q (λ c range h. tilde_agrees s v range h)
 each LessThan s v p q = taken LessThan s (plain s) v (is_plain s p) q (λ c range h. rw (some_is _ range h) (less_agrees s v c))
 each LessThanEqual s v p q = taken LessThanEqual s (plain s) v (is_plain s p) q (λ c range h. rw (some_is _ range h) (only_end (is_le (record_cmp (plain v) (plain s)))))
@@ -72,7 +72,7 @@ each GreaterThanEqual s v p q = taken GreaterThanEqual s (plain s) v (is_plain s
 pub agrees : (op : Operator) (s : Record) (range : Segments) → range_of op s ≡ Some range → Agrees op s range
 agrees op s range h v p = each op s v p.operand p.plain p.suffixes range h
 
--- ---- the side that stays
+-- ---- the inclusions that hold whatever the suffixes
 
 abbrev Within : Operator → Record → Record → Type 0
 Within op s v = (range : Segments) → range_of op s ≡ Some range → IsTrue (contains record_cmp range v) → IsTrue (matches op s v)
@@ -80,50 +80,16 @@ Within op s v = (range : Segments) → range_of op s ≡ Some range → IsTrue (
 abbrev Around : Operator → Record → Record → Type 0
 Around op s v = (range : Segments) → range_of op s ≡ Some range → IsTrue (matches op s v) → IsTrue (contains record_cmp range v)
 
-less_only : (s : Record) (range : Segments) → range_of LessThan s ≡ Some range → HoldsOnlyMatches LessThan s range
-less_only s range h t p v q =
-    subst (λ t. Within LessThan t v) (sym (is_plain s p)) (subst (Within LessThan (plain s)) (sym (is_plain v q)) (λ range h. rw (some_is _ range h) (less_within s v))) range h
+less_only : (s v : Record) → IsPlain s → IsPlain v → Within LessThan s v
+less_only s v p q =
+    subst (λ t. Within LessThan t v) (sym (is_plain s p)) (subst (Within LessThan (plain s)) (sym (is_plain v q)) (λ range h. rw (some_is _ range h) (less_within s v)))
 
-greater_only : (s : Record) (range : Segments) → range_of GreaterThan s ≡ Some range → HoldsOnlyMatches GreaterThan s range
-greater_only s range h t p v q =
-    subst (λ t. IsTrue (is_some t.post) → Within GreaterThan t v) (sym (is_plain s p))
-    (subst (λ w. IsTrue (is_some s.post) → Within GreaterThan (plain s) w) (sym (is_plain v q)) (go s.post)) t range h
-  where
-    go : (post : Option ℕ) → IsTrue (is_some post) → (range : Segments) → greater (parts s.epoch s.release s.pre post s.dev) s.dev post ≡ Some range →
-        IsTrue (contains record_cmp range (plain v)) → IsTrue (matches GreaterThan (parts s.epoch s.release s.pre post s.dev) (plain v))
-    go None t = absurd (true≢false (sym t))
-    go (Some p) t = greater_within s.epoch s.release s.pre p s.dev v
+greater_all : (s v : Record) → IsPlain s → IsPlain v → Around GreaterThan s v
+greater_all s v p q =
+    subst (λ t. Around GreaterThan t v) (sym (is_plain s p)) (subst (Around GreaterThan (plain s)) (sym (is_plain v q)) (greater_around s.epoch s.release s.pre s.post s.dev v))
 
 pub holds_only_matches : (op : Operator) (s : Record) (range : Segments) → range_of op s ≡ Some range → HoldsOnlyMatches op s range
-holds_only_matches LessThan s range h = less_only s range h
-holds_only_matches GreaterThan s range h = greater_only s range h
-holds_only_matches Equal s range h = λ t. absurd (true≢false (sym t))
-holds_only_matches EqualStar s range h = λ t. absurd (true≢false (sym t))
-holds_only_matches ExactEqual s range h = λ t. absurd (true≢false (sym t))
-holds_only_matches NotEqual s range h = λ t. absurd (true≢false (sym t))
-holds_only_matches NotEqualStar s range h = λ t. absurd (true≢false (sym t))
-holds_only_matches TildeEqual s range h = λ t. absurd (true≢false (sym t))
-holds_only_matches LessThanEqual s range h = λ t. absurd (true≢false (sym t))
-holds_only_matches GreaterThanEqual s range h = λ t. absurd (true≢false (sym t))
-
-greater_all : (s : Record) (range : Segments) → range_of GreaterThan s ≡ Some range → HoldsAllMatches GreaterThan s range
-greater_all s range h t p v q =
-    subst (λ t. IsTrue (not (is_some t.post)) → Around GreaterThan t v) (sym (is_plain s p))
-    (subst (λ w. IsTrue (not (is_some s.post)) → Around GreaterThan (plain s) w) (sym (is_plain v q)) (go s.post)) t range h
-  where
-    go : (post : Option ℕ) → IsTrue (not (is_some post)) → (range : Segments) → greater (parts s.epoch s.release s.pre post s.dev) s.dev post ≡ Some range →
-        IsTrue (matches GreaterThan (parts s.epoch s.release s.pre post s.dev) (plain v)) → IsTrue (contains record_cmp range (plain v))
-    go None t = greater_around s.epoch s.release s.pre s.dev v
-    go (Some p) t = absurd (true≢false (sym t))
+holds_only_matches op s range h less p v q = subst (λ o. Within o s v) (sym less) (less_only s v p q) range h
 
 pub holds_all_matches : (op : Operator) (s : Record) (range : Segments) → range_of op s ≡ Some range → HoldsAllMatches op s range
-holds_all_matches GreaterThan s range h = greater_all s range h
-holds_all_matches LessThan s range h = λ t. absurd (true≢false (sym t))
-holds_all_matches Equal s range h = λ t. absurd (true≢false (sym t))
-holds_all_matches EqualStar s range h = λ t. absurd (true≢false (sym t))
-holds_all_matches ExactEqual s range h = λ t. absurd (true≢false (sym t))
-holds_all_matches NotEqual s range h = λ t. absurd (true≢false (sym t))
-holds_all_matches NotEqualStar s range h = λ t. absurd (true≢false (sym t))
-holds_all_matches TildeEqual s range h = λ t. absurd (true≢false (sym t))
-holds_all_matches LessThanEqual s range h = λ t. absurd (true≢false (sym t))
-holds_all_matches GreaterThanEqual s range h = λ t. absurd (true≢false (sym t))
+holds_all_matches op s range h greater p v q = subst (λ o. Around o s v) (sym greater) (greater_all s v p q) range h

@@ -32,7 +32,7 @@ fn less(alloc: Global, version: Version) -> Result<Ranges<Version>, AllocError>
     Ranges::strictly_lower_than(alloc, version.with_min(alloc, Some(0))?)
 }
 
-// `>`: from the next dev, from the next post, or above the last post.
+// `>`: from the next dev, from the first dev of the next post, or above every post.
 fn greater(alloc: Global, version: Version) -> Result<Ranges<Version>, RangeError>
     ensures range { IfOk result (λ r. greater version version.dev version.post ≡ Some r) }
     ensures refused { IsErrOf result RangeError.NumberAtMax → greater version version.dev version.post ≡ None }
@@ -42,7 +42,8 @@ fn greater(alloc: Global, version: Version) -> Result<Ranges<Version>, RangeErro
         Ok(Ranges::higher_than(alloc, version.with_dev(alloc, Some(next))?)?)
     } else if let Some(post) = version.post() {
         let next = next_number(post)?;
-        Ok(Ranges::higher_than(alloc, version.with_post(alloc, Some(next))?)?)
+        let next = version.with_post(alloc, Some(next))?;
+        Ok(Ranges::higher_than(alloc, next.with_dev(alloc, Some(0))?)?)
     } else {
         Ok(Ranges::strictly_higher_than(alloc, version.with_max(alloc, Some(0))?)?)
     }
@@ -140,7 +141,7 @@ pub fn specifier_to_range(
     ensures at_max { TellsMax (raises_max specifier) result }
     // It holds exactly what the specifier contains, where the two can be compared.
     ensures agrees { IfOk result (λ r. Agrees specifier.operator specifier.version r) }
-    // Whatever the suffixes, one side stays for `<` and `>`.
+    // Whatever the suffixes, the range of `<` holds only what matches, and that of `>` all that matches.
     ensures within { IfOk result (λ r. HoldsOnlyMatches specifier.operator specifier.version r) }
     ensures around { IfOk result (λ r. HoldsAllMatches specifier.operator specifier.version r) }
 {

@@ -43,8 +43,8 @@ pub fn texts_give_operands()
     ensures list { (text : List ℕ) (list : List Spec) → DerivesList text list → All HasOperand list }
 {}
 
-/// Where range and matching can be compared, the range holds exactly what the specifier contains; else one side
-/// stays.
+/// Where range and matching can be compared, the range holds exactly what the specifier contains; whatever the
+/// suffixes, the range of `<` holds only what matches, and that of `>` all that matches.
 pub fn range_agrees()
     ensures agrees { (op : Operator) (s : Record) (range : Segments) → range_of op s ≡ Some range → Agrees op s range }
     ensures within { (op : Operator) (s : Record) (range : Segments) → range_of op s ≡ Some range → HoldsOnlyMatches op s range }

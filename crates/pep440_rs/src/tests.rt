@@ -2,6 +2,7 @@ mod bounds;
 mod json;
 mod lists;
 mod matching;
+mod post_ranges;
 mod range_sweeps;
 mod ranges;
 mod single;

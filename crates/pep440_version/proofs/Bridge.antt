@@ -1,16 +1,16 @@
 -- What is read of a text is what the text means, and what it means is read.
 use Rattle.std.proofs.Common.{◌≡◌, ◌<◌, ◌==◌, ℕ, Bool, true, false, List, [], ◌∷◌, ◌++◌, refl, sym, ap, ◌∙◌, arith, drop, length, inl, inr, Ok, Err, Result, subst, eqb-true}
-use Rattle.std.proofs.lemmas.List.{append_assoc, length-append, nil_from_length}
+use Rattle.std.proofs.lemmas.List.{append_assoc, append-nil, length-append, nil_from_length}
 use Rattle.std.specs.Char.{is_ascii_digit}
-use Rattle.pep440_version.specs.Grammar.{IsNumber, IsRelease, IsEpoch, IsMark, AreBlanks, is_blank, Derives, starts}
+use Rattle.pep440_version.specs.Grammar.{IsNumber, IsRelease, IsEpoch, IsLeadingV, IsPre, IsPost, IsDev, IsLocal, AreBlanks, is_blank, Derives, starts}
 use Rattle.pep440_version.specs.Patterns.{DerivesStar, DerivesPattern}
-use Rattle.pep440_version.specs.Reading.{EndsWith, Read, lead, past, starts_number, past_mark, number_at, goes_on, release_at}
-use Rattle.pep440_version.specs.Record.{Record, public_record}
+use Rattle.pep440_version.specs.Reading.{EndsWith, Read, lead, past, starts_number, past_v, number_at, goes_on, release_at}
+use Rattle.pep440_version.specs.Record.{Record, epoch_and_release}
 use Rattle.pep440_version.specs.Refusals.{PatternRefusal, OfVersion, WildcardNotTrailing}
 use Rattle.pep440_version.specs.Whole.{release_after, front_at, opening, parts_at, end_at, closing, is_star, without_star, pattern_from, read_pattern, version_of, read_version}
 use Rattle.pep440_version.proofs.Texts.{both_first, both_second, past-run, lead-all}
-use Rattle.pep440_version.proofs.Found.{bind_ok, chosen, inside, split, number_takes, release_takes, drop_one, mark_takes, blank_end}
-use Rattle.pep440_version.proofs.Only.{number_first, number_again, release_first, release_again, blanks_stop, mark_again, mark_not_blank}
+use Rattle.pep440_version.proofs.Found.{bind_ok, chosen, inside, split, number_takes, release_takes, drop_one, v_takes, blank_end}
+use Rattle.pep440_version.proofs.Only.{number_first, number_again, release_first, release_again, blanks_stop, v_again, v_not_blank}
 use Rattle.pep440_version.proofs.Ends.{some_numbers}
 use Rattle.pep440_version.proofs.Follows.{follows_local, follows_dev, follows_post, follows_pre}
 use Rattle.pep440_version.proofs.Parts.{Parts, of_parts, parts_take, parts_again}
@@ -49,7 +49,7 @@ front_takes t x e = elim (chosen (starts_number t) _ _ _ e) [
   | inr h ↦ cc h.1
 ]
 
--- blanks, mark, epoch and release, as they are read
+-- blanks, the letter v, epoch and release, as they are read
 pub record Opened (text rest : List ℕ) (epoch : ℕ) (release : List ℕ) : Type 0 where
   pub w1 : List ℕ
   pub v : List ℕ
@@ -57,22 +57,22 @@ pub record Opened (text rest : List ℕ) (epoch : ℕ) (release : List ℕ) : Ty
   pub n : List ℕ
   pub cut : text ≡ w1 ++ (v ++ (e ++ (n ++ rest)))
   pub blanks : AreBlanks w1
-  pub mark : IsMark v
+  pub letter : IsLeadingV v
   pub is_epoch : IsEpoch e epoch
   pub is_release : IsRelease n release
 
 pub opening_takes : (text : List ℕ) (x : (ℕ × List ℕ) × List ℕ) → opening text ≡ Ok x → Opened text x.1 x.0.0 x.0.1
 opening_takes text x e =
-    let mark = mark_takes (past is_blank text) in
-    let f = front_takes (past_mark (past is_blank text)) x e in
+    let letter = v_takes (past is_blank text) in
+    let f = front_takes (past_v (past is_blank text)) x e in
     record {
       w1 = lead is_blank text;
-      v = mark.0;
+      v = letter.0;
       e = f.0;
       n = f.1;
-      cut = split is_blank text ∙ ap (λ t. lead is_blank text ++ t) (mark.2 ∙ ap (λ t. mark.0 ++ t) f.4);
+      cut = split is_blank text ∙ ap (λ t. lead is_blank text ++ t) (letter.2 ∙ ap (λ t. letter.0 ++ t) f.4);
       blanks = lead-all is_blank text;
-      mark = mark.1;
+      letter = letter.1;
       is_epoch = f.2;
       is_release = f.3;
     }
@@ -96,7 +96,7 @@ derived text after epoch release rest r o p blanks =
       w2 = after;
       cut = o.cut ∙ ap (λ t. o.w1 ++ (o.v ++ (o.e ++ (o.n ++ t)))) p.cut;
       blanks = o.blanks;
-      mark = o.mark;
+      letter = o.letter;
       epoch = subst (IsEpoch o.e) is_epoch o.is_epoch;
       release = subst (IsRelease o.n) is_release o.is_release;
       pre = p.pre;
@@ -126,22 +126,46 @@ drop_two [] s = cc s
 drop_two (a ∷ []) s = let none = both_second (a == 46) false s in cc none
 drop_two (a ∷ b ∷ t) s = λ i. eqb-true a 46 (both_first (a == 46) (b == 42) s) i ∷ eqb-true b 42 (both_second (a == 46) (b == 42) s) i ∷ t
 
-star_takes : (text : List ℕ) (x : (ℕ × List ℕ) × List ℕ) → opening text ≡ Ok x → is_star x.1 ≡ true → (length (drop 2 x.1) == 0) ≡ true → DerivesStar text (public_record x.0.0 x.0.1)
+-- what is opened is derived, with nothing after the release
+unfoldable opened_alone : (text rest : List ℕ) (epoch : ℕ) (release : List ℕ) → (f : Opened text rest epoch release) → Derives (f.w1 ++ (f.v ++ (f.e ++ f.n))) (epoch_and_release epoch release)
+opened_alone text rest epoch release f = record {
+  w1 = f.w1;
+  v = f.v;
+  e = f.e;
+  n = f.n;
+  p = [];
+  q = [];
+  d = [];
+  l = [];
+  w2 = [];
+  cut = ap (λ t. f.w1 ++ (f.v ++ (f.e ++ t))) (sym (append-nil f.n));
+  blanks = f.blanks;
+  letter = f.letter;
+  epoch = f.is_epoch;
+  release = f.is_release;
+  pre = refl;
+  post = refl;
+  dev = refl;
+  local = refl;
+  end = refl;
+  no_min = refl;
+  no_max = refl;
+}
+
+four : (a b c d s : List ℕ) → a ++ (b ++ (c ++ (d ++ s))) ≡ (a ++ (b ++ (c ++ d))) ++ s
+four a b c d s = sym (simp append_assoc)
+
+star_takes : (text : List ℕ) (x : (ℕ × List ℕ) × List ℕ) → opening text ≡ Ok x → is_star x.1 ≡ true → (length (drop 2 x.1) == 0) ≡ true → DerivesStar text (epoch_and_release x.0.0 x.0.1)
+unfolding opened_alone
 star_takes text x o s last =
     let f = opening_takes text x o in
-    let end : x.1 ≡ 46 ∷ 42 ∷ [] = drop_two x.1 s ∙ ap (λ t. 46 ∷ 42 ∷ t) (nil_from_length (drop 2 x.1) (eqb-true _ _ last)) in
-    record {
-      w1 = f.w1;
-      v = f.v;
-      e = f.e;
-      n = f.n;
-      cut = f.cut ∙ ap (λ t. f.w1 ++ (f.v ++ (f.e ++ (f.n ++ t)))) end;
-      blanks = f.blanks;
-      mark = f.mark;
-      epoch = f.is_epoch;
-      release = f.is_release;
-      plain = refl;
-    }
+    let end : x.1 ≡ 46 ∷ 42 ∷ [] = drop_two x.1 s ∙ ap (λ t. 46 ∷ 42 ∷ t) (nil_from_length (drop 2 x.1) (eqb-true _ _ last)) in (
+      f.w1 ++ (f.v ++ (f.e ++ f.n)),
+      opened_alone text x.1 x.0.0 x.0.1 f,
+      f.cut ∙ ap (λ t. f.w1 ++ (f.v ++ (f.e ++ (f.n ++ t)))) end ∙ four f.w1 f.v f.e f.n (46 ∷ 42 ∷ []),
+      refl,
+      refl,
+    )
 
 pub found_pattern : (text : List ℕ) (r : Record) (star : Bool) → read_pattern text ≡ Ok (r, star) → DerivesPattern text r star
 found_pattern text r star e = by (opening text) refl e
@@ -191,10 +215,10 @@ front_again e n w epoch ns (inr h) hn digit goes bang =
     let first = number_first h.0 (33 ∷ (n ++ w)) epoch h.1 in
     (rw front first, rw (front, first, number_again h.0 (33 ∷ (n ++ w)) epoch h.1 refl, release_first n w ns hn) (after_again epoch n w ns hn digit goes))
 
-pub opening_again : (text w1 v t : List ℕ) → text ≡ w1 ++ (v ++ t) → AreBlanks w1 → IsMark v → starts is_ascii_digit t ≡ true → opening text ≡ front_at t
-opening_again text w1 v t cut blanks mark first =
-    let rest : past is_blank text ≡ v ++ t = ap (past is_blank) cut ∙ past-run is_blank w1 (v ++ t) blanks (mark_not_blank v t mark first) in
-    ap (λ x. front_at (past_mark x)) rest ∙ ap front_at (mark_again v t mark first)
+pub opening_again : (text w1 v t : List ℕ) → text ≡ w1 ++ (v ++ t) → AreBlanks w1 → IsLeadingV v → starts is_ascii_digit t ≡ true → opening text ≡ front_at t
+opening_again text w1 v t cut blanks letter first =
+    let rest : past is_blank text ≡ v ++ t = ap (past is_blank) cut ∙ past-run is_blank w1 (v ++ t) blanks (v_not_blank v t letter first) in
+    ap (λ x. front_at (past_v x)) rest ∙ ap front_at (v_again v t letter first)
 
 end_again : (text : List ℕ) (r : Record) (w : List ℕ) → AreBlanks w → end_at text (r, w) ≡ Ok r
 end_again text r w blanks = rw (blanks_stop w blanks).3 refl
@@ -204,17 +228,27 @@ derives_again text r h =
     let tail : List ℕ = h.p ++ (h.q ++ (h.d ++ (h.l ++ h.w2))) in
     let follows = follows_pre h.p _ r.pre h.pre (follows_post h.q _ r.post h.post (follows_dev h.d _ r.dev h.dev (follows_local h.l h.w2 r.local h.local h.end))) in
     let f = front_again h.e h.n tail r.epoch r.release h.epoch h.release follows.digit follows.goes follows.bang in
-    let o : opening text ≡ Ok ((r.epoch, r.release), tail) = opening_again text h.w1 h.v (h.e ++ (h.n ++ tail)) h.cut h.blanks h.mark f.0 ∙ f.1 in
+    let o : opening text ≡ Ok ((r.epoch, r.release), tail) = opening_again text h.w1 h.v (h.e ++ (h.n ++ tail)) h.cut h.blanks h.letter f.0 ∙ f.1 in
     let parts = parts_again r.epoch r.release h.p h.q h.d h.l h.w2 r.pre r.post r.dev r.local h.pre h.post h.dev h.local h.end in
     let is : of_parts r.epoch r.release r.pre r.post r.dev r.local ≡ r = λ i. record r { min = sym h.no_min i; max = sym h.no_max i } in
     let closed : closing text ((r.epoch, r.release), tail) ≡ Ok r = rw parts (end_again text (of_parts r.epoch r.release r.pre r.post r.dev r.local) h.w2 h.end ∙ ap Ok is) in
     ap (pattern_from text) o ∙ rw (follows.star, closed) refl
 
+-- a front that means epoch and release alone, and ends without blanks, ends with the release
+ends_at_release : (front : List ℕ) (r : Record) → (h : Derives front r) → h.w2 ≡ [] → r ≡ epoch_and_release r.epoch r.release → front ≡ h.w1 ++ (h.v ++ (h.e ++ h.n))
+ends_at_release front r h none plain =
+    let p : h.p ≡ [] = subst (λ o. IsPre h.p (h.q ++ (h.d ++ (h.l ++ h.w2))) o) (ap (λ (x : Record). x.pre) plain) h.pre in
+    let q : h.q ≡ [] = subst (λ o. IsPost h.q (h.d ++ (h.l ++ h.w2)) o) (ap (λ (x : Record). x.post) plain) h.post in
+    let d : h.d ≡ [] = subst (λ o. IsDev h.d (h.l ++ h.w2) o) (ap (λ (x : Record). x.dev) plain) h.dev in
+    let l : h.l ≡ [] = subst (λ o. IsLocal h.l o) (ap (λ (x : Record). x.local) plain) h.local in
+    h.cut ∙ (λ i. h.w1 ++ (h.v ++ (h.e ++ (h.n ++ (p i ++ (q i ++ (d i ++ (l i ++ none i)))))))) ∙ ap (λ t. h.w1 ++ (h.v ++ (h.e ++ t))) (append-nil h.n)
+
 star_again : (text : List ℕ) (r : Record) → DerivesStar text r → read_pattern text ≡ Ok (r, true)
-star_again text r h =
+star_again text r (front, h, cut, none, plain) =
     let f = front_again h.e h.n (46 ∷ 42 ∷ []) r.epoch r.release h.epoch h.release refl refl refl in
-    let o : opening text ≡ Ok ((r.epoch, r.release), 46 ∷ 42 ∷ []) = opening_again text h.w1 h.v (h.e ++ (h.n ++ (46 ∷ 42 ∷ []))) h.cut h.blanks h.mark f.0 ∙ f.1 in
-    ap (pattern_from text) o ∙ ap (λ (x : Record). (let y : Result (Record × Bool) PatternRefusal = Ok (x, true) in y)) (sym h.plain)
+    let whole : text ≡ h.w1 ++ (h.v ++ (h.e ++ (h.n ++ (46 ∷ 42 ∷ [])))) = cut ∙ ap (λ t. t ++ (46 ∷ 42 ∷ [])) (ends_at_release front r h none plain) ∙ sym (four h.w1 h.v h.e h.n (46 ∷ 42 ∷ [])) in
+    let o : opening text ≡ Ok ((r.epoch, r.release), 46 ∷ 42 ∷ []) = opening_again text h.w1 h.v (h.e ++ (h.n ++ (46 ∷ 42 ∷ []))) whole h.blanks h.letter f.0 ∙ f.1 in
+    ap (pattern_from text) o ∙ ap (λ (x : Record). (let y : Result (Record × Bool) PatternRefusal = Ok (x, true) in y)) (sym plain)
 
 pub only_pattern : (text : List ℕ) (r : Record) (star : Bool) → DerivesPattern text r star → read_pattern text ≡ Ok (r, star)
 only_pattern text r true h = star_again text r h

@@ -8,7 +8,7 @@ use Rattle.std.specs.Str.Parse.{digits_value}
 use Rattle.pep440_version.specs.declared.prerelease.Prerelease.{Prerelease}
 use Rattle.pep440_version.specs.Grammar.{is_blank, Spellings, is_separator, pre_spellings, post_spellings, dev_spellings, segment_of, starts, is_v}
 use Rattle.pep440_version.specs.Locals.{first_byte, segments_at, starts_local, local_at}
-use Rattle.pep440_version.specs.Reading.{◌>>=◌, lead, past, starts_number, past_mark, number_at, goes_on, release_at}
+use Rattle.pep440_version.specs.Reading.{◌>>=◌, lead, past, starts_number, past_v, number_at, goes_on, release_at}
 use Rattle.pep440_version.specs.Record.{Record, Segment}
 use Rattle.pep440_version.specs.Refusals.{Refusal}
 use Rattle.pep440_version.specs.Suffixes.{begins, spelled, past_separator, count_at, after_spelling, suffix_at, number_of, prerelease_of, pre_at, is_bare_post, post_at, dev_at}
@@ -683,20 +683,20 @@ local_cut (b ∷ t) back y e = elim (chosen (b == 43) _ _ _ e) [
 
 -- ---- the whole
 
-pub mark_end : (t : List ℕ) → IsEnd t (past_mark t)
-mark_end [] = ([], refl)
-mark_end (b ∷ t) = elim (cases_Bool (is_v b)) [
+pub v_end : (t : List ℕ) → IsEnd t (past_v t)
+v_end [] = ([], refl)
+v_end (b ∷ t) = elim (cases_Bool (is_v b)) [
   | inl e ↦ (b ∷ [], rw e refl)
   | inr e ↦ ([], rw e refl)
 ]
 
-mark_cut : (t back : List ℕ) → (past_mark (t ++ back) ≡ past_mark t ++ back) ⊎ IsLater back (past_mark (t ++ back))
-mark_cut [] [] = inl refl
-mark_cut [] (b ∷ r) = elim (cases_Bool (is_v b)) [
+v_cut : (t back : List ℕ) → (past_v (t ++ back) ≡ past_v t ++ back) ⊎ IsLater back (past_v (t ++ back))
+v_cut [] [] = inl refl
+v_cut [] (b ∷ r) = elim (cases_Bool (is_v b)) [
   | inl e ↦ inr (b ∷ [], omega arith, rw e refl)
   | inr e ↦ inl (rw e refl)
 ]
-mark_cut (b ∷ t) back = elim (cases_Bool (is_v b)) [
+v_cut (b ∷ t) back = elim (cases_Bool (is_v b)) [
   | inl e ↦ inl (rw e refl)
   | inr e ↦ inl (rw e refl)
 ]
@@ -705,15 +705,15 @@ blanks_end : (t : List ℕ) → IsEnd t (past is_blank t)
 blanks_end t = (lead is_blank t, split is_blank t)
 
 pub opening_end : Takes opening
-opening_end t y e = end_of t (past is_blank t) y.1 (blanks_end t) (end_of (past is_blank t) (past_mark (past is_blank t)) y.1 (mark_end (past is_blank t)) (front_end (past_mark (past is_blank t)) y e))
+opening_end t y e = end_of t (past is_blank t) y.1 (blanks_end t) (end_of (past is_blank t) (past_v (past is_blank t)) y.1 (v_end (past is_blank t)) (front_end (past_v (past is_blank t)) y e))
 
 pub opening_cut : Cuts opening
 opening_cut t back y e = elim (past_cut is_blank t back) [
-  | inl h ↦ elim (mark_cut (past is_blank t) back) [
-    | inl g ↦ front_cut (past_mark (past is_blank t)) back y (ap front_at (sym g) ∙ ap (λ l. front_at (past_mark l)) (sym h.0) ∙ e)
-    | inr g ↦ inr (later_end back (past_mark (past is_blank t ++ back)) y.1 g (front_end _ y (ap (λ l. front_at (past_mark l)) (sym h.0) ∙ e)))
+  | inl h ↦ elim (v_cut (past is_blank t) back) [
+    | inl g ↦ front_cut (past_v (past is_blank t)) back y (ap front_at (sym g) ∙ ap (λ l. front_at (past_v l)) (sym h.0) ∙ e)
+    | inr g ↦ inr (later_end back (past_v (past is_blank t ++ back)) y.1 g (front_end _ y (ap (λ l. front_at (past_v l)) (sym h.0) ∙ e)))
   ]
-  | inr h ↦ inr (later_end back (past is_blank (t ++ back)) y.1 h (end_of _ (past_mark (past is_blank (t ++ back))) y.1 (mark_end _) (front_end _ y e)))
+  | inr h ↦ inr (later_end back (past is_blank (t ++ back)) y.1 h (end_of _ (past_v (past is_blank (t ++ back))) y.1 (v_end _) (front_end _ y e)))
 ]
 
 abbrev pub record_of : ℕ → List ℕ → Option Prerelease → Option ℕ → Option ℕ → List Segment → Record

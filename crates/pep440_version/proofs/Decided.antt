@@ -4,9 +4,9 @@ use Rattle.std.proofs.lemmas.Bool.{cases_Bool}
 use Rattle.std.proofs.lemmas.List.{append_assoc, append-nil, length-append}
 use Rattle.std.specs.Char.{is_ascii_digit, is_ascii_alphanumeric}
 use Rattle.pep440_version.specs.declared.prerelease.Prerelease.{Prerelease}
-use Rattle.pep440_version.specs.Grammar.{AreBlanks, IsMark, is_blank, Spellings, IsSpelled, is_separator, IsPre, IsPost, IsDev, IsLocal, AreSegments, starts}
+use Rattle.pep440_version.specs.Grammar.{AreBlanks, IsLeadingV, is_blank, Spellings, IsSpelled, is_separator, IsPre, IsPost, IsDev, IsLocal, AreSegments, starts}
 use Rattle.pep440_version.specs.Locals.{segments_at, local_at}
-use Rattle.pep440_version.specs.Reading.{past, past_mark}
+use Rattle.pep440_version.specs.Reading.{past, past_v}
 use Rattle.pep440_version.specs.Record.{Record, Segment}
 use Rattle.pep440_version.specs.Refusals.{Refusal, Wildcard, NumberTooBig, NoLeadingNumber, NoLeadingReleaseNumber, LocalEmpty, UnexpectedEnd, Opens, RefusesFirst}
 use Rattle.pep440_version.specs.Whole.{opening, front_at, parts_at, is_star, pattern_from, version_of, read_version}
@@ -21,14 +21,14 @@ use Rattle.pep440_version.proofs.Runs.{IsRun, run_starts, Twin, Stays, Stops, Fa
 use Rattle.pep440_version.proofs.Segments.{segment_first, separator_no_alphanumeric}
 
 pub opens_again : (text rest : List ℕ) → Opens text rest → opening text ≡ front_at rest
-opens_again text rest (w1, v, cut, blanks, mark, stop, first) =
+opens_again text rest (w1, v, cut, blanks, letter, stop, first) =
     let past : past is_blank text ≡ v ++ rest = ap (past is_blank) cut ∙ past-run is_blank w1 (v ++ rest) blanks stop in
-    ap (λ l. front_at (past_mark l)) past ∙ ap front_at (marked mark)
+    ap (λ l. front_at (past_v l)) past ∙ ap front_at (lettered letter)
   where
-    marked : IsMark v → past_mark (v ++ rest) ≡ rest
-    marked (inl e) = ap (λ l. past_mark (l ++ rest)) e ∙ rw (first e) refl
-    marked (inr (inl e)) = rw e refl
-    marked (inr (inr e)) = rw e refl
+    lettered : IsLeadingV v → past_v (v ++ rest) ≡ rest
+    lettered (inl e) = ap (λ l. past_v (l ++ rest)) e ∙ rw (first e) refl
+    lettered (inr (inl e)) = rw e refl
+    lettered (inr (inr e)) = rw e refl
 
 opening_refused : (text : List ℕ) (f : Refusal) → opening text ≡ Err f → read_version text ≡ Err f
 opening_refused text f o = ap (λ x. version_of (pattern_from text x)) o
@@ -169,7 +169,7 @@ local_empty text c (front, rest, r, h, none, cut, precursor, a) =
     let f = front_again h.e h.n tail r.epoch r.release h.epoch h.release parts.1.digit parts.1.goes parts.1.bang in
     let whole : text ≡ h.w1 ++ (h.v ++ (h.e ++ (h.n ++ tail))) = cut ∙ ap (λ x. x ++ (c ∷ rest)) (h.cut ∙ ap (λ x. h.w1 ++ (h.v ++ (h.e ++ (h.n ++ (h.p ++ (h.q ++ (h.d ++ x))))))) nil)
     ∙ eight h.w1 h.v h.e h.n h.p h.q h.d h.l (c ∷ rest) ∙ ap (λ x. h.w1 ++ (h.v ++ (h.e ++ (h.n ++ (h.p ++ (h.q ++ (h.d ++ x))))))) lo.1 in
-    let o : opening text ≡ Ok ((r.epoch, r.release), tail) = opening_again text h.w1 h.v (h.e ++ (h.n ++ tail)) whole h.blanks h.mark f.0 ∙ f.1 in
+    let o : opening text ≡ Ok ((r.epoch, r.release), tail) = opening_again text h.w1 h.v (h.e ++ (h.n ++ tail)) whole h.blanks h.letter f.0 ∙ f.1 in
     ap (λ x. version_of (pattern_from text x)) o ∙ rw (parts.1.star, parts.0) refl
   where
     eight : (a b c d e f g h z : List ℕ) → (a ++ (b ++ (c ++ (d ++ (e ++ (f ++ (g ++ h))))))) ++ z ≡ a ++ (b ++ (c ++ (d ++ (e ++ (f ++ (g ++ (h ++ z)))))))

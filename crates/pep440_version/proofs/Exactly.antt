@@ -24,15 +24,15 @@ same_length (x ∷ a) b (y ∷ c) d e l =
     λ i. first i ∷ more i
 
 -- two fronts that are the longest are one
-one_front : (text v r w s : List ℕ) → text ≡ v ++ r → IsLongest text v → text ≡ w ++ s → IsLongest text w → (v ≡ w) × (r ≡ s)
-one_front text v r w s cut h cut2 g =
-    let a = h.longest w s g.means cut2 g.derived in
-    let b = g.longest v r h.means cut h.derived in
-    let same : v ≡ w = same_length v r w s (sym cut ∙ cut2) (omega (arith, a, b)) in
-    (same, append_cancel_left v r s (sym cut ∙ cut2 ∙ ap (λ l. l ++ s) (sym same)))
+one_front : (text v r w s : List ℕ) → IsLongest text v r → IsLongest text w s → (v ≡ w) × (r ≡ s)
+one_front text v r w s h g =
+    let a = h.longest w s g.means g.cut g.derived in
+    let b = g.longest v r h.means h.cut h.derived in
+    let same : v ≡ w = same_length v r w s (sym h.cut ∙ g.cut) (omega (arith, a, b)) in
+    (same, append_cancel_left v r s (sym h.cut ∙ g.cut ∙ ap (λ l. l ++ s) (sym same)))
 
 end_decides : (text v r : List ℕ) → Refuses text (UnexpectedEnd v r) → read_version text ≡ Err (UnexpectedEnd v r)
-end_decides text v r (cut, more, h, none) = by (read_version text) refl
+end_decides text v r (more, h, none) = by (read_version text) refl
   where
     told : (g : Refusal) → read_version text ≡ Err g → Refuses text g → read_version text ≡ Err (UnexpectedEnd v r)
     told Wildcard e k = absurd (none Wildcard k)
@@ -40,12 +40,12 @@ end_decides text v r (cut, more, h, none) = by (read_version text) refl
     told NoLeadingNumber e k = absurd (none NoLeadingNumber k)
     told NoLeadingReleaseNumber e k = absurd (none NoLeadingReleaseNumber k)
     told (LocalEmpty c) e k = absurd (none (LocalEmpty c) k)
-    told (UnexpectedEnd w s) e k = let same = one_front text v r w s cut h k.0 k.2 in e ∙ (λ i. Err (UnexpectedEnd (sym same.0 i) (sym same.1 i)))
+    told (UnexpectedEnd w s) e k = let same = one_front text v r w s h k.1 in e ∙ (λ i. Err (UnexpectedEnd (sym same.0 i) (sym same.1 i)))
 
     by : (o : Read Record) → read_version text ≡ o → read_version text ≡ Err (UnexpectedEnd v r)
     by (Ok q) e =
         let long = h.longest text [] q (sym (append-nil text)) (found text q e) in
-        let whole = ap length cut ∙ length-append v r in
+        let whole = ap length h.cut ∙ length-append v r in
         absurd (omega (arith, long, whole, more))
     by (Err g) e = told g e (sound text g e)
 

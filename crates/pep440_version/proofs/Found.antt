@@ -5,8 +5,8 @@ use Rattle.std.proofs.lemmas.List.{append_assoc, append-nil, length-append, take
 use Rattle.std.specs.Char.{is_ascii_digit}
 use Rattle.std.specs.List.{list_all, prefix_len}
 use Rattle.std.specs.Str.Parse.{digits_value}
-use Rattle.pep440_version.specs.Grammar.{IsNumber, IsRelease, IsMark, AreBlanks, is_blank, starts}
-use Rattle.pep440_version.specs.Reading.{◌>>=◌, lead, past, past_mark, number_at, goes_on, release_at}
+use Rattle.pep440_version.specs.Grammar.{IsNumber, IsRelease, IsLeadingV, AreBlanks, is_blank, starts}
+use Rattle.pep440_version.specs.Reading.{◌>>=◌, lead, past, past_v, number_at, goes_on, release_at}
 use Rattle.pep440_version.specs.Refusals.{Refusal}
 use Rattle.pep440_version.proofs.Texts.{both_first, both_second, lead-all, past-stops}
 
@@ -83,9 +83,9 @@ blank_end t e =
     let whole : t ≡ lead is_blank t = split is_blank t ∙ ap (λ r. lead is_blank t ++ r) nothing ∙ append-nil (lead is_blank t) in
     ap (list_all is_blank) whole ∙ lead-all is_blank t
 
-pub mark_takes : (t : List ℕ) → (v : List ℕ) × IsMark v × (t ≡ v ++ past_mark t)
-mark_takes [] = ([], inl refl, refl)
-mark_takes (b ∷ rest) = elim (cases_Bool (b == 118)) [
+pub v_takes : (t : List ℕ) → (v : List ℕ) × IsLeadingV v × (t ≡ v ++ past_v t)
+v_takes [] = ([], inl refl, refl)
+v_takes (b ∷ rest) = elim (cases_Bool (b == 118)) [
   | inl e ↦ (118 ∷ [], inr (inl refl), rw (eqb-true b 118 e) refl)
   | inr e ↦ elim (cases_Bool (b == 86)) [
     | inl f ↦ (86 ∷ [], inr (inr refl), rw (eqb-true b 86 f) refl)

@@ -5,7 +5,7 @@ use Rattle.std.proofs.lemmas.Bool.Decides.{nat_tests}
 use Rattle.std.specs.Char.{is_ascii_digit, to_ascii_lowercase}
 use Rattle.std.specs.List.{list_all}
 use Rattle.pep440_version.specs.declared.prerelease.Prerelease.{Prerelease}
-use Rattle.pep440_version.specs.Grammar.{IsMark, IsNumber, IsEpoch, IsRelease, is_blank, Spellings, IsSpelled, IsSpelling, IsSeparator, IsCount, is_separator, Derives, IsPre, IsPost, IsDev, IsLocal}
+use Rattle.pep440_version.specs.Grammar.{IsLeadingV, IsNumber, IsEpoch, IsRelease, is_blank, Spellings, IsSpelled, IsSpelling, IsSeparator, IsCount, is_separator, Derives, IsPre, IsPost, IsDev, IsLocal}
 use Rattle.pep440_version.specs.Record.{Record, Segment}
 use Rattle.pep440_version.proofs.Texts.{both_first, both_second}
 use Rattle.pep440_version.proofs.Runs.{Lacks, AllLetters, all_letters, letters_of_pre, letters_of_post, letters_of_dev}
@@ -37,10 +37,10 @@ letter_not_plus b c e l = grind (arith, nat_tests)
 lacks_number : (t : List ℕ) (n : ℕ) → IsNumber t n → Lacks t
 lacks_number t n h = lacks_of is_ascii_digit digit_not_plus t h.1
 
-lacks_mark : (v : List ℕ) → IsMark v → Lacks v
-lacks_mark v (inl e) = rw e refl
-lacks_mark v (inr (inl e)) = rw e refl
-lacks_mark v (inr (inr e)) = rw e refl
+lacks_v : (v : List ℕ) → IsLeadingV v → Lacks v
+lacks_v v (inl e) = rw e refl
+lacks_v v (inr (inl e)) = rw e refl
+lacks_v v (inr (inr e)) = rw e refl
 
 lacks_epoch : (t : List ℕ) (n : ℕ) → IsEpoch t n → Lacks t
 lacks_epoch t n (inl h) = rw h.0 refl
@@ -94,7 +94,7 @@ no_local l (s ∷ ss) h e = absurd (omega (arith, e))
 
 pub lacks_derived : (t : List ℕ) (r : Record) → Derives t r → length r.local ≡ 0 → Lacks t
 lacks_derived t r h e = subst Lacks (sym h.cut)
-    (lacks_append h.w1 _ (lacks_of is_blank blank_not_plus h.w1 h.blanks) (lacks_append h.v _ (lacks_mark h.v h.mark) (lacks_append h.e _ (lacks_epoch h.e r.epoch h.epoch)
+    (lacks_append h.w1 _ (lacks_of is_blank blank_not_plus h.w1 h.blanks) (lacks_append h.v _ (lacks_v h.v h.letter) (lacks_append h.e _ (lacks_epoch h.e r.epoch h.epoch)
     (lacks_append h.n _ (lacks_release h.n r.release h.release) (lacks_append h.p _ (lacks_pre h.p _ r.pre h.pre) (lacks_append h.q _ (lacks_post h.q _ r.post h.post)
     (lacks_append h.d _ (lacks_dev h.d _ r.dev h.dev) (lacks_append h.l h.w2 (subst Lacks (sym (no_local h.l r.local h.local e)) refl) (lacks_of is_blank blank_not_plus h.w2 h.end)))))))))
 

@@ -150,24 +150,20 @@ derived_end other after q x z d s =
     ]
 
 pub longest : (text : List ℕ) (x : (ℕ × List ℕ) × List ℕ) (z : Record × List ℕ) → Stopped text x z
-    → let rest : List ℕ = past is_blank z.1 in let front : List ℕ = take (length text - length rest) text in (text ≡ front ++ rest) × IsLongest text front
+    → let rest : List ℕ = past is_blank z.1 in IsLongest text (take (length text - length rest) text) rest
 longest text x z s =
     let rest : List ℕ = past is_blank z.1 in
     let cut : IsEnd text rest = end_of text z.1 rest (left text x z s) (lead is_blank z.1, split is_blank z.1) in
     let long = ap length cut.1 ∙ length-append cut.0 rest in
     let at : length text - length rest ≡ length cut.0 = omega (arith, long) in
     let front : take (length text - length rest) text ≡ cut.0 = (λ i. take (at i) (cut.1 i)) ∙ take-append_seam cut.0 rest in
-    let whole_cut : text ≡ take (length text - length rest) text ++ rest = cut.1 ∙ ap (λ l. l ++ rest) (sym front) in (
-      whole_cut,
-      record {
-        rest = rest;
-        cut = whole_cut;
-        means = z.0;
-        derived = subst (λ l. Derives l z.0) (sym front) (front_means cut.0 x z (subst (λ l. Stopped l x z) cut.1 s));
-        longest = λ other after q e d.
-            let l1 = end_long after rest (derived_end other after q x z d (subst (λ l. Stopped l x z) e s)) in
-            let l2 = ap length e ∙ length-append other after in
-            let l3 = ap length front in
-            omega (arith, l1, l2, l3, long);
-      },
-    )
+    record {
+      cut = cut.1 ∙ ap (λ l. l ++ rest) (sym front);
+      means = z.0;
+      derived = subst (λ l. Derives l z.0) (sym front) (front_means cut.0 x z (subst (λ l. Stopped l x z) cut.1 s));
+      longest = λ other after q e d.
+          let l1 = end_long after rest (derived_end other after q x z d (subst (λ l. Stopped l x z) e s)) in
+          let l2 = ap length e ∙ length-append other after in
+          let l3 = ap length front in
+          omega (arith, l1, l2, l3, long);
+    }

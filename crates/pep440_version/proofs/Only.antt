@@ -3,8 +3,8 @@ use Rattle.std.proofs.Common.{◌≡◌, ◌≤◌, ◌^◌, ◌==◌, ℕ, suc,
 use Rattle.std.proofs.lemmas.List.{append_assoc, append-nil, length-append}
 use Rattle.std.specs.Char.{is_ascii_digit}
 use Rattle.std.specs.List.{list_all}
-use Rattle.pep440_version.specs.Grammar.{IsNumber, IsRelease, IsMark, AreBlanks, is_blank, starts}
-use Rattle.pep440_version.specs.Reading.{past, past_mark, number_at, goes_on, release_at}
+use Rattle.pep440_version.specs.Grammar.{IsNumber, IsRelease, IsLeadingV, AreBlanks, is_blank, starts}
+use Rattle.pep440_version.specs.Reading.{past, past_v, number_at, goes_on, release_at}
 use Rattle.pep440_version.proofs.Texts.{both_first, lead-run, past-run, digit_not_blank, digit_not_v, blank_not_digit, blank_not_dot, blank_not_bang}
 
 pub number_first : (ds rest : List ℕ) (n : ℕ) → IsNumber ds n → starts is_ascii_digit (ds ++ rest) ≡ true
@@ -43,14 +43,14 @@ blanks_stop (b ∷ rest) h =
     let first = both_first (is_blank b) (list_all is_blank rest) h in
     (blank_not_digit b first, rw (blank_not_dot b first) refl, blank_not_bang b first, ap (past is_blank) (sym (append-nil (b ∷ rest))) ∙ past-run is_blank (b ∷ rest) [] h refl)
 
-pub mark_again : (v rest : List ℕ) → IsMark v → starts is_ascii_digit rest ≡ true → past_mark (v ++ rest) ≡ rest
-mark_again v [] h s = cc s
-mark_again v (d ∷ rest) (inl e) s = rw (e, digit_not_v d s) refl
-mark_again v (d ∷ rest) (inr (inl e)) s = rw e refl
-mark_again v (d ∷ rest) (inr (inr e)) s = rw e refl
+pub v_again : (v rest : List ℕ) → IsLeadingV v → starts is_ascii_digit rest ≡ true → past_v (v ++ rest) ≡ rest
+v_again v [] h s = cc s
+v_again v (d ∷ rest) (inl e) s = rw (e, digit_not_v d s) refl
+v_again v (d ∷ rest) (inr (inl e)) s = rw e refl
+v_again v (d ∷ rest) (inr (inr e)) s = rw e refl
 
-pub mark_not_blank : (v rest : List ℕ) → IsMark v → starts is_ascii_digit rest ≡ true → starts is_blank (v ++ rest) ≡ false
-mark_not_blank v [] h s = cc s
-mark_not_blank v (d ∷ rest) (inl e) s = rw e (digit_not_blank d s)
-mark_not_blank v (d ∷ rest) (inr (inl e)) s = rw e refl
-mark_not_blank v (d ∷ rest) (inr (inr e)) s = rw e refl
+pub v_not_blank : (v rest : List ℕ) → IsLeadingV v → starts is_ascii_digit rest ≡ true → starts is_blank (v ++ rest) ≡ false
+v_not_blank v [] h s = cc s
+v_not_blank v (d ∷ rest) (inl e) s = rw e (digit_not_blank d s)
+v_not_blank v (d ∷ rest) (inr (inl e)) s = rw e refl
+v_not_blank v (d ∷ rest) (inr (inr e)) s = rw e refl

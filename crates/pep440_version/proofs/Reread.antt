@@ -11,10 +11,10 @@ use Rattle.std.specs.Str.Parse.{digits_value}
 use Rattle.pep440_version.specs.declared.prerelease.PrereleaseKind.{PrereleaseKind}
 use Rattle.pep440_version.specs.declared.prerelease.PrereleaseKind.TheVariants.{Alpha, Beta, Rc}
 use Rattle.pep440_version.specs.declared.prerelease.Prerelease.{Prerelease}
-use Rattle.pep440_version.specs.Grammar.{starts, IsNumber, IsRelease, IsEpoch, Spellings, IsSpelling, IsSpelled, IsSeparator, IsCount, pre_spellings, post_spellings, dev_spellings, IsPre, IsPost, IsDev, segment_of, IsSegment, AreSegments, IsLocal, Derives}
-use Rattle.pep440_version.specs.Print.{dotted, epoch_text, kind_text, pre_text, marked, segment_print, local_text, print}
+use Rattle.pep440_version.specs.Grammar.{starts, IsNumber, IsRelease, IsEpoch, Spellings, IsSpelling, IsSpelled, IsSeparator, IsCount, pre_spellings, post_spellings, dev_spellings, IsPre, IsPost, IsDev, segment_of, IsSegment, AreSegments, IsLocal, Derives, is_numeral}
+use Rattle.pep440_version.specs.Print.{dotted, epoch_text, prerelease_kind_text, pre_text, labelled, segment_print, local_text, print}
 use Rattle.pep440_version.specs.Record.{Record, Segment, Text, Number, Fits, SegmentFits, IsRecord}
-use Rattle.pep440_version.specs.Reread.{is_lower, is_numeral, SegmentRereads, Rereads}
+use Rattle.pep440_version.specs.Reread.{is_lower, SegmentRereads, Rereads}
 use Rattle.pep440_version.proofs.Texts.{both_first, both_second}
 use Rattle.pep440_version.proofs.Values.{digits_model}
 
@@ -53,20 +53,20 @@ spelled_reads table before word after a n fits first spelling stop = record {
   keeps_digits = stop;
 }
 
-kind_reads : (k : PrereleaseKind) → IsSpelling pre_spellings (kind_text k) k
+kind_reads : (k : PrereleaseKind) → IsSpelling pre_spellings (prerelease_kind_text k) k
 kind_reads Alpha = inr (inl (refl, refl))
 kind_reads Beta = inr (inr (inr (inl (refl, refl))))
 kind_reads Rc = inr (inr (inr (inr (inl (refl, refl)))))
 
 pre_reads : (pre : Option Prerelease) (after : List ℕ) → IfSome pre (λ p. Fits p.number) → starts is_ascii_digit after ≡ false → IsPre (pre_text pre) after pre
 pre_reads None after fits stop = refl
-pre_reads (Some p) after fits stop = spelled_reads pre_spellings [] (kind_text p.kind) after p.kind p.number fits (inl refl) (kind_reads p.kind) stop
+pre_reads (Some p) after fits stop = spelled_reads pre_spellings [] (prerelease_kind_text p.kind) after p.kind p.number fits (inl refl) (kind_reads p.kind) stop
 
-post_reads : (post : Option ℕ) (after : List ℕ) → IfSome post Fits → starts is_ascii_digit after ≡ false → IsPost (marked (codes ".post") post) after post
+post_reads : (post : Option ℕ) (after : List ℕ) → IfSome post Fits → starts is_ascii_digit after ≡ false → IsPost (labelled (codes ".post") post) after post
 post_reads None after fits stop = refl
 post_reads (Some n) after fits stop = inr (spelled_reads post_spellings (codes ".") (codes "post") after tt n fits (inr (46, refl, refl)) (inl (refl, refl)) stop)
 
-dev_reads : (dev : Option ℕ) (after : List ℕ) → IfSome dev Fits → starts is_ascii_digit after ≡ false → IsDev (marked (codes ".dev") dev) after dev
+dev_reads : (dev : Option ℕ) (after : List ℕ) → IfSome dev Fits → starts is_ascii_digit after ≡ false → IsDev (labelled (codes ".dev") dev) after dev
 dev_reads None after fits stop = refl
 dev_reads (Some n) after fits stop = spelled_reads dev_spellings (codes ".") (codes "dev") after tt n fits (inr (46, refl, refl)) (inl (refl, refl)) stop
 
@@ -75,9 +75,9 @@ local_stops : (local : List Segment) → starts is_ascii_digit (local_text local
 local_stops [] = refl
 local_stops (s ∷ rest) = refl
 
-marked_stops : (mark : List ℕ) (n : Option ℕ) (after : List ℕ) → starts is_ascii_digit after ≡ false → starts is_ascii_digit (marked (46 ∷ mark) n ++ after) ≡ false
-marked_stops mark None after stop = stop
-marked_stops mark (Some n) after stop = refl
+labelled_stops : (label : List ℕ) (n : Option ℕ) (after : List ℕ) → starts is_ascii_digit after ≡ false → starts is_ascii_digit (labelled (46 ∷ label) n ++ after) ≡ false
+labelled_stops label None after stop = stop
+labelled_stops label (Some n) after stop = refl
 
 -- ---- local
 
@@ -146,11 +146,11 @@ local_reads (s ∷ rest) fits h = (dotted segment_print (s ∷ rest), segments_r
 pub reread : (r : Record) → IsRecord r → Rereads r → Derives (print r) r
 reread r h again =
     let l : List ℕ = local_text r.local ++ [] in
-    let d : List ℕ = marked (codes ".dev") r.dev in
-    let q : List ℕ = marked (codes ".post") r.post in
+    let d : List ℕ = labelled (codes ".dev") r.dev in
+    let q : List ℕ = labelled (codes ".post") r.post in
     let stop_dev = local_stops r.local in
-    let stop_post : starts is_ascii_digit (d ++ l) ≡ false = marked_stops (codes "dev") r.dev l stop_dev in
-    let stop_pre : starts is_ascii_digit (q ++ (d ++ l)) ≡ false = marked_stops (codes "post") r.post (d ++ l) stop_post in
+    let stop_post : starts is_ascii_digit (d ++ l) ≡ false = labelled_stops (codes "dev") r.dev l stop_dev in
+    let stop_pre : starts is_ascii_digit (q ++ (d ++ l)) ≡ false = labelled_stops (codes "post") r.post (d ++ l) stop_post in
     record {
       w1 = [];
       v = [];
@@ -163,7 +163,7 @@ reread r h again =
       w2 = [];
       cut = ap (λ t. epoch_text r.epoch ++ (dotted decimal r.release ++ (pre_text r.pre ++ (q ++ (d ++ t))))) (sym (append-nil (local_text r.local)));
       blanks = refl;
-      mark = inl refl;
+      letter = inl refl;
       epoch = epoch_reads r.epoch h.epoch;
       release = numbers_read r.release h.some h.release;
       pre = pre_reads r.pre (q ++ (d ++ l)) h.pre stop_pre;

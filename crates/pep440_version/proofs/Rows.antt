@@ -5,7 +5,7 @@ use Rattle.pep440_version.specs.declared.prerelease.PrereleaseKind.TheVariants.{
 use Rattle.pep440_version.specs.declared.prerelease.Prerelease.{Prerelease}
 use Rattle.pep440_version.specs.Locals.{segments_at}
 use Rattle.pep440_version.specs.Reading.{number_at, release_at}
-use Rattle.pep440_version.specs.Record.{Record, Segment, Text, Number, public_record}
+use Rattle.pep440_version.specs.Record.{Record, Segment, Text, Number, epoch_and_release}
 use Rattle.pep440_version.specs.Refusals.{Wildcard, NumberTooBig, NoLeadingNumber, NoLeadingReleaseNumber, LocalEmpty, UnexpectedEnd, OfVersion, WildcardNotTrailing}
 use Rattle.pep440_version.specs.Whole.{front_at, parts_at, read_version, read_pattern}
 
@@ -98,11 +98,11 @@ row_20 : read_version (codes "1.0.") ≡ Err (UnexpectedEnd (codes "1.0") (codes
 unfolding number_at release_at segments_at front_at parts_at
 row_20 = refl
 
-row_21 : read_pattern (codes "1.2.3") ≡ Ok (public_record 0 (1 ∷ 2 ∷ 3 ∷ []), false)
+row_21 : read_pattern (codes "1.2.3") ≡ Ok (epoch_and_release 0 (1 ∷ 2 ∷ 3 ∷ []), false)
 unfolding number_at release_at segments_at front_at parts_at
 row_21 = refl
 
-row_22 : read_pattern (codes "1.2.3.*") ≡ Ok (public_record 0 (1 ∷ 2 ∷ 3 ∷ []), true)
+row_22 : read_pattern (codes "1.2.3.*") ≡ Ok (epoch_and_release 0 (1 ∷ 2 ∷ 3 ∷ []), true)
 unfolding number_at release_at segments_at front_at parts_at
 row_22 = refl
 
@@ -202,7 +202,7 @@ row_46 : read_version (codes "1.0x18446744073709551616") ≡ Err (UnexpectedEnd 
 unfolding number_at release_at segments_at front_at parts_at
 row_46 = refl
 
-row_47 : read_version (codes "00018446744073709551615") ≡ Ok (public_record 0 (18446744073709551615 ∷ []))
+row_47 : read_version (codes "00018446744073709551615") ≡ Ok (epoch_and_release 0 (18446744073709551615 ∷ []))
 unfolding number_at release_at segments_at front_at parts_at
 row_47 = refl
 
@@ -242,7 +242,7 @@ row_56 : read_version (codes ".1") ≡ Err NoLeadingNumber
 unfolding number_at release_at segments_at front_at parts_at
 row_56 = refl
 
-row_57 : read_version (codes "1.02 ") ≡ Ok (public_record 0 (1 ∷ 2 ∷ []))
+row_57 : read_version (codes "1.02 ") ≡ Ok (epoch_and_release 0 (1 ∷ 2 ∷ []))
 unfolding number_at release_at segments_at front_at parts_at
 row_57 = refl
 
@@ -266,7 +266,7 @@ row_62 : read_pattern (codes "1.0+x.*") ≡ Err (OfVersion (LocalEmpty 46))
 unfolding number_at release_at segments_at front_at parts_at
 row_62 = refl
 
-row_63 : read_pattern (codes " v1!2.*") ≡ Ok (public_record 1 (2 ∷ []), true)
+row_63 : read_pattern (codes " v1!2.*") ≡ Ok (epoch_and_release 1 (2 ∷ []), true)
 unfolding number_at release_at segments_at front_at parts_at
 row_63 = refl
 

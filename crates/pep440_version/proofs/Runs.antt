@@ -8,14 +8,14 @@ use Rattle.std.specs.List.{list_all, prefix_len}
 use Rattle.std.specs.Str.Parse.{digits_value}
 use Rattle.pep440_version.specs.Grammar.{is_blank, Spellings, is_separator, pre_spellings, post_spellings, dev_spellings, starts, is_v}
 use Rattle.pep440_version.specs.Locals.{starts_local, local_at}
-use Rattle.pep440_version.specs.Reading.{Read, ◌>>=◌, lead, past, starts_number, past_mark, number_at, goes_on, release_at}
+use Rattle.pep440_version.specs.Reading.{Read, ◌>>=◌, lead, past, starts_number, past_v, number_at, goes_on, release_at}
 use Rattle.pep440_version.specs.Refusals.{Refusal, NumberTooBig, NoLeadingNumber, NoLeadingReleaseNumber, ends}
 use Rattle.pep440_version.specs.Suffixes.{begins, spelled, past_separator, count_at, suffix_at, number_of, prerelease_of, pre_at, is_bare_post, post_at, dev_at}
 use Rattle.pep440_version.specs.Whole.{release_after, front_at, opening, parts_at, is_star}
 use Rattle.pep440_version.proofs.Texts.{both_first, both_second, lead-run, digit_not_blank, digit_not_v}
 use Rattle.pep440_version.proofs.Found.{chosen, split}
 use Rattle.pep440_version.proofs.Spelling.{is_letter, digit_no_separator, digit_no_letter}
-use Rattle.pep440_version.proofs.Cutting.{Reader, IsEnd, end_of, past_one, lead_one, record_of, number_end, separator_end, drop_end, end_long, mark_end}
+use Rattle.pep440_version.proofs.Cutting.{Reader, IsEnd, end_of, past_one, lead_one, record_of, number_end, separator_end, drop_end, end_long, v_end}
 use Rattle.pep440_version.proofs.Taken.{some}
 
 -- digits above the limit, and no digit after them
@@ -387,16 +387,16 @@ front_twins (b ∷ t) d after r e = elim (cases_Bool (is_ascii_digit b)) [
           | inr none ↦ Fails NoLeadingReleaseNumber (λ z s. rw (first, h z, bang, none) refl)
         ]
 
-pub mark_stays : (t z : List ℕ) → starts is_v z ≡ false → past_mark (t ++ z) ≡ past_mark t ++ z
-mark_stays [] z s = rw s refl
-mark_stays (b ∷ t) z s = elim (cases_Bool (is_v b)) [ inl h ↦ rw h refl | inr h ↦ rw h refl ]
+pub v_stays : (t z : List ℕ) → starts is_v z ≡ false → past_v (t ++ z) ≡ past_v t ++ z
+v_stays [] z s = rw s refl
+v_stays (b ∷ t) z s = elim (cases_Bool (is_v b)) [ inl h ↦ rw h refl | inr h ↦ rw h refl ]
 
 pub opening_twins : Twins opening
 opening_twins front d after r e =
-    let later : List ℕ = past_mark (past is_blank front) in
-    let end : IsEnd front later = end_of front (past is_blank front) later (lead is_blank front, split is_blank front) (mark_end (past is_blank front)) in
+    let later : List ℕ = past_v (past is_blank front) in
+    let end : IsEnd front later = end_of front (past is_blank front) later (lead is_blank front, split is_blank front) (v_end (past is_blank front)) in
     twin_after opening front_at front later d after r end
-    (λ z s. ap (λ l. front_at (past_mark l)) (past_stays is_blank front z (starts_not is_ascii_digit is_blank digit_not_blank z s)) ∙ ap front_at (mark_stays (past is_blank front) z (starts_not is_ascii_digit is_v digit_not_v z s)))
+    (λ z s. ap (λ l. front_at (past_v l)) (past_stays is_blank front z (starts_not is_ascii_digit is_blank digit_not_blank z s)) ∙ ap front_at (v_stays (past is_blank front) z (starts_not is_ascii_digit is_v digit_not_v z s)))
     (front_twins later d after r (ends_end is_ascii_digit front later end e))
 
 pub star_stays : (u z : List ℕ) → starts_number z ≡ true → is_star (u ++ z) ≡ is_star u

@@ -4,8 +4,8 @@ use Rattle.std.proofs.lemmas.Bool.{cases_Bool}
 use Rattle.std.proofs.lemmas.Bool.Decides.{nat_tests}
 use Rattle.std.proofs.lemmas.List.{append_assoc, length-append, append_cancel_right}
 use Rattle.std.specs.Char.{is_ascii_digit}
-use Rattle.pep440_version.specs.Grammar.{IsMark, IsNumber, is_blank, starts, is_v}
-use Rattle.pep440_version.specs.Reading.{Read, ◌>>=◌, lead, past, starts_number, past_mark, number_at, goes_on, release_at}
+use Rattle.pep440_version.specs.Grammar.{IsLeadingV, IsNumber, is_blank, starts, is_v}
+use Rattle.pep440_version.specs.Reading.{Read, ◌>>=◌, lead, past, starts_number, past_v, number_at, goes_on, release_at}
 use Rattle.pep440_version.specs.Record.{Record}
 use Rattle.pep440_version.specs.Refusals.{Refusal, Wildcard, NumberTooBig, NoLeadingNumber, NoLeadingReleaseNumber, LocalEmpty, UnexpectedEnd, OfVersion, ends, Opens, IsBigRun, HasStar, RefusesFirst, Refuses}
 use Rattle.pep440_version.specs.Whole.{release_after, opening, front_at, parts_at, end_at, is_star, without_star, pattern_from, read_pattern, version_of, read_version}
@@ -15,7 +15,7 @@ use Rattle.pep440_version.proofs.Only.{number_first, number_again}
 use Rattle.pep440_version.proofs.Bridge.{front_takes, drop_two}
 use Rattle.pep440_version.proofs.Cutting.{Reader, IsEnd, IsLater, end_of, later_end, opening_end, opening_cut, number_end, end_long}
 use Rattle.pep440_version.proofs.Longest.{Fault, AtOpening, AtStar, AtParts, AtEnd, fails, fault, longest, front_derived, some_rest}
-use Rattle.pep440_version.proofs.Runs.{IsRun, run_starts, run_refused, Twin, Stays, Stops, Fails, opening_twins, ends_append, ends_last, starts_not, starts_stays, past_stays, mark_stays, number_stays, all_release, fuel, release_one, front_zero, no_room, goes_short}
+use Rattle.pep440_version.proofs.Runs.{IsRun, run_starts, run_refused, Twin, Stays, Stops, Fails, opening_twins, ends_append, ends_last, starts_not, starts_stays, past_stays, v_stays, number_stays, all_release, fuel, release_one, front_zero, no_room, goes_short}
 use Rattle.pep440_version.proofs.Told.{Stop, StopLater, number_error, bind_err, PartsFault, parts_error, not_later}
 use Rattle.pep440_version.proofs.Lacking.{lacks_derived, lacks_front}
 use Rattle.pep440_version.proofs.Decided.{first_decides}
@@ -152,11 +152,11 @@ front_error t e h = elim (chosen (starts_number t) _ _ _ h) [
         let first = starts_zero m.front (m.d ++ m.after) (ap starts_number (sym m.cut) ∙ s) in
         record { d = m.d; front = m.front; after = m.after; kind = m.kind; run = m.run; cut = m.cut; before = m.before; value = m.value; zero = rw (first, f.2, f.3) m.zero }
 
--- ---- blanks and mark
+-- ---- blanks and the letter v
 
-mark_parts : (t : List ℕ) → (v : List ℕ) × IsMark v × (t ≡ v ++ past_mark t) × (v ≡ [] → starts is_v (past_mark t) ≡ false)
-mark_parts [] = ([], inl refl, refl, λ _. refl)
-mark_parts (b ∷ rest) = elim (cases_Bool (b == 118)) [
+v_parts : (t : List ℕ) → (v : List ℕ) × IsLeadingV v × (t ≡ v ++ past_v t) × (v ≡ [] → starts is_v (past_v t) ≡ false)
+v_parts [] = ([], inl refl, refl, λ _. refl)
+v_parts (b ∷ rest) = elim (cases_Bool (b == 118)) [
   | inl e ↦ (118 ∷ [], inr (inl refl), rw (eqb-true b 118 e) refl, λ h. cc h)
   | inr e ↦ elim (cases_Bool (b == 86)) [
     | inl f ↦ (86 ∷ [], inr (inr refl), rw (eqb-true b 86 f) refl, λ h. cc h)
@@ -165,18 +165,18 @@ mark_parts (b ∷ rest) = elim (cases_Bool (b == 118)) [
 ]
 
 abbrev opened : List ℕ → List ℕ
-opened text = past_mark (past is_blank text)
+opened text = past_v (past is_blank text)
 
 opens : (text : List ℕ) → Opens text (opened text)
 opens text =
-    let m = mark_parts (past is_blank text) in
+    let m = v_parts (past is_blank text) in
     (lead is_blank text, m.0, split is_blank text ∙ ap (λ l. lead is_blank text ++ l) m.2, lead-all is_blank text, m.1, ap (starts is_blank) (sym m.2) ∙ past-stops is_blank text, m.3)
 
 opened_end : (text : List ℕ) → IsEnd text (opened text)
-opened_end text = let m = mark_parts (past is_blank text) in end_of text (past is_blank text) (opened text) (lead is_blank text, split is_blank text) (m.0, m.2)
+opened_end text = let m = v_parts (past is_blank text) in end_of text (past is_blank text) (opened text) (lead is_blank text, split is_blank text) (m.0, m.2)
 
 opened_stays : (t z : List ℕ) → starts_number z ≡ true → opened (t ++ z) ≡ opened t ++ z
-opened_stays t z s = ap past_mark (past_stays is_blank t z (starts_not is_ascii_digit is_blank digit_not_blank z s)) ∙ mark_stays (past is_blank t) z (starts_not is_ascii_digit is_v digit_not_v z s)
+opened_stays t z s = ap past_v (past_stays is_blank t z (starts_not is_ascii_digit is_blank digit_not_blank z s)) ∙ v_stays (past is_blank t) z (starts_not is_ascii_digit is_v digit_not_v z s)
 
 opening_stop : (text : List ℕ) (e : Refusal) → Stop front_at (opened text) e → Stop opening text e
 opening_stop text e m =
@@ -305,9 +305,8 @@ sound text f e = by (fault text f e)
         let l = longest text x z s in
         let rest : List ℕ = past is_blank z.1 in
         subst (Refuses text) (sym k) (
-          l.0,
           some_rest (length rest) n,
-          l.1,
+          l,
           λ g h. let other = first_decides text g h in let one : UnexpectedEnd (take (length text - length rest) text) rest ≡ g = fails {A = Record} _ _ (sym (e ∙ ap Err k) ∙ other) in none g one h,
         )
       where

@@ -5,7 +5,7 @@ use Rattle.std.specs.List.{flat_map}
 use Rattle.pep440_version.specs.declared.prerelease.PrereleaseKind.{PrereleaseKind}
 use Rattle.pep440_version.specs.declared.prerelease.PrereleaseKind.TheVariants.{Alpha, Beta, Rc}
 use Rattle.pep440_version.specs.declared.prerelease.Prerelease.{Prerelease}
-use Rattle.pep440_version.specs.Key.{Key, key, Stage, Min, Dev, Pre, Final, stage_rank, PostPlace, NoPost, PostAt, PostTop, DevPlace, DevAt, NoDev, star_number}
+use Rattle.pep440_version.specs.Key.{Key, key, Stage, Min, Dev, Pre, Final, stage_rank, PostPlace, NoPost, PostAt, PostTop, DevPlace, DevAt, NoDev}
 use Rattle.pep440_version.specs.Record.{Record, Segment, Text, Number}
 use Rattle.pep440_version.specs.Trim.{trim}
 
@@ -32,7 +32,7 @@ abbrev pub feed_segment : Segment → HashWrites
 feed_segment (Text t) = u64 0 ++ u64 (length t) ++ (t ∷ [])
 feed_segment (Number n) = u64 1 ++ u64 n
 
--- a release without the zeros at its end, after its count
+-- how many numbers, and each of them
 abbrev pub feed_numbers : List ℕ → HashWrites
 feed_numbers numbers = u64 (length numbers) ++ flat_map u64 numbers
 
@@ -56,7 +56,3 @@ feed_kind Rc = u64 2
 
 abbrev pub feed_prerelease : Prerelease → HashWrites
 feed_prerelease p = feed_kind p.kind ++ u64 p.number
-
--- a pattern: its version, and whether a star follows
-abbrev pub feed_pattern : Record × Bool → HashWrites
-feed_pattern p = feed p.0 ++ u64 (star_number p.1)

@@ -182,12 +182,3 @@ kind_cmp = on kind_rank nat_cmp
 -- the kind, then the number
 abbrev pub prerelease_cmp : Prerelease → Prerelease → Ordering
 prerelease_cmp = then_cmp (on (λ (p : Prerelease). p.kind) kind_cmp) (on (λ (p : Prerelease). p.number) nat_cmp)
-
--- patterns: the version, then whether a star follows
-abbrev pub star_number : Bool → ℕ
-star_number false = 0
-star_number true = 1
-
--- by version, then by star; patterns are tested for equality alone
-abbrev pub pattern_cmp : Record × Bool → Record × Bool → Ordering
-pattern_cmp = then_cmp (on (λ p. p.0) record_cmp) (on (λ p. star_number p.1) nat_cmp)

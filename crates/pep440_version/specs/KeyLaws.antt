@@ -6,7 +6,7 @@ use Rattle.std.specs.declared.cmp.Ordering.TheVariants.{Less, Equal, Greater}
 use Rattle.std.specs.Ordering.{nat_cmp, on, ordering_then, eq_by_cmp, as_partial_cmp}
 use Rattle.std.specs.Cmp.{IsPartialOrder, po, IsTotalOrder, IsEquivalence, eq_by_cmp_equiv, nat_cmp_total, nat_cmp_is, on_total, then_total}
 use Rattle.std.specs.Cmp.Lexicographic.{lists_total, nat_list_cmp_total, slice_cmp}
-use Rattle.pep440_version.specs.Key.{Key, key, key_cmp, record_cmp, release_cmp, stage_rank, stage_number, post_rank, post_number, dev_rank, dev_number, segment_cmp, segment_rank, segment_text, segment_number, kind_rank, kind_cmp, prerelease_cmp, pattern_cmp, star_number}
+use Rattle.pep440_version.specs.Key.{Key, key, key_cmp, record_cmp, release_cmp, stage_rank, stage_number, post_rank, post_number, dev_rank, dev_number, segment_cmp, segment_rank, segment_text, segment_number, kind_rank, kind_cmp, prerelease_cmp}
 use Rattle.pep440_version.specs.Record.{Record}
 use Rattle.pep440_version.specs.Segments.{segment}
 use Rattle.pep440_version.specs.Trim.{trim, before_trimmed}
@@ -90,9 +90,3 @@ prerelease_equiv = eq_by_cmp_equiv prerelease_total
 
 pub prerelease_po : IsPartialOrder (eq_by_cmp prerelease_cmp) (as_partial_cmp prerelease_cmp)
 prerelease_po = po prerelease_total (λ x y. refl)
-
-pub pattern_total : IsTotalOrder pattern_cmp
-pattern_total = then_total (on_total (λ (p : Record × Bool). p.0) record_total) (on_total (λ (p : Record × Bool). star_number p.1) nat_cmp_total)
-
-pub pattern_equiv : IsEquivalence (eq_by_cmp pattern_cmp)
-pattern_equiv = eq_by_cmp_equiv pattern_total

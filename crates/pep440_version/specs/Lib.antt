@@ -13,10 +13,11 @@ pub mod Errors
 pub mod Suffixes
 pub mod Locals
 pub mod Whole
-pub mod Patterns
 pub mod Changes
 pub mod Feed
+pub mod Patterns
 pub mod Ties
+pub mod PatternLaws
 pub mod Refusals
 pub mod ErrorTexts
 pub mod Reread

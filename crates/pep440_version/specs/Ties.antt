@@ -9,8 +9,8 @@ use Rattle.std.specs.FinMap.{nat_cmp-IsAntisymmetric, slice_cmp-IsAntisymmetric}
 use Rattle.std.specs.declared.cmp.Ordering.{Ordering}
 use Rattle.std.specs.declared.cmp.Ordering.TheVariants.{Less, Equal, Greater}
 use Rattle.pep440_version.specs.declared.prerelease.PrereleaseKind.TheVariants.{Alpha, Beta, Rc}
-use Rattle.pep440_version.specs.Feed.{feed, feed_numbers, feed_stage, feed_post, feed_dev, feed_local, feed_segment, feed_kind, feed_prerelease, feed_pattern}
-use Rattle.pep440_version.specs.Key.{Key, key, key_cmp, record_cmp, Stage, Min, Dev, Pre, Final, PostPlace, NoPost, PostAt, PostTop, DevPlace, DevAt, NoDev, stage_cmp, stage_rank, stage_number, post_cmp, post_rank, post_number, dev_cmp, dev_rank, dev_number, segment_cmp, segment_rank, segment_text, segment_number, kind_rank, kind_cmp, prerelease_cmp, pattern_cmp, star_number}
+use Rattle.pep440_version.specs.Feed.{feed, feed_numbers, feed_stage, feed_post, feed_dev, feed_local, feed_segment, feed_kind, feed_prerelease}
+use Rattle.pep440_version.specs.Key.{Key, key, key_cmp, record_cmp, Stage, Min, Dev, Pre, Final, PostPlace, NoPost, PostAt, PostTop, DevPlace, DevAt, NoDev, stage_cmp, stage_rank, stage_number, post_cmp, post_rank, post_number, dev_cmp, dev_rank, dev_number, segment_cmp, segment_rank, segment_text, segment_number, kind_rank, kind_cmp, prerelease_cmp}
 use Rattle.pep440_version.specs.KeyLaws.{release_cmp-trim}
 use Rattle.pep440_version.specs.Record.{Record, Segment, Text, Number}
 use Rattle.pep440_version.specs.Segments.{segment}
@@ -152,10 +152,3 @@ prereleases_feed_alike x y e =
     let kind = same_kind x.kind y.kind (first _ _ t) in
     let number = same_number x.number y.number (second _ _ t) in
     λ i. feed_kind (kind i) ++ u64 (number i)
-
-pub patterns_feed_alike : (p q : Record × Bool) → eq_by_cmp pattern_cmp p q ≡ true → feed_pattern p ≡ feed_pattern q
-patterns_feed_alike p q e =
-    let same = (Equal-is (pattern_cmp p q)).0 e in
-    let version = feeds_alike p.0 q.0 ((Equal-is (record_cmp p.0 q.0)).1 (first _ _ same)) in
-    let star = same_number (star_number p.1) (star_number q.1) (second _ _ same) in
-    λ i. version i ++ u64 (star i)

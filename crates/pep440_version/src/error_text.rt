@@ -1,10 +1,11 @@
 //! The texts of the errors, the same whatever width and fill are asked for.
-ghost use Rattle.std.specs.Prelude.{◌≡◌, ◌++◌, true, Some, None, if◌then◌else◌};
+ghost use Rattle.std.specs.Prelude.{◌≡◌, ◌++◌, true, Some};
 ghost use Rattle.std.specs.Char.{is_ascii_digit};
 ghost use Rattle.std.specs.List.{list_all};
 ghost use Rattle.std.specs.Fmt.{WritesStyledOnOk, DisplaysStyledOnOk, decimal};
-ghost use Rattle.pep440_version.specs.ErrorTexts.{change_error_text, change_text, number_text, local_empty_text, end_text, kind_text_of, pattern_text_of};
-ghost use Rattle.pep440_version.specs.Errors.{kind_of, pattern_kind_of};
+ghost use Rattle.pep440_version.specs.ErrorTexts.{change_error_text, change_text, refusal_text, error_text, pattern_error_text};
+ghost use Rattle.pep440_version.specs.Errors.{refusal_of, error_refusal, pattern_refusal_of, pattern_error_refusal};
+ghost use Rattle.pep440_version.specs.Refusals.{NumberTooBig, LocalEmpty, UnexpectedEnd};
 
 use crate::change::ChangeError;
 use crate::error::{ErrorKind, PatternErrorKind, VersionParseError, VersionPatternParseError};
@@ -48,7 +49,7 @@ fn digits_text(bytes: &[u8]) -> &str
 }
 
 fn write_too_big<W: fmt::Write>(f: &mut fmt::Formatter<W>, bytes: &[u8]) -> fmt::Result
-    ensures { DisplaysStyledOnOk W.write_str_gives f.old result (if list_all is_ascii_digit bytes.now then Some (number_text bytes.now) else None) f.new }
+    ensures { DisplaysStyledOnOk W.write_str_gives f.old result (error_text (Some (NumberTooBig bytes.now))) f.new }
 {
     write_three(
         f,
@@ -59,7 +60,7 @@ fn write_too_big<W: fmt::Write>(f: &mut fmt::Formatter<W>, bytes: &[u8]) -> fmt:
 }
 
 fn write_local_empty<W: fmt::Write>(f: &mut fmt::Formatter<W>, precursor: char) -> fmt::Result
-    ensures { WritesStyledOnOk W.write_str_gives f.old result (local_empty_text precursor) f.new }
+    ensures { WritesStyledOnOk W.write_str_gives f.old result (refusal_text (LocalEmpty precursor)) f.new }
 {
     let mut bytes = [0u8; 4];
     let found: &str = precursor.encode_utf8(&mut bytes);
@@ -78,7 +79,7 @@ fn write_end<W: fmt::Write>(
     version: &str,
     remaining: &str,
 ) -> fmt::Result
-    ensures { WritesStyledOnOk W.write_str_gives f.old result (end_text version.now remaining.now) f.new }
+    ensures { WritesStyledOnOk W.write_str_gives f.old result (refusal_text (UnexpectedEnd version.now remaining.now)) f.new }
 {
     write_five(
         f,
@@ -92,7 +93,7 @@ fn write_end<W: fmt::Write>(
 
 // The text of a refusal.
 fn write_kind<W: fmt::Write>(f: &mut fmt::Formatter<W>, kind: &ErrorKind) -> fmt::Result
-    ensures { DisplaysStyledOnOk W.write_str_gives f.old result (kind_text_of kind.now) f.new }
+    ensures { DisplaysStyledOnOk W.write_str_gives f.old result (error_text (refusal_of kind.now)) f.new }
 {
     match kind {
         ErrorKind::Wildcard => f.write_str("wildcards are not allowed in a version"),
@@ -117,7 +118,7 @@ fn write_pattern_kind<W: fmt::Write>(
     f: &mut fmt::Formatter<W>,
     kind: &PatternErrorKind,
 ) -> fmt::Result
-    ensures { DisplaysStyledOnOk W.write_str_gives f.old result (pattern_text_of kind.now) f.new }
+    ensures { DisplaysStyledOnOk W.write_str_gives f.old result (pattern_error_text (pattern_refusal_of kind.now)) f.new }
 {
     match kind {
         PatternErrorKind::Version(error) => write_kind(f, error.kind()),
@@ -128,9 +129,9 @@ fn write_pattern_kind<W: fmt::Write>(
 }
 
 impl fmt::Display for VersionParseError {
-    ghost output = { λ e. kind_text_of (kind_of e) };
+    ghost output = { λ e. error_text (error_refusal e) };
 
-    ghost styled_output = { λ e _. kind_text_of (kind_of e) };
+    ghost styled_output = { λ e _. error_text (error_refusal e) };
 
     fn fmt<W: fmt::Write>(&self, f: &mut fmt::Formatter<W>) -> fmt::Result {
         write_kind(f, self.kind())
@@ -140,9 +141,9 @@ impl fmt::Display for VersionParseError {
 impl Error for VersionParseError {}
 
 impl fmt::Display for VersionPatternParseError {
-    ghost output = { λ e. pattern_text_of (pattern_kind_of e) };
+    ghost output = { λ e. pattern_error_text (pattern_error_refusal e) };
 
-    ghost styled_output = { λ e _. pattern_text_of (pattern_kind_of e) };
+    ghost styled_output = { λ e _. pattern_error_text (pattern_error_refusal e) };
 
     fn fmt<W: fmt::Write>(&self, f: &mut fmt::Formatter<W>) -> fmt::Result {
         write_pattern_kind(f, self.kind())

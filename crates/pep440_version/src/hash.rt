@@ -2,13 +2,12 @@
 ghost use Rattle.std.specs.Prelude.{◌≡◌, length, take, map};
 ghost use Rattle.std.specs.Hash as fed;
 ghost use Rattle.std.specs.List.{flat_map, fold};
-ghost use Rattle.pep440_version.specs.Feed.{feed, feed_kind, feed_prerelease, feed_numbers, feed_stage, feed_post, feed_dev, feed_segment, feed_local, feed_pattern};
+ghost use Rattle.pep440_version.specs.Feed.{feed, feed_kind, feed_prerelease, feed_numbers, feed_stage, feed_post, feed_dev, feed_segment, feed_local};
 ghost use Rattle.pep440_version.specs.Key.{key};
 ghost use Rattle.pep440_version.specs.Segments.{segment};
-ghost use Rattle.pep440_version.specs.Ties.{feeds_alike, segments_feed_alike, kinds_feed_alike, prereleases_feed_alike, patterns_feed_alike};
+ghost use Rattle.pep440_version.specs.Ties.{feeds_alike, segments_feed_alike, kinds_feed_alike, prereleases_feed_alike};
 ghost use Rattle.pep440_version.specs.Trim.{trim};
 
-use crate::pattern::VersionPattern;
 use crate::prerelease::{Prerelease, PrereleaseKind};
 use crate::segment::LocalSegment;
 use crate::version::Version;
@@ -153,16 +152,5 @@ impl Hash for Version {
         hash_post(self, state);
         hash_dev(self, state);
         hash_local(self.local(), state);
-    }
-}
-
-impl Hash for VersionPattern {
-    ghost hash_input = { feed_pattern };
-
-    ghost respects_eq = { patterns_feed_alike };
-
-    fn hash<H: Hasher>(&self, state: &mut H) {
-        self.version().hash(state);
-        state.write_u64(if self.is_wildcard() { 1 } else { 0 });
     }
 }

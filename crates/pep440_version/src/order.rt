@@ -1,12 +1,11 @@
 //! The order of versions: their keys, part by part (PEP 440, "Summary of permitted suffixes and relative ordering").
 ghost use Rattle.std.specs.Prelude.{◌≡◌, [], refl, length, drop, map};
-ghost use Rattle.pep440_version.specs.Key.{base_cmp, suffix_cmp, key, post_rank, post_number, dev_rank, dev_number, stage_rank, stage_number, release_cmp, local_cmp, record_cmp, pattern_cmp};
-ghost use Rattle.pep440_version.specs.KeyLaws.{pattern_equiv, record_equiv, record_po, record_total};
+ghost use Rattle.pep440_version.specs.Key.{base_cmp, suffix_cmp, key, post_rank, post_number, dev_rank, dev_number, stage_rank, stage_number, release_cmp, local_cmp, record_cmp};
+ghost use Rattle.pep440_version.specs.KeyLaws.{record_equiv, record_po, record_total};
 ghost use Rattle.pep440_version.specs.Segments.{segment};
 ghost use Rattle.std.specs.Cmp.{partial_equiv_from_equiv};
 ghost use Rattle.std.specs.Ordering.{as_partial_cmp, eq_by_cmp};
 
-use crate::pattern::VersionPattern;
 use crate::prerelease::PrereleaseKind;
 use crate::segment::LocalSegment;
 use crate::version::Version;
@@ -183,18 +182,4 @@ fn cmp_locals(a: &[LocalSegment], b: &[LocalSegment]) -> Ordering
     ensures { result ≡ local_cmp (map segment a.now) (map segment b.now) }
 {
     a.cmp(b)
-}
-
-impl PartialEq for VersionPattern {
-    ghost eq = { eq_by_cmp pattern_cmp };
-
-    ghost laws = { partial_equiv_from_equiv pattern_equiv };
-
-    fn eq(&self, other: &VersionPattern) -> bool {
-        self.version() == other.version() && self.is_wildcard() == other.is_wildcard()
-    }
-}
-
-impl Eq for VersionPattern {
-    ghost laws = { pattern_equiv };
 }

@@ -2,7 +2,7 @@
 ghost use Rattle.std.specs.Prelude.{◌≡◌, ◌<◌, ◌||◌, ◌↔◌, [], ◌∷◌, length, Some, None, IfOk, IsOk, IsTrue, map, is_some, is_none, if◌then◌else◌, true, false};
 ghost use Rattle.std.specs.List.{All};
 ghost use Rattle.pep440_version.specs.Form.{full_record};
-ghost use Rattle.pep440_version.specs.Record.{of_parts, of_release, least_record, IsRecord, SegmentFits};
+ghost use Rattle.pep440_version.specs.Record.{of_parts, of_release, zero_alpha_dev, IsRecord, SegmentFits};
 ghost use Rattle.pep440_version.specs.Segments.{segment};
 ghost use Rattle.pep440_version.specs.Word.{is_packed, word};
 ghost use Rattle.std.specs.Option.{option_copied};
@@ -72,7 +72,7 @@ pub(crate) fn known_segments(segments: &[LocalSegment])
 ///
 /// Takes memory.
 pub fn min_version(alloc: Global) -> Result<Version, AllocError>
-    ensures { IfOk result (λ v. v ≡ least_record) }
+    ensures { IfOk result (λ v. v ≡ zero_alpha_dev) }
 {
     let pre = Prerelease {
         kind: PrereleaseKind::Alpha,

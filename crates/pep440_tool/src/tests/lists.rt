@@ -83,7 +83,7 @@ fn ranges(rt: HostRuntime) -> Result<(), Fail> {
         ("range|>1.0", "(1.0~max0, *)\n", 0),
         ("range|<0", "(*, 0~min0)\n", 0),
         ("range|<1.0a1", "(*, 1.0a1)\n", 0),
-        ("range|>1.0.post1", "[1.0.post2, *)\n", 0),
+        ("range|>1.0.post1", "[1.0.post2.dev0, *)\n", 0),
         ("range|~=1!2.2", "[1!2.2, 1!3.dev0)\n", 0),
         ("range|===1.0", "[1.0, 1.0]\n", 0),
         ("range|>=1.0,<1.0", "empty\n", 0),
