@@ -5,7 +5,7 @@ use Rattle.std.specs.List.{flat_map}
 use Rattle.pep440_version.specs.declared.prerelease.PrereleaseKind.{PrereleaseKind}
 use Rattle.pep440_version.specs.declared.prerelease.PrereleaseKind.TheVariants.{Alpha, Beta, Rc}
 use Rattle.pep440_version.specs.declared.prerelease.Prerelease.{Prerelease}
-use Rattle.pep440_version.specs.Key.{Key, key, Stage, Min, Dev, Pre, Final, stage_rank, PostPlace, NoPost, PostAt, PostTop, DevPlace, DevAt, NoDev}
+use Rattle.pep440_version.specs.Key.{Key, key, Stage, Min, Dev, Pre, Final, stage_place, PostPlace, NoPost, PostAt, PostTop, DevPlace, DevAt, NoDev}
 use Rattle.pep440_version.specs.Record.{Record, Segment, Text, Number}
 use Rattle.pep440_version.specs.Trim.{trim}
 
@@ -13,7 +13,7 @@ use Rattle.pep440_version.specs.Trim.{trim}
 abbrev pub feed_stage : Stage → HashWrites
 feed_stage Min = u64 0
 feed_stage Dev = u64 1
-feed_stage (Pre k n) = u64 (stage_rank (Pre k n)) ++ u64 n
+feed_stage (Pre k n) = u64 (stage_place (Pre k n)).0 ++ u64 n
 feed_stage Final = u64 5
 
 -- 0, or 1 and the number, or 2 and the number of the mark
