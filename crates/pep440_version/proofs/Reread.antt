@@ -3,6 +3,7 @@ use Rattle.std.proofs.Common.{◌≡◌, ◌<◌, ◌^◌, ◌==◌, ℕ, suc, z
 use Rattle.std.proofs.lemmas.Bool.{cases_Bool}
 use Rattle.std.proofs.lemmas.Bool.Decides.{nat_tests}
 use Rattle.std.proofs.lemmas.List.{append-nil, length-map}
+use Rattle.std.proofs.lemmas.List.Elements.{All-from_get_or}
 use Rattle.std.proofs.lemmas.Fmt.{digits_decimal, digits_value-decimal, decimal_nonempty}
 use Rattle.std.specs.Char.{is_ascii_digit, is_ascii_alphanumeric, to_ascii_lowercase}
 use Rattle.std.specs.Fmt.{decimal}
@@ -20,6 +21,12 @@ use Rattle.pep440_version.proofs.Values.{digits_model}
 
 decimal_number : (n : ℕ) → Fits n → IsNumber (decimal n) n
 decimal_number n fits = (decimal_nonempty n fits, digits_decimal digits_model n fits, digits_value-decimal digits_model n fits, fits)
+
+-- each number of a list whose numbers fit, and 0 past its end
+pub fits_at : (ns : List ℕ) → All Fits ns → (i : ℕ) → Fits (get_or ns i 0)
+fits_at [] h i = omega arith
+fits_at (n ∷ ns) h zero = h 0 0 (omega arith)
+fits_at (n ∷ ns) h (suc i) = fits_at ns (λ k d lt. h (suc k) d (omega (arith, lt))) i
 
 release_reads : (n : ℕ) (ns : List ℕ) → ((i : ℕ) → Fits (get_or (n ∷ ns) i 0)) → IsRelease (dotted decimal (n ∷ ns)) (n ∷ ns)
 release_reads n [] fits = subst (λ t. IsNumber t n) (sym (append-nil (decimal n))) (decimal_number n (fits 0))
@@ -165,7 +172,7 @@ reread r h again =
       blanks = refl;
       letter = inl refl;
       epoch = epoch_reads r.epoch h.epoch;
-      release = numbers_read r.release h.some h.release;
+      release = numbers_read r.release h.some (fits_at r.release h.release);
       pre = pre_reads r.pre (q ++ (d ++ l)) h.pre stop_pre;
       post = post_reads r.post (d ++ l) h.post stop_post;
       dev = dev_reads r.dev l h.dev stop_dev;
@@ -259,7 +266,7 @@ pub derived_record : (text : List ℕ) (r : Record) → Derives text r → IsRec
 derived_record text r h = record {
   epoch = epoch_fits h.e r.epoch h.epoch;
   some = release_some h.n r.release h.release;
-  release = release_fits h.n r.release h.release;
+  release = All-from_get_or Fits r.release 0 (λ i lt. release_fits h.n r.release h.release i);
   pre = pre_fits h.p _ r.pre h.pre;
   post = post_fits h.q _ r.post h.post;
   dev = dev_fits h.d _ r.dev h.dev;

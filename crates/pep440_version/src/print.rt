@@ -82,7 +82,7 @@ fn write_epoch<W: fmt::Write>(f: &mut fmt::Formatter<W>, epoch: u64) -> fmt::Res
     f.write_str("!")
 }
 
-fn write_kind<W: fmt::Write>(f: &mut fmt::Formatter<W>, kind: PrereleaseKind) -> fmt::Result
+fn write_prerelease_kind<W: fmt::Write>(f: &mut fmt::Formatter<W>, kind: PrereleaseKind) -> fmt::Result
     ensures { WritesStyledOnOk W.write_str_gives f.old result (prerelease_kind_text kind) f.new }
 {
     f.write_str(match kind {
@@ -96,7 +96,7 @@ fn write_kind<W: fmt::Write>(f: &mut fmt::Formatter<W>, kind: PrereleaseKind) ->
 fn write_prerelease<W: fmt::Write>(f: &mut fmt::Formatter<W>, pre: Prerelease) -> fmt::Result
     ensures { WritesStyledOnOk W.write_str_gives f.old result (prerelease_text pre) f.new }
 {
-    write_kind(f, pre.kind)?;
+    write_prerelease_kind(f, pre.kind)?;
     write_number(f, pre.number)
 }
 
@@ -186,7 +186,7 @@ impl fmt::Display for PrereleaseKind {
     ghost styled_output = { λ k _. Some (prerelease_kind_text k) };
 
     fn fmt<W: fmt::Write>(&self, f: &mut fmt::Formatter<W>) -> fmt::Result {
-        write_kind(f, *self)
+        write_prerelease_kind(f, *self)
     }
 }
 
