@@ -13,9 +13,9 @@ use Rattle.pep440_version.specs.Reread.{Rereads, SegmentRereads, is_lower}
 use Rattle.pep440_version.specs.declared.prerelease.Prerelease.{Prerelease}
 use Rattle.pep440_version.specs.declared.prerelease.PrereleaseKind.{PrereleaseKind}
 use Rattle.pep440_version.specs.declared.prerelease.PrereleaseKind.TheVariants.{Alpha, Beta, Rc}
-use Rattle.pep440_version.proofs.Texts.{both_first}
-use Rattle.pep440_version.proofs.Values.{digits_model}
-use Rattle.pep440_version.proofs.Reread.{fits_at}
+use Rattle.pep440_version.proofs.Reading.Fronts.{both_first}
+use Rattle.pep440_version.proofs.Reading.Digits.{digits_model}
+use Rattle.pep440_version.proofs.Reread.PrintIsRead.{fits_at}
 use Rattle.pep440_rs.specs.SpecifierGrammar.{is_operator_char}
 use Rattle.pep440_rs.proofs.Plain.{all_joined, all_weaker, is_shown}
 

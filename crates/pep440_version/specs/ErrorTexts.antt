@@ -1,5 +1,5 @@
 -- The texts of the errors. Of a number that is not written in ASCII digits nothing is said; no reader answers one.
-use Rattle.std.specs.Prelude.{ℕ, List, ◌++◌, Bool, true, Option, Some, None, codes, if◌then◌else◌, decimal}
+use Rattle.std.specs.Prelude.{ℕ, List, ◌++◌, Option, Some, None, codes, if◌then◌else◌, decimal}
 use Rattle.std.specs.Char.{is_ascii_digit, encode_utf8}
 use Rattle.std.specs.List.{list_all}
 use Rattle.pep440_version.specs.declared.change.ChangeError.{ChangeError}

@@ -1,5 +1,5 @@
 -- The order of keys is total. Releases compare as what is left of them without the zeros at their end.
-use Rattle.std.proofs.Common.{◌≡◌, Bool, ℕ, zero, suc, if◌then◌else◌, List, [], ◌∷◌, refl, sym, ap, ◌∙◌, subst}
+use Rattle.std.proofs.Common.{◌≡◌, ℕ, zero, suc, if◌then◌else◌, List, [], ◌∷◌, refl, sym, ap, ◌∙◌, subst}
 use Rattle.std.proofs.Math.Dec.{eqb-suc-zero}
 use Rattle.std.proofs.Math.Nat.{zero-lt-suc}
 use Rattle.std.specs.declared.cmp.Ordering.TheVariants.{Less, Equal, Greater}
@@ -7,7 +7,6 @@ use Rattle.std.specs.Ordering.{nat_cmp, on, ordering_then, eq_by_cmp, as_partial
 use Rattle.std.specs.Cmp.{IsPartialOrder, po, IsTotalOrder, IsEquivalence, eq_by_cmp_equiv, nat_cmp_total, nat_cmp_is, on_total, then_total}
 use Rattle.std.specs.Cmp.Lexicographic.{lists_total, nat_list_cmp_total, slice_cmp}
 use Rattle.pep440_version.specs.Key.{Key, key, key_cmp, record_cmp, release_cmp, stage_rank, stage_number, post_rank, post_number, dev_rank, dev_number, segment_cmp, segment_rank, segment_text, segment_number, kind_rank, kind_cmp, prerelease_cmp}
-use Rattle.pep440_version.specs.Record.{Record}
 use Rattle.pep440_version.specs.Segments.{segment}
 use Rattle.pep440_version.specs.Trim.{trim, before_trimmed}
 use Rattle.pep440_version.specs.declared.prerelease.Prerelease.{Prerelease}

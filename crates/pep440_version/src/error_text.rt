@@ -13,7 +13,7 @@ use crate::print::write_number;
 use std::error::Error;
 use std::fmt;
 
-#[tactic(auto, using(crate::proofs::Printing::two_writes))]
+#[tactic(auto, using(crate::proofs::Reread::Writing::two_writes))]
 fn write_three<W: fmt::Write>(f: &mut fmt::Formatter<W>, a: &str, b: &str, c: &str) -> fmt::Result
     ensures { WritesStyledOnOk W.write_str_gives f.old result (a.now ++ (b.now ++ c.now)) f.new }
 {
@@ -22,7 +22,7 @@ fn write_three<W: fmt::Write>(f: &mut fmt::Formatter<W>, a: &str, b: &str, c: &s
     f.write_str(c)
 }
 
-#[tactic(auto, using(crate::proofs::Printing::two_writes))]
+#[tactic(auto, using(crate::proofs::Reread::Writing::two_writes))]
 fn write_five<W: fmt::Write>(
     f: &mut fmt::Formatter<W>,
     a: &str,
@@ -153,7 +153,7 @@ impl fmt::Display for VersionPatternParseError {
 impl Error for VersionPatternParseError {}
 
 // The place of a change, and why it can't be made.
-#[tactic(auto, using(crate::proofs::Printing::two_writes))]
+#[tactic(auto, using(crate::proofs::Reread::Writing::two_writes))]
 fn write_change<W: fmt::Write>(f: &mut fmt::Formatter<W>, place: usize, why: &str) -> fmt::Result
     ensures { WritesStyledOnOk W.write_str_gives f.old result (codes "change " ++ (decimal place ++ why.now)) f.new }
 {

@@ -2,7 +2,7 @@ use Rattle.std.proofs.Common.{◌≡◌, ◌∙◌, sym, subst}
 use Rattle.std.specs.declared.cmp.Ordering.TheVariants.{Equal}
 use Rattle.pep440_version.specs.Feed.{feed}
 use Rattle.pep440_version.specs.Key.{record_cmp}
-use Rattle.pep440_version.proofs.Zeros.{zeros_tie}
+use Rattle.pep440_version.proofs.Ordering.ReleaseEnds.{zeros_tie}
 use Rattle.pep440_version.proofs.version.Version.with_release.Goals as goal
 
 pub returns-clause-zeros : goal.returns-clause-zeros

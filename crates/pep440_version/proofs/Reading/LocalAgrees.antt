@@ -8,8 +8,8 @@ use Rattle.pep440_version.specs.Grammar.{AreBlanks, is_blank, is_separator, segm
 use Rattle.pep440_version.specs.Locals.{first_byte, segments_at, local_at}
 use Rattle.pep440_version.specs.Reading.{lead, past}
 use Rattle.pep440_version.specs.Record.{Segment}
-use Rattle.pep440_version.proofs.Texts.{both_first, lead-run, past-run, lead-all}
-use Rattle.pep440_version.proofs.Found.{bind_ok, chosen, inside, split, drop_one, lead-some}
+use Rattle.pep440_version.proofs.Reading.Fronts.{both_first, lead-run, past-run, lead-all}
+use Rattle.pep440_version.proofs.Reading.ReadIsDerived.{bind_ok, chosen, inside, split, drop_one, lead-some}
 
 pub segments_cons : (first after : List ℕ) (b : ℕ) (s : Segment) (ss : List Segment) → IsSegment first s → is_separator b ≡ true → AreSegments after ss → AreSegments (first ++ (b ∷ after)) (s ∷ ss)
 segments_cons first after b s [] h sep more = absurd more

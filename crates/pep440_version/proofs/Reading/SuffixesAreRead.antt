@@ -4,8 +4,8 @@ use Rattle.std.specs.Char.{is_ascii_digit}
 use Rattle.pep440_version.specs.declared.prerelease.Prerelease.{Prerelease}
 use Rattle.pep440_version.specs.Grammar.{is_separator, pre_spellings, post_spellings, dev_spellings, IsPre, IsPost, IsDev, starts}
 use Rattle.pep440_version.specs.Suffixes.{is_bare_post, pre_at, post_at, dev_at}
-use Rattle.pep440_version.proofs.Only.{number_first, number_again}
-use Rattle.pep440_version.proofs.Spelling.{is_extension, is_letter, letters_pre, letters_post, letters_dev, suffix_again, absent_before, absent_spelled, spelled_pre, spelled_post, spelled_dev, post_no_pre, dev_no_pre, dev_no_post, not_bare, no_digit, post_extension, dev_extension, count_extension, absent_digits}
+use Rattle.pep440_version.proofs.Reading.DerivedIsRead.{number_first, number_again}
+use Rattle.pep440_version.proofs.Reading.SpelledIsRead.{is_extension, is_letter, letters_pre, letters_post, letters_dev, suffix_again, absent_before, absent_spelled, spelled_pre, spelled_post, spelled_dev, post_no_pre, dev_no_pre, dev_no_post, not_bare, no_digit, post_extension, dev_extension, count_extension, absent_digits}
 
 -- neither a separator, nor a letter, nor a digit
 pub record IsQuiet (t : List ℕ) : Type 0 where

@@ -8,7 +8,7 @@ use Rattle.std.specs.Str.Parse.{digits_value}
 use Rattle.pep440_version.specs.Grammar.{IsNumber, IsRelease, IsLeadingV, AreBlanks, is_blank, starts}
 use Rattle.pep440_version.specs.Reading.{◌>>=◌, lead, past, past_v, number_at, goes_on, release_at}
 use Rattle.pep440_version.specs.Refusals.{Refusal}
-use Rattle.pep440_version.proofs.Texts.{both_first, both_second, lead-all, past-stops}
+use Rattle.pep440_version.proofs.Reading.Fronts.{both_first, both_second, lead-all, past-stops}
 
 pub bind_ok : {A B : Type 0} (r : Result A Refusal) (f : A → Result B Refusal) (y : B) → (r >>= f) ≡ Ok y → (x : A) × (r ≡ Ok x) × (f x ≡ Ok y)
 bind_ok (Ok x) f y e = (x, refl, e)

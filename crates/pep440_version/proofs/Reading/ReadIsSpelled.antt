@@ -6,8 +6,8 @@ use Rattle.std.specs.Char.{is_ascii_digit, to_ascii_lowercase}
 use Rattle.pep440_version.specs.Grammar.{Spellings, IsSpelling, IsSpelled, IsSeparator, IsCount, is_separator, starts}
 use Rattle.pep440_version.specs.Reading.{starts_number}
 use Rattle.pep440_version.specs.Suffixes.{begins, spelled, past_separator, count_at, after_spelling, suffix_at}
-use Rattle.pep440_version.proofs.Texts.{both_first, both_second}
-use Rattle.pep440_version.proofs.Found.{bind_ok, chosen, inside, number_takes, number_stops}
+use Rattle.pep440_version.proofs.Reading.Fronts.{both_first, both_second}
+use Rattle.pep440_version.proofs.Reading.ReadIsDerived.{bind_ok, chosen, inside, number_takes, number_stops}
 
 begins_takes : (u t : List ℕ) → begins u t ≡ true → map to_ascii_lowercase (take (length u) t) ≡ u
 begins_takes [] t e = refl

@@ -9,11 +9,12 @@ use Rattle.pep440_version.specs.Reading.{Read, ◌>>=◌, lead, past}
 use Rattle.pep440_version.specs.Record.{Record}
 use Rattle.pep440_version.specs.Refusals.{Refusal, Wildcard, UnexpectedEnd, IsLongest}
 use Rattle.pep440_version.specs.Whole.{opening, parts_at, end_at, is_star, pattern_from, read_pattern, version_of, read_version, without_star}
-use Rattle.pep440_version.proofs.Texts.{both_first, both_second}
-use Rattle.pep440_version.proofs.Found.{inside, split, blank_end}
-use Rattle.pep440_version.proofs.Cutting.{past_cut, IsEnd, IsLater, end_of, later_end, past_one, opening_end, opening_cut, parts_end, parts_cut, end_long}
-use Rattle.pep440_version.proofs.Parts.{parts_take}
-use Rattle.pep440_version.proofs.Bridge.{opening_takes, derived, version_is, sure, only}
+use Rattle.pep440_version.proofs.Reading.Fronts.{both_first, both_second}
+use Rattle.pep440_version.proofs.Reading.ReadIsDerived.{inside, split, blank_end}
+use Rattle.pep440_version.proofs.Refusals.LongerTexts.{past_cut, IsEnd, IsLater, end_of, later_end, past_one}
+use Rattle.pep440_version.proofs.Refusals.LongerParts.{opening_end, opening_cut, parts_end, parts_cut, end_long}
+use Rattle.pep440_version.proofs.Reading.PartsAgree.{parts_take}
+use Rattle.pep440_version.proofs.Reading.Agreement.{opening_takes, derived, version_is, sure, only}
 
 -- where a text is refused
 pub record Stopped (text : List ℕ) (x : (ℕ × List ℕ) × List ℕ) (z : Record × List ℕ) : Type 0 where

@@ -7,9 +7,9 @@ use Rattle.pep440_version.specs.Grammar.{starts}
 use Rattle.pep440_version.specs.Reading.{Read, ◌>>=◌, starts_number, number_at, goes_on, release_at, more_at, release_from}
 use Rattle.pep440_version.specs.Refusals.{Refusal}
 use Rattle.pep440_version.specs.Whole.{release_after_first, front_at}
-use Rattle.pep440_version.proofs.Texts.{both_first, both_second}
-use Rattle.pep440_version.proofs.Found.{drop_one, number_takes}
-use Rattle.pep440_version.proofs.Loop.{with_front}
+use Rattle.pep440_version.proofs.Reading.Fronts.{both_first, both_second}
+use Rattle.pep440_version.proofs.Reading.ReadIsDerived.{drop_one, number_takes}
+use Rattle.pep440_version.proofs.Reading.NumbersInTurn.{with_front}
 
 -- what follows a dot is shorter
 shorter : (t after : List ℕ) (n : ℕ) → starts is_ascii_digit t ≡ true → number_at t ≡ Ok (n, after) → length after < length t

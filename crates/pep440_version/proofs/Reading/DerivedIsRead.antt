@@ -5,7 +5,7 @@ use Rattle.std.specs.Char.{is_ascii_digit}
 use Rattle.std.specs.List.{list_all}
 use Rattle.pep440_version.specs.Grammar.{IsNumber, IsRelease, IsLeadingV, AreBlanks, is_blank, starts}
 use Rattle.pep440_version.specs.Reading.{past, past_v, number_at, goes_on, release_at}
-use Rattle.pep440_version.proofs.Texts.{both_first, lead-run, past-run, digit_not_blank, digit_not_v, blank_not_digit, blank_not_dot, blank_not_bang}
+use Rattle.pep440_version.proofs.Reading.Fronts.{both_first, lead-run, past-run, digit_not_blank, digit_not_v, blank_not_digit, blank_not_dot, blank_not_bang}
 
 pub number_first : (ds rest : List ℕ) (n : ℕ) → IsNumber ds n → starts is_ascii_digit (ds ++ rest) ≡ true
 number_first [] rest n h = absurd (omega (arith, h.0))

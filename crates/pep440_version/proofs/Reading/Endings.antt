@@ -5,7 +5,7 @@ use Rattle.std.proofs.lemmas.Str.{IsCharBoundary-at_seam}
 use Rattle.std.specs.Str.{IsCharBoundary, IsUtf8}
 use Rattle.pep440_version.specs.Grammar.{IsRelease, is_blank}
 use Rattle.pep440_version.specs.Reading.{EndsWith, past, lead}
-use Rattle.pep440_version.proofs.Found.{split}
+use Rattle.pep440_version.proofs.Reading.ReadIsDerived.{split}
 
 pub ends_then : (a b c : List ℕ) → EndsWith a b → EndsWith b c → EndsWith a c
 ends_then a b c h g = (h.0 ++ g.0, h.1 ∙ ap (λ t. h.0 ++ t) g.1 ∙ sym (append_assoc h.0 g.0 c))

@@ -7,7 +7,7 @@ use Rattle.std.specs.Char.{is_ascii_digit, to_ascii_lowercase}
 use Rattle.pep440_version.specs.declared.prerelease.PrereleaseKind.{PrereleaseKind}
 use Rattle.pep440_version.specs.Grammar.{IsNumber, Spellings, IsSpelling, IsSpelled, IsSeparator, IsCount, is_separator, pre_spellings, post_spellings, dev_spellings, starts}
 use Rattle.pep440_version.specs.Suffixes.{begins, spelled, past_separator, count_at, suffix_at, is_bare_post}
-use Rattle.pep440_version.proofs.Only.{number_first, number_again}
+use Rattle.pep440_version.proofs.Reading.DerivedIsRead.{number_first, number_again}
 
 -- a word and its spelling look alike
 pub begins_lower : (v w u rest : List ℕ) → map to_ascii_lowercase w ≡ u → map to_ascii_lowercase u ≡ u → begins v (w ++ rest) ≡ begins v (u ++ rest)

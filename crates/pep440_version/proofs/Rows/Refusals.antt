@@ -4,8 +4,8 @@ use Rattle.pep440_version.specs.Locals.{segments_at}
 use Rattle.pep440_version.specs.Reading.{number_at, release_at}
 use Rattle.pep440_version.specs.Refusals.{Wildcard, NumberTooBig, NoLeadingNumber, NoLeadingReleaseNumber, LocalEmpty, UnexpectedEnd, WildcardNotTrailing, Refuses, RefusesPattern}
 use Rattle.pep440_version.specs.Whole.{front_at, parts_at}
-use Rattle.pep440_version.proofs.Sound.{sound}
-use Rattle.pep440_version.proofs.Exactly.{sound_pattern}
+use Rattle.pep440_version.proofs.Refusals.FaultsAreTold.{sound}
+use Rattle.pep440_version.proofs.Refusals.ExactlyOne.{sound_pattern}
 
 end_1 : Refuses (codes "1!2.x") (UnexpectedEnd (codes "1!2") (codes ".x"))
 unfolding number_at release_at segments_at front_at parts_at

@@ -10,15 +10,16 @@ use Rattle.pep440_version.specs.Reading.{past, past_v}
 use Rattle.pep440_version.specs.Record.{Record, Segment}
 use Rattle.pep440_version.specs.Refusals.{Refusal, Wildcard, NumberTooBig, NoLeadingNumber, NoLeadingReleaseNumber, LocalEmpty, UnexpectedEnd, Opens, RefusesFirst}
 use Rattle.pep440_version.specs.Whole.{opening, front_at, parts_at, is_star, pattern_from, version_of, read_version}
-use Rattle.pep440_version.proofs.Texts.{both_first, past-run, lead-run}
-use Rattle.pep440_version.proofs.Found.{inside}
-use Rattle.pep440_version.proofs.Only.{number_first, number_again}
-use Rattle.pep440_version.proofs.Tail.{IsQuiet, pre_again, post_again, dev_again}
-use Rattle.pep440_version.proofs.Follows.{Follows, follows_pre, follows_post, follows_dev, plus_no_letter}
-use Rattle.pep440_version.proofs.Bridge.{front_again, opening_again, only}
-use Rattle.pep440_version.proofs.Longest.{Whole, whole}
-use Rattle.pep440_version.proofs.Runs.{IsRun, run_starts, Twin, Stays, Stops, Fails, opening_twins, parts_twin, star_stays, ends_end, lacks_end}
-use Rattle.pep440_version.proofs.Segments.{segment_first, separator_no_alphanumeric}
+use Rattle.pep440_version.proofs.Reading.Fronts.{both_first, past-run, lead-run}
+use Rattle.pep440_version.proofs.Reading.ReadIsDerived.{inside}
+use Rattle.pep440_version.proofs.Reading.DerivedIsRead.{number_first, number_again}
+use Rattle.pep440_version.proofs.Reading.SuffixesAreRead.{IsQuiet, pre_again, post_again, dev_again}
+use Rattle.pep440_version.proofs.Reading.AfterRelease.{Follows, follows_pre, follows_post, follows_dev, plus_no_letter}
+use Rattle.pep440_version.proofs.Reading.Agreement.{front_again, opening_again, only}
+use Rattle.pep440_version.proofs.Refusals.LongestFront.{Whole, whole}
+use Rattle.pep440_version.proofs.Refusals.ZeroForDigits.{IsRun, run_starts, Twin, Stays, Stops, Fails, ends_end}
+use Rattle.pep440_version.proofs.Refusals.ZeroInParts.{opening_twins, parts_twin, star_stays, lacks_end}
+use Rattle.pep440_version.proofs.Reading.LocalAgrees.{segment_first, separator_no_alphanumeric}
 
 pub opens_again : (text rest : List ℕ) → Opens text rest → opening text ≡ front_at rest
 opens_again text rest (w1, v, cut, blanks, letter, stop, first) =
@@ -51,7 +52,7 @@ wildcard text (rest, (e, n, release, epoch, o, he, hn)) =
 
 no_blank_zero : (u : List ℕ) → AreBlanks (u ++ codes "0") → ⊥
 no_blank_zero [] h = cc h
-no_blank_zero (b ∷ u) h = no_blank_zero u (Rattle.pep440_version.proofs.Texts.both_second (is_blank b) _ h)
+no_blank_zero (b ∷ u) h = no_blank_zero u (Rattle.pep440_version.proofs.Reading.Fronts.both_second (is_blank b) _ h)
 
 pub too_big : (text digits : List ℕ) → RefusesFirst text (NumberTooBig digits) → read_version text ≡ Err (NumberTooBig digits)
 too_big text d (front, rest, r, cut, big, lacks, derived) =

@@ -8,12 +8,12 @@ use Rattle.pep440_version.specs.Reading.{starts_number, number_at}
 use Rattle.pep440_version.specs.Record.{Record, Segment}
 use Rattle.pep440_version.specs.Suffixes.{spelled, past_separator, after_spelling, count_at, suffix_at, number_of, prerelease_of, is_bare_post, pre_at, post_at, dev_at}
 use Rattle.pep440_version.specs.Whole.{parts_at}
-use Rattle.pep440_version.proofs.Texts.{both_first, both_second}
-use Rattle.pep440_version.proofs.Found.{bind_ok, chosen, inside, number_takes, drop_one}
-use Rattle.pep440_version.proofs.Taken.{suffix_takes}
-use Rattle.pep440_version.proofs.Tail.{pre_again, post_again, dev_again}
-use Rattle.pep440_version.proofs.Segments.{local_takes, local_again}
-use Rattle.pep440_version.proofs.Follows.{quiet_local}
+use Rattle.pep440_version.proofs.Reading.Fronts.{both_first, both_second}
+use Rattle.pep440_version.proofs.Reading.ReadIsDerived.{bind_ok, chosen, inside, number_takes, drop_one}
+use Rattle.pep440_version.proofs.Reading.ReadIsSpelled.{suffix_takes}
+use Rattle.pep440_version.proofs.Reading.SuffixesAreRead.{pre_again, post_again, dev_again}
+use Rattle.pep440_version.proofs.Reading.LocalAgrees.{local_takes, local_again}
+use Rattle.pep440_version.proofs.Reading.AfterRelease.{quiet_local}
 
 none_takes : {A : Type 0} (table : Spellings A) (t after : List ℕ) → suffix_at table t ≡ Ok (None, after) → t ≡ after
 none_takes {A} table t after e = by (spelled table (past_separator t)) e

@@ -13,10 +13,10 @@ use Rattle.pep440_version.specs.Record.{Record, IsRecord}
 use Rattle.pep440_version.specs.Refusals.{Refusal, Wildcard, NumberTooBig, NoLeadingNumber, NoLeadingReleaseNumber, LocalEmpty, UnexpectedEnd, PatternRefusal, OfVersion, WildcardNotTrailing, Refuses, RefusesPattern}
 use Rattle.pep440_version.specs.Reread.{Rereads}
 use Rattle.pep440_version.specs.Whole.{read_version, read_pattern, version_of}
-use Rattle.pep440_version.proofs.Bridge.{found, only, found_pattern, only_pattern}
-use Rattle.pep440_version.proofs.Exactly.{decides, decides_pattern, sound_pattern}
-use Rattle.pep440_version.proofs.Reread.{reread, derived_again}
-use Rattle.pep440_version.proofs.Sound.{sound}
+use Rattle.pep440_version.proofs.Reading.Agreement.{found, only, found_pattern, only_pattern}
+use Rattle.pep440_version.proofs.Refusals.ExactlyOne.{decides, decides_pattern, sound_pattern}
+use Rattle.pep440_version.proofs.Reread.PrintIsRead.{reread, derived_again}
+use Rattle.pep440_version.proofs.Refusals.FaultsAreTold.{sound}
 
 -- an answer of one reading is an answer of what it is equal to
 pub answers_of : (result : Result Record VersionParseError) (read out : Read Record) → read ≡ out → Answers error_refusal result read → Answers error_refusal result out

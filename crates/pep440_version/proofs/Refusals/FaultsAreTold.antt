@@ -9,16 +9,19 @@ use Rattle.pep440_version.specs.Reading.{Read, ◌>>=◌, lead, past, starts_num
 use Rattle.pep440_version.specs.Record.{Record}
 use Rattle.pep440_version.specs.Refusals.{Refusal, Wildcard, NumberTooBig, NoLeadingNumber, NoLeadingReleaseNumber, LocalEmpty, UnexpectedEnd, OfVersion, ends, Opens, IsBigRun, HasStar, RefusesFirst, Refuses}
 use Rattle.pep440_version.specs.Whole.{release_after, opening, front_at, parts_at, end_at, is_star, without_star, pattern_from, read_pattern, version_of, read_version}
-use Rattle.pep440_version.proofs.Texts.{both_first, both_second, past-stops, lead-all, digit_not_blank, digit_not_v}
-use Rattle.pep440_version.proofs.Found.{chosen, inside, split, drop_one, number_takes}
-use Rattle.pep440_version.proofs.Only.{number_first, number_again}
-use Rattle.pep440_version.proofs.Bridge.{front_takes, drop_two}
-use Rattle.pep440_version.proofs.Cutting.{Reader, IsEnd, IsLater, end_of, later_end, opening_end, opening_cut, number_end, end_long}
-use Rattle.pep440_version.proofs.Longest.{Fault, AtOpening, AtStar, AtParts, AtEnd, fails, fault, longest, front_derived, some_rest}
-use Rattle.pep440_version.proofs.Runs.{IsRun, run_starts, run_refused, Twin, Stays, Stops, Fails, opening_twins, ends_append, ends_last, starts_not, starts_stays, past_stays, v_stays, number_stays, all_release, fuel, release_one, front_zero, no_room, goes_short}
-use Rattle.pep440_version.proofs.Told.{Stop, StopLater, number_error, bind_err, PartsFault, parts_error, not_later}
-use Rattle.pep440_version.proofs.Lacking.{lacks_derived, lacks_front}
-use Rattle.pep440_version.proofs.Decided.{first_decides}
+use Rattle.pep440_version.proofs.Reading.Fronts.{both_first, both_second, past-stops, lead-all, digit_not_blank, digit_not_v}
+use Rattle.pep440_version.proofs.Reading.ReadIsDerived.{chosen, inside, split, drop_one, number_takes}
+use Rattle.pep440_version.proofs.Reading.DerivedIsRead.{number_first, number_again}
+use Rattle.pep440_version.proofs.Reading.Agreement.{front_takes, drop_two}
+use Rattle.pep440_version.proofs.Refusals.LongerTexts.{IsEnd, IsLater, end_of, number_end}
+use Rattle.pep440_version.proofs.Refusals.LongerParts.{opening_end, opening_cut, end_long}
+use Rattle.pep440_version.proofs.Refusals.LongestFront.{Fault, AtOpening, AtStar, AtParts, AtEnd, fails, fault, longest, front_derived, some_rest}
+use Rattle.pep440_version.proofs.Refusals.ZeroForDigits.{IsRun, run_starts, run_refused, Twin, Stays, Stops, Fails, ends_append, ends_last, starts_not, starts_stays, past_stays, number_stays}
+use Rattle.pep440_version.proofs.Refusals.ZeroInParts.{opening_twins, v_stays, all_release, fuel, release_one, front_zero, no_room, goes_short}
+use Rattle.pep440_version.proofs.Refusals.FaultsOfParts.{Stop, StopLater, number_error, bind_err}
+use Rattle.pep440_version.proofs.Refusals.FaultsOfLocals.{PartsFault, parts_error, not_later}
+use Rattle.pep440_version.proofs.Refusals.NoPlus.{lacks_derived, lacks_front}
+use Rattle.pep440_version.proofs.Refusals.LinesDecide.{first_decides}
 
 -- ---- the release
 
@@ -216,7 +219,7 @@ big_run front d after r e = (r.digits, r.big, e, r.stops)
 
 parts_nothing : (epoch : ℕ) (release : List ℕ) → (r : Record) × (parts_at epoch release [] ≡ Ok (r, [])) × (length r.local ≡ 0)
 unfolding parts_at
-parts_nothing epoch release = (Rattle.pep440_version.proofs.Cutting.record_of epoch release None None None [], refl, refl)
+parts_nothing epoch release = (Rattle.pep440_version.proofs.Refusals.LongerParts.record_of epoch release None None None [], refl, refl)
 
 -- a text that is read with `0` in place of a run
 told_run : (text : List ℕ) (f : Refusal) (d front after : List ℕ) (x : (ℕ × List ℕ) × List ℕ) (r : Record) → f ≡ NumberTooBig d → IsRun d after → text ≡ front ++ (d ++ after) → ends is_ascii_digit front ≡ false

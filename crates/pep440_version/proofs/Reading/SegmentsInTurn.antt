@@ -9,8 +9,8 @@ use Rattle.pep440_version.specs.Locals.{first_byte, segments_at}
 use Rattle.pep440_version.specs.Reading.{Read, ◌>>=◌, lead, past}
 use Rattle.pep440_version.specs.Record.{Segment}
 use Rattle.pep440_version.specs.Refusals.{LocalEmpty}
-use Rattle.pep440_version.proofs.Found.{lead-some}
-use Rattle.pep440_version.proofs.Taken.{some}
+use Rattle.pep440_version.proofs.Reading.ReadIsDerived.{lead-some}
+use Rattle.pep440_version.proofs.Reading.ReadIsSpelled.{some}
 
 -- what is read, after segments that were read before
 abbrev pub with_segments : List Segment → Read (List Segment × List ℕ) → Read (List Segment × List ℕ)

@@ -5,7 +5,7 @@ use Rattle.pep440_version.specs.Grammar.{Spellings, pre_spellings, post_spelling
 use Rattle.pep440_version.specs.Reading.{◌>>=◌}
 use Rattle.pep440_version.specs.Refusals.{Refusal}
 use Rattle.pep440_version.specs.Suffixes.{spelled, past_separator, count_at, after_spelling, suffix_at, pre_at, prerelease_of, number_of, spelled_post_at}
-use Rattle.pep440_version.proofs.Taken.{some}
+use Rattle.pep440_version.proofs.Reading.ReadIsSpelled.{some}
 
 suffix_ok : {A : Type 0} (table : Spellings A) (t after rest : List ℕ) (a : A) (n : ℕ) → option_map {U = A × List ℕ} (λ x. (x.0, drop x.1 (past_separator t))) (spelled table (past_separator t)) ≡ Some (a, after)
     → count_at (past_separator after) ≡ Ok (n, rest) → suffix_at table t ≡ Ok (Some (a, n), rest)

@@ -9,10 +9,10 @@ use Rattle.pep440_version.specs.Reading.{Read, ◌>>=◌}
 use Rattle.pep440_version.specs.Record.{Record}
 use Rattle.pep440_version.specs.Refusals.{Refusal, Wildcard, NumberTooBig, NoLeadingNumber, NoLeadingReleaseNumber, LocalEmpty, UnexpectedEnd, PatternRefusal, OfVersion, WildcardNotTrailing, HasStar, IsLongest, Refuses, RefusesPattern}
 use Rattle.pep440_version.specs.Whole.{opening, parts_at, end_at, is_star, without_star, pattern_from, read_pattern, version_of, read_version}
-use Rattle.pep440_version.proofs.Bridge.{only, found, front_again, only_pattern, found_pattern}
-use Rattle.pep440_version.proofs.Longest.{fails, some_rest}
-use Rattle.pep440_version.proofs.Decided.{first_decides, opens_again}
-use Rattle.pep440_version.proofs.Sound.{sound, told_star, no_wildcard}
+use Rattle.pep440_version.proofs.Reading.Agreement.{only, found, front_again, only_pattern, found_pattern}
+use Rattle.pep440_version.proofs.Refusals.LongestFront.{fails, some_rest}
+use Rattle.pep440_version.proofs.Refusals.LinesDecide.{first_decides, opens_again}
+use Rattle.pep440_version.proofs.Refusals.FaultsAreTold.{sound, told_star, no_wildcard}
 
 same_length : (a b c d : List ℕ) → a ++ b ≡ c ++ d → length a ≡ length c → a ≡ c
 same_length [] b [] d e l = refl

@@ -7,9 +7,10 @@ use Rattle.std.specs.List.{list_all}
 use Rattle.pep440_version.specs.declared.prerelease.Prerelease.{Prerelease}
 use Rattle.pep440_version.specs.Grammar.{IsLeadingV, IsNumber, IsEpoch, IsRelease, is_blank, Spellings, IsSpelled, IsSpelling, IsSeparator, IsCount, is_separator, Derives, IsPre, IsPost, IsDev, IsLocal}
 use Rattle.pep440_version.specs.Record.{Record, Segment}
-use Rattle.pep440_version.proofs.Texts.{both_first, both_second}
-use Rattle.pep440_version.proofs.Runs.{Lacks, AllLetters, all_letters, letters_of_pre, letters_of_post, letters_of_dev}
-use Rattle.pep440_version.proofs.Segments.{blank_not_plus}
+use Rattle.pep440_version.proofs.Reading.Fronts.{both_first, both_second}
+use Rattle.pep440_version.proofs.Refusals.ZeroForDigits.{AllLetters, all_letters, letters_of_pre, letters_of_post, letters_of_dev}
+use Rattle.pep440_version.proofs.Refusals.ZeroInParts.{Lacks}
+use Rattle.pep440_version.proofs.Reading.LocalAgrees.{blank_not_plus}
 
 lacks_cons : (b : ℕ) (t : List ℕ) → (b == 43) ≡ false → Lacks t → Lacks (b ∷ t)
 lacks_cons b t e h = rw e h

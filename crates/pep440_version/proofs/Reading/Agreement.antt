@@ -8,12 +8,12 @@ use Rattle.pep440_version.specs.Reading.{EndsWith, Read, lead, past, starts_numb
 use Rattle.pep440_version.specs.Record.{Record, epoch_and_release}
 use Rattle.pep440_version.specs.Refusals.{PatternRefusal, OfVersion, WildcardNotTrailing}
 use Rattle.pep440_version.specs.Whole.{release_after, front_at, opening, parts_at, end_at, closing, is_star, without_star, pattern_from, read_pattern, version_of, read_version}
-use Rattle.pep440_version.proofs.Texts.{both_first, both_second, past-run, lead-all}
-use Rattle.pep440_version.proofs.Found.{bind_ok, chosen, inside, split, number_takes, release_takes, drop_one, v_takes, blank_end}
-use Rattle.pep440_version.proofs.Only.{number_first, number_again, release_first, release_again, blanks_stop, v_again, v_not_blank}
-use Rattle.pep440_version.proofs.Ends.{some_numbers}
-use Rattle.pep440_version.proofs.Follows.{follows_local, follows_dev, follows_post, follows_pre}
-use Rattle.pep440_version.proofs.Parts.{Parts, of_parts, parts_take, parts_again}
+use Rattle.pep440_version.proofs.Reading.Fronts.{both_first, both_second, past-run, lead-all}
+use Rattle.pep440_version.proofs.Reading.ReadIsDerived.{bind_ok, chosen, inside, split, number_takes, release_takes, drop_one, v_takes, blank_end}
+use Rattle.pep440_version.proofs.Reading.DerivedIsRead.{number_first, number_again, release_first, release_again, blanks_stop, v_again, v_not_blank}
+use Rattle.pep440_version.proofs.Reading.Endings.{some_numbers}
+use Rattle.pep440_version.proofs.Reading.AfterRelease.{follows_local, follows_dev, follows_post, follows_pre}
+use Rattle.pep440_version.proofs.Reading.PartsAgree.{Parts, of_parts, parts_take, parts_again}
 
 after_takes : (epoch : ℕ) (t : List ℕ) (x : (ℕ × List ℕ) × List ℕ) → starts is_ascii_digit t ≡ true → release_after epoch t ≡ Ok x
     → (n : List ℕ) × IsRelease n x.0.1 × (epoch ≡ x.0.0) × (t ≡ n ++ x.1)

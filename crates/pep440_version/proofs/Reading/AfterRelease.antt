@@ -8,10 +8,10 @@ use Rattle.pep440_version.specs.Grammar.{AreBlanks, is_blank, Spellings, IsSpell
 use Rattle.pep440_version.specs.Reading.{goes_on}
 use Rattle.pep440_version.specs.Record.{Segment}
 use Rattle.pep440_version.specs.Whole.{is_star}
-use Rattle.pep440_version.proofs.Texts.{both_first, blank_not_digit, blank_not_dot, blank_not_bang}
-use Rattle.pep440_version.proofs.Spelling.{is_letter, is_extension, BeginWithLetters, letters_pre, letters_post, letters_dev, regroup, separator_no_digit, and_false}
-use Rattle.pep440_version.proofs.Tail.{IsQuiet}
-use Rattle.pep440_version.proofs.Segments.{blank_not_separator}
+use Rattle.pep440_version.proofs.Reading.Fronts.{both_first, blank_not_digit, blank_not_dot, blank_not_bang}
+use Rattle.pep440_version.proofs.Reading.SpelledIsRead.{is_letter, is_extension, BeginWithLetters, letters_pre, letters_post, letters_dev, regroup, separator_no_digit, and_false}
+use Rattle.pep440_version.proofs.Reading.SuffixesAreRead.{IsQuiet}
+use Rattle.pep440_version.proofs.Reading.LocalAgrees.{blank_not_separator}
 
 -- no digit, no dot before a digit or a star, no `!`
 pub record Follows (t : List ℕ) : Type 0 where
