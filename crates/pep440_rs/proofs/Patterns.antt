@@ -7,8 +7,8 @@ use Rattle.pep440_version.specs.Record.{Record}
 use Rattle.pep440_version.specs.Refusals.{PatternRefusal, RefusesPattern}
 use Rattle.pep440_version.specs.Whole.{read_pattern}
 use Rattle.pep440_version.specs.declared.error.VersionPatternParseError.{VersionPatternParseError}
-use Rattle.pep440_version.proofs.Bridge.{only_pattern}
-use Rattle.pep440_version.proofs.Exactly.{decides_pattern}
+use Rattle.pep440_version.proofs.Reading.Agreement.{only_pattern}
+use Rattle.pep440_version.proofs.Refusals.ExactlyOne.{decides_pattern}
 
 refused_reads : (text : List ℕ) (o : Option PatternRefusal) → IfSome o (RefusesPattern text) → IfSome o (λ f. read_pattern text ≡ Err f)
 refused_reads text None h = tt

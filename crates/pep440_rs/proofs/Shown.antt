@@ -13,8 +13,9 @@ use Rattle.pep440_version.specs.Reread.{Rereads, SegmentRereads, is_lower}
 use Rattle.pep440_version.specs.declared.prerelease.Prerelease.{Prerelease}
 use Rattle.pep440_version.specs.declared.prerelease.PrereleaseKind.{PrereleaseKind}
 use Rattle.pep440_version.specs.declared.prerelease.PrereleaseKind.TheVariants.{Alpha, Beta, Rc}
-use Rattle.pep440_version.proofs.Texts.{both_first}
-use Rattle.pep440_version.proofs.Values.{digits_model}
+use Rattle.pep440_version.proofs.Reading.Fronts.{both_first}
+use Rattle.pep440_version.proofs.Reading.Digits.{digits_model}
+use Rattle.pep440_version.proofs.Reread.PrintIsRead.{fits_at}
 use Rattle.pep440_rs.specs.SpecifierGrammar.{is_operator_char}
 use Rattle.pep440_rs.proofs.Plain.{all_joined, all_weaker, is_shown}
 
@@ -93,7 +94,7 @@ local_shown (s ∷ rest) fits h = all_joined is_shown (codes "+") (dotted segmen
 pub print_shown : (r : Record) → IsRecord r → Rereads r → list_all is_shown (print r) ≡ true
 print_shown r h again =
     all_joined is_shown (epoch_text r.epoch) _ (epoch_shown r.epoch h.epoch)
-    (all_joined is_shown (dotted decimal r.release) _ (dotted_shown decimal r.release (numbers_shown r.release h.release))
+    (all_joined is_shown (dotted decimal r.release) _ (dotted_shown decimal r.release (numbers_shown r.release (fits_at r.release h.release)))
     (all_joined is_shown (pre_text r.pre) _ (pre_shown r.pre h.pre)
     (all_joined is_shown (labelled (codes ".post") r.post) _ (marked_shown (codes ".post") refl r.post h.post)
     (all_joined is_shown (labelled (codes ".dev") r.dev) _ (marked_shown (codes ".dev") refl r.dev h.dev)
@@ -116,6 +117,6 @@ release_begins (n ∷ ns) some fits = begins_still is_ascii_digit (decimal n) _ 
 
 pub print_begins : (r : Record) → IsRecord r → starts is_ascii_digit (print r) ≡ true
 print_begins r h = elim (cases_Bool (r.epoch == 0)) [
-  | inl e ↦ rw e (begins_still is_ascii_digit (dotted decimal r.release) _ (release_begins r.release h.some h.release))
+  | inl e ↦ rw e (begins_still is_ascii_digit (dotted decimal r.release) _ (release_begins r.release h.some (fits_at r.release h.release)))
   | inr e ↦ rw e (begins_still is_ascii_digit (decimal r.epoch ++ codes "!") _ (begins_still is_ascii_digit (decimal r.epoch) (codes "!") (decimal_begins r.epoch h.epoch)))
 ]

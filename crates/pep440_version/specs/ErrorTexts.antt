@@ -1,5 +1,5 @@
 -- The texts of the errors. Of a number that is not written in ASCII digits nothing is said; no reader answers one.
-use Rattle.std.specs.Prelude.{ℕ, List, ◌++◌, Bool, true, Option, Some, None, codes, if◌then◌else◌, decimal}
+use Rattle.std.specs.Prelude.{ℕ, List, ◌++◌, Option, Some, None, codes, if◌then◌else◌, decimal}
 use Rattle.std.specs.Char.{is_ascii_digit, encode_utf8}
 use Rattle.std.specs.List.{list_all}
 use Rattle.pep440_version.specs.declared.change.ChangeError.{ChangeError}
@@ -16,15 +16,11 @@ refusal_text (LocalEmpty c) = codes "found a `" ++ (encode_utf8 c ++ (codes "` i
     ++ (encode_utf8 c ++ codes "`")))
 refusal_text (UnexpectedEnd version remaining) = codes "after parsing `" ++ (version ++ (codes "`, found `" ++ (remaining ++ codes "`, which is not part of a valid version")))
 
--- a refusal whose number, if it has one, is written in digits
-abbrev pub is_printable : Refusal → Bool
-is_printable (NumberTooBig digits) = list_all is_ascii_digit digits
-is_printable _ = true
-
--- the text of an error by its refusal; without one memory ran out
+-- the text of an error by its refusal; without one memory ran out, and of a number that is not digits nothing is said
 abbrev pub error_text : Option Refusal → Option (List ℕ)
 error_text None = Some (codes "out of memory")
-error_text (Some f) = if is_printable f then Some (refusal_text f) else None
+error_text (Some (NumberTooBig digits)) = if list_all is_ascii_digit digits then Some (refusal_text (NumberTooBig digits)) else None
+error_text (Some f) = Some (refusal_text f)
 
 abbrev pub pattern_refusal_text : PatternRefusal → List ℕ
 pattern_refusal_text (OfVersion f) = refusal_text f
@@ -37,11 +33,8 @@ pattern_error_text (Some (OfVersion f)) = error_text (Some f)
 pattern_error_text (Some WildcardNotTrailing) = Some (pattern_refusal_text WildcardNotTrailing)
 
 -- the place of a change, and why it can't be made
-abbrev pub change_text : ℕ → List ℕ → List ℕ
-change_text place why = codes "change " ++ (decimal place ++ why)
-
 abbrev pub change_error_text : ChangeError → List ℕ
-change_error_text (change.EmptyRelease place) = change_text place (codes ": a release needs at least one number")
-change_error_text (change.MinNotAllowed place) = change_text place (codes ": min is not allowed on pre-release or dev versions")
-change_error_text (change.MaxNotAllowed place) = change_text place (codes ": max is not allowed on post-release or dev versions")
+change_error_text (change.EmptyRelease place) = codes "change " ++ (decimal place ++ codes ": a release needs at least one number")
+change_error_text (change.MinNotAllowed place) = codes "change " ++ (decimal place ++ codes ": min is not allowed on pre-release or dev versions")
+change_error_text (change.MaxNotAllowed place) = codes "change " ++ (decimal place ++ codes ": max is not allowed on post-release or dev versions")
 change_error_text change.OutOfMemory = codes "out of memory"

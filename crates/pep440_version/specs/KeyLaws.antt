@@ -1,5 +1,5 @@
 -- The order of keys is total. Releases compare as what is left of them without the zeros at their end.
-use Rattle.std.proofs.Common.{◌≡◌, Bool, ℕ, zero, suc, if◌then◌else◌, List, [], ◌∷◌, refl, sym, ap, ◌∙◌, subst}
+use Rattle.std.proofs.Common.{◌≡◌, ℕ, zero, suc, if◌then◌else◌, List, [], ◌∷◌, refl, sym, ap, ◌∙◌, subst}
 use Rattle.std.proofs.Math.Dec.{eqb-suc-zero}
 use Rattle.std.proofs.Math.Nat.{zero-lt-suc}
 use Rattle.std.specs.declared.cmp.Ordering.{Ordering}

@@ -1,5 +1,5 @@
 -- Equality of patterns is an equivalence, and equal patterns feed a hasher alike.
-use Rattle.std.proofs.Common.{◌≡◌, ◌&&◌, Bool, true, false, ℕ, List, ◌++◌, refl, if◌then◌else◌}
+use Rattle.std.proofs.Common.{◌≡◌, ◌&&◌, Bool, true, false, ◌++◌, refl, if◌then◌else◌}
 use Rattle.std.specs.Cmp.{IsEquivalence, and_equiv, on_equiv, bool_eq_equiv, booleans_Decides}
 use Rattle.std.specs.Bool.{beq}
 use Rattle.std.specs.Hash.{u64}

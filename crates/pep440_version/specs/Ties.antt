@@ -1,6 +1,6 @@
 -- Records that tie have the same key, but for zeros at the end of the release; so they feed a hasher alike.
 use Rattle.std.specs.Hash.{u64}
-use Rattle.std.proofs.Common.{◌≡◌, ◌==◌, Bool, ℕ, List, ◌++◌, refl, sym, ap, ◌∙◌, true, cond}
+use Rattle.std.proofs.Common.{◌≡◌, ◌==◌, ℕ, List, ◌++◌, refl, sym, ap, ◌∙◌, true, cond}
 use Rattle.std.specs.Ordering.{nat_cmp, on, ordering_then, eq_by_cmp, is_eq}
 use Rattle.std.proofs.lemmas.Bool.{true≢false}
 use Rattle.std.specs.Cmp.{Equal-is}

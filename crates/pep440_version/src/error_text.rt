@@ -1,9 +1,9 @@
 //! The texts of the errors, the same whatever width and fill are asked for.
-ghost use Rattle.std.specs.Prelude.{◌≡◌, ◌++◌, true, Some};
+ghost use Rattle.std.specs.Prelude.{◌≡◌, ◌++◌, true, Some, codes};
 ghost use Rattle.std.specs.Char.{is_ascii_digit};
 ghost use Rattle.std.specs.List.{list_all};
 ghost use Rattle.std.specs.Fmt.{WritesStyledOnOk, DisplaysStyledOnOk, decimal};
-ghost use Rattle.pep440_version.specs.ErrorTexts.{change_error_text, change_text, refusal_text, error_text, pattern_error_text};
+ghost use Rattle.pep440_version.specs.ErrorTexts.{change_error_text, refusal_text, error_text, pattern_error_text};
 ghost use Rattle.pep440_version.specs.Errors.{refusal_of, error_refusal, pattern_refusal_of, pattern_error_refusal};
 ghost use Rattle.pep440_version.specs.Refusals.{NumberTooBig, LocalEmpty, UnexpectedEnd};
 
@@ -13,7 +13,7 @@ use crate::print::write_number;
 use std::error::Error;
 use std::fmt;
 
-#[tactic(auto, using(crate::proofs::Printing::two_writes))]
+#[tactic(auto, using(crate::proofs::Reread::Writing::two_writes))]
 fn write_three<W: fmt::Write>(f: &mut fmt::Formatter<W>, a: &str, b: &str, c: &str) -> fmt::Result
     ensures { WritesStyledOnOk W.write_str_gives f.old result (a.now ++ (b.now ++ c.now)) f.new }
 {
@@ -22,7 +22,7 @@ fn write_three<W: fmt::Write>(f: &mut fmt::Formatter<W>, a: &str, b: &str, c: &s
     f.write_str(c)
 }
 
-#[tactic(auto, using(crate::proofs::Printing::two_writes))]
+#[tactic(auto, using(crate::proofs::Reread::Writing::two_writes))]
 fn write_five<W: fmt::Write>(
     f: &mut fmt::Formatter<W>,
     a: &str,
@@ -91,8 +91,8 @@ fn write_end<W: fmt::Write>(
     )
 }
 
-// The text of a refusal.
-fn write_kind<W: fmt::Write>(f: &mut fmt::Formatter<W>, kind: &ErrorKind) -> fmt::Result
+// The text of a kind of error.
+fn write_error_kind<W: fmt::Write>(f: &mut fmt::Formatter<W>, kind: &ErrorKind) -> fmt::Result
     ensures { DisplaysStyledOnOk W.write_str_gives f.old result (error_text (refusal_of kind.now)) f.new }
 {
     match kind {
@@ -121,7 +121,7 @@ fn write_pattern_kind<W: fmt::Write>(
     ensures { DisplaysStyledOnOk W.write_str_gives f.old result (pattern_error_text (pattern_refusal_of kind.now)) f.new }
 {
     match kind {
-        PatternErrorKind::Version(error) => write_kind(f, error.kind()),
+        PatternErrorKind::Version(error) => write_error_kind(f, error.kind()),
         PatternErrorKind::WildcardNotTrailing => f.write_str(
             "wildcards in versions must be at the end",
         ),
@@ -134,7 +134,7 @@ impl fmt::Display for VersionParseError {
     ghost styled_output = { λ e _. error_text (error_refusal e) };
 
     fn fmt<W: fmt::Write>(&self, f: &mut fmt::Formatter<W>) -> fmt::Result {
-        write_kind(f, self.kind())
+        write_error_kind(f, self.kind())
     }
 }
 
@@ -152,26 +152,14 @@ impl fmt::Display for VersionPatternParseError {
 
 impl Error for VersionPatternParseError {}
 
-// A number between two texts.
-#[tactic(auto, using(crate::proofs::Printing::two_writes))]
-fn write_numbered<W: fmt::Write>(
-    f: &mut fmt::Formatter<W>,
-    before: &str,
-    number: usize,
-    after: &str,
-) -> fmt::Result
-    ensures { WritesStyledOnOk W.write_str_gives f.old result (before.now ++ (decimal number ++ after.now)) f.new }
-{
-    f.write_str(before)?;
-    write_number(f, number as u64)?;
-    f.write_str(after)
-}
-
 // The place of a change, and why it can't be made.
+#[tactic(auto, using(crate::proofs::Reread::Writing::two_writes))]
 fn write_change<W: fmt::Write>(f: &mut fmt::Formatter<W>, place: usize, why: &str) -> fmt::Result
-    ensures { WritesStyledOnOk W.write_str_gives f.old result (change_text place why.now) f.new }
+    ensures { WritesStyledOnOk W.write_str_gives f.old result (codes "change " ++ (decimal place ++ why.now)) f.new }
 {
-    write_numbered(f, "change ", place, why)
+    f.write_str("change ")?;
+    write_number(f, place as u64)?;
+    f.write_str(why)
 }
 
 fn write_change_error<W: fmt::Write>(f: &mut fmt::Formatter<W>, error: ChangeError) -> fmt::Result

@@ -40,7 +40,7 @@ fn write_digit<W: fmt::Write>(f: &mut fmt::Formatter<W>, n: u64) -> fmt::Result
 }
 
 // A label and a number.
-#[tactic(auto, using(crate::proofs::Printing::two_writes))]
+#[tactic(auto, using(crate::proofs::Reread::Writing::two_writes))]
 fn write_after_label<W: fmt::Write>(f: &mut fmt::Formatter<W>, label: &str, n: u64) -> fmt::Result
     ensures { WritesStyledOnOk W.write_str_gives f.old result (label.now ++ decimal n) f.new }
 {
@@ -71,7 +71,7 @@ fn write_release<W: fmt::Write>(f: &mut fmt::Formatter<W>, release: &[u64]) -> f
     }
 }
 
-#[tactic(auto, using(crate::proofs::Printing::two_writes))]
+#[tactic(auto, using(crate::proofs::Reread::Writing::two_writes))]
 fn write_epoch<W: fmt::Write>(f: &mut fmt::Formatter<W>, epoch: u64) -> fmt::Result
     ensures { WritesStyledOnOk W.write_str_gives f.old result (epoch_text epoch) f.new }
 {
@@ -82,7 +82,7 @@ fn write_epoch<W: fmt::Write>(f: &mut fmt::Formatter<W>, epoch: u64) -> fmt::Res
     f.write_str("!")
 }
 
-fn write_kind<W: fmt::Write>(f: &mut fmt::Formatter<W>, kind: PrereleaseKind) -> fmt::Result
+fn write_prerelease_kind<W: fmt::Write>(f: &mut fmt::Formatter<W>, kind: PrereleaseKind) -> fmt::Result
     ensures { WritesStyledOnOk W.write_str_gives f.old result (prerelease_kind_text kind) f.new }
 {
     f.write_str(match kind {
@@ -92,11 +92,11 @@ fn write_kind<W: fmt::Write>(f: &mut fmt::Formatter<W>, kind: PrereleaseKind) ->
     })
 }
 
-#[tactic(auto, using(crate::proofs::Printing::two_writes))]
+#[tactic(auto, using(crate::proofs::Reread::Writing::two_writes))]
 fn write_prerelease<W: fmt::Write>(f: &mut fmt::Formatter<W>, pre: Prerelease) -> fmt::Result
     ensures { WritesStyledOnOk W.write_str_gives f.old result (prerelease_text pre) f.new }
 {
-    write_kind(f, pre.kind)?;
+    write_prerelease_kind(f, pre.kind)?;
     write_number(f, pre.number)
 }
 
@@ -131,7 +131,7 @@ fn write_segment<W: fmt::Write>(f: &mut fmt::Formatter<W>, held: &LocalSegment) 
     }
 }
 
-#[tactic(auto, using(crate::proofs::Printing::two_writes))]
+#[tactic(auto, using(crate::proofs::Reread::Writing::two_writes))]
 fn write_segment_after<W: fmt::Write>(
     f: &mut fmt::Formatter<W>,
     label: &str,
@@ -186,7 +186,7 @@ impl fmt::Display for PrereleaseKind {
     ghost styled_output = { λ k _. Some (prerelease_kind_text k) };
 
     fn fmt<W: fmt::Write>(&self, f: &mut fmt::Formatter<W>) -> fmt::Result {
-        write_kind(f, *self)
+        write_prerelease_kind(f, *self)
     }
 }
 
@@ -221,7 +221,7 @@ impl fmt::Display for Version {
 }
 
 // The print and a quote.
-#[tactic(auto, using(crate::proofs::Printing::two_writes))]
+#[tactic(auto, using(crate::proofs::Reread::Writing::two_writes))]
 fn write_closed<W: fmt::Write>(f: &mut fmt::Formatter<W>, v: &Version) -> fmt::Result
     ensures { WritesStyledOnOk W.write_str_gives f.old result (print v.now ++ codes "\"") f.new }
 {
@@ -230,7 +230,7 @@ fn write_closed<W: fmt::Write>(f: &mut fmt::Formatter<W>, v: &Version) -> fmt::R
 }
 
 // The print in double quotes.
-#[tactic(auto, using(crate::proofs::Printing::two_writes))]
+#[tactic(auto, using(crate::proofs::Reread::Writing::two_writes))]
 fn write_quoted<W: fmt::Write>(f: &mut fmt::Formatter<W>, v: &Version) -> fmt::Result
     ensures { WritesStyledOnOk W.write_str_gives f.old result (quoted v.now) f.new }
 {

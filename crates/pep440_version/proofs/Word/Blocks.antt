@@ -8,7 +8,7 @@ use Rattle.std.proofs.lemmas.Bool.{cases_order}
 use Rattle.std.proofs.lemmas.Grind.{get_or_after_one}
 use Rattle.std.proofs.Math.Nat.{mul-le-mul_left, mul_comm}
 use Rattle.pep440_version.specs.Key.{release_cmp}
-use Rattle.pep440_version.proofs.Orders.{then_none}
+use Rattle.pep440_version.proofs.Ordering.Comparisons.{then_none}
 
 pub is_below : (a b : ℕ) → a < b → nat_cmp a b ≡ Less
 is_below a b h = sym (nat_cmp_is a b Less h)

@@ -4,7 +4,7 @@ use Rattle.std.specs.Ordering.{nat_cmp, ordering_then}
 use Rattle.pep440_version.specs.Key.{record_cmp, release_cmp}
 use Rattle.pep440_version.specs.Record.{Record}
 use Rattle.pep440_version.specs.Word.{is_packed, word_of, word}
-use Rattle.pep440_version.proofs.Orders.{then_assoc}
+use Rattle.pep440_version.proofs.Ordering.Comparisons.{then_assoc}
 use Rattle.pep440_version.proofs.Word.Blocks.{nat_cmp_block, release_four, four_cmp}
 use Rattle.pep440_version.proofs.Word.Packed.{IsShort, packed}
 use Rattle.pep440_version.proofs.Word.Suffixes.{Suffix, class_of, number_of, class_lt, record_of, places_cmp, suffixes_in_order}

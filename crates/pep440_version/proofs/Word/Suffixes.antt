@@ -5,7 +5,7 @@ use Rattle.std.specs.Ordering.{nat_cmp, ordering_then}
 use Rattle.pep440_version.specs.Form.{record_in}
 use Rattle.pep440_version.specs.Key.{key, stage_cmp, post_cmp, dev_cmp, local_cmp}
 use Rattle.pep440_version.specs.Record.{Record}
-use Rattle.pep440_version.proofs.Orders.{then_none}
+use Rattle.pep440_version.proofs.Ordering.Comparisons.{then_none}
 
 pub data Suffix : Type 0 where
   Min : ℕ → Suffix

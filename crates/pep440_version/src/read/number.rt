@@ -1,3 +1,4 @@
+//! The readers of numbers and releases.
 ghost use Rattle.std.specs.Prelude.{◌≡◌, ◌<◌, ◌==◌, true, length};
 ghost use Rattle.pep440_version.specs.Errors.{Gives};
 ghost use Rattle.pep440_version.specs.Grammar.{starts};

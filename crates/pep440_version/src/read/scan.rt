@@ -1,3 +1,4 @@
+//! Runs of bytes, and cuts of a text.
 ghost use Rattle.std.specs.Prelude.{◌≡◌, ◌<◌, ◌≤◌, ◌-◌, ◌^◌, ◌==◌, true, Some, None, length, option_map, nat_lt, take, drop, slice_index, if◌then◌else◌};
 ghost use Rattle.std.specs.Char.{is_ascii_digit, is_ascii_alphanumeric};
 ghost use Rattle.std.specs.List.{list_all, prefix_len};

@@ -1,7 +1,7 @@
 use Rattle.std.proofs.Common.{◌∙◌, ap, sym}
 use Rattle.std.specs.Ordering.{ordering_then}
 use Rattle.pep440_version.specs.Key.{local_cmp}
-use Rattle.pep440_version.proofs.Orders.{with_local}
+use Rattle.pep440_version.proofs.Ordering.Comparisons.{with_local}
 use Rattle.pep440_version.proofs.order.cmp_parts.Goals as goal
 
 pub returns-in-Equal : goal.returns-in-Equal

@@ -1,6 +1,6 @@
 use Rattle.std.proofs.Common.{◌≡◌, sym, Ok}
 use Rattle.pep440_version.specs.Whole.{opening}
-use Rattle.pep440_version.proofs.Bridge.{opening_ends, opening_some}
+use Rattle.pep440_version.proofs.Reading.Agreement.{opening_ends, opening_some}
 use Rattle.pep440_version.proofs.read.pattern.Goals as goal
 
 pub closing-requires-clause-some : goal.closing-requires-clause-some

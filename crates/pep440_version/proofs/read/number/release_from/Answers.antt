@@ -2,8 +2,8 @@ use Rattle.std.proofs.Common.{◌≡◌, ◌-◌, ◌+◌, ◌∙◌, ℕ, suc, 
 use Rattle.std.proofs.lemmas.Result.{err_from_is_err_and}
 use Rattle.pep440_version.specs.Errors.{refusal_of}
 use Rattle.pep440_version.specs.Reading.{number_at, release_from}
-use Rattle.pep440_version.proofs.Loop.{fault_on}
-use Rattle.pep440_version.proofs.Release.{more_on, more_err, more_shorter}
+use Rattle.pep440_version.proofs.Reading.NumbersInTurn.{fault_on}
+use Rattle.pep440_version.proofs.Reading.AfterFirstNumber.{more_on, more_err, more_shorter}
 use Rattle.pep440_version.proofs.read.number.release_from.Goals as goal
 
 pub returns-in_err-number : goal.returns-in_err-number

@@ -5,8 +5,8 @@ use Rattle.pep440_version.specs.Feed.{feed}
 use Rattle.pep440_version.specs.Form.{full_record}
 use Rattle.pep440_version.specs.Key.{record_cmp}
 use Rattle.pep440_version.specs.Record.{IsRecord, Record}
-use Rattle.pep440_version.proofs.Fitting.{fits_release}
-use Rattle.pep440_version.proofs.Zeros.{zeros_tie}
+use Rattle.pep440_version.proofs.Meaning.NumbersFit.{fits_release}
+use Rattle.pep440_version.proofs.Ordering.ReleaseEnds.{zeros_tie}
 use Rattle.pep440_version.proofs.version.Version.with_release.Goals as goal
 
 pub returns-clause-zeros : goal.returns-clause-zeros
