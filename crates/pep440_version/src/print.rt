@@ -82,7 +82,10 @@ fn write_epoch<W: fmt::Write>(f: &mut fmt::Formatter<W>, epoch: u64) -> fmt::Res
     f.write_str("!")
 }
 
-fn write_prerelease_kind<W: fmt::Write>(f: &mut fmt::Formatter<W>, kind: PrereleaseKind) -> fmt::Result
+fn write_prerelease_kind<W: fmt::Write>(
+    f: &mut fmt::Formatter<W>,
+    kind: PrereleaseKind,
+) -> fmt::Result
     ensures { WritesStyledOnOk W.write_str_gives f.old result (prerelease_kind_text kind) f.new }
 {
     f.write_str(match kind {
