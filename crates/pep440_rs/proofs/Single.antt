@@ -1,6 +1,5 @@
 -- The range of each specifier agrees with matching.
-use Rattle.std.proofs.Common.{◌≡◌, ℕ, Bool, true, false, cond, not, ◌&&◌, ◌||◌, IsTrue, Option, Some, None, is_some, refl, sym, ap, ◌∙◌, subst}
-use mathlib.Core.Bool.{true≢false}
+use Rattle.std.proofs.Common.{◌≡◌, ◌≢◌, Bool, true, false, cond, not, ◌&&◌, ◌||◌, IsTrue, Some, refl, sym, ap, ◌∙◌, subst}
 use Rattle.std.specs.Ordering.{ordering_reverse, is_lt, is_le, is_eq}
 use Rattle.std.specs.declared.cmp.Ordering.{Ordering}
 use Rattle.std.specs.declared.cmp.Ordering.TheVariants as ord
@@ -9,9 +8,10 @@ use Rattle.pep440_rs.proofs.Less.{less_agrees, less_within}
 use Rattle.pep440_rs.proofs.VersionOrder.{plain, is_plain, turn_le, ge_not_lt, only_start, only_end}
 use Rattle.pep440_rs.proofs.Prefix.{some_is}
 use Rattle.pep440_rs.proofs.Star.{star_agrees, not_star_agrees, tilde_agrees}
-use Rattle.pep440_rs.specs.Agreement.{IsPlain, IsOperand, IsSuffixComparable, Agrees, HoldsOnlyMatches, HoldsAllMatches}
+use Rattle.pep440_rs.specs.Agreement.{HasOperand, IsPlain, IsOperand, IsSuffixComparable, Agrees, HoldsOnlyMatches, HoldsAllMatches}
 use Rattle.pep440_rs.specs.Bounds.{Segments, range_of, alone, greater}
 use Rattle.pep440_rs.specs.Matching.{matches, candidate, has_local}
+use Rattle.pep440_rs.specs.Specifiers.{Spec}
 use Rattle.pep440_rs.specs.declared.operator.Operator.{Operator}
 use Rattle.pep440_rs.specs.declared.operator.Operator.TheVariants.{Equal, EqualStar, ExactEqual, NotEqual, NotEqualStar, TildeEqual, LessThan, LessThanEqual, GreaterThan, GreaterThanEqual}
 use Rattle.pep440_ranges.specs.Complement.{gaps}
@@ -69,8 +69,8 @@ each GreaterThan s v p q = taken GreaterThan s (plain s) v (is_plain s p) q (gre
 each GreaterThanEqual s v p q = taken GreaterThanEqual s (plain s) v (is_plain s p) q (λ c range h.
     rw (some_is _ range h) (only_start (is_le (record_cmp (plain s) (plain v))) ∙ turn_le (plain s) (plain v) ∙ sym (ge_not_lt (record_cmp (plain v) (plain s)))))
 
-pub agrees : (op : Operator) (s : Record) (range : Segments) → range_of op s ≡ Some range → Agrees op s range
-agrees op s range h v p = each op s v p.operand p.plain p.suffixes range h
+pub agrees : (s : Spec) (range : Segments) → range_of s.operator s.version ≡ Some range → HasOperand s → Agrees s range
+agrees s range h given v p = each s.operator s.version v (given p.operator) p.plain p.suffixes range h
 
 -- ---- the inclusions that hold whatever the suffixes
 
@@ -88,8 +88,15 @@ greater_all : (s v : Record) → IsPlain s → IsPlain v → Around GreaterThan 
 greater_all s v p q =
     subst (λ t. Around GreaterThan t v) (sym (is_plain s p)) (subst (Around GreaterThan (plain s)) (sym (is_plain v q)) (greater_around s.epoch s.release s.pre s.post s.dev v))
 
-pub holds_only_matches : (op : Operator) (s : Record) (range : Segments) → range_of op s ≡ Some range → HoldsOnlyMatches op s range
-holds_only_matches op s range h less p v q = subst (λ o. Within o s v) (sym less) (less_only s v p q) range h
+-- the version of a `<` and of a `>` is plain
+less_plain : (op : Operator) (s : Record) → op ≡ LessThan → (op ≢ ExactEqual → IsOperand op s) → IsPlain s
+less_plain op s less = subst (λ o. (o ≢ ExactEqual → IsOperand o s) → IsPlain s) (sym less) (λ given. given (λ e. cc e))
 
-pub holds_all_matches : (op : Operator) (s : Record) (range : Segments) → range_of op s ≡ Some range → HoldsAllMatches op s range
-holds_all_matches op s range h greater p v q = subst (λ o. Around o s v) (sym greater) (greater_all s v p q) range h
+greater_plain : (op : Operator) (s : Record) → op ≡ GreaterThan → (op ≢ ExactEqual → IsOperand op s) → IsPlain s
+greater_plain op s greater = subst (λ o. (o ≢ ExactEqual → IsOperand o s) → IsPlain s) (sym greater) (λ given. given (λ e. cc e))
+
+pub holds_only_matches : (s : Spec) (range : Segments) → range_of s.operator s.version ≡ Some range → HasOperand s → HoldsOnlyMatches s range
+holds_only_matches s range h given less v q = subst (λ o. Within o s.version v) (sym less) (less_only s.version v (less_plain s.operator s.version less given) q) range h
+
+pub holds_all_matches : (s : Spec) (range : Segments) → range_of s.operator s.version ≡ Some range → HasOperand s → HoldsAllMatches s range
+holds_all_matches s range h given greater v q = subst (λ o. Around o s.version v) (sym greater) (greater_all s.version v (greater_plain s.operator s.version greater given) q) range h

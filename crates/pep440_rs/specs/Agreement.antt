@@ -1,6 +1,6 @@
 -- When the range of a specifier holds exactly the versions that the specifier contains (PEP 440, "Version
 -- specifiers"), and which inclusion holds where it doesn't.
-use Rattle.std.specs.Prelude.{◌≡◌, ◌≢◌, ◌↔◌, ℕ, ◌+◌, ◌≤◌, Bool, true, false, not, ◌&&◌, ◌||◌, List, [], Option, Some, None, is_some, IsTrue, count_by, length, if◌then◌else◌}
+use Rattle.std.specs.Prelude.{◌≡◌, ◌≢◌, ◌↔◌, ℕ, ◌+◌, ◌≤◌, Bool, true, false, not, ◌||◌, List, [], Option, Some, None, is_some, IsTrue, count_by, length, if◌then◌else◌}
 use Rattle.std.specs.List.{All, Any, list_all}
 use Rattle.pep440_rs.specs.Bounds.{Segments, list_range}
 use Rattle.pep440_rs.specs.Matching.{matches, list_matches, same_release, any_prerelease}
@@ -49,50 +49,29 @@ IsSuffixComparable LessThan s v = IsTrue (not (same_release s v) || not (is_some
 IsSuffixComparable GreaterThan s v = IsTrue (not (same_release s v) || not (is_some v.post) || is_post_or_final s)
 IsSuffixComparable _ s v = Unit {0}
 
--- range and matching can be compared
-pub record IsComparable (op : Operator) (s v : Record) : Type 0 where
-  pub operand : IsOperand op s
-  pub plain : IsPlain v
-  pub suffixes : IsSuffixComparable op s v
-
--- ---- the whole order
-
--- the range holds exactly what the specifier contains
-abbrev pub Agrees : Operator → Record → Segments → Type 0
-Agrees op s range = (v : Record) → IsComparable op s v → contains record_cmp range v ≡ matches op s v
-
--- whatever the suffixes, the range of `<` holds only what matches
-abbrev pub HoldsOnlyMatches : Operator → Record → Segments → Type 0
-HoldsOnlyMatches op s range = op ≡ LessThan → IsPlain s → (v : Record) → IsPlain v → IsTrue (contains record_cmp range v) → IsTrue (matches op s v)
-
--- and the range of `>` holds all that matches
-abbrev pub HoldsAllMatches : Operator → Record → Segments → Type 0
-HoldsAllMatches op s range = op ≡ GreaterThan → IsPlain s → (v : Record) → IsPlain v → IsTrue (matches op s v) → IsTrue (contains record_cmp range v)
-
--- of a list: where each member can be compared
-abbrev pub ListAgrees : List Spec → Segments → Type 0
-ListAgrees members range = (v : Record) → All (λ m. IsComparable m.operator m.version v) members → contains record_cmp range v ≡ list_matches members v
-
--- ---- of what a text gives
-
--- range and matching of a specifier that a text gives can be compared at v
+-- range and matching of the specifier can be compared at v
 pub record IsCandidate (s : Spec) (v : Record) : Type 0 where
   pub operator : s.operator ≢ ExactEqual
   pub plain : IsPlain v
   pub suffixes : IsSuffixComparable s.operator s.version v
 
-abbrev pub AgreesThere : Spec → Segments → Type 0
-AgreesThere s range = (v : Record) → IsCandidate s v → contains record_cmp range v ≡ matches s.operator s.version v
+-- ---- the whole order, of a specifier whose version a text can give
 
-abbrev pub ListAgreesThere : List Spec → Segments → Type 0
-ListAgreesThere members range = (v : Record) → All (λ m. IsCandidate m v) members → contains record_cmp range v ≡ list_matches members v
+-- the range holds exactly what the specifier contains
+abbrev pub Agrees : Spec → Segments → Type 0
+Agrees s range = (v : Record) → IsCandidate s v → contains record_cmp range v ≡ matches s.operator s.version v
 
--- and the inclusions that hold whatever the suffixes
-abbrev pub HoldsOnlyMatchesThere : Spec → Segments → Type 0
-HoldsOnlyMatchesThere s range = s.operator ≡ LessThan → (v : Record) → IsPlain v → IsTrue (contains record_cmp range v) → IsTrue (matches s.operator s.version v)
+-- whatever the suffixes, the range of `<` holds only what matches
+abbrev pub HoldsOnlyMatches : Spec → Segments → Type 0
+HoldsOnlyMatches s range = s.operator ≡ LessThan → (v : Record) → IsPlain v → IsTrue (contains record_cmp range v) → IsTrue (matches s.operator s.version v)
 
-abbrev pub HoldsAllMatchesThere : Spec → Segments → Type 0
-HoldsAllMatchesThere s range = s.operator ≡ GreaterThan → (v : Record) → IsPlain v → IsTrue (matches s.operator s.version v) → IsTrue (contains record_cmp range v)
+-- and the range of `>` holds all that matches
+abbrev pub HoldsAllMatches : Spec → Segments → Type 0
+HoldsAllMatches s range = s.operator ≡ GreaterThan → (v : Record) → IsPlain v → IsTrue (matches s.operator s.version v) → IsTrue (contains record_cmp range v)
+
+-- of a list: where each member can be compared
+abbrev pub ListAgrees : List Spec → Segments → Type 0
+ListAgrees members range = (v : Record) → All (λ m. IsCandidate m v) members → contains record_cmp range v ≡ list_matches members v
 
 -- ---- releases alone
 

@@ -5,6 +5,7 @@ mod matching;
 mod post_ranges;
 mod range_sweeps;
 mod ranges;
+mod requests;
 mod single;
 mod sweep_bounds;
 mod sweep_json;
