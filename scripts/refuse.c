@@ -1,4 +1,5 @@
-/* Preloaded before a test program: refuses its request for memory of the number REFUSE, and tells at the end whether it came. */
+/* Preloaded before a test program: refuses its request for memory of the number REFUSE, and tells at the end whether it came and
+   how many there were. */
 #define _GNU_SOURCE
 #include <errno.h>
 #include <stdio.h>
@@ -37,4 +38,4 @@ int posix_memalign(void **out, size_t to, size_t size)
     return *out ? 0 : ENOMEM;
 }
 
-__attribute__((destructor)) static void tell(void) { fprintf(stderr, "refused %ld\n", refused); }
+__attribute__((destructor)) static void tell(void) { fprintf(stderr, "refused %ld\nrequests %ld\n", refused, requests); }

@@ -81,7 +81,7 @@ fn matches(rt: HostRuntime) -> Result<(), Fail> {
 }
 
 // Words, the output, and the status.
-const RANGES: [(&str, &str, u8); 21] = [
+const RANGES: [(&str, &str, u8); 24] = [
     ("range|~=1.2.3", "[1.2.3, 1.3.dev0)\n", 0),
     ("range|==1.2.*", "[1.2.dev0, 1.3.dev0)\n", 0),
     ("range|>=1.0,<2.0,!=1.5", "[1.0, 1.5)\n(1.5, 2.0~min0)\n", 0),
@@ -92,7 +92,14 @@ const RANGES: [(&str, &str, u8); 21] = [
     ("range|>1.0", "(1.0~max0, *)\n", 0),
     ("range|<0", "(*, 0~min0)\n", 0),
     ("range|<1.0a1", "(*, 1.0a1)\n", 0),
-    ("range|>1.0.post1", "[1.0.post2, *)\n", 0),
+    ("range|>1.0.post1", "[1.0.post2.dev0, *)\n", 0),
+    ("range|>1.0a1.post3", "[1.0a1.post4.dev0, *)\n", 0),
+    ("range|>1.0.post1.dev3", "[1.0.post1.dev4, *)\n", 0),
+    (
+        "range|>1.0.post18446744073709551615",
+        "error: a number of 18446744073709551615 cannot be raised\n",
+        1,
+    ),
     ("range|~=1!2.2", "[1!2.2, 1!3.dev0)\n", 0),
     ("range|===1.0", "[1.0, 1.0]\n", 0),
     ("range|>=1.0,<1.0", "empty\n", 0),

@@ -38,7 +38,13 @@ pub(crate) fn overlaps_of<V: Ord + Clone>(
     requires clones_right { ClonesEach V.is_clone right.now }
     ensures { IfOk result (λ v. v.items ≡ overlaps V.cmp left.now right.now) }
 {
-    let mut shared = Vec::new(alloc);
+    // Of n and m segments there are at most n + m - 1 overlaps, so memory is asked for once.
+    let most = if left.is_empty() || right.is_empty() {
+        0
+    } else {
+        left.len().saturating_add(right.len()) - 1
+    };
+    let mut shared = Vec::with_capacity(alloc, most)?;
     let mut left_rest = left;
     let mut right_rest = right;
     while let (Some((s, left_others)), Some((t, right_others))) = (

@@ -6,13 +6,13 @@ use Rattle.std.proofs.lemmas.Str.{chars-IsAscii}
 use Rattle.std.specs.Char.{is_ascii_digit, is_whitespace, is_not_whitespace}
 use Rattle.std.specs.List.{list_all}
 use Rattle.std.specs.Str.{encode_utf8_all}
-use Rattle.pep440_version.specs.Grammar.{AreBlanks, Derives, IsDev, IsLocal, IsPost, IsPre, is_blank, starts}
+use Rattle.pep440_version.specs.Grammar.{AreBlanks, Derives, is_blank, starts}
 use Rattle.pep440_version.specs.Patterns.{DerivesPattern, DerivesStar}
 use Rattle.pep440_version.specs.Print.{print}
 use Rattle.pep440_version.specs.Record.{Record}
-use Rattle.pep440_version.proofs.Reread.{derived_again, derived_record, derived_rereads}
-use Rattle.pep440_version.proofs.Runs.{starts_not}
-use Rattle.pep440_version.proofs.Texts.{both_first}
+use Rattle.pep440_version.proofs.Reread.PrintIsRead.{derived_again, derived_record, derived_rereads}
+use Rattle.pep440_version.proofs.Refusals.ZeroForDigits.{starts_not}
+use Rattle.pep440_version.proofs.Reading.Fronts.{both_first}
 use Rattle.pep440_rs.specs.Build.{BuildRefusal, CompatibleRelease, OperatorLocalCombo, built, built_pattern, has_local, is_compatible}
 use Rattle.pep440_rs.specs.Operators.{allows_local, is_star, operator_text}
 use Rattle.pep440_rs.specs.SpecifierGrammar.{Cut, DerivesSpecifier, is_operator_char}
@@ -26,30 +26,8 @@ use Rattle.pep440_rs.proofs.Shown.{begins_still, blank_not_shown, digit_not_oper
 -- ---- what stands before a star
 
 -- a text without its star means the record alone
-pub unstar : (text : List ℕ) (r : Record) → (h : DerivesStar text r) → Derives (h.w1 ++ (h.v ++ (h.e ++ h.n))) r
-unstar text r h = record {
-  w1 = h.w1;
-  v = h.v;
-  e = h.e;
-  n = h.n;
-  p = [];
-  q = [];
-  d = [];
-  l = [];
-  w2 = [];
-  cut = ap (λ t. h.w1 ++ (h.v ++ (h.e ++ t))) (sym (append-nil h.n));
-  blanks = h.blanks;
-  mark = h.mark;
-  epoch = h.epoch;
-  release = h.release;
-  pre = subst (λ o. IsPre [] [] o) (sym (ap (λ (x : Record). x.pre) h.plain)) refl;
-  post = subst (λ o. IsPost [] [] o) (sym (ap (λ (x : Record). x.post) h.plain)) refl;
-  dev = subst (λ o. IsDev [] [] o) (sym (ap (λ (x : Record). x.dev) h.plain)) refl;
-  local = subst (λ o. IsLocal [] o) (sym (ap (λ (x : Record). x.local) h.plain)) refl;
-  end = refl;
-  no_min = ap (λ (x : Record). x.min) h.plain;
-  no_max = ap (λ (x : Record). x.max) h.plain;
-}
+pub unstar : (text : List ℕ) (r : Record) → (h : DerivesStar text r) → Derives h.0 r
+unstar text r h = h.1
 
 blanks_shown : (t : List ℕ) → AreBlanks t → list_all is_shown t ≡ true → t ≡ []
 blanks_shown [] h g = refl
@@ -61,34 +39,13 @@ blanks_shown (b ∷ t) h g =
 
 star_print : (text : List ℕ) (r : Record) → DerivesStar text r → DerivesStar (print r ++ codes ".*") r
 star_print text r h =
-    let before : Derives (h.w1 ++ (h.v ++ (h.e ++ h.n))) r = unstar text r h in
+    let before : Derives h.0 r = unstar text r h in
     let d : Derives (print r) r = derived_again _ r before in
     let shown : list_all is_shown (print r) ≡ true = print_shown r (derived_record _ r before) (derived_rereads _ r before) in
-    let p : d.p ≡ [] = subst (λ o. IsPre d.p (d.q ++ (d.d ++ (d.l ++ d.w2))) o) (ap (λ (x : Record). x.pre) h.plain) d.pre in
-    let q : d.q ≡ [] = subst (λ o. IsPost d.q (d.d ++ (d.l ++ d.w2)) o) (ap (λ (x : Record). x.post) h.plain) d.post in
-    let dev : d.d ≡ [] = subst (λ o. IsDev d.d (d.l ++ d.w2) o) (ap (λ (x : Record). x.dev) h.plain) d.dev in
-    let l : d.l ≡ [] = subst (λ o. IsLocal d.l o) (ap (λ (x : Record). x.local) h.plain) d.local in
     let last : list_all is_shown d.w2 ≡ true =
     all_later is_shown d.l d.w2 (all_later is_shown d.d _ (all_later is_shown d.q _ (all_later is_shown d.p _ (all_later is_shown d.n _
     (all_later is_shown d.e _ (all_later is_shown d.v _ (all_later is_shown d.w1 _ (ap (list_all is_shown) (sym d.cut) ∙ shown)))))))) in
-    let w2 : d.w2 ≡ [] = blanks_shown d.w2 d.end last in
-    let cut : print r ≡ d.w1 ++ (d.v ++ (d.e ++ d.n)) =
-    d.cut ∙ (λ i. d.w1 ++ (d.v ++ (d.e ++ (d.n ++ (p i ++ (q i ++ (dev i ++ (l i ++ w2 i)))))))) ∙ ap (λ t. d.w1 ++ (d.v ++ (d.e ++ t))) (append-nil d.n) in
-    record {
-      w1 = d.w1;
-      v = d.v;
-      e = d.e;
-      n = d.n;
-      cut = ap (λ t. t ++ codes ".*") cut ∙ moved d.w1 d.v d.e d.n (codes ".*");
-      blanks = d.blanks;
-      mark = d.mark;
-      epoch = d.epoch;
-      release = d.release;
-      plain = h.plain;
-    }
-  where
-    moved : (a b c d s : List ℕ) → (a ++ (b ++ (c ++ d))) ++ s ≡ a ++ (b ++ (c ++ (d ++ s)))
-    moved a b c d s = simp append_assoc
+    (print r, d, refl, blanks_shown d.w2 d.end last, h.4)
 
 -- ---- an operator and a version, with nothing around them
 

@@ -1,4 +1,4 @@
--- Members have one arrangement.
+-- Members have exactly one arrangement.
 use Rattle.std.proofs.Common.{◌≡◌, ◌<◌, ◌+◌, ◌∙◌, ℕ, suc, List, [], ◌∷◌, Bool, true, false, cond, length, get_or, refl, sym, ap, subst, arith, inl, inr}
 use Rattle.std.proofs.lemmas.Bool.{cases_Bool}
 use Rattle.std.proofs.lemmas.List.Sorted.{IsPermutation-refl, ranks_by, sorted_far}
@@ -9,6 +9,7 @@ use Rattle.std.specs.Ordering.{is_lt}
 use Rattle.pep440_version.specs.KeyLaws.{record_total}
 use Rattle.pep440_rs.specs.Arrangement.{Arranges, IsArranged, version_cmp}
 use Rattle.pep440_rs.specs.Specifiers.{Spec}
+use Rattle.pep440_rs.proofs.Sorting.{sorted, sorted_same, sorted_stable, sorted_up}
 
 module _ {X : Type 0} (lt : X → X → Bool) (weak : IsStrictWeakOrder lt) where
   not_below_itself : (x : X) → lt x x ≡ false
@@ -71,3 +72,10 @@ one_arrangement members a b h g =
 
 pub arranged_again : (list : List Spec) → IsArranged list → Arranges list list
 arranged_again list up = record { same = IsPermutation-refl list; rises = up; stable = λ x. refl }
+
+-- one arrangement there is
+pub some_arrangement : (members : List Spec) → (l : List Spec) × Arranges members l
+some_arrangement members =
+    let below : Spec → Spec → Bool = λ x y. is_lt (version_cmp x y) in
+    let weak = ranks_by record_total (λ (s : Spec). s.version) in
+    (sorted below members, record { same = sorted_same below members; rises = sorted_up below weak members; stable = sorted_stable below weak members })

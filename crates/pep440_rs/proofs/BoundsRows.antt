@@ -37,8 +37,8 @@ row_6 = refl
 row_7 : range_of LessThan (pre Alpha 1 v) ≡ Some ((Unbounded, Excluded (pre Alpha 1 v)) ∷ [])
 row_7 = refl
 
--- the range of `>1.0.post1` is `[1.0.post2, *)`
-row_8 : range_of GreaterThan (post 1 v) ≡ Some ((Included (post 2 v), Unbounded) ∷ [])
+-- the range of `>1.0.post1` is `[1.0.post2.dev0, *)`
+row_8 : range_of GreaterThan (post 1 v) ≡ Some ((Included (dev 0 (post 2 v)), Unbounded) ∷ [])
 row_8 = refl
 
 -- the range of `~=1!2.2` is `[1!2.2, 1!3.dev0)`

@@ -4,8 +4,8 @@ use Rattle.std.specs.Char.{is_whitespace, is_not_whitespace}
 use Rattle.std.specs.Str.{chars, encode_utf8_all}
 use Rattle.pep440_version.specs.Grammar.{starts}
 use Rattle.pep440_version.specs.Reading.{lead, past}
-use Rattle.pep440_version.proofs.Found.{split}
-use Rattle.pep440_version.proofs.Texts.{lead-all, lead-run, past-run, past-stops}
+use Rattle.pep440_version.proofs.Reading.ReadIsDerived.{split}
+use Rattle.pep440_version.proofs.Reading.Fronts.{lead-all, lead-run, past-run, past-stops}
 use Rattle.pep440_rs.specs.SpecifierGrammar.{Cut, IsRun, is_operator_char}
 use Rattle.pep440_rs.specs.SpecifierReading.{from_operator, from_rest, from_version, meaning, read_specifier}
 

@@ -1,5 +1,4 @@
--- `>`: its range agrees with matching; that of a post-release lies within it whatever the suffixes, and that of
--- another version around it.
+-- `>`: its range agrees with matching, and whatever the suffixes it holds all that matches.
 use Rattle.std.proofs.Common.{◌≡◌, ℕ, Bool, true, false, not, ◌&&◌, ◌||◌, IsTrue, List, [], Option, Some, None, is_some, refl, sym, ap, ◌∙◌}
 use mathlib.Core.Bool.{true≢false}
 use Rattle.std.specs.Ordering.{ordering_then, is_lt, is_le, is_gt, is_eq}
@@ -8,8 +7,8 @@ use Rattle.std.specs.declared.cmp.Ordering.TheVariants as ord
 use Rattle.pep440_rs.proofs.Less.{in_equal}
 use Rattle.pep440_rs.proofs.VersionOrder.{by_parts, same_base, plain, turn_le, turn_lt, only_start, both}
 use Rattle.pep440_rs.proofs.Prefix.{mapped, some_is, next_is}
-use Rattle.pep440_rs.proofs.Suffixes.{above_dev, above_post, post_within, above_max}
-use Rattle.pep440_rs.specs.Agreement.{IsSuffixComparable, is_final}
+use Rattle.pep440_rs.proofs.Suffixes.{above_dev, above_post, above_max}
+use Rattle.pep440_rs.specs.Agreement.{IsSuffixComparable, is_post_or_final}
 use Rattle.pep440_rs.specs.Bounds.{Segments, greater, next_number, from, above}
 use Rattle.pep440_rs.specs.Matching.{matches}
 use Rattle.pep440_rs.specs.declared.operator.Operator.TheVariants.{GreaterThan}
@@ -41,17 +40,6 @@ past_table : (B X Y : Ordering) (q : Bool) → (B ≡ ord.Equal → is_gt (order
 past_table ord.Less X Y q h = refl
 past_table ord.Greater X Y q h = refl
 past_table ord.Equal X Y q h = h refl
-
-from_within : (B X Y : Ordering) (q : Bool) → q ≡ false → (not (is_lt (ordering_then X ord.Equal)) ≡ true → is_gt (ordering_then Y ord.Equal) ≡ true) →
-    not (is_lt (ordering_then B (ordering_then X ord.Equal))) ≡ true → is_gt (ordering_then B (ordering_then Y ord.Equal)) && not (is_eq B && q) ≡ true
-from_within ord.Less X Y q e k h = h
-from_within ord.Greater X Y q e k h = refl
-from_within ord.Equal X Y true e k h = absurd (true≢false e)
-from_within ord.Equal X Y false e k h = and_yes _ (k h)
-  where
-    and_yes : (b : Bool) → b ≡ true → b && true ≡ true
-    and_yes true h = refl
-    and_yes false h = h
 
 around_table : (B X Y : Ordering) (q : Bool) → (not (is_lt (ordering_then X ord.Equal)) ≡ is_gt (ordering_then Y ord.Equal)) →
     is_gt (ordering_then B (ordering_then Y ord.Equal)) && not (is_eq B && q) ≡ true → not (is_lt (ordering_then B (ordering_then X ord.Equal))) ≡ true
@@ -102,17 +90,16 @@ and_none : (p b : Bool) → p ≡ false → (p && b) || false ≡ false
 and_none true b e = absurd (true≢false e)
 and_none false b e = refl
 
-post_none : (post : Option ℕ) → is_some post ≡ false → post ≡ None
-post_none None e = refl
-post_none (Some p) e = absurd (true≢false e)
+never_and : (b : Bool) → (b && false) || false ≡ false
+never_and true = refl
+never_and false = refl
 
-from_post : (e : ℕ) (r : List ℕ) (pre : Option Prerelease) (p n : ℕ) (v : Record) →
-    (base_cmp (plain v) (parts e r pre (Some p) None) ≡ ord.Equal → is_some v.post ≡ false) →
-    contains record_cmp (from (parts e r pre (Some n) None)) (plain v) ≡ matches GreaterThan (parts e r pre (Some p) None) (plain v)
-from_post e r pre p n v q =
-    from_parts (parts e r pre (Some n) None) v
-    ∙ from_table (base_cmp (plain v) (parts e r pre (Some p) None)) (suffix_cmp (plain v) (parts e r pre (Some n) None)) (suffix_cmp (plain v) (parts e r pre (Some p) None)) _
-    (λ b. and_none (is_some v.post) (not (is_some (Some p))) (q b)) (λ b. above_post (parts e r pre None None) v p n (post_none v.post (q b)))
+from_post : (e : ℕ) (r : List ℕ) (pre : Option Prerelease) (p n : ℕ) (v : Record) → next_number p ≡ Some n →
+    contains record_cmp (from (parts e r pre (Some n) (Some 0))) (plain v) ≡ matches GreaterThan (parts e r pre (Some p) None) (plain v)
+from_post e r pre p n v h =
+    from_parts (parts e r pre (Some n) (Some 0)) v
+    ∙ from_table (base_cmp (plain v) (parts e r pre (Some p) None)) (suffix_cmp (plain v) (parts e r pre (Some n) (Some 0))) (suffix_cmp (plain v) (parts e r pre (Some p) None)) _
+    (λ _. never_and (is_some v.post)) (λ _. above_post (parts e r pre None None) v p n (next_is p n h))
     ∙ by_base (parts e r pre (Some p) None) v
 
 above_top : (e : ℕ) (r : List ℕ) (pre : Option Prerelease) (v : Record) →
@@ -137,66 +124,50 @@ above_top e r pre v q =
 -- ---- all three
 
 -- the test of the suffixes over the base
-comparable : (s v : Record) → IsSuffixComparable GreaterThan (plain s) (plain v) → base_cmp (plain v) (plain s) ≡ ord.Equal → not (is_some v.post) || is_final (plain s) ≡ true
-comparable s v c b = in_equal _ _ _ (ap (λ b. not b || not (is_some v.post) || is_final (plain s)) (sym (same_base (plain s) (plain v))) ∙ c) b
+comparable : (s v : Record) → IsSuffixComparable GreaterThan (plain s) (plain v) → base_cmp (plain v) (plain s) ≡ ord.Equal → not (is_some v.post) || is_post_or_final (plain s) ≡ true
+comparable s v c b = in_equal _ _ _ (ap (λ b. not b || not (is_some v.post) || is_post_or_final (plain s)) (sym (same_base (plain s) (plain v))) ∙ c) b
 
--- where s isn't final v is no post-release
-no_post : (v d : Bool) (a b : Bool) → not v || (a && b && d) ≡ true → d ≡ false → v ≡ false
-no_post true d true true h e = sym h ∙ e
-no_post true d true false h e = sym h
-no_post true d false b h e = sym h
-no_post false d a b h e = refl
+-- a version with dev that is no post-release: v is no post-release
+no_post : (v a : Bool) → not v || (false || not (a || true)) ≡ true → v ≡ false
+no_post true true h = sym h
+no_post true false h = sym h
+no_post false a h = refl
 
-no_post' : (v a : Bool) → not v || (a && false && true) ≡ true → v ≡ false
-no_post' true true h = sym h
-no_post' true false h = sym h
-no_post' false a h = refl
-
-final_pre : (v p : Bool) → not v || (not p && true && true) ≡ true → not v || not p ≡ true
+final_pre : (v p : Bool) → not v || (false || not (p || false)) ≡ true → not v || not p ≡ true
 final_pre true true h = h
 final_pre true false h = refl
 final_pre false p h = refl
 
 pub greater_agrees : (e : ℕ) (r : List ℕ) (pre : Option Prerelease) (post dev : Option ℕ) (v : Record) → IsSuffixComparable GreaterThan (parts e r pre post dev) (plain v) →
     (range : Segments) → greater (parts e r pre post dev) dev post ≡ Some range → contains record_cmp range (plain v) ≡ matches GreaterThan (parts e r pre post dev) (plain v)
-greater_agrees e r pre post (Some d) v c range h =
+greater_agrees e r pre (Some p) (Some d) v c range h =
     let m = mapped _ (next_number d) range h in
-    rw m.2 (from_dev e r pre post d m.0 v m.1 (λ b.
-    and_none (is_some v.post) (not (is_some post)) (no_post (is_some v.post) false (not (is_some pre)) (not (is_some post)) (comparable (parts e r pre post (Some d)) v c b) refl)))
+    rw m.2 (from_dev e r pre (Some p) d m.0 v m.1 (λ b. never_and (is_some v.post)))
+greater_agrees e r pre None (Some d) v c range h =
+    let m = mapped _ (next_number d) range h in
+    rw m.2 (from_dev e r pre None d m.0 v m.1 (λ b. and_none (is_some v.post) true (no_post (is_some v.post) (is_some pre) (comparable (parts e r pre None (Some d)) v c b))))
 greater_agrees e r pre (Some p) None v c range h =
     let m = mapped _ (next_number p) range h in
-    rw m.2 (from_post e r pre p m.0 v (λ b. no_post' (is_some v.post) (not (is_some pre)) (comparable (parts e r pre (Some p) None) v c b)))
+    rw m.2 (from_post e r pre p m.0 v m.1)
 greater_agrees e r pre None None v c range h =
     rw (some_is _ range h) (above_top e r pre v (λ b. final_pre (is_some v.post) (is_some pre) (comparable (parts e r pre None None) v c b)))
 
--- ---- whatever the suffixes: of a post-release
+-- ---- whatever the suffixes, all that matches is in the range
 
-never_and : (b : Bool) → (b && false) || false ≡ false
-never_and true = refl
-never_and false = refl
-
-pub greater_within : (e : ℕ) (r : List ℕ) (pre : Option Prerelease) (p : ℕ) (dev : Option ℕ) (v : Record) →
-    (range : Segments) → greater (parts e r pre (Some p) dev) dev (Some p) ≡ Some range → IsTrue (contains record_cmp range (plain v)) → IsTrue (matches GreaterThan (parts e r pre (Some p) dev) (plain v))
-greater_within e r pre p (Some d) v range h =
+pub greater_around : (e : ℕ) (r : List ℕ) (pre : Option Prerelease) (post dev : Option ℕ) (v : Record) →
+    (range : Segments) → greater (parts e r pre post dev) dev post ≡ Some range → IsTrue (matches GreaterThan (parts e r pre post dev) (plain v)) → IsTrue (contains record_cmp range (plain v))
+greater_around e r pre (Some p) (Some d) v range h =
     let m = mapped _ (next_number d) range h in
-    rw m.2 (λ k. sym (from_dev e r pre (Some p) d m.0 v m.1 (λ b. never_and (is_some v.post))) ∙ k)
-greater_within e r pre p None v range h =
+    rw m.2 (λ k. from_dev e r pre (Some p) d m.0 v m.1 (λ b. never_and (is_some v.post)) ∙ k)
+greater_around e r pre (Some p) None v range h =
     let m = mapped _ (next_number p) range h in
-    rw m.2 (λ k. sym (by_base (parts e r pre (Some p) None) v)
-    ∙ from_within (base_cmp (plain v) (parts e r pre (Some p) None)) (suffix_cmp (plain v) (parts e r pre (Some m.0) None)) (suffix_cmp (plain v) (parts e r pre (Some p) None)) _
-    (never_and (is_some v.post)) (post_within (parts e r pre None None) v p m.0 (next_is p m.0 m.1))
-    (sym (from_parts (parts e r pre (Some m.0) None) v) ∙ k))
-
--- ---- of another version
-
-pub greater_around : (e : ℕ) (r : List ℕ) (pre : Option Prerelease) (dev : Option ℕ) (v : Record) →
-    (range : Segments) → greater (parts e r pre None dev) dev None ≡ Some range → IsTrue (matches GreaterThan (parts e r pre None dev) (plain v)) → IsTrue (contains record_cmp range (plain v))
-greater_around e r pre (Some d) v range h =
+    rw m.2 (λ k. from_post e r pre p m.0 v m.1 ∙ k)
+greater_around e r pre None (Some d) v range h =
     let m = mapped _ (next_number d) range h in
     rw m.2 (λ k. from_parts (parts e r pre None (Some m.0)) v
     ∙ around_table (base_cmp (plain v) (parts e r pre None (Some d))) (suffix_cmp (plain v) (parts e r pre None (Some m.0))) (suffix_cmp (plain v) (parts e r pre None (Some d))) _
     (above_dev (parts e r pre None None) v d m.0 (next_is d m.0 m.1)) (by_base (parts e r pre None (Some d)) v ∙ k))
-greater_around e r pre None v range h = rw (some_is _ range h) (λ k. go (is_some v.post) refl (by_base (parts e r pre None None) v ∙ k) ∙ k)
+greater_around e r pre None None v range h = rw (some_is _ range h) (λ k. go (is_some v.post) refl (by_base (parts e r pre None None) v ∙ k) ∙ k)
   where
     clash : (B : Ordering) (g : Bool) → g && not (is_eq B && ((true && true) || false)) ≡ true → B ≡ ord.Equal → ⊥
     clash ord.Equal true h e = true≢false (sym h)

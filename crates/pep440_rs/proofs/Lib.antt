@@ -4,6 +4,8 @@ pub mod Spelled
 pub mod Tells
 pub mod Answered
 pub mod Prints
+mod InOrder
+mod Sorting
 pub mod Steps
 pub mod Plain
 pub mod Told

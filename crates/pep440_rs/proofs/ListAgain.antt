@@ -10,8 +10,8 @@ use Rattle.std.specs.Str.{chars}
 use Rattle.pep440_version.specs.Patterns.{DerivesPattern}
 use Rattle.pep440_version.specs.Print.{print}
 use Rattle.pep440_version.specs.Record.{Record}
-use Rattle.pep440_version.proofs.Reread.{derived_record, derived_rereads}
-use Rattle.pep440_version.proofs.Texts.{both_first, both_second}
+use Rattle.pep440_version.proofs.Reread.PrintIsRead.{derived_record, derived_rereads}
+use Rattle.pep440_version.proofs.Reading.Fronts.{both_first, both_second}
 use Rattle.pep440_rs.specs.Arrangement.{Arranges}
 use Rattle.pep440_rs.specs.Build.{BuildRefusal, built_pattern, built_starred, starred}
 use Rattle.pep440_rs.specs.ListAnswers.{ListAnswers, ListReads}

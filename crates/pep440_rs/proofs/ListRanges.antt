@@ -3,7 +3,7 @@ use Rattle.std.proofs.Common.{◌≡◌, ℕ, zero, suc, ◌+◌, ◌≤◌, ◌
 use Rattle.std.proofs.lemmas.List.Elements.{All-tail}
 use Rattle.std.proofs.lemmas.List.Sums.{sum_by-append}
 use Rattle.std.specs.List.{All, Any, list_all}
-use Rattle.pep440_rs.specs.Agreement.{IsComparable, IsReleaseComparable, ListAgrees, ReleaseListAgrees, GivesRanges, GivesFew, HoldsInEach, HasFewSegments, RefusedByAMember, is_held, is_exclusion, exclusions}
+use Rattle.pep440_rs.specs.Agreement.{HasOperand, IsCandidate, IsReleaseComparable, ListAgrees, ReleaseListAgrees, GivesRanges, GivesFew, HoldsInEach, HasFewSegments, RefusedByAMember, is_held, is_exclusion, exclusions}
 use Rattle.pep440_rs.specs.Bounds.{Segments, range_of, release_range_of, range_from, list_range, full}
 use Rattle.pep440_rs.specs.Matching.{matches, list_matches}
 use Rattle.pep440_rs.specs.Specifiers.{Spec}
@@ -107,10 +107,11 @@ module _ (conversion : Operator → Record → Option Segments) where
   pub refused_by_a_member : (members : List Spec) → RefusedByAMember conversion members
   refused_by_a_member members = (refused_some full members, some_refused full members)
 
-pub list_agrees : (members : List Spec) (range : Segments) → list_range range_of members ≡ Some range → ListAgrees members range
-list_agrees members range h v all =
+pub list_agrees : (members : List Spec) (range : Segments) → list_range range_of members ≡ Some range → All HasOperand members → ListAgrees members range
+list_agrees members range h given v all =
     holds_in_each range_of members range h v
-    ∙ agrees_each range_of (λ m. IsComparable m.operator m.version v) v (λ op s r e p. agrees op s r e v p) full members range h all
+    ∙ agrees_each range_of (λ m. HasOperand m × IsCandidate m v) v (λ op s r e p. agrees (record { operator = op; version = s }) r e p.0 v p.1) full members range h
+    (λ k m lt. (given k m lt, all k m lt))
 
 pub release_list_agrees : (members : List Spec) (range : Segments) → list_range release_range_of members ≡ Some range → ReleaseListAgrees members range
 release_list_agrees members range h v all =

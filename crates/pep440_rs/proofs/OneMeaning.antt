@@ -1,13 +1,13 @@
 -- A text means at most one specifier and one list, or is refused for one reason.
-use Rattle.std.proofs.Common.{◌≡◌, ◌⊎◌, inl, inr, ℕ, List, Result, Ok, Err, subst}
+use Rattle.std.proofs.Common.{◌≡◌, ◌⊎◌, inl, inr, ℕ, List, Result, Ok, Err, refl, subst}
 use Rattle.pep440_rs.specs.Arrangement.{Arranges}
 use Rattle.pep440_rs.specs.ListGrammar.{DerivesList, PieceRefusal, RefusesList}
 use Rattle.pep440_rs.specs.ListReading.{read_members}
 use Rattle.pep440_rs.specs.SpecifierGrammar.{DerivesSpecifier, RefusesSpecifier, SpecifierRefusal}
 use Rattle.pep440_rs.specs.SpecifierReading.{read_specifier}
 use Rattle.pep440_rs.specs.Specifiers.{Spec}
-use Rattle.pep440_rs.proofs.Arranged.{one_arrangement}
-use Rattle.pep440_rs.proofs.ListTells.{derived_members, list_decides}
+use Rattle.pep440_rs.proofs.Arranged.{one_arrangement, some_arrangement}
+use Rattle.pep440_rs.proofs.ListTells.{derived_members, list_decides, list_found, list_refusal}
 use Rattle.pep440_rs.proofs.Tells.{Tells, decides, tells}
 
 ok_once : {X E : Type 0} (read : Result X E) (x y : X) → read ≡ Ok x → read ≡ Ok y → x ≡ y
@@ -51,3 +51,10 @@ one_list_refusal text f g d e = err_once (read_members text) f g (list_decides t
 
 pub not_both_list : (text : List ℕ) (l : List Spec) (f : PieceRefusal) → DerivesList text l → RefusesList text f → ⊥
 not_both_list text l f d e = let a = derived_members text l d in never (read_members text) a.0 f a.1 (list_decides text f e)
+
+pub either_list : (text : List ℕ) → ((l : List Spec) × DerivesList text l) ⊎ ((f : PieceRefusal) × RefusesList text f)
+either_list text = go (read_members text) refl
+  where
+    go : (x : Result (List Spec) PieceRefusal) → read_members text ≡ x → ((l : List Spec) × DerivesList text l) ⊎ ((f : PieceRefusal) × RefusesList text f)
+    go (Ok members) e = let arranged = some_arrangement members in inl (arranged.0, list_found text arranged.0 members e arranged.1)
+    go (Err f) e = inr (f, list_refusal text f e)

@@ -12,7 +12,7 @@ use Rattle.pep440_rs.specs.Agreement.{HasOperand, IsOperand, IsPlain}
 use Rattle.pep440_rs.specs.Build.{BuildRefusal, CompatibleRelease, OperatorLocalCombo, built, built_pattern, has_local, is_compatible}
 use Rattle.pep440_rs.specs.ListGrammar.{DerivesEach, DerivesList, pieces}
 use Rattle.pep440_rs.specs.Operators.{allows_local, is_star}
-use Rattle.pep440_rs.specs.SpecifierGrammar.{DerivesSpecifier}
+use Rattle.pep440_rs.specs.SpecifierGrammar.{DerivesSpecifier, HasText}
 use Rattle.pep440_rs.specs.Specifiers.{Spec}
 use Rattle.pep440_rs.specs.declared.list_error.VersionSpecifiersParseError.{VersionSpecifiersParseError}
 use Rattle.pep440_rs.specs.declared.operator.Operator.{Operator}
@@ -53,8 +53,8 @@ operand LessThan r false s u unstarred h is other = given LessThan r s (plain u 
 operand LessThanEqual r false s u unstarred h is other = given LessThanEqual r s (plain u r h (no_local LessThanEqual r s refl is)) is
 operand GreaterThan r false s u unstarred h is other = given GreaterThan r s (plain u r h (no_local GreaterThan r s refl is)) is
 operand GreaterThanEqual r false s u unstarred h is other = given GreaterThanEqual r s (plain u r h (no_local GreaterThanEqual r s refl is)) is
-operand Equal r true s u unstarred h is other = given EqualStar r s h.plain is
-operand NotEqual r true s u unstarred h is other = given NotEqualStar r s h.plain is
+operand Equal r true s u unstarred h is other = given EqualStar r s h.4 is
+operand NotEqual r true s u unstarred h is other = given NotEqualStar r s h.4 is
 operand ExactEqual r true s u unstarred h is other = cc is
 operand EqualStar r true s u unstarred h is other = cc unstarred
 operand NotEqualStar r true s u unstarred h is other = cc unstarred
@@ -69,15 +69,22 @@ operand GreaterThanEqual r true s u unstarred h is other = cc is
 pub text_gives : (text : List ℕ) (s : Spec) → DerivesSpecifier text s → HasOperand s
 text_gives text s (c, o, r, star, reads, is, end) = operand o r star s (encode_utf8_all c.version) reads.operator.1 reads.version is
 
-each_gives : (ps : List (List ℕ)) (members : List Spec) → DerivesEach ps members → All HasOperand members
-each_gives ps [] h k d lt = absurd (omega (arith, lt))
-each_gives [] (s ∷ list) h k d lt = elim h [ ]
-each_gives (p ∷ ps) (s ∷ list) h zero d lt = text_gives p s h.0
-each_gives (p ∷ ps) (s ∷ list) h (suc k) d lt = each_gives ps list h.1 k d (omega (arith, lt))
+-- what each text gives holds of each member
+each_gives : (P : Spec → Type 0) → ((text : List ℕ) (s : Spec) → DerivesSpecifier text s → P s) → (ps : List (List ℕ)) (members : List Spec) → DerivesEach ps members → All P members
+each_gives P gives ps [] h k d lt = absurd (omega (arith, lt))
+each_gives P gives [] (s ∷ list) h k d lt = elim h [ ]
+each_gives P gives (p ∷ ps) (s ∷ list) h zero d lt = gives p s h.0
+each_gives P gives (p ∷ ps) (s ∷ list) h (suc k) d lt = each_gives P gives ps list h.1 k d (omega (arith, lt))
+
+members_give : (P : Spec → Type 0) → ((text : List ℕ) (s : Spec) → DerivesSpecifier text s → P s) → (text : List ℕ) (list : List Spec) → DerivesList text list → All P list
+members_give P gives text list (inl e) = subst (λ l. All P l) (sym e.1) (λ k d lt. absurd (omega (arith, lt)))
+members_give P gives text list (inr (some, members, each, arranged)) = All-permutation P members list arranged.same (each_gives P gives (pieces text) members each)
 
 pub list_gives : (text : List ℕ) (list : List Spec) → DerivesList text list → All HasOperand list
-list_gives text list (inl e) = subst (λ l. All HasOperand l) (sym e.1) (λ k d lt. absurd (omega (arith, lt)))
-list_gives text list (inr (some, members, each, arranged)) = All-permutation HasOperand members list arranged.same (each_gives (pieces text) members each)
+list_gives = members_give HasOperand text_gives
+
+pub list_has_texts : (text : List ℕ) (list : List Spec) → DerivesList text list → All HasText list
+list_has_texts = members_give HasText (λ text s d. (text, d))
 
 -- ---- of an answer
 

@@ -7,7 +7,7 @@ use Rattle.std.proofs.lemmas.Str.Ascii.{IsAscii-cons, IsAscii-nil}
 use Rattle.std.specs.Prelude.{IfSome}
 use Rattle.std.specs.Str.{IsCharBoundary, IsUtf8}
 use Rattle.pep440_version.specs.Reading.{EndsWith}
-use Rattle.pep440_version.proofs.Ends.{ends_then, seam}
+use Rattle.pep440_version.proofs.Reading.Endings.{ends_then, seam}
 use Rattle.pep440_rs.specs.Errors.{parse_kind_of, specifier_refusal_of}
 use Rattle.pep440_rs.specs.ListErrors.{IsSpan, PieceGives, list_refusal_of}
 use Rattle.pep440_rs.specs.ListGrammar.{PieceRefusal, pieces}

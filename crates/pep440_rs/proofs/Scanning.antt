@@ -5,9 +5,9 @@ use Rattle.std.proofs.lemmas.Str.{chars-nil, chars_past_char, encodes-append, en
 use Rattle.std.specs.Char.{encode_utf8}
 use Rattle.std.specs.Str.{IsUtf8, chars, encode_utf8_all}
 use Rattle.pep440_version.specs.Reading.{EndsWith, lead, past}
-use Rattle.pep440_version.proofs.Cutting.{past_one}
-use Rattle.pep440_version.proofs.Ends.{ends_then}
-use Rattle.pep440_version.proofs.Found.{split}
+use Rattle.pep440_version.proofs.Refusals.LongerTexts.{past_one}
+use Rattle.pep440_version.proofs.Reading.Endings.{ends_then}
+use Rattle.pep440_version.proofs.Reading.ReadIsDerived.{split}
 
 past_here : (test : ℕ → Bool) (c : ℕ) (cs : List ℕ) → test c ≡ false → past test (c ∷ cs) ≡ c ∷ cs
 past_here test c cs e = rw e refl

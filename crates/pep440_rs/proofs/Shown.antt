@@ -7,14 +7,15 @@ use Rattle.std.specs.Char.{is_ascii_digit, is_whitespace, is_not_whitespace}
 use Rattle.std.specs.Fmt.{decimal}
 use Rattle.std.specs.List.{All, flat_map, list_all}
 use Rattle.pep440_version.specs.Grammar.{is_blank, starts}
-use Rattle.pep440_version.specs.Print.{dotted, epoch_text, kind_text, local_text, marked, pre_text, print, segment_print}
+use Rattle.pep440_version.specs.Print.{dotted, epoch_text, prerelease_kind_text, local_text, labelled, pre_text, print, segment_print}
 use Rattle.pep440_version.specs.Record.{Fits, IsRecord, Number, Record, Segment, SegmentFits, Text}
 use Rattle.pep440_version.specs.Reread.{Rereads, SegmentRereads, is_lower}
 use Rattle.pep440_version.specs.declared.prerelease.Prerelease.{Prerelease}
 use Rattle.pep440_version.specs.declared.prerelease.PrereleaseKind.{PrereleaseKind}
 use Rattle.pep440_version.specs.declared.prerelease.PrereleaseKind.TheVariants.{Alpha, Beta, Rc}
-use Rattle.pep440_version.proofs.Texts.{both_first}
-use Rattle.pep440_version.proofs.Values.{digits_model}
+use Rattle.pep440_version.proofs.Reading.Fronts.{both_first}
+use Rattle.pep440_version.proofs.Reading.Digits.{digits_model}
+use Rattle.pep440_version.proofs.Reread.PrintIsRead.{fits_at}
 use Rattle.pep440_rs.specs.SpecifierGrammar.{is_operator_char}
 use Rattle.pep440_rs.proofs.Plain.{all_joined, all_weaker, is_shown}
 
@@ -72,16 +73,16 @@ epoch_shown n fits = elim (cases_Bool (n == 0)) [
   | inr e ↦ rw e (all_joined is_shown (decimal n) (codes "!") (decimal_shown n fits) refl)
 ]
 
-kind_shown : (k : PrereleaseKind) → list_all is_shown (kind_text k) ≡ true
+kind_shown : (k : PrereleaseKind) → list_all is_shown (prerelease_kind_text k) ≡ true
 kind_shown Alpha = refl
 kind_shown Beta = refl
 kind_shown Rc = refl
 
 pre_shown : (pre : Option Prerelease) → IfSome pre (λ p. Fits p.number) → list_all is_shown (pre_text pre) ≡ true
 pre_shown None fits = refl
-pre_shown (Some p) fits = all_joined is_shown (kind_text p.kind) (decimal p.number) (kind_shown p.kind) (decimal_shown p.number fits)
+pre_shown (Some p) fits = all_joined is_shown (prerelease_kind_text p.kind) (decimal p.number) (kind_shown p.kind) (decimal_shown p.number fits)
 
-marked_shown : (mark : List ℕ) → list_all is_shown mark ≡ true → (o : Option ℕ) → IfSome o Fits → list_all is_shown (marked mark o) ≡ true
+marked_shown : (mark : List ℕ) → list_all is_shown mark ≡ true → (o : Option ℕ) → IfSome o Fits → list_all is_shown (labelled mark o) ≡ true
 marked_shown mark h None fits = refl
 marked_shown mark h (Some n) fits = all_joined is_shown mark (decimal n) h (decimal_shown n fits)
 
@@ -93,10 +94,10 @@ local_shown (s ∷ rest) fits h = all_joined is_shown (codes "+") (dotted segmen
 pub print_shown : (r : Record) → IsRecord r → Rereads r → list_all is_shown (print r) ≡ true
 print_shown r h again =
     all_joined is_shown (epoch_text r.epoch) _ (epoch_shown r.epoch h.epoch)
-    (all_joined is_shown (dotted decimal r.release) _ (dotted_shown decimal r.release (numbers_shown r.release h.release))
+    (all_joined is_shown (dotted decimal r.release) _ (dotted_shown decimal r.release (numbers_shown r.release (fits_at r.release h.release)))
     (all_joined is_shown (pre_text r.pre) _ (pre_shown r.pre h.pre)
-    (all_joined is_shown (marked (codes ".post") r.post) _ (marked_shown (codes ".post") refl r.post h.post)
-    (all_joined is_shown (marked (codes ".dev") r.dev) _ (marked_shown (codes ".dev") refl r.dev h.dev)
+    (all_joined is_shown (labelled (codes ".post") r.post) _ (marked_shown (codes ".post") refl r.post h.post)
+    (all_joined is_shown (labelled (codes ".dev") r.dev) _ (marked_shown (codes ".dev") refl r.dev h.dev)
     (local_shown r.local h.local again.local)))))
 
 pub begins_still : (p : ℕ → Bool) (t u : List ℕ) → starts p t ≡ true → starts p (t ++ u) ≡ true
@@ -116,6 +117,6 @@ release_begins (n ∷ ns) some fits = begins_still is_ascii_digit (decimal n) _ 
 
 pub print_begins : (r : Record) → IsRecord r → starts is_ascii_digit (print r) ≡ true
 print_begins r h = elim (cases_Bool (r.epoch == 0)) [
-  | inl e ↦ rw e (begins_still is_ascii_digit (dotted decimal r.release) _ (release_begins r.release h.some h.release))
+  | inl e ↦ rw e (begins_still is_ascii_digit (dotted decimal r.release) _ (release_begins r.release h.some (fits_at r.release h.release)))
   | inr e ↦ rw e (begins_still is_ascii_digit (decimal r.epoch ++ codes "!") _ (begins_still is_ascii_digit (decimal r.epoch) (codes "!") (decimal_begins r.epoch h.epoch)))
 ]

@@ -1,24 +1,24 @@
 -- The range of each specifier agrees with matching.
-use Rattle.std.proofs.Common.{◌≡◌, ℕ, Bool, true, false, cond, not, ◌&&◌, ◌||◌, IsTrue, Option, Some, None, is_some, refl, sym, ap, ◌∙◌, subst}
-use mathlib.Core.Bool.{true≢false}
+use Rattle.std.proofs.Common.{◌≡◌, ◌≢◌, Bool, true, false, cond, not, ◌&&◌, ◌||◌, IsTrue, Some, refl, sym, ap, ◌∙◌, subst}
 use Rattle.std.specs.Ordering.{ordering_reverse, is_lt, is_le, is_eq}
 use Rattle.std.specs.declared.cmp.Ordering.{Ordering}
 use Rattle.std.specs.declared.cmp.Ordering.TheVariants as ord
-use Rattle.pep440_rs.proofs.Greater.{parts, greater_agrees, greater_within, greater_around}
+use Rattle.pep440_rs.proofs.Greater.{greater_agrees, greater_around}
 use Rattle.pep440_rs.proofs.Less.{less_agrees, less_within}
 use Rattle.pep440_rs.proofs.VersionOrder.{plain, is_plain, turn_le, ge_not_lt, only_start, only_end}
 use Rattle.pep440_rs.proofs.Prefix.{some_is}
 use Rattle.pep440_rs.proofs.Star.{star_agrees, not_star_agrees, tilde_agrees}
-use Rattle.pep440_rs.specs.Agreement.{IsPlain, IsOperand, IsSuffixComparable, Agrees, HoldsOnlyMatches, HoldsAllMatches}
+use Rattle.pep440_rs.specs.Agreement.{HasOperand, IsPlain, IsOperand, IsSuffixComparable, Agrees, HoldsOnlyMatches, HoldsAllMatches}
 use Rattle.pep440_rs.specs.Bounds.{Segments, range_of, alone, greater}
 use Rattle.pep440_rs.specs.Matching.{matches, candidate, has_local}
+use Rattle.pep440_rs.specs.Specifiers.{Spec}
 use Rattle.pep440_rs.specs.declared.operator.Operator.{Operator}
 use Rattle.pep440_rs.specs.declared.operator.Operator.TheVariants.{Equal, EqualStar, ExactEqual, NotEqual, NotEqualStar, TildeEqual, LessThan, LessThanEqual, GreaterThan, GreaterThanEqual}
 use Rattle.pep440_ranges.specs.Complement.{gaps}
 use Rattle.pep440_ranges.specs.Segments.{contains}
 use Rattle.pep440_version.specs.Key.{record_cmp}
 use Rattle.pep440_version.specs.KeyLaws.{record_total}
-use Rattle.pep440_version.specs.Record.{Record, public_record}
+use Rattle.pep440_version.specs.Record.{Record, epoch_and_release}
 
 -- a candidate without local part is compared as it is
 pub own : (s v : Record) → candidate s (plain v) ≡ plain v
@@ -60,8 +60,8 @@ each : (op : Operator) (s v : Record) → IsOperand op s → IsPlain v → For o
 each Equal s v p q = taken Equal s s v refl q (λ c range h. rw (some_is _ range h) (alone_holds s (plain v) ∙ ap (λ w. is_eq (record_cmp w s)) (sym (own s v))))
 each ExactEqual s v p q = absurd p
 each NotEqual s v p q = taken NotEqual s s v refl q (λ c range h. rw (some_is _ range h) (others_hold s (plain v) ∙ ap (λ w. not (is_eq (record_cmp w s))) (sym (own s v))))
-each EqualStar s v p q = taken EqualStar s (public_record s.epoch s.release) v p q (λ c range h. star_agrees s.epoch s.release v range h)
-each NotEqualStar s v p q = taken NotEqualStar s (public_record s.epoch s.release) v p q (λ c range h. not_star_agrees s.epoch s.release v range h)
+each EqualStar s v p q = taken EqualStar s (epoch_and_release s.epoch s.release) v p q (λ c range h. star_agrees s.epoch s.release v range h)
+each NotEqualStar s v p q = taken NotEqualStar s (epoch_and_release s.epoch s.release) v p q (λ c range h. not_star_agrees s.epoch s.release v range h)
 each TildeEqual s v p q = taken TildeEqual s (plain s) v (is_plain s p) q (λ c range h. tilde_agrees s v range h)
 each LessThan s v p q = taken LessThan s (plain s) v (is_plain s p) q (λ c range h. rw (some_is _ range h) (less_agrees s v c))
 each LessThanEqual s v p q = taken LessThanEqual s (plain s) v (is_plain s p) q (λ c range h. rw (some_is _ range h) (only_end (is_le (record_cmp (plain v) (plain s)))))
@@ -69,10 +69,10 @@ each GreaterThan s v p q = taken GreaterThan s (plain s) v (is_plain s p) q (gre
 each GreaterThanEqual s v p q = taken GreaterThanEqual s (plain s) v (is_plain s p) q (λ c range h.
     rw (some_is _ range h) (only_start (is_le (record_cmp (plain s) (plain v))) ∙ turn_le (plain s) (plain v) ∙ sym (ge_not_lt (record_cmp (plain v) (plain s)))))
 
-pub agrees : (op : Operator) (s : Record) (range : Segments) → range_of op s ≡ Some range → Agrees op s range
-agrees op s range h v p = each op s v p.operand p.plain p.suffixes range h
+pub agrees : (s : Spec) (range : Segments) → range_of s.operator s.version ≡ Some range → HasOperand s → Agrees s range
+agrees s range h given v p = each s.operator s.version v (given p.operator) p.plain p.suffixes range h
 
--- ---- the side that stays
+-- ---- the inclusions that hold whatever the suffixes
 
 abbrev Within : Operator → Record → Record → Type 0
 Within op s v = (range : Segments) → range_of op s ≡ Some range → IsTrue (contains record_cmp range v) → IsTrue (matches op s v)
@@ -80,50 +80,23 @@ Within op s v = (range : Segments) → range_of op s ≡ Some range → IsTrue (
 abbrev Around : Operator → Record → Record → Type 0
 Around op s v = (range : Segments) → range_of op s ≡ Some range → IsTrue (matches op s v) → IsTrue (contains record_cmp range v)
 
-less_only : (s : Record) (range : Segments) → range_of LessThan s ≡ Some range → HoldsOnlyMatches LessThan s range
-less_only s range h t p v q =
-    subst (λ t. Within LessThan t v) (sym (is_plain s p)) (subst (Within LessThan (plain s)) (sym (is_plain v q)) (λ range h. rw (some_is _ range h) (less_within s v))) range h
+less_only : (s v : Record) → IsPlain s → IsPlain v → Within LessThan s v
+less_only s v p q =
+    subst (λ t. Within LessThan t v) (sym (is_plain s p)) (subst (Within LessThan (plain s)) (sym (is_plain v q)) (λ range h. rw (some_is _ range h) (less_within s v)))
 
-greater_only : (s : Record) (range : Segments) → range_of GreaterThan s ≡ Some range → HoldsOnlyMatches GreaterThan s range
-greater_only s range h t p v q =
-    subst (λ t. IsTrue (is_some t.post) → Within GreaterThan t v) (sym (is_plain s p))
-    (subst (λ w. IsTrue (is_some s.post) → Within GreaterThan (plain s) w) (sym (is_plain v q)) (go s.post)) t range h
-  where
-    go : (post : Option ℕ) → IsTrue (is_some post) → (range : Segments) → greater (parts s.epoch s.release s.pre post s.dev) s.dev post ≡ Some range →
-        IsTrue (contains record_cmp range (plain v)) → IsTrue (matches GreaterThan (parts s.epoch s.release s.pre post s.dev) (plain v))
-    go None t = absurd (true≢false (sym t))
-    go (Some p) t = greater_within s.epoch s.release s.pre p s.dev v
+greater_all : (s v : Record) → IsPlain s → IsPlain v → Around GreaterThan s v
+greater_all s v p q =
+    subst (λ t. Around GreaterThan t v) (sym (is_plain s p)) (subst (Around GreaterThan (plain s)) (sym (is_plain v q)) (greater_around s.epoch s.release s.pre s.post s.dev v))
 
-pub holds_only_matches : (op : Operator) (s : Record) (range : Segments) → range_of op s ≡ Some range → HoldsOnlyMatches op s range
-holds_only_matches LessThan s range h = less_only s range h
-holds_only_matches GreaterThan s range h = greater_only s range h
-holds_only_matches Equal s range h = λ t. absurd (true≢false (sym t))
-holds_only_matches EqualStar s range h = λ t. absurd (true≢false (sym t))
-holds_only_matches ExactEqual s range h = λ t. absurd (true≢false (sym t))
-holds_only_matches NotEqual s range h = λ t. absurd (true≢false (sym t))
-holds_only_matches NotEqualStar s range h = λ t. absurd (true≢false (sym t))
-holds_only_matches TildeEqual s range h = λ t. absurd (true≢false (sym t))
-holds_only_matches LessThanEqual s range h = λ t. absurd (true≢false (sym t))
-holds_only_matches GreaterThanEqual s range h = λ t. absurd (true≢false (sym t))
+-- the version of a `<` and of a `>` is plain
+less_plain : (op : Operator) (s : Record) → op ≡ LessThan → (op ≢ ExactEqual → IsOperand op s) → IsPlain s
+less_plain op s less = subst (λ o. (o ≢ ExactEqual → IsOperand o s) → IsPlain s) (sym less) (λ given. given (λ e. cc e))
 
-greater_all : (s : Record) (range : Segments) → range_of GreaterThan s ≡ Some range → HoldsAllMatches GreaterThan s range
-greater_all s range h t p v q =
-    subst (λ t. IsTrue (not (is_some t.post)) → Around GreaterThan t v) (sym (is_plain s p))
-    (subst (λ w. IsTrue (not (is_some s.post)) → Around GreaterThan (plain s) w) (sym (is_plain v q)) (go s.post)) t range h
-  where
-    go : (post : Option ℕ) → IsTrue (not (is_some post)) → (range : Segments) → greater (parts s.epoch s.release s.pre post s.dev) s.dev post ≡ Some range →
-        IsTrue (matches GreaterThan (parts s.epoch s.release s.pre post s.dev) (plain v)) → IsTrue (contains record_cmp range (plain v))
-    go None t = greater_around s.epoch s.release s.pre s.dev v
-    go (Some p) t = absurd (true≢false (sym t))
+greater_plain : (op : Operator) (s : Record) → op ≡ GreaterThan → (op ≢ ExactEqual → IsOperand op s) → IsPlain s
+greater_plain op s greater = subst (λ o. (o ≢ ExactEqual → IsOperand o s) → IsPlain s) (sym greater) (λ given. given (λ e. cc e))
 
-pub holds_all_matches : (op : Operator) (s : Record) (range : Segments) → range_of op s ≡ Some range → HoldsAllMatches op s range
-holds_all_matches GreaterThan s range h = greater_all s range h
-holds_all_matches LessThan s range h = λ t. absurd (true≢false (sym t))
-holds_all_matches Equal s range h = λ t. absurd (true≢false (sym t))
-holds_all_matches EqualStar s range h = λ t. absurd (true≢false (sym t))
-holds_all_matches ExactEqual s range h = λ t. absurd (true≢false (sym t))
-holds_all_matches NotEqual s range h = λ t. absurd (true≢false (sym t))
-holds_all_matches NotEqualStar s range h = λ t. absurd (true≢false (sym t))
-holds_all_matches TildeEqual s range h = λ t. absurd (true≢false (sym t))
-holds_all_matches LessThanEqual s range h = λ t. absurd (true≢false (sym t))
-holds_all_matches GreaterThanEqual s range h = λ t. absurd (true≢false (sym t))
+pub holds_only_matches : (s : Spec) (range : Segments) → range_of s.operator s.version ≡ Some range → HasOperand s → HoldsOnlyMatches s range
+holds_only_matches s range h given less v q = subst (λ o. Within o s.version v) (sym less) (less_only s.version v (less_plain s.operator s.version less given) q) range h
+
+pub holds_all_matches : (s : Spec) (range : Segments) → range_of s.operator s.version ≡ Some range → HasOperand s → HoldsAllMatches s range
+holds_all_matches s range h given greater v q = subst (λ o. Around o s.version v) (sym greater) (greater_all s.version v (greater_plain s.operator s.version greater given) q) range h

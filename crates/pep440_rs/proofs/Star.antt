@@ -16,7 +16,7 @@ use Rattle.pep440_ranges.specs.Complement.{gaps}
 use Rattle.pep440_ranges.specs.Segments.{contains}
 use Rattle.pep440_version.specs.Key.{suffix_cmp, record_cmp, release_cmp}
 use Rattle.pep440_version.specs.KeyLaws.{record_total}
-use Rattle.pep440_version.specs.Record.{Record, of_parts, public_record}
+use Rattle.pep440_version.specs.Record.{Record, of_parts, epoch_and_release}
 
 pub lt_base : (B S : Ordering) → is_lt S ≡ false → is_lt (ordering_then B (ordering_then S ord.Equal)) ≡ is_lt B
 lt_base ord.Less S h = refl
@@ -43,19 +43,19 @@ star_holds e r raised v h =
     ∙ step_more v.epoch e (release_cmp v.release r) (release_cmp v.release raised)
     ∙ ap (λ b. (v.epoch == e) && b) (prefix_bounds r raised v.release h)
 
-pub star_agrees : (e : ℕ) (r : List ℕ) (v : Record) (range : Segments) → star (public_record e r) ≡ Some range → contains record_cmp range (plain v) ≡ has_prefix (public_record e r) r (plain v)
+pub star_agrees : (e : ℕ) (r : List ℕ) (v : Record) (range : Segments) → star (epoch_and_release e r) ≡ Some range → contains record_cmp range (plain v) ≡ has_prefix (epoch_and_release e r) r (plain v)
 star_agrees e r v range h =
-    let m = mapped _ (star_end (public_record e r) None None) range h in
+    let m = mapped _ (star_end (epoch_and_release e r) None None) range h in
     let n = mapped _ (raised r) m.0 m.1 in
     rw (m.2, n.2)
     (one_segment_holds_between record_total (Included (first_dev e r)) (Excluded (first_dev e n.0)) (plain v)
     ∙ both _ _ _ _ (turn_le (first_dev e r) (plain v)) refl
     ∙ star_holds e r n.0 v (raised_is r n.0 n.1))
 
-pub not_star_agrees : (e : ℕ) (r : List ℕ) (v : Record) (range : Segments) → option_map gaps (star (public_record e r)) ≡ Some range → contains record_cmp range (plain v) ≡ not (has_prefix (public_record e r) r (plain v))
+pub not_star_agrees : (e : ℕ) (r : List ℕ) (v : Record) (range : Segments) → option_map gaps (star (epoch_and_release e r)) ≡ Some range → contains record_cmp range (plain v) ≡ not (has_prefix (epoch_and_release e r) r (plain v))
 not_star_agrees e r v range h =
-    let g = mapped gaps (star (public_record e r)) range h in
-    let m = mapped _ (star_end (public_record e r) None None) g.0 g.1 in
+    let g = mapped gaps (star (epoch_and_release e r)) range h in
+    let m = mapped _ (star_end (epoch_and_release e r) None None) g.0 g.1 in
     rw g.2 (gaps_hold_the_rest record_total g.0 (plain v) (rw m.2 (one_segment_is_range record_total (Included (first_dev e r)) (Excluded m.0))) ∙ ap not (star_agrees e r v g.0 g.1))
 
 -- ---- `~=`

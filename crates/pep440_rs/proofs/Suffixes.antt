@@ -130,32 +130,26 @@ above_dev s v d n e =
     (stages (stage_cmp (stage_of None v.pre v.dev v.post None) (stage_of None s.pre (Some d) s.post None)) _ _
     (inner_then (post_cmp (post_of None v.post) (post_of None s.post)) _ _ (dev_step v.dev d n e)))
 
--- ---- `>` a post-release: what isn't a post-release is above it exactly if it is above the next one
+-- ---- `>` a post-release: above it is from the first developmental release of the next one on
 
-pub above_post : (s v : Record) (p n : ℕ) → v.post ≡ None →
-    not (is_lt (ordering_then (suffix_cmp (plain v) (record (plain s) { post = Some n; dev = None })) ord.Equal)) ≡ is_gt (ordering_then (suffix_cmp (plain v) (record (plain s) { post = Some p; dev = None })) ord.Equal)
-above_post s v p n e =
-    rw (post_stage s.pre None None n p, e)
-    (stages (stage_cmp (stage_of None v.pre v.dev None None) (stage_of None s.pre None (Some p) None)) _ _ refl)
-
--- and from the next one on is above this one
-pub post_within : (s v : Record) (p n : ℕ) → n ≡ p + 1 →
-    not (is_lt (ordering_then (suffix_cmp (plain v) (record (plain s) { post = Some n; dev = None })) ord.Equal)) ≡ true →
-    is_gt (ordering_then (suffix_cmp (plain v) (record (plain s) { post = Some p; dev = None })) ord.Equal) ≡ true
-post_within s v p n e = rw (post_stage s.pre None None n p) (go (stage_cmp (stage_of None v.pre v.dev v.post None) (stage_of None s.pre None (Some p) None)) v.post v.dev)
+post_step : (post dev : Option ℕ) (p n : ℕ) → n ≡ p + 1 →
+    not (is_lt (ordering_then (post_cmp (post_of None post) (PostAt n)) (dev_cmp (dev_of None dev) (DevAt 0))))
+    ≡ is_gt (ordering_then (post_cmp (post_of None post) (PostAt p)) (dev_cmp (dev_of None dev) NoDev))
+post_step None dev p n e = refl
+post_step (Some w) None p n e = go w p n e
   where
-    numbers : (w : ℕ) (d : Ordering) → is_gt d ≡ false →
-        not (is_lt (ordering_then (ordering_then (nat_cmp w n) d) ord.Equal)) ≡ true → is_gt (ordering_then (ordering_then (nat_cmp w p) d) ord.Equal) ≡ true
-    numbers w d k h = grind (arith, nat_tests)
+    go : (w p n : ℕ) → n ≡ p + 1 → not (is_lt (ordering_then (nat_cmp w n) ord.Greater)) ≡ is_gt (ordering_then (nat_cmp w p) ord.Equal)
+    go w p n e = grind (arith, nat_tests)
+post_step (Some w) (Some d) p n e = go w d p n e
+  where
+    go : (w d p n : ℕ) → n ≡ p + 1 → not (is_lt (ordering_then (nat_cmp w n) (nat_cmp d 0))) ≡ is_gt (ordering_then (nat_cmp w p) ord.Less)
+    go w d p n e = grind (arith, nat_tests)
 
-    go : (O : Ordering) (post dev : Option ℕ) →
-        not (is_lt (ordering_then (ordering_then O (ordering_then (post_cmp (post_of None post) (PostAt n)) (dev_cmp (dev_of None dev) NoDev))) ord.Equal)) ≡ true →
-        is_gt (ordering_then (ordering_then O (ordering_then (post_cmp (post_of None post) (PostAt p)) (dev_cmp (dev_of None dev) NoDev))) ord.Equal) ≡ true
-    go ord.Less post dev h = h
-    go ord.Greater post dev h = refl
-    go ord.Equal None dev h = h
-    go ord.Equal (Some w) None h = numbers w ord.Equal refl h
-    go ord.Equal (Some w) (Some d) h = numbers w ord.Less refl h
+pub above_post : (s v : Record) (p n : ℕ) → n ≡ p + 1 →
+    not (is_lt (ordering_then (suffix_cmp (plain v) (record (plain s) { post = Some n; dev = Some 0 })) ord.Equal)) ≡ is_gt (ordering_then (suffix_cmp (plain v) (record (plain s) { post = Some p; dev = None })) ord.Equal)
+above_post s v p n e =
+    rw (post_stage s.pre (Some 0) None n p)
+    (stages (stage_cmp (stage_of None v.pre v.dev v.post None) (stage_of None s.pre None (Some p) None)) _ _ (post_step v.post v.dev p n e))
 
 -- ---- `>` a version with neither: above its last post-release
 

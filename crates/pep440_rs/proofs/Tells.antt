@@ -8,8 +8,8 @@ use Rattle.pep440_version.specs.Patterns.{DerivesPattern}
 use Rattle.pep440_version.specs.Record.{Record}
 use Rattle.pep440_version.specs.Refusals.{PatternRefusal}
 use Rattle.pep440_version.specs.Whole.{front_at, read_pattern}
-use Rattle.pep440_version.proofs.Bridge.{found_pattern, only_pattern}
-use Rattle.pep440_version.proofs.Exactly.{decides_pattern, sound_pattern}
+use Rattle.pep440_version.proofs.Reading.Agreement.{found_pattern, only_pattern}
+use Rattle.pep440_version.proofs.Refusals.ExactlyOne.{decides_pattern, sound_pattern}
 use Rattle.pep440_rs.specs.Build.{BuildRefusal, built_pattern}
 use Rattle.pep440_rs.specs.Operators.{Spells}
 use Rattle.pep440_rs.specs.SpecifierGrammar.{Cut, DerivesSpecifier, Reads, RefusesSpecifier, SpecifierRefusal, MissingOperator, InvalidOperator, MissingVersion, InvalidVersion, InvalidSpecifier, InvalidTrailing}

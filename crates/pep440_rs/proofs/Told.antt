@@ -3,7 +3,7 @@ use Rattle.std.proofs.Common.{◌≡◌, ◌∙◌, ℕ, List, true, Option, Som
 use Rattle.std.specs.List.{list_all}
 use Rattle.std.specs.Prelude.{IfErr, IfSome, Result, Ok, Err, string_bytes}
 use Rattle.std.specs.Str.{encode_utf8_all}
-use Rattle.pep440_version.specs.ErrorTexts.{pattern_refusal_text, pattern_text}
+use Rattle.pep440_version.specs.ErrorTexts.{pattern_refusal_text, pattern_error_text}
 use Rattle.pep440_version.specs.Errors.{pattern_kind_of, pattern_refusal_of}
 use Rattle.pep440_version.specs.Refusals.{LocalEmpty, NoLeadingNumber, NoLeadingReleaseNumber, NumberTooBig, OfVersion, PatternRefusal, RefusesPattern, UnexpectedEnd, Wildcard, WildcardNotTrailing}
 use Rattle.pep440_rs.specs.ErrorTexts.{is_unescaped, operator_text_of, specifier_refusal_text, specifier_text_of}
@@ -17,7 +17,7 @@ use Rattle.pep440_rs.specs.declared.error.ParseErrorKind.TheVariants as parse
 use Rattle.pep440_rs.specs.declared.error.VersionSpecifierParseError.{VersionSpecifierParseError}
 use Rattle.pep440_rs.proofs.Plain.{operator_plain}
 
-pattern_told : (text : List ℕ) (f : PatternRefusal) → RefusesPattern text f → pattern_text (Some f) ≡ Some (pattern_refusal_text f)
+pattern_told : (text : List ℕ) (f : PatternRefusal) → RefusesPattern text f → pattern_error_text (Some f) ≡ Some (pattern_refusal_text f)
 pattern_told text WildcardNotTrailing h = refl
 pattern_told text (OfVersion Wildcard) h = refl
 pattern_told text (OfVersion (NumberTooBig digits)) (front, rest, r, cut, run, zero, more) = rw (run.0) refl
@@ -26,7 +26,7 @@ pattern_told text (OfVersion NoLeadingReleaseNumber) h = refl
 pattern_told text (OfVersion (LocalEmpty c)) h = refl
 pattern_told text (OfVersion (UnexpectedEnd version remaining)) h = refl
 
-version_told : (text : List ℕ) (o : Option PatternRefusal) → IfSome (option_map InvalidVersion o) (RefusesSpecifier text) → IfSome (option_map InvalidVersion o) (λ f. pattern_text o ≡ Some (specifier_refusal_text f))
+version_told : (text : List ℕ) (o : Option PatternRefusal) → IfSome (option_map InvalidVersion o) (RefusesSpecifier text) → IfSome (option_map InvalidVersion o) (λ f. pattern_error_text o ≡ Some (specifier_refusal_text f))
 version_told text None h = tt
 version_told text (Some f) (c, o, spells, some, refuses) = pattern_told (encode_utf8_all c.version) f refuses
 

@@ -1,6 +1,6 @@
 -- When the range of a specifier holds exactly the versions that the specifier contains (PEP 440, "Version
--- specifiers"), and which side stays where it doesn't.
-use Rattle.std.specs.Prelude.{◌≡◌, ◌≢◌, ◌↔◌, ℕ, ◌+◌, ◌≤◌, Bool, true, false, not, ◌&&◌, ◌||◌, List, [], Option, Some, None, is_some, IsTrue, count_by, length, if◌then◌else◌}
+-- specifiers"), and which inclusion holds where it doesn't.
+use Rattle.std.specs.Prelude.{◌≡◌, ◌≢◌, ◌↔◌, ℕ, ◌+◌, ◌≤◌, Bool, true, false, not, ◌||◌, List, [], Option, Some, None, is_some, IsTrue, count_by, length, if◌then◌else◌}
 use Rattle.std.specs.List.{All, Any, list_all}
 use Rattle.pep440_rs.specs.Bounds.{Segments, list_range}
 use Rattle.pep440_rs.specs.Matching.{matches, list_matches, same_release, any_prerelease}
@@ -9,7 +9,7 @@ use Rattle.pep440_rs.specs.declared.operator.Operator.{Operator}
 use Rattle.pep440_rs.specs.declared.operator.Operator.TheVariants.{Equal, EqualStar, ExactEqual, NotEqual, NotEqualStar, TildeEqual, LessThan, LessThanEqual, GreaterThan, GreaterThanEqual}
 use Rattle.pep440_ranges.specs.Segments.{contains, IsRange}
 use Rattle.pep440_version.specs.Key.{record_cmp}
-use Rattle.pep440_version.specs.Record.{Record, of_release, public_record}
+use Rattle.pep440_version.specs.Record.{Record, of_release, epoch_and_release}
 
 -- ---- what is presupposed of the versions
 
@@ -25,8 +25,8 @@ abbrev pub IsOperand : Operator → Record → Type 0
 IsOperand Equal s = Unit {0}
 IsOperand NotEqual s = Unit {0}
 IsOperand ExactEqual s = ⊥
-IsOperand EqualStar s = s ≡ public_record s.epoch s.release
-IsOperand NotEqualStar s = s ≡ public_record s.epoch s.release
+IsOperand EqualStar s = s ≡ epoch_and_release s.epoch s.release
+IsOperand NotEqualStar s = s ≡ epoch_and_release s.epoch s.release
 IsOperand TildeEqual s = IsPlain s
 IsOperand LessThan s = IsPlain s
 IsOperand LessThanEqual s = IsPlain s
@@ -37,70 +37,41 @@ IsOperand GreaterThanEqual s = IsPlain s
 abbrev pub HasOperand : Spec → Type 0
 HasOperand s = s.operator ≢ ExactEqual → IsOperand s.operator s.version
 
--- a release, with neither pre, post nor dev
-abbrev pub is_final : Record → Bool
-is_final s = not (is_some s.pre) && not (is_some s.post) && not (is_some s.dev)
+-- a post-release, or a release with neither pre nor dev
+abbrev pub is_post_or_final : Record → Bool
+is_post_or_final s = is_some s.post || not (any_prerelease s)
 
 -- no suffix stands on which range and matching part. For `<`: the two differ in epoch or release, or s isn't
--- a post-release, or it has pre or dev. For `>`: they differ so, or v isn't a post-release, or s is final
+-- a post-release, or it has pre or dev. For `>`: they differ so, or v isn't a post-release, or s is one or has
+-- neither pre nor dev
 abbrev pub IsSuffixComparable : Operator → Record → Record → Type 0
 IsSuffixComparable LessThan s v = IsTrue (not (same_release s v) || not (is_some s.post) || any_prerelease s)
-IsSuffixComparable GreaterThan s v = IsTrue (not (same_release s v) || not (is_some v.post) || is_final s)
+IsSuffixComparable GreaterThan s v = IsTrue (not (same_release s v) || not (is_some v.post) || is_post_or_final s)
 IsSuffixComparable _ s v = Unit {0}
 
--- range and matching can be compared
-pub record IsComparable (op : Operator) (s v : Record) : Type 0 where
-  pub operand : IsOperand op s
-  pub plain : IsPlain v
-  pub suffixes : IsSuffixComparable op s v
-
--- ---- the whole order
-
--- the range holds exactly what the specifier contains
-abbrev pub Agrees : Operator → Record → Segments → Type 0
-Agrees op s range = (v : Record) → IsComparable op s v → contains record_cmp range v ≡ matches op s v
-
--- whatever the suffixes, the range of `<`, and that of `>` a post-release, holds only what matches
-abbrev pub is_narrow : Operator → Record → Bool
-is_narrow LessThan s = true
-is_narrow GreaterThan s = is_some s.post
-is_narrow _ s = false
-
-abbrev pub HoldsOnlyMatches : Operator → Record → Segments → Type 0
-HoldsOnlyMatches op s range = IsTrue (is_narrow op s) → IsPlain s → (v : Record) → IsPlain v → IsTrue (contains record_cmp range v) → IsTrue (matches op s v)
-
--- and the range of `>` another version holds all that matches
-abbrev pub is_wide : Operator → Record → Bool
-is_wide GreaterThan s = not (is_some s.post)
-is_wide _ s = false
-
-abbrev pub HoldsAllMatches : Operator → Record → Segments → Type 0
-HoldsAllMatches op s range = IsTrue (is_wide op s) → IsPlain s → (v : Record) → IsPlain v → IsTrue (matches op s v) → IsTrue (contains record_cmp range v)
-
--- of a list: where each member can be compared
-abbrev pub ListAgrees : List Spec → Segments → Type 0
-ListAgrees members range = (v : Record) → All (λ m. IsComparable m.operator m.version v) members → contains record_cmp range v ≡ list_matches members v
-
--- ---- of what a text gives
-
--- range and matching of a specifier that a text gives can be compared at v
+-- range and matching of the specifier can be compared at v
 pub record IsCandidate (s : Spec) (v : Record) : Type 0 where
   pub operator : s.operator ≢ ExactEqual
   pub plain : IsPlain v
   pub suffixes : IsSuffixComparable s.operator s.version v
 
-abbrev pub AgreesThere : Spec → Segments → Type 0
-AgreesThere s range = (v : Record) → IsCandidate s v → contains record_cmp range v ≡ matches s.operator s.version v
+-- ---- the whole order, of a specifier whose version a text can give
 
-abbrev pub ListAgreesThere : List Spec → Segments → Type 0
-ListAgreesThere members range = (v : Record) → All (λ m. IsCandidate m v) members → contains record_cmp range v ≡ list_matches members v
+-- the range holds exactly what the specifier contains
+abbrev pub Agrees : Spec → Segments → Type 0
+Agrees s range = (v : Record) → IsCandidate s v → contains record_cmp range v ≡ matches s.operator s.version v
 
--- and the side that stays
-abbrev pub HoldsOnlyMatchesThere : Spec → Segments → Type 0
-HoldsOnlyMatchesThere s range = IsTrue (is_narrow s.operator s.version) → (v : Record) → IsPlain v → IsTrue (contains record_cmp range v) → IsTrue (matches s.operator s.version v)
+-- whatever the suffixes, the range of `<` holds only what matches
+abbrev pub HoldsOnlyMatches : Spec → Segments → Type 0
+HoldsOnlyMatches s range = s.operator ≡ LessThan → (v : Record) → IsPlain v → IsTrue (contains record_cmp range v) → IsTrue (matches s.operator s.version v)
 
-abbrev pub HoldsAllMatchesThere : Spec → Segments → Type 0
-HoldsAllMatchesThere s range = IsTrue (is_wide s.operator s.version) → (v : Record) → IsPlain v → IsTrue (matches s.operator s.version v) → IsTrue (contains record_cmp range v)
+-- and the range of `>` holds all that matches
+abbrev pub HoldsAllMatches : Spec → Segments → Type 0
+HoldsAllMatches s range = s.operator ≡ GreaterThan → (v : Record) → IsPlain v → IsTrue (matches s.operator s.version v) → IsTrue (contains record_cmp range v)
+
+-- of a list: where each member can be compared
+abbrev pub ListAgrees : List Spec → Segments → Type 0
+ListAgrees members range = (v : Record) → All (λ m. IsCandidate m v) members → contains record_cmp range v ≡ list_matches members v
 
 -- ---- releases alone
 

@@ -11,7 +11,7 @@ use Rattle.pep440_ranges.specs.Complement.{gaps}
 use Rattle.pep440_ranges.specs.Intersection.{overlaps}
 use Rattle.pep440_ranges.specs.Segments.{Segment, one_segment}
 use Rattle.pep440_version.specs.Key.{record_cmp}
-use Rattle.pep440_version.specs.Record.{Record, of_release, public_record}
+use Rattle.pep440_version.specs.Record.{Record, of_release, epoch_and_release}
 use Rattle.pep440_version.specs.declared.prerelease.Prerelease.{Prerelease}
 
 abbrev pub Segments : Type 0
@@ -59,15 +59,16 @@ from_to start end = one_segment record_cmp (Included start) (Excluded end)
 abbrev pub less : Record → Segments
 less s = if any_prerelease s then below s else below (record s { min = Some 0 })
 
--- `>`, by the dev and post of s: from the next one on, or above the mark that is above all its post-releases
+-- `>`, by the dev and post of s: from the next dev on, from the first developmental release of the next post on, or
+-- above the mark that is above all its post-releases
 abbrev pub greater : Record → Option ℕ → Option ℕ → Option Segments
 greater s (Some dev) post = option_map (λ n. from (record s { dev = Some n })) (next_number dev)
-greater s None (Some post) = option_map (λ n. from (record s { post = Some n })) (next_number post)
+greater s None (Some post) = option_map (λ n. from (record s { post = Some n; dev = Some 0 })) (next_number post)
 greater s None None = Some (above (record s { max = Some 0 }))
 
 -- the end of `~=`: the first developmental release of the next release one number shorter
 abbrev pub compatible_end : Record → Option Record
-compatible_end s = option_map (λ release. record (public_record s.epoch release) { dev = Some 0 }) (raised (without_last s.release))
+compatible_end s = option_map (λ release. record (epoch_and_release s.epoch release) { dev = Some 0 }) (raised (without_last s.release))
 
 abbrev pub compatible : Record → Option Segments
 compatible s = option_map (λ end. from_to s end) (compatible_end s)

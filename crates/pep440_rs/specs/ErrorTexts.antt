@@ -2,8 +2,8 @@
 -- is said; no reader of specifiers answers one.
 use Rattle.std.specs.Prelude.{ℕ, List, ◌++◌, ◌==◌, ◌&&◌, Bool, not, nat_le, nat_lt, Option, Some, None, codes, string_bytes, if◌then◌else◌}
 use Rattle.std.specs.List.{list_all}
-use Rattle.pep440_version.specs.Errors.{pattern_kind_of}
-use Rattle.pep440_version.specs.ErrorTexts.{pattern_refusal_text, pattern_text_of}
+use Rattle.pep440_version.specs.Errors.{pattern_error_refusal}
+use Rattle.pep440_version.specs.ErrorTexts.{pattern_refusal_text, pattern_error_text}
 use Rattle.pep440_version.specs.Print.{dotted, segment_print}
 use Rattle.pep440_rs.specs.Build.{BuildRefusal, OperatorLocalCombo, OperatorWithStar, CompatibleRelease}
 use Rattle.pep440_rs.specs.Errors.{build_kind_of, build_refusal_of, operator_kind_of}
@@ -54,7 +54,7 @@ abbrev pub specifier_text_of : ParseErrorKind → Option (List ℕ)
 specifier_text_of parse.MissingOperator = Some (specifier_refusal_text MissingOperator)
 specifier_text_of (parse.InvalidOperator e) = operator_text_of (operator_kind_of e)
 specifier_text_of parse.MissingVersion = Some (specifier_refusal_text MissingVersion)
-specifier_text_of (parse.InvalidVersion e) = pattern_text_of (pattern_kind_of e)
+specifier_text_of (parse.InvalidVersion e) = pattern_error_text (pattern_error_refusal e)
 specifier_text_of (parse.InvalidSpecifier e) = Some (build_error_text (build_kind_of e))
 specifier_text_of (parse.InvalidTrailing rest) = Some (trailing_text (string_bytes rest))
 specifier_text_of parse.OutOfMemory = Some (codes "out of memory")

@@ -28,6 +28,12 @@ JsonAnswers refusal (Err json.NotAString) outcome = ⊥
 JsonAnswers refusal (Err (json.Text e)) outcome = IsSomeAnd (refusal e) (λ f. outcome ≡ Err f)
 JsonAnswers refusal (Err json.OutOfMemory) outcome = Unit {0}
 
+-- the copy says what the error says; of one that holds an error of the text, where that one's copy does
+abbrev pub IsJsonClone : {E : Type 0} → (E → E → Type 0) → JsonError E → JsonError E → Type 0
+IsJsonClone clone json.NotAString copy = copy ≡ json.NotAString
+IsJsonClone {E} clone (json.Text e) copy = (inner : E) × (copy ≡ json.Text inner) × clone e inner
+IsJsonClone clone json.OutOfMemory copy = copy ≡ json.OutOfMemory
+
 -- the text of an error; of one that holds an error of the text that one's
 abbrev pub json_text_of : {E : Type 0} → (E → Option (List ℕ)) → JsonError E → Option (List ℕ)
 json_text_of inner json.NotAString = Some (codes "expected a JSON string")

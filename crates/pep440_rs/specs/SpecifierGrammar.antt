@@ -48,6 +48,10 @@ abbrev pub DerivesSpecifier : List ℕ → Spec → Type 0
 DerivesSpecifier text s = (c : Cut text) × (o : Operator) × (r : Record) × (star : Bool) × Reads c o r star
     × (built_pattern o r star ≡ Ok s) × (c.rest ≡ [])
 
+-- some text means the specifier
+abbrev pub HasText : Spec → Type 0
+HasText s = (text : List ℕ) × DerivesSpecifier text s
+
 -- why a text is no specifier
 pub data SpecifierRefusal : Type 0 where
   MissingOperator : SpecifierRefusal

@@ -1,7 +1,7 @@
 //! Whether a specifier or a list contains a version.
-ghost use Rattle.std.specs.Prelude.{◌≡◌, ◌≢◌, length, drop, not, IfOk, IsOk};
+ghost use Rattle.std.specs.Prelude.{◌≡◌, ◌≢◌, not, IfOk, IsOk, IsTrue};
 ghost use Rattle.std.specs.List.{All};
-ghost use Rattle.pep440_rs.specs.Matching.{matches, list_matches, candidate, same_release, begins_with, has_prefix, is_early, is_late};
+ghost use Rattle.pep440_rs.specs.Matching.{matches, list_matches, is_told_before_exact, candidate, same_release, begins_with, has_prefix, is_early, is_late};
 ghost use Rattle.pep440_rs.specs.declared.operator.Operator.TheVariants.{Equal, EqualStar, ExactEqual, NotEqual, NotEqualStar};
 ghost use Rattle.pep440_version.specs.Key.{record_cmp};
 
@@ -47,7 +47,7 @@ fn same_release(specifier: &Version, version: &Version) -> bool
     ensures { result ≡ same_release specifier.now version.now }
 {
     version.epoch() == specifier.epoch()
-        && cmp_releases(version.release(), specifier.release()) == Ordering::Equal
+        && cmp_releases(version.release(), specifier.release()).is_eq()
 }
 
 fn is_early(specifier: &Version, version: &Version) -> bool
@@ -70,22 +70,22 @@ fn holds(operator: Operator, specifier: &Version, version: &Version) -> bool
     ensures { result ≡ matches operator specifier.now version.now }
 {
     match operator {
-        Operator::Equal => cmp_candidate(specifier, version) == Ordering::Equal,
-        Operator::NotEqual => cmp_candidate(specifier, version) != Ordering::Equal,
+        Operator::Equal => cmp_candidate(specifier, version).is_eq(),
+        Operator::NotEqual => cmp_candidate(specifier, version).is_ne(),
         Operator::EqualStar => has_prefix(specifier, specifier.release(), version),
         Operator::NotEqualStar => !has_prefix(specifier, specifier.release(), version),
         Operator::TildeEqual => {
             has_prefix(specifier, without_last(specifier.release()), version)
-                && cmp_candidate(specifier, version) != Ordering::Less
+                && cmp_candidate(specifier, version).is_ge()
         }
         Operator::LessThan => {
-            cmp_candidate(specifier, version) == Ordering::Less && !is_early(specifier, version)
+            cmp_candidate(specifier, version).is_lt() && !is_early(specifier, version)
         }
-        Operator::LessThanEqual => cmp_candidate(specifier, version) != Ordering::Greater,
+        Operator::LessThanEqual => cmp_candidate(specifier, version).is_le(),
         Operator::GreaterThan => {
-            cmp_candidate(specifier, version) == Ordering::Greater && !is_late(specifier, version)
+            cmp_candidate(specifier, version).is_gt() && !is_late(specifier, version)
         }
-        Operator::GreaterThanEqual => cmp_candidate(specifier, version) != Ordering::Less,
+        Operator::GreaterThanEqual => cmp_candidate(specifier, version).is_ge(),
         Operator::ExactEqual => false,
     }
 }
@@ -115,10 +115,14 @@ impl VersionSpecifiers {
     /// Whether each member contains the version; so the empty list contains every version. The first member that
     /// does not, or that lacks memory, decides (PEP 440, "Version specifiers").
     ///
-    /// Takes memory for members with `===` alone; where there are none it always answers.
+    /// Takes memory for members with `===` alone, and for none behind the first member that does not contain the version;
+    /// where no `===` is asked it always answers.
+    #[tactic(auto, using(crate::proofs::InOrder::told_step, crate::proofs::InOrder::told_open))]
     pub fn contains(&self, alloc: Global, version: &Version) -> Result<bool, AllocError>
         ensures value { IfOk result (λ b. b ≡ list_matches self.now version.now) }
         ensures answered { All (λ m. m.operator ≢ ExactEqual) self.now → IsOk result }
+        // So it does where a member before the first `===` does not contain the version.
+        ensures in_order { IsTrue (is_told_before_exact self.now version.now) → IsOk result }
     {
         for member in self.as_slice() {
             if !member.contains(alloc, version)? {

@@ -1,6 +1,6 @@
 //! The range of a specifier, by the whole order of versions.
 ghost use Rattle.std.specs.Prelude.{◌≡◌, ◌≤◌, length, IfOk, IsErrOf, Some, None};
-ghost use Rattle.pep440_rs.specs.Agreement.{Agrees, HoldsOnlyMatches, HoldsAllMatches};
+ghost use Rattle.pep440_rs.specs.Agreement.{Agrees, HasOperand, HoldsOnlyMatches, HoldsAllMatches};
 ghost use Rattle.pep440_rs.specs.Bounds.{range_of, greater, compatible, compatible_end, star, star_end};
 ghost use Rattle.pep440_rs.specs.Refused.{TellsMax, raises_max};
 ghost use Rattle.pep440_version.specs.Record.{Record};
@@ -32,7 +32,7 @@ fn less(alloc: Global, version: Version) -> Result<Ranges<Version>, AllocError>
     Ranges::strictly_lower_than(alloc, version.with_min(alloc, Some(0))?)
 }
 
-// `>`: from the next dev, from the next post, or above the last post.
+// `>`: from the next dev, from the first dev of the next post, or above every post.
 fn greater(alloc: Global, version: Version) -> Result<Ranges<Version>, RangeError>
     ensures range { IfOk result (λ r. greater version version.dev version.post ≡ Some r) }
     ensures refused { IsErrOf result RangeError.NumberAtMax → greater version version.dev version.post ≡ None }
@@ -42,7 +42,8 @@ fn greater(alloc: Global, version: Version) -> Result<Ranges<Version>, RangeErro
         Ok(Ranges::higher_than(alloc, version.with_dev(alloc, Some(next))?)?)
     } else if let Some(post) = version.post() {
         let next = next_number(post)?;
-        Ok(Ranges::higher_than(alloc, version.with_post(alloc, Some(next))?)?)
+        let next = version.with_post(alloc, Some(next))?;
+        Ok(Ranges::higher_than(alloc, next.with_dev(alloc, Some(0))?)?)
     } else {
         Ok(Ranges::strictly_higher_than(alloc, version.with_max(alloc, Some(0))?)?)
     }
@@ -138,11 +139,12 @@ pub fn specifier_to_range(
     ensures refused { IsErrOf result RangeError.NumberAtMax → range_of specifier.operator specifier.version ≡ None }
     // `NumberAtMax` exactly where the number to be raised is the greatest there is, unless memory runs out.
     ensures at_max { TellsMax (raises_max specifier) result }
-    // It holds exactly what the specifier contains, where the two can be compared.
-    ensures agrees { IfOk result (λ r. Agrees specifier.operator specifier.version r) }
-    // Whatever the suffixes, one side stays for `<` and `>`.
-    ensures within { IfOk result (λ r. HoldsOnlyMatches specifier.operator specifier.version r) }
-    ensures around { IfOk result (λ r. HoldsAllMatches specifier.operator specifier.version r) }
+    // Of a version that a text can give beside the operator it holds exactly what the specifier contains, where the two
+    // can be compared.
+    ensures agrees { HasOperand specifier → IfOk result (Agrees specifier) }
+    // Whatever the suffixes, the range of `<` holds only what matches, and that of `>` all that matches.
+    ensures within { HasOperand specifier → IfOk result (HoldsOnlyMatches specifier) }
+    ensures around { HasOperand specifier → IfOk result (HoldsAllMatches specifier) }
 {
     // From these calls it is known how many release numbers there are at least: for `range_of`, and for `at_max`.
     let _two_numbers = specifier.operator();

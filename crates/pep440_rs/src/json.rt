@@ -11,7 +11,7 @@ ghost use Rattle.pep440_rs.specs.Lists.{joined};
 ghost use Rattle.pep440_rs.specs.SpecifierGrammar.{DerivesSpecifier, RefusesSpecifier, SpecifierRefusal};
 ghost use Rattle.pep440_rs.specs.Specifiers.{Spec, spec_print};
 ghost use Rattle.pep440_rs.specs.declared.json_error.JsonError.TheVariants.{NotAString, Text, OutOfMemory};
-ghost use Rattle.pep440_version.specs.ErrorTexts.{kind_text_of, refusal_text};
+ghost use Rattle.pep440_version.specs.ErrorTexts.{error_text, refusal_text};
 ghost use Rattle.pep440_version.specs.Errors.{kind_of, refusal_of};
 ghost use Rattle.pep440_version.specs.Grammar.{Derives};
 ghost use Rattle.pep440_version.specs.Print.{print};
@@ -97,7 +97,7 @@ pub fn version_from_json(
     // A refusal of the text is one that its fronts tell, and not want of memory.
     ensures refused { IfErr result (λ e. IfText e (λ inner. IsSomeAnd (refusal_of (kind_of inner)) (λ f. (t : List ℕ) × IsString value.now t × Refuses t f))) }
     // The error's text is the refusal's.
-    ensures told { IfErr result (λ e. IfText e (λ inner. IfSome (refusal_of (kind_of inner)) (λ f. kind_text_of (kind_of inner) ≡ Some (refusal_text f)))) }
+    ensures told { IfErr result (λ e. IfText e (λ inner. IfSome (refusal_of (kind_of inner)) (λ f. error_text (refusal_of (kind_of inner)) ≡ Some (refusal_text f)))) }
     // A refusal that the fronts of the text tell is answered, unless memory runs out.
     ensures decided { (t : List ℕ) (f : Refusal) → IsString value.now t → Refuses t f → JsonAnswers (λ e. refusal_of (kind_of e)) result (Err f) }
     // The JSON form of a record is answered with that record, unless memory runs out.

@@ -1,14 +1,15 @@
 //! Why a JSON value is no version, no specifier or no list, and the text of that.
 ghost use Rattle.std.specs.Prelude.{◌≡◌};
-ghost use Rattle.pep440_rs.specs.Json.{json_text_of};
+ghost use Rattle.pep440_rs.specs.Json.{IsJsonClone, json_text_of};
 ghost use Rattle.pep440_rs.specs.declared.json_error.JsonError.TheVariants.{OutOfMemory};
 
 use std::alloc::AllocError;
 use std::error::Error;
 use std::fmt;
 
-/// Why a JSON value is no version, no specifier or no list; `E` is the error of the reader of texts.
-#[derive(Debug, Drop)]
+/// Why a JSON value is no version, no specifier or no list; `E` is the error of the reader of texts. Two are equal
+/// exactly if they say the same.
+#[derive(Debug, PartialEq, Eq, Drop)]
 pub enum JsonError<E> {
     /// The value is no string. So is every number refused, a fraction too.
     NotAString,
@@ -16,6 +17,18 @@ pub enum JsonError<E> {
     Text(E),
     /// Memory ran out, which says nothing of the value.
     OutOfMemory,
+}
+
+impl<E: Clone> Clone for JsonError<E> {
+    ghost is_clone = { IsJsonClone E.is_clone };
+
+    fn clone(&self) -> Result<JsonError<E>, AllocError> {
+        match self {
+            JsonError::NotAString => Ok(JsonError::NotAString),
+            JsonError::Text(error) => Ok(JsonError::Text(error.clone()?)),
+            JsonError::OutOfMemory => Ok(JsonError::OutOfMemory),
+        }
+    }
 }
 
 impl<E> From<AllocError> for JsonError<E> {

@@ -1,12 +1,13 @@
 //! What holds of matching and of ranges, each as the contract of a function that does nothing.
 ghost use Rattle.std.specs.Prelude.{◌≡◌, ◌⊎◌, ℕ, Some, List, not};
 ghost use Rattle.std.specs.List.{All};
-ghost use Rattle.pep440_rs.specs.Agreement.{Agrees, AgreesThere, ListAgreesThere, HoldsOnlyMatchesThere, HoldsAllMatchesThere, HasOperand, HoldsOnlyMatches, HoldsAllMatches, ReleaseAgrees, ListAgrees, ReleaseListAgrees, HoldsInEach, HasFewSegments, RefusedByAMember, GivesRanges, GivesFew};
+ghost use Rattle.pep440_rs.specs.Agreement.{Agrees, HasOperand, HoldsOnlyMatches, HoldsAllMatches, ReleaseAgrees, ListAgrees, ReleaseListAgrees, HoldsInEach, HasFewSegments, RefusedByAMember, GivesRanges, GivesFew};
+ghost use Rattle.pep440_rs.specs.Arrangement.{Arranges};
 ghost use Rattle.pep440_rs.specs.BoundsAgreement.{PairAgrees, ContainsWithin, ContainsOnlyWithin};
 ghost use Rattle.pep440_rs.specs.Bounds.{Segments, range_of, release_range_of, list_range};
 ghost use Rattle.pep440_rs.specs.ListGrammar.{DerivesList, PieceRefusal, RefusesList};
 ghost use Rattle.pep440_rs.specs.Matching.{matches};
-ghost use Rattle.pep440_rs.specs.SpecifierGrammar.{DerivesSpecifier, RefusesSpecifier, SpecifierRefusal};
+ghost use Rattle.pep440_rs.specs.SpecifierGrammar.{DerivesSpecifier, HasText, RefusesSpecifier, SpecifierRefusal};
 ghost use Rattle.pep440_rs.specs.Specifiers.{Spec};
 ghost use Rattle.pep440_version.specs.Record.{Record};
 ghost use Rattle.pep440_rs.specs.Refused.{RefusedAtMax, raised_number, raised_release_number};
@@ -19,14 +20,20 @@ pub fn means_one()
     ensures list { (text : List ℕ) (l m : List Spec) → DerivesList text l → DerivesList text m → l ≡ m }
 {}
 
-/// A text either means a specifier or is refused for exactly one reason; no text both means a list and is refused,
-/// and it is refused for at most one reason.
+/// A text either means a specifier or is refused, never both, and for exactly one reason; so it is of lists.
 pub fn refused_once()
     ensures specifier { (text : List ℕ) (f g : SpecifierRefusal) → RefusesSpecifier text f → RefusesSpecifier text g → f ≡ g }
     ensures either { (text : List ℕ) → ((s : Spec) × DerivesSpecifier text s) ⊎ ((f : SpecifierRefusal) × RefusesSpecifier text f) }
     ensures derived { (text : List ℕ) (s : Spec) (f : SpecifierRefusal) → DerivesSpecifier text s → RefusesSpecifier text f → ⊥ }
     ensures list { (text : List ℕ) (f g : PieceRefusal) → RefusesList text f → RefusesList text g → f ≡ g }
+    ensures either_list { (text : List ℕ) → ((l : List Spec) × DerivesList text l) ⊎ ((f : PieceRefusal) × RefusesList text f) }
     ensures derived_list { (text : List ℕ) (l : List Spec) (f : PieceRefusal) → DerivesList text l → RefusesList text f → ⊥ }
+{}
+
+/// Members have exactly one arrangement.
+pub fn arranged_once()
+    ensures some { (members : List Spec) → (l : List Spec) × Arranges members l }
+    ensures one { (members l m : List Spec) → Arranges members l → Arranges members m → l ≡ m }
 {}
 
 /// `!=` contains exactly what `==` doesn't, and `!=` star exactly what `==` star doesn't.
@@ -37,27 +44,28 @@ pub fn exclusions()
 
 /// What a text gives beside an operator other than `===` is a version for which range and matching can be compared:
 /// beside a star a release with its epoch, beside `==` and `!=` any version, beside the others one without local
-/// part (PEP 440, "Version specifiers"). So it is of each member of a list that a text gives.
+/// part (PEP 440, "Version specifiers"). Each member of a list that a text gives is one that a text gives.
 pub fn texts_give_operands()
-    ensures single { (text : List ℕ) (s : Spec) → DerivesSpecifier text s → HasOperand s }
+    ensures single { (s : Spec) → HasText s → HasOperand s }
+    ensures members { (text : List ℕ) (list : List Spec) → DerivesList text list → All HasText list }
     ensures list { (text : List ℕ) (list : List Spec) → DerivesList text list → All HasOperand list }
 {}
 
-/// Where range and matching can be compared, the range holds exactly what the specifier contains; else one side
-/// stays.
+/// Of a version that a text can give beside the operator the range holds exactly what the specifier contains, where the
+/// two can be compared; whatever the suffixes, the range of `<` holds only what matches, and that of `>` all that
+/// matches. So it is of each specifier that a text gives (`texts_give_operands`).
 pub fn range_agrees()
-    ensures agrees { (op : Operator) (s : Record) (range : Segments) → range_of op s ≡ Some range → Agrees op s range }
-    ensures within { (op : Operator) (s : Record) (range : Segments) → range_of op s ≡ Some range → HoldsOnlyMatches op s range }
-    ensures around { (op : Operator) (s : Record) (range : Segments) → range_of op s ≡ Some range → HoldsAllMatches op s range }
+    ensures agrees { (s : Spec) (range : Segments) → range_of s.operator s.version ≡ Some range → HasOperand s → Agrees s range }
+    ensures within { (s : Spec) (range : Segments) → range_of s.operator s.version ≡ Some range → HasOperand s → HoldsOnlyMatches s range }
+    ensures around { (s : Spec) (range : Segments) → range_of s.operator s.version ≡ Some range → HasOperand s → HoldsAllMatches s range }
 {}
 
-/// The same of what a text gives, whose version is always one for which the two can be compared: the operator is not
-/// `===`, the candidate has no local part and no marks, and no suffix stands on which range and matching part.
+/// The same of what texts give, alone or as members of any list, in one step.
 pub fn range_of_text_agrees()
-    ensures single { (text : List ℕ) (s : Spec) (range : Segments) → DerivesSpecifier text s → range_of s.operator s.version ≡ Some range → AgreesThere s range }
-    ensures list { (text : List ℕ) (list : List Spec) (range : Segments) → DerivesList text list → list_range range_of list ≡ Some range → ListAgreesThere list range }
-    ensures within { (text : List ℕ) (s : Spec) (range : Segments) → DerivesSpecifier text s → range_of s.operator s.version ≡ Some range → HoldsOnlyMatchesThere s range }
-    ensures around { (text : List ℕ) (s : Spec) (range : Segments) → DerivesSpecifier text s → range_of s.operator s.version ≡ Some range → HoldsAllMatchesThere s range }
+    ensures single { (s : Spec) (range : Segments) → range_of s.operator s.version ≡ Some range → HasText s → Agrees s range }
+    ensures list { (members : List Spec) (range : Segments) → list_range range_of members ≡ Some range → All HasText members → ListAgrees members range }
+    ensures within { (s : Spec) (range : Segments) → range_of s.operator s.version ≡ Some range → HasText s → HoldsOnlyMatches s range }
+    ensures around { (s : Spec) (range : Segments) → range_of s.operator s.version ≡ Some range → HasText s → HoldsAllMatches s range }
 {}
 
 /// Of releases alone the release-only range holds exactly what the specifier contains.
@@ -67,7 +75,7 @@ pub fn release_range_agrees()
 
 /// The same of lists, by either conversion.
 pub fn list_agrees()
-    ensures whole { (members : List Spec) (range : Segments) → list_range range_of members ≡ Some range → ListAgrees members range }
+    ensures whole { (members : List Spec) (range : Segments) → list_range range_of members ≡ Some range → All HasOperand members → ListAgrees members range }
     ensures release { (members : List Spec) (range : Segments) → list_range release_range_of members ≡ Some range → ReleaseListAgrees members range }
 {}
 

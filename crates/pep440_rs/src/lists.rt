@@ -1,6 +1,7 @@
 //! The range of a list of specifiers, by either conversion.
 ghost use Rattle.std.specs.Prelude.{◌≡◌, IfOk, IsErrOf, Some, None};
-ghost use Rattle.pep440_rs.specs.Agreement.{ListAgrees, ReleaseListAgrees, HoldsInEach, HasFewSegments};
+ghost use Rattle.std.specs.List.{All};
+ghost use Rattle.pep440_rs.specs.Agreement.{HasOperand, ListAgrees, ReleaseListAgrees, HoldsInEach, HasFewSegments};
 ghost use Rattle.pep440_rs.specs.Bounds.{range_of, release_range_of, list_range};
 ghost use Rattle.pep440_rs.specs.Refused.{TellsMax, some_raises_max, some_release_raises_max};
 
@@ -43,8 +44,9 @@ pub fn specifiers_to_ranges(
     ensures refused { IsErrOf result RangeError.NumberAtMax → list_range range_of specifiers ≡ None }
     // `NumberAtMax` exactly where some member has to raise the greatest number there is, unless memory runs out.
     ensures at_max { TellsMax (some_raises_max specifiers) result }
-    // It holds exactly what the list contains, where range and matching of each member can be compared.
-    ensures agrees { IfOk result (λ r. ListAgrees specifiers r) }
+    // Of members whose versions texts can give it holds exactly what the list contains, where range and matching of each
+    // can be compared.
+    ensures agrees { All HasOperand specifiers → IfOk result (ListAgrees specifiers) }
     // It holds what the range of each member holds.
     ensures set { IfOk result (λ r. HoldsInEach range_of specifiers r) }
     // It has at most one segment more than the list has exclusions.

@@ -1,6 +1,6 @@
 //! The readers of specifiers.
 ghost use Rattle.std.specs.Prelude.{◌==◌, ◌<◌, ◌+◌, ◌^◌, ◌≡◌, ◌++◌, ◌∷◌, [], length, Ok, IfOk, Err, IfErr, if◌then◌else◌};
-ghost use Rattle.pep440_version.specs.Errors.{PatternAnswers};
+ghost use Rattle.pep440_version.specs.Errors.{Answers, pattern_error_refusal};
 ghost use Rattle.pep440_version.specs.Whole.{read_pattern};
 ghost use Rattle.pep440_rs.specs.Build.{built_pattern};
 ghost use Rattle.pep440_rs.specs.Errors.{SpecifierGives};
@@ -36,7 +36,7 @@ fn with_pattern(
 
 // What the text reads as, by what the reader of patterns promises.
 fn pattern(alloc: Global, text: &str) -> Result<VersionPattern, VersionPatternParseError>
-    ensures { PatternAnswers result (read_pattern text.now) }
+    ensures { Answers pattern_error_refusal result (read_pattern text.now) }
 {
     VersionPattern::from_str(alloc, text)
 }

@@ -3,6 +3,7 @@ ghost use Rattle.std.specs.Prelude.{◌≡◌, ◌++◌, option_to_list};
 ghost use Rattle.std.specs.Iterator.{YieldsFirst, item_count};
 
 use crate::specifier::VersionSpecifier;
+use std::alloc::AllocError;
 use std::marker::Model;
 
 /// The specifiers of a pair of bounds in order, at most two; made by `VersionSpecifier::from_release_only_bounds`.
@@ -32,6 +33,17 @@ impl ReleaseBounds {
         ensures { result ≡ option_to_list first ++ option_to_list second }
     {
         ReleaseBounds { first, second }
+    }
+}
+
+impl Clone for ReleaseBounds {
+    ghost is_clone = { λ bounds copy. copy ≡ bounds };
+
+    fn clone(&self) -> Result<ReleaseBounds, AllocError> {
+        Ok(ReleaseBounds {
+            first: self.first.clone()?,
+            second: self.second.clone()?,
+        })
     }
 }
 

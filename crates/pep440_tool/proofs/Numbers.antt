@@ -5,7 +5,7 @@ use Rattle.std.specs.Char.{is_ascii_digit}
 use Rattle.std.specs.List.{list_all}
 use Rattle.std.specs.Result.{result_ok}
 use Rattle.std.specs.Str.Parse.{digits_value, ParsesUnsigned}
-use Rattle.pep440_version.proofs.Values.{value_of}
+use Rattle.pep440_version.proofs.Reading.Digits.{value_of}
 use Rattle.pep440_tool.specs.ChangeWords.{is_run, number_of}
 
 both : (a b : Bool) → (a && b) ≡ true → (a ≡ true) × (b ≡ true)

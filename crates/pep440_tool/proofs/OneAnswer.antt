@@ -14,8 +14,8 @@ use Rattle.pep440_version.specs.KeyLaws.{record_total}
 use Rattle.pep440_version.specs.Print.{print}
 use Rattle.pep440_version.specs.Record.{Record}
 use Rattle.pep440_version.specs.Refusals.{Refusal}
-use Rattle.pep440_version.proofs.Bridge.{one_record}
-use Rattle.pep440_version.proofs.Exactly.{not_both, one_refusal}
+use Rattle.pep440_version.proofs.Reading.Agreement.{one_record}
+use Rattle.pep440_version.proofs.Refusals.ExactlyOne.{not_both, one_refusal}
 use Rattle.pep440_tool.specs.Answers.{Reads, ReadsList, ToolAnswer, refused, refused_list, shown_lines}
 use Rattle.pep440_tool.specs.Commands.{Show, Compare, Match, Edit, Range, Filter, Usage}
 use Rattle.pep440_tool.specs.Lines.{ArrangesVersions, LineFault, LineMeans, LinesMean, RefusesLine, ShowsKept, is_skipped, kept, line_fault_text, lines}

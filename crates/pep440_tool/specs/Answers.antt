@@ -17,7 +17,7 @@ use Rattle.pep440_version.specs.Changes.{Edit, changed_all}
 use Rattle.pep440_version.specs.ErrorTexts.{refusal_text, change_error_text}
 use Rattle.pep440_version.specs.Grammar.{Derives}
 use Rattle.pep440_version.specs.Key.{record_cmp}
-use Rattle.pep440_version.specs.Print.{print, marked}
+use Rattle.pep440_version.specs.Print.{print, labelled}
 use Rattle.pep440_version.specs.Record.{Record}
 use Rattle.pep440_version.specs.Refusals.{Refusal, Refuses}
 use Rattle.pep440_version.specs.declared.change.ChangeError.{ChangeError}
@@ -84,7 +84,7 @@ CompareAnswer left right a = Reads left (λ r. Reads right (λ q. a ≡ shown (s
 
 -- the print, and then the marks that it leaves out
 abbrev pub marked_print : Record → List ℕ
-marked_print r = print r ++ (marked (codes "~min") r.min ++ marked (codes "~max") r.max)
+marked_print r = print r ++ (labelled (codes "~min") r.min ++ labelled (codes "~max") r.max)
 
 -- the version that was reached, or the change that can't be made
 abbrev pub edited_answer : Result Record ChangeError → ToolAnswer

@@ -103,7 +103,7 @@ struct Lines<'a> {
     versions: &'a [Version],
 }
 
-#[tactic(auto, using(pep440_version::proofs::Printing::two_writes))]
+#[tactic(auto, using(pep440_version::proofs::Reread::Writing::two_writes))]
 fn write_line<W: fmt::Write>(f: &mut fmt::Formatter<W>, version: &Version) -> fmt::Result
     ensures { WritesStyledOnOk W.write_str_gives f.old result (line (print version.now)) f.new }
 {

@@ -4,6 +4,7 @@ use crate::specifiers::built::unchecked;
 use pep440_rs::Operator;
 use std::test::Fail;
 
+mod requests;
 mod sweeps;
 
 // A list, a version, and whether the list contains it.

@@ -62,7 +62,7 @@ fn told(rt: HostRuntime, range: Result<Ranges<Version>, RangeError>) -> Result<S
 const REFUSED: &str = "a number of 18446744073709551615 cannot be raised";
 
 // PEP 440, "Version specifiers": by the whole order.
-const WHOLE: [Row; 30] = [
+const WHOLE: [Row; 34] = [
     ("", "(*, *)"),
     ("==1.2.*", "[1.2.dev0, 1.3.dev0)"),
     ("!=1.0.*", "(*, 1.0.dev0)[1.1.dev0, *)"),
@@ -82,7 +82,14 @@ const WHOLE: [Row; 30] = [
     ("<1.0.post1", "(*, 1.0.post1~min0)"),
     (">1.0", "(1.0~max0, *)"),
     (">1.0.dev3", "[1.0.dev4, *)"),
-    (">1.0.post1", "[1.0.post2, *)"),
+    (">1.0.post1", "[1.0.post2.dev0, *)"),
+    (">1.0a1.post3", "[1.0a1.post4.dev0, *)"),
+    (">1.0.post1.dev3", "[1.0.post1.dev4, *)"),
+    (">1!2.post0", "[1!2.post1.dev0, *)"),
+    (
+        ">1.0.post18446744073709551614",
+        "[1.0.post18446744073709551615.dev0, *)",
+    ),
     (
         ">1.0a18446744073709551615",
         "(1.0a18446744073709551615~max0, *)",
@@ -221,12 +228,20 @@ fn above_max(rt: HostRuntime) -> Result<(), Fail> {
     Ok(())
 }
 
-// Where range and matching part: `>` a pre-release, and `<` a post-release; a version, and whether the specifier
-// contains it. The last is in neither.
-const PARTED: [(&str, &str, bool, bool); 3] = [
+// A specifier and a version, whether it is contained, and whether it is in the range: they part at `>` a pre-release or
+// a developmental release, and at `<` a post-release.
+const BESIDE: [(&str, &str, bool, bool); 11] = [
     (">1.0a1", "1.0a2.post1", false, true),
+    (">1.0.dev3", "1.0.post1", false, true),
     ("<1.0.post1", "1.0", true, false),
     ("<0", "0.dev0", false, false),
+    (">1.0.post1", "1.0.post2.dev1", true, true),
+    (">1.0.post1", "1.0.post2.dev0", true, true),
+    (">1.0.post1", "1.0.post1", false, false),
+    (">1.0.post1", "1.0", false, false),
+    (">1.0.post1", "1.0.post1.dev9", false, false),
+    (">1.0a1.post3", "1.0a1.post4.dev0", true, true),
+    (">1.0a1.post3", "1.0a1.post3", false, false),
 ];
 
 // Whether the specifier contains the version, and whether its range does.
@@ -238,8 +253,8 @@ fn held(rt: HostRuntime, text: &str, candidate: &Version) -> Result<(bool, bool)
 }
 
 #[test]
-fn parted(rt: HostRuntime) -> Result<(), Fail> {
-    for (text, candidate, contained, within) in PARTED {
+fn beside_matching(rt: HostRuntime) -> Result<(), Fail> {
+    for (text, candidate, contained, within) in BESIDE {
         let found = held(rt, text, &version(rt, candidate)?)?;
         assert!(rt; found == (contained, within), "{text} and {candidate}");
     }

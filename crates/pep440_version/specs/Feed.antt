@@ -1,11 +1,11 @@
 -- What a version gives to a hasher: the parts of its key, each number as a write of its own.
-use Rattle.std.specs.Prelude.{Bool, ℕ, List, [], ◌∷◌, ◌++◌, length}
+use Rattle.std.specs.Prelude.{ℕ, List, [], ◌∷◌, ◌++◌, length}
 use Rattle.std.specs.Hash.{HashWrites, u64}
 use Rattle.std.specs.List.{flat_map}
 use Rattle.pep440_version.specs.declared.prerelease.PrereleaseKind.{PrereleaseKind}
 use Rattle.pep440_version.specs.declared.prerelease.PrereleaseKind.TheVariants.{Alpha, Beta, Rc}
 use Rattle.pep440_version.specs.declared.prerelease.Prerelease.{Prerelease}
-use Rattle.pep440_version.specs.Key.{Key, key, Stage, Min, Dev, Pre, Final, stage_rank, PostPlace, NoPost, PostAt, PostTop, DevPlace, DevAt, NoDev, star_number}
+use Rattle.pep440_version.specs.Key.{Key, key, Stage, Min, Dev, Pre, Final, stage_place, PostPlace, NoPost, PostAt, PostTop, DevPlace, DevAt, NoDev}
 use Rattle.pep440_version.specs.Record.{Record, Segment, Text, Number}
 use Rattle.pep440_version.specs.Trim.{trim}
 
@@ -13,7 +13,7 @@ use Rattle.pep440_version.specs.Trim.{trim}
 abbrev pub feed_stage : Stage → HashWrites
 feed_stage Min = u64 0
 feed_stage Dev = u64 1
-feed_stage (Pre k n) = u64 (stage_rank (Pre k n)) ++ u64 n
+feed_stage (Pre k n) = u64 (stage_place (Pre k n)).0 ++ u64 n
 feed_stage Final = u64 5
 
 -- 0, or 1 and the number, or 2 and the number of the mark
@@ -32,7 +32,7 @@ abbrev pub feed_segment : Segment → HashWrites
 feed_segment (Text t) = u64 0 ++ u64 (length t) ++ (t ∷ [])
 feed_segment (Number n) = u64 1 ++ u64 n
 
--- a release without the zeros at its end, after its count
+-- how many numbers, and each of them
 abbrev pub feed_numbers : List ℕ → HashWrites
 feed_numbers numbers = u64 (length numbers) ++ flat_map u64 numbers
 
@@ -56,7 +56,3 @@ feed_kind Rc = u64 2
 
 abbrev pub feed_prerelease : Prerelease → HashWrites
 feed_prerelease p = feed_kind p.kind ++ u64 p.number
-
--- a pattern: its version, and whether a star follows
-abbrev pub feed_pattern : Record × Bool → HashWrites
-feed_pattern p = feed p.0 ++ u64 (star_number p.1)

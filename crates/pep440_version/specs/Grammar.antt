@@ -1,5 +1,5 @@
 -- The texts of versions (PEP 440, "Public version identifiers", "Normalization" and Appendix B): a text means a
--- record if it can be cut into w1 v E R P Q D L w2, each the text of its part.
+-- record if it can be cut into w1 v e n p q d l w2, each the text of its part.
 use Rattle.std.specs.Prelude.{◌≡◌, ℕ, ◌<◌, ◌==◌, ◌||◌, ◌⊎◌, Bool, true, List, [], ◌∷◌, ◌++◌, codes, length, ◌^◌, ◌&&◌, false, map, Option, Some, None, nat_lt, if◌then◌else◌}
 use Rattle.std.specs.Char.{is_ascii_digit, is_ascii_alphanumeric, to_ascii_lowercase}
 use Rattle.std.specs.List.{list_all}
@@ -28,8 +28,8 @@ abbrev pub is_v : ℕ → Bool
 is_v b = (b == 118) || (b == 86)
 
 -- nothing, or the letter v (PEP 440, "Preceding v character")
-abbrev pub IsMark : List ℕ → Type 0
-IsMark text = (text ≡ []) ⊎ (text ≡ codes "v") ⊎ (text ≡ codes "V")
+abbrev pub IsLeadingV : List ℕ → Type 0
+IsLeadingV text = (text ≡ []) ⊎ (text ≡ codes "v") ⊎ (text ≡ codes "V")
 
 -- one or more digits, zeros may lead, with a value that fits (PEP 440, "Integer Normalization")
 abbrev pub IsNumber : List ℕ → ℕ → Type 0
@@ -57,7 +57,7 @@ IsSeparator text = (text ≡ []) ⊎ ((b : ℕ) × (is_separator b ≡ true) × 
 abbrev pub IsCount : List ℕ → ℕ → Type 0
 IsCount text n = ((text ≡ []) × (n ≡ 0)) ⊎ IsNumber text n
 
--- how parts are spelled, without ASCII case
+-- how parts are spelled, in lower case, and what each spelling stands for
 abbrev pub Spellings : Type 0 → Type 0
 Spellings A = List (List ℕ × A)
 
@@ -110,12 +110,14 @@ abbrev pub IsDev : List ℕ → List ℕ → Option ℕ → Type 0
 IsDev part after None = part ≡ []
 IsDev part after (Some n) = IsSpelled dev_spellings part after tt n
 
--- digits whose value fits are a number, and every other segment is its lower-cased text (PEP 440, "Local version
+-- digits alone, whose value fits
+abbrev pub is_numeral : List ℕ → Bool
+is_numeral text = list_all is_ascii_digit text && nat_lt (digits_value 10 text) (2 ^ 64)
+
+-- a numeral is a number, and every other segment is its lower-cased text (PEP 440, "Local version
 -- identifiers", "Case sensitivity")
 abbrev pub segment_of : List ℕ → Segment
-segment_of text =
-    if list_all is_ascii_digit text && nat_lt (digits_value 10 text) (2 ^ 64) then Number (digits_value 10 text)
-    else Text (map to_ascii_lowercase text)
+segment_of text = if is_numeral text then Number (digits_value 10 text) else Text (map to_ascii_lowercase text)
 
 -- one or more ASCII letters and digits
 abbrev pub IsSegment : List ℕ → Segment → Type 0
@@ -132,7 +134,8 @@ abbrev pub IsLocal : List ℕ → List Segment → Type 0
 IsLocal part [] = part ≡ []
 IsLocal part (s ∷ rest) = (text : List ℕ) × AreSegments text (s ∷ rest) × (part ≡ codes "+" ++ text)
 
--- the text means the record: it is cut into blanks, the letter v, epoch, release, pre, post, dev, local and blanks
+-- the text means the record: it is cut into blanks w1, the letter v, epoch e, release n, pre p, post q, dev d, local l
+-- and blanks w2
 pub record Derives (text : List ℕ) (r : Record) : Type 0 where
   pub w1 : List ℕ
   pub v : List ℕ
@@ -145,7 +148,7 @@ pub record Derives (text : List ℕ) (r : Record) : Type 0 where
   pub w2 : List ℕ
   pub cut : text ≡ w1 ++ (v ++ (e ++ (n ++ (p ++ (q ++ (d ++ (l ++ w2)))))))
   pub blanks : AreBlanks w1
-  pub mark : IsMark v
+  pub letter : IsLeadingV v
   pub epoch : IsEpoch e r.epoch
   pub release : IsRelease n r.release
   pub pre : IsPre p (q ++ (d ++ (l ++ w2))) r.pre

@@ -1,9 +1,9 @@
 -- How versions are ordered (PEP 440, "Summary of permitted suffixes and relative ordering"): each record
 -- has a key, and keys are compared part by part. Absence is a case of its own.
-use Rattle.std.specs.Prelude.{Bool, true, false, ℕ, List, [], ◌∷◌, Option, Some, None}
+use Rattle.std.specs.Prelude.{ℕ, List, [], ◌∷◌, Option, Some, None}
 use Rattle.std.specs.Ordering.{nat_cmp, on, ordering_then, then_cmp}
 use Rattle.std.specs.declared.cmp.Ordering.{Ordering}
-use Rattle.std.specs.declared.cmp.Ordering.TheVariants.{Equal}
+use Rattle.std.specs.declared.cmp.Ordering.TheVariants.{Less, Equal, Greater}
 use Rattle.std.specs.Cmp.Lexicographic.{slice_cmp}
 use Rattle.pep440_version.specs.declared.prerelease.PrereleaseKind.{PrereleaseKind}
 use Rattle.pep440_version.specs.declared.prerelease.PrereleaseKind.TheVariants.{Alpha, Beta, Rc}
@@ -78,74 +78,45 @@ release_cmp [] (y ∷ ys) = ordering_then (nat_cmp 0 y) (release_cmp [] ys)
 release_cmp (x ∷ xs) [] = ordering_then (nat_cmp x 0) (release_cmp xs [])
 release_cmp (x ∷ xs) (y ∷ ys) = ordering_then (nat_cmp x y) (release_cmp xs ys)
 
--- Min < Dev < Pre Alpha < Pre Beta < Pre Rc < Final
-abbrev pub stage_rank : Stage → ℕ
-stage_rank Min = 0
-stage_rank Dev = 1
-stage_rank (Pre Alpha n) = 2
-stage_rank (Pre Beta n) = 3
-stage_rank (Pre Rc n) = 4
-stage_rank Final = 5
+-- Min < Dev < Pre Alpha < Pre Beta < Pre Rc < Final; pre-releases of one kind by number
+abbrev pub stage_place : Stage → ℕ × ℕ
+stage_place Min = (0, 0)
+stage_place Dev = (1, 0)
+stage_place (Pre Alpha n) = (2, n)
+stage_place (Pre Beta n) = (3, n)
+stage_place (Pre Rc n) = (4, n)
+stage_place Final = (5, 0)
 
--- the number of a pre-release
-abbrev pub stage_number : Stage → ℕ
-stage_number Min = 0
-stage_number Dev = 0
-stage_number (Pre k n) = n
-stage_number Final = 0
+-- NoPost < PostAt < PostTop; two of one case by number
+abbrev pub post_place : PostPlace → ℕ × ℕ
+post_place NoPost = (0, 0)
+post_place (PostAt p) = (1, p)
+post_place (PostTop m) = (2, m)
 
--- NoPost < PostAt < PostTop
-abbrev pub post_rank : PostPlace → ℕ
-post_rank NoPost = 0
-post_rank (PostAt p) = 1
-post_rank (PostTop m) = 2
+-- DevAt < NoDev; developmental releases by number
+abbrev pub dev_place : DevPlace → ℕ × ℕ
+dev_place (DevAt d) = (0, d)
+dev_place NoDev = (1, 0)
 
--- the number of a post-release or of the mark
-abbrev pub post_number : PostPlace → ℕ
-post_number NoPost = 0
-post_number (PostAt p) = p
-post_number (PostTop m) = m
+-- by rank, then by number
+abbrev pub place_cmp : ℕ × ℕ → ℕ × ℕ → Ordering
+place_cmp = then_cmp (on (λ p. p.0) nat_cmp) (on (λ p. p.1) nat_cmp)
 
--- DevAt < NoDev
-abbrev pub dev_rank : DevPlace → ℕ
-dev_rank (DevAt d) = 0
-dev_rank NoDev = 1
-
--- the number of a developmental release
-abbrev pub dev_number : DevPlace → ℕ
-dev_number (DevAt d) = d
-dev_number NoDev = 0
-
--- a text is below every number
-abbrev pub segment_rank : Segment → ℕ
-segment_rank (Text t) = 0
-segment_rank (Number n) = 1
-
--- the text, for texts are compared by their bytes
-abbrev pub segment_text : Segment → List ℕ
-segment_text (Text t) = t
-segment_text (Number n) = []
-
--- the number, for numbers are compared by their value
-abbrev pub segment_number : Segment → ℕ
-segment_number (Text t) = 0
-segment_number (Number n) = n
-
--- by stage, then by number
 abbrev pub stage_cmp : Stage → Stage → Ordering
-stage_cmp = then_cmp (on stage_rank nat_cmp) (on stage_number nat_cmp)
+stage_cmp = on stage_place place_cmp
 
--- by place, then by number
 abbrev pub post_cmp : PostPlace → PostPlace → Ordering
-post_cmp = then_cmp (on post_rank nat_cmp) (on post_number nat_cmp)
+post_cmp = on post_place place_cmp
 
--- by place, then by number
 abbrev pub dev_cmp : DevPlace → DevPlace → Ordering
-dev_cmp = then_cmp (on dev_rank nat_cmp) (on dev_number nat_cmp)
+dev_cmp = on dev_place place_cmp
 
--- texts below numbers, texts by bytes, numbers by value
+-- a text is below every number; texts by their bytes, numbers by their value
 abbrev pub segment_cmp : Segment → Segment → Ordering
-segment_cmp = then_cmp (on segment_rank nat_cmp) (then_cmp (on segment_text (slice_cmp nat_cmp)) (on segment_number nat_cmp))
+segment_cmp (Text s) (Text t) = slice_cmp nat_cmp s t
+segment_cmp (Text s) (Number n) = Less
+segment_cmp (Number m) (Text t) = Greater
+segment_cmp (Number m) (Number n) = nat_cmp m n
 
 -- a beginning of a longer local is less
 abbrev pub local_cmp : List Segment → List Segment → Ordering
@@ -182,12 +153,3 @@ kind_cmp = on kind_rank nat_cmp
 -- the kind, then the number
 abbrev pub prerelease_cmp : Prerelease → Prerelease → Ordering
 prerelease_cmp = then_cmp (on (λ (p : Prerelease). p.kind) kind_cmp) (on (λ (p : Prerelease). p.number) nat_cmp)
-
--- patterns: the version, then whether a star follows
-abbrev pub star_number : Bool → ℕ
-star_number false = 0
-star_number true = 1
-
--- by version, then by star; patterns are tested for equality alone
-abbrev pub pattern_cmp : Record × Bool → Record × Bool → Ordering
-pattern_cmp = then_cmp (on (λ p. p.0) record_cmp) (on (λ p. star_number p.1) nat_cmp)

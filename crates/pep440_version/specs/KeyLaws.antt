@@ -1,13 +1,14 @@
 -- The order of keys is total. Releases compare as what is left of them without the zeros at their end.
-use Rattle.std.proofs.Common.{◌≡◌, Bool, ℕ, zero, suc, if◌then◌else◌, List, [], ◌∷◌, refl, sym, ap, ◌∙◌, subst}
+use Rattle.std.proofs.Common.{◌≡◌, ℕ, zero, suc, if◌then◌else◌, List, [], ◌∷◌, refl, sym, ap, ◌∙◌, subst}
 use Rattle.std.proofs.Math.Dec.{eqb-suc-zero}
 use Rattle.std.proofs.Math.Nat.{zero-lt-suc}
+use Rattle.std.specs.declared.cmp.Ordering.{Ordering}
 use Rattle.std.specs.declared.cmp.Ordering.TheVariants.{Less, Equal, Greater}
-use Rattle.std.specs.Ordering.{nat_cmp, on, ordering_then, eq_by_cmp, as_partial_cmp}
+use Rattle.std.specs.Ordering.{nat_cmp, on, ordering_then, then_cmp, eq_by_cmp, as_partial_cmp}
 use Rattle.std.specs.Cmp.{IsPartialOrder, po, IsTotalOrder, IsEquivalence, eq_by_cmp_equiv, nat_cmp_total, nat_cmp_is, on_total, then_total}
 use Rattle.std.specs.Cmp.Lexicographic.{lists_total, nat_list_cmp_total, slice_cmp}
-use Rattle.pep440_version.specs.Key.{Key, key, key_cmp, record_cmp, release_cmp, stage_rank, stage_number, post_rank, post_number, dev_rank, dev_number, segment_cmp, segment_rank, segment_text, segment_number, kind_rank, kind_cmp, prerelease_cmp, pattern_cmp, star_number}
-use Rattle.pep440_version.specs.Record.{Record}
+use Rattle.pep440_version.specs.Key.{Key, key, key_cmp, record_cmp, release_cmp, stage_place, post_place, dev_place, place_cmp, segment_cmp, kind_rank, kind_cmp, prerelease_cmp}
+use Rattle.pep440_version.specs.Record.{Record, Segment, Text, Number}
 use Rattle.pep440_version.specs.Segments.{segment}
 use Rattle.pep440_version.specs.Trim.{trim, before_trimmed}
 use Rattle.pep440_version.specs.declared.prerelease.Prerelease.{Prerelease}
@@ -44,14 +45,46 @@ release_cmp-trim (x ∷ xs) (y ∷ ys) = ap (ordering_then (nat_cmp x y)) (relea
 pub release_total : IsTotalOrder release_cmp
 release_total = subst IsTotalOrder (λ i xs ys. sym (release_cmp-trim xs ys) i) (on_total trim nat_list_cmp_total)
 
+-- a segment as a rank, a text and a number, which are compared in turn
+abbrev pub segment_rank : Segment → ℕ
+segment_rank (Text t) = 0
+segment_rank (Number n) = 1
+
+abbrev pub segment_text : Segment → List ℕ
+segment_text (Text t) = t
+segment_text (Number n) = []
+
+abbrev pub segment_number : Segment → ℕ
+segment_number (Text t) = 0
+segment_number (Number n) = n
+
+abbrev pub by_places : Segment → Segment → Ordering
+by_places = then_cmp (on segment_rank nat_cmp) (then_cmp (on segment_text (slice_cmp nat_cmp)) (on segment_number nat_cmp))
+
+none_behind : (a : Ordering) → ordering_then a Equal ≡ a
+none_behind Less = refl
+none_behind Equal = refl
+none_behind Greater = refl
+
+pub segment_cmp-places : (s t : Segment) → segment_cmp s t ≡ by_places s t
+segment_cmp-places (Text s) (Text t) = sym (none_behind (slice_cmp nat_cmp s t))
+segment_cmp-places (Text s) (Number n) = refl
+segment_cmp-places (Number m) (Text t) = refl
+segment_cmp-places (Number m) (Number n) = refl
+
 pub segment_total : IsTotalOrder segment_cmp
-segment_total = then_total (on_total segment_rank nat_cmp_total) (then_total (on_total segment_text nat_list_cmp_total) (on_total segment_number nat_cmp_total))
+segment_total =
+    subst IsTotalOrder (λ i s t. sym (segment_cmp-places s t) i)
+    (then_total (on_total segment_rank nat_cmp_total) (then_total (on_total segment_text nat_list_cmp_total) (on_total segment_number nat_cmp_total)))
+
+place_total : IsTotalOrder place_cmp
+place_total = then_total (on_total (λ (p : ℕ × ℕ). p.0) nat_cmp_total) (on_total (λ (p : ℕ × ℕ). p.1) nat_cmp_total)
 
 pub key_total : IsTotalOrder key_cmp
 key_total = then_total (on_total (λ (k : Key). k.epoch) nat_cmp_total) (then_total (on_total (λ (k : Key). k.release) release_total)
-    (then_total (on_total (λ (k : Key). k.stage) (then_total (on_total stage_rank nat_cmp_total) (on_total stage_number nat_cmp_total)))
-    (then_total (on_total (λ (k : Key). k.post) (then_total (on_total post_rank nat_cmp_total) (on_total post_number nat_cmp_total)))
-    (then_total (on_total (λ (k : Key). k.dev) (then_total (on_total dev_rank nat_cmp_total) (on_total dev_number nat_cmp_total)))
+    (then_total (on_total (λ (k : Key). k.stage) (on_total stage_place place_total))
+    (then_total (on_total (λ (k : Key). k.post) (on_total post_place place_total))
+    (then_total (on_total (λ (k : Key). k.dev) (on_total dev_place place_total))
     (on_total (λ (k : Key). k.local) (lists_total segment_total))))))
 
 pub record_total : IsTotalOrder record_cmp
@@ -90,9 +123,3 @@ prerelease_equiv = eq_by_cmp_equiv prerelease_total
 
 pub prerelease_po : IsPartialOrder (eq_by_cmp prerelease_cmp) (as_partial_cmp prerelease_cmp)
 prerelease_po = po prerelease_total (λ x y. refl)
-
-pub pattern_total : IsTotalOrder pattern_cmp
-pattern_total = then_total (on_total (λ (p : Record × Bool). p.0) record_total) (on_total (λ (p : Record × Bool). star_number p.1) nat_cmp_total)
-
-pub pattern_equiv : IsEquivalence (eq_by_cmp pattern_cmp)
-pattern_equiv = eq_by_cmp_equiv pattern_total

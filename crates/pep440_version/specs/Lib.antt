@@ -1,8 +1,11 @@
 pub mod Record
 pub mod Key
+pub mod KeyParts
 pub mod Trim
 pub mod KeyLaws
 pub mod Segments
+pub mod Inline
+pub mod Word
 pub mod Form
 pub mod Print
 pub mod Grammar
@@ -11,10 +14,11 @@ pub mod Errors
 pub mod Suffixes
 pub mod Locals
 pub mod Whole
-pub mod Patterns
 pub mod Changes
 pub mod Feed
+pub mod Patterns
 pub mod Ties
+pub mod PatternLaws
 pub mod Refusals
 pub mod ErrorTexts
 pub mod Reread

@@ -1,22 +1,27 @@
--- The texts of patterns: a version, or a version of epoch and release alone and `.*`.
-use Rattle.std.specs.Prelude.{◌≡◌, ℕ, Bool, true, false, List, ◌++◌, codes}
-use Rattle.pep440_version.specs.Grammar.{AreBlanks, IsMark, IsEpoch, IsRelease, Derives}
-use Rattle.pep440_version.specs.Record.{Record, public_record}
+-- Patterns: their texts, a version, or a version of epoch and release alone and `.*`; their equality and their feed.
+use Rattle.std.specs.Prelude.{◌≡◌, ℕ, Bool, true, false, List, [], ◌++◌, codes, if◌then◌else◌}
+use Rattle.std.specs.Bool.{beq}
+use Rattle.std.specs.Hash.{HashWrites, u64}
+use Rattle.std.specs.Ordering.{eq_by_cmp, eq_of_both, on}
+use Rattle.pep440_version.specs.Feed.{feed}
+use Rattle.pep440_version.specs.Grammar.{Derives}
+use Rattle.pep440_version.specs.Key.{record_cmp}
+use Rattle.pep440_version.specs.Record.{Record, epoch_and_release}
 
--- the text means the record with a star
-pub record DerivesStar (text : List ℕ) (r : Record) : Type 0 where
-  pub w1 : List ℕ
-  pub v : List ℕ
-  pub e : List ℕ
-  pub n : List ℕ
-  pub cut : text ≡ w1 ++ (v ++ (e ++ (n ++ codes ".*")))
-  pub blanks : AreBlanks w1
-  pub mark : IsMark v
-  pub epoch : IsEpoch e r.epoch
-  pub release : IsRelease n r.release
-  pub plain : r ≡ public_record r.epoch r.release
+-- the text means the record with a star: `.*` follows a front that means it, has epoch and release alone, and ends
+-- without blanks
+abbrev pub DerivesStar : List ℕ → Record → Type 0
+DerivesStar text r = (front : List ℕ) × (h : Derives front r) × (text ≡ front ++ codes ".*") × (h.w2 ≡ []) × (r ≡ epoch_and_release r.epoch r.release)
 
 -- the text means the record, with a star or without
 abbrev pub DerivesPattern : List ℕ → Record → Bool → Type 0
 DerivesPattern text r true = DerivesStar text r
 DerivesPattern text r false = Derives text r
+
+-- equal keys and the same star
+abbrev pub pattern_eq : Record × Bool → Record × Bool → Bool
+pattern_eq = eq_of_both (on (λ (p : Record × Bool). p.0) (eq_by_cmp record_cmp)) (on (λ (p : Record × Bool). p.1) beq)
+
+-- the version, and whether a star follows
+abbrev pub feed_pattern : Record × Bool → HashWrites
+feed_pattern p = feed p.0 ++ u64 (if p.1 then 1 else 0)

@@ -25,8 +25,8 @@ abbrev pub past : (ℕ → Bool) → List ℕ → List ℕ
 past test text = drop (prefix_len test text) text
 
 -- the text after the letter v, where it stands in front
-abbrev pub past_mark : List ℕ → List ℕ
-past_mark text = if starts is_v text then drop 1 text else text
+abbrev pub past_v : List ℕ → List ℕ
+past_v text = if starts is_v text then drop 1 text else text
 
 -- a digit stands in front
 abbrev pub starts_number : List ℕ → Bool

@@ -1,6 +1,6 @@
 -- What a version means (PEP 440, "Public version identifiers" and "Local version identifiers"), apart
 -- from how it is held. min and max are marks of the crate, which no text gives.
-use Rattle.std.specs.Prelude.{ℕ, ◌<◌, ◌^◌, List, [], ◌∷◌, length, Option, Some, None, IfSome, slice_index}
+use Rattle.std.specs.Prelude.{ℕ, ◌<◌, ◌^◌, List, [], ◌∷◌, length, Option, Some, None, IfSome}
 use Rattle.std.specs.List.{All}
 use Rattle.pep440_version.specs.declared.prerelease.Prerelease.{Prerelease}
 use Rattle.pep440_version.specs.declared.prerelease.PrereleaseKind.TheVariants.{Alpha}
@@ -32,7 +32,7 @@ SegmentFits (Number n) = Fits n
 pub record IsRecord (r : Record) : Type 0 where
   pub epoch : Fits r.epoch
   pub some : 0 < length r.release
-  pub release : (i : ℕ) → Fits (slice_index r.release i)
+  pub release : All Fits r.release
   pub pre : IfSome r.pre (λ p. Fits p.number)
   pub post : IfSome r.post Fits
   pub dev : IfSome r.dev Fits
@@ -45,13 +45,13 @@ abbrev pub of_release : List ℕ → Record
 of_release numbers = record { epoch = 0; release = numbers; pre = None; post = None; dev = None; local = []; min = None; max = None }
 
 -- a record of epoch and release alone
-abbrev pub public_record : ℕ → List ℕ → Record
-public_record epoch release = record (of_release release) { epoch = epoch }
+abbrev pub epoch_and_release : ℕ → List ℕ → Record
+epoch_and_release epoch release = record (of_release release) { epoch = epoch }
 
 -- a record of its parts, without marks
 abbrev pub of_parts : ℕ → List ℕ → Option Prerelease → Option ℕ → Option ℕ → List Segment → Record
 of_parts epoch release pre post dev local = record { epoch = epoch; release = release; pre = pre; post = post; dev = dev; local = local; min = None; max = None }
 
 -- `0a0.dev0`
-abbrev pub least_record : Record
-least_record = of_parts 0 (0 ∷ []) (Some (record { kind = Alpha; number = 0 })) None (Some 0) []
+abbrev pub zero_alpha_dev : Record
+zero_alpha_dev = record (of_release (0 ∷ [])) { pre = Some (record { kind = Alpha; number = 0 }); dev = Some 0 }

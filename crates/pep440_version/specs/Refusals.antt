@@ -4,7 +4,7 @@ use Rattle.std.specs.Prelude.{◌≡◌, ℕ, ◌<◌, ◌≤◌, ◌^◌, ◌==
 use Rattle.std.specs.Char.{is_ascii_digit, is_ascii_alphanumeric}
 use Rattle.std.specs.List.{list_all, list_any}
 use Rattle.std.specs.Str.Parse.{digits_value}
-use Rattle.pep440_version.specs.Grammar.{AreBlanks, IsMark, IsNumber, IsEpoch, IsRelease, is_blank, Derives, is_separator, starts, is_v}
+use Rattle.pep440_version.specs.Grammar.{AreBlanks, IsLeadingV, IsNumber, IsEpoch, IsRelease, is_blank, Derives, is_separator, starts, is_v}
 use Rattle.pep440_version.specs.Record.{Record}
 
 -- why a version text is refused
@@ -27,9 +27,9 @@ ends test [] = false
 ends test (b ∷ []) = test b
 ends test (b ∷ c ∷ rest) = ends test (c ∷ rest)
 
--- blanks and a mark, each as long as can be, and then rest
+-- blanks and the letter v, each as long as can be, and then rest
 abbrev pub Opens : List ℕ → List ℕ → Type 0
-Opens text rest = (w1 v : List ℕ) × (text ≡ w1 ++ (v ++ rest)) × AreBlanks w1 × IsMark v × (starts is_blank (v ++ rest) ≡ false) × (v ≡ [] → starts is_v rest ≡ false)
+Opens text rest = (w1 v : List ℕ) × (text ≡ w1 ++ (v ++ rest)) × AreBlanks w1 × IsLeadingV v × (starts is_blank (v ++ rest) ≡ false) × (v ≡ [] → starts is_v rest ≡ false)
 
 -- digits of a value above the limit, with no digit before or after them
 abbrev pub IsBigRun : List ℕ → List ℕ → List ℕ → Type 0
@@ -40,9 +40,8 @@ IsBigRun front digits rest = (list_all is_ascii_digit digits ≡ true) × (2 ^ 6
 abbrev pub HasStar : List ℕ → List ℕ → Type 0
 HasStar text rest = (e n release : List ℕ) × (epoch : ℕ) × Opens text (e ++ (n ++ (codes ".*" ++ rest))) × IsEpoch e epoch × IsRelease n release
 
--- the longest front that the grammar derives
-pub record IsLongest (text front : List ℕ) : Type 0 where
-  pub rest : List ℕ
+-- the text is cut after the longest front that the grammar derives
+pub record IsLongest (text front rest : List ℕ) : Type 0 where
   pub cut : text ≡ front ++ rest
   pub means : Record
   pub derived : Derives front means
@@ -65,20 +64,11 @@ RefusesFirst text (UnexpectedEnd version remaining) = ⊥
 
 -- the last kind where no other holds
 abbrev pub Refuses : List ℕ → Refusal → Type 0
-Refuses text Wildcard = RefusesFirst text Wildcard
-Refuses text (NumberTooBig digits) = RefusesFirst text (NumberTooBig digits)
-Refuses text NoLeadingNumber = RefusesFirst text NoLeadingNumber
-Refuses text NoLeadingReleaseNumber = RefusesFirst text NoLeadingReleaseNumber
-Refuses text (LocalEmpty c) = RefusesFirst text (LocalEmpty c)
-Refuses text (UnexpectedEnd version remaining) = (text ≡ version ++ remaining) × (0 < length remaining) × IsLongest text version
-    × ((f : Refusal) → RefusesFirst text f → ⊥)
+Refuses text (UnexpectedEnd version remaining) = (0 < length remaining) × IsLongest text version remaining × ((f : Refusal) → RefusesFirst text f → ⊥)
+Refuses text f = RefusesFirst text f
 
 -- why a pattern text is refused: a star at the end is none
 abbrev pub RefusesPattern : List ℕ → PatternRefusal → Type 0
 RefusesPattern text WildcardNotTrailing = (rest : List ℕ) × (0 < length rest) × HasStar text rest
 RefusesPattern text (OfVersion Wildcard) = ⊥
-RefusesPattern text (OfVersion (NumberTooBig digits)) = Refuses text (NumberTooBig digits)
-RefusesPattern text (OfVersion NoLeadingNumber) = Refuses text NoLeadingNumber
-RefusesPattern text (OfVersion NoLeadingReleaseNumber) = Refuses text NoLeadingReleaseNumber
-RefusesPattern text (OfVersion (LocalEmpty c)) = Refuses text (LocalEmpty c)
-RefusesPattern text (OfVersion (UnexpectedEnd version remaining)) = Refuses text (UnexpectedEnd version remaining)
+RefusesPattern text (OfVersion f) = Refuses text f

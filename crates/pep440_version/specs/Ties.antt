@@ -1,6 +1,6 @@
 -- Records that tie have the same key, but for zeros at the end of the release; so they feed a hasher alike.
 use Rattle.std.specs.Hash.{u64}
-use Rattle.std.proofs.Common.{◌≡◌, ◌==◌, Bool, ℕ, List, ◌++◌, refl, sym, ap, ◌∙◌, true, cond}
+use Rattle.std.proofs.Common.{◌≡◌, ◌==◌, ℕ, List, ◌++◌, refl, sym, ap, ◌∙◌, true, cond}
 use Rattle.std.specs.Ordering.{nat_cmp, on, ordering_then, eq_by_cmp, is_eq}
 use Rattle.std.proofs.lemmas.Bool.{true≢false}
 use Rattle.std.specs.Cmp.{Equal-is}
@@ -9,9 +9,9 @@ use Rattle.std.specs.FinMap.{nat_cmp-IsAntisymmetric, slice_cmp-IsAntisymmetric}
 use Rattle.std.specs.declared.cmp.Ordering.{Ordering}
 use Rattle.std.specs.declared.cmp.Ordering.TheVariants.{Less, Equal, Greater}
 use Rattle.pep440_version.specs.declared.prerelease.PrereleaseKind.TheVariants.{Alpha, Beta, Rc}
-use Rattle.pep440_version.specs.Feed.{feed, feed_numbers, feed_stage, feed_post, feed_dev, feed_local, feed_segment, feed_kind, feed_prerelease, feed_pattern}
-use Rattle.pep440_version.specs.Key.{Key, key, key_cmp, record_cmp, Stage, Min, Dev, Pre, Final, PostPlace, NoPost, PostAt, PostTop, DevPlace, DevAt, NoDev, stage_cmp, stage_rank, stage_number, post_cmp, post_rank, post_number, dev_cmp, dev_rank, dev_number, segment_cmp, segment_rank, segment_text, segment_number, kind_rank, kind_cmp, prerelease_cmp, pattern_cmp, star_number}
-use Rattle.pep440_version.specs.KeyLaws.{release_cmp-trim}
+use Rattle.pep440_version.specs.Feed.{feed, feed_numbers, feed_stage, feed_post, feed_dev, feed_local, feed_segment, feed_kind, feed_prerelease}
+use Rattle.pep440_version.specs.Key.{Key, key, key_cmp, record_cmp, Stage, Min, Dev, Pre, Final, PostPlace, NoPost, PostAt, PostTop, DevPlace, DevAt, NoDev, stage_cmp, stage_place, post_cmp, post_place, dev_cmp, dev_place, segment_cmp, kind_rank, kind_cmp, prerelease_cmp}
+use Rattle.pep440_version.specs.KeyLaws.{release_cmp-trim, segment_cmp-places, segment_rank, segment_text, segment_number}
 use Rattle.pep440_version.specs.Record.{Record, Segment, Text, Number}
 use Rattle.pep440_version.specs.Segments.{segment}
 use Rattle.pep440_version.specs.Trim.{trim}
@@ -33,7 +33,7 @@ second Greater s e = absurd (true≢false (sym (ap is_eq e)))
 stage_from : ℕ → ℕ → Stage
 stage_from rank n = cond (rank == 0) Min (cond (rank == 1) Dev (cond (rank == 2) (Pre Alpha n) (cond (rank == 3) (Pre Beta n) (cond (rank == 4) (Pre Rc n) Final))))
 
-stage_back : (s : Stage) → stage_from (stage_rank s) (stage_number s) ≡ s
+stage_back : (s : Stage) → stage_from (stage_place s).0 (stage_place s).1 ≡ s
 unfolding stage_from
 stage_back Min = refl
 stage_back Dev = refl
@@ -45,7 +45,7 @@ stage_back Final = refl
 post_from : ℕ → ℕ → PostPlace
 post_from rank n = cond (rank == 0) NoPost (cond (rank == 1) (PostAt n) (PostTop n))
 
-post_back : (s : PostPlace) → post_from (post_rank s) (post_number s) ≡ s
+post_back : (s : PostPlace) → post_from (post_place s).0 (post_place s).1 ≡ s
 unfolding post_from
 post_back NoPost = refl
 post_back (PostAt n) = refl
@@ -54,7 +54,7 @@ post_back (PostTop n) = refl
 dev_from : ℕ → ℕ → DevPlace
 dev_from rank n = cond (rank == 0) (DevAt n) NoDev
 
-dev_back : (s : DevPlace) → dev_from (dev_rank s) (dev_number s) ≡ s
+dev_back : (s : DevPlace) → dev_from (dev_place s).0 (dev_place s).1 ≡ s
 unfolding dev_from
 dev_back (DevAt n) = refl
 dev_back NoDev = refl
@@ -92,7 +92,8 @@ same_dev x y e =
     sym (dev_back x) ∙ (λ i. dev_from (rank i) (number i)) ∙ dev_back y
 
 same_segment : (x y : Segment) → segment_cmp x y ≡ Equal → x ≡ y
-same_segment x y e =
+same_segment x y h =
+    let e = sym (segment_cmp-places x y) ∙ h in
     let rank = same_number _ _ (first _ _ e) in
     let rest = second _ _ e in
     let text = same_text _ _ (first _ _ rest) in
@@ -152,10 +153,3 @@ prereleases_feed_alike x y e =
     let kind = same_kind x.kind y.kind (first _ _ t) in
     let number = same_number x.number y.number (second _ _ t) in
     λ i. feed_kind (kind i) ++ u64 (number i)
-
-pub patterns_feed_alike : (p q : Record × Bool) → eq_by_cmp pattern_cmp p q ≡ true → feed_pattern p ≡ feed_pattern q
-patterns_feed_alike p q e =
-    let same = (Equal-is (pattern_cmp p q)).0 e in
-    let version = feeds_alike p.0 q.0 ((Equal-is (record_cmp p.0 q.0)).1 (first _ _ same)) in
-    let star = same_number (star_number p.1) (star_number q.1) (second _ _ same) in
-    λ i. version i ++ u64 (star i)

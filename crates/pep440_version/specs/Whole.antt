@@ -2,8 +2,8 @@
 use Rattle.std.specs.Prelude.{ℕ, ◌-◌, ◌==◌, ◌&&◌, Bool, true, false, List, length, take, drop, Result, Ok, Err, None, if◌then◌else◌}
 use Rattle.pep440_version.specs.Grammar.{is_blank, starts}
 use Rattle.pep440_version.specs.Locals.{local_at}
-use Rattle.pep440_version.specs.Reading.{Read, ◌>>=◌, past, past_mark, starts_number, number_at, release_at, release_from}
-use Rattle.pep440_version.specs.Record.{Record, public_record}
+use Rattle.pep440_version.specs.Reading.{Read, ◌>>=◌, past, past_v, starts_number, number_at, release_at, release_from}
+use Rattle.pep440_version.specs.Record.{Record, epoch_and_release}
 use Rattle.pep440_version.specs.Refusals.{Wildcard, NoLeadingNumber, NoLeadingReleaseNumber, UnexpectedEnd, WildcardNotTrailing, OfVersion, PatternRefusal}
 use Rattle.pep440_version.specs.Suffixes.{pre_at, post_at, dev_at}
 
@@ -19,9 +19,9 @@ front_at text =
     else release_after 0 text)
     else Err NoLeadingNumber
 
--- blanks, a mark, epoch and release
+-- blanks, the letter v, epoch and release
 abbrev pub opening : List ℕ → Read ((ℕ × List ℕ) × List ℕ)
-opening text = front_at (past_mark (past is_blank text))
+opening text = front_at (past_v (past is_blank text))
 
 -- the parts after the release
 unfoldable pub parts_at : ℕ → List ℕ → List ℕ → Read (Record × List ℕ)
@@ -51,7 +51,7 @@ without_star (Err f) = Err (OfVersion f)
 abbrev pub pattern_from : List ℕ → Read ((ℕ × List ℕ) × List ℕ) → Result (Record × Bool) PatternRefusal
 pattern_from text (Err f) = Err (OfVersion f)
 pattern_from text (Ok x) =
-    if is_star x.1 then (if length (drop 2 x.1) == 0 then Ok (public_record x.0.0 x.0.1, true) else Err WildcardNotTrailing)
+    if is_star x.1 then (if length (drop 2 x.1) == 0 then Ok (epoch_and_release x.0.0 x.0.1, true) else Err WildcardNotTrailing)
     else without_star (closing text x)
 
 -- what the text reads as: a record, and whether a star follows

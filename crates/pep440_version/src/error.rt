@@ -1,6 +1,6 @@
 //! Why a text is no version or no pattern: kinds, errors and the conversions between them.
 ghost use Rattle.std.specs.Prelude.{◌≡◌, Some};
-ghost use Rattle.pep440_version.specs.Errors.{kind_of, pattern_kind_of, refusal_of, pattern_refusal_of, inner_kind, IsVersionKind};
+ghost use Rattle.pep440_version.specs.Errors.{kind_of, pattern_kind_of, refusal_of, error_refusal, pattern_refusal_of, pattern_error_refusal, inner_kind};
 ghost use Rattle.pep440_version.specs.declared.error.PatternErrorKind.TheVariants.{Version};
 ghost use Rattle.pep440_version.specs.declared.error.ErrorKind.TheVariants.{OutOfMemory};
 
@@ -93,7 +93,7 @@ impl VersionParseError {
 }
 
 impl Clone for VersionParseError {
-    ghost is_clone = { λ error copy. refusal_of (kind_of copy) ≡ refusal_of (kind_of error) };
+    ghost is_clone = { λ error copy. error_refusal copy ≡ error_refusal error };
 
     fn clone(&self) -> Result<VersionParseError, AllocError> {
         Ok(VersionParseError {
@@ -139,7 +139,7 @@ impl From<VersionParseError> for PatternErrorKind {
 }
 
 impl From<ErrorKind> for PatternErrorKind {
-    ghost from_gives = { λ kind outer. IsVersionKind kind outer };
+    ghost from_gives = { λ kind outer. inner_kind outer ≡ Some kind };
 
     fn from(kind: ErrorKind) -> PatternErrorKind {
         PatternErrorKind::Version(VersionParseError::from(kind))
@@ -162,7 +162,7 @@ impl VersionPatternParseError {
 }
 
 impl Clone for VersionPatternParseError {
-    ghost is_clone = { λ error copy. pattern_refusal_of (pattern_kind_of copy) ≡ pattern_refusal_of (pattern_kind_of error) };
+    ghost is_clone = { λ error copy. pattern_error_refusal copy ≡ pattern_error_refusal error };
 
     fn clone(&self) -> Result<VersionPatternParseError, AllocError> {
         Ok(VersionPatternParseError {

@@ -1,10 +1,11 @@
 //! The texts of the errors, the same whatever width and fill are asked for.
-ghost use Rattle.std.specs.Prelude.{◌≡◌, ◌++◌, true, Some, None, if◌then◌else◌};
+ghost use Rattle.std.specs.Prelude.{◌≡◌, ◌++◌, true, Some, codes};
 ghost use Rattle.std.specs.Char.{is_ascii_digit};
 ghost use Rattle.std.specs.List.{list_all};
 ghost use Rattle.std.specs.Fmt.{WritesStyledOnOk, DisplaysStyledOnOk, decimal};
-ghost use Rattle.pep440_version.specs.ErrorTexts.{change_error_text, change_text, number_text, local_empty_text, end_text, kind_text_of, pattern_text_of};
-ghost use Rattle.pep440_version.specs.Errors.{kind_of, pattern_kind_of};
+ghost use Rattle.pep440_version.specs.ErrorTexts.{change_error_text, refusal_text, error_text, pattern_error_text};
+ghost use Rattle.pep440_version.specs.Errors.{refusal_of, error_refusal, pattern_refusal_of, pattern_error_refusal};
+ghost use Rattle.pep440_version.specs.Refusals.{NumberTooBig, LocalEmpty, UnexpectedEnd};
 
 use crate::change::ChangeError;
 use crate::error::{ErrorKind, PatternErrorKind, VersionParseError, VersionPatternParseError};
@@ -12,7 +13,7 @@ use crate::print::write_number;
 use std::error::Error;
 use std::fmt;
 
-#[tactic(auto, using(crate::proofs::Printing::two_writes))]
+#[tactic(auto, using(crate::proofs::Reread::Writing::two_writes))]
 fn write_three<W: fmt::Write>(f: &mut fmt::Formatter<W>, a: &str, b: &str, c: &str) -> fmt::Result
     ensures { WritesStyledOnOk W.write_str_gives f.old result (a.now ++ (b.now ++ c.now)) f.new }
 {
@@ -21,7 +22,7 @@ fn write_three<W: fmt::Write>(f: &mut fmt::Formatter<W>, a: &str, b: &str, c: &s
     f.write_str(c)
 }
 
-#[tactic(auto, using(crate::proofs::Printing::two_writes))]
+#[tactic(auto, using(crate::proofs::Reread::Writing::two_writes))]
 fn write_five<W: fmt::Write>(
     f: &mut fmt::Formatter<W>,
     a: &str,
@@ -48,7 +49,7 @@ fn digits_text(bytes: &[u8]) -> &str
 }
 
 fn write_too_big<W: fmt::Write>(f: &mut fmt::Formatter<W>, bytes: &[u8]) -> fmt::Result
-    ensures { DisplaysStyledOnOk W.write_str_gives f.old result (if list_all is_ascii_digit bytes.now then Some (number_text bytes.now) else None) f.new }
+    ensures { DisplaysStyledOnOk W.write_str_gives f.old result (error_text (Some (NumberTooBig bytes.now))) f.new }
 {
     write_three(
         f,
@@ -59,7 +60,7 @@ fn write_too_big<W: fmt::Write>(f: &mut fmt::Formatter<W>, bytes: &[u8]) -> fmt:
 }
 
 fn write_local_empty<W: fmt::Write>(f: &mut fmt::Formatter<W>, precursor: char) -> fmt::Result
-    ensures { WritesStyledOnOk W.write_str_gives f.old result (local_empty_text precursor) f.new }
+    ensures { WritesStyledOnOk W.write_str_gives f.old result (refusal_text (LocalEmpty precursor)) f.new }
 {
     let mut bytes = [0u8; 4];
     let found: &str = precursor.encode_utf8(&mut bytes);
@@ -78,7 +79,7 @@ fn write_end<W: fmt::Write>(
     version: &str,
     remaining: &str,
 ) -> fmt::Result
-    ensures { WritesStyledOnOk W.write_str_gives f.old result (end_text version.now remaining.now) f.new }
+    ensures { WritesStyledOnOk W.write_str_gives f.old result (refusal_text (UnexpectedEnd version.now remaining.now)) f.new }
 {
     write_five(
         f,
@@ -90,9 +91,9 @@ fn write_end<W: fmt::Write>(
     )
 }
 
-// The text of a refusal.
-fn write_kind<W: fmt::Write>(f: &mut fmt::Formatter<W>, kind: &ErrorKind) -> fmt::Result
-    ensures { DisplaysStyledOnOk W.write_str_gives f.old result (kind_text_of kind.now) f.new }
+// The text of a kind of error.
+fn write_error_kind<W: fmt::Write>(f: &mut fmt::Formatter<W>, kind: &ErrorKind) -> fmt::Result
+    ensures { DisplaysStyledOnOk W.write_str_gives f.old result (error_text (refusal_of kind.now)) f.new }
 {
     match kind {
         ErrorKind::Wildcard => f.write_str("wildcards are not allowed in a version"),
@@ -117,10 +118,10 @@ fn write_pattern_kind<W: fmt::Write>(
     f: &mut fmt::Formatter<W>,
     kind: &PatternErrorKind,
 ) -> fmt::Result
-    ensures { DisplaysStyledOnOk W.write_str_gives f.old result (pattern_text_of kind.now) f.new }
+    ensures { DisplaysStyledOnOk W.write_str_gives f.old result (pattern_error_text (pattern_refusal_of kind.now)) f.new }
 {
     match kind {
-        PatternErrorKind::Version(error) => write_kind(f, error.kind()),
+        PatternErrorKind::Version(error) => write_error_kind(f, error.kind()),
         PatternErrorKind::WildcardNotTrailing => f.write_str(
             "wildcards in versions must be at the end",
         ),
@@ -128,21 +129,21 @@ fn write_pattern_kind<W: fmt::Write>(
 }
 
 impl fmt::Display for VersionParseError {
-    ghost output = { λ e. kind_text_of (kind_of e) };
+    ghost output = { λ e. error_text (error_refusal e) };
 
-    ghost styled_output = { λ e _. kind_text_of (kind_of e) };
+    ghost styled_output = { λ e _. error_text (error_refusal e) };
 
     fn fmt<W: fmt::Write>(&self, f: &mut fmt::Formatter<W>) -> fmt::Result {
-        write_kind(f, self.kind())
+        write_error_kind(f, self.kind())
     }
 }
 
 impl Error for VersionParseError {}
 
 impl fmt::Display for VersionPatternParseError {
-    ghost output = { λ e. pattern_text_of (pattern_kind_of e) };
+    ghost output = { λ e. pattern_error_text (pattern_error_refusal e) };
 
-    ghost styled_output = { λ e _. pattern_text_of (pattern_kind_of e) };
+    ghost styled_output = { λ e _. pattern_error_text (pattern_error_refusal e) };
 
     fn fmt<W: fmt::Write>(&self, f: &mut fmt::Formatter<W>) -> fmt::Result {
         write_pattern_kind(f, self.kind())
@@ -151,26 +152,14 @@ impl fmt::Display for VersionPatternParseError {
 
 impl Error for VersionPatternParseError {}
 
-// A number between two texts.
-#[tactic(auto, using(crate::proofs::Printing::two_writes))]
-fn write_numbered<W: fmt::Write>(
-    f: &mut fmt::Formatter<W>,
-    before: &str,
-    number: usize,
-    after: &str,
-) -> fmt::Result
-    ensures { WritesStyledOnOk W.write_str_gives f.old result (before.now ++ (decimal number ++ after.now)) f.new }
-{
-    f.write_str(before)?;
-    write_number(f, number as u64)?;
-    f.write_str(after)
-}
-
 // The place of a change, and why it can't be made.
+#[tactic(auto, using(crate::proofs::Reread::Writing::two_writes))]
 fn write_change<W: fmt::Write>(f: &mut fmt::Formatter<W>, place: usize, why: &str) -> fmt::Result
-    ensures { WritesStyledOnOk W.write_str_gives f.old result (change_text place why.now) f.new }
+    ensures { WritesStyledOnOk W.write_str_gives f.old result (codes "change " ++ (decimal place ++ why.now)) f.new }
 {
-    write_numbered(f, "change ", place, why)
+    f.write_str("change ")?;
+    write_number(f, place as u64)?;
+    f.write_str(why)
 }
 
 fn write_change_error<W: fmt::Write>(f: &mut fmt::Formatter<W>, error: ChangeError) -> fmt::Result

@@ -2,13 +2,13 @@
 ghost use Rattle.std.specs.Prelude.{◌≡◌, length, take, map};
 ghost use Rattle.std.specs.Hash as fed;
 ghost use Rattle.std.specs.List.{flat_map, fold};
-ghost use Rattle.pep440_version.specs.Feed.{feed, feed_kind, feed_prerelease, feed_numbers, feed_stage, feed_post, feed_dev, feed_segment, feed_local, feed_pattern};
+ghost use Rattle.pep440_version.specs.Feed.{feed, feed_kind, feed_prerelease, feed_numbers, feed_stage, feed_post, feed_dev, feed_segment, feed_local};
 ghost use Rattle.pep440_version.specs.Key.{key};
 ghost use Rattle.pep440_version.specs.Segments.{segment};
-ghost use Rattle.pep440_version.specs.Ties.{feeds_alike, segments_feed_alike, kinds_feed_alike, prereleases_feed_alike, patterns_feed_alike};
+ghost use Rattle.pep440_version.specs.Ties.{feeds_alike, segments_feed_alike, kinds_feed_alike, prereleases_feed_alike};
 ghost use Rattle.pep440_version.specs.Trim.{trim};
 
-use crate::pattern::VersionPattern;
+use crate::key::{DevPlace, PostPlace, Stage};
 use crate::prerelease::{Prerelease, PrereleaseKind};
 use crate::segment::LocalSegment;
 use crate::version::Version;
@@ -80,55 +80,33 @@ fn hash_numbers<H: Hasher>(numbers: &[u64], state: &mut H)
 fn hash_stage<H: Hasher>(v: &Version, state: &mut H)
     ensures { state.new ≡ fold H.write state.old (feed_stage (key v.now).stage) }
 {
-    if v.min().is_some() {
-        state.write_u64(0);
-        return;
-    }
-    match v.pre() {
-        Some(pre) => {
-            let rank = match pre.kind {
-                PrereleaseKind::Alpha => 2,
-                PrereleaseKind::Beta => 3,
-                PrereleaseKind::Rc => 4,
-            };
-            state.write_u64(rank);
-            state.write_u64(pre.number);
-        }
-        None => {
-            if v.dev().is_some() && v.post().is_none() && v.max().is_none() {
-                state.write_u64(1);
-            } else {
-                state.write_u64(5);
-            }
-        }
+    let stage = Stage::of(v);
+    let (rank, number) = stage.place();
+    state.write_u64(rank);
+    if let Stage::Pre(_) = stage {
+        state.write_u64(number);
     }
 }
 
 fn hash_post<H: Hasher>(v: &Version, state: &mut H)
     ensures { state.new ≡ fold H.write state.old (feed_post (key v.now).post) }
 {
-    match (v.max(), v.post()) {
-        (Some(max), _) => {
-            state.write_u64(2);
-            state.write_u64(max);
-        }
-        (None, Some(post)) => {
-            state.write_u64(1);
-            state.write_u64(post);
-        }
-        (None, None) => state.write_u64(0),
+    let post = PostPlace::of(v);
+    let (rank, number) = post.place();
+    state.write_u64(rank);
+    if !matches!(post, PostPlace::NoPost) {
+        state.write_u64(number);
     }
 }
 
 fn hash_dev<H: Hasher>(v: &Version, state: &mut H)
     ensures { state.new ≡ fold H.write state.old (feed_dev (key v.now).dev) }
 {
-    match v.min().or(v.dev()) {
-        Some(dev) => {
-            state.write_u64(0);
-            state.write_u64(dev);
-        }
-        None => state.write_u64(1),
+    let dev = DevPlace::of(v);
+    let (rank, number) = dev.place();
+    state.write_u64(rank);
+    if let DevPlace::At(_) = dev {
+        state.write_u64(number);
     }
 }
 
@@ -153,16 +131,5 @@ impl Hash for Version {
         hash_post(self, state);
         hash_dev(self, state);
         hash_local(self.local(), state);
-    }
-}
-
-impl Hash for VersionPattern {
-    ghost hash_input = { feed_pattern };
-
-    ghost respects_eq = { patterns_feed_alike };
-
-    fn hash<H: Hasher>(&self, state: &mut H) {
-        self.version().hash(state);
-        state.write_u64(if self.is_wildcard() { 1 } else { 0 });
     }
 }

@@ -1,12 +1,34 @@
-//! What holds of texts, records and prints, each as the contract of a function that does nothing.
-ghost use Rattle.std.specs.Prelude.{Ok, Err, ◌≡◌, ◌⊎◌, ℕ, List, Bool};
+//! What holds of texts, records, prints and words, each as the contract of a function that does nothing; and the word
+//! of a version.
+ghost use Rattle.std.specs.Prelude.{Ok, Err, Some, None, ◌≡◌, ◌⊎◌, ℕ, List, Bool, true, if◌then◌else◌};
 ghost use Rattle.pep440_version.specs.Grammar.{Derives};
 ghost use Rattle.pep440_version.specs.Patterns.{DerivesPattern};
 ghost use Rattle.pep440_version.specs.Print.{print};
 ghost use Rattle.pep440_version.specs.Record.{Record, IsRecord};
 ghost use Rattle.pep440_version.specs.Refusals.{PatternRefusal, Refusal, Refuses, RefusesPattern};
 ghost use Rattle.pep440_version.specs.Reread.{Rereads};
+ghost use Rattle.pep440_version.specs.Key.{record_cmp};
 ghost use Rattle.pep440_version.specs.Whole.{read_version, read_pattern};
+ghost use Rattle.pep440_version.specs.Word.{is_packed, word};
+ghost use Rattle.std.specs.Option.{option_copied};
+ghost use Rattle.std.specs.Ordering.{nat_cmp};
+
+use crate::version::Version;
+
+/// The word of the version, where it is held in one: exactly where its record is packed. It is lent out of the
+/// version, which keeps it. Of any other version None.
+///
+/// Takes no memory.
+pub fn word(version: &Version) -> Option<&u64>
+    ensures { option_copied result ≡ (if is_packed version.now then Some (word version.now) else None) }
+{
+    version.word()
+}
+
+/// Of packed records the words are in the order of the keys, and equal exactly where the keys are.
+pub fn words_are_ordered()
+    ensures { (r q : Record) → is_packed r ≡ true → is_packed q ≡ true → nat_cmp (word r) (word q) ≡ record_cmp r q }
+{}
 
 /// A text means at most one record, and a pattern text at most one record, with a star or without.
 pub fn means_one()

@@ -1,8 +1,8 @@
 //! Versions of PEP 440: their texts, prints, order, hash and changes, and version patterns.
 //!
-//! A call whose text does not name memory takes none and always answers. `clone` takes memory. A refused request for
-//! memory is answered as `AllocError`, or as the `OutOfMemory` of the call's own error, and changes nothing that was
-//! borrowed.
+//! A call whose text does not name memory takes none and always answers. `clone` takes memory, but for a version that
+//! is packed. A refused request for memory is answered as `AllocError`, or as the `OutOfMemory` of the call's own error,
+//! and changes nothing that was borrowed.
 #![tactic(auto)]
 
 mod change;
@@ -10,8 +10,11 @@ mod error;
 mod error_text;
 mod full;
 mod hash;
+mod key;
 pub mod laws;
+mod numbers;
 mod order;
+mod packed;
 mod pattern;
 mod prerelease;
 mod print;

@@ -1,13 +1,12 @@
 //! The order of versions: their keys, part by part (PEP 440, "Summary of permitted suffixes and relative ordering").
 ghost use Rattle.std.specs.Prelude.{◌≡◌, [], refl, length, drop, map};
-ghost use Rattle.pep440_version.specs.Key.{base_cmp, suffix_cmp, key, post_rank, post_number, dev_rank, dev_number, stage_rank, stage_number, release_cmp, local_cmp, record_cmp, pattern_cmp};
-ghost use Rattle.pep440_version.specs.KeyLaws.{pattern_equiv, record_equiv, record_po, record_total};
+ghost use Rattle.pep440_version.specs.Key.{base_cmp, suffix_cmp, release_cmp, local_cmp, record_cmp};
+ghost use Rattle.pep440_version.specs.KeyLaws.{record_equiv, record_po, record_total};
 ghost use Rattle.pep440_version.specs.Segments.{segment};
 ghost use Rattle.std.specs.Cmp.{partial_equiv_from_equiv};
 ghost use Rattle.std.specs.Ordering.{as_partial_cmp, eq_by_cmp};
 
-use crate::pattern::VersionPattern;
-use crate::prerelease::PrereleaseKind;
+use crate::key::{DevPlace, PostPlace, Stage};
 use crate::segment::LocalSegment;
 use crate::version::Version;
 use std::cmp::Ordering;
@@ -30,54 +29,6 @@ pub fn cmp_releases(a: &[u64], b: &[u64]) -> Ordering
     Ordering::Equal
 }
 
-// The rank and the number of a version's stage.
-fn stage(v: &Version) -> (u8, u64)
-    ensures { result ≡ (stage_rank (key v.now).stage, stage_number (key v.now).stage) }
-{
-    if v.min().is_some() {
-        return (0, 0);
-    }
-    match v.pre() {
-        Some(pre) => {
-            let rank = match pre.kind {
-                PrereleaseKind::Alpha => 2,
-                PrereleaseKind::Beta => 3,
-                PrereleaseKind::Rc => 4,
-            };
-            (rank, pre.number)
-        }
-        None => {
-            if v.dev().is_some() && v.post().is_none() && v.max().is_none() {
-                (1, 0)
-            } else {
-                (5, 0)
-            }
-        }
-    }
-}
-
-// The rank and the number of a version's place among the posts of its stage.
-fn post_place(v: &Version) -> (u8, u64)
-    ensures { result ≡ (post_rank (key v.now).post, post_number (key v.now).post) }
-{
-    match (v.max(), v.post()) {
-        (Some(max), _) => (2, max),
-        (None, Some(post)) => (1, post),
-        (None, None) => (0, 0),
-    }
-}
-
-// The rank and the number of a version's place among the devs of its post.
-fn dev_place(v: &Version) -> (u8, u64)
-    ensures { result ≡ (dev_rank (key v.now).dev, dev_number (key v.now).dev) }
-{
-    match (v.min(), v.dev()) {
-        (Some(min), _) => (0, min),
-        (None, Some(dev)) => (0, dev),
-        (None, None) => (1, 0),
-    }
-}
-
 // The order by epoch, then by release.
 fn cmp_bases(a: &Version, b: &Version) -> Ordering
     ensures { result ≡ base_cmp a.now b.now }
@@ -92,16 +43,28 @@ fn cmp_bases(a: &Version, b: &Version) -> Ordering
 fn cmp_suffixes(a: &Version, b: &Version) -> Ordering
     ensures { result ≡ suffix_cmp a.now b.now }
 {
-    stage(a)
-        .cmp(&stage(b))
-        .then(post_place(a).cmp(&post_place(b)))
-        .then(dev_place(a).cmp(&dev_place(b)))
+    let stages = Stage::of(a).place().cmp(&Stage::of(b).place());
+    let posts = PostPlace::of(a).place().cmp(&PostPlace::of(b).place());
+    let devs = DevPlace::of(a).place().cmp(&DevPlace::of(b).place());
+    stages.then(posts).then(devs)
 }
 
 /// The order of two versions as if neither had a local part (PEP 440, "Version matching").
 ///
 /// Takes no memory.
+#[inline(always)]
 pub fn cmp_without_local(a: &Version, b: &Version) -> Ordering
+    ensures { result ≡ record_cmp (record a.now { local = [] }) (record b.now { local = [] }) }
+{
+    match (a.word(), b.word()) {
+        (Some(first), Some(second)) => first.cmp(second),
+        _ => cmp_parts_without_local(a, b),
+    }
+}
+
+// Part by part, up to the local part.
+#[inline(never)]
+fn cmp_parts_without_local(a: &Version, b: &Version) -> Ordering
     ensures { result ≡ record_cmp (record a.now { local = [] }) (record b.now { local = [] }) }
 {
     match cmp_bases(a, b) {
@@ -115,6 +78,7 @@ impl PartialEq for Version {
 
     ghost laws = { partial_equiv_from_equiv record_equiv };
 
+    #[inline(always)]
     fn eq(&self, other: &Version) -> bool {
         self.cmp(other) == Ordering::Equal
     }
@@ -129,6 +93,7 @@ impl PartialOrd for Version {
 
     ghost laws = { record_po };
 
+    #[inline(always)]
     fn partial_cmp(&self, other: &Version) -> Option<Ordering> {
         Some(self.cmp(other))
     }
@@ -143,11 +108,24 @@ impl Ord for Version {
 
     ghost matches_eq = { λ a b. refl };
 
+    // Two versions that are held in words are compared by these alone.
+    #[inline(always)]
     fn cmp(&self, other: &Version) -> Ordering {
-        match cmp_without_local(self, other) {
-            Ordering::Equal => cmp_locals(self.local(), other.local()),
-            ordering => ordering,
+        match (self.word(), other.word()) {
+            (Some(one), Some(other)) => one.cmp(other),
+            _ => cmp_parts(self, other),
         }
+    }
+}
+
+// Part by part, the local parts too.
+#[inline(never)]
+fn cmp_parts(a: &Version, b: &Version) -> Ordering
+    ensures { result ≡ record_cmp a.now b.now }
+{
+    match cmp_parts_without_local(a, b) {
+        Ordering::Equal => cmp_locals(a.local(), b.local()),
+        ordering => ordering,
     }
 }
 
@@ -156,18 +134,4 @@ fn cmp_locals(a: &[LocalSegment], b: &[LocalSegment]) -> Ordering
     ensures { result ≡ local_cmp (map segment a.now) (map segment b.now) }
 {
     a.cmp(b)
-}
-
-impl PartialEq for VersionPattern {
-    ghost eq = { eq_by_cmp pattern_cmp };
-
-    ghost laws = { partial_equiv_from_equiv pattern_equiv };
-
-    fn eq(&self, other: &VersionPattern) -> bool {
-        self.version() == other.version() && self.is_wildcard() == other.is_wildcard()
-    }
-}
-
-impl Eq for VersionPattern {
-    ghost laws = { pattern_equiv };
 }

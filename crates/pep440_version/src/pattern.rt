@@ -1,19 +1,19 @@
-//! Version patterns, and the readers of versions and patterns.
-ghost use Rattle.std.specs.Prelude.{◌≡◌, ℕ, List, Bool, true, false, Ok, Err, Some, IfOk, IfErr, IfSome};
-ghost use Rattle.pep440_version.specs.ErrorTexts.{kind_text_of, refusal_text, pattern_text_of, pattern_refusal_text};
-ghost use Rattle.pep440_version.specs.Errors.{Answers, PatternAnswers, pattern_refusal_of, pattern_kind_of, refusal_of, kind_of};
-ghost use Rattle.pep440_version.specs.Grammar.{Derives};
-ghost use Rattle.pep440_version.specs.Patterns.{DerivesPattern};
-ghost use Rattle.pep440_version.specs.Print.{print};
-ghost use Rattle.pep440_version.specs.Record.{Record, IsRecord};
-ghost use Rattle.pep440_version.specs.Refusals.{PatternRefusal, Refusal, Refuses, RefusesPattern};
-ghost use Rattle.pep440_version.specs.Reread.{Rereads};
-ghost use Rattle.pep440_version.specs.Whole.{read_version, read_pattern};
+//! Version patterns, and their public reader.
+ghost use Rattle.std.specs.Prelude.{◌≡◌, Bool, true, false, Ok, Err, Some, IfOk, IfErr, IfSome};
+ghost use Rattle.std.specs.Cmp.{partial_equiv_from_equiv};
+ghost use Rattle.pep440_version.specs.ErrorTexts.{pattern_error_text, pattern_refusal_text};
+ghost use Rattle.pep440_version.specs.Errors.{Answers, pattern_error_refusal};
+ghost use Rattle.pep440_version.specs.PatternLaws.{pattern_equiv, patterns_feed_alike};
+ghost use Rattle.pep440_version.specs.Patterns.{DerivesPattern, pattern_eq, feed_pattern};
+ghost use Rattle.pep440_version.specs.Record.{Record};
+ghost use Rattle.pep440_version.specs.Refusals.{PatternRefusal, RefusesPattern};
+ghost use Rattle.pep440_version.specs.Whole.{read_pattern};
 
-use crate::error::{ErrorKind, PatternErrorKind, VersionParseError, VersionPatternParseError};
+use crate::error::VersionPatternParseError;
 use crate::read;
 use crate::version::Version;
 use std::alloc::{AllocError, Global};
+use std::hash::{Hash, Hasher};
 use std::marker::Model;
 
 /// A version, and whether `.*` follows it, as `1.2.*` (PEP 440, "Version matching").
@@ -79,7 +79,7 @@ impl VersionPattern {
 
     // What the reading from the left gives.
     fn read(alloc: Global, text: &str) -> Result<VersionPattern, VersionPatternParseError>
-        ensures { PatternAnswers result (read_pattern text.now) }
+        ensures { Answers pattern_error_refusal result (read_pattern text.now) }
     {
         match read::pattern(alloc, text) {
             Ok((version, wildcard)) => Ok(VersionPattern { version, wildcard }),
@@ -96,13 +96,13 @@ impl VersionPattern {
         // What is answered is what the text means.
         ensures found { IfOk result (λ p. DerivesPattern text.now p.0 p.1) }
         // What the text means is answered, unless memory runs out.
-        ensures only { (r : Record) (star : Bool) → DerivesPattern text.now r star → PatternAnswers result (Ok (r, star)) }
+        ensures only { (r : Record) (star : Bool) → DerivesPattern text.now r star → Answers pattern_error_refusal result (Ok (r, star)) }
         // A refusal is one that the fronts of the text tell.
-        ensures refused { IfErr result (λ e. IfSome (pattern_refusal_of (pattern_kind_of e)) (RefusesPattern text.now)) }
+        ensures refused { IfErr result (λ e. IfSome (pattern_error_refusal e) (RefusesPattern text.now)) }
         // A refusal that the fronts of the text tell is answered, unless memory runs out.
-        ensures decided { (f : PatternRefusal) → RefusesPattern text.now f → PatternAnswers result (Err f) }
+        ensures decided { (f : PatternRefusal) → RefusesPattern text.now f → Answers pattern_error_refusal result (Err f) }
         // The error's text is the refusal's.
-        ensures told { IfErr result (λ e. IfSome (pattern_refusal_of (pattern_kind_of e)) (λ f. pattern_text_of (pattern_kind_of e) ≡ Some (pattern_refusal_text f))) }
+        ensures told { IfErr result (λ e. IfSome (pattern_error_refusal e) (λ f. pattern_error_text (pattern_error_refusal e) ≡ Some (pattern_refusal_text f))) }
     {
         VersionPattern::read(alloc, text)
     }
@@ -119,43 +119,27 @@ impl Clone for VersionPattern {
     }
 }
 
-impl Version {
-    // What the reading from the left gives: a version is a pattern without a star.
-    fn read(alloc: Global, text: &str) -> Result<Version, VersionParseError>
-        ensures { Answers result (read_version text.now) }
-    {
-        match read::pattern(alloc, text) {
-            Ok((version, false)) => Ok(version),
-            Ok((_, true)) => Err(VersionParseError::from(ErrorKind::Wildcard)),
-            Err(PatternErrorKind::Version(error)) => Err(error),
-            Err(PatternErrorKind::WildcardNotTrailing) => {
-                Err(VersionParseError::from(ErrorKind::Wildcard))
-            }
-        }
-    }
+impl PartialEq for VersionPattern {
+    ghost eq = { pattern_eq };
 
-    /// The version that the text means (PEP 440, "Public version identifiers", "Local version identifiers",
-    /// "Normalization" and Appendix B), with blanks (tab, line feed, form feed, carriage return, space) before
-    /// and after it.
-    ///
-    /// Takes memory. Every text that means no version is refused with its one `ErrorKind`; only where a
-    /// request for memory was refused the kind may be `OutOfMemory` instead.
-    pub fn from_str(alloc: Global, text: &str) -> Result<Version, VersionParseError>
-        // What is answered is what the text means.
-        ensures found { IfOk result (λ v. Derives text.now v) }
-        // What the text means is answered, unless memory runs out.
-        ensures only { (r : Record) → Derives text.now r → Answers result (Ok r) }
-        // A refusal is one that the fronts of the text tell.
-        ensures refused { IfErr result (λ e. IfSome (refusal_of (kind_of e)) (Refuses text.now)) }
-        // A refusal that the fronts of the text tell is answered, unless memory runs out.
-        ensures decided { (f : Refusal) → Refuses text.now f → Answers result (Err f) }
-        // The error's text is the refusal's.
-        ensures told { IfErr result (λ e. IfSome (refusal_of (kind_of e)) (λ f. kind_text_of (kind_of e) ≡ Some (refusal_text f))) }
-        // A text that is the print of a record is answered with that record, unless memory runs out.
-        ensures reread { (r : Record) → IsRecord r → Rereads r → text.now ≡ print r → Answers result (Ok r) }
-        // So is the print of what some text means.
-        ensures again { (t : List ℕ) (r : Record) → Derives t r → text.now ≡ print r → Answers result (Ok r) }
-    {
-        Version::read(alloc, text)
+    ghost laws = { partial_equiv_from_equiv pattern_equiv };
+
+    fn eq(&self, other: &VersionPattern) -> bool {
+        self.version() == other.version() && self.is_wildcard() == other.is_wildcard()
+    }
+}
+
+impl Eq for VersionPattern {
+    ghost laws = { pattern_equiv };
+}
+
+impl Hash for VersionPattern {
+    ghost hash_input = { feed_pattern };
+
+    ghost respects_eq = { patterns_feed_alike };
+
+    fn hash<H: Hasher>(&self, state: &mut H) {
+        self.version().hash(state);
+        state.write_u64(if self.is_wildcard() { 1 } else { 0 });
     }
 }

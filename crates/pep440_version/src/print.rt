@@ -1,8 +1,8 @@
 //! Prints in normal form (PEP 440, "Normalization"), the same whatever width and fill are asked for.
 ghost use Rattle.std.specs.Prelude.{Some, map, ◌++◌, ◌<◌, ◌+◌, ◌∷◌, [], codes};
 ghost use Rattle.std.specs.List.{flat_map};
-ghost use Rattle.std.specs.Fmt.{WritesStyledOnOk, decimal};
-ghost use Rattle.pep440_version.specs.Print.{print, quoted, dotted, segment_print, kind_text, prerelease_text, pre_text, epoch_text, local_text, marked};
+ghost use Rattle.std.specs.Fmt.{WritesStyledOnOk, DisplaysOnOk, decimal};
+ghost use Rattle.pep440_version.specs.Print.{print, quoted, dotted, segment_print, prerelease_kind_text, prerelease_text, pre_text, epoch_text, local_text, labelled};
 ghost use Rattle.pep440_version.specs.Segments.{segment};
 
 use crate::prerelease::{Prerelease, PrereleaseKind};
@@ -25,15 +25,26 @@ fn write_digit<W: fmt::Write>(f: &mut fmt::Formatter<W>, n: u64) -> fmt::Result
     requires { n < 10 }
     ensures { WritesStyledOnOk W.write_str_gives f.old result ((48 + n) ∷ []) f.new }
 {
-    f.write_char((b'0' + n as u8) as char)
+    f.write_str(match n {
+        0 => "0",
+        1 => "1",
+        2 => "2",
+        3 => "3",
+        4 => "4",
+        5 => "5",
+        6 => "6",
+        7 => "7",
+        8 => "8",
+        _ => "9",
+    })
 }
 
-// A mark and a number.
-#[tactic(auto, using(crate::proofs::Printing::two_writes))]
-fn write_after_mark<W: fmt::Write>(f: &mut fmt::Formatter<W>, mark: &str, n: u64) -> fmt::Result
-    ensures { WritesStyledOnOk W.write_str_gives f.old result (mark.now ++ decimal n) f.new }
+// A label and a number.
+#[tactic(auto, using(crate::proofs::Reread::Writing::two_writes))]
+fn write_after_label<W: fmt::Write>(f: &mut fmt::Formatter<W>, label: &str, n: u64) -> fmt::Result
+    ensures { WritesStyledOnOk W.write_str_gives f.old result (label.now ++ decimal n) f.new }
 {
-    f.write_str(mark)?;
+    f.write_str(label)?;
     write_number(f, n)
 }
 
@@ -42,7 +53,7 @@ fn write_dotted<W: fmt::Write>(f: &mut fmt::Formatter<W>, numbers: &[u64]) -> fm
     ensures { WritesStyledOnOk W.write_str_gives f.old result (flat_map (λ n. codes "." ++ decimal n) numbers.now) f.new }
 {
     for n in numbers {
-        write_after_mark(f, ".", *n)?;
+        write_after_label(f, ".", *n)?;
     }
     Ok(())
 }
@@ -60,7 +71,7 @@ fn write_release<W: fmt::Write>(f: &mut fmt::Formatter<W>, release: &[u64]) -> f
     }
 }
 
-#[tactic(auto, using(crate::proofs::Printing::two_writes))]
+#[tactic(auto, using(crate::proofs::Reread::Writing::two_writes))]
 fn write_epoch<W: fmt::Write>(f: &mut fmt::Formatter<W>, epoch: u64) -> fmt::Result
     ensures { WritesStyledOnOk W.write_str_gives f.old result (epoch_text epoch) f.new }
 {
@@ -71,8 +82,11 @@ fn write_epoch<W: fmt::Write>(f: &mut fmt::Formatter<W>, epoch: u64) -> fmt::Res
     f.write_str("!")
 }
 
-fn write_kind<W: fmt::Write>(f: &mut fmt::Formatter<W>, kind: PrereleaseKind) -> fmt::Result
-    ensures { WritesStyledOnOk W.write_str_gives f.old result (kind_text kind) f.new }
+fn write_prerelease_kind<W: fmt::Write>(
+    f: &mut fmt::Formatter<W>,
+    kind: PrereleaseKind,
+) -> fmt::Result
+    ensures { WritesStyledOnOk W.write_str_gives f.old result (prerelease_kind_text kind) f.new }
 {
     f.write_str(match kind {
         PrereleaseKind::Alpha => "a",
@@ -81,11 +95,11 @@ fn write_kind<W: fmt::Write>(f: &mut fmt::Formatter<W>, kind: PrereleaseKind) ->
     })
 }
 
-#[tactic(auto, using(crate::proofs::Printing::two_writes))]
+#[tactic(auto, using(crate::proofs::Reread::Writing::two_writes))]
 fn write_prerelease<W: fmt::Write>(f: &mut fmt::Formatter<W>, pre: Prerelease) -> fmt::Result
     ensures { WritesStyledOnOk W.write_str_gives f.old result (prerelease_text pre) f.new }
 {
-    write_kind(f, pre.kind)?;
+    write_prerelease_kind(f, pre.kind)?;
     write_number(f, pre.number)
 }
 
@@ -98,16 +112,16 @@ fn write_pre<W: fmt::Write>(f: &mut fmt::Formatter<W>, pre: Option<Prerelease>) 
     }
 }
 
-fn write_marked<W: fmt::Write>(
+fn write_labelled<W: fmt::Write>(
     f: &mut fmt::Formatter<W>,
-    mark: &str,
+    label: &str,
     number: Option<u64>,
 ) -> fmt::Result
-    ensures { WritesStyledOnOk W.write_str_gives f.old result (marked mark.now number) f.new }
+    ensures { WritesStyledOnOk W.write_str_gives f.old result (labelled label.now number) f.new }
 {
     match number {
         None => Ok(()),
-        Some(n) => write_after_mark(f, mark, n),
+        Some(n) => write_after_label(f, label, n),
     }
 }
 
@@ -120,15 +134,15 @@ fn write_segment<W: fmt::Write>(f: &mut fmt::Formatter<W>, held: &LocalSegment) 
     }
 }
 
-#[tactic(auto, using(crate::proofs::Printing::two_writes))]
+#[tactic(auto, using(crate::proofs::Reread::Writing::two_writes))]
 fn write_segment_after<W: fmt::Write>(
     f: &mut fmt::Formatter<W>,
-    mark: &str,
+    label: &str,
     held: &LocalSegment,
 ) -> fmt::Result
-    ensures { WritesStyledOnOk W.write_str_gives f.old result (mark.now ++ segment_print (segment held.now)) f.new }
+    ensures { WritesStyledOnOk W.write_str_gives f.old result (label.now ++ segment_print (segment held.now)) f.new }
 {
-    f.write_str(mark)?;
+    f.write_str(label)?;
     write_segment(f, held)
 }
 
@@ -164,18 +178,18 @@ fn write_version<W: fmt::Write>(f: &mut fmt::Formatter<W>, v: &Version) -> fmt::
     write_epoch(f, v.epoch())?;
     write_release(f, v.release())?;
     write_pre(f, v.pre())?;
-    write_marked(f, ".post", v.post())?;
-    write_marked(f, ".dev", v.dev())?;
+    write_labelled(f, ".post", v.post())?;
+    write_labelled(f, ".dev", v.dev())?;
     write_local(f, v.local())
 }
 
 impl fmt::Display for PrereleaseKind {
-    ghost output = { λ k. Some (kind_text k) };
+    ghost output = { λ k. Some (prerelease_kind_text k) };
 
-    ghost styled_output = { λ k _. Some (kind_text k) };
+    ghost styled_output = { λ k _. Some (prerelease_kind_text k) };
 
     fn fmt<W: fmt::Write>(&self, f: &mut fmt::Formatter<W>) -> fmt::Result {
-        write_kind(f, *self)
+        write_prerelease_kind(f, *self)
     }
 }
 
@@ -209,12 +223,31 @@ impl fmt::Display for Version {
     }
 }
 
+// The print and a quote.
+#[tactic(auto, using(crate::proofs::Reread::Writing::two_writes))]
+fn write_closed<W: fmt::Write>(f: &mut fmt::Formatter<W>, v: &Version) -> fmt::Result
+    ensures { WritesStyledOnOk W.write_str_gives f.old result (print v.now ++ codes "\"") f.new }
+{
+    write_version(f, v)?;
+    f.write_str("\"")
+}
+
+// The print in double quotes.
+#[tactic(auto, using(crate::proofs::Reread::Writing::two_writes))]
+fn write_quoted<W: fmt::Write>(f: &mut fmt::Formatter<W>, v: &Version) -> fmt::Result
+    ensures { WritesStyledOnOk W.write_str_gives f.old result (quoted v.now) f.new }
+{
+    f.write_str("\"")?;
+    write_closed(f, v)
+}
+
 impl fmt::Debug for Version {
     ghost debug_output = { λ v. Some (quoted v) };
 
-    fn fmt<W: fmt::Write>(&self, f: &mut fmt::Formatter<W>) -> fmt::Result {
-        f.write_str("\"")?;
-        write_version(f, self)?;
-        f.write_str("\"")
+    fn fmt<W: fmt::Write>(&self, f: &mut fmt::Formatter<W>) -> fmt::Result
+        ensures writes { DisplaysOnOk W.write_str_gives f.old result (Some (quoted self.now)) f.new }
+        ensures styled { WritesStyledOnOk W.write_str_gives f.old result (quoted self.now) f.new }
+    {
+        write_quoted(f, self)
     }
 }

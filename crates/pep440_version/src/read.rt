@@ -1,8 +1,14 @@
-ghost use Rattle.std.specs.Prelude.{◌≡◌, ◌<◌, ◌==◌, true, length, Ok, Err};
-ghost use Rattle.pep440_version.specs.Errors.{Gives, PatternGives};
-ghost use Rattle.pep440_version.specs.Grammar.{starts, is_v};
-ghost use Rattle.pep440_version.specs.Reading.{EndsWith, past_mark, starts_number};
-ghost use Rattle.pep440_version.specs.Whole.{release_after_first, front_at, opening, parts_at, end_at, closing, is_star, read_pattern};
+//! The reading of versions and patterns, part by part from the left, and the public reader of versions.
+ghost use Rattle.std.specs.Prelude.{◌≡◌, ◌<◌, ◌==◌, ℕ, List, true, length, Ok, Err, Some, IfOk, IfErr, IfSome};
+ghost use Rattle.pep440_version.specs.ErrorTexts.{error_text, refusal_text};
+ghost use Rattle.pep440_version.specs.Errors.{Answers, Gives, error_refusal, pattern_refusal_of};
+ghost use Rattle.pep440_version.specs.Grammar.{Derives, starts, is_v};
+ghost use Rattle.pep440_version.specs.Print.{print};
+ghost use Rattle.pep440_version.specs.Reading.{EndsWith, past_v, starts_number};
+ghost use Rattle.pep440_version.specs.Record.{Record, IsRecord, epoch_and_release};
+ghost use Rattle.pep440_version.specs.Refusals.{Refusal, Refuses};
+ghost use Rattle.pep440_version.specs.Reread.{Rereads};
+ghost use Rattle.pep440_version.specs.Whole.{release_after_first, front_at, opening, parts_at, end_at, closing, is_star, read_pattern, read_version};
 
 mod local;
 mod number;
@@ -13,12 +19,13 @@ use self::local::local_at;
 use self::number::{number_at, release_from, starts_number};
 use self::suffix::{dev_at, post_at, pre_at};
 use crate::error::{ErrorKind, PatternErrorKind, VersionParseError};
+use crate::numbers::Release;
 use crate::version::Version;
 use std::alloc::Global;
 
-// The text after its mark.
-fn past_mark(text: &str) -> &str
-    ensures { result.now ≡ past_mark text.now }
+// The text after the letter v, where it stands in front.
+fn past_v(text: &str) -> &str
+    ensures { result.now ≡ past_v text.now }
 {
     if scan::starts_with(text, b'v') || scan::starts_with(text, b'V') {
         scan::past_ascii(text)
@@ -33,8 +40,8 @@ fn release_after<'a>(
     epoch: u64,
     first: u64,
     text: &'a str,
-) -> Result<(u64, Vec<u64>, &'a str), ErrorKind>
-    ensures { Gives (λ x. ((x.0, x.1.items), x.2.now)) result (release_after_first epoch first text.now) }
+) -> Result<(u64, Release, &'a str), ErrorKind>
+    ensures { Gives (λ x. ((x.0, x.1), x.2.now)) result (release_after_first epoch first text.now) }
 {
     let (numbers, rest) = release_from(alloc, first, text)?;
     Ok((epoch, numbers, rest))
@@ -42,8 +49,8 @@ fn release_after<'a>(
 
 // Epoch and release at the front.
 #[tactic(auto, unfolding(crate::specs::Whole::front_at))]
-fn front_at(alloc: Global, text: &str) -> Result<(u64, Vec<u64>, &str), ErrorKind>
-    ensures { Gives (λ x. ((x.0, x.1.items), x.2.now)) result (front_at text.now) }
+fn front_at(alloc: Global, text: &str) -> Result<(u64, Release, &str), ErrorKind>
+    ensures { Gives (λ x. ((x.0, x.1), x.2.now)) result (front_at text.now) }
 {
     if !starts_number(text) {
         return Err(ErrorKind::NoLeadingNumber);
@@ -65,18 +72,18 @@ fn front_at(alloc: Global, text: &str) -> Result<(u64, Vec<u64>, &str), ErrorKin
 fn parts_at(
     alloc: Global,
     epoch: u64,
-    release: Vec<u64>,
+    release: Release,
     text: &str,
 ) -> Result<(Version, &str), ErrorKind>
-    requires { 0 < length release.items }
-    ensures { Gives (λ x. (x.0, x.1.now)) result (parts_at epoch release.items text.now) }
+    requires { 0 < length release }
+    ensures { Gives (λ x. (x.0, x.1.now)) result (parts_at epoch release text.now) }
 {
     let (pre, after_pre) = pre_at(alloc, text)?;
     let (post, after_post) = post_at(alloc, after_pre)?;
     let (dev, after_dev) = dev_at(alloc, after_post)?;
     let (local, rest) = local_at(alloc, after_dev)?;
     Ok((
-        Version::of_parts(epoch, release, pre, post, dev, local),
+        Version::of_parts(alloc, epoch, release, pre, post, dev, local)?,
         rest,
     ))
 }
@@ -101,12 +108,12 @@ fn closing(
     alloc: Global,
     text: &str,
     epoch: u64,
-    release: Vec<u64>,
+    release: Release,
     rest: &str,
 ) -> Result<Version, ErrorKind>
-    requires some { 0 < length release.items }
+    requires some { 0 < length release }
     requires at_end { EndsWith text.now rest.now }
-    ensures { Gives (λ v. v) result (closing text.now ((epoch, release.items), rest.now)) }
+    ensures { Gives (λ v. v) result (closing text.now ((epoch, release), rest.now)) }
 {
     let (version, after) = parts_at(alloc, epoch, release, rest)?;
     end_at(alloc, text, version, after)
@@ -118,20 +125,67 @@ fn is_star(text: &str) -> bool
     scan::starts_with(text, b'.') && scan::starts_with(scan::past_ascii(text), b'*')
 }
 
+// Epoch and release alone.
+fn before_star(alloc: Global, epoch: u64, release: Release) -> Result<Version, ErrorKind>
+    requires { 0 < length release }
+    ensures { Gives (λ v. v) result (Ok (epoch_and_release epoch release)) }
+{
+    let no_local = Vec::new(alloc);
+    Ok(Version::of_parts(alloc, epoch, release, None, None, None, no_local)?)
+}
+
 // What the text reads as, and whether a star follows.
 pub(crate) fn pattern(alloc: Global, text: &str) -> Result<(Version, bool), PatternErrorKind>
-    ensures { PatternGives (λ x. x) result (read_pattern text.now) }
+    ensures { Answers pattern_refusal_of result (read_pattern text.now) }
 {
-    let (epoch, release, rest) = front_at(alloc, past_mark(scan::past_blanks(text)))?;
+    let (epoch, release, rest) = front_at(alloc, past_v(scan::past_blanks(text)))?;
     if !is_star(rest) {
         return Ok((closing(alloc, text, epoch, release, rest)?, false));
     }
     if rest.len() == 2 {
-        Ok((
-            Version::of_parts(epoch, release, None, None, None, Vec::new(alloc)),
-            true,
-        ))
+        Ok((before_star(alloc, epoch, release)?, true))
     } else {
         Err(PatternErrorKind::WildcardNotTrailing)
+    }
+}
+
+impl Version {
+    // What the reading from the left gives: a version is a pattern without a star.
+    fn read(alloc: Global, text: &str) -> Result<Version, VersionParseError>
+        ensures { Answers error_refusal result (read_version text.now) }
+    {
+        match pattern(alloc, text) {
+            Ok((version, false)) => Ok(version),
+            Ok((_, true)) => Err(VersionParseError::from(ErrorKind::Wildcard)),
+            Err(PatternErrorKind::Version(error)) => Err(error),
+            Err(PatternErrorKind::WildcardNotTrailing) => {
+                Err(VersionParseError::from(ErrorKind::Wildcard))
+            }
+        }
+    }
+
+    /// The version that the text means (PEP 440, "Public version identifiers", "Local version identifiers",
+    /// "Normalization" and Appendix B), with blanks (tab, line feed, form feed, carriage return, space) before
+    /// and after it.
+    ///
+    /// Takes memory. Every text that means no version is refused with its one `ErrorKind`; only where a
+    /// request for memory was refused the kind may be `OutOfMemory` instead.
+    pub fn from_str(alloc: Global, text: &str) -> Result<Version, VersionParseError>
+        // What is answered is what the text means.
+        ensures found { IfOk result (λ v. Derives text.now v) }
+        // What the text means is answered, unless memory runs out.
+        ensures only { (r : Record) → Derives text.now r → Answers error_refusal result (Ok r) }
+        // A refusal is one that the fronts of the text tell.
+        ensures refused { IfErr result (λ e. IfSome (error_refusal e) (Refuses text.now)) }
+        // A refusal that the fronts of the text tell is answered, unless memory runs out.
+        ensures decided { (f : Refusal) → Refuses text.now f → Answers error_refusal result (Err f) }
+        // The error's text is the refusal's.
+        ensures told { IfErr result (λ e. IfSome (error_refusal e) (λ f. error_text (error_refusal e) ≡ Some (refusal_text f))) }
+        // A text that is the print of a record is answered with that record, unless memory runs out.
+        ensures reread { (r : Record) → IsRecord r → Rereads r → text.now ≡ print r → Answers error_refusal result (Ok r) }
+        // So is the print of what some text means.
+        ensures again { (t : List ℕ) (r : Record) → Derives t r → text.now ≡ print r → Answers error_refusal result (Ok r) }
+    {
+        Version::read(alloc, text)
     }
 }

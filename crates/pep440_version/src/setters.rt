@@ -1,12 +1,14 @@
 //! Setters: each replaces one part of a version.
-ghost use Rattle.std.specs.Prelude.{◌≡◌, ◌<◌, [], length, None, IfOk, map};
+ghost use Rattle.std.specs.Prelude.{◌≡◌, ◌<◌, [], length, None, IfOk, IsOk, map, true};
 ghost use Rattle.pep440_version.specs.Feed.{feed};
 ghost use Rattle.pep440_version.specs.Key.{record_cmp};
 ghost use Rattle.pep440_version.specs.Record.{of_release};
 ghost use Rattle.pep440_version.specs.Segments.{segment};
 ghost use Rattle.pep440_version.specs.Trim.{trim};
+ghost use Rattle.pep440_version.specs.Word.{is_packed};
 ghost use Rattle.std.specs.declared.cmp.Ordering.TheVariants.{Equal};
 
+use crate::numbers::Release;
 use crate::prerelease::Prerelease;
 use crate::segment::LocalSegment;
 use crate::version::{Version, known_segments};
@@ -15,73 +17,79 @@ use std::alloc::{AllocError, Global};
 impl Version {
     /// The version with this release. The release must not be empty; `is_empty` is its test.
     ///
-    /// Takes memory.
+    /// Takes memory only where the answer is not packed.
     pub fn with_release(self, alloc: Global, release: &[u64]) -> Result<Version, AllocError>
         requires { 0 < length release.now }
         ensures value { IfOk result (λ v. v ≡ record self { release = release.now }) }
+        ensures memory { is_packed (record self { release = release.now }) ≡ true → IsOk result }
         // Zeros at the end of the release make no difference to the order and to a hasher.
         ensures zeros { trim release.now ≡ trim self.release → IfOk result (λ v. (record_cmp v self ≡ Equal) × (feed v ≡ feed self)) }
     {
-        let numbers = Vec::from_slice(alloc, release)?;
+        let numbers = Release::from_slice(alloc, release)?;
         let mut full = self.into_full(alloc);
         full.release = numbers;
-        Ok(Version::from_full(full))
+        Version::from_full(alloc, full)
     }
 
     /// The version with this epoch.
     ///
-    /// May take memory.
+    /// Takes memory only where the answer is not packed.
     pub fn with_epoch(self, alloc: Global, epoch: u64) -> Result<Version, AllocError>
         ensures value { IfOk result (λ v. v ≡ record self { epoch = epoch }) }
+        ensures memory { is_packed (record self { epoch = epoch }) ≡ true → IsOk result }
     {
         let mut full = self.into_full(alloc);
         full.epoch = epoch;
-        Ok(Version::from_full(full))
+        Version::from_full(alloc, full)
     }
 
     /// The version with this pre-release part, or without one.
     ///
-    /// May take memory.
+    /// Takes memory only where the answer is not packed.
     pub fn with_pre(self, alloc: Global, pre: Option<Prerelease>) -> Result<Version, AllocError>
         ensures value { IfOk result (λ v. v ≡ record self { pre = pre }) }
+        ensures memory { is_packed (record self { pre = pre }) ≡ true → IsOk result }
     {
         let mut full = self.into_full(alloc);
         full.pre = pre;
-        Ok(Version::from_full(full))
+        Version::from_full(alloc, full)
     }
 
     /// The version with this post-release number, or without one.
     ///
-    /// May take memory.
+    /// Takes memory only where the answer is not packed.
     pub fn with_post(self, alloc: Global, post: Option<u64>) -> Result<Version, AllocError>
         ensures value { IfOk result (λ v. v ≡ record self { post = post }) }
+        ensures memory { is_packed (record self { post = post }) ≡ true → IsOk result }
     {
         let mut full = self.into_full(alloc);
         full.post = post;
-        Ok(Version::from_full(full))
+        Version::from_full(alloc, full)
     }
 
     /// The version with this developmental number, or without one.
     ///
-    /// May take memory.
+    /// Takes memory only where the answer is not packed.
     pub fn with_dev(self, alloc: Global, dev: Option<u64>) -> Result<Version, AllocError>
         ensures value { IfOk result (λ v. v ≡ record self { dev = dev }) }
+        ensures memory { is_packed (record self { dev = dev }) ≡ true → IsOk result }
     {
         let mut full = self.into_full(alloc);
         full.dev = dev;
-        Ok(Version::from_full(full))
+        Version::from_full(alloc, full)
     }
 
     /// The version with these local segments; an empty vector is no local part.
     ///
-    /// May take memory.
+    /// Takes memory only where the answer is not packed.
     pub fn with_local(self, alloc: Global, local: Vec<LocalSegment>) -> Result<Version, AllocError>
         ensures value { IfOk result (λ v. v ≡ record self { local = map segment local.items }) }
+        ensures memory { is_packed (record self { local = map segment local.items }) ≡ true → IsOk result }
     {
         known_segments(&local);
         let mut full = self.into_full(alloc);
         full.local = local;
-        Ok(Version::from_full(full))
+        Version::from_full(alloc, full)
     }
 
     // The version with a copy of these local segments.
@@ -98,18 +106,20 @@ impl Version {
 
     /// The version without its local part.
     ///
-    /// May take memory.
+    /// Takes memory only where the answer is not packed.
     pub fn without_local(self, alloc: Global) -> Result<Version, AllocError>
         ensures value { IfOk result (λ v. v ≡ record self { local = [] }) }
+        ensures memory { is_packed (record self { local = [] }) ≡ true → IsOk result }
     {
         self.with_local(alloc, Vec::new(alloc))
     }
 
     /// The version that is the release alone, with epoch 0.
     ///
-    /// Takes memory.
+    /// Takes memory only where the answer is not packed.
     pub fn only_release(&self, alloc: Global) -> Result<Version, AllocError>
         ensures value { IfOk result (λ v. v ≡ of_release self.now.release) }
+        ensures memory { is_packed (of_release self.now.release) ≡ true → IsOk result }
     {
         Version::new(alloc, self.release())
     }
@@ -117,28 +127,30 @@ impl Version {
     /// The version with this `min` mark, or without one. The version must have neither a pre-release nor a
     /// developmental part, also where the mark is taken away; `any_prerelease` is the test.
     ///
-    /// May take memory.
+    /// Takes memory only where the answer is not packed.
     pub fn with_min(self, alloc: Global, min: Option<u64>) -> Result<Version, AllocError>
         requires no_pre { self.pre ≡ None }
         requires no_dev { self.dev ≡ None }
         ensures value { IfOk result (λ v. v ≡ record self { min = min }) }
+        ensures memory { is_packed (record self { min = min }) ≡ true → IsOk result }
     {
         let mut full = self.into_full(alloc);
         full.min = min;
-        Ok(Version::from_full(full))
+        Version::from_full(alloc, full)
     }
 
     /// The version with this `max` mark, or without one. The version must have neither a post-release nor a
     /// developmental part, also where the mark is taken away; `is_post` and `is_dev` are the tests.
     ///
-    /// May take memory.
+    /// Takes memory only where the answer is not packed.
     pub fn with_max(self, alloc: Global, max: Option<u64>) -> Result<Version, AllocError>
         requires no_post { self.post ≡ None }
         requires no_dev { self.dev ≡ None }
         ensures value { IfOk result (λ v. v ≡ record self { max = max }) }
+        ensures memory { is_packed (record self { max = max }) ≡ true → IsOk result }
     {
         let mut full = self.into_full(alloc);
         full.max = max;
-        Ok(Version::from_full(full))
+        Version::from_full(alloc, full)
     }
 }

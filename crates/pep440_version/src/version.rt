@@ -1,11 +1,15 @@
 //! The type `Version`: how one is made, and its parts.
-ghost use Rattle.std.specs.Prelude.{◌≡◌, ◌<◌, ◌||◌, ◌↔◌, [], ◌∷◌, length, Some, None, IfOk, IsTrue, map, is_some, is_none, if◌then◌else◌, true, false};
+ghost use Rattle.std.specs.Prelude.{◌≡◌, ◌<◌, ◌||◌, ◌↔◌, [], ◌∷◌, length, Some, None, IfOk, IsOk, IsTrue, map, is_some, is_none, if◌then◌else◌, true, false};
 ghost use Rattle.std.specs.List.{All};
 ghost use Rattle.pep440_version.specs.Form.{full_record};
-ghost use Rattle.pep440_version.specs.Record.{of_parts, of_release, least_record, IsRecord, SegmentFits};
+ghost use Rattle.pep440_version.specs.Record.{of_parts, of_release, zero_alpha_dev, IsRecord, SegmentFits};
 ghost use Rattle.pep440_version.specs.Segments.{segment};
+ghost use Rattle.pep440_version.specs.Word.{is_packed, word};
+ghost use Rattle.std.specs.Option.{option_copied};
 
 use crate::full::Full;
+use crate::numbers::{Release, known_numbers};
+use crate::packed::{Packed, dev_in, max_in, min_in, post_in, pre_in};
 use crate::prerelease::{Prerelease, PrereleaseKind};
 use crate::segment::LocalSegment;
 use std::alloc::{AllocError, Global};
@@ -15,9 +19,24 @@ use std::marker::Model;
 /// where they are there pre, post, dev, local, and the marks `min` and `max`.
 ///
 /// Versions are ordered by their key, so that `1.0` equals `1.0.0`; `release` and the print tell them apart.
+///
+/// A version is packed where its epoch is 0, it has no local part, at most four release numbers, the first at most
+/// 65535 and the others at most 255, and at most one of pre, post, dev, `min` and `max`, whose number is at most
+/// 2097151. It is then held in one word (`laws::word`), without memory.
 #[derive(Drop)]
 pub struct Version {
-    full: Full,
+    form: Form,
+}
+
+// In a word exactly where the record is packed: so the record tells the form.
+#[derive(Drop)]
+enum Form {
+    InWord {
+        count: u8,
+        word: u64,
+        numbers: [u64; 4],
+    },
+    InFull(Box<Full>),
 }
 
 impl Model for Version {
@@ -25,11 +44,11 @@ impl Model for Version {
 
     ghost Value = { Record };
 
-    ghost use Rattle.pep440_version.specs.Form.{full_record, IsHeld};
+    ghost use Rattle.pep440_version.specs.Form.{form_record, IsHeld};
 
-    ghost view = { λ v. full_record v.full };
+    ghost view = { λ v. form_record v.form };
 
-    ghost invariant = { λ v. IsHeld v.full };
+    ghost invariant = { λ v. IsHeld v.form };
 }
 
 // A number fits, since it is a `u64`.
@@ -53,24 +72,39 @@ pub(crate) fn known_segments(segments: &[LocalSegment])
 ///
 /// Takes memory.
 pub fn min_version(alloc: Global) -> Result<Version, AllocError>
-    ensures { IfOk result (λ v. v ≡ least_record) }
+    ensures { IfOk result (λ v. v ≡ zero_alpha_dev) }
 {
-    let mut release = Vec::new(alloc);
-    release.push(0)?;
     let pre = Prerelease {
         kind: PrereleaseKind::Alpha,
         number: 0,
     };
-    Ok(Version::of_parts(0, release, Some(pre), None, Some(0), Vec::new(alloc)))
+    let release = Release::one(0);
+    Version::of_parts(alloc, 0, release, Some(pre), None, Some(0), Vec::new(alloc))
 }
 
 impl Version {
     // The form that holds the record: every version is made here.
-    pub(crate) fn from_full(full: Full) -> Version
+    pub(crate) fn from_full(alloc: Global, full: Full) -> Result<Version, AllocError>
         requires { IsRecord (full_record full) }
-        ensures { result ≡ full_record full }
+        ensures value { IfOk result (λ v. v ≡ full_record full) }
+        ensures memory { is_packed (full_record full) ≡ true → IsOk result }
     {
-        Version { full }
+        let form = match Packed::pack(&full) {
+            Some(packed) => {
+                let Packed {
+                    count,
+                    word,
+                    numbers,
+                } = packed;
+                Form::InWord {
+                    count,
+                    word,
+                    numbers,
+                }
+            }
+            None => Form::InFull(Box::new(alloc, full)?),
+        };
+        Ok(Version { form })
     }
 
     // Each part, to be changed.
@@ -78,24 +112,43 @@ impl Version {
         ensures value { full_record result ≡ self }
         ensures valid { IsRecord self }
     {
-        let Version { full } = self;
-        full
+        let Version { form } = self;
+        match form {
+            Form::InFull(full) => Box::into_inner(full),
+            Form::InWord {
+                count,
+                word,
+                numbers,
+            } => Full {
+                epoch: 0,
+                release: Release::few(numbers, usize::from(count)),
+                pre: pre_in(word),
+                post: post_in(word),
+                dev: dev_in(word),
+                local: Vec::new(alloc),
+                min: min_in(word),
+                max: max_in(word),
+            },
+        }
     }
 
     // The version of these parts, without marks.
     pub(crate) fn of_parts(
+        alloc: Global,
         epoch: u64,
-        release: Vec<u64>,
+        release: Release,
         pre: Option<Prerelease>,
         post: Option<u64>,
         dev: Option<u64>,
         local: Vec<LocalSegment>,
-    ) -> Version
-        requires { 0 < length release.items }
-        ensures { result ≡ of_parts epoch release.items pre post dev (map segment local.items) }
+    ) -> Result<Version, AllocError>
+        requires { 0 < length release }
+        ensures value { IfOk result (λ v. v ≡ of_parts epoch release pre post dev (map segment local.items)) }
+        ensures memory { is_packed (of_parts epoch release pre post dev (map segment local.items)) ≡ true → IsOk result }
     {
+        known_numbers(release.as_slice());
         known_segments(&local);
-        Version::from_full(Full {
+        let full = Full {
             epoch,
             release,
             pre,
@@ -104,25 +157,41 @@ impl Version {
             local,
             min: None,
             max: None,
-        })
+        };
+        Version::from_full(alloc, full)
     }
 
     /// The version that is this release alone, as `1.2.3` of 1, 2 and 3 (PEP 440, "Final releases").
     /// The release must not be empty; `is_empty` is its test.
     ///
-    /// Takes memory.
+    /// Takes memory only where the version is not packed.
     pub fn new(alloc: Global, release: &[u64]) -> Result<Version, AllocError>
         requires { 0 < length release.now }
         ensures value { IfOk result (λ v. v ≡ of_release release.now) }
+        ensures memory { is_packed (of_release release.now) ≡ true → IsOk result }
     {
-        Ok(Version::from_full(Full::new(alloc, release)?))
+        Version::from_full(alloc, Full::new(alloc, release)?)
+    }
+
+    // The word that is kept, where the version is held in one.
+    #[inline(always)]
+    pub(crate) fn word(&self) -> Option<&u64>
+        ensures { option_copied result ≡ (if is_packed self.now then Some (word self.now) else None) }
+    {
+        match &self.form {
+            Form::InWord { word, .. } => Some(word),
+            Form::InFull(_) => None,
+        }
     }
 
     /// The epoch, 0 where none is written (PEP 440, "Version epochs").
     pub fn epoch(&self) -> u64
         ensures { result ≡ self.now.epoch }
     {
-        self.full.epoch
+        match &self.form {
+            Form::InWord { .. } => 0,
+            Form::InFull(full) => full.epoch,
+        }
     }
 
     /// The release numbers as they were given, zeros at the end included; at least one (PEP 440,
@@ -132,28 +201,40 @@ impl Version {
         // Every version's release is not empty, and its numbers fit.
         ensures valid { IsRecord self.now }
     {
-        self.full.release.as_slice()
+        match &self.form {
+            Form::InWord { count, numbers, .. } => &numbers[..usize::from(*count)],
+            Form::InFull(full) => full.release.as_slice(),
+        }
     }
 
     /// The pre-release (PEP 440, "Pre-releases").
     pub fn pre(&self) -> Option<Prerelease>
         ensures { result ≡ self.now.pre }
     {
-        self.full.pre
+        match &self.form {
+            Form::InWord { word, .. } => pre_in(*word),
+            Form::InFull(full) => full.pre,
+        }
     }
 
     /// The number of the post-release (PEP 440, "Post-releases").
     pub fn post(&self) -> Option<u64>
         ensures { result ≡ self.now.post }
     {
-        self.full.post
+        match &self.form {
+            Form::InWord { word, .. } => post_in(*word),
+            Form::InFull(full) => full.post,
+        }
     }
 
     /// The number of the developmental release (PEP 440, "Developmental releases").
     pub fn dev(&self) -> Option<u64>
         ensures { result ≡ self.now.dev }
     {
-        self.full.dev
+        match &self.form {
+            Form::InWord { word, .. } => dev_in(*word),
+            Form::InFull(full) => full.dev,
+        }
     }
 
     /// The segments of the local part; none where there is no local part (PEP 440, "Local version
@@ -161,7 +242,10 @@ impl Version {
     pub fn local(&self) -> &[LocalSegment]
         ensures { map segment result.now ≡ self.now.local }
     {
-        self.full.local.as_slice()
+        match &self.form {
+            Form::InWord { .. } => &[],
+            Form::InFull(full) => full.local.as_slice(),
+        }
     }
 
     /// The number of the mark `min`, which stands below every version of the same epoch and release without it.
@@ -169,7 +253,10 @@ impl Version {
     pub fn min(&self) -> Option<u64>
         ensures { result ≡ self.now.min }
     {
-        self.full.min
+        match &self.form {
+            Form::InWord { word, .. } => min_in(*word),
+            Form::InFull(full) => full.min,
+        }
     }
 
     /// The number of the mark `max`, which stands above every post-release of the same release and pre-release.
@@ -177,7 +264,10 @@ impl Version {
     pub fn max(&self) -> Option<u64>
         ensures { result ≡ self.now.max }
     {
-        self.full.max
+        match &self.form {
+            Form::InWord { word, .. } => max_in(*word),
+            Form::InFull(full) => full.max,
+        }
     }
 
     /// Whether there is a pre-release part.
@@ -239,7 +329,21 @@ impl Version {
 impl Clone for Version {
     ghost is_clone = { λ version copy. copy ≡ version };
 
+    ghost is_infallible = { λ version. is_packed version ≡ true };
+
     fn clone(&self) -> Result<Version, AllocError> {
-        Ok(Version::from_full(self.full.clone()?))
+        let form = match &self.form {
+            Form::InWord {
+                count,
+                word,
+                numbers,
+            } => Form::InWord {
+                count: *count,
+                word: *word,
+                numbers: *numbers,
+            },
+            Form::InFull(full) => Form::InFull(full.clone()?),
+        };
+        Ok(Version { form })
     }
 }

@@ -11,6 +11,7 @@ mod generic;
 mod hashing;
 mod kept;
 mod order;
+mod packed;
 mod patterns;
 mod printing;
 mod reading;

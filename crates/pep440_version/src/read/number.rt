@@ -1,3 +1,4 @@
+//! The readers of numbers and releases.
 ghost use Rattle.std.specs.Prelude.{◌≡◌, ◌<◌, ◌==◌, true, length};
 ghost use Rattle.pep440_version.specs.Errors.{Gives};
 ghost use Rattle.pep440_version.specs.Grammar.{starts};
@@ -5,6 +6,7 @@ ghost use Rattle.pep440_version.specs.Reading.{release_from, number_at, goes_on,
 
 use super::scan;
 use crate::error::ErrorKind;
+use crate::numbers::Release;
 use std::alloc::Global;
 
 pub(crate) fn starts_number(text: &str) -> bool
@@ -42,18 +44,17 @@ pub(crate) fn release_from(
     alloc: Global,
     first: u64,
     text: &str,
-) -> Result<(Vec<u64>, &str), ErrorKind>
-    ensures { Gives (λ x. (x.0.items, x.1.now)) result (release_from first text.now) }
+) -> Result<(Release, &str), ErrorKind>
+    ensures { Gives (λ x. (x.0, x.1.now)) result (release_from first text.now) }
 {
-    let mut numbers = Vec::new(alloc);
-    numbers.push(first)?;
+    let mut numbers = Release::one(first);
     let mut rest = text;
     for round in 0..text.len() {
         if !goes_on(rest) {
             return Ok((numbers, rest));
         }
         let (number, after) = number_at(alloc, scan::past_ascii(rest))?;
-        numbers.push(number)?;
+        numbers.push(alloc, number)?;
         rest = after;
     }
     Ok((numbers, rest))

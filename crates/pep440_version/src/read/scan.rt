@@ -1,10 +1,11 @@
+//! Runs of bytes, and cuts of a text.
 ghost use Rattle.std.specs.Prelude.{◌≡◌, ◌<◌, ◌≤◌, ◌-◌, ◌^◌, ◌==◌, true, Some, None, length, option_map, nat_lt, take, drop, slice_index, if◌then◌else◌};
 ghost use Rattle.std.specs.Char.{is_ascii_digit, is_ascii_alphanumeric};
 ghost use Rattle.std.specs.List.{list_all, prefix_len};
 ghost use Rattle.std.specs.Str.Parse.{digits_value};
 ghost use Rattle.pep440_version.specs.Grammar.{is_blank, starts, is_separator, is_v};
 ghost use Rattle.pep440_version.specs.Locals.{first_byte};
-ghost use Rattle.pep440_version.specs.Reading.{lead, past, past_mark, EndsWith};
+ghost use Rattle.pep440_version.specs.Reading.{lead, past, past_v, EndsWith};
 ghost use Rattle.pep440_version.specs.Suffixes.{begins, past_separator};
 
 // A byte that may stand before and after a version.

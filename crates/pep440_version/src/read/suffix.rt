@@ -1,3 +1,4 @@
+//! The readers of pre-, post- and developmental releases.
 ghost use Rattle.std.specs.Prelude.{◌≡◌, ℕ, List, drop, option_map};
 ghost use Rattle.pep440_version.specs.declared.prerelease.PrereleaseKind.{PrereleaseKind};
 ghost use Rattle.pep440_version.specs.Errors.{Gives};

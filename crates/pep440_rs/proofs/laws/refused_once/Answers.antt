@@ -1,4 +1,4 @@
-use Rattle.pep440_rs.proofs.OneMeaning.{either_specifier, not_both_list, not_both_specifier, one_list_refusal, one_specifier_refusal}
+use Rattle.pep440_rs.proofs.OneMeaning.{either_list, either_specifier, not_both_list, not_both_specifier, one_list_refusal, one_specifier_refusal}
 use Rattle.pep440_rs.proofs.laws.refused_once.Goals as goal
 
 pub returns-clause-specifier : goal.returns-clause-specifier
@@ -12,6 +12,9 @@ returns-clause-derived c = not_both_specifier
 
 pub returns-clause-list : goal.returns-clause-list
 returns-clause-list c = one_list_refusal
+
+pub returns-clause-either_list : goal.returns-clause-either_list
+returns-clause-either_list c = either_list
 
 pub returns-clause-derived_list : goal.returns-clause-derived_list
 returns-clause-derived_list c = not_both_list

@@ -1,5 +1,5 @@
 use Rattle.std.proofs.Common.{refl, ◌++◌, codes}
-use Rattle.pep440_version.proofs.Printing.{flat_map_item}
+use Rattle.pep440_version.proofs.Reread.Writing.{flat_map_item}
 use Rattle.std.proofs.Output.{has_written_styled_append, has_written_styled_of_eq}
 use Rattle.pep440_rs.specs.Specifiers.{spec_print}
 use Rattle.pep440_rs.proofs.print.write_members.Goals as goal

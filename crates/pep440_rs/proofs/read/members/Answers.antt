@@ -2,7 +2,7 @@ use Rattle.std.proofs.Common.{◌++◌, ◌-◌, ◌∙◌, ◌∷◌, [], ap, a
 use Rattle.std.proofs.lemmas.List.{append-nil, append_assoc}
 use Rattle.std.proofs.lemmas.Str.{IsUtf8-nil}
 use Rattle.std.proofs.lemmas.Str.Pattern.{split_parts}
-use Rattle.pep440_version.proofs.Ends.{ends_then}
+use Rattle.pep440_version.proofs.Reading.Endings.{ends_then}
 use Rattle.pep440_rs.specs.ListGrammar.{pieces}
 use Rattle.pep440_rs.specs.ListReading.{read_members, read_pieces}
 use Rattle.pep440_rs.specs.SpecifierReading.{read_specifier}

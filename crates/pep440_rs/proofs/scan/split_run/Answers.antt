@@ -1,6 +1,6 @@
 use Rattle.std.proofs.Common.{◌∙◌, ap}
 use Rattle.std.specs.Str.{chars}
-use Rattle.pep440_version.proofs.Ends.{seam}
+use Rattle.pep440_version.proofs.Reading.Endings.{seam}
 use Rattle.pep440_rs.specs.SpecifierReading.{passes}
 use Rattle.pep440_rs.proofs.Scanning.{rest_bytes, run_bytes}
 use Rattle.pep440_rs.proofs.scan.split_run.Goals as goal

@@ -1,4 +1,4 @@
-use Rattle.pep440_version.proofs.Bridge.{one_record, one_pattern}
+use Rattle.pep440_version.proofs.Reading.Agreement.{one_record, one_pattern}
 use Rattle.pep440_version.proofs.laws.means_one.Goals as goal
 
 pub returns-clause-version : goal.returns-clause-version

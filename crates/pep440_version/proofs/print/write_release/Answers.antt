@@ -1,5 +1,5 @@
 use Rattle.std.proofs.Common.{refl}
-use Rattle.pep440_version.proofs.Printing.{dotted_front}
+use Rattle.pep440_version.proofs.Reread.Writing.{dotted_front}
 use Rattle.std.proofs.Output.{has_written_styled_append, has_written_styled_of_eq}
 use Rattle.pep440_version.proofs.print.write_release.Goals as goal
 

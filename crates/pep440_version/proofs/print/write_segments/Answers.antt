@@ -1,7 +1,7 @@
 use Rattle.std.proofs.Common.{refl, ◌++◌, ◌∷◌, []}
 use Rattle.pep440_version.specs.Print.{segment_print}
 use Rattle.pep440_version.specs.Segments.{segment}
-use Rattle.pep440_version.proofs.Printing.{flat_map_item}
+use Rattle.pep440_version.proofs.Reread.Writing.{flat_map_item}
 use Rattle.std.proofs.Output.{has_written_styled_append, has_written_styled_of_eq}
 use Rattle.pep440_version.proofs.print.write_segments.Goals as goal
 

@@ -1,4 +1,4 @@
-use Rattle.pep440_version.proofs.Answered.{is_pattern_found, is_pattern_only, is_pattern_refused, is_pattern_decided, is_pattern_told}
+use Rattle.pep440_version.proofs.Reading.PublicAnswers.{is_pattern_found, is_pattern_only, is_pattern_refused, is_pattern_decided, is_pattern_told}
 use Rattle.pep440_version.proofs.pattern.VersionPattern.from_str.Goals as goal
 
 pub returns-clause-found : goal.returns-clause-found

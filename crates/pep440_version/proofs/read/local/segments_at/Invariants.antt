@@ -3,7 +3,7 @@ use denote.Text.{Utf8}
 use denote.Shadow.{shadow}
 use Rattle.pep440_version.specs.Locals.{segments_at}
 use Rattle.pep440_version.specs.Segments.{segment}
-use Rattle.pep440_version.proofs.Loops.{with_segments}
+use Rattle.pep440_version.proofs.Reading.SegmentsInTurn.{with_segments}
 use Rattle.pep440_version.proofs.read.local.segments_at.Given as goal
 
 abbrev pub invariant-loop-round : goal.invariant-loop-round

@@ -2,18 +2,18 @@ use Rattle.std.proofs.Common.{◌≡◌, ◌-◌, ◌+◌, ◌∙◌, ℕ, suc, 
 use Rattle.std.proofs.lemmas.Result.{err_from_is_err_and}
 use Rattle.pep440_version.specs.Errors.{refusal_of}
 use Rattle.pep440_version.specs.Reading.{number_at, release_from}
-use Rattle.pep440_version.proofs.Loop.{fault_on}
-use Rattle.pep440_version.proofs.Release.{more_on, more_err, more_shorter}
+use Rattle.pep440_version.proofs.Reading.NumbersInTurn.{fault_on}
+use Rattle.pep440_version.proofs.Reading.AfterFirstNumber.{more_on, more_err, more_shorter}
 use Rattle.pep440_version.proofs.read.number.release_from.Goals as goal
 
 pub returns-in_err-number : goal.returns-in_err-number
 returns-in_err-number c =
-    let p = err_from_is_err_and c.from_residual-in_err-number.result c.from_residual-in_err-number.ensures.1 in
+    let p = err_from_is_err_and c.from_residual.result c.from_residual.ensures.1 in
     let left : ℕ = length c.args.text.now - (c.loop-round.round + 1) in
     let fuel : length c.args.text.now - c.loop-round.round ≡ suc left = omega arith in
     let go = sym c.goes_on.ensures ∙ c.if-not-goes_on.false in
     rw (p.1, p.2) (fault_on (refusal_of c.in_err-number.field-0.0) (number_at c.past_ascii.result.now) (release_from c.args.first c.args.text.now)
-    (λ f h. sym c.loop-round.invariant.2 ∙ rw fuel (more_err left c.loop-round.rest.now c.loop-round.numbers.items f go (rw (sym c.past_ascii.ensures) h))) c.in_err-number.ensures)
+    (λ f h. sym c.loop-round.invariant.2 ∙ rw fuel (more_err left c.loop-round.rest.now c.loop-round.numbers f go (rw (sym c.past_ascii.ensures) h))) c.in_err-number.ensures)
 
 pub loop-round-preserved : goal.loop-round-preserved
 loop-round-preserved c =
@@ -24,5 +24,5 @@ loop-round-preserved c =
     let room = rw fuel at c.loop-round.invariant.1 in (
       search rules,
       more_shorter left c.loop-round.rest.now c.in_ok-number.after.now c.in_ok-number.number go read room,
-      rw c.in_ok-push-2.ensures.items (sym (more_on left c.loop-round.rest.now c.in_ok-number.after.now c.loop-round.numbers.items c.in_ok-number.number go read) ∙ rw (sym fuel) c.loop-round.invariant.2),
+      rw c.in_ok-push.ensures.value (sym (more_on left c.loop-round.rest.now c.in_ok-number.after.now c.loop-round.numbers c.in_ok-number.number go read) ∙ rw (sym fuel) c.loop-round.invariant.2),
     )

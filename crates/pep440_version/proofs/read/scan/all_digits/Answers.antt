@@ -1,6 +1,6 @@
 use Rattle.std.proofs.Common.{refl}
 use Rattle.std.specs.Char.{is_ascii_digit}
-use Rattle.pep440_version.proofs.Words.{all_prefix}
+use Rattle.pep440_version.proofs.Reading.WordInFront.{all_prefix}
 use Rattle.pep440_version.proofs.read.scan.all_digits.Goals as goal
 
 pub returns : goal.returns

@@ -1,4 +1,4 @@
-use Rattle.pep440_version.proofs.Ends.{seam}
+use Rattle.pep440_version.proofs.Reading.Endings.{seam}
 use Rattle.pep440_version.proofs.read.scan.before.Goals as goal
 
 pub split_at-requires : goal.split_at-requires

@@ -1,5 +1,5 @@
 use Rattle.std.proofs.Common.{sym}
-use Rattle.pep440_version.proofs.Words.{begins_short}
+use Rattle.pep440_version.proofs.Reading.WordInFront.{begins_short}
 use Rattle.pep440_version.proofs.read.scan.begins.Goals as goal
 
 pub returns-then-text-word : goal.returns-then-text-word

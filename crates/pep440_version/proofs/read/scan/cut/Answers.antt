@@ -1,4 +1,4 @@
-use Rattle.pep440_version.proofs.Cuts.{cut_after_ascii}
+use Rattle.pep440_version.proofs.Reading.Boundaries.{cut_after_ascii}
 use Rattle.pep440_version.proofs.read.scan.cut.Goals as goal
 
 pub split_at-requires : goal.split_at-requires

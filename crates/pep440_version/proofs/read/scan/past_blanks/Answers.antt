@@ -1,5 +1,5 @@
 use Rattle.pep440_version.specs.Grammar.{is_blank}
-use Rattle.pep440_version.proofs.Texts.{front_ascii, blank_ascii}
+use Rattle.pep440_version.proofs.Reading.Fronts.{front_ascii, blank_ascii}
 use Rattle.pep440_version.proofs.read.scan.past_blanks.Goals as goal
 
 pub cut-requires-clause-ascii : goal.cut-requires-clause-ascii

@@ -1,6 +1,6 @@
 use Rattle.std.proofs.Common.{◌≡◌, ◌∙◌, sym, true}
 use Rattle.pep440_version.specs.Suffixes.{begins}
-use Rattle.pep440_version.proofs.Words.{begins_inside, begins_ascii}
+use Rattle.pep440_version.proofs.Reading.WordInFront.{begins_inside, begins_ascii}
 use Rattle.pep440_version.proofs.read.scan.past_word.Goals as goal
 
 pub cut-requires-clause-inside : goal.cut-requires-clause-inside

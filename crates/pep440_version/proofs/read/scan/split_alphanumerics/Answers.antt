@@ -1,5 +1,5 @@
 use Rattle.std.specs.Char.{is_ascii_alphanumeric}
-use Rattle.pep440_version.proofs.Texts.{front_ascii, alphanumeric_ascii}
+use Rattle.pep440_version.proofs.Reading.Fronts.{front_ascii, alphanumeric_ascii}
 use Rattle.pep440_version.proofs.read.scan.split_alphanumerics.Goals as goal
 
 pub cut-requires-clause-ascii : goal.cut-requires-clause-ascii

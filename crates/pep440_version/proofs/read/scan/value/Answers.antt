@@ -1,5 +1,5 @@
 use Rattle.std.proofs.Common.{◌∙◌}
-use Rattle.pep440_version.proofs.Values.{value_of}
+use Rattle.pep440_version.proofs.Reading.Digits.{value_of}
 use Rattle.pep440_version.proofs.read.scan.value.Goals as goal
 
 pub returns : goal.returns

@@ -4,8 +4,8 @@ use Rattle.pep440_version.specs.declared.prerelease.PrereleaseKind.{PrereleaseKi
 use Rattle.pep440_version.specs.Errors.{refusal_of}
 use Rattle.pep440_version.specs.Grammar.{pre_spellings}
 use Rattle.pep440_version.specs.Suffixes.{spelled, past_separator, count_at, pre_at}
-use Rattle.pep440_version.proofs.Loop.{fault_on}
-use Rattle.pep440_version.proofs.Readers.{pre_ok, pre_err}
+use Rattle.pep440_version.proofs.Reading.NumbersInTurn.{fault_on}
+use Rattle.pep440_version.proofs.Reading.AfterSpelling.{pre_ok, pre_err}
 use Rattle.pep440_version.proofs.read.suffix.pre_at.Goals as goal
 
 pub returns-in_err-number-in-Some : goal.returns-in_err-number-in-Some

@@ -3,8 +3,8 @@ use Rattle.std.proofs.lemmas.Result.{err_from_is_err_and}
 use Rattle.pep440_version.specs.Errors.{refusal_of}
 use Rattle.pep440_version.specs.Grammar.{post_spellings}
 use Rattle.pep440_version.specs.Suffixes.{spelled, past_separator, count_at, spelled_post_at}
-use Rattle.pep440_version.proofs.Loop.{fault_on}
-use Rattle.pep440_version.proofs.Readers.{post_err}
+use Rattle.pep440_version.proofs.Reading.NumbersInTurn.{fault_on}
+use Rattle.pep440_version.proofs.Reading.AfterSpelling.{post_err}
 use Rattle.pep440_version.proofs.read.suffix.spelled_post_at.Goals as goal
 
 pub returns-in_err-number-in-Some : goal.returns-in_err-number-in-Some

@@ -1,4 +1,4 @@
-use Rattle.pep440_version.proofs.Answered.{is_found, is_only, is_refused, is_decided, is_told, is_reread, is_again}
+use Rattle.pep440_version.proofs.Reading.PublicAnswers.{is_found, is_only, is_refused, is_decided, is_told, is_reread, is_again}
 use Rattle.pep440_version.proofs.version.Version.from_str.Goals as goal
 
 pub returns-clause-found : goal.returns-clause-found

@@ -1,0 +1,42 @@
+//! The room that `run` gives a reader at each call.
+use super::support::{Manner, Sink, words_of};
+use pep440_tool::run;
+use std::io::Read;
+use std::test::Fail;
+
+/// Gives its text a byte a call, and keeps the least room that it was given.
+#[derive(Drop)]
+struct Measured<'a> {
+    text: &'a [u8],
+    least: usize,
+}
+
+impl Read for Measured<'_> {
+    fn read(&mut self, buf: &mut [u8]) -> std::io::Result<usize> {
+        self.least = self.least.min(buf.len());
+        if buf.is_empty() {
+            return Ok(0);
+        }
+        let [first, rest @ ..] = self.text else {
+            return Ok(0)
+        };
+        buf[0] = *first;
+        self.text = rest;
+        Ok(1)
+    }
+}
+
+#[test]
+fn of_8192_bytes(rt: HostRuntime) -> Result<(), Fail> {
+    let words = words_of(rt.alloc(), &["filter", ">=1"])?;
+    let mut reader = Measured {
+        text: b"2.0\n0.9\n1.0\n",
+        least: usize::MAX,
+    };
+    let mut sink = Sink::new(Manner::TakesAtMost(512));
+    let status = run(rt.alloc(), words.as_slice(), &mut reader, &mut sink);
+    assert_eq!(rt; status, 0);
+    assert_eq!(rt; sink.bytes(), b"1.0\n2.0\n");
+    assert_eq!(rt; reader.least, 8192);
+    Ok(())
+}

@@ -1,0 +1,3 @@
+-- What a held version means.
+pub mod NumbersFit
+pub mod Clones

@@ -1,0 +1,4 @@
+-- Comparisons one after another, and zeros at the end of a release.
+pub mod Comparisons
+pub mod ListEnds
+pub mod ReleaseEnds

@@ -1,0 +1,20 @@
+-- What is read of a text is what the grammar derives.
+pub mod Fronts
+pub mod DerivedIsRead
+pub mod ReadIsDerived
+pub mod Boundaries
+pub mod Digits
+pub mod SpelledIsRead
+pub mod SuffixesAreRead
+pub mod ReadIsSpelled
+pub mod NumbersInTurn
+pub mod Endings
+pub mod LocalAgrees
+pub mod AfterRelease
+pub mod PartsAgree
+pub mod Agreement
+pub mod WordInFront
+pub mod SegmentsInTurn
+pub mod AfterSpelling
+pub mod PublicAnswers
+pub mod AfterFirstNumber

@@ -1,0 +1,101 @@
+-- What is read is derived by the grammar.
+use Rattle.std.proofs.Common.{◌≡◌, ◌≤◌, ◌<◌, ◌^◌, ◌+◌, ◌==◌, ◌⊎◌, ℕ, suc, zero, Bool, true, false, List, [], ◌∷◌, ◌++◌, refl, sym, ap, ◌∙◌, arith, drop, length, inl, inr, Ok, Err, Result, ltb-true, cond, nat_lt, eqb-true, subst}
+use Rattle.std.proofs.lemmas.Bool.{cases_Bool}
+use Rattle.std.proofs.lemmas.List.{append_assoc, append-nil, length-append, take-append-drop, nil_from_length}
+use Rattle.std.specs.Char.{is_ascii_digit}
+use Rattle.std.specs.List.{list_all, prefix_len}
+use Rattle.std.specs.Str.Parse.{digits_value}
+use Rattle.pep440_version.specs.Grammar.{IsNumber, IsRelease, IsLeadingV, AreBlanks, is_blank, starts}
+use Rattle.pep440_version.specs.Reading.{◌>>=◌, lead, past, past_v, number_at, goes_on, release_at}
+use Rattle.pep440_version.specs.Refusals.{Refusal}
+use Rattle.pep440_version.proofs.Reading.Fronts.{both_first, both_second, lead-all, past-stops}
+
+pub bind_ok : {A B : Type 0} (r : Result A Refusal) (f : A → Result B Refusal) (y : B) → (r >>= f) ≡ Ok y → (x : A) × (r ≡ Ok x) × (f x ≡ Ok y)
+bind_ok (Ok x) f y e = (x, refl, e)
+bind_ok (Err d) f y e = cc e
+
+pub chosen : {A : Type 0} (b : Bool) (x y z : A) → cond b x y ≡ z → ((b ≡ true) × (x ≡ z)) ⊎ ((b ≡ false) × (y ≡ z))
+chosen true x y z e = inl (refl, e)
+chosen false x y z e = inr (refl, e)
+
+pub inside : {A : Type 0} (x y : A) → (let r : Result A Refusal = Ok x in r) ≡ Ok y → x ≡ y
+inside {A} x y e = ap (λ (r : Result A Refusal). elim r as (λ _. A) [ Ok z ↦ z | Err f ↦ x ]) e
+
+pub lead-some : (p : ℕ → Bool) (t : List ℕ) → starts p t ≡ true → 0 < length (lead p t)
+lead-some p [] s = cc s
+lead-some p (b ∷ rest) s =
+    let one : 1 + prefix_len p rest ≡ suc (prefix_len p rest) = omega arith in
+    rw (s, one) (omega arith)
+
+pub split : (p : ℕ → Bool) (t : List ℕ) → t ≡ lead p t ++ past p t
+split p t = sym (take-append-drop (prefix_len p t) t)
+
+pub number_takes : (t : List ℕ) (x : ℕ × List ℕ) → starts is_ascii_digit t ≡ true → number_at t ≡ Ok x → (ds : List ℕ) × IsNumber ds x.0 × (t ≡ ds ++ x.1)
+unfolding number_at
+number_takes t x s e = elim (chosen (nat_lt (digits_value 10 (lead is_ascii_digit t)) (2 ^ 64)) _ _ _ e) [
+  | inl h ↦
+      let both = inside _ _ h.1 in
+      let value : digits_value 10 (lead is_ascii_digit t) ≡ x.0 = ap (λ (p : ℕ × List ℕ). p.0) both in
+      let rest : past is_ascii_digit t ≡ x.1 = ap (λ (p : ℕ × List ℕ). p.1) both in
+      (lead is_ascii_digit t, (lead-some is_ascii_digit t s, lead-all is_ascii_digit t, value, subst (λ n. n < 2 ^ 64) value (ltb-true _ _ h.0)), split is_ascii_digit t ∙ ap (λ r. lead is_ascii_digit t ++ r) rest)
+  | inr h ↦ cc h.1
+]
+
+release_cons : (ds n : List ℕ) (x : ℕ) (ns : List ℕ) → IsNumber ds x → IsRelease n ns → IsRelease (ds ++ (46 ∷ n)) (x ∷ ns)
+release_cons ds n x [] h r = absurd r
+release_cons ds n x (m ∷ more) h r = (ds, n, h, r, refl)
+
+pub drop_one : (c : ℕ) (t : List ℕ) → starts (λ b. b == c) t ≡ true → t ≡ c ∷ drop 1 t
+drop_one c [] s = cc s
+drop_one c (b ∷ rest) s = ap (λ d. d ∷ rest) (eqb-true b c s)
+
+pub release_takes : (k : ℕ) (t : List ℕ) (x : List ℕ × List ℕ) → starts is_ascii_digit t ≡ true → length t ≤ k → release_at k t ≡ Ok x → (n : List ℕ) × IsRelease n x.0 × (t ≡ n ++ x.1)
+unfolding release_at
+release_takes zero [] x s room e = cc s
+release_takes zero (b ∷ t) x s room e = absurd (omega (arith, room))
+release_takes (suc k) t x s room e =
+    let n = bind_ok (number_at t) _ x e in
+    let front = number_takes t n.0 s n.1 in
+    elim (chosen (goes_on n.0.1) _ _ _ n.2) [
+      | inl h ↦
+          let dot = drop_one 46 n.0.1 (both_first _ _ h.0) in
+          let more = bind_ok (release_at k (drop 1 n.0.1)) _ x h.1 in
+          let long = ap length front.2 ∙ length-append front.0 n.0.1 in
+          let shorter = ap length dot in
+          let later = release_takes k (drop 1 n.0.1) more.0 (both_second _ _ h.0) (omega (arith, long, shorter, front.1.0, room)) more.1 in
+          let same = inside _ _ more.2 in
+          let numbers : n.0.0 ∷ more.0.0 ≡ x.0 = ap (λ (p : List ℕ × List ℕ). p.0) same in
+          let rest : more.0.1 ≡ x.1 = ap (λ (p : List ℕ × List ℕ). p.1) same in (
+            front.0 ++ (46 ∷ later.0),
+            subst (IsRelease (front.0 ++ (46 ∷ later.0))) numbers (release_cons front.0 later.0 n.0.0 more.0.0 front.1 later.1),
+            front.2 ∙ ap (λ r. front.0 ++ r) (dot ∙ ap (λ r. 46 ∷ r) (later.2 ∙ ap (λ r. later.0 ++ r) rest)) ∙ sym (append_assoc front.0 (46 ∷ later.0) x.1),
+          )
+      | inr h ↦
+          let same = inside _ _ h.1 in
+          let numbers : n.0.0 ∷ [] ≡ x.0 = ap (λ (p : List ℕ × List ℕ). p.0) same in
+          let rest : n.0.1 ≡ x.1 = ap (λ (p : List ℕ × List ℕ). p.1) same in
+          (front.0, subst (IsRelease front.0) numbers front.1, front.2 ∙ ap (λ r. front.0 ++ r) rest)
+    ]
+
+pub blank_end : (t : List ℕ) → (length (past is_blank t) == 0) ≡ true → AreBlanks t
+blank_end t e =
+    let nothing : past is_blank t ≡ [] = nil_from_length (past is_blank t) (eqb-true _ _ e) in
+    let whole : t ≡ lead is_blank t = split is_blank t ∙ ap (λ r. lead is_blank t ++ r) nothing ∙ append-nil (lead is_blank t) in
+    ap (list_all is_blank) whole ∙ lead-all is_blank t
+
+pub v_takes : (t : List ℕ) → (v : List ℕ) × IsLeadingV v × (t ≡ v ++ past_v t)
+v_takes [] = ([], inl refl, refl)
+v_takes (b ∷ rest) = elim (cases_Bool (b == 118)) [
+  | inl e ↦ (118 ∷ [], inr (inl refl), rw (eqb-true b 118 e) refl)
+  | inr e ↦ elim (cases_Bool (b == 86)) [
+    | inl f ↦ (86 ∷ [], inr (inr refl), rw (eqb-true b 86 f) refl)
+    | inr f ↦ ([], inl refl, rw (e, f) refl)
+  ]
+]
+
+pub number_stops : (t : List ℕ) (x : ℕ × List ℕ) → number_at t ≡ Ok x → starts is_ascii_digit x.1 ≡ false
+unfolding number_at
+number_stops t x e = elim (chosen (nat_lt (digits_value 10 (lead is_ascii_digit t)) (2 ^ 64)) _ _ _ e) [
+  | inl h ↦ subst (λ l. starts is_ascii_digit l ≡ false) (ap (λ (p : ℕ × List ℕ). p.1) (inside _ _ h.1)) (past-stops is_ascii_digit t)
+  | inr h ↦ cc h.1
+]

@@ -1,0 +1,5 @@
+pub mod Blocks
+pub mod Suffixes
+pub mod Packed
+pub mod Order
+pub mod Shown

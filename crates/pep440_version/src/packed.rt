@@ -1,0 +1,172 @@
+// A version in one word: its release, and the one suffix that it may have.
+ghost use Rattle.std.specs.Prelude.{◌≡◌, ◌+◌, ◌*◌, ◌^◌, ◌<◌, ◌≤◌, true, false, None, length, slice_index, IfSome, IfNone, if◌then◌else◌};
+ghost use Rattle.pep440_version.specs.Form.{IsWord, class_in, full_record, number_in, number_of_class, packed_record, pre_at};
+ghost use Rattle.pep440_version.specs.Word.{is_packed, is_short, suffix};
+
+use crate::full::Full;
+use crate::numbers::padded;
+use crate::prerelease::{Prerelease, PrereleaseKind};
+
+// The classes of a suffix; a higher one stands above a lower one.
+const MIN: u64 = 0;
+
+const DEV: u64 = 1;
+
+const ALPHA: u64 = 2;
+
+const BETA: u64 = 3;
+
+const RC: u64 = 4;
+
+const NONE: u64 = 5;
+
+const POST: u64 = 6;
+
+const MAX: u64 = 7;
+
+// How many release numbers there are, the word, and the numbers that it stands for.
+pub(crate) struct Packed {
+    pub(crate) count: u8,
+    pub(crate) word: u64,
+    pub(crate) numbers: [u64; 4],
+}
+
+fn class_in(word: u64) -> u64
+    ensures { result ≡ class_in word }
+{
+    word >> 21 & 7
+}
+
+fn number_in(word: u64) -> u64
+    ensures { result ≡ number_in word }
+{
+    word & 0x1f_ffff
+}
+
+// The number, where the word's suffix is of this class.
+fn number_of_class(asked: u64, word: u64) -> Option<u64>
+    ensures { result ≡ number_of_class asked (class_in word) (number_in word) }
+{
+    if class_in(word) == asked {
+        Some(number_in(word))
+    } else {
+        None
+    }
+}
+
+pub(crate) fn pre_in(word: u64) -> Option<Prerelease>
+    ensures { result ≡ pre_at (class_in word) (number_in word) }
+{
+    let class = class_in(word);
+    let kind = if class == ALPHA {
+        PrereleaseKind::Alpha
+    } else if class == BETA {
+        PrereleaseKind::Beta
+    } else if class == RC {
+        PrereleaseKind::Rc
+    } else {
+        return None;
+    };
+    let number = number_in(word);
+    Some(Prerelease { kind, number })
+}
+
+pub(crate) fn post_in(word: u64) -> Option<u64>
+    ensures { result ≡ number_of_class 6 (class_in word) (number_in word) }
+{
+    number_of_class(POST, word)
+}
+
+pub(crate) fn dev_in(word: u64) -> Option<u64>
+    ensures { result ≡ number_of_class 1 (class_in word) (number_in word) }
+{
+    number_of_class(DEV, word)
+}
+
+pub(crate) fn min_in(word: u64) -> Option<u64>
+    ensures { result ≡ number_of_class 0 (class_in word) (number_in word) }
+{
+    number_of_class(MIN, word)
+}
+
+pub(crate) fn max_in(word: u64) -> Option<u64>
+    ensures { result ≡ number_of_class 7 (class_in word) (number_in word) }
+{
+    number_of_class(MAX, word)
+}
+
+// The class and the number of the one suffix that is there; None where there are more.
+fn suffix(full: &Full) -> Option<(u64, u64)>
+    ensures { result ≡ suffix (full_record full.now) }
+{
+    match (full.min, full.dev, full.pre, full.post, full.max) {
+        (None, None, None, None, None) => Some((NONE, 0)),
+        (Some(min), None, None, None, None) => Some((MIN, min)),
+        (None, Some(dev), None, None, None) => Some((DEV, dev)),
+        (None, None, Some(pre), None, None) => match pre.kind {
+            PrereleaseKind::Alpha => Some((ALPHA, pre.number)),
+            PrereleaseKind::Beta => Some((BETA, pre.number)),
+            PrereleaseKind::Rc => Some((RC, pre.number)),
+        },
+        (None, None, None, Some(post), None) => Some((POST, post)),
+        (None, None, None, None, Some(max)) => Some((MAX, max)),
+        _ => None,
+    }
+}
+
+fn is_short(release: &[u64]) -> bool
+    ensures { result ≡ is_short release.now }
+{
+    if release.len() > 4 {
+        return false;
+    }
+    let [first, second, third, fourth] = padded(release);
+    first <= 65535 && second <= 255 && third <= 255 && fourth <= 255
+}
+
+// The suffix of a version that a word can hold.
+fn packed_suffix(full: &Full) -> Option<(u64, u64)>
+    ensures { result ≡ (if is_packed (full_record full.now) then suffix (full_record full.now) else None) }
+{
+    if full.epoch != 0 || !full.local.is_empty() || !is_short(full.release.as_slice()) {
+        return None;
+    }
+    let (class, number) = suffix(full)?;
+    if number > 2097151 {
+        None
+    } else {
+        Some((class, number))
+    }
+}
+
+// Four numbers, a class and a number, each in its bits.
+fn word_of(numbers: [u64; 4], class: u64, number: u64) -> u64
+    requires first { slice_index numbers 0 ≤ 65535 }
+    requires second { slice_index numbers 1 ≤ 255 }
+    requires third { slice_index numbers 2 ≤ 255 }
+    requires fourth { slice_index numbers 3 ≤ 255 }
+    requires class { class < 8 }
+    requires number { number ≤ 2097151 }
+    ensures { result ≡ slice_index numbers 0 * 2 ^ 48 + slice_index numbers 1 * 2 ^ 40
+        + slice_index numbers 2 * 2 ^ 32 + slice_index numbers 3 * 2 ^ 24 + class * 2 ^ 21 + number }
+{
+    let release = ((numbers[0] << 8 | numbers[1]) << 8 | numbers[2]) << 8 | numbers[3];
+    (release << 3 | class) << 21 | number
+}
+
+impl Packed {
+    // The same in one word, where it can be.
+    pub(crate) fn pack(full: &Full) -> Option<Packed>
+        ensures none { IfNone result (is_packed (full_record full.now) ≡ false) }
+        ensures some { IfSome result (λ p. IsWord p.count p.word p.numbers × (packed_record p.count p.word p.numbers ≡ full_record full.now)) }
+    {
+        let (class, number) = packed_suffix(full)?;
+        let release = full.release.as_slice();
+        let numbers = padded(release);
+        Some(Packed {
+            count: release.len() as u8,
+            word: word_of(numbers, class, number),
+            numbers,
+        })
+    }
+}
