@@ -30,8 +30,6 @@ mod release_only;
 mod scan;
 mod specifier;
 mod specifiers;
-#[cfg(test)]
-mod tests;
 
 pub use bound_error::BoundError;
 pub use convert::specifier_to_range;

@@ -16,6 +16,3 @@ mod stream;
 pub use command::answer;
 pub use output::Answer;
 pub use program::{refuse, run};
-
-#[cfg(test)]
-mod tests;

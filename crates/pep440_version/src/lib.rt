@@ -30,6 +30,3 @@ pub use pattern::VersionPattern;
 pub use prerelease::{Prerelease, PrereleaseKind};
 pub use segment::LocalSegment;
 pub use version::{Version, min_version};
-
-#[cfg(test)]
-mod tests;
