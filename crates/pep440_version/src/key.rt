@@ -1,4 +1,4 @@
-// What versions are compared by after the release, absence being a case of its own.
+//! What versions are compared by after the release, absence being a case of its own.
 ghost use Rattle.std.specs.Prelude.{◌≡◌};
 ghost use Rattle.pep440_version.specs.Key.{dev_place, key, post_place, stage_place};
 ghost use Rattle.pep440_version.specs.KeyParts.{dev_meant, post_meant, stage_meant};

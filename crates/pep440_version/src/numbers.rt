@@ -1,4 +1,4 @@
-// Release numbers: up to four take no memory.
+//! Release numbers: up to four take no memory.
 ghost use Rattle.std.specs.Prelude.{◌≡◌, ◌≤◌, ◌<◌, ◌++◌, ℕ, [], ◌∷◌, length, take, slice_index, IfOk, IsOk, is_ok, if◌then◌else◌};
 ghost use Rattle.pep440_version.specs.Record.{Fits};
 

@@ -1,4 +1,4 @@
-// A version in one word: its release, and the one suffix that it may have.
+//! A version in one word: its release, and the one suffix that it may have.
 ghost use Rattle.std.specs.Prelude.{◌≡◌, ◌+◌, ◌*◌, ◌^◌, ◌<◌, ◌≤◌, true, false, None, length, slice_index, IfSome, IfNone, if◌then◌else◌};
 ghost use Rattle.pep440_version.specs.Form.{IsWord, class_in, full_record, number_in, number_of_class, packed_record, pre_at};
 ghost use Rattle.pep440_version.specs.Word.{is_packed, is_short, suffix};
