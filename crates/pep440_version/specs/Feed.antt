@@ -1,20 +1,17 @@
 -- What a version gives to a hasher: the parts of its key, each number as a write of its own.
-use Rattle.std.specs.Prelude.{ℕ, List, [], ◌∷◌, ◌++◌, length}
+use Rattle.std.specs.Prelude.{ℕ, ◌+◌, List, [], ◌∷◌, ◌++◌, length}
 use Rattle.std.specs.Hash.{HashWrites, u64}
 use Rattle.std.specs.List.{flat_map}
 use Rattle.pep440_version.specs.declared.prerelease.PrereleaseKind.{PrereleaseKind}
-use Rattle.pep440_version.specs.declared.prerelease.PrereleaseKind.TheVariants.{Alpha, Beta, Rc}
 use Rattle.pep440_version.specs.declared.prerelease.Prerelease.{Prerelease}
-use Rattle.pep440_version.specs.Key.{Key, key, Stage, Min, Dev, Pre, Final, stage_place, PostPlace, NoPost, PostAt, PostTop, DevPlace, DevAt, NoDev}
+use Rattle.pep440_version.specs.Key.{Key, key, Stage, Pre, stage_place, kind_rank, PostPlace, NoPost, PostAt, PostTop, DevPlace, DevAt, NoDev}
 use Rattle.pep440_version.specs.Record.{Record, Segment, Text, Number}
 use Rattle.pep440_version.specs.Trim.{trim}
 
--- Min 0, Dev 1, Alpha 2, Beta 3, Rc 4, Final 5; a pre-release is followed by its number
+-- its rank: Min 0, Dev 1, Alpha 2, Beta 3, Rc 4, Final 5; a pre-release is followed by its number
 abbrev pub feed_stage : Stage → HashWrites
-feed_stage Min = u64 0
-feed_stage Dev = u64 1
-feed_stage (Pre k n) = u64 (stage_place (Pre k n)).0 ++ u64 n
-feed_stage Final = u64 5
+feed_stage (Pre k n) = u64 (2 + kind_rank k) ++ u64 n
+feed_stage s = u64 (stage_place s).0
 
 -- 0, or 1 and the number, or 2 and the number of the mark
 abbrev pub feed_post : PostPlace → HashWrites
@@ -50,9 +47,7 @@ feed r = feed_key (key r)
 
 -- a kind by its place, and a pre-release as its kind and number
 abbrev pub feed_kind : PrereleaseKind → HashWrites
-feed_kind Alpha = u64 0
-feed_kind Beta = u64 1
-feed_kind Rc = u64 2
+feed_kind k = u64 (kind_rank k)
 
 abbrev pub feed_prerelease : Prerelease → HashWrites
 feed_prerelease p = feed_kind p.kind ++ u64 p.number

@@ -1,6 +1,6 @@
 -- How versions are ordered (PEP 440, "Summary of permitted suffixes and relative ordering"): each record
 -- has a key, and keys are compared part by part. Absence is a case of its own.
-use Rattle.std.specs.Prelude.{ℕ, List, [], ◌∷◌, Option, Some, None}
+use Rattle.std.specs.Prelude.{ℕ, ◌+◌, List, [], ◌∷◌, Option, Some, None}
 use Rattle.std.specs.Ordering.{nat_cmp, on, ordering_then, then_cmp}
 use Rattle.std.specs.declared.cmp.Ordering.{Ordering}
 use Rattle.std.specs.declared.cmp.Ordering.TheVariants.{Less, Equal, Greater}
@@ -78,13 +78,17 @@ release_cmp [] (y ∷ ys) = ordering_then (nat_cmp 0 y) (release_cmp [] ys)
 release_cmp (x ∷ xs) [] = ordering_then (nat_cmp x 0) (release_cmp xs [])
 release_cmp (x ∷ xs) (y ∷ ys) = ordering_then (nat_cmp x y) (release_cmp xs ys)
 
+-- Alpha < Beta < Rc
+abbrev pub kind_rank : PrereleaseKind → ℕ
+kind_rank Alpha = 0
+kind_rank Beta = 1
+kind_rank Rc = 2
+
 -- Min < Dev < Pre Alpha < Pre Beta < Pre Rc < Final; pre-releases of one kind by number
 abbrev pub stage_place : Stage → ℕ × ℕ
 stage_place Min = (0, 0)
 stage_place Dev = (1, 0)
-stage_place (Pre Alpha n) = (2, n)
-stage_place (Pre Beta n) = (3, n)
-stage_place (Pre Rc n) = (4, n)
+stage_place (Pre k n) = (2 + kind_rank k, n)
 stage_place Final = (5, 0)
 
 -- NoPost < PostAt < PostTop; two of one case by number
@@ -139,12 +143,6 @@ base_cmp r q = ordering_then (nat_cmp r.epoch q.epoch) (release_cmp r.release q.
 -- by what follows the release, up to the local part
 abbrev pub suffix_cmp : Record → Record → Ordering
 suffix_cmp r q = ordering_then (stage_cmp (key r).stage (key q).stage) (ordering_then (post_cmp (key r).post (key q).post) (dev_cmp (key r).dev (key q).dev))
-
--- Alpha < Beta < Rc
-abbrev pub kind_rank : PrereleaseKind → ℕ
-kind_rank Alpha = 0
-kind_rank Beta = 1
-kind_rank Rc = 2
 
 -- Alpha < Beta < Rc
 abbrev pub kind_cmp : PrereleaseKind → PrereleaseKind → Ordering
