@@ -5,6 +5,7 @@ pub mod Tells
 pub mod Answered
 pub mod Prints
 mod InOrder
+mod Direct
 mod Sorting
 pub mod Steps
 pub mod Plain

@@ -6,7 +6,7 @@ use Rattle.std.proofs.lemmas.Str.Ascii.{IsAscii-cons, IsAscii-nil, encodes-IsAsc
 use Rattle.std.specs.List.{list_all}
 use Rattle.std.specs.Str.{IsAscii, encode_utf8_all}
 use Rattle.pep440_version.proofs.Reading.Fronts.{both_first, both_second}
-use Rattle.pep440_rs.specs.ErrorTexts.{is_unescaped}
+use Rattle.std.specs.Char.{is_ascii}
 use Rattle.pep440_rs.specs.SpecifierGrammar.{is_operator_char}
 
 abbrev pub is_shown : ℕ → Bool
@@ -29,12 +29,12 @@ all_ascii p low (b ∷ t) h = IsAscii-cons b t (low b (both_first (p b) (list_al
 operator_low : (b : ℕ) → is_operator_char b ≡ true → b < 128
 operator_low b h = grind (arith, nat_tests)
 
-operator_unescaped : (b : ℕ) → is_operator_char b ≡ true → is_unescaped b ≡ true
-operator_unescaped b h = grind (arith, nat_tests)
+operator_ascii : (b : ℕ) → is_operator_char b ≡ true → is_ascii b ≡ true
+operator_ascii b h = grind (arith, nat_tests)
 
 -- the bytes of an operator's characters are those characters
 pub operator_bytes : (cs : List ℕ) → list_all is_operator_char cs ≡ true → encode_utf8_all cs ≡ cs
 operator_bytes cs h = encodes-IsAscii cs (all_ascii is_operator_char operator_low cs h)
 
-pub operator_plain : (cs : List ℕ) → list_all is_operator_char cs ≡ true → list_all is_unescaped (encode_utf8_all cs) ≡ true
-operator_plain cs h = rw (operator_bytes cs h) (all_weaker is_operator_char is_unescaped operator_unescaped cs h)
+pub operator_plain : (cs : List ℕ) → list_all is_operator_char cs ≡ true → list_all is_ascii (encode_utf8_all cs) ≡ true
+operator_plain cs h = rw (operator_bytes cs h) (all_weaker is_operator_char is_ascii operator_ascii cs h)

@@ -1,12 +1,13 @@
 -- The texts of what reading refuses.
 use Rattle.std.proofs.Common.{◌≡◌, ◌∙◌, ℕ, List, true, Option, Some, None, refl, ap, option_map}
+use Rattle.std.specs.Char.{is_ascii}
 use Rattle.std.specs.List.{list_all}
 use Rattle.std.specs.Prelude.{IfErr, IfSome, Result, Ok, Err, string_bytes}
 use Rattle.std.specs.Str.{encode_utf8_all}
 use Rattle.pep440_version.specs.ErrorTexts.{pattern_refusal_text, pattern_error_text}
 use Rattle.pep440_version.specs.Errors.{pattern_kind_of, pattern_refusal_of}
 use Rattle.pep440_version.specs.Refusals.{LocalEmpty, NoLeadingNumber, NoLeadingReleaseNumber, NumberTooBig, OfVersion, PatternRefusal, RefusesPattern, UnexpectedEnd, Wildcard, WildcardNotTrailing}
-use Rattle.pep440_rs.specs.ErrorTexts.{is_unescaped, operator_text_of, specifier_refusal_text, specifier_text_of}
+use Rattle.pep440_rs.specs.ErrorTexts.{operator_text_of, specifier_refusal_text, specifier_text_of}
 use Rattle.pep440_rs.specs.Errors.{operator_kind_of, parse_kind_of, specifier_refusal_of, unknown_of}
 use Rattle.pep440_rs.specs.SpecifierGrammar.{InvalidOperator, InvalidVersion, RefusesSpecifier}
 use Rattle.pep440_rs.specs.Specifiers.{Spec}
@@ -33,7 +34,7 @@ version_told text (Some f) (c, o, spells, some, refuses) = pattern_told (encode_
 operator_told : (text : List ℕ) (k : OperatorErrorKind) → IfSome (option_map InvalidOperator (unknown_of k)) (RefusesSpecifier text)
     → IfSome (option_map InvalidOperator (unknown_of k)) (λ f. operator_text_of k ≡ Some (specifier_refusal_text f))
 operator_told text (operator.Unknown got) (c, some, is, none) =
-    let plain : list_all is_unescaped (string_bytes got) ≡ true = ap (list_all is_unescaped) is ∙ operator_plain c.operator c.operator_run.0 in
+    let plain : list_all is_ascii (string_bytes got) ≡ true = ap (list_all is_ascii) is ∙ operator_plain c.operator c.operator_run.0 in
     rw plain refl
 operator_told text operator.OutOfMemory h = tt
 

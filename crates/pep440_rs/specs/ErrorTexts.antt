@@ -1,7 +1,8 @@
--- The texts of the errors. Of an operator whose text has bytes that are escaped in quotes, or is not ASCII, nothing
--- is said; no reader of specifiers answers one.
-use Rattle.std.specs.Prelude.{ℕ, List, ◌++◌, ◌==◌, ◌&&◌, Bool, not, nat_le, nat_lt, Option, Some, None, codes, string_bytes, if◌then◌else◌}
-use Rattle.std.specs.List.{list_all}
+-- The texts of the errors. Of an operator whose text is not ASCII nothing is said; no reader of specifiers answers one.
+use Rattle.std.specs.Prelude.{ℕ, List, [], ◌∷◌, ◌++◌, Option, Some, None, codes, string_bytes, if◌then◌else◌}
+use Rattle.std.specs.Fmt.{debug_escape}
+use Rattle.std.specs.Char.{is_ascii}
+use Rattle.std.specs.List.{list_all, flat_map}
 use Rattle.pep440_version.specs.Errors.{pattern_error_refusal}
 use Rattle.pep440_version.specs.ErrorTexts.{pattern_refusal_text, pattern_error_text}
 use Rattle.pep440_version.specs.Print.{dotted, segment_print}
@@ -17,15 +18,15 @@ use Rattle.pep440_rs.specs.declared.error.ParseErrorKind.TheVariants as parse
 use Rattle.pep440_rs.specs.declared.range_error.RangeError.{RangeError}
 use Rattle.pep440_rs.specs.declared.range_error.RangeError.TheVariants as range
 
--- a byte that stands in quotes as it is
-abbrev pub is_unescaped : ℕ → Bool
-is_unescaped b = nat_le 32 b && nat_lt b 127 && not (b == 34) && not (b == 92)
+-- the text in quotes, as Rust's debug form writes it
+abbrev pub quoted : List ℕ → List ℕ
+quoted text = 34 ∷ (flat_map (debug_escape 34) text ++ 34 ∷ [])
 
 abbrev pub unknown_text : List ℕ → List ℕ
-unknown_text got = codes "no such comparison operator \"" ++ (got ++ codes "\", must be one of ~= == != <= >= < > ===")
+unknown_text got = codes "no such comparison operator " ++ (quoted got ++ codes ", must be one of ~= == != <= >= < > ===")
 
 abbrev pub operator_text_of : OperatorErrorKind → Option (List ℕ)
-operator_text_of (operator.Unknown got) = if list_all is_unescaped (string_bytes got) then Some (unknown_text (string_bytes got)) else None
+operator_text_of (operator.Unknown got) = if list_all is_ascii (string_bytes got) then Some (unknown_text (string_bytes got)) else None
 operator_text_of operator.OutOfMemory = Some (codes "out of memory")
 
 abbrev pub build_text : BuildRefusal → List ℕ

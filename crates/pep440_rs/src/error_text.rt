@@ -1,11 +1,12 @@
 //! The texts of the errors, the same whatever width and fill are asked for.
 ghost use Rattle.std.specs.Prelude.{◌≡◌, ◌++◌, Some, None, map, codes, if◌then◌else◌};
-ghost use Rattle.std.specs.Fmt.{DisplaysStyledOnOk, WritesStyledOnOk};
+ghost use Rattle.std.specs.Fmt.{DisplaysStyledOnOk, HasWrittenStyled, IsFlush, WritesStyledOnOk};
+ghost use Rattle.std.specs.Char.{is_ascii};
 ghost use Rattle.std.specs.List.{flat_map, list_all};
 ghost use Rattle.pep440_version.specs.Print.{dotted, segment_print};
 ghost use Rattle.pep440_version.specs.Segments.{segment};
 ghost use Rattle.pep440_rs.specs.Errors.{build_kind_of, operator_kind_of, parse_kind_of};
-ghost use Rattle.pep440_rs.specs.ErrorTexts.{build_error_text, is_unescaped, operator_text_of, range_error_text, specifier_text_of, unknown_text};
+ghost use Rattle.pep440_rs.specs.ErrorTexts.{build_error_text, operator_text_of, range_error_text, specifier_text_of, unknown_text};
 ghost use Rattle.pep440_rs.specs.Operators.{operator_text};
 
 use crate::error::{
@@ -16,7 +17,7 @@ use crate::operator::Operator;
 use crate::range_error::RangeError;
 use pep440_version::LocalSegment;
 use std::error::Error;
-use std::fmt;
+use std::fmt::{self, Write};
 
 #[tactic(auto, using(pep440_version::proofs::Reread::Writing::two_writes))]
 fn write_three<W: fmt::Write>(f: &mut fmt::Formatter<W>, a: &str, b: &str, c: &str) -> fmt::Result
@@ -27,41 +28,29 @@ fn write_three<W: fmt::Write>(f: &mut fmt::Formatter<W>, a: &str, b: &str, c: &s
     f.write_str(c)
 }
 
-fn is_unescaped(byte: u8) -> bool
-    ensures { result ≡ is_unescaped byte }
-{
-    32 <= byte && byte < 127 && byte != b'"' && byte != b'\\'
+// Writes to the formatter whatever width and fill it has.
+#[derive(Drop)]
+struct Direct<'a, W> {
+    f: &'a mut fmt::Formatter<W>,
 }
 
-// The text stands in quotes as it is.
-fn needs_no_escape(text: &[u8]) -> bool
-    ensures { result ≡ list_all is_unescaped text.now }
-{
-    for i in 0..text.len() {
-        if !is_unescaped(text[i]) {
-            return false;
-        }
+impl<W: fmt::Write> fmt::Write for Direct<'_, W> {
+    ghost write_str_gives = { λ s bs t. (IsFlush s.f.now → HasWrittenStyled W.write_str_gives s.f.now bs t.f.now) × (t.f.ghost_name ≡ s.f.ghost_name) };
+
+    fn write_str(&mut self, s: &str) -> fmt::Result {
+        self.f.write_str(s)
     }
-    true
 }
 
 // The refusal of a text that is no operator; the text stands in quotes, as in Rust's debug form.
 fn write_unknown<W: fmt::Write>(f: &mut fmt::Formatter<W>, got: &str) -> fmt::Result
-    ensures { DisplaysStyledOnOk W.write_str_gives f.old result (if list_all is_unescaped got.now then Some (unknown_text got.now) else None) f.new }
+    ensures { DisplaysStyledOnOk W.write_str_gives f.old result (if list_all is_ascii got.now then Some (unknown_text got.now) else None) f.new }
 {
-    if needs_no_escape(got.as_bytes()) {
-        write_three(
-            f,
-            "no such comparison operator \"",
-            got,
-            "\", must be one of ~= == != <= >= < > ===",
-        )
-    } else {
-        write!(
-            f,
-            "no such comparison operator {got:?}, must be one of ~= == != <= >= < > ==="
-        )
-    }
+    let mut direct = Direct { f };
+    write!(
+        direct,
+        "no such comparison operator {got:?}, must be one of ~= == != <= >= < > ==="
+    )
 }
 
 fn write_operator_kind<W: fmt::Write>(
