@@ -39,6 +39,6 @@ pub pre_err : (t after : List ℕ) (k : PrereleaseKind) (f : Refusal) → option
     → count_at (past_separator after) ≡ Err f → pre_at t ≡ Err f
 pre_err t after k f h e = ap (λ r. r >>= λ x. Ok (prerelease_of x.0, x.1)) (suffix_err pre_spellings t after f (forget (past_separator t) after k (spelled pre_spellings (past_separator t)) h) e)
 
-pub post_err : (t after : List ℕ) (f : Refusal) → option_map (λ x. drop x.1 (past_separator t)) (spelled post_spellings (past_separator t)) ≡ Some after
+pub post_err : (t after : List ℕ) (a : Unit {0}) (f : Refusal) → option_map {U = Unit {0} × List ℕ} (λ x. (x.0, drop x.1 (past_separator t))) (spelled post_spellings (past_separator t)) ≡ Some (a, after)
     → count_at (past_separator after) ≡ Err f → spelled_post_at t ≡ Err f
-post_err t after f h e = ap (λ r. r >>= λ x. Ok (number_of x.0, x.1)) (suffix_err post_spellings t after f h e)
+post_err t after a f h e = ap (λ r. r >>= λ x. Ok (number_of x.0, x.1)) (suffix_err post_spellings t after f (forget (past_separator t) after a (spelled post_spellings (past_separator t)) h) e)

@@ -1,5 +1,6 @@
 //! The readers of pre-, post- and developmental releases.
-ghost use Rattle.std.specs.Prelude.{◌≡◌, ℕ, List, drop, option_map};
+ghost use Rattle.std.specs.Prelude.{◌≡◌, ℕ, List, drop, option_map, map, nat_lt, true};
+ghost use Rattle.std.specs.List.{list_all};
 ghost use Rattle.pep440_version.specs.declared.prerelease.PrereleaseKind.{PrereleaseKind};
 ghost use Rattle.pep440_version.specs.Errors.{Gives};
 ghost use Rattle.pep440_version.specs.Grammar.{pre_spellings, post_spellings, dev_spellings};
@@ -11,61 +12,35 @@ use crate::error::ErrorKind;
 use crate::prerelease::{Prerelease, PrereleaseKind};
 use std::alloc::Global;
 
-// The kind that a spelling at the front writes, and what follows it.
-fn pre_spelling(text: &str) -> Option<(PrereleaseKind, &str)>
-    ensures { option_map {U = PrereleaseKind × List ℕ} (λ x. (x.0, x.1.now)) result ≡ option_map {U = PrereleaseKind × List ℕ} (λ x. (x.0, drop x.1 text.now)) (spelled pre_spellings text.now) }
-{
-    if let Some(rest) = scan::past_word(text, "alpha") {
-        return Some((PrereleaseKind::Alpha, rest));
-    }
-    if let Some(rest) = scan::past_word(text, "a") {
-        return Some((PrereleaseKind::Alpha, rest));
-    }
-    if let Some(rest) = scan::past_word(text, "beta") {
-        return Some((PrereleaseKind::Beta, rest));
-    }
-    if let Some(rest) = scan::past_word(text, "b") {
-        return Some((PrereleaseKind::Beta, rest));
-    }
-    rc_spelling(text)
-}
+// PEP 440, "Pre-release spelling".
+const PRE_SPELLINGS: [(&str, PrereleaseKind); 8] = [
+    ("alpha", PrereleaseKind::Alpha),
+    ("a", PrereleaseKind::Alpha),
+    ("beta", PrereleaseKind::Beta),
+    ("b", PrereleaseKind::Beta),
+    ("rc", PrereleaseKind::Rc),
+    ("c", PrereleaseKind::Rc),
+    ("preview", PrereleaseKind::Rc),
+    ("pre", PrereleaseKind::Rc),
+];
 
-fn rc_spelling(text: &str) -> Option<(PrereleaseKind, &str)>
-    ensures { option_map {U = PrereleaseKind × List ℕ} (λ x. (x.0, x.1.now)) result ≡ option_map {U = PrereleaseKind × List ℕ} (λ x. (x.0, drop x.1 text.now)) (spelled (drop 4 pre_spellings) text.now) }
+// PEP 440, "Post release spelling".
+const POST_SPELLINGS: [(&str, ()); 3] = [("post", ()), ("rev", ()), ("r", ())];
+
+// PEP 440, "Development release separators".
+const DEV_SPELLINGS: [(&str, ()); 1] = [("dev", ())];
+
+// What the first word of the table that stands at the front is for, and what follows it.
+fn spelling_at<'a, A: Copy>(text: &'a str, table: &[(&str, A)]) -> Option<(A, &'a str)>
+    requires { list_all (λ e. list_all (λ b. nat_lt b 128) e.0.now) table.now ≡ true }
+    ensures { option_map {U = A × List ℕ} (λ x. (x.0, x.1.now)) result ≡ option_map {U = A × List ℕ} (λ x. (x.0, drop x.1 text.now)) (spelled (map {B = List ℕ × A} (λ e. (e.0.now, e.1)) table.now) text.now) }
 {
-    if let Some(rest) = scan::past_word(text, "rc") {
-        return Some((PrereleaseKind::Rc, rest));
-    }
-    if let Some(rest) = scan::past_word(text, "c") {
-        return Some((PrereleaseKind::Rc, rest));
-    }
-    if let Some(rest) = scan::past_word(text, "preview") {
-        return Some((PrereleaseKind::Rc, rest));
-    }
-    if let Some(rest) = scan::past_word(text, "pre") {
-        return Some((PrereleaseKind::Rc, rest));
+    for entry in table {
+        if let Some(rest) = scan::past_word(text, entry.0) {
+            return Some((entry.1, rest));
+        }
     }
     None
-}
-
-// What follows a spelling of a post-release at the front.
-fn post_spelling(text: &str) -> Option<&str>
-    ensures { option_map (λ s. s.now) result ≡ option_map (λ x. drop x.1 text.now) (spelled post_spellings text.now) }
-{
-    if let Some(rest) = scan::past_word(text, "post") {
-        return Some(rest);
-    }
-    if let Some(rest) = scan::past_word(text, "rev") {
-        return Some(rest);
-    }
-    scan::past_word(text, "r")
-}
-
-// What follows the spelling of a dev release at the front.
-fn dev_spelling(text: &str) -> Option<&str>
-    ensures { option_map (λ s. s.now) result ≡ option_map (λ x. drop x.1 text.now) (spelled dev_spellings text.now) }
-{
-    scan::past_word(text, "dev")
 }
 
 // The count after a spelling, and what follows it.
@@ -83,7 +58,7 @@ fn count_at(alloc: Global, text: &str) -> Result<(u64, &str), ErrorKind>
 pub(crate) fn pre_at(alloc: Global, text: &str) -> Result<(Option<Prerelease>, &str), ErrorKind>
     ensures { Gives (λ x. (x.0, x.1.now)) result (pre_at text.now) }
 {
-    match pre_spelling(scan::past_separator(text)) {
+    match spelling_at(scan::past_separator(text), &PRE_SPELLINGS) {
         None => Ok((None, text)),
         Some((kind, after)) => {
             let (number, rest) = count_at(alloc, after)?;
@@ -102,9 +77,9 @@ fn is_bare_post(text: &str) -> bool
 fn spelled_post_at(alloc: Global, text: &str) -> Result<(Option<u64>, &str), ErrorKind>
     ensures { Gives (λ x. (x.0, x.1.now)) result (spelled_post_at text.now) }
 {
-    match post_spelling(scan::past_separator(text)) {
+    match spelling_at(scan::past_separator(text), &POST_SPELLINGS) {
         None => Ok((None, text)),
-        Some(after) => {
+        Some((_, after)) => {
             let (number, rest) = count_at(alloc, after)?;
             Ok((Some(number), rest))
         }
@@ -124,9 +99,9 @@ pub(crate) fn post_at(alloc: Global, text: &str) -> Result<(Option<u64>, &str), 
 pub(crate) fn dev_at(alloc: Global, text: &str) -> Result<(Option<u64>, &str), ErrorKind>
     ensures { Gives (λ x. (x.0, x.1.now)) result (dev_at text.now) }
 {
-    match dev_spelling(scan::past_separator(text)) {
+    match spelling_at(scan::past_separator(text), &DEV_SPELLINGS) {
         None => Ok((None, text)),
-        Some(after) => {
+        Some((_, after)) => {
             let (number, rest) = count_at(alloc, after)?;
             Ok((Some(number), rest))
         }

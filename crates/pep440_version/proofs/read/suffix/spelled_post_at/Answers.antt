@@ -1,4 +1,4 @@
-use Rattle.std.proofs.Common.{◌≡◌, sym, Some, drop, option_map}
+use Rattle.std.proofs.Common.{◌≡◌, ℕ, List, sym, Some, drop, option_map}
 use Rattle.std.proofs.lemmas.Result.{err_from_is_err_and}
 use Rattle.pep440_version.specs.Errors.{refusal_of}
 use Rattle.pep440_version.specs.Grammar.{post_spellings}
@@ -11,6 +11,6 @@ pub returns-in_err-number-in-Some : goal.returns-in_err-number-in-Some
 returns-in_err-number-in-Some c =
     let p = err_from_is_err_and c.from_residual.result c.from_residual.ensures.1 in
     let text = c.args.text.now in
-    let h : option_map (λ x. drop x.1 (past_separator text)) (spelled post_spellings (past_separator text)) ≡ Some c.in-Some.after.now = rw (sym c.past_separator.ensures) (sym c.in-Some.ensures) in
+    let h : option_map {U = Unit {0} × List ℕ} (λ x. (x.0, drop x.1 (past_separator text))) (spelled post_spellings (past_separator text)) ≡ Some (c.in-Some.field-0-0, c.in-Some.after.now) = rw (sym c.past_separator.ensures) (sym c.in-Some.ensures) in
     rw (p.1, p.2) (fault_on (refusal_of c.in_err-number-in-Some.field-0.0) (count_at (past_separator c.in-Some.after.now)) (spelled_post_at text)
-    (λ f e. post_err text c.in-Some.after.now f h e) c.in_err-number-in-Some.ensures)
+    (λ f e. post_err text c.in-Some.after.now c.in-Some.field-0-0 f h e) c.in_err-number-in-Some.ensures)
