@@ -153,8 +153,11 @@ fn write_build_kind<W: fmt::Write>(f: &mut fmt::Formatter<W>, kind: &BuildErrorK
             operator.text(),
             " cannot be used with a wildcard version specifier",
         ),
-        BuildErrorKind::CompatibleRelease => f.write_str(
-            "The ~= operator requires at least two segments in the release version",
+        BuildErrorKind::CompatibleRelease => write_three(
+            f,
+            "The ",
+            Operator::TildeEqual.text(),
+            " operator requires at least two segments in the release version",
         ),
     }
 }
