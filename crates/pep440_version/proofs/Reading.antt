@@ -18,3 +18,4 @@ pub mod SegmentsInTurn
 pub mod AfterSpelling
 pub mod PublicAnswers
 pub mod AfterFirstNumber
+pub mod ShortReleases

@@ -1,6 +1,7 @@
 //! A version in one word: its release, and the one suffix that it may have.
 ghost use Rattle.std.specs.Prelude.{◌≡◌, ◌+◌, ◌*◌, ◌^◌, ◌<◌, ◌≤◌, true, false, None, length, slice_index, IfSome, IfNone, if◌then◌else◌};
 ghost use Rattle.pep440_version.specs.Form.{IsWord, class_in, full_record, number_in, number_of_class, packed_record, pre_at};
+ghost use Rattle.pep440_version.specs.Record.{of_release};
 ghost use Rattle.pep440_version.specs.Word.{is_packed, is_short, suffix};
 
 use crate::full::Full;
@@ -166,6 +167,21 @@ impl Packed {
         Some(Packed {
             count: release.len() as u8,
             word: word_of(numbers, class, number),
+            numbers,
+        })
+    }
+
+    // A release alone in one word, where it can be.
+    pub(crate) fn of_release(release: &[u64]) -> Option<Packed>
+        ensures { IfSome result (λ p. IsWord p.count p.word p.numbers × (packed_record p.count p.word p.numbers ≡ of_release release.now)) }
+    {
+        if !is_short(release) {
+            return None;
+        }
+        let numbers = padded(release);
+        Some(Packed {
+            count: release.len() as u8,
+            word: word_of(numbers, NONE, 0),
             numbers,
         })
     }

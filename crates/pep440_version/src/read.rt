@@ -13,6 +13,7 @@ ghost use Rattle.pep440_version.specs.Whole.{release_after_first, front_at, open
 mod local;
 mod number;
 mod scan;
+mod short;
 mod suffix;
 
 use self::local::local_at;

@@ -1,7 +1,7 @@
 //! The type `Version`: how one is made, and its parts.
-ghost use Rattle.std.specs.Prelude.{◌≡◌, ◌<◌, ◌||◌, ◌↔◌, [], ◌∷◌, length, Some, None, IfOk, IsOk, IsTrue, map, is_some, is_none, if◌then◌else◌, true, false};
+ghost use Rattle.std.specs.Prelude.{◌≡◌, ◌<◌, ◌||◌, ◌↔◌, [], ◌∷◌, length, Some, None, IfOk, IfSome, IsOk, IsTrue, map, is_some, is_none, if◌then◌else◌, true, false};
 ghost use Rattle.std.specs.List.{All};
-ghost use Rattle.pep440_version.specs.Form.{full_record};
+ghost use Rattle.pep440_version.specs.Form.{IsWord, full_record, packed_record};
 ghost use Rattle.pep440_version.specs.Record.{of_parts, of_release, zero_alpha_dev, IsRecord, SegmentFits};
 ghost use Rattle.pep440_version.specs.Segments.{segment};
 ghost use Rattle.pep440_version.specs.Word.{is_packed, word};
@@ -83,28 +83,48 @@ pub fn min_version(alloc: Global) -> Result<Version, AllocError>
 }
 
 impl Version {
-    // The form that holds the record: every version is made here.
+    // The form that holds the record: every version is made here or by `of_packed`.
     pub(crate) fn from_full(alloc: Global, full: Full) -> Result<Version, AllocError>
         requires { IsRecord (full_record full) }
         ensures value { IfOk result (λ v. v ≡ full_record full) }
         ensures memory { is_packed (full_record full) ≡ true → IsOk result }
     {
-        let form = match Packed::pack(&full) {
-            Some(packed) => {
-                let Packed {
-                    count,
-                    word,
-                    numbers,
-                } = packed;
-                Form::InWord {
-                    count,
-                    word,
-                    numbers,
-                }
-            }
-            None => Form::InFull(Box::new(alloc, full)?),
-        };
-        Ok(Version { form })
+        match Packed::pack(&full) {
+            Some(packed) => Ok(Version::of_packed(packed)),
+            None => Ok(Version {
+                form: Form::InFull(Box::new(alloc, full)?),
+            }),
+        }
+    }
+
+    // The form of a record in one word.
+    fn of_packed(packed: Packed) -> Version
+        requires valid { IsRecord (packed_record packed.count packed.word packed.numbers) }
+        requires word { IsWord packed.count packed.word packed.numbers }
+        ensures { result ≡ packed_record packed.count packed.word packed.numbers }
+    {
+        let Packed {
+            count,
+            word,
+            numbers,
+        } = packed;
+        Version {
+            form: Form::InWord {
+                count,
+                word,
+                numbers,
+            },
+        }
+    }
+
+    // The version that is this release alone, where it fits in one word.
+    pub(crate) fn of_short(release: &[u64]) -> Option<Version>
+        requires { 0 < length release.now }
+        ensures { IfSome result (λ v. v ≡ of_release release.now) }
+    {
+        known_numbers(release);
+        let packed = Packed::of_release(release)?;
+        Some(Version::of_packed(packed))
     }
 
     // Each part, to be changed.
