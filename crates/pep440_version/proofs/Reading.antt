@@ -19,3 +19,4 @@ pub mod AfterSpelling
 pub mod PublicAnswers
 pub mod AfterFirstNumber
 pub mod ShortReleases
+pub mod WithoutMemory

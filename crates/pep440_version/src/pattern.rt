@@ -1,5 +1,5 @@
 //! Version patterns, and their public reader.
-ghost use Rattle.std.specs.Prelude.{◌≡◌, Bool, true, false, Ok, Err, Some, IfOk, IfErr, IfSome};
+ghost use Rattle.std.specs.Prelude.{◌≡◌, Bool, true, false, Ok, Err, Some, IfOk, IfErr, IfSome, IsOk};
 ghost use Rattle.std.specs.Cmp.{partial_equiv_from_equiv};
 ghost use Rattle.pep440_version.specs.ErrorTexts.{pattern_error_text, pattern_refusal_text};
 ghost use Rattle.pep440_version.specs.Errors.{Answers, pattern_error_refusal};
@@ -8,6 +8,7 @@ ghost use Rattle.pep440_version.specs.Patterns.{DerivesPattern, pattern_eq, feed
 ghost use Rattle.pep440_version.specs.Record.{Record};
 ghost use Rattle.pep440_version.specs.Refusals.{PatternRefusal, RefusesPattern};
 ghost use Rattle.pep440_version.specs.Whole.{read_pattern};
+ghost use Rattle.pep440_version.specs.Word.{is_packed};
 
 use crate::error::VersionPatternParseError;
 use crate::read;
@@ -79,8 +80,12 @@ impl VersionPattern {
 
     // What the reading from the left gives.
     fn read(alloc: Global, text: &str) -> Result<VersionPattern, VersionPatternParseError>
-        ensures { Answers pattern_error_refusal result (read_pattern text.now) }
+        ensures reads { Answers pattern_error_refusal result (read_pattern text.now) }
+        ensures memory { (x : Record × Bool) → read_pattern text.now ≡ Ok x → is_packed x.0 ≡ true → IsOk result }
     {
+        if let Some(version) = read::short_version(text) {
+            return Ok(VersionPattern::verbatim(version));
+        }
         match read::pattern(alloc, text) {
             Ok((version, wildcard)) => Ok(VersionPattern { version, wildcard }),
             Err(kind) => Err(VersionPatternParseError::from(kind)),
@@ -103,6 +108,8 @@ impl VersionPattern {
         ensures decided { (f : PatternRefusal) → RefusesPattern text.now f → Answers pattern_error_refusal result (Err f) }
         // The error's text is the refusal's.
         ensures told { IfErr result (λ e. IfSome (pattern_error_refusal e) (λ f. pattern_error_text (pattern_error_refusal e) ≡ Some (pattern_refusal_text f))) }
+        // A text that means a packed record is read without memory, with a star or without.
+        ensures memory { (r : Record) (star : Bool) → DerivesPattern text.now r star → is_packed r ≡ true → IsOk result }
     {
         VersionPattern::read(alloc, text)
     }

@@ -1,5 +1,5 @@
 //! The reading of versions and patterns, part by part from the left, and the public reader of versions.
-ghost use Rattle.std.specs.Prelude.{◌≡◌, ◌<◌, ◌==◌, ℕ, List, true, length, Ok, Err, Some, IfOk, IfErr, IfSome};
+ghost use Rattle.std.specs.Prelude.{◌≡◌, ◌<◌, ◌≤◌, ◌==◌, ℕ, Bool, List, true, length, Ok, Err, Some, IfOk, IfErr, IfSome, IsOk};
 ghost use Rattle.pep440_version.specs.ErrorTexts.{error_text, refusal_text};
 ghost use Rattle.pep440_version.specs.Errors.{Answers, Gives, error_refusal, pattern_refusal_of};
 ghost use Rattle.pep440_version.specs.Grammar.{Derives, starts, is_v};
@@ -8,6 +8,7 @@ ghost use Rattle.pep440_version.specs.Reading.{EndsWith, past_v, starts_number};
 ghost use Rattle.pep440_version.specs.Record.{Record, IsRecord, epoch_and_release};
 ghost use Rattle.pep440_version.specs.Refusals.{Refusal, Refuses};
 ghost use Rattle.pep440_version.specs.Reread.{Rereads};
+ghost use Rattle.pep440_version.specs.Word.{is_packed};
 ghost use Rattle.pep440_version.specs.Whole.{release_after_first, front_at, opening, parts_at, end_at, closing, is_star, read_pattern, read_version};
 
 mod local;
@@ -19,6 +20,7 @@ mod suffix;
 use self::local::local_at;
 use self::number::{number_at, release_from, starts_number};
 use self::suffix::{dev_at, post_at, pre_at};
+pub(crate) use self::short::short_version;
 use crate::error::{ErrorKind, PatternErrorKind, VersionParseError};
 use crate::numbers::Release;
 use crate::version::Version;
@@ -42,7 +44,8 @@ fn release_after<'a>(
     first: u64,
     text: &'a str,
 ) -> Result<(u64, Release, &'a str), ErrorKind>
-    ensures { Gives (λ x. ((x.0, x.1), x.2.now)) result (release_after_first epoch first text.now) }
+    ensures reads { Gives (λ x. ((x.0, x.1), x.2.now)) result (release_after_first epoch first text.now) }
+    ensures memory { (x : (ℕ × List ℕ) × List ℕ) → release_after_first epoch first text.now ≡ Ok x → length x.0.1 ≤ 4 → IsOk result }
 {
     let (numbers, rest) = release_from(alloc, first, text)?;
     Ok((epoch, numbers, rest))
@@ -51,7 +54,8 @@ fn release_after<'a>(
 // Epoch and release at the front.
 #[tactic(auto, unfolding(crate::specs::Whole::front_at))]
 fn front_at(alloc: Global, text: &str) -> Result<(u64, Release, &str), ErrorKind>
-    ensures { Gives (λ x. ((x.0, x.1), x.2.now)) result (front_at text.now) }
+    ensures reads { Gives (λ x. ((x.0, x.1), x.2.now)) result (front_at text.now) }
+    ensures memory { (x : (ℕ × List ℕ) × List ℕ) → front_at text.now ≡ Ok x → length x.0.1 ≤ 4 → IsOk result }
 {
     if !starts_number(text) {
         return Err(ErrorKind::NoLeadingNumber);
@@ -77,7 +81,8 @@ fn parts_at(
     text: &str,
 ) -> Result<(Version, &str), ErrorKind>
     requires { 0 < length release }
-    ensures { Gives (λ x. (x.0, x.1.now)) result (parts_at epoch release text.now) }
+    ensures reads { Gives (λ x. (x.0, x.1.now)) result (parts_at epoch release text.now) }
+    ensures memory { (x : Record × List ℕ) → parts_at epoch release text.now ≡ Ok x → is_packed x.0 ≡ true → IsOk result }
 {
     let (pre, after_pre) = pre_at(alloc, text)?;
     let (post, after_post) = post_at(alloc, after_pre)?;
@@ -92,7 +97,8 @@ fn parts_at(
 // Blanks and the end of the text.
 fn end_at(alloc: Global, text: &str, version: Version, rest: &str) -> Result<Version, ErrorKind>
     requires { EndsWith text.now rest.now }
-    ensures { Gives (λ v. v) result (end_at text.now (version, rest.now)) }
+    ensures reads { Gives (λ v. v) result (end_at text.now (version, rest.now)) }
+    ensures memory { (r : Record) → end_at text.now (version, rest.now) ≡ Ok r → IsOk result }
 {
     let after = scan::past_blanks(rest);
     if after.is_empty() {
@@ -114,7 +120,8 @@ fn closing(
 ) -> Result<Version, ErrorKind>
     requires some { 0 < length release }
     requires at_end { EndsWith text.now rest.now }
-    ensures { Gives (λ v. v) result (closing text.now ((epoch, release), rest.now)) }
+    ensures reads { Gives (λ v. v) result (closing text.now ((epoch, release), rest.now)) }
+    ensures memory { (r : Record) → closing text.now ((epoch, release), rest.now) ≡ Ok r → is_packed r ≡ true → IsOk result }
 {
     let (version, after) = parts_at(alloc, epoch, release, rest)?;
     end_at(alloc, text, version, after)
@@ -129,7 +136,8 @@ fn is_star(text: &str) -> bool
 // Epoch and release alone.
 fn before_star(alloc: Global, epoch: u64, release: Release) -> Result<Version, ErrorKind>
     requires { 0 < length release }
-    ensures { Gives (λ v. v) result (Ok (epoch_and_release epoch release)) }
+    ensures reads { Gives (λ v. v) result (Ok (epoch_and_release epoch release)) }
+    ensures memory { is_packed (epoch_and_release epoch release) ≡ true → IsOk result }
 {
     let no_local = Vec::new(alloc);
     Ok(Version::of_parts(alloc, epoch, release, None, None, None, no_local)?)
@@ -137,7 +145,8 @@ fn before_star(alloc: Global, epoch: u64, release: Release) -> Result<Version, E
 
 // What the text reads as, and whether a star follows.
 pub(crate) fn pattern(alloc: Global, text: &str) -> Result<(Version, bool), PatternErrorKind>
-    ensures { Answers pattern_refusal_of result (read_pattern text.now) }
+    ensures reads { Answers pattern_refusal_of result (read_pattern text.now) }
+    ensures memory { (x : Record × Bool) → read_pattern text.now ≡ Ok x → is_packed x.0 ≡ true → IsOk result }
 {
     let (epoch, release, rest) = front_at(alloc, past_v(scan::past_blanks(text)))?;
     if !is_star(rest) {
@@ -153,8 +162,12 @@ pub(crate) fn pattern(alloc: Global, text: &str) -> Result<(Version, bool), Patt
 impl Version {
     // What the reading from the left gives: a version is a pattern without a star.
     fn read(alloc: Global, text: &str) -> Result<Version, VersionParseError>
-        ensures { Answers error_refusal result (read_version text.now) }
+        ensures reads { Answers error_refusal result (read_version text.now) }
+        ensures memory { (r : Record) → read_version text.now ≡ Ok r → is_packed r ≡ true → IsOk result }
     {
+        if let Some(version) = short_version(text) {
+            return Ok(version);
+        }
         match pattern(alloc, text) {
             Ok((version, false)) => Ok(version),
             Ok((_, true)) => Err(VersionParseError::from(ErrorKind::Wildcard)),
@@ -186,6 +199,8 @@ impl Version {
         ensures reread { (r : Record) → IsRecord r → Rereads r → text.now ≡ print r → Answers error_refusal result (Ok r) }
         // So is the print of what some text means.
         ensures again { (t : List ℕ) (r : Record) → Derives t r → text.now ≡ print r → Answers error_refusal result (Ok r) }
+        // A text that means a packed record is read without memory.
+        ensures memory { (r : Record) → Derives text.now r → is_packed r ≡ true → IsOk result }
     {
         Version::read(alloc, text)
     }

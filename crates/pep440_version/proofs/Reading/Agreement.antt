@@ -117,7 +117,7 @@ closing_takes text x r o e =
 pub sure : (x y : Record × Bool) → (let z : Result (Record × Bool) PatternRefusal = Ok x in z) ≡ Ok y → x ≡ y
 sure x y e = ap (λ (z : Result (Record × Bool) PatternRefusal). elim z as (λ _. Record × Bool) [ Ok u ↦ u | Err f ↦ x ]) e
 
-without_star_is : (read : Read Record) (r : Record) (star : Bool) → without_star read ≡ Ok (r, star) → (read ≡ Ok r) × (false ≡ star)
+pub without_star_is : (read : Read Record) (r : Record) (star : Bool) → without_star read ≡ Ok (r, star) → (read ≡ Ok r) × (false ≡ star)
 without_star_is (Ok q) r star e = let same = sure _ _ e in (ap (λ (p : Record × Bool). (let y : Read Record = Ok p.0 in y)) same, ap (λ (p : Record × Bool). p.1) same)
 without_star_is (Err f) r star e = cc e
 

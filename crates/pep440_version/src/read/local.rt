@@ -1,10 +1,11 @@
 //! The reader of local parts.
-ghost use Rattle.std.specs.Prelude.{◌≡◌, ◌<◌, true, length, map, IfOk, Some};
+ghost use Rattle.std.specs.Prelude.{◌≡◌, ◌<◌, ℕ, List, [], Ok, IsOk, true, length, map, IfOk, Some};
 ghost use Rattle.std.specs.Char.{is_ascii_alphanumeric};
 ghost use Rattle.std.specs.List.{list_all};
 ghost use Rattle.pep440_version.specs.Errors.{Gives, refusal_of};
 ghost use Rattle.pep440_version.specs.Grammar.{segment_of};
 ghost use Rattle.pep440_version.specs.Locals.{segments_at, local_at};
+ghost use Rattle.pep440_version.specs.Record.{Segment};
 ghost use Rattle.pep440_version.specs.Refusals.{LocalEmpty};
 ghost use Rattle.pep440_version.specs.Segments.{segment};
 
@@ -57,7 +58,8 @@ fn segments_at(alloc: Global, text: &str) -> Result<(Vec<LocalSegment>, &str), E
 }
 
 pub(crate) fn local_at(alloc: Global, text: &str) -> Result<(Vec<LocalSegment>, &str), ErrorKind>
-    ensures { Gives (λ x. (map segment x.0.items, x.1.now)) result (local_at text.now) }
+    ensures reads { Gives (λ x. (map segment x.0.items, x.1.now)) result (local_at text.now) }
+    ensures memory { (x : List Segment × List ℕ) → local_at text.now ≡ Ok x → x.0 ≡ [] → IsOk result }
 {
     if scan::starts_with(text, b'+') {
         segments_at(alloc, scan::past_ascii(text))

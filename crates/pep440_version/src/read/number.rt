@@ -1,5 +1,5 @@
 //! The readers of numbers and releases.
-ghost use Rattle.std.specs.Prelude.{◌≡◌, ◌<◌, ◌==◌, true, length};
+ghost use Rattle.std.specs.Prelude.{◌≡◌, ◌<◌, ◌≤◌, ◌==◌, ℕ, List, Ok, IsOk, true, length};
 ghost use Rattle.pep440_version.specs.Errors.{Gives};
 ghost use Rattle.pep440_version.specs.Grammar.{starts};
 ghost use Rattle.pep440_version.specs.Reading.{release_from, number_at, goes_on, starts_number};
@@ -22,7 +22,8 @@ pub(crate) fn starts_number(text: &str) -> bool
 #[tactic(auto, unfolding(crate::specs::Reading::number_at))]
 pub(crate) fn number_at(alloc: Global, text: &str) -> Result<(u64, &str), ErrorKind>
     requires { starts_number text.now ≡ true }
-    ensures { Gives (λ x. (x.0, x.1.now)) result (number_at text.now) }
+    ensures reads { Gives (λ x. (x.0, x.1.now)) result (number_at text.now) }
+    ensures memory { (x : ℕ × List ℕ) → number_at text.now ≡ Ok x → IsOk result }
 {
     let (digits, rest) = scan::split_digits(text);
     match scan::value(digits) {
@@ -45,7 +46,8 @@ pub(crate) fn release_from(
     first: u64,
     text: &str,
 ) -> Result<(Release, &str), ErrorKind>
-    ensures { Gives (λ x. (x.0, x.1.now)) result (release_from first text.now) }
+    ensures reads { Gives (λ x. (x.0, x.1.now)) result (release_from first text.now) }
+    ensures memory { (x : List ℕ × List ℕ) → release_from first text.now ≡ Ok x → length x.0 ≤ 4 → IsOk result }
 {
     let mut numbers = Release::one(first);
     let mut rest = text;

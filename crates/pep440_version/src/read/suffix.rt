@@ -1,6 +1,7 @@
 //! The readers of pre-, post- and developmental releases.
-ghost use Rattle.std.specs.Prelude.{◌≡◌, ℕ, List, drop, option_map, map, nat_lt, true};
+ghost use Rattle.std.specs.Prelude.{◌≡◌, ℕ, List, Ok, IsOk, Option, drop, option_map, map, nat_lt, true};
 ghost use Rattle.std.specs.List.{list_all};
+ghost use Rattle.pep440_version.specs.declared.prerelease.Prerelease.{Prerelease};
 ghost use Rattle.pep440_version.specs.declared.prerelease.PrereleaseKind.{PrereleaseKind};
 ghost use Rattle.pep440_version.specs.Errors.{Gives};
 ghost use Rattle.pep440_version.specs.Grammar.{pre_spellings, post_spellings, dev_spellings};
@@ -45,7 +46,8 @@ fn spelling_at<'a, A: Copy>(text: &'a str, table: &[(&str, A)]) -> Option<(A, &'
 
 // The count after a spelling, and what follows it.
 fn count_at(alloc: Global, text: &str) -> Result<(u64, &str), ErrorKind>
-    ensures { Gives (λ x. (x.0, x.1.now)) result (count_at (past_separator text.now)) }
+    ensures reads { Gives (λ x. (x.0, x.1.now)) result (count_at (past_separator text.now)) }
+    ensures memory { (x : ℕ × List ℕ) → count_at (past_separator text.now) ≡ Ok x → IsOk result }
 {
     let rest = scan::past_separator(text);
     if starts_number(rest) {
@@ -56,7 +58,8 @@ fn count_at(alloc: Global, text: &str) -> Result<(u64, &str), ErrorKind>
 }
 
 pub(crate) fn pre_at(alloc: Global, text: &str) -> Result<(Option<Prerelease>, &str), ErrorKind>
-    ensures { Gives (λ x. (x.0, x.1.now)) result (pre_at text.now) }
+    ensures reads { Gives (λ x. (x.0, x.1.now)) result (pre_at text.now) }
+    ensures memory { (x : Option Prerelease × List ℕ) → pre_at text.now ≡ Ok x → IsOk result }
 {
     match spelling_at(scan::past_separator(text), &PRE_SPELLINGS) {
         None => Ok((None, text)),
@@ -75,7 +78,8 @@ fn is_bare_post(text: &str) -> bool
 
 // A post-release that is spelled.
 fn spelled_post_at(alloc: Global, text: &str) -> Result<(Option<u64>, &str), ErrorKind>
-    ensures { Gives (λ x. (x.0, x.1.now)) result (spelled_post_at text.now) }
+    ensures reads { Gives (λ x. (x.0, x.1.now)) result (spelled_post_at text.now) }
+    ensures memory { (x : Option ℕ × List ℕ) → spelled_post_at text.now ≡ Ok x → IsOk result }
 {
     match spelling_at(scan::past_separator(text), &POST_SPELLINGS) {
         None => Ok((None, text)),
@@ -87,7 +91,8 @@ fn spelled_post_at(alloc: Global, text: &str) -> Result<(Option<u64>, &str), Err
 }
 
 pub(crate) fn post_at(alloc: Global, text: &str) -> Result<(Option<u64>, &str), ErrorKind>
-    ensures { Gives (λ x. (x.0, x.1.now)) result (post_at text.now) }
+    ensures reads { Gives (λ x. (x.0, x.1.now)) result (post_at text.now) }
+    ensures memory { (x : Option ℕ × List ℕ) → post_at text.now ≡ Ok x → IsOk result }
 {
     if is_bare_post(text) {
         let (number, rest) = number_at(alloc, scan::past_ascii(text))?;
@@ -97,7 +102,8 @@ pub(crate) fn post_at(alloc: Global, text: &str) -> Result<(Option<u64>, &str), 
 }
 
 pub(crate) fn dev_at(alloc: Global, text: &str) -> Result<(Option<u64>, &str), ErrorKind>
-    ensures { Gives (λ x. (x.0, x.1.now)) result (dev_at text.now) }
+    ensures reads { Gives (λ x. (x.0, x.1.now)) result (dev_at text.now) }
+    ensures memory { (x : Option ℕ × List ℕ) → dev_at text.now ≡ Ok x → IsOk result }
 {
     match spelling_at(scan::past_separator(text), &DEV_SPELLINGS) {
         None => Ok((None, text)),

@@ -1,0 +1,18 @@
+use Rattle.pep440_version.proofs.Reading.WithoutMemory.{pre_too, post_too, local_too, no_local}
+use Rattle.pep440_version.proofs.read.parts_at.Goals as goal
+
+pub returns-in_err-pre-clause-memory : goal.returns-in_err-pre-clause-memory
+returns-in_err-pre-clause-memory c = λ x e fits.
+    let p = pre_too c.args.epoch c.args.release c.args.text.now x e in
+    cc (c.in_err-pre.ensures.memory p.0 p.1)
+
+pub returns-in_err-post-clause-memory : goal.returns-in_err-post-clause-memory
+returns-in_err-post-clause-memory c = λ x e fits.
+    let q = post_too c.args.epoch c.args.release c.args.text.now c.in_ok-pre.after_pre.now c.in_ok-pre.pre x c.in_ok-pre.ensures.reads e in
+    cc (c.in_err-post.ensures.memory q.0 q.1)
+
+pub returns-in_err-local-clause-memory : goal.returns-in_err-local-clause-memory
+returns-in_err-local-clause-memory c = λ x e fits.
+    let l = local_too c.args.epoch c.args.release c.args.text.now c.in_ok-pre.after_pre.now c.in_ok-post.after_post.now c.in_ok-dev.after_dev.now c.in_ok-pre.pre c.in_ok-post.post c.in_ok-dev.dev x
+    c.in_ok-pre.ensures.reads c.in_ok-post.ensures.reads c.in_ok-dev.ensures.reads e in
+    cc (c.in_err-local.ensures.memory l.0 l.1 (no_local x.0 l.0.0 l.2 fits))
