@@ -1,7 +1,8 @@
 //! The readers of numbers and releases.
-ghost use Rattle.std.specs.Prelude.{◌≡◌, ◌<◌, ◌≤◌, ◌==◌, ℕ, List, Ok, IsOk, true, length};
-ghost use Rattle.pep440_version.specs.Errors.{Gives};
+ghost use Rattle.std.specs.Prelude.{◌≡◌, ◌<◌, ◌≤◌, ◌==◌, ℕ, List, Ok, IfSome, IsOk, true, length};
+ghost use Rattle.pep440_version.specs.Errors.{Gives, refusal_of};
 ghost use Rattle.pep440_version.specs.Grammar.{starts};
+ghost use Rattle.pep440_version.specs.Refusals.{NumberTooBig};
 ghost use Rattle.pep440_version.specs.Reading.{release_from, number_at, goes_on, starts_number};
 
 use super::scan;
@@ -18,7 +19,19 @@ pub(crate) fn starts_number(text: &str) -> bool
     }
 }
 
+// The refusal of digits whose value does not fit. Apart, so that reading a number stays short.
+#[inline(never)]
+fn too_big(alloc: Global, digits: &str) -> ErrorKind
+    ensures { IfSome (refusal_of result) (λ f. f ≡ NumberTooBig digits.now) }
+{
+    match Vec::from_slice(alloc, digits.as_bytes()) {
+        Ok(bytes) => ErrorKind::NumberTooBig { bytes },
+        Err(error) => ErrorKind::from(error),
+    }
+}
+
 // The number at the front, where a digit is, and what follows it.
+#[inline(always)]
 #[tactic(auto, unfolding(crate::specs::Reading::number_at))]
 pub(crate) fn number_at(alloc: Global, text: &str) -> Result<(u64, &str), ErrorKind>
     requires { starts_number text.now ≡ true }
@@ -28,9 +41,7 @@ pub(crate) fn number_at(alloc: Global, text: &str) -> Result<(u64, &str), ErrorK
     let (digits, rest) = scan::split_digits(text);
     match scan::value(digits) {
         Some(number) => Ok((number, rest)),
-        None => Err(ErrorKind::NumberTooBig {
-            bytes: Vec::from_slice(alloc, digits.as_bytes())?,
-        }),
+        None => Err(too_big(alloc, digits)),
     }
 }
 
