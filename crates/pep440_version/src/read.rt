@@ -19,8 +19,8 @@ mod suffix;
 
 use self::local::local_at;
 use self::number::{number_at, release_from, starts_number};
-use self::suffix::{dev_at, post_at, pre_at};
 pub(crate) use self::short::short_version;
+use self::suffix::{dev_at, post_at, pre_at};
 use crate::error::{ErrorKind, PatternErrorKind, VersionParseError};
 use crate::numbers::Release;
 use crate::version::Version;

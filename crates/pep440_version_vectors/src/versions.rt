@@ -17,3 +17,4 @@ mod printing;
 mod reading;
 mod refusals;
 mod sweeps;
+mod without_memory;

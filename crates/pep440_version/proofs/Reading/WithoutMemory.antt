@@ -140,6 +140,7 @@ opened_too text x h fits = by (opening text) refl h
   where
     few : length x.0.release ≤ 4
     few = (packed x.0 fits).short.few
+
     by : (o : Read ((ℕ × List ℕ) × List ℕ)) → opening text ≡ o → pattern_from text o ≡ Ok x → (y : (ℕ × List ℕ) × List ℕ) × (opening text ≡ Ok y) × (length y.0.1 ≤ 4)
     by (Err f) e g = cc g
     by (Ok o) e g = elim (chosen (is_star o.1) _ _ _ g) [

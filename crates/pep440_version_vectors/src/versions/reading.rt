@@ -29,7 +29,7 @@ fn every_part_at_once(rt: HostRuntime) -> Result<(), Fail> {
 
 // A text and its print. From `1.1alpha1` on: PEP 440, "Pre-release spelling", "Post release spelling", "Pre-release
 // separators" and the like.
-const PRINTS: [(&str, &str); 39] = [
+const PRINTS: [(&str, &str); 45] = [
     (
         "  V1!1.0-Alpha.2-3.DEV+Ubuntu-01 ",
         "1!1.0a2.post3.dev0+ubuntu.1",
@@ -72,6 +72,13 @@ const PRINTS: [(&str, &str); 39] = [
     ("00.09000", "0.9000"),
     ("1.0+ubuntu-1", "1.0+ubuntu.1"),
     ("1.0+foo0100", "1.0+foo0100"),
+    // Digits and dots alone, or nearly.
+    ("001.02", "1.2"),
+    ("000", "0"),
+    ("0255", "255"),
+    ("256", "256"),
+    ("1.2.3.4.5", "1.2.3.4.5"),
+    ("1.02 ", "1.2"),
 ];
 
 #[test]

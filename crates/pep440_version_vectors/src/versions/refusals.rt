@@ -33,9 +33,10 @@ const DOT: &str =
     "found a `.` indicating the start of a local component in a version, but did not find any alphanumeric ASCII segment following the `.`";
 
 // Each kind; characters that are none of a version's.
-const KINDS: [(&str, Refused<'static>, &str); 12] = [
+const KINDS: [(&str, Refused<'static>, &str); 13] = [
     ("", Refused::NoNumber, NO_NUMBER),
     ("x", Refused::NoNumber, NO_NUMBER),
+    (".1", Refused::NoNumber, NO_NUMBER),
     ("1!", Refused::NoRelease, NO_RELEASE),
     (
         "18446744073709551616",
@@ -65,7 +66,7 @@ fn each_kind(rt: HostRuntime) -> Result<(), Fail> {
 }
 
 // A text, its longest front, and what is left.
-const FRONTS: [(&str, &str, &str); 16] = [
+const FRONTS: [(&str, &str, &str); 18] = [
     ("1.0.", "1.0", "."),
     ("1.0prev", "1.0pre", "v"),
     ("1.0 x", "1.0 ", "x"),
@@ -82,6 +83,8 @@ const FRONTS: [(&str, &str, &str); 16] = [
     ("1.0\u{a0}", "1.0", "\u{a0}"),
     ("1.0+aä", "1.0+a", "ä"),
     ("1.0x18446744073709551616", "1.0", "x18446744073709551616"),
+    ("1..2", "1", "..2"),
+    ("1.1.1.1.", "1.1.1.1", "."),
 ];
 
 #[test]

@@ -34,7 +34,7 @@ returns-in_err-number-clause-memory c = λ x e few.
     let fuel : length c.args.text.now - c.loop-round.round ≡ suc left = omega arith in
     let go = sym c.goes_on.ensures ∙ c.if-not-goes_on.false in
     let y = read_too (number_at c.past_ascii.result.now) (release_from c.args.first c.args.text.now)
-        (λ f h. sym c.loop-round.invariant.2 ∙ rw fuel (more_err left c.loop-round.rest.now c.loop-round.numbers f go (rw (sym c.past_ascii.ensures) h))) x e in
+    (λ f h. sym c.loop-round.invariant.2 ∙ rw fuel (more_err left c.loop-round.rest.now c.loop-round.numbers f go (rw (sym c.past_ascii.ensures) h))) x e in
     cc (c.in_err-number.ensures.memory y.0 y.1)
 
 pub returns-in_err-push-clause-memory : goal.returns-in_err-push-clause-memory
