@@ -106,15 +106,6 @@ dev_place NoDev = (1, 0)
 abbrev pub place_cmp : ℕ × ℕ → ℕ × ℕ → Ordering
 place_cmp = then_cmp (on (λ p. p.0) nat_cmp) (on (λ p. p.1) nat_cmp)
 
-abbrev pub stage_cmp : Stage → Stage → Ordering
-stage_cmp = on stage_place place_cmp
-
-abbrev pub post_cmp : PostPlace → PostPlace → Ordering
-post_cmp = on post_place place_cmp
-
-abbrev pub dev_cmp : DevPlace → DevPlace → Ordering
-dev_cmp = on dev_place place_cmp
-
 -- a text is below every number; texts by their bytes, numbers by their value
 abbrev pub segment_cmp : Segment → Segment → Ordering
 segment_cmp (Text s) (Text t) = slice_cmp nat_cmp s t
@@ -129,12 +120,22 @@ local_cmp = slice_cmp segment_cmp
 -- part by part
 abbrev pub key_cmp : Key → Key → Ordering
 key_cmp = then_cmp (on (λ (k : Key). k.epoch) nat_cmp) (then_cmp (on (λ (k : Key). k.release) release_cmp)
-    (then_cmp (on (λ (k : Key). k.stage) stage_cmp) (then_cmp (on (λ (k : Key). k.post) post_cmp)
-    (then_cmp (on (λ (k : Key). k.dev) dev_cmp) (on (λ (k : Key). k.local) local_cmp)))))
+    (then_cmp (on (λ (k : Key). stage_place k.stage) place_cmp) (then_cmp (on (λ (k : Key). post_place k.post) place_cmp)
+    (then_cmp (on (λ (k : Key). dev_place k.dev) place_cmp) (on (λ (k : Key). k.local) local_cmp)))))
 
 -- the order of records
 abbrev pub record_cmp : Record → Record → Ordering
 record_cmp = on key key_cmp
+
+-- stages, posts and devs by their places
+abbrev pub stage_cmp : Stage → Stage → Ordering
+stage_cmp = on stage_place place_cmp
+
+abbrev pub post_cmp : PostPlace → PostPlace → Ordering
+post_cmp = on post_place place_cmp
+
+abbrev pub dev_cmp : DevPlace → DevPlace → Ordering
+dev_cmp = on dev_place place_cmp
 
 -- by epoch, then by release
 abbrev pub base_cmp : Record → Record → Ordering

@@ -8,7 +8,7 @@ use Rattle.std.specs.Ordering.{nat_cmp, on, ordering_then, then_cmp, eq_by_cmp, 
 use Rattle.std.specs.Cmp.{IsPartialOrder, po, IsTotalOrder, IsEquivalence, eq_by_cmp_equiv, nat_cmp_total, nat_cmp_is, on_total, then_total}
 use Rattle.std.specs.Cmp.Lexicographic.{lists_total, nat_list_cmp_total, slice_cmp}
 use Rattle.pep440_version.specs.Key.{Key, key, key_cmp, record_cmp, release_cmp, stage_place, post_place, dev_place, place_cmp, segment_cmp, kind_rank, kind_cmp, prerelease_cmp}
-use Rattle.pep440_version.specs.Record.{Record, Segment, Text, Number}
+use Rattle.pep440_version.specs.Record.{Segment, Text, Number}
 use Rattle.pep440_version.specs.Segments.{segment}
 use Rattle.pep440_version.specs.Trim.{trim, before_trimmed}
 use Rattle.pep440_version.specs.declared.prerelease.Prerelease.{Prerelease}

@@ -1,19 +1,18 @@
 -- Where a text is read, its parts are read, too: so no refusal is made, which alone takes memory.
-use Rattle.std.proofs.Common.{◌≡◌, ◌≤◌, ◌<◌, ◌==◌, ℕ, suc, zero, Bool, true, false, List, [], ◌∷◌, ◌++◌, refl, sym, ap, ◌∙◌, arith, drop, length, inl, inr, Ok, Err, Result, Option, subst}
+use Rattle.std.proofs.Common.{◌≡◌, ◌≤◌, ◌<◌, ◌==◌, ℕ, suc, zero, Bool, true, false, List, [], ◌∷◌, ◌++◌, refl, sym, ap, ◌∙◌, arith, drop, length, inl, inr, Ok, Err, Option, subst}
 use Rattle.std.proofs.lemmas.List.{length-append}
-use Rattle.std.specs.Char.{is_ascii_alphanumeric, is_ascii_digit}
+use Rattle.std.specs.Char.{is_ascii_alphanumeric}
 use Rattle.pep440_version.specs.declared.prerelease.Prerelease.{Prerelease}
-use Rattle.pep440_version.specs.Grammar.{is_separator, starts, segment_of, Derives}
+use Rattle.pep440_version.specs.Grammar.{is_separator, starts, segment_of}
 use Rattle.pep440_version.specs.Locals.{first_byte, segments_at, local_at}
-use Rattle.pep440_version.specs.Patterns.{DerivesPattern}
 use Rattle.pep440_version.specs.Reading.{Read, ◌>>=◌, lead, past, starts_number, number_at, goes_on, more_at, release_from}
 use Rattle.pep440_version.specs.Record.{Record, Segment, epoch_and_release, of_parts}
-use Rattle.pep440_version.specs.Refusals.{Refusal, PatternRefusal}
+use Rattle.pep440_version.specs.Refusals.{Refusal}
 use Rattle.pep440_version.specs.Suffixes.{pre_at, post_at, dev_at}
-use Rattle.pep440_version.specs.Whole.{release_after_first, front_at, opening, parts_at, end_at, closing, is_star, without_star, pattern_from, read_pattern, read_version}
+use Rattle.pep440_version.specs.Whole.{release_after_first, front_at, opening, parts_at, end_at, closing, is_star, pattern_from, read_pattern}
 use Rattle.pep440_version.specs.Word.{is_packed}
 use Rattle.pep440_version.proofs.Reading.AfterFirstNumber.{more_on}
-use Rattle.pep440_version.proofs.Reading.Agreement.{end_takes, sure, without_star_is, version_is, only, only_pattern}
+use Rattle.pep440_version.proofs.Reading.Agreement.{end_takes, sure, without_star_is}
 use Rattle.pep440_version.proofs.Reading.NumbersInTurn.{with_front}
 use Rattle.pep440_version.proofs.Reading.PartsAgree.{parts_take}
 use Rattle.pep440_version.proofs.Reading.ReadIsDerived.{bind_ok, chosen, inside}

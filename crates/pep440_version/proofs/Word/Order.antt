@@ -1,5 +1,5 @@
 -- Of packed records the words are in the order of the keys.
-use Rattle.std.proofs.Common.{◌≡◌, ℕ, ◌+◌, ◌*◌, ◌^◌, ◌<◌, ◌≤◌, refl, sym, ap, ◌∙◌, arith, List, [], Some, None, unwrap_or, slice_index, true, false, Bool, if◌then◌else◌, Option}
+use Rattle.std.proofs.Common.{◌≡◌, ℕ, ◌+◌, ◌*◌, ◌^◌, ◌<◌, ◌≤◌, refl, sym, ap, ◌∙◌, arith, List, [], Some, None, unwrap_or, slice_index, true, false, Bool, if◌then◌else◌}
 use Rattle.std.specs.Ordering.{nat_cmp, ordering_then}
 use Rattle.pep440_version.specs.Key.{record_cmp, release_cmp}
 use Rattle.pep440_version.specs.Record.{Record}

@@ -1,5 +1,5 @@
 -- What a packed record is: a short release and one suffix, and nothing else.
-use Rattle.std.proofs.Common.{◌≡◌, ◌==◌, ℕ, ◌≤◌, refl, arith, List, [], ◌∷◌, length, Option, None, Some, slice_index, true, false, Bool, ◌&&◌, nat_le, if◌then◌else◌}
+use Rattle.std.proofs.Common.{◌≡◌, ◌==◌, ℕ, ◌≤◌, refl, arith, List, [], ◌∷◌, length, Option, None, Some, slice_index, true, false, Bool, ◌&&◌, nat_le}
 use Rattle.std.proofs.lemmas.Bool.Decides.{nat_tests}
 use Rattle.pep440_version.specs.declared.prerelease.Prerelease.{Prerelease}
 use Rattle.pep440_version.specs.declared.prerelease.PrereleaseKind.{PrereleaseKind}

@@ -1,5 +1,4 @@
 use Rattle.std.proofs.Common.{◌≤◌, sym, subst, length}
-use Rattle.std.proofs.lemmas.Result.{err_from_is_err_and}
 use Rattle.pep440_version.proofs.Reading.WithoutMemory.{release_too}
 use Rattle.pep440_version.proofs.read.release_after.Goals as goal
 

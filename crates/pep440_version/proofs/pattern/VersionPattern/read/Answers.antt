@@ -1,4 +1,4 @@
-use Rattle.std.proofs.Common.{◌∙◌, false, sym, ap, Ok}
+use Rattle.std.proofs.Common.{false}
 use Rattle.pep440_version.proofs.Reading.Agreement.{only_pattern}
 use Rattle.pep440_version.proofs.pattern.VersionPattern.read.Goals as goal
 

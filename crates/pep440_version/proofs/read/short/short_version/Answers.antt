@@ -1,4 +1,4 @@
-use Rattle.std.proofs.Common.{◌≡◌, ◌<◌, ◌∙◌, ℕ, length, take, arith, sym, subst}
+use Rattle.std.proofs.Common.{◌<◌, ◌∙◌, length, take, arith, sym, subst}
 use Rattle.std.proofs.lemmas.List.{take_more_set, drop_all, length-set}
 use Rattle.pep440_version.proofs.Reading.ShortReleases.{Goes, of_short, digit_at, dot_at, at_end}
 use Rattle.pep440_version.proofs.read.short.short_version.Goals.{then-is_ascii_digit+else-number-gt-GREATEST, else-is_ascii_digit+else-byte-ne46+else-is_open+else-count-eq3}
