@@ -1,6 +1,6 @@
-//! What words with a list of specifiers answer, and runs of `filter` over readers and writers that fail.
-use super::support::{After, Manner, Trickle, run_over, split_words, words_of};
-use pep440_tool::answer;
+//! What words with a list of specifiers answer, also with each request for memory refused in turn; and runs of `filter` over readers and
+//! writers that fail.
+use super::support::{After, Manner, Trickle, answered, run_over, split_words, words_of};
 use std::alloc::{AllocError, Global};
 use std::test::Fail;
 
@@ -17,12 +17,12 @@ fn holds(
     status: u8,
 ) -> Result<bool, AllocError> {
     let list = split_words(alloc, words)?;
-    let said = answer(alloc, list.as_slice(), input)?;
+    let said = answered(alloc, list.as_slice(), input)?;
     Ok(said.status == status && said.output.as_slice() == output.as_bytes())
 }
 
 // A list, a version, and whether the list contains it.
-const MATCHES: [(&str, &str, bool); 33] = [
+const MATCHES: [(&str, &str, bool); 34] = [
     ("==1.2.*", "1", false),
     ("==1.0.*", "1", true),
     ("<1.0", "1.0a1", false),
@@ -56,6 +56,7 @@ const MATCHES: [(&str, &str, bool); 33] = [
     ("!=1,>=1", "1", false),
     (">=1,!=1", "1.1", true),
     ("!=1,>=1", "1.1", true),
+    (">=1.0,===1.1+x", "1.1+x", true),
 ];
 
 // Whether `match` answers so.
@@ -66,13 +67,13 @@ fn matches_so(
     contained: bool,
 ) -> Result<bool, AllocError> {
     let words = words_of(alloc, &["match", specifiers, version])?;
-    let said = answer(alloc, words.as_slice(), b"never read\n")?;
+    let said = answered(alloc, words.as_slice(), b"never read\n")?;
     let want = if contained { "yes\n" } else { "no\n" };
     Ok(said.status == 0 && said.output.as_slice() == want.as_bytes())
 }
 
 #[test]
-fn matches(rt: HostRuntime) -> Result<(), Fail> {
+fn sweep_matches(rt: HostRuntime) -> Result<(), Fail> {
     for (specifiers, version, contained) in MATCHES {
         let holds = matches_so(rt.alloc(), specifiers, version, contained)?;
         assert!(rt; holds, "{specifiers} and {version}");
@@ -125,7 +126,7 @@ const RANGES: [(&str, &str, u8); 24] = [
 ];
 
 #[test]
-fn ranges(rt: HostRuntime) -> Result<(), Fail> {
+fn sweep_ranges(rt: HostRuntime) -> Result<(), Fail> {
     for (words, output, status) in RANGES {
         let holds = holds(rt.alloc(), words, b"never read\n", output, status)?;
         assert!(rt; holds, "{words}");
@@ -173,7 +174,7 @@ const FILTERS: [(&str, &str, &str, u8); 10] = [
 ];
 
 #[test]
-fn filters(rt: HostRuntime) -> Result<(), Fail> {
+fn sweep_filters(rt: HostRuntime) -> Result<(), Fail> {
     for (words, input, output, status) in FILTERS {
         let holds = holds(rt.alloc(), words, input.as_bytes(), output, status)?;
         assert!(rt; holds, "{words} of {input:?}");
@@ -182,7 +183,7 @@ fn filters(rt: HostRuntime) -> Result<(), Fail> {
 }
 
 #[test]
-fn filter_of_no_text(rt: HostRuntime) -> Result<(), Fail> {
+fn sweep_filter_of_no_text(rt: HostRuntime) -> Result<(), Fail> {
     let output = "error: line 1: not UTF-8\n";
     let holds = holds(rt.alloc(), "filter|>=1", b"\xff\n1\n", output, 1)?;
     assert!(rt; holds, "a byte 255");

@@ -1,6 +1,6 @@
-//! What words answer: a line, and a status. The words of a row stand between bars.
-use super::support::{USAGE, split_words};
-use pep440_tool::answer;
+//! What words answer: a line, and a status. The words of a row stand between bars. Each test also runs with each request for memory
+//! refused in turn: the same words then answer the row when they are asked again.
+use super::support::{USAGE, answered, is_line, split_words};
 use std::alloc::{AllocError, Global};
 use std::test::Fail;
 
@@ -10,12 +10,11 @@ type Row = (&'static str, &'static str);
 // Whether the words answer the line with the status. No input is read.
 fn holds(alloc: Global, words: &str, line: &str, status: u8) -> Result<bool, AllocError> {
     let list = split_words(alloc, words)?;
-    let said = answer(alloc, list.as_slice(), b"never read\n")?;
-    let output = format!(in alloc; "{line}\n")?;
-    Ok(said.status == status && said.output.as_slice() == output.as_bytes())
+    let said = answered(alloc, list.as_slice(), b"never read\n")?;
+    Ok(said.status == status && is_line(said.output.as_slice(), line))
 }
 
-const ANSWERED: [Row; 27] = [
+const ANSWERED: [Row; 28] = [
     ("show| v1!01.20 ", "1!1.20"),
     (
         "show|  V1!1.0-Alpha.2-3.DEV+Ubuntu-01 ",
@@ -52,17 +51,21 @@ const ANSWERED: [Row; 27] = [
         "1.0+18446744073709551616",
     ),
     ("edit|1.0|max=0|max=", "1.0"),
+    (
+        "edit|1.0|release=1.2.3|local=AB.07.x|max=3|min=0",
+        "1.2.3+ab.7.x~min0~max3",
+    ),
 ];
 
 #[test]
-fn answered(rt: HostRuntime) -> Result<(), Fail> {
+fn sweep_answered(rt: HostRuntime) -> Result<(), Fail> {
     for (words, line) in ANSWERED {
         assert!(rt; holds(rt.alloc(), words, line, 0)?, "{words}");
     }
     Ok(())
 }
 
-const REFUSED: [Row; 26] = [
+const REFUSED: [Row; 27] = [
     (
         "show|",
         "error: expected version to start with a number, but no leading ASCII digits were found",
@@ -95,6 +98,10 @@ const REFUSED: [Row; 26] = [
     (
         "compare|x|y",
         "error: expected version to start with a number, but no leading ASCII digits were found",
+    ),
+    (
+        "compare|1.0+local|1.*",
+        "error: wildcards are not allowed in a version",
     ),
     (
         "compare|1.0|1.*",
@@ -134,7 +141,7 @@ const REFUSED: [Row; 26] = [
 ];
 
 #[test]
-fn refused(rt: HostRuntime) -> Result<(), Fail> {
+fn sweep_refused(rt: HostRuntime) -> Result<(), Fail> {
     for (words, line) in REFUSED {
         assert!(rt; holds(rt.alloc(), words, line, 1)?, "{words}");
     }
@@ -158,12 +165,12 @@ const USAGES: [&str; 13] = [
 ];
 
 fn is_usage(alloc: Global, words: &[String]) -> Result<bool, AllocError> {
-    let said = answer(alloc, words, b"")?;
+    let said = answered(alloc, words, b"")?;
     Ok(said.status == 2 && said.output.as_slice() == USAGE.as_bytes())
 }
 
 #[test]
-fn usage_lines(rt: HostRuntime) -> Result<(), Fail> {
+fn sweep_usage_lines(rt: HostRuntime) -> Result<(), Fail> {
     let alloc = rt.alloc();
     assert!(rt; is_usage(alloc, Vec::new(alloc).as_slice())?, "no words");
     for words in USAGES {

@@ -7,7 +7,7 @@ use std::test::Fail;
 type Run = (&'static str, Manner, u8, &'static str, u32, u32);
 
 // No call is made twice: with a writer that takes what it is given there is one write and one flush.
-const RUNS: [Run; 10] = [
+const RUNS: [Run; 12] = [
     ("show|1.0.0", Manner::TakesAtMost(512), 0, "1.0.0\n", 1, 1),
     ("show|1.0.0", Manner::TakesAtMost(1), 0, "1.0.0\n", 6, 1),
     ("show|1.0.0", Manner::FailsPast(3), 4, "1.0", 2, 0),
@@ -22,6 +22,22 @@ const RUNS: [Run; 10] = [
         "1!1.0a2.post3.dev0+ubuntu.1\n",
         1,
         1,
+    ),
+    (
+        "show|  V1!1.0-Alpha.2-3.DEV+Ubuntu-01 ",
+        Manner::FlushFails,
+        4,
+        "1!1.0a2.post3.dev0+ubuntu.1\n",
+        1,
+        1,
+    ),
+    (
+        "show|  V1!1.0-Alpha.2-3.DEV+Ubuntu-01 ",
+        Manner::Interrupted,
+        4,
+        "",
+        1,
+        0,
     ),
     (
         "show|1.*",

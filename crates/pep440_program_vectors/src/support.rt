@@ -1,7 +1,7 @@
 //! Readers and writers that fail in stated places, and what a run over them wrote.
 ghost use Rattle.std.specs.Prelude.{◌≤◌, length, IfOk};
 
-use pep440_tool::run;
+use pep440_tool::{Answer, answer, run};
 use std::alloc::{AllocError, Global};
 use std::io::{Error, ErrorKind, Read, Write};
 
@@ -140,7 +140,7 @@ impl Write for Sink {
     }
 }
 
-pub fn words_of(alloc: Global, texts: &[&str]) -> Result<Vec<String>, AllocError> {
+fn words_once(alloc: Global, texts: &[&str]) -> Result<Vec<String>, AllocError> {
     let mut words = Vec::new(alloc);
     for text in texts {
         words.push(String::from_str(alloc, text)?)?;
@@ -148,13 +148,44 @@ pub fn words_of(alloc: Global, texts: &[&str]) -> Result<Vec<String>, AllocError
     Ok(words)
 }
 
-/// The words of a line, each between two bars.
-pub fn split_words(alloc: Global, line: &str) -> Result<Vec<String>, AllocError> {
+/// The words, asked for again where memory was refused.
+pub fn words_of(alloc: Global, texts: &[&str]) -> Result<Vec<String>, AllocError> {
+    match words_once(alloc, texts) {
+        Ok(words) => Ok(words),
+        Err(_) => words_once(alloc, texts),
+    }
+}
+
+fn split_once(alloc: Global, line: &str) -> Result<Vec<String>, AllocError> {
     let mut words = Vec::new(alloc);
     for word in line.split('|') {
         words.push(String::from_str(alloc, word)?)?;
     }
     Ok(words)
+}
+
+/// The words of a line, each between two bars; asked for again where memory was refused.
+pub fn split_words(alloc: Global, line: &str) -> Result<Vec<String>, AllocError> {
+    match split_once(alloc, line) {
+        Ok(words) => Ok(words),
+        Err(_) => split_once(alloc, line),
+    }
+}
+
+/// What the words answer, asked again where memory was refused.
+pub fn answered(alloc: Global, words: &[String], input: &[u8]) -> Result<Answer, AllocError> {
+    match answer(alloc, words, input) {
+        Ok(said) => Ok(said),
+        Err(_) => answer(alloc, words, input),
+    }
+}
+
+/// Whether the output is this one line.
+pub fn is_line(output: &[u8], line: &str) -> bool {
+    match output {
+        [front @ .., last] => *last == b'\n' && front == line.as_bytes(),
+        [] => false,
+    }
 }
 
 pub fn run_over(

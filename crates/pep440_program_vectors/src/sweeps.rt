@@ -1,33 +1,43 @@
-//! Each row, or want of memory and then the row. They are run also with each request for memory refused in turn.
+//! Runs with each request for memory refused in turn: the row, or the line of out of memory and, of a second run, the row.
 use super::support::{After, Manner, Trickle, USAGE, run_over, split_words};
-use std::alloc::Global;
+use std::alloc::{AllocError, Global};
 use std::test::Fail;
 
-// The row, or the memory text and then the row: a second run meets no refusal. Nothing is read.
-fn answers_after_refusal(alloc: Global, words: &str, line: &str, want: u8) -> bool {
-    let Ok(list) = split_words(alloc, words) else {
-        return true;
-    };
-    for _ in 0..2 {
-        let mut unread = Trickle::new(b"never read", After::Fails);
-        let (status, sink) = run_over(
-            alloc,
-            list.as_slice(),
-            &mut unread,
-            Manner::TakesAtMost(512),
-        );
-        if status != 3 {
-            return status == want && sink.bytes() == line.as_bytes() && unread.calls == 0;
-        }
-        if sink.bytes() != "error: out of memory\n".as_bytes() {
-            return false;
-        }
+const LACK: &str = "error: out of memory\n";
+
+// Whether a run over this writer ends so, or says that memory ran out.
+fn goes_so(
+    alloc: Global,
+    words: &[String],
+    input: (&str, After),
+    line: &str,
+    want: u8,
+) -> Result<bool, AllocError> {
+    let mut reader = Trickle::new(input.0.as_bytes(), input.1);
+    let (status, sink) = run_over(alloc, words, &mut reader, Manner::TakesAtMost(512));
+    if status == 3 && sink.bytes() == LACK.as_bytes() {
+        return Err(AllocError);
     }
-    false
+    Ok(status == want && sink.bytes() == line.as_bytes())
 }
 
-// Words, what they answer, and the status.
-const VERSIONS: [(&str, &str, u8); 5] = [
+// The same of the words of a line, once more where memory was refused.
+fn answers(
+    alloc: Global,
+    words: &str,
+    input: (&str, After),
+    line: &str,
+    want: u8,
+) -> Result<bool, AllocError> {
+    let list = split_words(alloc, words)?;
+    match goes_so(alloc, list.as_slice(), input, line, want) {
+        Ok(holds) => Ok(holds),
+        Err(_) => goes_so(alloc, list.as_slice(), input, line, want),
+    }
+}
+
+// Words, what they answer, and the status. Nothing is read.
+const WORDS: [(&str, &str, u8); 14] = [
     (
         "show|  V1!1.0-Alpha.2-3.DEV+Ubuntu-01 ",
         "1!1.0a2.post3.dev0+ubuntu.1\n",
@@ -49,19 +59,6 @@ const VERSIONS: [(&str, &str, u8); 5] = [
         "error: wildcards are not allowed in a version\n",
         1,
     ),
-];
-
-#[test]
-fn sweep_versions(rt: HostRuntime) {
-    for (words, line, status) in VERSIONS {
-        assert!(rt;
-            answers_after_refusal(rt.alloc(), words, line, status),
-            "{words}"
-        );
-    }
-}
-
-const EDITS: [(&str, &str, u8); 5] = [
     ("edit|1.0a1|post=2|dev=0|epoch=3", "3!1.0a1.post2.dev0\n", 0),
     (
         "edit|1.0|release=1.2.3|local=AB.07.x|max=3|min=0",
@@ -75,19 +72,6 @@ const EDITS: [(&str, &str, u8); 5] = [
     ),
     ("edit|1.0|post=x", "error: change 1: not a change\n", 1),
     ("show", USAGE, 2),
-];
-
-#[test]
-fn sweep_edits(rt: HostRuntime) {
-    for (words, line, status) in EDITS {
-        assert!(rt;
-            answers_after_refusal(rt.alloc(), words, line, status),
-            "{words}"
-        );
-    }
-}
-
-const LISTS: [(&str, &str, u8); 4] = [
     ("match|>=1.0,===1.1+x|1.1+x", "yes\n", 0),
     (
         "match|>=1.0, =>2|1",
@@ -103,32 +87,15 @@ const LISTS: [(&str, &str, u8); 4] = [
 ];
 
 #[test]
-fn sweep_lists(rt: HostRuntime) {
-    for (words, line, status) in LISTS {
+fn sweep_runs(rt: HostRuntime) -> Result<(), Fail> {
+    for (words, line, status) in WORDS {
+        let unread = ("never read", After::Fails);
         assert!(rt;
-            answers_after_refusal(rt.alloc(), words, line, status),
+            answers(rt.alloc(), words, unread, line, status)?,
             "{words}"
         );
     }
-}
-
-// The same of a `filter`, which reads its input anew each time.
-fn filters_after_refusal(alloc: Global, words: &str, input: &[u8], output: &str, want: u8) -> bool {
-    let Ok(list) = split_words(alloc, words) else {
-        return true;
-    };
-    for _ in 0..2 {
-        let mut lines = Trickle::new(input, After::End);
-        let manner = Manner::TakesAtMost(512);
-        let (status, sink) = run_over(alloc, list.as_slice(), &mut lines, manner);
-        if status != 3 {
-            return status == want && sink.bytes() == output.as_bytes();
-        }
-        if sink.bytes() != "error: out of memory\n".as_bytes() {
-            return false;
-        }
-    }
-    false
+    Ok(())
 }
 
 // Words, the input, what they answer, and the status.
@@ -148,9 +115,36 @@ const FILTERS: [(&str, &str, &str, u8); 2] = [
 ];
 
 #[test]
-fn sweep_filters(rt: HostRuntime) {
+fn sweep_runs_of_filter(rt: HostRuntime) -> Result<(), Fail> {
     for (words, input, output, status) in FILTERS {
-        let holds = filters_after_refusal(rt.alloc(), words, input.as_bytes(), output, status);
+        let holds = answers(rt.alloc(), words, (input, After::End), output, status)?;
         assert!(rt; holds, "{words}");
     }
+    Ok(())
+}
+
+// Whether a run over a writer that fails past so many bytes ends with 4, with a beginning of either text written.
+fn ends_early(alloc: Global, words: &[String], manner: Manner, front: &str, lack: &str) -> bool {
+    let mut reader = Trickle::new(b"2.0\n", After::End);
+    let (status, sink) = run_over(alloc, words, &mut reader, manner);
+    status == 4 && (sink.bytes() == front.as_bytes() || sink.bytes() == lack.as_bytes())
+}
+
+// How a writer fails, what is written of `2.0` and a newline, and what of the line of out of memory.
+const WRITERS: [(Manner, &str, &str); 5] = [
+    (Manner::FailsPast(3), "2.0", "err"),
+    (Manner::FailsPast(0), "", ""),
+    (Manner::TakesNone, "", ""),
+    (Manner::Interrupted, "", ""),
+    (Manner::FlushFails, "2.0\n", LACK),
+];
+
+#[test]
+fn sweep_writers_that_fail(rt: HostRuntime) -> Result<(), Fail> {
+    let words = split_words(rt.alloc(), "filter|>=1.0,!=1.1")?;
+    for (manner, front, lack) in WRITERS {
+        let holds = ends_early(rt.alloc(), words.as_slice(), manner, front, lack);
+        assert!(rt; holds, "{front} or {lack}");
+    }
+    Ok(())
 }
