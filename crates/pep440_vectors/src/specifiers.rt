@@ -1,5 +1,6 @@
 //! Operators and single specifiers.
 pub mod built;
+mod copies;
 mod operators;
 mod sweeps;
 pub mod texts;

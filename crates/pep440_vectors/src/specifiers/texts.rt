@@ -21,6 +21,9 @@ fn read(rt: HostRuntime) -> Result<(), Fail> {
     Ok(())
 }
 
+const TOO_FEW_NUMBERS: &str =
+    "The ~= operator requires at least two segments in the release version";
+
 // A text, the kind of its refusal and the text of that.
 const REFUSED: [(&str, &str, &str); 11] = [
     (
@@ -63,11 +66,7 @@ const REFUSED: [(&str, &str, &str); 11] = [
         "InvalidSpecifier",
         "Operator ~= is incompatible with versions containing non-empty local segments (`+abc.5`)",
     ),
-    (
-        "~=1",
-        "InvalidSpecifier",
-        "The ~= operator requires at least two segments in the release version",
-    ),
+    ("~=1", "InvalidSpecifier", TOO_FEW_NUMBERS),
     (
         ">=1.0 2.0",
         "InvalidTrailing",
