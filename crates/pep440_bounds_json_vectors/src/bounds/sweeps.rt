@@ -3,12 +3,14 @@
 ghost use Rattle.std.specs.Prelude.{◌<◌, length, IfOk};
 ghost use Rattle.pep440_rs.specs.Agreement.{IsReleaseOnly};
 
-use pep440_rs::{BoundError, Operator, Version, VersionSpecifier, VersionSpecifiers};
+use pep440_rs::{
+    BoundError, Operator, ReleaseBounds, Version, VersionSpecifier, VersionSpecifiers,
+};
 use std::alloc::AllocError;
 use std::ops::Bound;
 use std::test::Fail;
 
-// A release alone.
+// A release alone, such as no word holds: a packed one takes no memory.
 fn release(rt: HostRuntime, numbers: &[u64]) -> Result<Version, AllocError>
     requires { 0 < length numbers.now }
     ensures { IfOk result (λ v. IsReleaseOnly v) }
@@ -27,7 +29,7 @@ fn is_of(answer: &Result<Option<VersionSpecifier>, BoundError>, operator: Operat
 
 #[test]
 fn sweep_from_lower_bound(rt: HostRuntime) -> Result<(), Fail> {
-    let Ok(version) = release(rt, &[1, 0]) else {
+    let Ok(version) = release(rt, &[1, 256]) else {
         return Ok(())
     };
     let bound = Bound::Excluded(version);
@@ -40,7 +42,7 @@ fn sweep_from_lower_bound(rt: HostRuntime) -> Result<(), Fail> {
 
 #[test]
 fn sweep_from_upper_bound(rt: HostRuntime) -> Result<(), Fail> {
-    let Ok(version) = release(rt, &[1, 0]) else {
+    let Ok(version) = release(rt, &[1, 256]) else {
         return Ok(())
     };
     let bound = Bound::Included(version);
@@ -72,10 +74,10 @@ fn sweep_bound_error(rt: HostRuntime) -> Result<(), Fail> {
 
 #[test]
 fn sweep_pair(rt: HostRuntime) -> Result<(), Fail> {
-    let Ok(low) = release(rt, &[1, 0]) else {
+    let Ok(low) = release(rt, &[1, 256]) else {
         return Ok(())
     };
-    let Ok(high) = release(rt, &[2, 0]) else {
+    let Ok(high) = release(rt, &[2, 256]) else {
         return Ok(())
     };
     let (start, end) = (Bound::Included(low), Bound::Excluded(high));
@@ -92,10 +94,10 @@ fn sweep_pair(rt: HostRuntime) -> Result<(), Fail> {
 
 #[test]
 fn sweep_pairs(rt: HostRuntime) -> Result<(), Fail> {
-    let (Ok(a), Ok(b)) = (release(rt, &[3, 7]), release(rt, &[3, 8])) else {
+    let (Ok(a), Ok(b)) = (release(rt, &[3, 257]), release(rt, &[3, 258])) else {
         return Ok(())
     };
-    let (Ok(c), Ok(d)) = (release(rt, &[3, 9]), release(rt, &[4])) else {
+    let (Ok(c), Ok(d)) = (release(rt, &[3, 259]), release(rt, &[4])) else {
         return Ok(())
     };
     let pairs = [
@@ -110,5 +112,29 @@ fn sweep_pairs(rt: HostRuntime) -> Result<(), Fail> {
         }
     }
     assert!(rt; refused < 2);
+    Ok(())
+}
+
+// Whether both give the same two members.
+fn are_alike(mut one: ReleaseBounds, mut other: ReleaseBounds) -> bool {
+    let (first, second) = (one.next(), one.next());
+    let has_two = first.is_some() && second.is_some() && one.next().is_none();
+    has_two && first == other.next() && second == other.next() && other.next().is_none()
+}
+
+#[test]
+fn sweep_clone_release_bounds(rt: HostRuntime) -> Result<(), Fail> {
+    let (Ok(low), Ok(high)) = (release(rt, &[1, 256]), release(rt, &[2, 256])) else {
+        return Ok(())
+    };
+    let (start, end) = (Bound::Included(low), Bound::Excluded(high));
+    let Ok(members) = VersionSpecifier::from_release_only_bounds(rt.alloc(), (&start, &end)) else {
+        return Ok(())
+    };
+    let copy = match members.clone() {
+        Ok(copy) => copy,
+        Err(_) => members.clone()?,
+    };
+    assert!(rt; are_alike(copy, members), "the copy");
     Ok(())
 }

@@ -1,8 +1,8 @@
 //! The JSON calls, with one request for memory refused: each answers what it answers with ample memory, or its want of
 //! memory, and then, asked again, what it answers with ample memory.
 use pep440_rs::{
-    JsonError, Operator, Version, VersionSpecifier, VersionSpecifiers, version_from_json,
-    version_to_json,
+    JsonError, Operator, Version, VersionSpecifier, VersionSpecifiers, VersionSpecifiersParseError,
+    version_from_json, version_to_json,
 };
 use serde_json::Value;
 use std::alloc::{AllocError, Global};
@@ -123,5 +123,30 @@ fn sweep_list_from_json(rt: HostRuntime) -> Result<(), Fail> {
         };
         assert!(rt; found == want, "{text}");
     }
+    Ok(())
+}
+
+// Why the string's list is refused, asked again where memory was refused.
+fn refusal(alloc: Global, value: &Value) -> Result<JsonError<VersionSpecifiersParseError>, Fail> {
+    for _ in 0..2 {
+        if let Err(error) = VersionSpecifiers::from_json(alloc, value) {
+            if error != JsonError::OutOfMemory {
+                return Ok(error);
+            }
+        }
+    }
+    Err(Fail::new("each try was refused"))
+}
+
+#[test]
+fn sweep_clone_json_error(rt: HostRuntime) -> Result<(), Fail> {
+    let value = string(rt, ">=1,")?;
+    let error = refusal(rt.alloc(), &value)?;
+    let same = refusal(rt.alloc(), &value)?;
+    let copy = match error.clone() {
+        Ok(copy) => copy,
+        Err(_) => error.clone()?,
+    };
+    assert!(rt; copy == same && error == same, "the error");
     Ok(())
 }
