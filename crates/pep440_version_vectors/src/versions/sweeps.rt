@@ -1,5 +1,5 @@
-//! Each call that takes memory, to be run with each request refused in turn: the call gives its row or the want
-//! of memory, and its row when it is made again.
+//! Each call that takes memory, to be run with each request refused in turn: the call gives its row or is out of memory, and gives its row
+//! when it is made again. The versions are such as no word holds, since a packed one takes no memory.
 ghost use Rattle.std.specs.Prelude.{◌≡◌, ◌∷◌, [], IfOk};
 ghost use Rattle.pep440_version.specs.Record.{of_release};
 
@@ -87,7 +87,7 @@ fn sweep_version_refusals(rt: HostRuntime) -> Result<(), Fail> {
 fn sweep_pattern_from_str(rt: HostRuntime) -> Result<(), Fail> {
     let memory = PatternErrorKind::from(ErrorKind::OutOfMemory);
     for _ in 0..TRIES {
-        match VersionPattern::from_str(rt.alloc(), "1.2.3.*") {
+        match VersionPattern::from_str(rt.alloc(), "1!1.2.3.*") {
             Ok(pattern) => {
                 let release = pattern.version().release();
                 assert!(rt;
@@ -106,7 +106,7 @@ fn sweep_pattern_from_str(rt: HostRuntime) -> Result<(), Fail> {
 fn sweep_pattern_refusals(rt: HostRuntime) -> Result<(), Fail> {
     let memory = PatternErrorKind::from(ErrorKind::OutOfMemory);
     for _ in 0..TRIES {
-        match VersionPattern::from_str(rt.alloc(), "1.2.*.4") {
+        match VersionPattern::from_str(rt.alloc(), "1!1.2.*.4") {
             Ok(_) => return Err(Fail::new("it was read")),
             Err(error) => {
                 if *error.kind() != memory {
@@ -124,11 +124,11 @@ fn sweep_pattern_refusals(rt: HostRuntime) -> Result<(), Fail> {
 
 #[test]
 fn sweep_new(rt: HostRuntime) -> Result<(), Fail> {
-    let release = [1, 2, 3];
+    let release = [1, 2, 3, 4, 5];
     for _ in 0..TRIES {
         let answer = Version::new(rt.alloc(), &release);
-        assert!(rt; release == [1, 2, 3], "what is lent");
-        if is_answered(&rt, rt.alloc(), answer, "1.2.3")? {
+        assert!(rt; release == [1, 2, 3, 4, 5], "what is lent");
+        if is_answered(&rt, rt.alloc(), answer, "1.2.3.4.5")? {
             return Ok(());
         }
     }
@@ -233,8 +233,8 @@ fn sweep_with_local(rt: HostRuntime) -> Result<(), Fail> {
 #[test]
 fn sweep_without_local(rt: HostRuntime) -> Result<(), Fail> {
     for _ in 0..TRIES {
-        let answer = again::version(rt, "1.0a1+x")?.without_local(rt.alloc());
-        if is_answered(&rt, rt.alloc(), answer, "1.0a1")? {
+        let answer = again::version(rt, "1!1.0a1+x")?.without_local(rt.alloc());
+        if is_answered(&rt, rt.alloc(), answer, "1!1.0a1")? {
             return Ok(());
         }
     }
@@ -243,11 +243,12 @@ fn sweep_without_local(rt: HostRuntime) -> Result<(), Fail> {
 
 #[test]
 fn sweep_only_release(rt: HostRuntime) -> Result<(), Fail> {
-    let whole = again::version(rt, PRINT)?;
+    let print = "1!1.2.3.4.5a2.post3.dev0+ubuntu.1";
+    let whole = again::version(rt, print)?;
     for _ in 0..TRIES {
         let answer = whole.only_release(rt.alloc());
-        assert!(rt; again::prints(rt.alloc(), &whole, PRINT)?, "what is lent");
-        if is_answered(&rt, rt.alloc(), answer, "1.0")? {
+        assert!(rt; again::prints(rt.alloc(), &whole, print)?, "what is lent");
+        if is_answered(&rt, rt.alloc(), answer, "1.2.3.4.5")? {
             return Ok(());
         }
     }
@@ -267,8 +268,8 @@ fn version_without_marks(rt: HostRuntime) -> Result<Version, Fail>
 #[test]
 fn sweep_with_min(rt: HostRuntime) -> Result<(), Fail> {
     for _ in 0..TRIES {
-        if let Ok(marked) = version_without_marks(rt)?.with_min(rt.alloc(), Some(4)) {
-            let holds = marks(&marked) == (Some(4), None);
+        if let Ok(marked) = version_without_marks(rt)?.with_min(rt.alloc(), Some(2097152)) {
+            let holds = marks(&marked) == (Some(2097152), None);
             assert!(rt; holds && marked.release() == [1, 0].as_slice(), "min");
             return Ok(());
         }
@@ -279,8 +280,8 @@ fn sweep_with_min(rt: HostRuntime) -> Result<(), Fail> {
 #[test]
 fn sweep_with_max(rt: HostRuntime) -> Result<(), Fail> {
     for _ in 0..TRIES {
-        if let Ok(marked) = version_without_marks(rt)?.with_max(rt.alloc(), Some(4)) {
-            let holds = marks(&marked) == (None, Some(4));
+        if let Ok(marked) = version_without_marks(rt)?.with_max(rt.alloc(), Some(2097152)) {
+            let holds = marks(&marked) == (None, Some(2097152));
             assert!(rt; holds && marked.release() == [1, 0].as_slice(), "max");
             return Ok(());
         }
