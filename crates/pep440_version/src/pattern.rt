@@ -95,8 +95,9 @@ impl VersionPattern {
     /// The pattern that the text means: a version, or epoch and release followed by `.*` and the end
     /// (PEP 440, "Version matching" and Appendix B).
     ///
-    /// Takes memory. Every text that means no pattern is refused with its one `PatternErrorKind`; only where
-    /// a request for memory was refused the kind may be `OutOfMemory` of `Version` instead.
+    /// Takes memory only where the version is not packed, or for what a refusal holds. Every text that means no
+    /// pattern is refused with its one `PatternErrorKind`; only where a request for memory was refused the kind may
+    /// be `OutOfMemory` of `Version` instead.
     pub fn from_str(alloc: Global, text: &str) -> Result<VersionPattern, VersionPatternParseError>
         // What is answered is what the text means.
         ensures found { IfOk result (λ p. DerivesPattern text.now p.0 p.1) }

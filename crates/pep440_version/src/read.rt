@@ -182,8 +182,9 @@ impl Version {
     /// "Normalization" and Appendix B), with blanks (tab, line feed, form feed, carriage return, space) before
     /// and after it.
     ///
-    /// Takes memory. Every text that means no version is refused with its one `ErrorKind`; only where a
-    /// request for memory was refused the kind may be `OutOfMemory` instead.
+    /// Takes memory only where the version is not packed, or for what a refusal holds. Every text that means no
+    /// version is refused with its one `ErrorKind`; only where a request for memory was refused the kind may be
+    /// `OutOfMemory` instead.
     pub fn from_str(alloc: Global, text: &str) -> Result<Version, VersionParseError>
         // What is answered is what the text means.
         ensures found { IfOk result (λ v. Derives text.now v) }
