@@ -1,5 +1,5 @@
 //! A version in one word: its release, and the one suffix that it may have.
-ghost use Rattle.std.specs.Prelude.{◌≡◌, ◌+◌, ◌*◌, ◌^◌, ◌<◌, ◌≤◌, true, false, None, length, slice_index, IfSome, IfNone, if◌then◌else◌};
+ghost use Rattle.std.specs.Prelude.{◌≡◌, ◌+◌, ◌*◌, ◌^◌, ◌<◌, ◌≤◌, ◌&&◌, nat_le, true, false, None, length, slice_index, IfSome, IfNone, if◌then◌else◌};
 ghost use Rattle.pep440_version.specs.Form.{IsWord, class_in, full_record, number_in, number_of_class, packed_record, pre_at};
 ghost use Rattle.pep440_version.specs.Record.{of_release};
 ghost use Rattle.pep440_version.specs.Word.{is_packed, is_short, suffix};
@@ -115,14 +115,18 @@ fn suffix(full: &Full) -> Option<(u64, u64)>
     }
 }
 
+// The numbers have room in their places.
+fn are_small(numbers: [u64; 4]) -> bool
+    ensures { result ≡ (nat_le (slice_index numbers 0) 65535 && (nat_le (slice_index numbers 1) 255 && (nat_le (slice_index numbers 2) 255 && nat_le (slice_index numbers 3) 255))) }
+{
+    let [first, second, third, fourth] = numbers;
+    first <= 65535 && second <= 255 && third <= 255 && fourth <= 255
+}
+
 fn is_short(release: &[u64]) -> bool
     ensures { result ≡ is_short release.now }
 {
-    if release.len() > 4 {
-        return false;
-    }
-    let [first, second, third, fourth] = padded(release);
-    first <= 65535 && second <= 255 && third <= 255 && fourth <= 255
+    release.len() <= 4 && are_small(padded(release))
 }
 
 // The suffix of a version that a word can hold.
@@ -173,12 +177,16 @@ impl Packed {
 
     // A release alone in one word, where it can be.
     pub(crate) fn of_release(release: &[u64]) -> Option<Packed>
-        ensures { IfSome result (λ p. IsWord p.count p.word p.numbers × (packed_record p.count p.word p.numbers ≡ of_release release.now)) }
+        ensures none { IfNone result (is_short release.now ≡ false) }
+        ensures some { IfSome result (λ p. IsWord p.count p.word p.numbers × (packed_record p.count p.word p.numbers ≡ of_release release.now)) }
     {
-        if !is_short(release) {
+        if release.len() > 4 {
             return None;
         }
         let numbers = padded(release);
+        if !are_small(numbers) {
+            return None;
+        }
         Some(Packed {
             count: release.len() as u8,
             word: word_of(numbers, NONE, 0),

@@ -165,9 +165,18 @@ impl Version {
         ensures reads { Answers error_refusal result (read_version text.now) }
         ensures memory { (r : Record) → read_version text.now ≡ Ok r → is_packed r ≡ true → IsOk result }
     {
-        if let Some(version) = short_version(text) {
-            return Ok(version);
+        match short_version(text) {
+            Some(version) => Ok(version),
+            None => Version::read_whole(alloc, text),
         }
+    }
+
+    // The same part by part, whatever the text is. Apart, so that the fast path stays short.
+    #[inline(never)]
+    fn read_whole(alloc: Global, text: &str) -> Result<Version, VersionParseError>
+        ensures reads { Answers error_refusal result (read_version text.now) }
+        ensures memory { (r : Record) → read_version text.now ≡ Ok r → is_packed r ≡ true → IsOk result }
+    {
         match pattern(alloc, text) {
             Ok((version, false)) => Ok(version),
             Ok((_, true)) => Err(VersionParseError::from(ErrorKind::Wildcard)),

@@ -31,4 +31,4 @@ returns c =
     let room : c.loop-byte.count < length numbers = omega (arith, c.loop-byte.invariant.0) in
     let none = drop_all c.loop-byte.byte-index c.as_bytes-byte-items.result.now c.loop-byte-test.false in
     let last = at_end text (take c.loop-byte.count numbers) c.loop-byte.number c.loop-byte.is_open (subst (Goes text _ _ _) none c.loop-byte.invariant.3) c.if-is_open-2.false c.loop-byte.invariant.2 in
-    of_short text _ _ (take_more_set numbers c.loop-byte.count c.loop-byte.number room) last c.of_short.result c.of_short.ensures
+    of_short text _ _ (take_more_set numbers c.loop-byte.count c.loop-byte.number room) last c.of_short.result c.of_short.ensures.some
