@@ -161,6 +161,7 @@ pub(crate) fn pattern(alloc: Global, text: &str) -> Result<(Version, bool), Patt
 
 impl Version {
     // What the reading from the left gives: a version is a pattern without a star.
+    #[inline(always)]
     fn read(alloc: Global, text: &str) -> Result<Version, VersionParseError>
         ensures reads { Answers error_refusal result (read_version text.now) }
         ensures memory { (r : Record) → read_version text.now ≡ Ok r → is_packed r ≡ true → IsOk result }
