@@ -3,8 +3,10 @@ use super::again;
 use super::again::{TRIES, refused_each_time};
 use super::calls::Refused;
 use pep440_version::{
-    Change, LocalSegment, PatternErrorKind, VersionPattern, VersionPatternParseError,
+    Change, LocalSegment, PatternErrorKind, VersionParseError, VersionPattern,
+    VersionPatternParseError,
 };
+use std::alloc::AllocError;
 use std::test::Fail;
 
 #[test]
@@ -153,62 +155,39 @@ const ROWS: [(&str, Refused<'static>); 6] = [
     ("", Refused::NoNumber),
 ];
 
+// Whether the value is copied, asked again where memory was refused, and both say what the other value does.
+fn copies<T: Clone + PartialEq + Drop>(value: &T, same: &T) -> Result<bool, AllocError> {
+    let copy = match value.clone() {
+        Ok(copy) => copy,
+        Err(_) => value.clone()?,
+    };
+    Ok(copy == *same && *value == *same)
+}
+
+// Whether the error is copied, and its kind.
+fn error_copies(error: &VersionParseError, same: &VersionParseError) -> Result<bool, AllocError> {
+    Ok(copies(error, same)? && copies(error.kind(), same.kind())?)
+}
+
+// The same of a pattern's error.
+fn pattern_error_copies(
+    error: VersionParseError,
+    same: VersionParseError,
+) -> Result<bool, AllocError> {
+    let outer = VersionPatternParseError::from(error);
+    let other = VersionPatternParseError::from(same);
+    Ok(copies(&outer, &other)? && copies(outer.kind(), other.kind())?)
+}
+
 #[test]
-fn sweep_clone_kind(rt: HostRuntime) -> Result<(), Fail> {
+fn sweep_clone_errors(rt: HostRuntime) -> Result<(), Fail> {
     for (text, want) in ROWS {
         let error = again::refusal(rt, text)?;
-        let copy = match error.kind().clone() {
-            Ok(copy) => copy,
-            Err(_) => error.kind().clone()?,
-        };
-        assert!(rt; again::says(error.kind(), want));
-        assert!(rt; again::says(&copy, want), "of {text:?}");
-    }
-    Ok(())
-}
-
-#[test]
-fn sweep_clone_error(rt: HostRuntime) -> Result<(), Fail> {
-    for (text, want) in ROWS {
-        let error = again::refusal(rt, text)?;
-        let copy = match error.clone() {
-            Ok(copy) => copy,
-            Err(_) => error.clone()?,
-        };
-        assert!(rt; again::says(error.kind(), want));
-        assert!(rt; again::says(copy.kind(), want), "of {text:?}");
-    }
-    Ok(())
-}
-
-#[test]
-fn sweep_clone_pattern_kind(rt: HostRuntime) -> Result<(), Fail> {
-    let kind = PatternErrorKind::Version(again::refusal(rt, "1.0prev")?);
-    let copy = match kind.clone() {
-        Ok(copy) => copy,
-        Err(_) => kind.clone()?,
-    };
-    for held in [&kind, &copy] {
-        let PatternErrorKind::Version(error) = held else {
-            return Err(Fail::new("another kind"));
-        };
-        assert!(rt; again::says(error.kind(), Refused::End("1.0pre", "v")));
-    }
-    Ok(())
-}
-
-#[test]
-fn sweep_clone_pattern_error(rt: HostRuntime) -> Result<(), Fail> {
-    let error = VersionPatternParseError::from(again::refusal(rt, "1.0prev")?);
-    let copy = match error.clone() {
-        Ok(copy) => copy,
-        Err(_) => error.clone()?,
-    };
-    for held in [&error, &copy] {
-        let PatternErrorKind::Version(inner) = held.kind() else {
-            return Err(Fail::new("another kind"));
-        };
-        assert!(rt; again::says(inner.kind(), Refused::End("1.0pre", "v")));
+        let same = again::refusal(rt, text)?;
+        let holds = again::says(error.kind(), want)
+            && error_copies(&error, &same)?
+            && pattern_error_copies(error, same)?;
+        assert!(rt; holds, "{text}");
     }
     Ok(())
 }

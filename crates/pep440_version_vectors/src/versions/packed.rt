@@ -5,11 +5,10 @@ use super::again;
 use super::again::{TRIES, refused_each_time};
 use super::calls::version;
 use super::kept::Call::Number;
-use super::kept::Kept;
+use super::kept::{Call, Kept};
 use pep440_version::{Version, laws};
 use std::alloc::{AllocError, Global};
 use std::hash::Hash;
-use std::process::Abort;
 use std::test::Fail;
 
 fn word(version: &Version) -> Option<u64> {
@@ -30,105 +29,148 @@ fn marked(
         .with_max(alloc, max)
 }
 
+// A text, and the word of its version; none where it is held in full.
+const TEXTS: [(&str, Option<u64>); 19] = [
+    ("0", Some(0x0000_0000_00a0_0000)),
+    ("1.2.3", Some(0x0001_0203_00a0_0000)),
+    ("2023.3", Some(0x07e7_0300_00a0_0000)),
+    ("255.255.255.255", Some(0x00ff_ffff_ffa0_0000)),
+    ("1.0.dev0", Some(0x0001_0000_0020_0000)),
+    ("1.0.dev2097151", Some(0x0001_0000_003f_ffff)),
+    ("1.0a1", Some(0x0001_0000_0040_0001)),
+    ("1.0b2", Some(0x0001_0000_0060_0002)),
+    ("1.0rc3", Some(0x0001_0000_0080_0003)),
+    ("1.0rc2097151", Some(0x0001_0000_009f_ffff)),
+    ("1.0.post2097151", Some(0x0001_0000_00df_ffff)),
+    ("65535.255.255.255.post2097151", Some(0xffff_ffff_ffdf_ffff)),
+    ("65536", None),
+    ("1.256", None),
+    ("1.2.3.4.5", None),
+    ("1!1.0", None),
+    ("1.0+x", None),
+    ("1.0a1.dev0", None),
+    ("1.0.post2097152", None),
+];
+
+// Whether this is the word of the version and of its copy.
+fn has_word(version: &Version, want: Option<u64>) -> Result<bool, AllocError> {
+    Ok(word(version) == want && word(&version.clone()?) == want)
+}
+
 #[test]
 fn words_of_texts(rt: HostRuntime) -> Result<(), Fail> {
-    let rows = [
-        ("0", 0x0000_0000_00a0_0000),
-        ("1.2.3", 0x0001_0203_00a0_0000),
-        ("2023.3", 0x07e7_0300_00a0_0000),
-        ("255.255.255.255", 0x00ff_ffff_ffa0_0000),
-        ("1.0.dev0", 0x0001_0000_0020_0000),
-        ("1.0.dev2097151", 0x0001_0000_003f_ffff),
-        ("1.0a1", 0x0001_0000_0040_0001),
-        ("1.0b2", 0x0001_0000_0060_0002),
-        ("1.0rc3", 0x0001_0000_0080_0003),
-        ("1.0rc2097151", 0x0001_0000_009f_ffff),
-        ("1.0.post2097151", 0x0001_0000_00df_ffff),
-        ("65535.255.255.255.post2097151", 0xffff_ffff_ffdf_ffff),
-    ];
-    for (text, want) in rows {
-        let read = version(rt, text)?;
-        assert_eq!(rt; word(&read), Some(want), "of {text}");
-        assert_eq!(rt; word(&read.clone()?), Some(want), "of a copy of {text}");
+    for (text, want) in TEXTS {
+        assert!(rt; has_word(&version(rt, text)?, want)?, "{text}");
     }
     Ok(())
 }
+
+// Both marks of `1.0`, and the word.
+const MARKS: [(Option<u64>, Option<u64>, Option<u64>); 5] = [
+    (Some(0), None, Some(0x0001_0000_0000_0000)),
+    (Some(2097151), None, Some(0x0001_0000_001f_ffff)),
+    (None, Some(0), Some(0x0001_0000_00e0_0000)),
+    (None, Some(2097151), Some(0x0001_0000_00ff_ffff)),
+    (Some(0), Some(0), None),
+];
 
 #[test]
 fn words_of_marks(rt: HostRuntime) -> Result<(), Fail> {
-    let alloc = rt.alloc();
-    let release = [1, 0];
-    let min = marked(alloc, &release, Some(0), None)?;
-    assert_eq!(rt; word(&min), Some(0x0001_0000_0000_0000));
-    let min = marked(alloc, &release, Some(2097151), None)?;
-    assert_eq!(rt; word(&min), Some(0x0001_0000_001f_ffff));
-    let min = marked(alloc, &[1, 0, 0, 1], Some(0), None)?;
-    assert_eq!(rt; word(&min), Some(0x0001_0000_0100_0000));
-    let max = marked(alloc, &release, None, Some(0))?;
-    assert_eq!(rt; word(&max), Some(0x0001_0000_00e0_0000));
-    let max = marked(alloc, &release, None, Some(2097151))?;
-    assert_eq!(rt; word(&max), Some(0x0001_0000_00ff_ffff));
-    let both = marked(alloc, &release, Some(0), Some(0))?;
-    assert_eq!(rt; word(&both), None);
+    for (min, max, want) in MARKS {
+        let holds = has_word(&marked(rt.alloc(), &[1, 0], min, max)?, want)?;
+        assert!(rt; holds, "word {}", want.unwrap_or(0));
+    }
+    let four = marked(rt.alloc(), &[1, 0, 0, 1], Some(0), None)?;
+    assert!(rt; word(&four) == Some(0x0001_0000_0100_0000), "four numbers");
     Ok(())
 }
 
-#[test]
-fn no_word(rt: HostRuntime) -> Result<(), Fail> {
-    let texts = [
-        "65536",
-        "1.256",
-        "1.2.3.4.5",
-        "1!1.0",
-        "1.0+x",
-        "1.0a1.dev0",
-        "1.0.post2097152",
-    ];
-    for text in texts {
-        assert_eq!(rt; word(&version(rt, text)?), None, "of {text}");
-    }
-    Ok(())
+// A text below another, of versions in words and in full.
+const LESS: [(&str, &str); 8] = [
+    ("1.0.post2097151", "1.0.post2097152"),
+    ("1.0.dev2097151", "1.0.dev2097152"),
+    ("1.0.dev2097152", "1.0a0"),
+    ("1.0.dev2097151", "1.0a0"),
+    ("1.255", "1.256"),
+    ("1.256", "2"),
+    ("1.255", "2"),
+    ("1.2.3.4", "1.2.3.4.0.1"),
+];
+
+fn is_less(rt: HostRuntime, one: &str, other: &str) -> Result<bool, Fail> {
+    Ok(version(rt, one)? < version(rt, other)?)
 }
 
 #[test]
 fn orders_across_the_forms(rt: HostRuntime) -> Result<(), Fail> {
-    let alloc = rt.alloc();
-    let post = version(rt, "1.0.post2097151")?;
-    let next = version(rt, "1.0.post2097152")?;
-    let max = marked(alloc, &[1, 0], None, Some(0))?;
-    assert!(rt; post < next && next < max && post < max);
-    let dev = version(rt, "1.0.dev2097151")?;
-    let next = version(rt, "1.0.dev2097152")?;
-    let alpha = version(rt, "1.0a0")?;
-    assert!(rt; dev < next && next < alpha && dev < alpha);
-    let min = marked(alloc, &[1, 0], Some(2097152), None)?;
-    assert!(rt; min < version(rt, "1.0.dev0")?);
-    let second = version(rt, "1.255")?;
-    let next = version(rt, "1.256")?;
-    let two = version(rt, "2")?;
-    assert!(rt; second < next && next < two && second < two);
-    let four = version(rt, "1.2.3.4")?;
-    assert!(rt; four == version(rt, "1.2.3.4.0")?);
-    assert!(rt; four < version(rt, "1.2.3.4.0.1")?);
+    for (one, other) in LESS {
+        assert!(rt; is_less(rt, one, other)?, "{one} and {other}");
+    }
     Ok(())
 }
 
-// Asserts that the two are equal, print alike and feed a hasher alike, and are held in the same word.
-fn assert_same(
-    rt: &impl Abort,
-    alloc: Global,
-    one: &Version,
-    other: &Version,
-) -> Result<(), AllocError> {
-    assert!(rt; one == other);
-    assert_eq!(rt; word(one), word(other));
-    let print = one.to_string(alloc)?;
-    assert_eq!(rt; print.as_str(), other.to_string(alloc)?.as_str());
+// Whether the text's version lies between `1.0` with these marks.
+fn is_within_marks(rt: HostRuntime, text: &str) -> Result<bool, Fail> {
+    let min = marked(rt.alloc(), &[1, 0], Some(2097152), None)?;
+    let max = marked(rt.alloc(), &[1, 0], None, Some(0))?;
+    let inner = version(rt, text)?;
+    Ok(min < inner && inner < max)
+}
+
+#[test]
+fn marks_across_the_forms(rt: HostRuntime) -> Result<(), Fail> {
+    for text in ["1.0.dev0", "1.0.post2097151", "1.0.post2097152"] {
+        assert!(rt; is_within_marks(rt, text)?, "{text}");
+    }
+    Ok(())
+}
+
+// Whether both feed a hasher alike.
+fn hash_alike(one: &Version, other: &Version) -> bool {
     let mut left = Kept::new();
     let mut right = Kept::new();
     one.hash(&mut left);
     other.hash(&mut right);
-    assert_eq!(rt; left.calls(), right.calls());
+    left.calls() == right.calls()
+}
+
+// Whether the version is equal to the text's, prints as it and feeds a hasher alike, and is held in the same word.
+fn is_same(rt: HostRuntime, one: &Version, text: &str) -> Result<bool, Fail> {
+    let other = version(rt, text)?;
+    let is_equal = *one == other && word(one) == word(&other) && hash_alike(one, &other);
+    Ok(is_equal && one.to_string(rt.alloc())?.as_str() == text)
+}
+
+#[test]
+fn equal_across_the_forms(rt: HostRuntime) -> Result<(), Fail> {
+    assert!(rt;
+        version(rt, "1.2.3.4")? == version(rt, "1.2.3.4.0")?,
+        "a fifth number"
+    );
+    Ok(())
+}
+
+// Epoch 0, one release number, stage final, post 5, no dev, no local.
+const POST_5: [Call; 8] = [
+    Number(0),
+    Number(1),
+    Number(1),
+    Number(5),
+    Number(1),
+    Number(5),
+    Number(1),
+    Number(0),
+];
+
+#[test]
+fn post_set_back(rt: HostRuntime) -> Result<(), Fail> {
+    let back = version(rt, "1.0")?
+        .with_post(rt.alloc(), Some(2097152))?
+        .with_post(rt.alloc(), Some(5))?;
+    assert!(rt; is_same(rt, &back, "1.0.post5")?, "the version");
+    let mut kept = Kept::new();
+    back.hash(&mut kept);
+    assert!(rt; kept.calls() == POST_5.as_slice(), "what it feeds");
     Ok(())
 }
 
@@ -136,31 +178,13 @@ fn assert_same(
 fn set_and_set_back(rt: HostRuntime) -> Result<(), Fail> {
     let alloc = rt.alloc();
     let back = version(rt, "1.0")?
-        .with_post(alloc, Some(2097152))?
-        .with_post(alloc, Some(5))?;
-    assert_same(&rt, alloc, &back, &version(rt, "1.0.post5")?)?;
-    let want = [
-        // Epoch 0, one release number, stage final, post 5, no dev, no local.
-        Number(0),
-        Number(1),
-        Number(1),
-        Number(5),
-        Number(1),
-        Number(5),
-        Number(1),
-        Number(0),
-    ];
-    let mut kept = Kept::new();
-    back.hash(&mut kept);
-    assert_eq!(rt; kept.calls(), want.as_slice());
-    let back = version(rt, "1.0")?
         .with_epoch(alloc, 3)?
         .with_epoch(alloc, 0)?;
-    assert_same(&rt, alloc, &back, &version(rt, "1.0")?)?;
+    assert!(rt; is_same(rt, &back, "1.0")?, "an epoch");
     let back = version(rt, "1.0+x")?.without_local(alloc)?;
-    assert_same(&rt, alloc, &back, &version(rt, "1.0")?)?;
+    assert!(rt; is_same(rt, &back, "1.0")?, "a local part");
     let back = version(rt, "1.2.3.4.5")?.with_release(alloc, &[1, 2])?;
-    assert_same(&rt, alloc, &back, &version(rt, "1.2")?)?;
+    assert!(rt; is_same(rt, &back, "1.2")?, "a release");
     Ok(())
 }
 
@@ -169,15 +193,15 @@ fn set_and_set_back(rt: HostRuntime) -> Result<(), Fail> {
 fn sweep_packed_versions_take_none(rt: HostRuntime) -> Result<(), Fail> {
     let alloc = rt.alloc();
     let made = Version::new(alloc, &[1, 2, 3])?;
-    assert_eq!(rt; word(&made), Some(0x0001_0203_00a0_0000));
+    assert!(rt; word(&made) == Some(0x0001_0203_00a0_0000), "made");
     let copy = made.clone()?;
-    assert_eq!(rt; word(&copy), Some(0x0001_0203_00a0_0000));
+    assert!(rt; word(&copy) == Some(0x0001_0203_00a0_0000), "copy");
     let post = copy.with_post(alloc, Some(5))?;
-    assert_eq!(rt; word(&post), Some(0x0001_0203_00c0_0005));
+    assert!(rt; word(&post) == Some(0x0001_0203_00c0_0005), "post");
     let release = post.with_release(alloc, &[4, 5])?;
-    assert_eq!(rt; word(&release), Some(0x0004_0500_00c0_0005));
+    assert!(rt; word(&release) == Some(0x0004_0500_00c0_0005), "release");
     let alone = release.only_release(alloc)?;
-    assert_eq!(rt; word(&alone), Some(0x0004_0500_00a0_0000));
+    assert!(rt; word(&alone) == Some(0x0004_0500_00a0_0000), "alone");
     Ok(())
 }
 
@@ -189,7 +213,7 @@ fn sweep_back_to_a_word(rt: HostRuntime) -> Result<(), Fail> {
             continue;
         };
         let back = full.with_epoch(rt.alloc(), 0)?;
-        assert_eq!(rt; word(&back), Some(0x0001_0000_00a0_0000));
+        assert!(rt; word(&back) == Some(0x0001_0000_00a0_0000), "back");
         return Ok(());
     }
     Err(refused_each_time())

@@ -87,14 +87,18 @@ const FRONTS: [(&str, &str, &str); 18] = [
     ("1.1.1.1.", "1.1.1.1", "."),
 ];
 
+// Whether the text is refused after the front, and tells so.
+fn ends_after(rt: HostRuntime, text: &str, front: &str, rest: &str) -> Result<bool, Fail> {
+    let told = format!(in rt.alloc();
+        "after parsing `{front}`, found `{rest}`, which is not part of a valid version"
+    )?;
+    is_refused(rt, text, Refused::End(front, rest), told.as_str())
+}
+
 #[test]
 fn longest_fronts(rt: HostRuntime) -> Result<(), Fail> {
     for (text, front, rest) in FRONTS {
-        let told = format!(in rt.alloc();
-            "after parsing `{front}`, found `{rest}`, which is not part of a valid version"
-        )?;
-        let holds = is_refused(rt, text, Refused::End(front, rest), told.as_str())?;
-        assert!(rt; holds, "{text}");
+        assert!(rt; ends_after(rt, text, front, rest)?, "{text}");
     }
     Ok(())
 }
