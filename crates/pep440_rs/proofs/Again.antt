@@ -13,7 +13,8 @@ use Rattle.pep440_version.specs.Record.{Record}
 use Rattle.pep440_version.proofs.Reread.PrintIsRead.{derived_again, derived_record, derived_rereads}
 use Rattle.pep440_version.proofs.Refusals.ZeroForDigits.{starts_not}
 use Rattle.pep440_version.proofs.Reading.Fronts.{both_first}
-use Rattle.pep440_rs.specs.Build.{BuildRefusal, CompatibleRelease, OperatorLocalCombo, built, built_pattern, has_local, is_compatible}
+use Rattle.pep440_rs.specs.Build.{BuildRefusal, CompatibleRelease, OperatorLocalCombo, built, built_pattern, is_compatible}
+use Rattle.pep440_rs.specs.Matching.{has_local}
 use Rattle.pep440_rs.specs.Operators.{allows_local, is_star, operator_text}
 use Rattle.pep440_rs.specs.SpecifierGrammar.{Cut, DerivesSpecifier, is_operator_char}
 use Rattle.pep440_rs.specs.Specifiers.{Spec, spec_print}

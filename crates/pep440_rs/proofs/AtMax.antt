@@ -1,11 +1,12 @@
 -- What is answered exactly where the greatest number there is has to be raised.
-use Rattle.std.proofs.Common.{◌≡◌, ◌∙◌, ℕ, List, ◌∷◌, Bool, true, false, Option, Some, None, Result, Ok, Err, refl, sym, ap, subst, arith, ◌||◌}
+use Rattle.std.proofs.Common.{◌≡◌, ◌∙◌, ℕ, List, ◌∷◌, Bool, true, false, Option, Some, None, Result, Ok, Err, nat_eq, refl, sym, ap, subst, arith, ◌||◌}
 use Rattle.std.proofs.lemmas.Bool.Decides.{nat_tests}
 use Rattle.std.specs.List.{list_any}
 use Rattle.std.specs.Prelude.{IfOk, IsErrOf}
+use Rattle.std.specs.Option.{option_eq}
 use Rattle.std.specs.Result.{IsErrAnd}
 use Rattle.pep440_rs.specs.Bounds.{Segments, range_of, release_range_of}
-use Rattle.pep440_rs.specs.Refused.{HasNumbers, RefusedAtMax, TellsMax, is_at_max, raised_number, raised_release_number, raises_max, release_raises_max}
+use Rattle.pep440_rs.specs.Refused.{HasNumbers, RefusedAtMax, TellsMax, raised_number, raised_release_number, raises_max}
 use Rattle.pep440_rs.specs.Specifiers.{Spec, IsSpec}
 use Rattle.pep440_rs.specs.declared.operator.Operator.{Operator}
 use Rattle.pep440_rs.specs.declared.operator.Operator.TheVariants.{Equal, EqualStar, ExactEqual, NotEqual, NotEqualStar, TildeEqual, LessThan, LessThanEqual, GreaterThan, GreaterThanEqual}
@@ -30,6 +31,9 @@ has_numbers GreaterThanEqual s two some = let h = some.some in omega (arith, h)
 some_none : {A : Type 0} (x : A) → Some x ≡ None → ⊥
 some_none x h = cc
 
+abbrev is_at_max : Option ℕ → Bool
+is_at_max o = option_eq nat_eq o (Some 18446744073709551615)
+
 at_max : (o : Option ℕ) → o ≡ Some 18446744073709551615 → is_at_max o ≡ true
 at_max o h = ap is_at_max h
 
@@ -46,14 +50,14 @@ module _ (conversion : Operator → Record → Option Segments) (number : Operat
 
 -- as a call has it: v is the version that was looked at, p the parts that were converted
 pub tells_max : (s : Spec) → IsSpec s → (v : Record) → v ≡ s.version → IsRecord v → (p : Operator × Record) → p ≡ (s.operator, s.version) → (result : Result Segments RangeError)
-    → IfOk result (λ r. range_of p.0 p.1 ≡ Some r) → (IsErrOf result NumberAtMax → range_of p.0 p.1 ≡ None) → TellsMax (raises_max s) result
+    → IfOk result (λ r. range_of p.0 p.1 ≡ Some r) → (IsErrOf result NumberAtMax → range_of p.0 p.1 ≡ None) → TellsMax (raises_max raised_number s) result
 tells_max s two v same some p parts result is none =
     let valid : IsRecord s.version = subst IsRecord same some in
     subst (λ (q : Operator × Record). TellsMax (is_at_max (raised_number q.0 q.1)) result) parts
     (tells range_of raised_number refused_at_max p.0 p.1 (subst (λ (q : Operator × Record). HasNumbers q.0 q.1) (sym parts) (has_numbers s.operator s.version two valid)) result is none)
 
 pub tells_release_max : (s : Spec) → IsSpec s → (v : Record) → v ≡ s.version → IsRecord v → (p : Operator × Record) → p ≡ (s.operator, s.version) → (result : Result Segments RangeError)
-    → IfOk result (λ r. release_range_of p.0 p.1 ≡ Some r) → (IsErrOf result NumberAtMax → release_range_of p.0 p.1 ≡ None) → TellsMax (release_raises_max s) result
+    → IfOk result (λ r. release_range_of p.0 p.1 ≡ Some r) → (IsErrOf result NumberAtMax → release_range_of p.0 p.1 ≡ None) → TellsMax (raises_max raised_release_number s) result
 tells_release_max s two v same some p parts result is none =
     let valid : IsRecord s.version = subst IsRecord same some in
     subst (λ (q : Operator × Record). TellsMax (is_at_max (raised_release_number q.0 q.1)) result) parts

@@ -3,10 +3,10 @@ use Rattle.std.proofs.Common.{◌≡◌, ℕ, ◌≤◌, Bool, true, false, cond
 use Rattle.std.proofs.lemmas.Cmp.{tied_itself}
 use Rattle.std.specs.Ordering.{is_le}
 use Rattle.std.specs.declared.ops.Bound.{Bound}
-use Rattle.std.specs.declared.ops.Bound.TheVariants.{Included, Excluded}
+use Rattle.std.specs.declared.ops.Bound.TheVariants.{Included, Excluded, Unbounded}
 use Rattle.pep440_rs.proofs.Prefix.{mapped, some_is}
 use Rattle.pep440_rs.specs.Agreement.{GivesRanges, GivesFew, is_exclusion}
-use Rattle.pep440_rs.specs.Bounds.{Segments, range_of, release_range_of, release_up_to, alone, below, less, greater, compatible_end, star, star_end, next_number, raised, from_to}
+use Rattle.pep440_rs.specs.Bounds.{Segments, range_of, release_range_of, release_up_to, alone, less, greater, compatible_end, star, star_end, next_number, raised, from_to}
 use Rattle.pep440_rs.specs.Matching.{any_prerelease, without_last}
 use Rattle.pep440_rs.specs.declared.operator.Operator.{Operator}
 use Rattle.pep440_rs.specs.declared.operator.Operator.TheVariants.{Equal, EqualStar, ExactEqual, NotEqual, NotEqualStar, TildeEqual, LessThan, LessThanEqual, GreaterThan, GreaterThanEqual}
@@ -42,7 +42,7 @@ others range k = record { apart = gaps_are_range record_total range k.apart; few
 less_one : (s : Record) → IsRangeOf 1 (less s)
 less_one s = go (any_prerelease s)
   where
-    go : (b : Bool) → IsRangeOf 1 (cond b (below s) (below (record s { min = Some 0 })))
+    go : (b : Bool) → IsRangeOf 1 (cond b ((Unbounded, Excluded s) ∷ []) ((Unbounded, Excluded (record s { min = Some 0 })) ∷ []))
     go true = record { apart = (refl, tt); few = omega arith }
     go false = record { apart = (refl, tt); few = omega arith }
 

@@ -1,16 +1,17 @@
 -- `>`: its range agrees with matching, and whatever the suffixes it holds all that matches.
-use Rattle.std.proofs.Common.{◌≡◌, ℕ, Bool, true, false, not, ◌&&◌, ◌||◌, IsTrue, List, [], Option, Some, None, is_some, refl, sym, ap, ◌∙◌}
+use Rattle.std.proofs.Common.{◌≡◌, ℕ, Bool, true, false, not, ◌&&◌, ◌||◌, IsTrue, List, [], ◌∷◌, Option, Some, None, is_some, refl, sym, ap, ◌∙◌}
 use mathlib.Core.Bool.{true≢false}
 use Rattle.std.specs.Ordering.{ordering_then, is_lt, is_le, is_gt, is_eq}
 use Rattle.std.specs.declared.cmp.Ordering.{Ordering}
 use Rattle.std.specs.declared.cmp.Ordering.TheVariants as ord
+use Rattle.std.specs.declared.ops.Bound.TheVariants.{Included, Excluded, Unbounded}
 use Rattle.pep440_rs.proofs.Less.{in_equal}
 use Rattle.pep440_rs.proofs.VersionOrder.{by_parts, same_base, plain, turn_le, turn_lt, only_start, both}
 use Rattle.pep440_rs.proofs.Prefix.{mapped, some_is, next_is}
 use Rattle.pep440_rs.proofs.Suffixes.{above_dev, above_post, above_max}
-use Rattle.pep440_rs.specs.Agreement.{IsSuffixComparable, is_post_or_final}
-use Rattle.pep440_rs.specs.Bounds.{Segments, greater, next_number, from, above}
-use Rattle.pep440_rs.specs.Matching.{matches}
+use Rattle.pep440_rs.specs.Agreement.{IsSuffixComparable}
+use Rattle.pep440_rs.specs.Bounds.{Segments, greater, next_number}
+use Rattle.pep440_rs.specs.Matching.{any_prerelease, matches}
 use Rattle.pep440_rs.specs.declared.operator.Operator.TheVariants.{GreaterThan}
 use Rattle.pep440_ranges.specs.Segments.{contains}
 use Rattle.pep440_version.specs.Key.{base_cmp, suffix_cmp, record_cmp}
@@ -22,6 +23,9 @@ abbrev pub parts : ℕ → List ℕ → Option Prerelease → Option ℕ → Opt
 parts epoch release pre post dev = of_parts epoch release pre post dev []
 
 -- ---- tables over the base B, the order X to the bound and the order Y to s
+
+abbrev from : Record → Segments
+from s = (Included s, Unbounded) ∷ []
 
 -- from the bound on is above s
 from_table : (B X Y : Ordering) (q : Bool) → (B ≡ ord.Equal → q ≡ false) → (B ≡ ord.Equal → not (is_lt (ordering_then X ord.Equal)) ≡ is_gt (ordering_then Y ord.Equal)) →
@@ -69,7 +73,7 @@ from_parts : (a v : Record) → contains record_cmp (from (plain a)) (plain v) �
 from_parts a v = only_start (is_le (record_cmp (plain a) (plain v))) ∙ turn_le (plain a) (plain v) ∙ ap (λ o. not (is_lt o)) (by_parts (plain v) (plain a))
 
 above_parts : (a v : Record) →
-    contains record_cmp (above (record (plain a) { max = Some 0 })) (plain v)
+    contains record_cmp ((Excluded (record (plain a) { max = Some 0 }), Unbounded) ∷ []) (plain v)
     ≡ is_gt (ordering_then (base_cmp (plain v) (plain a)) (ordering_then (suffix_cmp (plain v) (record (plain a) { max = Some 0 })) ord.Equal))
 above_parts a v =
     only_start (is_lt (record_cmp (record (plain a) { max = Some 0 }) (plain v))) ∙ turn_lt (record (plain a) { max = Some 0 }) (plain v)
@@ -104,7 +108,7 @@ from_post e r pre p n v h =
 
 above_top : (e : ℕ) (r : List ℕ) (pre : Option Prerelease) (v : Record) →
     (base_cmp (plain v) (parts e r pre None None) ≡ ord.Equal → not (is_some v.post) || not (is_some pre) ≡ true) →
-    contains record_cmp (above (record (parts e r pre None None) { max = Some 0 })) (plain v) ≡ matches GreaterThan (parts e r pre None None) (plain v)
+    contains record_cmp ((Excluded (record (parts e r pre None None) { max = Some 0 }), Unbounded) ∷ []) (plain v) ≡ matches GreaterThan (parts e r pre None None) (plain v)
 above_top e r pre v q =
     above_parts (parts e r pre None None) v
     ∙ past_table (base_cmp (plain v) (parts e r pre None None)) (suffix_cmp (plain v) (record (parts e r pre None None) { max = Some 0 })) (suffix_cmp (plain v) (parts e r pre None None)) _
@@ -124,8 +128,8 @@ above_top e r pre v q =
 -- ---- all three
 
 -- the test of the suffixes over the base
-comparable : (s v : Record) → IsSuffixComparable GreaterThan (plain s) (plain v) → base_cmp (plain v) (plain s) ≡ ord.Equal → not (is_some v.post) || is_post_or_final (plain s) ≡ true
-comparable s v c b = in_equal _ _ _ (ap (λ b. not b || not (is_some v.post) || is_post_or_final (plain s)) (sym (same_base (plain s) (plain v))) ∙ c) b
+comparable : (s v : Record) → IsSuffixComparable GreaterThan (plain s) (plain v) → base_cmp (plain v) (plain s) ≡ ord.Equal → not (is_some v.post) || (is_some s.post || not (any_prerelease s)) ≡ true
+comparable s v c b = in_equal _ _ _ (ap (λ b. not b || not (is_some v.post) || (is_some s.post || not (any_prerelease s))) (sym (same_base (plain s) (plain v))) ∙ c) b
 
 -- a version with dev that is no post-release: v is no post-release
 no_post : (v a : Bool) → not v || (false || not (a || true)) ≡ true → v ≡ false
@@ -178,6 +182,6 @@ greater_around e r pre None None v range h = rw (some_is _ range h) (λ k. go (i
     go : (b : Bool) → is_some v.post ≡ b →
         is_gt (ordering_then (base_cmp (plain v) (parts e r pre None None)) (ordering_then (suffix_cmp (plain v) (parts e r pre None None)) ord.Equal))
         && not (is_eq (base_cmp (plain v) (parts e r pre None None)) && ((is_some v.post && true) || false)) ≡ true →
-        contains record_cmp (above (record (parts e r pre None None) { max = Some 0 })) (plain v) ≡ matches GreaterThan (parts e r pre None None) (plain v)
+        contains record_cmp ((Excluded (record (parts e r pre None None) { max = Some 0 }), Unbounded) ∷ []) (plain v) ≡ matches GreaterThan (parts e r pre None None) (plain v)
     go true e' k = above_top e r pre v (λ b. absurd (clash _ _ (rw e' at k) b))
     go false e' k = above_top e r pre v (λ b. rw e' refl)

@@ -1,5 +1,5 @@
 -- The print of a list that some text means, means that list; so does its form with commas alone.
-use Rattle.std.proofs.Common.{◌≡◌, ◌≢◌, ◌==◌, ◌<◌, ◌∙◌, ℕ, zero, suc, List, [], ◌∷◌, ◌++◌, Bool, true, false, not, Result, Ok, Err, length, map, refl, sym, ap, subst, arith, inl, inr, codes}
+use Rattle.std.proofs.Common.{◌≡◌, ◌≢◌, ◌==◌, ◌<◌, ◌∙◌, ℕ, zero, suc, List, [], ◌∷◌, ◌++◌, Bool, true, false, not, Result, Ok, length, map, refl, sym, ap, subst, arith, inl, inr, codes, if◌then◌else◌}
 use Rattle.std.proofs.lemmas.Bool.Decides.{nat_tests}
 use Rattle.std.proofs.lemmas.List.{length-append}
 use Rattle.std.proofs.lemmas.List.Sorted.{All-permutation}
@@ -13,36 +13,47 @@ use Rattle.pep440_version.specs.Record.{Record}
 use Rattle.pep440_version.proofs.Reread.PrintIsRead.{derived_record, derived_rereads}
 use Rattle.pep440_version.proofs.Reading.Fronts.{both_first, both_second}
 use Rattle.pep440_rs.specs.Arrangement.{Arranges}
-use Rattle.pep440_rs.specs.Build.{BuildRefusal, built_pattern, built_starred, starred}
+use Rattle.pep440_rs.specs.Build.{built_pattern}
 use Rattle.pep440_rs.specs.ListAnswers.{ListAnswers, ListReads}
-use Rattle.pep440_rs.specs.ListGrammar.{DerivesEach, DerivesList, pieces}
+use Rattle.pep440_rs.specs.ListGrammar.{DerivesList, pieces}
 use Rattle.pep440_rs.specs.ListReading.{read_members}
 use Rattle.pep440_rs.specs.Lists.{joined}
-use Rattle.pep440_rs.specs.Operators.{operator_text}
+use Rattle.pep440_rs.specs.Operators.{is_star, operator_text}
 use Rattle.pep440_rs.specs.SpecifierGrammar.{Cut, DerivesSpecifier, is_operator_char}
-use Rattle.pep440_rs.specs.Specifiers.{Spec, spec_print, star_text}
+use Rattle.pep440_rs.specs.Specifiers.{Spec, spec_print}
 use Rattle.pep440_rs.specs.declared.list_error.VersionSpecifiersParseError.{VersionSpecifiersParseError}
 use Rattle.pep440_rs.specs.declared.operator.Operator.{Operator}
 use Rattle.pep440_rs.specs.declared.operator.Operator.TheVariants.{Equal, EqualStar, ExactEqual, NotEqual, NotEqualStar, TildeEqual, LessThan, LessThanEqual, GreaterThan, GreaterThanEqual}
 use Rattle.pep440_rs.proofs.Again.{built_is, operator_chars, printed_again, unstar}
 use Rattle.pep440_rs.proofs.Arranged.{arranged_again}
-use Rattle.pep440_rs.proofs.ListTells.{is_list_only}
+use Rattle.pep440_rs.proofs.ListTells.{DerivesEach, is_list_only}
 use Rattle.pep440_rs.proofs.Pieces.{HasNoComma, pieces_cut, pieces_whole}
 use Rattle.pep440_rs.proofs.Plain.{all_joined, all_weaker, is_shown}
 use Rattle.pep440_rs.proofs.Shown.{operator_shown, print_shown}
 
 -- ---- the print of a member has no comma
 
-version_is : (x : Result Operator BuildRefusal) (r : Record) (s : Spec) → built_starred x r ≡ Ok s → r ≡ s.version
-version_is (Ok o) r s e = ap (λ (q : Spec). q.version) (built_is o r s e)
-version_is (Err b) r s e = cc e
+version_is : (o : Operator) (r : Record) (s : Spec) → built_pattern o r true ≡ Ok s → r ≡ s.version
+version_is Equal r s e = ap (λ (q : Spec). q.version) (built_is EqualStar r s e)
+version_is NotEqual r s e = ap (λ (q : Spec). q.version) (built_is NotEqualStar r s e)
+version_is EqualStar r s e = cc e
+version_is ExactEqual r s e = cc e
+version_is NotEqualStar r s e = cc e
+version_is TildeEqual r s e = cc e
+version_is LessThan r s e = cc e
+version_is LessThanEqual r s e = cc e
+version_is GreaterThan r s e = cc e
+version_is GreaterThanEqual r s e = cc e
 
 record_shown : (o : Operator) (r : Record) (star : Bool) (s : Spec) (u : List ℕ) → DerivesPattern u r star → built_pattern o r star ≡ Ok s → list_all is_shown (print s.version) ≡ true
 record_shown o r false s u h is =
     subst (λ q. list_all is_shown (print q) ≡ true) (ap (λ (q : Spec). q.version) (built_is o r s is)) (print_shown r (derived_record u r h) (derived_rereads u r h))
 record_shown o r true s u h is =
     let before = unstar u r h in
-    subst (λ q. list_all is_shown (print q) ≡ true) (version_is (starred o) r s is) (print_shown r (derived_record _ r before) (derived_rereads _ r before))
+    subst (λ q. list_all is_shown (print q) ≡ true) (version_is o r s is) (print_shown r (derived_record _ r before) (derived_rereads _ r before))
+
+abbrev star_text : Operator → List ℕ
+star_text o = if is_star o then codes ".*" else []
 
 star_shown : (o : Operator) → list_all is_shown (star_text o) ≡ true
 star_shown Equal = refl

@@ -6,13 +6,11 @@ use Rattle.std.proofs.lemmas.List.Sorted.{All-permutation, IsPermutation-sym}
 use Rattle.std.proofs.lemmas.List.Sums.{AllPass-from_list_all, list_all-from_AllPass}
 use Rattle.std.specs.List.{All}
 use Rattle.std.specs.List.Sorted.{IsPermutation}
-use Rattle.std.specs.Ordering.{is_lt, is_le}
 use Rattle.std.specs.declared.ops.Bound.{Bound}
-use Rattle.std.specs.declared.ops.Bound.TheVariants.{Included, Excluded, Unbounded}
-use Rattle.pep440_rs.proofs.VersionOrder.{turn_le, both}
+use Rattle.pep440_rs.proofs.VersionOrder.{both}
 use Rattle.pep440_rs.proofs.PairMembers.{append_matches, pair_agrees, gap_holds, gap_only}
 use Rattle.pep440_rs.specs.Agreement.{IsReleaseOnly}
-use Rattle.pep440_rs.specs.BoundsAgreement.{IsReleaseBound, IsReleasePair, is_followed, IsOrderedAfter, KnowsGapsAfter, ContainsWithin, ContainsOnlyWithin}
+use Rattle.pep440_rs.specs.BoundsAgreement.{IsReleaseBound, IsReleasePair, is_followed, IsOrdered, IsOrderedAfter, KnowsGaps, KnowsGapsAfter, HoldsWithin, HoldsOnlyWithin}
 use Rattle.pep440_rs.specs.Matching.{matches, list_matches}
 use Rattle.pep440_rs.specs.Specifiers.{Spec}
 use Rattle.pep440_rs.specs.Members.{pair_members, gap_members, gaps_members, last_end, list_members}
@@ -51,27 +49,8 @@ not_true false h = refl
 
 -- ---- the order of the bounds
 
-not_le : (x y : Record) → is_lt (record_cmp x y) ≡ not (is_le (record_cmp y x))
-not_le x y = sym (ap not (turn_le y x) ∙ twice (is_lt (record_cmp x y)))
-  where
-    twice : (b : Bool) → not (not b) ≡ b
-    twice true = refl
-    twice false = refl
-
--- an end is followed by a start if nothing lies from the start to the end
-followed_is : (e b : Bound Record) → is_followed e b ≡ not (is_valid record_cmp b e)
-followed_is Unbounded Unbounded = refl
-followed_is Unbounded (Included y) = refl
-followed_is Unbounded (Excluded y) = refl
-followed_is (Included x) Unbounded = refl
-followed_is (Excluded x) Unbounded = refl
-followed_is (Included x) (Included y) = not_le x y
-followed_is (Included x) (Excluded y) = turn_le x y
-followed_is (Excluded x) (Included y) = turn_le x y
-followed_is (Excluded x) (Excluded y) = turn_le x y
-
 followed_places : (e b : Bound Record) → is_followed e b ≡ true → below record_cmp (start_place b) (end_place e) ≡ false
-followed_places e b h = sym (valid_is record_cmp b e) ∙ not_true _ (sym (followed_is e b) ∙ h)
+followed_places e b h = sym (valid_is record_cmp b e) ∙ not_true _ h
 
 -- what is up to an end is up to the next one
 up_next : (e : Bound Record) (p : Segment Record) (u : Record) → is_followed e p.0 ≡ true → is_valid record_cmp p.0 p.1 ≡ true → is_up_to_end record_cmp e u ≡ true → is_up_to_end record_cmp p.1 u ≡ true
@@ -179,13 +158,14 @@ same_tests true b p q = sym (p refl)
 same_tests false true p q = q refl
 same_tests false false p q = refl
 
-pub contains_within : ContainsWithin
+pub contains_within : (pairs : List (Segment Record)) (members : List Spec) → IsOrdered pairs → All IsReleasePair pairs → IsPermutation (list_members pairs) members → HoldsWithin pairs members
 contains_within [] members o all k v q h = absurd o
 contains_within (p ∷ pairs) members o all k v q h =
     arranged (list_members (p ∷ pairs)) members v k
     (spans_is p pairs v all q ∙ within p.0 p.1 pairs v (all 0 p (omega arith)).1 o.0 o.1 (All-tail IsReleasePair p pairs all) q h)
 
-pub contains_only_within : ContainsOnlyWithin
+pub contains_only_within : (pairs : List (Segment Record)) (members : List Spec) → IsOrdered pairs → All IsReleasePair pairs → KnowsGaps pairs → IsPermutation (list_members pairs) members →
+    HoldsOnlyWithin pairs members
 contains_only_within [] members o all g k v q = absurd o
 contains_only_within (p ∷ pairs) members o all g k v q =
     same_tests _ _

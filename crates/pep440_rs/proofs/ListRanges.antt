@@ -3,7 +3,9 @@ use Rattle.std.proofs.Common.{◌≡◌, ℕ, zero, suc, ◌+◌, ◌≤◌, ◌
 use Rattle.std.proofs.lemmas.List.Elements.{All-tail}
 use Rattle.std.proofs.lemmas.List.Sums.{sum_by-append}
 use Rattle.std.specs.List.{All, Any, list_all}
-use Rattle.pep440_rs.specs.Agreement.{HasOperand, IsCandidate, IsReleaseComparable, ListAgrees, ReleaseListAgrees, GivesRanges, GivesFew, HoldsInEach, HasFewSegments, RefusedByAMember, is_held, is_exclusion, exclusions}
+use Rattle.std.specs.Option.{option_map_or}
+use Rattle.std.specs.Prelude.{count_by}
+use Rattle.pep440_rs.specs.Agreement.{HasOperand, IsCandidate, IsReleaseComparable, ListAgrees, GivesRanges, GivesFew, HoldsInEach, HasFewSegments, RefusedByAMember, is_exclusion}
 use Rattle.pep440_rs.specs.Bounds.{Segments, range_of, release_range_of, range_from, list_range, full}
 use Rattle.pep440_rs.specs.Matching.{matches, list_matches}
 use Rattle.pep440_rs.specs.Specifiers.{Spec}
@@ -17,6 +19,13 @@ use Rattle.pep440_version.specs.Record.{Record}
 use Rattle.pep440_rs.proofs.Prefix.{some_is}
 use Rattle.pep440_rs.proofs.Releases.{release_agrees}
 use Rattle.pep440_rs.proofs.Single.{agrees}
+
+-- v lies in the range of a member, which isn't refused
+abbrev is_held : Option Segments → Record → Bool
+is_held range v = option_map_or (λ r. contains record_cmp r v) range false
+
+abbrev exclusions : List Spec → ℕ
+exclusions members = count_by (λ m. is_exclusion m.operator) members
 
 -- what follows a member's range, where it has one
 bound : {A B : Type 0} (f : A → Option B) (o : Option A) (b : B) → option_and_then f o ≡ Some b → (a : A) × (o ≡ Some a) × (f a ≡ Some b)
@@ -107,13 +116,13 @@ module _ (conversion : Operator → Record → Option Segments) where
   pub refused_by_a_member : (members : List Spec) → RefusedByAMember conversion members
   refused_by_a_member members = (refused_some full members, some_refused full members)
 
-pub list_agrees : (members : List Spec) (range : Segments) → list_range range_of members ≡ Some range → All HasOperand members → ListAgrees members range
+pub list_agrees : (members : List Spec) (range : Segments) → list_range range_of members ≡ Some range → All HasOperand members → ListAgrees IsCandidate members range
 list_agrees members range h given v all =
     holds_in_each range_of members range h v
     ∙ agrees_each range_of (λ m. HasOperand m × IsCandidate m v) v (λ op s r e p. agrees (record { operator = op; version = s }) r e p.0 v p.1) full members range h
     (λ k m lt. (given k m lt, all k m lt))
 
-pub release_list_agrees : (members : List Spec) (range : Segments) → list_range release_range_of members ≡ Some range → ReleaseListAgrees members range
+pub release_list_agrees : (members : List Spec) (range : Segments) → list_range release_range_of members ≡ Some range → ListAgrees IsReleaseComparable members range
 release_list_agrees members range h v all =
     holds_in_each release_range_of members range h v
-    ∙ agrees_each release_range_of (λ m. IsReleaseComparable m.operator m.version v) v (λ op s r e p. release_agrees op s r e v p) full members range h all
+    ∙ agrees_each release_range_of (λ m. IsReleaseComparable m v) v (λ op s r e p. release_agrees (record { operator = op; version = s }) r e v p) full members range h all

@@ -1,13 +1,15 @@
 -- What reading gives of a list's text is what the grammar says, and the other way round.
 use Rattle.std.proofs.Common.{◌≡◌, ◌==◌, ◌<◌, ◌+◌, ◌∙◌, ℕ, List, [], ◌∷◌, ◌++◌, false, Option, Some, None, Result, Ok, Err, length, refl, sym, ap, subst, arith, inl, inr}
 use Rattle.std.proofs.lemmas.Bool.Decides.{nat_tests}
-use Rattle.std.specs.Prelude.{IfErr, IfOk, IfSome}
+use Rattle.std.proofs.lemmas.List.Sums.{sum_by-append}
+use Rattle.std.specs.List.{AllZip}
+use Rattle.std.specs.Prelude.{IfErr, IfOk, IfSome, sum_by}
 use Rattle.pep440_rs.specs.Arrangement.{Arranges}
 use Rattle.pep440_rs.specs.ListAnswers.{ListAnswers, ListReads, list_kind_of}
 use Rattle.pep440_rs.specs.ListErrors.{list_refusal_of}
-use Rattle.pep440_rs.specs.ListGrammar.{DerivesEach, DerivesList, PieceRefusal, RefusesList, bytes_of, pieces}
+use Rattle.pep440_rs.specs.ListGrammar.{DerivesList, PieceRefusal, RefusesList, pieces}
 use Rattle.pep440_rs.specs.ListReading.{after_piece, read_members, read_pieces}
-use Rattle.pep440_rs.specs.SpecifierGrammar.{RefusesSpecifier, SpecifierRefusal}
+use Rattle.pep440_rs.specs.SpecifierGrammar.{DerivesSpecifier, RefusesSpecifier, SpecifierRefusal}
 use Rattle.pep440_rs.specs.SpecifierReading.{read_specifier}
 use Rattle.pep440_rs.specs.Specifiers.{Spec}
 use Rattle.pep440_rs.specs.declared.list_error.VersionSpecifiersParseError.{VersionSpecifiersParseError}
@@ -15,6 +17,21 @@ use Rattle.pep440_rs.proofs.Answered.{told_by}
 use Rattle.pep440_rs.proofs.Arranged.{arranged_again, one_arrangement}
 use Rattle.pep440_rs.proofs.Pieces.{members_from}
 use Rattle.pep440_rs.proofs.Tells.{Tells, decides, tells}
+
+abbrev pub DerivesEach : List (List ℕ) → List Spec → Type 0
+DerivesEach ps members = AllZip DerivesSpecifier ps members
+
+-- how many bytes the pieces take, each with the comma after it
+abbrev pub bytes_of : List (List ℕ) → ℕ
+bytes_of [] = 0
+bytes_of (p ∷ rest) = length p + 1 + bytes_of rest
+
+bytes_are : (ps : List (List ℕ)) → sum_by (λ p. length p + 1) ps ≡ bytes_of ps
+bytes_are [] = refl
+bytes_are (p ∷ rest) = sum_by-append (λ q. length q + 1) (p ∷ []) rest ∙ (λ i. from_zero (length p + 1) i + bytes_are rest i)
+  where
+    from_zero : (n : ℕ) → 0 + n ≡ n
+    from_zero n = omega arith
 
 -- the first refused piece, where the first of all begins at k
 pub record FirstRefused (k : ℕ) (ps : List (List ℕ)) (f : PieceRefusal) : Type 0 where
@@ -112,7 +129,7 @@ list_refusal (b ∷ t) f e =
       members = x.members;
       derived = x.derived;
       refused = x.refused;
-      start = from_zero (bytes_of x.before) f.start x.start;
+      start = from_zero (bytes_of x.before) f.start x.start ∙ sym (bytes_are x.before);
       stop = x.stop;
     }
   where
@@ -122,7 +139,7 @@ list_refusal (b ∷ t) f e =
 pub list_decides : (text : List ℕ) (f : PieceRefusal) → RefusesList text f → read_members text ≡ Err f
 list_decides text f h =
     members_from text (nonempty text h.some) ∙ ap (read_pieces 0) h.split
-    ∙ refused_read 0 h.before h.members h.piece h.after f h.derived h.refused (to_zero (bytes_of h.before) f.start h.start) h.stop
+    ∙ refused_read 0 h.before h.members h.piece h.after f h.derived h.refused (to_zero (bytes_of h.before) f.start (h.start ∙ bytes_are h.before)) h.stop
   where
     to_zero : (s start : ℕ) → start ≡ s → start ≡ 0 + s
     to_zero s start e = omega (arith, e)

@@ -2,6 +2,7 @@
 use Rattle.std.proofs.Common.{◌≡◌, [], ◌∷◌, Some, None, Ok, Err, refl}
 use Rattle.std.specs.declared.ops.Bound.TheVariants.{Included, Excluded, Unbounded}
 use Rattle.pep440_rs.proofs.Examples.{greatest, one, two, three, v, local}
+use Rattle.pep440_rs.specs.Build.{OperatorLocalCombo}
 use Rattle.pep440_rs.specs.Members.{spec, lower_member, upper_member, without_locals, pair_members, list_members}
 use Rattle.pep440_rs.specs.declared.operator.Operator.TheVariants.{Equal, EqualStar, NotEqual, NotEqualStar, LessThan, LessThanEqual, GreaterThan, GreaterThanEqual}
 
@@ -13,7 +14,7 @@ row_2 : without_locals (upper_member Unbounded) ≡ Ok None
 row_2 = refl
 
 -- from `1.0+x` on is refused
-row_3 : without_locals (lower_member (Included (local v))) ≡ Err (spec GreaterThanEqual (local v))
+row_3 : without_locals (lower_member (Included (local v))) ≡ Err (OperatorLocalCombo GreaterThanEqual (local v))
 row_3 = refl
 
 -- from `1.0` to `1.0.0`, both included, is `==1.0`

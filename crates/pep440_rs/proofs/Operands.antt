@@ -2,15 +2,16 @@
 use Rattle.std.proofs.Common.{◌≡◌, ◌==◌, ◌&&◌, ℕ, zero, suc, List, [], ◌∷◌, Bool, true, false, Result, Ok, Err, refl, sym, ap, subst, length, nat_lt, not, arith, inl, inr, if◌then◌else◌}
 use Rattle.std.proofs.lemmas.Bool.Decides.{nat_tests}
 use Rattle.std.proofs.lemmas.List.Sorted.{All-permutation}
-use Rattle.std.specs.List.{All}
+use Rattle.std.specs.List.{All, AllZip}
 use Rattle.std.specs.Prelude.{IfOk}
 use Rattle.std.specs.Str.{encode_utf8_all}
 use Rattle.pep440_version.specs.Grammar.{Derives}
 use Rattle.pep440_version.specs.Patterns.{DerivesPattern}
 use Rattle.pep440_version.specs.Record.{Record, Segment}
 use Rattle.pep440_rs.specs.Agreement.{HasOperand, IsOperand, IsPlain}
-use Rattle.pep440_rs.specs.Build.{BuildRefusal, CompatibleRelease, OperatorLocalCombo, built, built_pattern, has_local, is_compatible}
-use Rattle.pep440_rs.specs.ListGrammar.{DerivesEach, DerivesList, pieces}
+use Rattle.pep440_rs.specs.Build.{BuildRefusal, CompatibleRelease, OperatorLocalCombo, built, built_pattern, is_compatible}
+use Rattle.pep440_rs.specs.ListGrammar.{DerivesList, pieces}
+use Rattle.pep440_rs.specs.Matching.{has_local}
 use Rattle.pep440_rs.specs.Operators.{allows_local, is_star}
 use Rattle.pep440_rs.specs.SpecifierGrammar.{DerivesSpecifier, HasText}
 use Rattle.pep440_rs.specs.Specifiers.{Spec}
@@ -70,7 +71,7 @@ pub text_gives : (text : List ℕ) (s : Spec) → DerivesSpecifier text s → Ha
 text_gives text s (c, o, r, star, reads, is, end) = operand o r star s (encode_utf8_all c.version) reads.operator.1 reads.version is
 
 -- what each text gives holds of each member
-each_gives : (P : Spec → Type 0) → ((text : List ℕ) (s : Spec) → DerivesSpecifier text s → P s) → (ps : List (List ℕ)) (members : List Spec) → DerivesEach ps members → All P members
+each_gives : (P : Spec → Type 0) → ((text : List ℕ) (s : Spec) → DerivesSpecifier text s → P s) → (ps : List (List ℕ)) (members : List Spec) → AllZip DerivesSpecifier ps members → All P members
 each_gives P gives ps [] h k d lt = absurd (omega (arith, lt))
 each_gives P gives [] (s ∷ list) h k d lt = elim h [ ]
 each_gives P gives (p ∷ ps) (s ∷ list) h zero d lt = gives p s h.0

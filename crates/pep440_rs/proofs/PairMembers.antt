@@ -11,14 +11,14 @@ use Rattle.std.specs.declared.ops.Bound.TheVariants.{Included, Excluded, Unbound
 use Rattle.pep440_rs.proofs.VersionOrder.{turn_le, both}
 use Rattle.pep440_rs.proofs.ReleaseMatching.{equal_is, from_matches, above_matches, up_to_matches, below_matches, star_matches}
 use Rattle.pep440_rs.specs.Agreement.{IsReleaseOnly}
-use Rattle.pep440_rs.specs.BoundsAgreement.{IsReleaseBound, PairAgrees, is_known_gap}
+use Rattle.pep440_rs.specs.BoundsAgreement.{IsReleaseBound, IsReleasePair, MatchesWithin, is_known_gap}
 use Rattle.pep440_rs.specs.Matching.{matches, list_matches}
 use Rattle.pep440_rs.specs.Specifiers.{Spec}
 use Rattle.pep440_rs.specs.Members.{spec, is_next, lower_member, upper_member, outer_members, pair_members, gap_members}
 use Rattle.pep440_rs.specs.declared.operator.Operator.TheVariants.{Equal, EqualStar, NotEqual, NotEqualStar, LessThan, LessThanEqual, GreaterThan, GreaterThanEqual}
 use Rattle.pep440_ranges.proofs.Places.{below, start_place, end_place, value_place, valid_is, upto_is, from_is, le_le}
 use Rattle.pep440_ranges.specs.Bounds.{is_valid, is_from_start, is_up_to_end}
-use Rattle.pep440_ranges.specs.Segments.{lies_in}
+use Rattle.pep440_ranges.specs.Segments.{Segment, lies_in}
 use Rattle.pep440_version.specs.Key.{record_cmp}
 use Rattle.pep440_version.specs.KeyLaws.{record_total}
 use Rattle.pep440_version.specs.Record.{Record, of_release}
@@ -150,7 +150,7 @@ pair_holds Unbounded (Included y) u p q r = outer_holds Unbounded (Included y) u
 pair_holds Unbounded (Excluded y) u p q r = outer_holds Unbounded (Excluded y) u p q r
 pair_holds Unbounded Unbounded u p q r = outer_holds Unbounded Unbounded u p q r
 
-pub pair_agrees : PairAgrees
+pub pair_agrees : (p : Segment Record) → IsReleasePair p → MatchesWithin p (pair_members p.0 p.1)
 pair_agrees p k u q = pair_holds p.0 p.1 u k.0 k.1 q
 
 -- ---- one gap

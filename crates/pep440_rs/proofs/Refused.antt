@@ -1,9 +1,11 @@
 -- A conversion is refused exactly where the number that it raises is the greatest there is.
 use Rattle.std.proofs.Common.{◌≡◌, ◌↔◌, ℕ, ◌+◌, ◌≤◌, ◌==◌, Bool, true, false, cond, List, [], ◌∷◌, length, Option, Some, None, option_map, refl, ap, arith}
 use Rattle.std.proofs.lemmas.Bool.Decides.{nat_tests}
+use Rattle.std.specs.List.{last_or}
+use Rattle.std.specs.Option.{option_or}
 use Rattle.pep440_rs.specs.Bounds.{range_of, release_range_of, release_up_to, greater, star, star_end, next_number, raised}
 use Rattle.pep440_rs.specs.Matching.{without_last}
-use Rattle.pep440_rs.specs.Refused.{last, raised_by_greater, raised_by_star, raised_number, raised_release_number, RefusedAtMax}
+use Rattle.pep440_rs.specs.Refused.{raised_number, raised_release_number, RefusedAtMax}
 use Rattle.pep440_rs.specs.declared.operator.Operator.TheVariants.{Equal, EqualStar, ExactEqual, NotEqual, NotEqualStar, TildeEqual, LessThan, LessThanEqual, GreaterThan, GreaterThanEqual}
 use Rattle.pep440_version.specs.Record.{Record}
 use Rattle.pep440_version.specs.declared.prerelease.Prerelease.{Prerelease}
@@ -47,7 +49,7 @@ next_refused n = go (n == 18446744073709551615) refl
     go true e = (λ h. ap Some (is_max n e), λ h. refl)
     go false e = (λ h. absurd (some_none (n + 1) h), λ h. absurd (not_max n e (inside 18446744073709551615 h)))
 
-raised_refused : (xs : List ℕ) → 1 ≤ length xs → IsNone (raised xs) ↔ IsMax (last xs)
+raised_refused : (xs : List ℕ) → 1 ≤ length xs → IsNone (raised xs) ↔ IsMax (last_or None xs)
 raised_refused [] p = absurd (omega (arith, p))
 raised_refused (x ∷ []) p = chain (through (λ n. n ∷ []) (next_number x)) (next_refused x)
 raised_refused (x ∷ y ∷ ys) p = chain (through (λ rest. x ∷ rest) (raised (y ∷ ys))) (raised_refused (y ∷ ys) (omega arith))
@@ -57,17 +59,20 @@ some_left [] p = absurd (omega (arith, p))
 some_left (x ∷ []) p = absurd (omega (arith, p))
 some_left (x ∷ y ∷ ys) p = omega arith
 
-greater_refused : (s : Record) (dev post : Option ℕ) → IsNone (greater s dev post) ↔ IsMax (raised_by_greater dev post)
+greater_refused : (s : Record) (dev post : Option ℕ) → IsNone (greater s dev post) ↔ IsMax (option_or dev post)
 greater_refused s (Some d) post = chain (through _ (next_number d)) (next_refused d)
 greater_refused s None (Some p) = chain (through _ (next_number p)) (next_refused p)
 greater_refused s None None = never _
 
-end_refused : (s : Record) (post : Option ℕ) (pre : Option Prerelease) → 1 ≤ length s.release → IsNone (star_end s post pre) ↔ IsMax (raised_by_star post pre s.release)
+abbrev raised_by : Option ℕ → Option Prerelease → List ℕ → Option ℕ
+raised_by post pre release = option_or post (option_or (option_map (λ p. p.number) pre) (last_or None release))
+
+end_refused : (s : Record) (post : Option ℕ) (pre : Option Prerelease) → 1 ≤ length s.release → IsNone (star_end s post pre) ↔ IsMax (raised_by post pre s.release)
 end_refused s (Some p) pre h = chain (through _ (next_number p)) (next_refused p)
 end_refused s None (Some k) h = chain (through _ (next_number k.number)) (next_refused k.number)
 end_refused s None None h = chain (through _ (raised s.release)) (raised_refused s.release h)
 
-star_refused : (s : Record) → 1 ≤ length s.release → IsNone (star s) ↔ IsMax (raised_by_star s.post s.pre s.release)
+star_refused : (s : Record) → 1 ≤ length s.release → IsNone (star s) ↔ IsMax (raised_by s.post s.pre s.release)
 star_refused s h = chain (through _ (star_end s s.post s.pre)) (end_refused s s.post s.pre h)
 
 pub refused_at_max : RefusedAtMax range_of raised_number
@@ -82,7 +87,7 @@ refused_at_max GreaterThan s h = greater_refused s s.dev s.post
 refused_at_max EqualStar s h = star_refused s h
 refused_at_max NotEqualStar s h = chain (through _ (star s)) (star_refused s h)
 
-up_to_refused : (release numbers : List ℕ) → 1 ≤ length numbers → IsNone (release_up_to release numbers) ↔ IsMax (last numbers)
+up_to_refused : (release numbers : List ℕ) → 1 ≤ length numbers → IsNone (release_up_to release numbers) ↔ IsMax (last_or None numbers)
 up_to_refused release numbers h = chain (through _ (raised numbers)) (raised_refused numbers h)
 
 pub release_refused_at_max : RefusedAtMax release_range_of raised_release_number

@@ -7,9 +7,10 @@ use Rattle.pep440_rs.proofs.VersionOrder.{by_parts, turn_le, turn_lt, ge_not_lt,
 use Rattle.pep440_rs.proofs.Prefix.{mapped, some_is, raised_is, prefix_bounds}
 use Rattle.pep440_rs.proofs.Single.{alone_holds, others_hold}
 use Rattle.pep440_rs.proofs.Star.{lt_base, tilde_holds}
-use Rattle.pep440_rs.specs.Agreement.{ReleaseAgrees}
-use Rattle.pep440_rs.specs.Bounds.{Segments, range_of_release, release_range_of, release_up_to, raised}
+use Rattle.pep440_rs.specs.Agreement.{Agrees, IsReleaseComparable}
+use Rattle.pep440_rs.specs.Bounds.{Segments, release_range_of, release_up_to, raised}
 use Rattle.pep440_rs.specs.Matching.{matches, begins_with, same_release, without_last}
+use Rattle.pep440_rs.specs.Specifiers.{Spec}
 use Rattle.pep440_rs.specs.declared.operator.Operator.{Operator}
 use Rattle.pep440_rs.specs.declared.operator.Operator.TheVariants.{Equal, EqualStar, ExactEqual, NotEqual, NotEqualStar, TildeEqual, LessThan, LessThanEqual, GreaterThan, GreaterThanEqual}
 use Rattle.pep440_ranges.proofs.Laws.{one_segment_holds_between, one_segment_is_range, gaps_hold_the_rest}
@@ -17,7 +18,7 @@ use Rattle.pep440_ranges.specs.Complement.{gaps}
 use Rattle.pep440_ranges.specs.Segments.{contains}
 use Rattle.pep440_version.specs.Key.{record_cmp, release_cmp}
 use Rattle.pep440_version.specs.KeyLaws.{record_total}
-use Rattle.pep440_version.specs.Record.{Record, of_release}
+use Rattle.pep440_version.specs.Record.{of_release}
 
 -- no suffix is there that matching of `<` and `>` asks for
 pub no_early : (b e : Bool) → b ≡ b && not (e && true && false)
@@ -43,7 +44,7 @@ star_holds r q range h =
     ∙ prefix_bounds r m.0 q (raised_is r m.0 m.1))
 
 abbrev For : Operator → List ℕ → List ℕ → Type 0
-For op r q = (range : Segments) → range_of_release op r ≡ Some range → contains record_cmp range (of_release q) ≡ matches op (of_release r) (of_release q)
+For op r q = (range : Segments) → release_range_of op (of_release r) ≡ Some range → contains record_cmp range (of_release q) ≡ matches op (of_release r) (of_release q)
 
 each : (op : Operator) (r q : List ℕ) → (op ≡ ExactEqual → ⊥) → For op r q
 each Equal r q p = λ range h. rw (some_is _ range h) (alone_holds (of_release r) (of_release q))
@@ -71,7 +72,7 @@ each GreaterThanEqual r q p = λ range h.
     rw (some_is _ range h)
     (only_start (is_le (record_cmp (of_release r) (of_release q))) ∙ turn_le (of_release r) (of_release q) ∙ sym (ge_not_lt (record_cmp (of_release q) (of_release r))))
 
-pub release_agrees : (op : Operator) (s : Record) (range : Segments) → release_range_of op s ≡ Some range → ReleaseAgrees op s range
-release_agrees op s range h v p =
-    subst (λ w. contains record_cmp range w ≡ matches op s w) (sym p.candidate)
-    (each op s.release v.release p.operator range h ∙ ap (λ t. matches op t (of_release v.release)) (sym p.operand))
+pub release_agrees : (s : Spec) (range : Segments) → release_range_of s.operator s.version ≡ Some range → Agrees IsReleaseComparable s range
+release_agrees s range h v p =
+    subst (λ w. contains record_cmp range w ≡ matches s.operator s.version w) (sym p.candidate)
+    (each s.operator s.version.release v.release p.operator range h ∙ ap (λ t. matches s.operator t (of_release v.release)) (sym p.operand))

@@ -8,7 +8,7 @@ use Rattle.pep440_rs.proofs.Less.{less_agrees, less_within}
 use Rattle.pep440_rs.proofs.VersionOrder.{plain, is_plain, turn_le, ge_not_lt, only_start, only_end}
 use Rattle.pep440_rs.proofs.Prefix.{some_is}
 use Rattle.pep440_rs.proofs.Star.{star_agrees, not_star_agrees, tilde_agrees}
-use Rattle.pep440_rs.specs.Agreement.{HasOperand, IsPlain, IsOperand, IsSuffixComparable, Agrees, HoldsOnlyMatches, HoldsAllMatches}
+use Rattle.pep440_rs.specs.Agreement.{HasOperand, IsCandidate, IsPlain, IsOperand, IsSuffixComparable, Agrees, HoldsOnlyMatches, HoldsAllMatches}
 use Rattle.pep440_rs.specs.Bounds.{Segments, range_of, alone, greater}
 use Rattle.pep440_rs.specs.Matching.{matches, candidate, has_local}
 use Rattle.pep440_rs.specs.Specifiers.{Spec}
@@ -69,7 +69,7 @@ each GreaterThan s v p q = taken GreaterThan s (plain s) v (is_plain s p) q (gre
 each GreaterThanEqual s v p q = taken GreaterThanEqual s (plain s) v (is_plain s p) q (λ c range h.
     rw (some_is _ range h) (only_start (is_le (record_cmp (plain s) (plain v))) ∙ turn_le (plain s) (plain v) ∙ sym (ge_not_lt (record_cmp (plain v) (plain s)))))
 
-pub agrees : (s : Spec) (range : Segments) → range_of s.operator s.version ≡ Some range → HasOperand s → Agrees s range
+pub agrees : (s : Spec) (range : Segments) → range_of s.operator s.version ≡ Some range → HasOperand s → Agrees IsCandidate s range
 agrees s range h given v p = each s.operator s.version v (given p.operator) p.plain p.suffixes range h
 
 -- ---- the inclusions that hold whatever the suffixes

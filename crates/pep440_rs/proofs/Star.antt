@@ -8,7 +8,7 @@ use Rattle.std.specs.declared.ops.Bound.TheVariants.{Included, Excluded}
 use Rattle.pep440_rs.proofs.VersionOrder.{by_parts, plain, turn_le, ge_not_lt, both}
 use Rattle.pep440_rs.proofs.Prefix.{mapped, IsRaised, raised_is, prefix_bounds, step_more, below_front}
 use Rattle.pep440_rs.proofs.Suffixes.{from_dev}
-use Rattle.pep440_rs.specs.Bounds.{Segments, raised, compatible, compatible_end, star, star_end}
+use Rattle.pep440_rs.specs.Bounds.{Segments, raised, range_of, compatible_end, star, star_end}
 use Rattle.pep440_rs.specs.Matching.{matches, begins_with, has_prefix, without_last}
 use Rattle.pep440_rs.specs.declared.operator.Operator.TheVariants.{TildeEqual}
 use Rattle.pep440_ranges.proofs.Laws.{one_segment_holds_between, one_segment_is_range, gaps_hold_the_rest}
@@ -100,7 +100,7 @@ tilde_holds s v raised below h b =
         inside ord.Equal R h = swap (not (is_lt (ordering_then R Y))) u
         inside ord.Greater R h = swap (not (is_lt (ordering_then R Y))) u
 
-pub tilde_agrees : (s v : Record) (range : Segments) → compatible (plain s) ≡ Some range → contains record_cmp range (plain v) ≡ matches TildeEqual (plain s) (plain v)
+pub tilde_agrees : (s v : Record) (range : Segments) → range_of TildeEqual (plain s) ≡ Some range → contains record_cmp range (plain v) ≡ matches TildeEqual (plain s) (plain v)
 tilde_agrees s v range h =
     let g = mapped _ (compatible_end (plain s)) range h in
     let m = mapped _ (raised (without_last s.release)) g.0 g.1 in

@@ -1,12 +1,13 @@
 -- When the range of a specifier holds exactly the versions that the specifier contains (PEP 440, "Version
 -- specifiers"), and which inclusion holds where it doesn't.
-use Rattle.std.specs.Prelude.{◌≡◌, ◌≢◌, ◌↔◌, ℕ, ◌+◌, ◌≤◌, Bool, true, false, not, ◌||◌, List, [], Option, Some, None, is_some, IsTrue, count_by, length, if◌then◌else◌}
+use Rattle.std.specs.Prelude.{◌≡◌, ◌≢◌, ◌↔◌, ◌+◌, ◌≤◌, Bool, true, false, not, ◌||◌, List, [], Option, Some, None, is_some, IsTrue, count_by, length, if◌then◌else◌}
 use Rattle.std.specs.List.{All, Any, list_all}
+use Rattle.std.specs.Option.{option_map_or}
 use Rattle.pep440_rs.specs.Bounds.{Segments, list_range}
 use Rattle.pep440_rs.specs.Matching.{matches, list_matches, same_release, any_prerelease}
 use Rattle.pep440_rs.specs.Specifiers.{Spec}
 use Rattle.pep440_rs.specs.declared.operator.Operator.{Operator}
-use Rattle.pep440_rs.specs.declared.operator.Operator.TheVariants.{Equal, EqualStar, ExactEqual, NotEqual, NotEqualStar, TildeEqual, LessThan, LessThanEqual, GreaterThan, GreaterThanEqual}
+use Rattle.pep440_rs.specs.declared.operator.Operator.TheVariants.{Equal, EqualStar, ExactEqual, NotEqual, NotEqualStar, LessThan, GreaterThan}
 use Rattle.pep440_ranges.specs.Segments.{contains, IsRange}
 use Rattle.pep440_version.specs.Key.{record_cmp}
 use Rattle.pep440_version.specs.Record.{Record, of_release, epoch_and_release}
@@ -27,26 +28,18 @@ IsOperand NotEqual s = Unit {0}
 IsOperand ExactEqual s = ⊥
 IsOperand EqualStar s = s ≡ epoch_and_release s.epoch s.release
 IsOperand NotEqualStar s = s ≡ epoch_and_release s.epoch s.release
-IsOperand TildeEqual s = IsPlain s
-IsOperand LessThan s = IsPlain s
-IsOperand LessThanEqual s = IsPlain s
-IsOperand GreaterThan s = IsPlain s
-IsOperand GreaterThanEqual s = IsPlain s
+IsOperand _ s = IsPlain s
 
 -- the version of a specifier, unless it is `===`, is one that a text can give beside its operator
 abbrev pub HasOperand : Spec → Type 0
 HasOperand s = s.operator ≢ ExactEqual → IsOperand s.operator s.version
-
--- a post-release, or a release with neither pre nor dev
-abbrev pub is_post_or_final : Record → Bool
-is_post_or_final s = is_some s.post || not (any_prerelease s)
 
 -- no suffix stands on which range and matching part. For `<`: the two differ in epoch or release, or s isn't
 -- a post-release, or it has pre or dev. For `>`: they differ so, or v isn't a post-release, or s is one or has
 -- neither pre nor dev
 abbrev pub IsSuffixComparable : Operator → Record → Record → Type 0
 IsSuffixComparable LessThan s v = IsTrue (not (same_release s v) || not (is_some s.post) || any_prerelease s)
-IsSuffixComparable GreaterThan s v = IsTrue (not (same_release s v) || not (is_some v.post) || is_post_or_final s)
+IsSuffixComparable GreaterThan s v = IsTrue (not (same_release s v) || not (is_some v.post) || (is_some s.post || not (any_prerelease s)))
 IsSuffixComparable _ s v = Unit {0}
 
 -- range and matching of the specifier can be compared at v
@@ -55,11 +48,29 @@ pub record IsCandidate (s : Spec) (v : Record) : Type 0 where
   pub plain : IsPlain v
   pub suffixes : IsSuffixComparable s.operator s.version v
 
--- ---- the whole order, of a specifier whose version a text can give
+-- a release with epoch 0 and nothing else
+abbrev pub IsReleaseOnly : Record → Type 0
+IsReleaseOnly v = v ≡ of_release v.release
 
--- the range holds exactly what the specifier contains
-abbrev pub Agrees : Spec → Segments → Type 0
-Agrees s range = (v : Record) → IsCandidate s v → contains record_cmp range v ≡ matches s.operator s.version v
+-- specifier and candidate are releases alone, and the operator isn't `===`
+pub record IsReleaseComparable (s : Spec) (v : Record) : Type 0 where
+  pub operator : s.operator ≢ ExactEqual
+  pub operand : IsReleaseOnly s.version
+  pub candidate : IsReleaseOnly v
+
+-- ---- the agreement, of the versions that can be compared: of candidates for a specifier whose version a text can give,
+-- and of releases for the release-only range
+
+module _ (IsComparable : Spec → Record → Type 0) where
+  -- the range holds exactly what the specifier contains
+  abbrev pub Agrees : Spec → Segments → Type 0
+  Agrees s range = (v : Record) → IsComparable s v → contains record_cmp range v ≡ matches s.operator s.version v
+
+  -- of a list: where each member can be compared
+  abbrev pub ListAgrees : List Spec → Segments → Type 0
+  ListAgrees members range = (v : Record) → All (λ m. IsComparable m v) members → contains record_cmp range v ≡ list_matches members v
+
+-- ---- the whole order, of a specifier whose version a text can give
 
 -- whatever the suffixes, the range of `<` holds only what matches
 abbrev pub HoldsOnlyMatches : Spec → Segments → Type 0
@@ -69,35 +80,7 @@ HoldsOnlyMatches s range = s.operator ≡ LessThan → (v : Record) → IsPlain 
 abbrev pub HoldsAllMatches : Spec → Segments → Type 0
 HoldsAllMatches s range = s.operator ≡ GreaterThan → (v : Record) → IsPlain v → IsTrue (matches s.operator s.version v) → IsTrue (contains record_cmp range v)
 
--- of a list: where each member can be compared
-abbrev pub ListAgrees : List Spec → Segments → Type 0
-ListAgrees members range = (v : Record) → All (λ m. IsCandidate m v) members → contains record_cmp range v ≡ list_matches members v
-
--- ---- releases alone
-
--- a release with epoch 0 and nothing else
-abbrev pub IsReleaseOnly : Record → Type 0
-IsReleaseOnly v = v ≡ of_release v.release
-
--- specifier and candidate are releases alone, and the operator isn't `===`
-pub record IsReleaseComparable (op : Operator) (s v : Record) : Type 0 where
-  pub operator : op ≢ ExactEqual
-  pub operand : IsReleaseOnly s
-  pub candidate : IsReleaseOnly v
-
--- the release-only range holds exactly the releases that the specifier contains
-abbrev pub ReleaseAgrees : Operator → Record → Segments → Type 0
-ReleaseAgrees op s range = (v : Record) → IsReleaseComparable op s v → contains record_cmp range v ≡ matches op s v
-
-abbrev pub ReleaseListAgrees : List Spec → Segments → Type 0
-ReleaseListAgrees members range = (v : Record) → All (λ m. IsReleaseComparable m.operator m.version v) members → contains record_cmp range v ≡ list_matches members v
-
 -- ---- lists, by either conversion
-
--- v lies in the range of the specifier, which isn't refused
-abbrev pub is_held : Option Segments → Record → Bool
-is_held None v = false
-is_held (Some range) v = contains record_cmp range v
 
 -- `!=` and `!=` star, whose range is a complement
 abbrev pub is_exclusion : Operator → Bool
@@ -105,12 +88,9 @@ is_exclusion NotEqual = true
 is_exclusion NotEqualStar = true
 is_exclusion _ = false
 
-abbrev pub exclusions : List Spec → ℕ
-exclusions members = count_by (λ m. is_exclusion m.operator) members
-
 -- the range of a list has at most one segment more than the list has exclusions
 abbrev pub HasFewSegments : List Spec → Segments → Type 0
-HasFewSegments members range = length range ≤ 1 + exclusions members
+HasFewSegments members range = length range ≤ 1 + count_by (λ m. is_exclusion m.operator) members
 
 module _ (conversion : Operator → Record → Option Segments) where
   -- the segments are valid and apart
@@ -121,9 +101,9 @@ module _ (conversion : Operator → Record → Option Segments) where
   abbrev pub GivesFew : Type 0
   GivesFew = (op : Operator) (s : Record) (range : Segments) → conversion op s ≡ Some range → length range ≤ (if is_exclusion op then 2 else 1)
 
-  -- the range of a list holds what the range of each member holds
+  -- the range of a list holds what the range of each member holds, none of which is refused
   abbrev pub HoldsInEach : List Spec → Segments → Type 0
-  HoldsInEach members range = (v : Record) → contains record_cmp range v ≡ list_all (λ m. is_held (conversion m.operator m.version) v) members
+  HoldsInEach members range = (v : Record) → contains record_cmp range v ≡ list_all (λ m. option_map_or (λ r. contains record_cmp r v) (conversion m.operator m.version) false) members
 
   -- the list is refused exactly where some member is
   abbrev pub RefusedByAMember : List Spec → Type 0

@@ -29,49 +29,47 @@ raised [] = None
 raised (x ∷ []) = option_map (λ n. n ∷ []) (next_number x)
 raised (x ∷ y ∷ ys) = option_map (λ rest. x ∷ rest) (raised (y ∷ ys))
 
--- ---- one segment, or two
+-- ---- one segment
 
 -- the version alone
 abbrev pub alone : Record → Segments
 alone s = (Included s, Included s) ∷ []
 
--- from one version on, up to another
-abbrev pub from : Record → Segments
-from s = (Included s, Unbounded) ∷ []
-
-abbrev pub up_to : Record → Segments
-up_to s = (Unbounded, Included s) ∷ []
-
--- above a version, below a version
-abbrev pub above : Record → Segments
-above s = (Excluded s, Unbounded) ∷ []
-
-abbrev pub below : Record → Segments
-below s = (Unbounded, Excluded s) ∷ []
-
 -- from a version to another, which is excluded; nothing where the first isn't below the second
 abbrev pub from_to : Record → Record → Segments
 from_to start end = one_segment record_cmp (Included start) (Excluded end)
+
+-- ---- by either conversion
+
+-- the range of an operator and a version, where it is given what `<`, `>`, `~=` and a star give
+abbrev pub range_by : Segments → Option Segments → Option Segments → Option Segments → Operator → Record → Option Segments
+range_by less greater compatible star Equal s = Some (alone s)
+range_by less greater compatible star ExactEqual s = Some (alone s)
+range_by less greater compatible star NotEqual s = Some (gaps (alone s))
+range_by less greater compatible star GreaterThanEqual s = Some ((Included s, Unbounded) ∷ [])
+range_by less greater compatible star LessThanEqual s = Some ((Unbounded, Included s) ∷ [])
+range_by less greater compatible star TildeEqual s = compatible
+range_by less greater compatible star LessThan s = Some less
+range_by less greater compatible star GreaterThan s = greater
+range_by less greater compatible star EqualStar s = star
+range_by less greater compatible star NotEqualStar s = option_map gaps star
 
 -- ---- by the whole order
 
 -- `<`: the marked version is below every version of its release
 abbrev pub less : Record → Segments
-less s = if any_prerelease s then below s else below (record s { min = Some 0 })
+less s = if any_prerelease s then (Unbounded, Excluded s) ∷ [] else (Unbounded, Excluded (record s { min = Some 0 })) ∷ []
 
 -- `>`, by the dev and post of s: from the next dev on, from the first developmental release of the next post on, or
 -- above the mark that is above all its post-releases
 abbrev pub greater : Record → Option ℕ → Option ℕ → Option Segments
-greater s (Some dev) post = option_map (λ n. from (record s { dev = Some n })) (next_number dev)
-greater s None (Some post) = option_map (λ n. from (record s { post = Some n; dev = Some 0 })) (next_number post)
-greater s None None = Some (above (record s { max = Some 0 }))
+greater s (Some dev) post = option_map (λ n. (Included (record s { dev = Some n }), Unbounded) ∷ []) (next_number dev)
+greater s None (Some post) = option_map (λ n. (Included (record s { post = Some n; dev = Some 0 }), Unbounded) ∷ []) (next_number post)
+greater s None None = Some ((Excluded (record s { max = Some 0 }), Unbounded) ∷ [])
 
 -- the end of `~=`: the first developmental release of the next release one number shorter
 abbrev pub compatible_end : Record → Option Record
 compatible_end s = option_map (λ release. record (epoch_and_release s.epoch release) { dev = Some 0 }) (raised (without_last s.release))
-
-abbrev pub compatible : Record → Option Segments
-compatible s = option_map (λ end. from_to s end) (compatible_end s)
 
 -- the end of a star, by the post and pre of s: the first developmental release of the next version that s
 -- isn't the beginning of
@@ -85,16 +83,7 @@ star s = option_map (λ end. from_to (record s { dev = Some 0 }) end) (star_end 
 
 -- the range of a specifier
 abbrev pub range_of : Operator → Record → Option Segments
-range_of Equal s = Some (alone s)
-range_of ExactEqual s = Some (alone s)
-range_of NotEqual s = Some (gaps (alone s))
-range_of GreaterThanEqual s = Some (from s)
-range_of LessThanEqual s = Some (up_to s)
-range_of TildeEqual s = compatible s
-range_of LessThan s = Some (less s)
-range_of GreaterThan s = greater s s.dev s.post
-range_of EqualStar s = star s
-range_of NotEqualStar s = option_map gaps (star s)
+range_of op s = range_by (less s) (greater s s.dev s.post) (option_map (λ end. from_to s end) (compatible_end s)) (star s) op s
 
 -- ---- by releases alone
 
@@ -102,22 +91,10 @@ range_of NotEqualStar s = option_map gaps (star s)
 abbrev pub release_up_to : List ℕ → List ℕ → Option Segments
 release_up_to release numbers = option_map (λ next. from_to (of_release release) (of_release next)) (raised numbers)
 
--- the range of an operator and a release
-abbrev pub range_of_release : Operator → List ℕ → Option Segments
-range_of_release Equal release = Some (alone (of_release release))
-range_of_release ExactEqual release = Some (alone (of_release release))
-range_of_release NotEqual release = Some (gaps (alone (of_release release)))
-range_of_release GreaterThanEqual release = Some (from (of_release release))
-range_of_release LessThanEqual release = Some (up_to (of_release release))
-range_of_release TildeEqual release = release_up_to release (without_last release)
-range_of_release LessThan release = Some (below (of_release release))
-range_of_release GreaterThan release = Some (above (of_release release))
-range_of_release EqualStar release = release_up_to release release
-range_of_release NotEqualStar release = option_map gaps (release_up_to release release)
-
 -- the release-only range of a specifier: of its release, whatever its other parts
 abbrev pub release_range_of : Operator → Record → Option Segments
-release_range_of op s = range_of_release op s.release
+release_range_of op s = let only = of_release s.release in
+    range_by ((Unbounded, Excluded only) ∷ []) (Some ((Excluded only, Unbounded) ∷ [])) (release_up_to s.release (without_last s.release)) (release_up_to s.release s.release) op only
 
 -- ---- lists, by either conversion
 

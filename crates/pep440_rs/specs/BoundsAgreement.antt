@@ -1,14 +1,11 @@
 -- When the members made of bounds contain exactly the releases within the bounds.
-use Rattle.std.specs.Prelude.{◌≡◌, ◌==◌, Bool, false, not, ◌||◌, IsTrue, List, [], ◌∷◌, length}
-use Rattle.std.specs.List.{All}
-use Rattle.std.specs.List.Sorted.{IsPermutation}
-use Rattle.std.specs.Ordering.{is_lt, is_le}
+use Rattle.std.specs.Prelude.{◌≡◌, ◌==◌, Bool, not, ◌||◌, IsTrue, List, [], ◌∷◌, length}
 use Rattle.std.specs.declared.ops.Bound.{Bound}
 use Rattle.std.specs.declared.ops.Bound.TheVariants.{Included, Excluded, Unbounded}
 use Rattle.pep440_rs.specs.Agreement.{IsReleaseOnly}
 use Rattle.pep440_rs.specs.Matching.{list_matches}
 use Rattle.pep440_rs.specs.Specifiers.{Spec}
-use Rattle.pep440_rs.specs.Members.{pair_members, gap_members, list_members}
+use Rattle.pep440_rs.specs.Members.{gap_members}
 use Rattle.pep440_ranges.specs.Bounds.{is_valid, turned}
 use Rattle.pep440_ranges.specs.Segments.{Segment, lies_in, contains}
 use Rattle.pep440_version.specs.Key.{record_cmp}
@@ -25,15 +22,10 @@ IsReleaseBound Unbounded = Unit {0}
 abbrev pub IsReleasePair : Segment Record → Type 0
 IsReleasePair p = IsReleaseBound p.0 × IsReleaseBound p.1
 
--- an end and the next start: the end is below the start, or equal to it and not both are included
+-- an end and the next start: nothing lies from the start to the end, so the end is below the start, or equal to it and
+-- not both are included
 abbrev pub is_followed : Bound Record → Bound Record → Bool
-is_followed Unbounded start = false
-is_followed (Included v) Unbounded = false
-is_followed (Excluded v) Unbounded = false
-is_followed (Included v) (Included w) = is_lt (record_cmp v w)
-is_followed (Included v) (Excluded w) = is_le (record_cmp v w)
-is_followed (Excluded v) (Included w) = is_le (record_cmp v w)
-is_followed (Excluded v) (Excluded w) = is_le (record_cmp v w)
+is_followed end start = not (is_valid record_cmp start end)
 
 -- the pairs are valid segments, each followed by the next, and the first follows what ends so
 abbrev pub IsOrderedAfter : Bound Record → List (Segment Record) → Type 0
@@ -71,16 +63,3 @@ HoldsWithin pairs members = (v : Record) → IsReleaseOnly v → IsTrue (contain
 -- and no other release
 abbrev pub HoldsOnlyWithin : List (Segment Record) → List Spec → Type 0
 HoldsOnlyWithin pairs members = (v : Record) → IsReleaseOnly v → list_matches members v ≡ contains record_cmp pairs v
-
--- the members of one pair together contain exactly the releases within it
-abbrev pub PairAgrees : Type 0
-PairAgrees = (p : Segment Record) → IsReleasePair p → MatchesWithin p (pair_members p.0 p.1)
-
--- the members of a list of pairs, however arranged, contain every release within the pairs
-abbrev pub ContainsWithin : Type 0
-ContainsWithin = (pairs : List (Segment Record)) (members : List Spec) → IsOrdered pairs → All IsReleasePair pairs → IsPermutation (list_members pairs) members → HoldsWithin pairs members
-
--- and no other release, where each gap is known
-abbrev pub ContainsOnlyWithin : Type 0
-ContainsOnlyWithin = (pairs : List (Segment Record)) (members : List Spec) → IsOrdered pairs → All IsReleasePair pairs → KnowsGaps pairs → IsPermutation (list_members pairs) members →
-    HoldsOnlyWithin pairs members

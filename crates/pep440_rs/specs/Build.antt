@@ -1,7 +1,8 @@
 -- How a specifier is built of an operator and a pattern (PEP 440, "Version specifiers"): the star rule, the local
 -- rule and the two numbers for `~=`, asked in this order.
-use Rattle.std.specs.Prelude.{Bool, true, false, ◌==◌, ◌&&◌, not, nat_lt, length, Result, Ok, Err, if◌then◌else◌}
+use Rattle.std.specs.Prelude.{Bool, true, false, ◌&&◌, not, nat_lt, length, Result, Ok, Err, if◌then◌else◌}
 use Rattle.pep440_version.specs.Record.{Record}
+use Rattle.pep440_rs.specs.Matching.{has_local}
 use Rattle.pep440_rs.specs.Operators.{allows_local}
 use Rattle.pep440_rs.specs.Specifiers.{Spec}
 use Rattle.pep440_rs.specs.declared.operator.Operator.{Operator}
@@ -12,15 +13,6 @@ pub data BuildRefusal : Type 0 where
   OperatorLocalCombo : Operator → Record → BuildRefusal
   OperatorWithStar : Operator → BuildRefusal
   CompatibleRelease : BuildRefusal
-
--- `==` and `!=` have a star form, and no other operator, star forms included, goes with a star
-abbrev pub starred : Operator → Result Operator BuildRefusal
-starred Equal = Ok EqualStar
-starred NotEqual = Ok NotEqualStar
-starred o = Err (OperatorWithStar o)
-
-abbrev pub has_local : Record → Bool
-has_local r = not (length r.local == 0)
 
 abbrev pub is_compatible : Operator → Bool
 is_compatible TildeEqual = true
@@ -33,11 +25,9 @@ built o r =
     else if is_compatible o && nat_lt (length r.release) 2 then Err CompatibleRelease
     else Ok (record { operator = o; version = r })
 
-abbrev pub built_starred : Result Operator BuildRefusal → Record → Result Spec BuildRefusal
-built_starred (Ok o) r = built o r
-built_starred (Err b) r = Err b
-
--- of a pattern
+-- of a pattern: `==` and `!=` have a star form, and no other operator, star forms included, goes with a star
 abbrev pub built_pattern : Operator → Record → Bool → Result Spec BuildRefusal
 built_pattern o r false = built o r
-built_pattern o r true = built_starred (starred o) r
+built_pattern Equal r true = built EqualStar r
+built_pattern NotEqual r true = built NotEqualStar r
+built_pattern o r true = Err (OperatorWithStar o)

@@ -10,7 +10,6 @@ use Rattle.pep440_rs.specs.Build.{BuildRefusal, OperatorLocalCombo, OperatorWith
 use Rattle.pep440_rs.specs.Errors.{build_kind_of, build_refusal_of, operator_kind_of}
 use Rattle.pep440_rs.specs.Operators.{operator_text}
 use Rattle.pep440_rs.specs.SpecifierGrammar.{SpecifierRefusal, MissingOperator, InvalidOperator, MissingVersion, InvalidVersion, InvalidSpecifier, InvalidTrailing}
-use Rattle.pep440_rs.specs.declared.error.BuildErrorKind.{BuildErrorKind}
 use Rattle.pep440_rs.specs.declared.error.OperatorErrorKind.{OperatorErrorKind}
 use Rattle.pep440_rs.specs.declared.error.OperatorErrorKind.TheVariants as operator
 use Rattle.pep440_rs.specs.declared.error.ParseErrorKind.{ParseErrorKind}
@@ -18,12 +17,9 @@ use Rattle.pep440_rs.specs.declared.error.ParseErrorKind.TheVariants as parse
 use Rattle.pep440_rs.specs.declared.range_error.RangeError.{RangeError}
 use Rattle.pep440_rs.specs.declared.range_error.RangeError.TheVariants as range
 
--- the text in quotes, as Rust's debug form writes it
-abbrev pub quoted : List ℕ → List ℕ
-quoted text = 34 ∷ (flat_map (debug_escape 34) text ++ 34 ∷ [])
-
+-- the text stands in quotes, as Rust's debug form writes it
 abbrev pub unknown_text : List ℕ → List ℕ
-unknown_text got = codes "no such comparison operator " ++ (quoted got ++ codes ", must be one of ~= == != <= >= < > ===")
+unknown_text got = codes "no such comparison operator " ++ ((34 ∷ (flat_map (debug_escape 34) got ++ 34 ∷ [])) ++ codes ", must be one of ~= == != <= >= < > ===")
 
 abbrev pub operator_text_of : OperatorErrorKind → Option (List ℕ)
 operator_text_of (operator.Unknown got) = if list_all is_ascii (string_bytes got) then Some (unknown_text (string_bytes got)) else None
@@ -35,12 +31,6 @@ build_text (OperatorLocalCombo o r) = codes "Operator " ++ (operator_text o ++ (
 build_text (OperatorWithStar o) = codes "Operator " ++ (operator_text o ++ codes " cannot be used with a wildcard version specifier")
 build_text CompatibleRelease = codes "The ~= operator requires at least two segments in the release version"
 
-abbrev pub build_error_text : BuildErrorKind → List ℕ
-build_error_text kind = build_text (build_refusal_of kind)
-
-abbrev pub trailing_text : List ℕ → List ℕ
-trailing_text rest = codes "Trailing `" ++ (rest ++ codes "` is not allowed")
-
 -- the text of a refusal
 abbrev pub specifier_refusal_text : SpecifierRefusal → List ℕ
 specifier_refusal_text MissingOperator = codes "Unexpected end of version specifier, expected operator"
@@ -48,7 +38,7 @@ specifier_refusal_text (InvalidOperator got) = unknown_text got
 specifier_refusal_text MissingVersion = codes "Unexpected end of version specifier, expected version"
 specifier_refusal_text (InvalidVersion f) = pattern_refusal_text f
 specifier_refusal_text (InvalidSpecifier b) = build_text b
-specifier_refusal_text (InvalidTrailing rest) = trailing_text rest
+specifier_refusal_text (InvalidTrailing rest) = codes "Trailing `" ++ (rest ++ codes "` is not allowed")
 
 -- the text of an error; one that holds an inner error has the inner text
 abbrev pub specifier_text_of : ParseErrorKind → Option (List ℕ)
@@ -56,8 +46,8 @@ specifier_text_of parse.MissingOperator = Some (specifier_refusal_text MissingOp
 specifier_text_of (parse.InvalidOperator e) = operator_text_of (operator_kind_of e)
 specifier_text_of parse.MissingVersion = Some (specifier_refusal_text MissingVersion)
 specifier_text_of (parse.InvalidVersion e) = pattern_error_text (pattern_error_refusal e)
-specifier_text_of (parse.InvalidSpecifier e) = Some (build_error_text (build_kind_of e))
-specifier_text_of (parse.InvalidTrailing rest) = Some (trailing_text (string_bytes rest))
+specifier_text_of (parse.InvalidSpecifier e) = Some (build_text (build_refusal_of (build_kind_of e)))
+specifier_text_of (parse.InvalidTrailing rest) = Some (specifier_refusal_text (InvalidTrailing (string_bytes rest)))
 specifier_text_of parse.OutOfMemory = Some (codes "out of memory")
 
 -- why a conversion into a range is refused

@@ -1,6 +1,6 @@
 -- What an error says, apart from where it lies in memory.
 use Rattle.std.specs.Prelude.{◌≡◌, ℕ, List, Option, option_map, Some, None, Result, Ok, Err, string_bytes, IfSome}
-use Rattle.pep440_version.specs.Errors.{pattern_kind_of, pattern_refusal_of}
+use Rattle.pep440_version.specs.Errors.{Answers, pattern_kind_of, pattern_refusal_of}
 use Rattle.pep440_rs.specs.Build.{BuildRefusal, OperatorLocalCombo, OperatorWithStar, CompatibleRelease}
 use Rattle.pep440_rs.specs.SpecifierGrammar.{SpecifierRefusal, MissingOperator, InvalidOperator, MissingVersion, InvalidVersion, InvalidSpecifier, InvalidTrailing}
 use Rattle.pep440_rs.specs.Specifiers.{Spec}
@@ -32,8 +32,7 @@ build_refusal_of build.CompatibleRelease = CompatibleRelease
 
 -- what was built is what the rules give
 abbrev pub Builds : Result Spec VersionSpecifierBuildError → Result Spec BuildRefusal → Type 0
-Builds (Ok s) rules = rules ≡ Ok s
-Builds (Err e) rules = rules ≡ Err (build_refusal_of (build_kind_of e))
+Builds = Answers (λ e. Some (build_refusal_of (build_kind_of e)))
 
 abbrev pub parse_kind_of : VersionSpecifierParseError → ParseErrorKind
 parse_kind_of e = e.kind
@@ -59,5 +58,4 @@ SpecifierGives (Err kind) read = IfSome (specifier_refusal_of kind) (λ f. read 
 
 -- the same of the public reader
 abbrev pub SpecifierAnswers : Result Spec VersionSpecifierParseError → Result Spec SpecifierRefusal → Type 0
-SpecifierAnswers (Ok s) read = read ≡ Ok s
-SpecifierAnswers (Err e) read = IfSome (specifier_refusal_of (parse_kind_of e)) (λ f. read ≡ Err f)
+SpecifierAnswers = Answers (λ e. specifier_refusal_of (parse_kind_of e))

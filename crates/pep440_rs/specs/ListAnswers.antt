@@ -1,5 +1,6 @@
 -- What a list's reader answers.
 use Rattle.std.specs.Prelude.{◌≡◌, ℕ, List, [], Result, Ok, Err, string_bytes, IfSome}
+use Rattle.pep440_version.specs.Errors.{Answers}
 use Rattle.pep440_rs.specs.Arrangement.{Arranges}
 use Rattle.pep440_rs.specs.ListErrors.{list_refusal_of}
 use Rattle.pep440_rs.specs.ListGrammar.{PieceRefusal}
@@ -21,8 +22,7 @@ line_for text OutOfMemory = []
 
 -- the answer is this outcome, unless memory ran out
 abbrev pub ListAnswers : Result (List Spec) VersionSpecifiersParseError → Result (List Spec) PieceRefusal → Type 0
-ListAnswers (Ok list) outcome = outcome ≡ Ok list
-ListAnswers (Err e) outcome = IfSome (list_refusal_of (list_kind_of e)) (λ f. outcome ≡ Err f)
+ListAnswers = Answers (λ e. list_refusal_of (list_kind_of e))
 
 -- the answer is the arrangement of the members that reading gives, or its refusal, unless memory ran out
 abbrev pub ListReads : Result (List Spec) VersionSpecifiersParseError → Result (List Spec) PieceRefusal → Type 0

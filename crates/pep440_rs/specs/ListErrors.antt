@@ -13,19 +13,15 @@ list_refusal_of (Piece error start stop) = option_map (λ f. record { error = f;
 list_refusal_of OutOfMemory = None
 
 -- where the piece begins and ends
-abbrev pub start_of : SpecifiersErrorKind → ℕ
-start_of (Piece error start stop) = start
-start_of OutOfMemory = 0
-
-abbrev pub stop_of : SpecifiersErrorKind → ℕ
-stop_of (Piece error start stop) = stop
-stop_of OutOfMemory = 0
+abbrev pub span_of : SpecifiersErrorKind → ℕ × ℕ
+span_of (Piece error start stop) = (start, stop)
+span_of OutOfMemory = (0, 0)
 
 -- the piece is a part of the text, and the text may be cut at both its ends
 pub record IsSpan (text : List ℕ) (kind : SpecifiersErrorKind) : Type 0 where
-  pub in_order : start_of kind ≤ stop_of kind
-  pub starts : IsCharBoundary text (start_of kind)
-  pub stops : IsCharBoundary text (stop_of kind)
+  pub in_order : (span_of kind).0 ≤ (span_of kind).1
+  pub starts : IsCharBoundary text (span_of kind).0
+  pub stops : IsCharBoundary text (span_of kind).1
 
 -- want of memory is said by the last kind, and not inside another
 abbrev pub IsListLifted : SpecifiersErrorKind → Type 0

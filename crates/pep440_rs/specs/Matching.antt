@@ -80,10 +80,8 @@ abbrev pub is_exact : Operator → Bool
 is_exact ExactEqual = true
 is_exact _ = false
 
--- the members before the first `===`
-abbrev pub before_exact : List Spec → List Spec
-before_exact members = take_while (λ m. not (is_exact m.operator)) members
-
--- these alone tell whether the list contains v: they are all there are, or one of them doesn't contain it
+-- the members before the first `===` alone tell whether the list contains v: they are all there are, or one of them
+-- doesn't contain it
 abbrev pub is_told_before_exact : List Spec → Record → Bool
-is_told_before_exact members v = list_all (λ m. not (is_exact m.operator)) members || not (list_matches (before_exact members) v)
+is_told_before_exact members v =
+    list_all (λ m. not (is_exact m.operator)) members || not (list_matches (take_while (λ m. not (is_exact m.operator)) members) v)

@@ -4,6 +4,7 @@ use Rattle.std.specs.Prelude.{ℕ, ◌+◌, ◌==◌, Bool, false, ◌&&◌, Lis
 use Rattle.std.specs.Ordering.{is_eq}
 use Rattle.std.specs.declared.ops.Bound.{Bound}
 use Rattle.std.specs.declared.ops.Bound.TheVariants.{Included, Excluded, Unbounded}
+use Rattle.pep440_rs.specs.Build.{BuildRefusal, OperatorLocalCombo}
 use Rattle.pep440_rs.specs.Matching.{has_local}
 use Rattle.pep440_rs.specs.Specifiers.{Spec}
 use Rattle.pep440_rs.specs.declared.operator.Operator.{Operator}
@@ -32,10 +33,10 @@ upper_member (Included v) = Some (spec LessThanEqual v)
 upper_member (Excluded v) = Some (spec LessThan v)
 upper_member Unbounded = None
 
--- a member whose version has a local part is refused with its operator
-abbrev pub without_locals : Option Spec → Result (Option Spec) Spec
+-- a member whose version has a local part is refused with its operator and its version
+abbrev pub without_locals : Option Spec → Result (Option Spec) BuildRefusal
 without_locals None = Ok None
-without_locals (Some m) = if has_local m.version then Err m else Ok (Some m)
+without_locals (Some m) = if has_local m.version then Err (OperatorLocalCombo m.operator m.version) else Ok (Some m)
 
 -- ---- of a pair of bounds
 

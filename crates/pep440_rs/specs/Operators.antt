@@ -20,16 +20,9 @@ operator_text GreaterThan = codes ">"
 operator_text GreaterThanEqual = codes ">="
 
 abbrev pub is_star : Operator → Bool
-is_star Equal = false
 is_star EqualStar = true
-is_star ExactEqual = false
-is_star NotEqual = false
 is_star NotEqualStar = true
-is_star TildeEqual = false
-is_star LessThan = false
-is_star LessThanEqual = false
-is_star GreaterThan = false
-is_star GreaterThanEqual = false
+is_star _ = false
 
 -- a text is that of an operator without a star
 abbrev pub Spells : List ℕ → Operator → Type 0
@@ -49,29 +42,18 @@ negated GreaterThanEqual = Some LessThan
 
 -- a specifier with this operator holds nothing below some version
 abbrev pub has_lower_bound : Operator → Bool
-has_lower_bound Equal = true
-has_lower_bound EqualStar = true
-has_lower_bound ExactEqual = true
 has_lower_bound NotEqual = false
 has_lower_bound NotEqualStar = false
-has_lower_bound TildeEqual = true
 has_lower_bound LessThan = false
 has_lower_bound LessThanEqual = false
-has_lower_bound GreaterThan = true
-has_lower_bound GreaterThanEqual = true
+has_lower_bound _ = true
 
 -- a version with a local part may follow
 abbrev pub allows_local : Operator → Bool
 allows_local Equal = true
-allows_local EqualStar = false
 allows_local ExactEqual = true
 allows_local NotEqual = true
-allows_local NotEqualStar = false
-allows_local TildeEqual = false
-allows_local LessThan = false
-allows_local LessThanEqual = false
-allows_local GreaterThan = false
-allows_local GreaterThanEqual = false
+allows_local _ = false
 
 -- the place in the enum, from 0
 abbrev pub operator_rank : Operator → ℕ

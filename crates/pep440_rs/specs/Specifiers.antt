@@ -20,12 +20,9 @@ pub record Spec : Type 0 where
 abbrev pub IsSpec : Spec → Type 0
 IsSpec s = s.operator ≡ TildeEqual → 1 < length s.version.release
 
-abbrev pub star_text : Operator → List ℕ
-star_text o = if is_star o then codes ".*" else []
-
 -- the operator, the version, and `.*` for a star form
 abbrev pub spec_print : Spec → List ℕ
-spec_print s = operator_text s.operator ++ (print s.version ++ star_text s.operator)
+spec_print s = operator_text s.operator ++ (print s.version ++ (if is_star s.operator then codes ".*" else []))
 
 -- by operator, then by version
 abbrev pub spec_cmp : Spec → Spec → Ordering

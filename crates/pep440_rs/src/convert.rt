@@ -1,8 +1,8 @@
 //! The range of a specifier, by the whole order of versions.
 ghost use Rattle.std.specs.Prelude.{◌≡◌, ◌≤◌, length, IfOk, IsErrOf, Some, None};
-ghost use Rattle.pep440_rs.specs.Agreement.{Agrees, HasOperand, HoldsOnlyMatches, HoldsAllMatches};
-ghost use Rattle.pep440_rs.specs.Bounds.{range_of, greater, compatible, compatible_end, star, star_end};
-ghost use Rattle.pep440_rs.specs.Refused.{TellsMax, raises_max};
+ghost use Rattle.pep440_rs.specs.Agreement.{Agrees, IsCandidate, HasOperand, HoldsOnlyMatches, HoldsAllMatches};
+ghost use Rattle.pep440_rs.specs.Bounds.{range_of, greater, compatible_end, star, star_end};
+ghost use Rattle.pep440_rs.specs.Refused.{TellsMax, raised_number, raises_max};
 ghost use Rattle.pep440_version.specs.Record.{Record};
 
 use crate::operator::Operator;
@@ -62,8 +62,8 @@ fn compatible_end(alloc: Global, version: &Version) -> Result<Version, RangeErro
 
 fn compatible(alloc: Global, version: Version) -> Result<Ranges<Version>, RangeError>
     requires { 2 ≤ length version.release }
-    ensures range { IfOk result (λ r. compatible version ≡ Some r) }
-    ensures refused { IsErrOf result RangeError.NumberAtMax → compatible version ≡ None }
+    ensures range { IfOk result (λ r. range_of Operator.TildeEqual version ≡ Some r) }
+    ensures refused { IsErrOf result RangeError.NumberAtMax → range_of Operator.TildeEqual version ≡ None }
 {
     let end = compatible_end(alloc, &version)?;
     Ok(Ranges::from_range_bounds(alloc, Bound::Included(version), Bound::Excluded(end))?)
@@ -138,10 +138,10 @@ pub fn specifier_to_range(
     ensures range { IfOk result (λ r. range_of specifier.operator specifier.version ≡ Some r) }
     ensures refused { IsErrOf result RangeError.NumberAtMax → range_of specifier.operator specifier.version ≡ None }
     // `NumberAtMax` exactly where the number to be raised is the greatest there is, unless memory runs out.
-    ensures at_max { TellsMax (raises_max specifier) result }
+    ensures at_max { TellsMax (raises_max raised_number specifier) result }
     // Of a version that a text can give beside the operator it holds exactly what the specifier contains, where the two
     // can be compared.
-    ensures agrees { HasOperand specifier → IfOk result (Agrees specifier) }
+    ensures agrees { HasOperand specifier → IfOk result (Agrees IsCandidate specifier) }
     // Whatever the suffixes, the range of `<` holds only what matches, and that of `>` all that matches.
     ensures within { HasOperand specifier → IfOk result (HoldsOnlyMatches specifier) }
     ensures around { HasOperand specifier → IfOk result (HoldsAllMatches specifier) }

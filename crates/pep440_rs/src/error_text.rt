@@ -5,8 +5,8 @@ ghost use Rattle.std.specs.Char.{is_ascii};
 ghost use Rattle.std.specs.List.{flat_map, list_all};
 ghost use Rattle.pep440_version.specs.Print.{dotted, segment_print};
 ghost use Rattle.pep440_version.specs.Segments.{segment};
-ghost use Rattle.pep440_rs.specs.Errors.{build_kind_of, operator_kind_of, parse_kind_of};
-ghost use Rattle.pep440_rs.specs.ErrorTexts.{build_error_text, operator_text_of, range_error_text, specifier_text_of, unknown_text};
+ghost use Rattle.pep440_rs.specs.Errors.{build_kind_of, build_refusal_of, operator_kind_of, parse_kind_of};
+ghost use Rattle.pep440_rs.specs.ErrorTexts.{build_text, operator_text_of, range_error_text, specifier_text_of, unknown_text};
 ghost use Rattle.pep440_rs.specs.Operators.{operator_text};
 
 use crate::error::{
@@ -141,7 +141,7 @@ fn write_local_combo<W: fmt::Write>(
 }
 
 fn write_build_kind<W: fmt::Write>(f: &mut fmt::Formatter<W>, kind: &BuildErrorKind) -> fmt::Result
-    ensures { WritesStyledOnOk W.write_str_gives f.old result (build_error_text kind.now) f.new }
+    ensures { WritesStyledOnOk W.write_str_gives f.old result (build_text (build_refusal_of kind.now)) f.new }
 {
     match kind {
         BuildErrorKind::OperatorLocalCombo { operator, version } => {
@@ -163,9 +163,9 @@ fn write_build_kind<W: fmt::Write>(f: &mut fmt::Formatter<W>, kind: &BuildErrorK
 }
 
 impl fmt::Display for VersionSpecifierBuildError {
-    ghost output = { λ e. Some (build_error_text (build_kind_of e)) };
+    ghost output = { λ e. Some (build_text (build_refusal_of (build_kind_of e))) };
 
-    ghost styled_output = { λ e _. Some (build_error_text (build_kind_of e)) };
+    ghost styled_output = { λ e _. Some (build_text (build_refusal_of (build_kind_of e))) };
 
     fn fmt<W: fmt::Write>(&self, f: &mut fmt::Formatter<W>) -> fmt::Result {
         write_build_kind(f, self.kind())

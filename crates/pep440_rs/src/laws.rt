@@ -1,14 +1,17 @@
 //! What holds of matching and of ranges, each as the contract of a function that does nothing.
 ghost use Rattle.std.specs.Prelude.{◌≡◌, ◌⊎◌, ℕ, Some, List, not};
 ghost use Rattle.std.specs.List.{All};
-ghost use Rattle.pep440_rs.specs.Agreement.{Agrees, HasOperand, HoldsOnlyMatches, HoldsAllMatches, ReleaseAgrees, ListAgrees, ReleaseListAgrees, HoldsInEach, HasFewSegments, RefusedByAMember, GivesRanges, GivesFew};
+ghost use Rattle.std.specs.List.Sorted.{IsPermutation};
+ghost use Rattle.pep440_rs.specs.Agreement.{Agrees, HasOperand, HoldsOnlyMatches, HoldsAllMatches, IsCandidate, IsReleaseComparable, ListAgrees, HoldsInEach, HasFewSegments, RefusedByAMember, GivesRanges, GivesFew};
 ghost use Rattle.pep440_rs.specs.Arrangement.{Arranges};
-ghost use Rattle.pep440_rs.specs.BoundsAgreement.{PairAgrees, ContainsWithin, ContainsOnlyWithin};
+ghost use Rattle.pep440_rs.specs.BoundsAgreement.{HoldsOnlyWithin, HoldsWithin, IsOrdered, IsReleasePair, KnowsGaps, MatchesWithin};
 ghost use Rattle.pep440_rs.specs.Bounds.{Segments, range_of, release_range_of, list_range};
 ghost use Rattle.pep440_rs.specs.ListGrammar.{DerivesList, PieceRefusal, RefusesList};
 ghost use Rattle.pep440_rs.specs.Matching.{matches};
+ghost use Rattle.pep440_rs.specs.Members.{list_members, pair_members};
 ghost use Rattle.pep440_rs.specs.SpecifierGrammar.{DerivesSpecifier, HasText, RefusesSpecifier, SpecifierRefusal};
 ghost use Rattle.pep440_rs.specs.Specifiers.{Spec};
+ghost use Rattle.pep440_ranges.specs.Segments.{Segment};
 ghost use Rattle.pep440_version.specs.Record.{Record};
 ghost use Rattle.pep440_rs.specs.Refused.{RefusedAtMax, raised_number, raised_release_number};
 
@@ -55,28 +58,28 @@ pub fn texts_give_operands()
 /// two can be compared; whatever the suffixes, the range of `<` holds only what matches, and that of `>` all that
 /// matches. So it is of each specifier that a text gives (`texts_give_operands`).
 pub fn range_agrees()
-    ensures agrees { (s : Spec) (range : Segments) → range_of s.operator s.version ≡ Some range → HasOperand s → Agrees s range }
+    ensures agrees { (s : Spec) (range : Segments) → range_of s.operator s.version ≡ Some range → HasOperand s → Agrees IsCandidate s range }
     ensures within { (s : Spec) (range : Segments) → range_of s.operator s.version ≡ Some range → HasOperand s → HoldsOnlyMatches s range }
     ensures around { (s : Spec) (range : Segments) → range_of s.operator s.version ≡ Some range → HasOperand s → HoldsAllMatches s range }
 {}
 
 /// The same of what texts give, alone or as members of any list, in one step.
 pub fn range_of_text_agrees()
-    ensures single { (s : Spec) (range : Segments) → range_of s.operator s.version ≡ Some range → HasText s → Agrees s range }
-    ensures list { (members : List Spec) (range : Segments) → list_range range_of members ≡ Some range → All HasText members → ListAgrees members range }
+    ensures single { (s : Spec) (range : Segments) → range_of s.operator s.version ≡ Some range → HasText s → Agrees IsCandidate s range }
+    ensures list { (members : List Spec) (range : Segments) → list_range range_of members ≡ Some range → All HasText members → ListAgrees IsCandidate members range }
     ensures within { (s : Spec) (range : Segments) → range_of s.operator s.version ≡ Some range → HasText s → HoldsOnlyMatches s range }
     ensures around { (s : Spec) (range : Segments) → range_of s.operator s.version ≡ Some range → HasText s → HoldsAllMatches s range }
 {}
 
 /// Of releases alone the release-only range holds exactly what the specifier contains.
 pub fn release_range_agrees()
-    ensures { (op : Operator) (s : Record) (range : Segments) → release_range_of op s ≡ Some range → ReleaseAgrees op s range }
+    ensures { (s : Spec) (range : Segments) → release_range_of s.operator s.version ≡ Some range → Agrees IsReleaseComparable s range }
 {}
 
 /// The same of lists, by either conversion.
 pub fn list_agrees()
-    ensures whole { (members : List Spec) (range : Segments) → list_range range_of members ≡ Some range → All HasOperand members → ListAgrees members range }
-    ensures release { (members : List Spec) (range : Segments) → list_range release_range_of members ≡ Some range → ReleaseListAgrees members range }
+    ensures whole { (members : List Spec) (range : Segments) → list_range range_of members ≡ Some range → All HasOperand members → ListAgrees IsCandidate members range }
+    ensures release { (members : List Spec) (range : Segments) → list_range release_range_of members ≡ Some range → ListAgrees IsReleaseComparable members range }
 {}
 
 /// The range of a list is the intersection of its members' ranges, and refused exactly where one of them is.
@@ -106,7 +109,8 @@ pub fn refused_at_max()
 /// The members made of bounds contain the releases within the bounds: those of one pair exactly these, those of
 /// a list of pairs all of these, and no other where each gap is known.
 pub fn bounds_agree()
-    ensures pair { PairAgrees }
-    ensures all { ContainsWithin }
-    ensures only { ContainsOnlyWithin }
+    ensures pair { (p : Segment Record) → IsReleasePair p → MatchesWithin p (pair_members p.0 p.1) }
+    // Of a list of pairs, however its members are arranged.
+    ensures all { (pairs : List (Segment Record)) (members : List Spec) → IsOrdered pairs → All IsReleasePair pairs → IsPermutation (list_members pairs) members → HoldsWithin pairs members }
+    ensures only { (pairs : List (Segment Record)) (members : List Spec) → IsOrdered pairs → All IsReleasePair pairs → KnowsGaps pairs → IsPermutation (list_members pairs) members → HoldsOnlyWithin pairs members }
 {}

@@ -1,6 +1,6 @@
 //! Why a text is no list of specifiers.
 ghost use Rattle.std.specs.Prelude.{◌≡◌, ◌≤◌, ◌⊎◌, [], IsCharBoundary, string_bytes};
-ghost use Rattle.pep440_rs.specs.ListErrors.{IsSpan, list_refusal_of, start_of, stop_of};
+ghost use Rattle.pep440_rs.specs.ListErrors.{IsSpan, list_refusal_of, span_of};
 ghost use Rattle.pep440_rs.specs.declared.list_error.SpecifiersErrorKind.TheVariants.{OutOfMemory};
 
 use crate::error::VersionSpecifierParseError;
@@ -23,7 +23,7 @@ pub enum SpecifiersErrorKind {
 }
 
 impl Clone for SpecifiersErrorKind {
-    ghost is_clone = { λ kind copy. (list_refusal_of copy ≡ list_refusal_of kind) × (start_of copy ≡ start_of kind) × (stop_of copy ≡ stop_of kind) };
+    ghost is_clone = { λ kind copy. (list_refusal_of copy ≡ list_refusal_of kind) × (span_of copy ≡ span_of kind) };
 
     fn clone(&self) -> Result<SpecifiersErrorKind, AllocError> {
         match self {
@@ -58,9 +58,9 @@ impl<T: Drop> From<AllocFailed<T>> for SpecifiersErrorKind {
 pub struct VersionSpecifiersParseError {
     kind: SpecifiersErrorKind,
     line: String,
-    ghost in_order: { start_of kind ≤ stop_of kind },
-    ghost starts: { IsCharBoundary (string_bytes line) (start_of kind) },
-    ghost stops: { IsCharBoundary (string_bytes line) (stop_of kind) },
+    ghost in_order: { (span_of kind).0 ≤ (span_of kind).1 },
+    ghost starts: { IsCharBoundary (string_bytes line) (span_of kind).0 },
+    ghost stops: { IsCharBoundary (string_bytes line) (span_of kind).1 },
 }
 
 impl VersionSpecifiersParseError {

@@ -1,9 +1,9 @@
 //! The range of a list of specifiers, by either conversion.
 ghost use Rattle.std.specs.Prelude.{◌≡◌, IfOk, IsErrOf, Some, None};
-ghost use Rattle.std.specs.List.{All};
-ghost use Rattle.pep440_rs.specs.Agreement.{HasOperand, ListAgrees, ReleaseListAgrees, HoldsInEach, HasFewSegments};
+ghost use Rattle.std.specs.List.{All, list_any};
+ghost use Rattle.pep440_rs.specs.Agreement.{HasOperand, IsCandidate, IsReleaseComparable, ListAgrees, HoldsInEach, HasFewSegments};
 ghost use Rattle.pep440_rs.specs.Bounds.{range_of, release_range_of, list_range};
-ghost use Rattle.pep440_rs.specs.Refused.{TellsMax, some_raises_max, some_release_raises_max};
+ghost use Rattle.pep440_rs.specs.Refused.{TellsMax, raised_number, raised_release_number, raises_max};
 
 use crate::convert::specifier_to_range;
 use crate::meet::meet;
@@ -20,7 +20,7 @@ use std::alloc::Global;
 fn list_range(alloc: Global, members: Vec<VersionSpecifier>) -> Result<Ranges<Version>, RangeError>
     ensures range { IfOk result (λ r. list_range range_of members.items ≡ Some r) }
     ensures refused { IsErrOf result RangeError.NumberAtMax → list_range range_of members.items ≡ None }
-    ensures at_max { TellsMax (some_raises_max members.items) result }
+    ensures at_max { TellsMax (list_any (raises_max raised_number) members.items) result }
 {
     let mut ranges = Vec::new(alloc);
     for member in members {
@@ -43,10 +43,10 @@ pub fn specifiers_to_ranges(
     ensures range { IfOk result (λ r. list_range range_of specifiers ≡ Some r) }
     ensures refused { IsErrOf result RangeError.NumberAtMax → list_range range_of specifiers ≡ None }
     // `NumberAtMax` exactly where some member has to raise the greatest number there is, unless memory runs out.
-    ensures at_max { TellsMax (some_raises_max specifiers) result }
+    ensures at_max { TellsMax (list_any (raises_max raised_number) specifiers) result }
     // Of members whose versions texts can give it holds exactly what the list contains, where range and matching of each
     // can be compared.
-    ensures agrees { All HasOperand specifiers → IfOk result (ListAgrees specifiers) }
+    ensures agrees { All HasOperand specifiers → IfOk result (ListAgrees IsCandidate specifiers) }
     // It holds what the range of each member holds.
     ensures set { IfOk result (λ r. HoldsInEach range_of specifiers r) }
     // It has at most one segment more than the list has exclusions.
@@ -64,7 +64,7 @@ fn release_list_range(
 ) -> Result<Ranges<Version>, RangeError>
     ensures range { IfOk result (λ r. list_range release_range_of members.items ≡ Some r) }
     ensures refused { IsErrOf result RangeError.NumberAtMax → list_range release_range_of members.items ≡ None }
-    ensures at_max { TellsMax (some_release_raises_max members.items) result }
+    ensures at_max { TellsMax (list_any (raises_max raised_release_number) members.items) result }
 {
     let mut ranges = Vec::new(alloc);
     for member in members {
@@ -87,9 +87,9 @@ pub fn release_specifiers_to_ranges(
     ensures range { IfOk result (λ r. list_range release_range_of specifiers ≡ Some r) }
     ensures refused { IsErrOf result RangeError.NumberAtMax → list_range release_range_of specifiers ≡ None }
     // `NumberAtMax` exactly where some member has to raise the greatest number there is, unless memory runs out.
-    ensures at_max { TellsMax (some_release_raises_max specifiers) result }
+    ensures at_max { TellsMax (list_any (raises_max raised_release_number) specifiers) result }
     // Of releases alone it holds exactly what the list contains.
-    ensures agrees { IfOk result (λ r. ReleaseListAgrees specifiers r) }
+    ensures agrees { IfOk result (λ r. ListAgrees IsReleaseComparable specifiers r) }
     // It holds what the range of each member holds.
     ensures set { IfOk result (λ r. HoldsInEach release_range_of specifiers r) }
     // It has at most one segment more than the list has exclusions.

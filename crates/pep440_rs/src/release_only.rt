@@ -1,8 +1,8 @@
 //! The range of a specifier, by releases alone.
 ghost use Rattle.std.specs.Prelude.{◌≡◌, ◌≤◌, ◌<◌, length, IfOk, IsErrOf, Some, None};
-ghost use Rattle.pep440_rs.specs.Agreement.{ReleaseAgrees};
+ghost use Rattle.pep440_rs.specs.Agreement.{Agrees, IsReleaseComparable};
 ghost use Rattle.pep440_rs.specs.Bounds.{release_range_of, release_up_to};
-ghost use Rattle.pep440_rs.specs.Refused.{TellsMax, release_raises_max};
+ghost use Rattle.pep440_rs.specs.Refused.{TellsMax, raised_release_number, raises_max};
 ghost use Rattle.pep440_version.specs.Record.{Record, of_release};
 
 use crate::operator::Operator;
@@ -87,9 +87,9 @@ pub fn release_specifier_to_range(
     ensures range { IfOk result (λ r. release_range_of specifier.operator specifier.version ≡ Some r) }
     ensures refused { IsErrOf result RangeError.NumberAtMax → release_range_of specifier.operator specifier.version ≡ None }
     // `NumberAtMax` exactly where the number to be raised is the greatest there is, unless memory runs out.
-    ensures at_max { TellsMax (release_raises_max specifier) result }
+    ensures at_max { TellsMax (raises_max raised_release_number specifier) result }
     // Of releases alone it holds exactly what the specifier contains.
-    ensures agrees { IfOk result (λ r. ReleaseAgrees specifier.operator specifier.version r) }
+    ensures agrees { IfOk result (Agrees IsReleaseComparable specifier) }
 {
     let version = specifier.version();
     // From this call it is known that there is a release number: for `at_max`.
