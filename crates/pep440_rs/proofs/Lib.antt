@@ -19,6 +19,8 @@ pub mod Around
 pub mod Arranged
 pub mod Associates
 pub mod Neighbours
+pub mod WholeLine
+pub mod Passed
 pub mod ListTells
 pub mod ListTold
 pub mod ListAgain

@@ -1,15 +1,16 @@
 -- Lists: the fold of intersections holds what each member's range holds.
-use Rattle.std.proofs.Common.{◌≡◌, ℕ, zero, suc, ◌+◌, ◌≤◌, ◌<◌, Bool, true, false, ◌&&◌, List, [], ◌∷◌, length, Option, Some, None, option_and_then, cond, slice_index_or, refl, sym, ap, ◌∙◌, arith}
+use Rattle.std.proofs.Common.{◌≡◌, ℕ, zero, suc, ◌+◌, ◌≤◌, ◌<◌, Bool, true, false, ◌&&◌, List, [], ◌∷◌, length, Option, Some, None, Result, Ok, Err, option_and_then, cond, slice_index_or, refl, sym, ap, subst, ◌∙◌, arith}
 use Rattle.std.proofs.lemmas.List.Elements.{All-tail}
 use Rattle.std.proofs.lemmas.List.Sums.{sum_by-append}
 use Rattle.std.specs.List.{All, Any, list_all}
 use Rattle.std.specs.Option.{option_map_or}
-use Rattle.std.specs.Prelude.{count_by}
+use Rattle.std.specs.Prelude.{IfOk, count_by}
 use Rattle.pep440_rs.specs.Agreement.{HasOperand, IsCandidate, IsReleaseComparable, ListAgrees, GivesRanges, GivesFew, HoldsInEach, HasFewSegments, RefusedByAMember, is_exclusion}
 use Rattle.pep440_rs.specs.Bounds.{Segments, range_of, release_range_of, range_from, list_range, full}
 use Rattle.pep440_rs.specs.Matching.{matches, list_matches}
 use Rattle.pep440_rs.specs.Specifiers.{Spec}
 use Rattle.pep440_rs.specs.declared.operator.Operator.{Operator}
+use Rattle.pep440_rs.specs.declared.range_error.RangeError.{RangeError}
 use Rattle.pep440_ranges.proofs.Laws.{overlaps_are_range, overlaps_hold_both, overlaps_are_few}
 use Rattle.pep440_ranges.specs.Intersection.{overlaps}
 use Rattle.pep440_ranges.specs.Segments.{contains, IsRange}
@@ -115,6 +116,12 @@ module _ (conversion : Operator → Record → Option Segments) where
 
   pub refused_by_a_member : (members : List Spec) → RefusedByAMember conversion members
   refused_by_a_member members = (refused_some full members, some_refused full members)
+
+-- what follows from being the list's range, as a call answers it; given are the members as they were taken out
+pub each_range : (conversion : Operator → Record → Option Segments) (members given : List Spec) → given ≡ members → (result : Result Segments RangeError) (P : Segments → Type 0) →
+    ((range : Segments) → list_range conversion members ≡ Some range → P range) → IfOk result (λ r. list_range conversion given ≡ Some r) → IfOk result P
+each_range conversion members given same (Ok range) P all is = all range (subst (λ m. list_range conversion m ≡ Some range) same is)
+each_range conversion members given same (Err e) P all is = tt
 
 pub list_agrees : (members : List Spec) (range : Segments) → list_range range_of members ≡ Some range → All HasOperand members → ListAgrees IsCandidate members range
 list_agrees members range h given v all =

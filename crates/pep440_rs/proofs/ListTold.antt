@@ -1,12 +1,12 @@
 -- The text of a list's error.
-use Rattle.std.proofs.Common.{◌≡◌, ℕ, List, Option, Some, None, Result, Ok, Err, refl, sym, ap, subst, option_map}
+use Rattle.std.proofs.Common.{◌≡◌, ℕ, List, Option, Some, None, Result, Ok, Err, refl, sym, ap, subst, option_map, ◌∙◌}
 use Rattle.std.specs.Prelude.{IfErr, IfSome}
 use Rattle.pep440_rs.specs.ErrorTexts.{specifier_refusal_text, specifier_text_of}
 use Rattle.pep440_rs.specs.Errors.{parse_kind_of, specifier_refusal_of}
 use Rattle.pep440_rs.specs.ListAnswers.{line_for, line_of, list_kind_of}
 use Rattle.pep440_rs.specs.ListErrors.{list_refusal_of}
 use Rattle.pep440_rs.specs.ListErrorTexts.{list_refusal_text, list_text_of, piece_text}
-use Rattle.pep440_rs.specs.ListGrammar.{RefusesList}
+use Rattle.pep440_rs.specs.ListGrammar.{PieceRefusal, RefusesList}
 use Rattle.pep440_rs.specs.SpecifierGrammar.{RefusesSpecifier, SpecifierRefusal}
 use Rattle.pep440_rs.specs.Specifiers.{Spec}
 use Rattle.pep440_rs.specs.declared.error.ParseErrorKind.{ParseErrorKind}
@@ -39,3 +39,17 @@ pub is_list_told : (text : List ℕ) (result : Result (List Spec) VersionSpecifi
     → IfErr result (λ e. line_of e ≡ line_for text (list_kind_of e)) → IfErr result (λ e. IfSome (list_refusal_of (list_kind_of e)) (λ f. list_text_of (list_kind_of e) (line_of e) ≡ Some (list_refusal_text f text)))
 is_list_told text (Ok list) h l = tt
 is_list_told text (Err e) h l = list_told text (list_kind_of e) (line_of e) l h
+
+-- a refusal holds the whole text
+pub holds_line : (text : List ℕ) (o : Option (List ℕ)) (result : Result (List Spec) VersionSpecifiersParseError) → o ≡ Some text → IfErr result (λ e. line_of e ≡ line_for text (list_kind_of e))
+    → IfErr result (λ e. IfSome (list_refusal_of (list_kind_of e)) (λ _. o ≡ Some (line_of e)))
+holds_line text o (Ok list) is held = tt
+holds_line text o (Err e) is held = of_kind (list_kind_of e) held
+  where
+    always : (r : Option PieceRefusal) {P : Type 0} → P → IfSome r (λ _. P)
+    always None p = tt
+    always (Some f) p = p
+
+    of_kind : (kind : SpecifiersErrorKind) → line_of e ≡ line_for text kind → IfSome (list_refusal_of kind) (λ _. o ≡ Some (line_of e))
+    of_kind OutOfMemory line = tt
+    of_kind (Piece error start stop) line = always (list_refusal_of (Piece error start stop)) (is ∙ ap Some (sym line))

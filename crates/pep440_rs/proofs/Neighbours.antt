@@ -33,3 +33,14 @@ fewer pairs new rest later others x first second all cut again is few =
   where
     count : (n : ℕ) → suc (suc n) ≡ n + 1 + 1
     count n = omega arith
+
+-- the last range makes one by itself
+pub last_alone : {X : Type 0} (pairs new rest later : List X) (x first : X) (all : ℕ) → rest ≡ first ∷ later → length later ≡ 0 → new ≡ pairs ++ x ∷ []
+    → length pairs + length pairs + length rest ≤ all + (1 - length rest) → length new + length new + length later ≤ all + (1 - length later)
+last_alone pairs new rest later x first all cut none is few =
+    let left : length rest ≡ length later + 1 = ap length cut ∙ count (length later) in
+    let made : length new ≡ length pairs + 1 = ap length is ∙ length_push pairs x in
+    omega (arith, left, none, made, few)
+  where
+    count : (n : ℕ) → suc n ≡ n + 1
+    count n = omega arith

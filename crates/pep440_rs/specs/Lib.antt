@@ -23,3 +23,4 @@ pub mod Matching
 pub mod Members
 pub mod Refused
 pub mod Json
+pub mod Conversions

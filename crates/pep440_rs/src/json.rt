@@ -32,10 +32,7 @@ use std::alloc::{AllocError, Global};
 fn string<E>(value: &Value) -> Result<&str, JsonError<E>>
     ensures { MatchResult result (λ t. IsString value.now t.now) (λ e. (e ≡ NotAString) × (text_of value.now ≡ None)) }
 {
-    match value.as_str() {
-        Some(text) => Ok(text),
-        None => Err(JsonError::NotAString),
-    }
+    value.as_str().ok_or_else(|| JsonError::NotAString)
 }
 
 // The refusal of a text, or want of memory.
@@ -106,10 +103,7 @@ pub fn version_from_json(
     ensures again { (t : List ℕ) (r : Record) → Derives t r → IsString value.now (print r) → JsonAnswers (λ e. refusal_of (kind_of e)) result (Ok r) }
 {
     let text = string::<VersionParseError>(value)?;
-    match Version::from_str(alloc, text) {
-        Ok(version) => Ok(version),
-        Err(error) => Err(of_version(error)),
-    }
+    Version::from_str(alloc, text).map_err(of_version)
 }
 
 // The members with commas between them.
@@ -161,10 +155,7 @@ impl VersionSpecifier {
         ensures again { (t : List ℕ) (s : Spec) → DerivesSpecifier t s → IsString value.now (spec_print s) → JsonAnswers (λ e. specifier_refusal_of (parse_kind_of e)) result (Ok s) }
     {
         let text = string::<VersionSpecifierParseError>(value)?;
-        match VersionSpecifier::from_str(alloc, text) {
-            Ok(specifier) => Ok(specifier),
-            Err(error) => Err(of_specifier(error)),
-        }
+        VersionSpecifier::from_str(alloc, text).map_err(of_specifier)
     }
 }
 
@@ -205,9 +196,6 @@ impl VersionSpecifiers {
         ensures again { (t : List ℕ) (list : List Spec) → DerivesList t list → IsString value.now (joined (codes ",") list) → JsonAnswers (λ e. list_refusal_of (list_kind_of e)) result (Ok list) }
     {
         let text = string::<VersionSpecifiersParseError>(value)?;
-        match VersionSpecifiers::from_str(alloc, text) {
-            Ok(list) => Ok(list),
-            Err(error) => Err(of_list(error)),
-        }
+        VersionSpecifiers::from_str(alloc, text).map_err(of_list)
     }
 }

@@ -3,6 +3,7 @@ ghost use Rattle.std.specs.Prelude.{◌≡◌, IfOk, IsErrOf, Some, None};
 ghost use Rattle.std.specs.List.{All, list_any};
 ghost use Rattle.pep440_rs.specs.Agreement.{HasOperand, IsCandidate, IsReleaseComparable, ListAgrees, HoldsInEach, HasFewSegments};
 ghost use Rattle.pep440_rs.specs.Bounds.{range_of, release_range_of, list_range};
+ghost use Rattle.pep440_rs.specs.Conversions.{converted, raised_by};
 ghost use Rattle.pep440_rs.specs.Refused.{TellsMax, raised_number, raised_release_number, raises_max};
 
 use crate::convert::specifier_to_range;
@@ -15,20 +16,47 @@ use pep440_ranges::Ranges;
 use pep440_version::Version;
 use std::alloc::Global;
 
+// How members become ranges.
+#[derive(Clone, Copy)]
+pub(crate) enum Conversion {
+    WholeOrder,
+    ReleaseOnly,
+}
+
+impl Conversion {
+    fn range(
+        self,
+        alloc: Global,
+        specifier: VersionSpecifier,
+    ) -> Result<Ranges<Version>, RangeError>
+        ensures range { IfOk result (λ r. converted self specifier.operator specifier.version ≡ Some r) }
+        ensures refused { IsErrOf result RangeError.NumberAtMax → converted self specifier.operator specifier.version ≡ None }
+        ensures at_max { TellsMax (raises_max (raised_by self) specifier) result }
+    {
+        match self {
+            Conversion::WholeOrder => specifier_to_range(alloc, specifier),
+            Conversion::ReleaseOnly => release_specifier_to_range(alloc, specifier),
+        }
+    }
+}
+
 // The intersection of the members' ranges, in the list's order. Each member is asked first, so that none is left out
 // where those before it leave nothing.
-fn list_range(alloc: Global, members: Vec<VersionSpecifier>) -> Result<Ranges<Version>, RangeError>
-    ensures range { IfOk result (λ r. list_range range_of members.items ≡ Some r) }
-    ensures refused { IsErrOf result RangeError.NumberAtMax → list_range range_of members.items ≡ None }
-    ensures at_max { TellsMax (list_any (raises_max raised_number) members.items) result }
+fn list_range(
+    alloc: Global,
+    conversion: Conversion,
+    members: Vec<VersionSpecifier>,
+) -> Result<Ranges<Version>, RangeError>
+    ensures range { IfOk result (λ r. list_range (converted conversion) members.items ≡ Some r) }
+    ensures refused { IsErrOf result RangeError.NumberAtMax → list_range (converted conversion) members.items ≡ None }
+    ensures at_max { TellsMax (list_any (raises_max (raised_by conversion)) members.items) result }
 {
     let mut ranges = Vec::new(alloc);
     for member in members {
-        let next = specifier_to_range(alloc, member)?;
+        let next = conversion.range(alloc, member)?;
         ranges.push(next)?;
     }
-    let range = meet(alloc, ranges)?;
-    Ok(range)
+    Ok(meet(alloc, ranges)?)
 }
 
 /// The range of a list: all versions, intersected with each member's range in the list's order (PEP 440, "Version
@@ -53,26 +81,7 @@ pub fn specifiers_to_ranges(
     ensures count { IfOk result (λ r. HasFewSegments specifiers r) }
 {
     let members = specifiers.into_members();
-    let range = list_range(alloc, members)?;
-    Ok(range)
-}
-
-// The same by releases alone.
-fn release_list_range(
-    alloc: Global,
-    members: Vec<VersionSpecifier>,
-) -> Result<Ranges<Version>, RangeError>
-    ensures range { IfOk result (λ r. list_range release_range_of members.items ≡ Some r) }
-    ensures refused { IsErrOf result RangeError.NumberAtMax → list_range release_range_of members.items ≡ None }
-    ensures at_max { TellsMax (list_any (raises_max raised_release_number) members.items) result }
-{
-    let mut ranges = Vec::new(alloc);
-    for member in members {
-        let next = release_specifier_to_range(alloc, member)?;
-        ranges.push(next)?;
-    }
-    let range = meet(alloc, ranges)?;
-    Ok(range)
+    list_range(alloc, Conversion::WholeOrder, members)
 }
 
 /// The release-only range of a list: all versions, intersected with each member's in the list's order (PEP 440,
@@ -96,6 +105,5 @@ pub fn release_specifiers_to_ranges(
     ensures count { IfOk result (λ r. HasFewSegments specifiers r) }
 {
     let members = specifiers.into_members();
-    let range = release_list_range(alloc, members)?;
-    Ok(range)
+    list_range(alloc, Conversion::ReleaseOnly, members)
 }

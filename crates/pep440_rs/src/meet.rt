@@ -1,7 +1,9 @@
 //! The intersection of many ranges, by halves: n ranges of one segment or two take n log n steps.
 ghost use Rattle.std.specs.Prelude.{◌≡◌, ◌<◌, IfOk, List, fold, length};
 ghost use Rattle.pep440_ranges.specs.Intersection.{overlaps};
+ghost use Rattle.std.specs.List.{All};
 ghost use Rattle.pep440_rs.specs.Bounds.{Segments, full};
+ghost use Rattle.pep440_rs.specs.Conversions.{IsKept};
 ghost use Rattle.pep440_version.specs.Key.{record_cmp};
 
 use pep440_ranges::Ranges;
@@ -12,6 +14,7 @@ use std::alloc::{AllocError, Global};
 fn paired(alloc: Global, ranges: &[Ranges<Version>]) -> Result<Vec<Ranges<Version>>, AllocError>
     ensures same { IfOk result (λ v. (now : Segments) → fold (overlaps record_cmp) now v.items ≡ fold (overlaps record_cmp) now ranges.now) }
     ensures fewer { 1 < length ranges.now → IfOk result (λ v. length v.items < length ranges.now) }
+    ensures kept { All IsKept ranges.now → IfOk result (λ v. All IsKept v.items) }
 {
     let mut pairs = Vec::new(alloc);
     let mut rest = ranges;
@@ -36,15 +39,15 @@ pub(crate) fn meet(
     alloc: Global,
     ranges: Vec<Ranges<Version>>,
 ) -> Result<Ranges<Version>, AllocError>
+    requires { All IsKept ranges.items }
     ensures { IfOk result (λ r. r ≡ fold (overlaps record_cmp) full ranges.items) }
 {
     let mut level = ranges;
     while level.len() > 1 {
         level = paired(alloc, &level)?;
     }
-    let mut range = Ranges::full(alloc)?;
-    for next in level {
-        range = range.intersection(alloc, &next)?;
+    match level.pop() {
+        Some(range) => Ok(range),
+        None => Ranges::full(alloc),
     }
-    Ok(range)
 }

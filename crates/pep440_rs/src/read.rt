@@ -53,10 +53,8 @@ fn with_version(
     if version.is_empty() {
         return Err(ParseErrorKind::MissingVersion);
     }
-    match pattern(alloc, version) {
-        Ok(pattern) => with_pattern(alloc, operator, pattern, rest),
-        Err(error) => Err(ParseErrorKind::of_version(error)),
-    }
+    let pattern = pattern(alloc, version).map_err(ParseErrorKind::of_version)?;
+    with_pattern(alloc, operator, pattern, rest)
 }
 
 // What the text reads as.
@@ -67,10 +65,7 @@ pub(crate) fn specifier(alloc: Global, text: &str) -> Result<VersionSpecifier, P
     if spelled.is_empty() {
         return Err(ParseErrorKind::MissingOperator);
     }
-    let operator = match Operator::from_str(alloc, spelled) {
-        Ok(operator) => operator,
-        Err(error) => return Err(ParseErrorKind::of_operator(error)),
-    };
+    let operator = Operator::from_str(alloc, spelled).map_err(ParseErrorKind::of_operator)?;
     let (version, behind) = split_run(past_blanks(behind), Run::Word);
     with_version(alloc, operator, version, past_blanks(behind))
 }
@@ -104,14 +99,9 @@ fn add_piece(
     ensures refused { IfErr result (λ kind. PieceGives start text.now (Err kind) (read_specifier text.now)) }
     ensures lifted { IfErr result IsListLifted }
 {
-    let member = match piece(alloc, start, text) {
-        Ok(member) => member,
-        Err(kind) => return Err(kind),
-    };
-    match members.push(member) {
-        Ok(()) => Ok(()),
-        Err(_) => Err(SpecifiersErrorKind::OutOfMemory),
-    }
+    let member = piece(alloc, start, text)?;
+    members.push(member)?;
+    Ok(())
 }
 
 // The members of a list, in the order of the text.
@@ -129,13 +119,9 @@ pub(crate) fn members(
     }
     let mut rest = text;
     while let Some((front, later)) = rest.split_once(',') {
-        if let Err(kind) = add_piece(alloc, &mut members, text.len() - rest.len(), front) {
-            return Err(kind);
-        }
+        add_piece(alloc, &mut members, text.len() - rest.len(), front)?;
         rest = later;
     }
-    match add_piece(alloc, &mut members, text.len() - rest.len(), rest) {
-        Ok(()) => Ok(members),
-        Err(kind) => Err(kind),
-    }
+    add_piece(alloc, &mut members, text.len() - rest.len(), rest)?;
+    Ok(members)
 }

@@ -198,10 +198,7 @@ impl VersionSpecifier {
         ensures value { SpecifierAnswers result (read_specifier text.now) }
         ensures lifted { IfErr result (λ e. IsLifted (parse_kind_of e)) }
     {
-        match read::specifier(alloc, text) {
-            Ok(specifier) => Ok(specifier),
-            Err(kind) => Err(VersionSpecifierParseError::from(kind)),
-        }
+        Ok(read::specifier(alloc, text)?)
     }
 
     /// The specifier that the text means: blanks, an operator, blanks, a version pattern, blanks and the end,

@@ -95,14 +95,12 @@ impl VersionSpecifiers {
         ensures lifted { IfErr result (λ e. IsListLifted (list_kind_of e)) }
         ensures line { IfErr result (λ e. line_of e ≡ line_for text.now (list_kind_of e)) }
     {
-        let members = match read::members(alloc, text) {
-            Ok(members) => members,
-            Err(kind) => return Err(VersionSpecifiersParseError::of_text(alloc, text, kind)),
-        };
-        match VersionSpecifiers::from_specifiers(alloc, members) {
-            Ok(list) => Ok(list),
-            Err(_) => Err(VersionSpecifiersParseError::out_of_memory(alloc)),
-        }
+        let members = read::members(alloc, text).map_err(
+            |kind| VersionSpecifiersParseError::of_text(alloc, text, kind),
+        )?;
+        VersionSpecifiers::from_specifiers(alloc, members).map_err(
+            |_| VersionSpecifiersParseError::out_of_memory(alloc),
+        )
     }
 
     /// The list that the text means: specifiers with commas between them, by version, and those with equal
