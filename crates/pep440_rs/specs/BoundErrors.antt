@@ -5,8 +5,8 @@ use Rattle.pep440_rs.specs.Build.{BuildRefusal}
 use Rattle.pep440_rs.specs.Errors.{build_kind_of, build_refusal_of}
 use Rattle.pep440_rs.specs.ErrorTexts.{build_text}
 use Rattle.pep440_rs.specs.Specifiers.{Spec}
-use Rattle.pep440_rs.specs.declared.bound_error.BoundError.{BoundError}
-use Rattle.pep440_rs.specs.declared.bound_error.BoundError.TheVariants as bound
+use Rattle.pep440_rs.specs.declared.bounds.error.BoundError.{BoundError}
+use Rattle.pep440_rs.specs.declared.bounds.error.BoundError.TheVariants as bound
 
 -- the refusal, or none where memory ran out
 abbrev pub bound_refusal_of : BoundError → Option BuildRefusal

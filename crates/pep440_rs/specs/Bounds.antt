@@ -5,8 +5,8 @@ use Rattle.std.specs.Prelude.{ℕ, ◌+◌, ◌==◌, List, [], ◌∷◌, Optio
 use Rattle.std.specs.declared.ops.Bound.TheVariants.{Included, Excluded, Unbounded}
 use Rattle.pep440_rs.specs.Matching.{without_last, any_prerelease}
 use Rattle.pep440_rs.specs.Specifiers.{Spec}
-use Rattle.pep440_rs.specs.declared.operator.Operator.{Operator}
-use Rattle.pep440_rs.specs.declared.operator.Operator.TheVariants.{Equal, EqualStar, ExactEqual, NotEqual, NotEqualStar, TildeEqual, LessThan, LessThanEqual, GreaterThan, GreaterThanEqual}
+use Rattle.pep440_rs.specs.declared.specifier.operator.Operator.{Operator}
+use Rattle.pep440_rs.specs.declared.specifier.operator.Operator.TheVariants.{Equal, EqualStar, ExactEqual, NotEqual, NotEqualStar, TildeEqual, LessThan, LessThanEqual, GreaterThan, GreaterThanEqual}
 use Rattle.pep440_ranges.specs.Complement.{gaps}
 use Rattle.pep440_ranges.specs.Intersection.{overlaps}
 use Rattle.pep440_ranges.specs.Segments.{Segment, one_segment}

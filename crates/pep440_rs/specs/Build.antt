@@ -5,8 +5,8 @@ use Rattle.pep440_version.specs.Record.{Record}
 use Rattle.pep440_rs.specs.Matching.{has_local}
 use Rattle.pep440_rs.specs.Operators.{allows_local}
 use Rattle.pep440_rs.specs.Specifiers.{Spec}
-use Rattle.pep440_rs.specs.declared.operator.Operator.{Operator}
-use Rattle.pep440_rs.specs.declared.operator.Operator.TheVariants.{Equal, EqualStar, NotEqual, NotEqualStar, TildeEqual}
+use Rattle.pep440_rs.specs.declared.specifier.operator.Operator.{Operator}
+use Rattle.pep440_rs.specs.declared.specifier.operator.Operator.TheVariants.{Equal, EqualStar, NotEqual, NotEqualStar, TildeEqual}
 
 -- why an operator and a pattern are no specifier
 pub data BuildRefusal : Type 0 where

@@ -2,9 +2,9 @@
 use Rattle.std.specs.Prelude.{◌≡◌, ℕ, Option}
 use Rattle.pep440_rs.specs.Bounds.{Segments, full, range_of, release_range_of}
 use Rattle.pep440_rs.specs.Refused.{raised_number, raised_release_number}
-use Rattle.pep440_rs.specs.declared.lists.Conversion.{Conversion}
-use Rattle.pep440_rs.specs.declared.lists.Conversion.TheVariants.{WholeOrder, ReleaseOnly}
-use Rattle.pep440_rs.specs.declared.operator.Operator.{Operator}
+use Rattle.pep440_rs.specs.declared.range.list.Conversion.{Conversion}
+use Rattle.pep440_rs.specs.declared.range.list.Conversion.TheVariants.{WholeOrder, ReleaseOnly}
+use Rattle.pep440_rs.specs.declared.specifier.operator.Operator.{Operator}
 use Rattle.pep440_ranges.specs.Intersection.{overlaps}
 use Rattle.pep440_version.specs.Key.{record_cmp}
 use Rattle.pep440_version.specs.Record.{Record}

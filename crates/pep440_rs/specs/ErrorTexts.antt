@@ -10,12 +10,12 @@ use Rattle.pep440_rs.specs.Build.{BuildRefusal, OperatorLocalCombo, OperatorWith
 use Rattle.pep440_rs.specs.Errors.{build_kind_of, build_refusal_of, operator_kind_of}
 use Rattle.pep440_rs.specs.Operators.{operator_text}
 use Rattle.pep440_rs.specs.SpecifierGrammar.{SpecifierRefusal, MissingOperator, InvalidOperator, MissingVersion, InvalidVersion, InvalidSpecifier, InvalidTrailing}
-use Rattle.pep440_rs.specs.declared.error.OperatorErrorKind.{OperatorErrorKind}
-use Rattle.pep440_rs.specs.declared.error.OperatorErrorKind.TheVariants as operator
-use Rattle.pep440_rs.specs.declared.error.ParseErrorKind.{ParseErrorKind}
-use Rattle.pep440_rs.specs.declared.error.ParseErrorKind.TheVariants as parse
-use Rattle.pep440_rs.specs.declared.range_error.RangeError.{RangeError}
-use Rattle.pep440_rs.specs.declared.range_error.RangeError.TheVariants as range
+use Rattle.pep440_rs.specs.declared.specifier.error.OperatorErrorKind.{OperatorErrorKind}
+use Rattle.pep440_rs.specs.declared.specifier.error.OperatorErrorKind.TheVariants as operator
+use Rattle.pep440_rs.specs.declared.specifier.error.ParseErrorKind.{ParseErrorKind}
+use Rattle.pep440_rs.specs.declared.specifier.error.ParseErrorKind.TheVariants as parse
+use Rattle.pep440_rs.specs.declared.range.error.RangeError.{RangeError}
+use Rattle.pep440_rs.specs.declared.range.error.RangeError.TheVariants as range
 
 -- the text stands in quotes, as Rust's debug form writes it
 abbrev pub unknown_text : List ℕ → List ℕ

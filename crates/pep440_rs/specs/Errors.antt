@@ -4,15 +4,15 @@ use Rattle.pep440_version.specs.Errors.{Answers, pattern_kind_of, pattern_refusa
 use Rattle.pep440_rs.specs.Build.{BuildRefusal, OperatorLocalCombo, OperatorWithStar, CompatibleRelease}
 use Rattle.pep440_rs.specs.SpecifierGrammar.{SpecifierRefusal, MissingOperator, InvalidOperator, MissingVersion, InvalidVersion, InvalidSpecifier, InvalidTrailing}
 use Rattle.pep440_rs.specs.Specifiers.{Spec}
-use Rattle.pep440_rs.specs.declared.error.OperatorErrorKind.{OperatorErrorKind}
-use Rattle.pep440_rs.specs.declared.error.OperatorErrorKind.TheVariants as operator
-use Rattle.pep440_rs.specs.declared.error.OperatorParseError.{OperatorParseError}
-use Rattle.pep440_rs.specs.declared.error.BuildErrorKind.{BuildErrorKind}
-use Rattle.pep440_rs.specs.declared.error.BuildErrorKind.TheVariants as build
-use Rattle.pep440_rs.specs.declared.error.VersionSpecifierBuildError.{VersionSpecifierBuildError}
-use Rattle.pep440_rs.specs.declared.error.ParseErrorKind.{ParseErrorKind}
-use Rattle.pep440_rs.specs.declared.error.ParseErrorKind.TheVariants as parse
-use Rattle.pep440_rs.specs.declared.error.VersionSpecifierParseError.{VersionSpecifierParseError}
+use Rattle.pep440_rs.specs.declared.specifier.error.OperatorErrorKind.{OperatorErrorKind}
+use Rattle.pep440_rs.specs.declared.specifier.error.OperatorErrorKind.TheVariants as operator
+use Rattle.pep440_rs.specs.declared.specifier.error.OperatorParseError.{OperatorParseError}
+use Rattle.pep440_rs.specs.declared.specifier.error.BuildErrorKind.{BuildErrorKind}
+use Rattle.pep440_rs.specs.declared.specifier.error.BuildErrorKind.TheVariants as build
+use Rattle.pep440_rs.specs.declared.specifier.error.VersionSpecifierBuildError.{VersionSpecifierBuildError}
+use Rattle.pep440_rs.specs.declared.specifier.error.ParseErrorKind.{ParseErrorKind}
+use Rattle.pep440_rs.specs.declared.specifier.error.ParseErrorKind.TheVariants as parse
+use Rattle.pep440_rs.specs.declared.specifier.error.VersionSpecifierParseError.{VersionSpecifierParseError}
 
 abbrev pub operator_kind_of : OperatorParseError → OperatorErrorKind
 operator_kind_of e = e.kind

@@ -3,8 +3,8 @@ use Rattle.std.specs.Prelude.{◌≡◌, ℕ, List, Option, Some, Result, Ok, Er
 use Rattle.serde_json.specs.Find.{as_str}
 use Rattle.serde_json.specs.View.{view}
 use Rattle.serde_json.specs.declared.value.Value.{Value}
-use Rattle.pep440_rs.specs.declared.json_error.JsonError.{JsonError}
-use Rattle.pep440_rs.specs.declared.json_error.JsonError.TheVariants as json
+use Rattle.pep440_rs.specs.declared.json.error.JsonError.{JsonError}
+use Rattle.pep440_rs.specs.declared.json.error.JsonError.TheVariants as json
 
 -- the text of a string; none of any other value
 abbrev pub text_of : Value → Option (List ℕ)

@@ -5,9 +5,9 @@ use Rattle.pep440_rs.specs.Arrangement.{Arranges}
 use Rattle.pep440_rs.specs.ListErrors.{list_refusal_of}
 use Rattle.pep440_rs.specs.ListGrammar.{PieceRefusal}
 use Rattle.pep440_rs.specs.Specifiers.{Spec}
-use Rattle.pep440_rs.specs.declared.list_error.SpecifiersErrorKind.{SpecifiersErrorKind}
-use Rattle.pep440_rs.specs.declared.list_error.SpecifiersErrorKind.TheVariants.{Piece, OutOfMemory}
-use Rattle.pep440_rs.specs.declared.list_error.VersionSpecifiersParseError.{VersionSpecifiersParseError}
+use Rattle.pep440_rs.specs.declared.list.error.SpecifiersErrorKind.{SpecifiersErrorKind}
+use Rattle.pep440_rs.specs.declared.list.error.SpecifiersErrorKind.TheVariants.{Piece, OutOfMemory}
+use Rattle.pep440_rs.specs.declared.list.error.VersionSpecifiersParseError.{VersionSpecifiersParseError}
 
 abbrev pub list_kind_of : VersionSpecifiersParseError → SpecifiersErrorKind
 list_kind_of e = e.kind

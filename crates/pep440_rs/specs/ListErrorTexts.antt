@@ -4,8 +4,8 @@ use Rattle.unicode_width.specs.Width.{str_width}
 use Rattle.pep440_rs.specs.ErrorTexts.{specifier_refusal_text, specifier_text_of}
 use Rattle.pep440_rs.specs.Errors.{parse_kind_of}
 use Rattle.pep440_rs.specs.ListGrammar.{PieceRefusal}
-use Rattle.pep440_rs.specs.declared.list_error.SpecifiersErrorKind.{SpecifiersErrorKind}
-use Rattle.pep440_rs.specs.declared.list_error.SpecifiersErrorKind.TheVariants.{Piece, OutOfMemory}
+use Rattle.pep440_rs.specs.declared.list.error.SpecifiersErrorKind.{SpecifiersErrorKind}
+use Rattle.pep440_rs.specs.declared.list.error.SpecifiersErrorKind.TheVariants.{Piece, OutOfMemory}
 
 -- the columns that a text takes
 abbrev pub columns : List ℕ → ℕ

@@ -5,10 +5,10 @@ use Rattle.std.specs.Option.{option_eq, option_or}
 use Rattle.pep440_rs.specs.Bounds.{Segments}
 use Rattle.pep440_rs.specs.Matching.{without_last}
 use Rattle.pep440_rs.specs.Specifiers.{Spec}
-use Rattle.pep440_rs.specs.declared.operator.Operator.{Operator}
-use Rattle.pep440_rs.specs.declared.operator.Operator.TheVariants.{EqualStar, NotEqualStar, TildeEqual, GreaterThan}
-use Rattle.pep440_rs.specs.declared.range_error.RangeError.{RangeError}
-use Rattle.pep440_rs.specs.declared.range_error.RangeError.TheVariants.{NumberAtMax, OutOfMemory}
+use Rattle.pep440_rs.specs.declared.specifier.operator.Operator.{Operator}
+use Rattle.pep440_rs.specs.declared.specifier.operator.Operator.TheVariants.{EqualStar, NotEqualStar, TildeEqual, GreaterThan}
+use Rattle.pep440_rs.specs.declared.range.error.RangeError.{RangeError}
+use Rattle.pep440_rs.specs.declared.range.error.RangeError.TheVariants.{NumberAtMax, OutOfMemory}
 use Rattle.pep440_version.specs.Record.{Record, of_release}
 
 -- a star: the post if there is one, else the pre's number if there is one, else the last number of the release

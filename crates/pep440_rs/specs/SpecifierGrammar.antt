@@ -12,7 +12,7 @@ use Rattle.pep440_version.specs.Refusals.{PatternRefusal, RefusesPattern}
 use Rattle.pep440_rs.specs.Build.{BuildRefusal, built_pattern}
 use Rattle.pep440_rs.specs.Operators.{Spells}
 use Rattle.pep440_rs.specs.Specifiers.{Spec}
-use Rattle.pep440_rs.specs.declared.operator.Operator.{Operator}
+use Rattle.pep440_rs.specs.declared.specifier.operator.Operator.{Operator}
 
 -- `=`, `!`, `~`, `<` and `>`
 abbrev pub is_operator_char : ℕ → Bool

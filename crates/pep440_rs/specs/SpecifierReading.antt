@@ -10,10 +10,10 @@ use Rattle.pep440_version.specs.Whole.{read_pattern}
 use Rattle.pep440_rs.specs.Build.{BuildRefusal, built_pattern}
 use Rattle.pep440_rs.specs.SpecifierGrammar.{SpecifierRefusal, MissingOperator, InvalidOperator, MissingVersion, InvalidVersion, InvalidSpecifier, InvalidTrailing, is_operator_char}
 use Rattle.pep440_rs.specs.Specifiers.{Spec}
-use Rattle.pep440_rs.specs.declared.operator.Operator.{Operator}
-use Rattle.pep440_rs.specs.declared.operator.Operator.TheVariants.{Equal, ExactEqual, NotEqual, TildeEqual, LessThan, LessThanEqual, GreaterThan, GreaterThanEqual}
-use Rattle.pep440_rs.specs.declared.scan.Run.{Run}
-use Rattle.pep440_rs.specs.declared.scan.Run.TheVariants as run
+use Rattle.pep440_rs.specs.declared.specifier.operator.Operator.{Operator}
+use Rattle.pep440_rs.specs.declared.specifier.operator.Operator.TheVariants.{Equal, ExactEqual, NotEqual, TildeEqual, LessThan, LessThanEqual, GreaterThan, GreaterThanEqual}
+use Rattle.pep440_rs.specs.declared.specifier.scan.Run.{Run}
+use Rattle.pep440_rs.specs.declared.specifier.scan.Run.TheVariants as run
 
 -- the characters that a run is made of
 abbrev pub passes : Run → ℕ → Bool

@@ -6,12 +6,15 @@ ghost use Rattle.pep440_rs.specs.BoundErrors.{BoundAnswers};
 ghost use Rattle.pep440_rs.specs.BoundsAgreement.{IsReleaseBound, IsReleasePair, IsOrdered, KnowsGaps, MatchesWithin, HoldsWithin, HoldsOnlyWithin};
 ghost use Rattle.pep440_rs.specs.Members.{lower_member, upper_member, without_locals, pair_members, list_members};
 
-use crate::bound_error::BoundError;
-use crate::error::{BuildErrorKind, VersionSpecifierBuildError};
-use crate::members;
-use crate::release_bounds::ReleaseBounds;
+pub(crate) mod error;
+pub(crate) mod members;
+pub(crate) mod release_bounds;
+
+use crate::bounds::error::BoundError;
+use crate::bounds::release_bounds::ReleaseBounds;
+use crate::list::VersionSpecifiers;
 use crate::specifier::VersionSpecifier;
-use crate::specifiers::VersionSpecifiers;
+use crate::specifier::error::{BuildErrorKind, VersionSpecifierBuildError};
 use pep440_version::Version;
 use std::alloc::{AllocError, Global};
 use std::ops::Bound;

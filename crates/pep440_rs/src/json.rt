@@ -10,7 +10,7 @@ ghost use Rattle.pep440_rs.specs.ListGrammar.{DerivesList, PieceRefusal, Refuses
 ghost use Rattle.pep440_rs.specs.Lists.{joined};
 ghost use Rattle.pep440_rs.specs.SpecifierGrammar.{DerivesSpecifier, RefusesSpecifier, SpecifierRefusal};
 ghost use Rattle.pep440_rs.specs.Specifiers.{Spec, spec_print};
-ghost use Rattle.pep440_rs.specs.declared.json_error.JsonError.TheVariants.{NotAString, Text, OutOfMemory};
+ghost use Rattle.pep440_rs.specs.declared.json.error.JsonError.TheVariants.{NotAString, Text, OutOfMemory};
 ghost use Rattle.pep440_version.specs.ErrorTexts.{error_text, refusal_text};
 ghost use Rattle.pep440_version.specs.Errors.{kind_of, refusal_of};
 ghost use Rattle.pep440_version.specs.Grammar.{Derives};
@@ -19,11 +19,13 @@ ghost use Rattle.pep440_version.specs.Record.{Record, IsRecord};
 ghost use Rattle.pep440_version.specs.Refusals.{Refusal, Refuses};
 ghost use Rattle.pep440_version.specs.Reread.{Rereads};
 
-use crate::error::{ParseErrorKind, VersionSpecifierParseError};
-use crate::json_error::JsonError;
-use crate::list_error::{SpecifiersErrorKind, VersionSpecifiersParseError};
+pub(crate) mod error;
+
+use crate::json::error::JsonError;
+use crate::list::VersionSpecifiers;
+use crate::list::error::{SpecifiersErrorKind, VersionSpecifiersParseError};
 use crate::specifier::VersionSpecifier;
-use crate::specifiers::VersionSpecifiers;
+use crate::specifier::error::{ParseErrorKind, VersionSpecifierParseError};
 use pep440_version::{ErrorKind, Version, VersionParseError};
 use serde_json::Value;
 use std::alloc::{AllocError, Global};

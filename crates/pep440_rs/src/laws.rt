@@ -15,7 +15,7 @@ ghost use Rattle.pep440_ranges.specs.Segments.{Segment};
 ghost use Rattle.pep440_version.specs.Record.{Record};
 ghost use Rattle.pep440_rs.specs.Refused.{RefusedAtMax, raised_number, raised_release_number};
 
-use crate::operator::Operator;
+use crate::specifier::operator::Operator;
 
 /// A text means at most one specifier, and a text at most one list.
 pub fn means_one()

@@ -4,51 +4,31 @@
 //! `pep440_version` and `pep440_ranges` offer is offered here under the same names.
 #![tactic(auto)]
 
-mod bound_error;
 mod bounds;
-mod contains;
-mod convert;
-mod error;
-mod error_text;
-mod hash;
 mod json;
-mod json_error;
 pub mod laws;
-mod list_error;
-mod list_text;
-mod lists;
-mod meet;
-mod members;
-mod operator;
-mod order;
-mod print;
-mod raised;
-mod range_error;
-mod read;
-mod release_bounds;
-mod release_only;
-mod scan;
+mod list;
+mod range;
 mod specifier;
-mod specifiers;
 
-pub use bound_error::BoundError;
-pub use convert::specifier_to_range;
-pub use error::{
-    BuildErrorKind, OperatorErrorKind, OperatorParseError, ParseErrorKind,
-    VersionSpecifierBuildError, VersionSpecifierParseError,
-};
+pub use bounds::error::BoundError;
+pub use bounds::release_bounds::ReleaseBounds;
+pub use json::error::JsonError;
 pub use json::{version_from_json, version_to_json};
-pub use json_error::JsonError;
-pub use list_error::{SpecifiersErrorKind, VersionSpecifiersParseError};
-pub use lists::{release_specifiers_to_ranges, specifiers_to_ranges};
-pub use operator::Operator;
+pub use list::VersionSpecifiers;
+pub use list::error::{SpecifiersErrorKind, VersionSpecifiersParseError};
 pub use pep440_ranges::{Ranges, Segments};
 pub use pep440_version::{
     Change, ChangeError, ErrorKind, LocalSegment, PatternErrorKind, Prerelease, PrereleaseKind,
     Version, VersionParseError, VersionPattern, VersionPatternParseError, min_version,
 };
-pub use range_error::RangeError;
-pub use release_bounds::ReleaseBounds;
-pub use release_only::release_specifier_to_range;
+pub use range::error::RangeError;
+pub use range::list::{release_specifiers_to_ranges, specifiers_to_ranges};
+pub use range::release_only::release_specifier_to_range;
+pub use range::whole_order::specifier_to_range;
 pub use specifier::VersionSpecifier;
-pub use specifiers::VersionSpecifiers;
+pub use specifier::error::{
+    BuildErrorKind, OperatorErrorKind, OperatorParseError, ParseErrorKind,
+    VersionSpecifierBuildError, VersionSpecifierParseError,
+};
+pub use specifier::operator::Operator;

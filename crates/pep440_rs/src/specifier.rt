@@ -9,11 +9,22 @@ ghost use Rattle.pep440_rs.specs.Operators.{has_lower_bound};
 ghost use Rattle.pep440_rs.specs.SpecifierGrammar.{DerivesSpecifier, RefusesSpecifier, SpecifierRefusal};
 ghost use Rattle.pep440_rs.specs.SpecifierReading.{read_specifier};
 ghost use Rattle.pep440_rs.specs.Specifiers.{Spec, IsSpec, spec_print};
-ghost use Rattle.pep440_rs.specs.declared.operator.Operator.TheVariants.{Equal, EqualStar, NotEqual, NotEqualStar, LessThan, LessThanEqual, GreaterThan, GreaterThanEqual};
+ghost use Rattle.pep440_rs.specs.declared.specifier.operator.Operator.TheVariants.{Equal, EqualStar, NotEqual, NotEqualStar, LessThan, LessThanEqual, GreaterThan, GreaterThanEqual};
 
-use crate::error::{BuildErrorKind, VersionSpecifierBuildError, VersionSpecifierParseError};
-use crate::operator::Operator;
-use crate::read;
+pub(crate) mod contains;
+pub(crate) mod error;
+pub(crate) mod error_text;
+pub(crate) mod hash;
+pub(crate) mod operator;
+pub(crate) mod order;
+pub(crate) mod print;
+pub(crate) mod read;
+pub(crate) mod scan;
+
+use crate::specifier::error::{
+    BuildErrorKind, VersionSpecifierBuildError, VersionSpecifierParseError,
+};
+use crate::specifier::operator::Operator;
 use pep440_version::{Version, VersionPattern};
 use std::alloc::{AllocError, Global};
 use std::marker::Model;

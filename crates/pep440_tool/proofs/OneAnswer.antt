@@ -6,8 +6,8 @@ use Rattle.std.proofs.lemmas.List.Sorted.{ranks_by}
 use Rattle.pep440_rs.specs.ListErrorTexts.{list_refusal_text}
 use Rattle.pep440_rs.specs.ListGrammar.{PieceRefusal}
 use Rattle.pep440_rs.specs.Specifiers.{Spec}
-use Rattle.pep440_rs.proofs.Arranged.{same_by_ties}
-use Rattle.pep440_rs.proofs.OneMeaning.{not_both_list, one_list, one_list_refusal}
+use Rattle.pep440_rs.proofs.Arranging.Arranged.{same_by_ties}
+use Rattle.pep440_rs.proofs.Reading.OneMeaning.{not_both_list, one_list, one_list_refusal}
 use Rattle.pep440_version.specs.ErrorTexts.{refusal_text}
 use Rattle.pep440_version.specs.Key.{record_cmp}
 use Rattle.pep440_version.specs.KeyLaws.{record_total}

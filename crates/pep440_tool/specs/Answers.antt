@@ -12,7 +12,7 @@ use Rattle.pep440_rs.specs.ListErrorTexts.{list_refusal_text}
 use Rattle.pep440_rs.specs.ListGrammar.{DerivesList, PieceRefusal, RefusesList}
 use Rattle.pep440_rs.specs.Matching.{list_matches}
 use Rattle.pep440_rs.specs.Specifiers.{Spec}
-use Rattle.pep440_rs.specs.declared.range_error.RangeError.TheVariants.{NumberAtMax}
+use Rattle.pep440_rs.specs.declared.range.error.RangeError.TheVariants.{NumberAtMax}
 use Rattle.pep440_version.specs.Changes.{Edit, changed_all}
 use Rattle.pep440_version.specs.ErrorTexts.{refusal_text, change_error_text}
 use Rattle.pep440_version.specs.Grammar.{Derives}

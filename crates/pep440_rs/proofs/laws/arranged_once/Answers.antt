@@ -1,4 +1,4 @@
-use Rattle.pep440_rs.proofs.Arranged.{one_arrangement, some_arrangement}
+use Rattle.pep440_rs.proofs.Arranging.Arranged.{one_arrangement, some_arrangement}
 use Rattle.pep440_rs.proofs.laws.arranged_once.Goals as goal
 
 pub returns-clause-some : goal.returns-clause-some

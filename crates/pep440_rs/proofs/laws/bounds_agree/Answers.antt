@@ -1,5 +1,5 @@
-use Rattle.pep440_rs.proofs.PairMembers.{pair_agrees}
-use Rattle.pep440_rs.proofs.ListMembers.{contains_within, contains_only_within}
+use Rattle.pep440_rs.proofs.Within.PairMembers.{pair_agrees}
+use Rattle.pep440_rs.proofs.Within.ListMembers.{contains_within, contains_only_within}
 use Rattle.pep440_rs.proofs.laws.bounds_agree.Goals as goal
 
 pub returns-clause-pair : goal.returns-clause-pair

@@ -1,4 +1,4 @@
-use Rattle.pep440_rs.proofs.ListRanges.{list_agrees, release_list_agrees}
+use Rattle.pep440_rs.proofs.Agreement.ListRanges.{list_agrees, release_list_agrees}
 use Rattle.pep440_rs.proofs.laws.list_agrees.Goals as goal
 
 pub returns-clause-whole : goal.returns-clause-whole

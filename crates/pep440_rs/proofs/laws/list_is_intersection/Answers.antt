@@ -1,4 +1,4 @@
-use Rattle.pep440_rs.proofs.ListRanges.{holds_in_each, refused_by_a_member}
+use Rattle.pep440_rs.proofs.Agreement.ListRanges.{holds_in_each, refused_by_a_member}
 use Rattle.pep440_rs.specs.Bounds.{range_of, release_range_of}
 use Rattle.pep440_rs.proofs.laws.list_is_intersection.Goals as goal
 

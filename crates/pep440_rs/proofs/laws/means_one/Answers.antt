@@ -1,4 +1,4 @@
-use Rattle.pep440_rs.proofs.OneMeaning.{one_list, one_specifier}
+use Rattle.pep440_rs.proofs.Reading.OneMeaning.{one_list, one_specifier}
 use Rattle.pep440_rs.proofs.laws.means_one.Goals as goal
 
 pub returns-clause-specifier : goal.returns-clause-specifier

@@ -1,4 +1,4 @@
-use Rattle.pep440_rs.proofs.Single.{agrees, holds_only_matches, holds_all_matches}
+use Rattle.pep440_rs.proofs.Agreement.Single.{agrees, holds_only_matches, holds_all_matches}
 use Rattle.pep440_rs.proofs.laws.range_agrees.Goals as goal
 
 pub returns-clause-agrees : goal.returns-clause-agrees

@@ -1,4 +1,4 @@
-use Rattle.pep440_rs.proofs.TextAgreement.{text_agrees, list_text_agrees, text_holds_only_matches, text_holds_all_matches}
+use Rattle.pep440_rs.proofs.Agreement.TextAgreement.{text_agrees, list_text_agrees, text_holds_only_matches, text_holds_all_matches}
 use Rattle.pep440_rs.proofs.laws.range_of_text_agrees.Goals as goal
 
 pub returns-clause-single : goal.returns-clause-single

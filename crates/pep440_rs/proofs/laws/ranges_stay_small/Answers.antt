@@ -1,5 +1,5 @@
-use Rattle.pep440_rs.proofs.Count.{gives_ranges, gives_few, gives_release_ranges, gives_few_by_release}
-use Rattle.pep440_rs.proofs.ListRanges.{has_few_segments}
+use Rattle.pep440_rs.proofs.Intersecting.Count.{gives_ranges, gives_few, gives_release_ranges, gives_few_by_release}
+use Rattle.pep440_rs.proofs.Agreement.ListRanges.{has_few_segments}
 use Rattle.pep440_rs.specs.Bounds.{range_of, release_range_of}
 use Rattle.pep440_rs.proofs.laws.ranges_stay_small.Goals as goal
 

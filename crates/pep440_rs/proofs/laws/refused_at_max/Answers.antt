@@ -1,4 +1,4 @@
-use Rattle.pep440_rs.proofs.Refused.{refused_at_max, release_refused_at_max}
+use Rattle.pep440_rs.proofs.Raising.Refused.{refused_at_max, release_refused_at_max}
 use Rattle.pep440_rs.proofs.laws.refused_at_max.Goals as goal
 
 pub returns-clause-whole : goal.returns-clause-whole

@@ -1,4 +1,4 @@
-use Rattle.pep440_rs.proofs.OneMeaning.{either_list, either_specifier, not_both_list, not_both_specifier, one_list_refusal, one_specifier_refusal}
+use Rattle.pep440_rs.proofs.Reading.OneMeaning.{either_list, either_specifier, not_both_list, not_both_specifier, one_list_refusal, one_specifier_refusal}
 use Rattle.pep440_rs.proofs.laws.refused_once.Goals as goal
 
 pub returns-clause-specifier : goal.returns-clause-specifier

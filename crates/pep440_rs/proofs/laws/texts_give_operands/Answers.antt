@@ -1,5 +1,5 @@
-use Rattle.pep440_rs.proofs.Operands.{list_gives, list_has_texts}
-use Rattle.pep440_rs.proofs.TextAgreement.{has_operand}
+use Rattle.pep440_rs.proofs.Agreement.Operands.{list_gives, list_has_texts}
+use Rattle.pep440_rs.proofs.Agreement.TextAgreement.{has_operand}
 use Rattle.pep440_rs.proofs.laws.texts_give_operands.Goals as goal
 
 pub returns-clause-single : goal.returns-clause-single

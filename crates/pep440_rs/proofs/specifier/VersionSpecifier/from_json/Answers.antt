@@ -1,4 +1,4 @@
-use Rattle.pep440_rs.proofs.JsonStrings.{made_answers, made_found, made_refused, of_text, one_text, with_texts}
+use Rattle.pep440_rs.proofs.Reading.JsonStrings.{made_answers, made_found, made_refused, of_text, one_text, with_texts}
 use Rattle.pep440_rs.specs.Errors.{parse_kind_of, specifier_refusal_of}
 use Rattle.pep440_rs.specs.Json.{text_of}
 use Rattle.pep440_rs.specs.SpecifierGrammar.{DerivesSpecifier, RefusesSpecifier}

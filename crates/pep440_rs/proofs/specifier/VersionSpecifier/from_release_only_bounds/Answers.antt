@@ -1,6 +1,6 @@
 use Rattle.std.proofs.Common.{◌≡◌, ◌∙◌, ap, List, Result, Ok, Err}
 use Rattle.std.specs.Prelude.{IfOk}
-use Rattle.pep440_rs.proofs.PairMembers.{pair_agrees}
+use Rattle.pep440_rs.proofs.Within.PairMembers.{pair_agrees}
 use Rattle.pep440_rs.specs.BoundsAgreement.{IsReleasePair, MatchesWithin}
 use Rattle.pep440_rs.specs.Matching.{list_matches}
 use Rattle.pep440_rs.specs.Members.{pair_members}

@@ -1,6 +1,6 @@
-use Rattle.pep440_rs.proofs.Answered.{is_again, is_decided, is_found, is_only, is_refused}
-use Rattle.pep440_rs.proofs.Operands.{answered_operand}
-use Rattle.pep440_rs.proofs.Told.{is_told}
+use Rattle.pep440_rs.proofs.Reading.Answered.{is_again, is_decided, is_found, is_only, is_refused}
+use Rattle.pep440_rs.proofs.Agreement.Operands.{answered_operand}
+use Rattle.pep440_rs.proofs.Reading.Told.{is_told}
 use Rattle.pep440_rs.proofs.specifier.VersionSpecifier.from_str.Goals as goal
 
 pub returns-clause-found : goal.returns-clause-found

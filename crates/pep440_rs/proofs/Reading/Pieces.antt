@@ -1,0 +1,134 @@
+-- The pieces of a list's text, as they are read one after another.
+use Rattle.std.proofs.Common.{◌≡◌, ◌≢◌, ◌==◌, ◌<◌, ◌+◌, ◌-◌, ◌∙◌, ℕ, suc, List, [], ◌∷◌, ◌++◌, false, Option, Some, None, Result, Ok, Err, length, drop, get_or, refl, sym, ap, subst, option_map, arith, inl, inr, eqb-true}
+use Rattle.std.proofs.lemmas.Bool.{cases_Bool}
+use Rattle.std.proofs.lemmas.List.{append_assoc, drop_at, length-append}
+use Rattle.std.proofs.lemmas.Str.{IsCharBoundary-after_ascii, IsCharBoundary-start, IsUtf8-append, IsUtf8-drop, IsUtf8-from_ascii}
+use Rattle.std.proofs.lemmas.Str.Ascii.{IsAscii-cons, IsAscii-nil}
+use Rattle.std.specs.Prelude.{IfSome}
+use Rattle.std.specs.Str.{IsCharBoundary, IsUtf8}
+use Rattle.pep440_version.specs.Reading.{EndsWith}
+use Rattle.pep440_version.proofs.Reading.Endings.{ends_then, seam}
+use Rattle.pep440_rs.specs.Errors.{parse_kind_of, specifier_refusal_of}
+use Rattle.pep440_rs.specs.ListErrors.{IsSpan, PieceGives, list_refusal_of}
+use Rattle.pep440_rs.specs.ListGrammar.{PieceRefusal, pieces}
+use Rattle.pep440_rs.specs.ListReading.{after_piece, read_members, read_pieces}
+use Rattle.pep440_rs.specs.SpecifierGrammar.{SpecifierRefusal}
+use Rattle.pep440_rs.specs.SpecifierReading.{read_specifier}
+use Rattle.pep440_rs.specs.Specifiers.{Spec}
+use Rattle.pep440_rs.specs.declared.list.error.SpecifiersErrorKind.{SpecifiersErrorKind}
+use Rattle.pep440_rs.specs.declared.list.error.SpecifiersErrorKind.TheVariants.{Piece, OutOfMemory}
+
+abbrev pub HasNoComma : List ℕ → Type 0
+HasNoComma t = (i : ℕ) → i < length t → get_or t i 0 ≢ 44
+
+later_bytes : (b : ℕ) (t : List ℕ) → HasNoComma (b ∷ t) → HasNoComma t
+later_bytes b t none i lt = none (suc i) (omega (arith, lt))
+
+first_byte : (b : ℕ) (t : List ℕ) → HasNoComma (b ∷ t) → (b == 44) ≡ false
+first_byte b t none = elim (cases_Bool (b == 44)) [
+  | inl e ↦ absurd (none 0 (omega arith) (eqb-true b 44 e))
+  | inr e ↦ e
+]
+
+-- a text without a comma is one piece
+pub pieces_whole : (t : List ℕ) → HasNoComma t → pieces t ≡ t ∷ []
+pieces_whole [] none = refl
+pieces_whole (b ∷ t) none = rw (first_byte b t none, pieces_whole t (later_bytes b t none)) refl
+
+-- up to the first comma is a piece
+pub pieces_cut : (p q : List ℕ) → HasNoComma p → pieces (p ++ (44 ∷ q)) ≡ p ∷ pieces q
+pieces_cut [] q none = refl
+pieces_cut (b ∷ p) q none = rw (first_byte b p none, pieces_cut p q (later_bytes b p none)) refl
+
+-- members that were read before what is still to be read
+abbrev pub with_members : List Spec → Result (List Spec) PieceRefusal → Result (List Spec) PieceRefusal
+with_members front (Ok rest) = Ok (front ++ rest)
+with_members front (Err f) = Err f
+
+one_more : (front : List Spec) (s : Spec) (k : ℕ) (p : List ℕ) (later : Result (List Spec) PieceRefusal) → with_members front (after_piece k p (Ok s) later) ≡ with_members (front ++ s ∷ []) later
+one_more front s k p (Ok rest) = ap Ok (sym (append_assoc front (s ∷ []) rest))
+one_more front s k p (Err f) = refl
+
+-- ---- a piece before a comma
+
+steps : (text rest piece later : List ℕ) → EndsWith text rest → rest ≡ piece ++ (44 ∷ later) → length text - length later ≡ length text - length rest + length piece + 1
+steps text rest piece later h e =
+    let long = ap length h.1 ∙ length-append h.0 rest in
+    let rest_long = ap length e ∙ length-append piece (44 ∷ later) in
+    omega (arith, long, rest_long)
+
+here : (k : ℕ) (rest piece later : List ℕ) → rest ≡ piece ++ (44 ∷ later) → HasNoComma piece → read_pieces k (pieces rest) ≡ after_piece k piece (read_specifier piece) (read_pieces (k + length piece + 1) (pieces later))
+unfolding read_pieces
+here k rest piece later e none = ap (λ t. read_pieces k (pieces t)) e ∙ ap (read_pieces k) (pieces_cut piece later none)
+
+pub goes_on : (front : List Spec) (s : Spec) (out : Result (List Spec) PieceRefusal) (text rest piece later : List ℕ) → EndsWith text rest → rest ≡ piece ++ (44 ∷ later) → HasNoComma piece → read_specifier piece ≡ Ok s
+    → out ≡ with_members front (read_pieces (length text - length rest) (pieces rest)) → out ≡ with_members (front ++ s ∷ []) (read_pieces (length text - length later) (pieces later))
+goes_on front s out text rest piece later h e none read is =
+    is ∙ ap (with_members front) (here (length text - length rest) rest piece later e none
+    ∙ ap (λ x. after_piece (length text - length rest) piece x (read_pieces (length text - length rest + length piece + 1) (pieces later))) read)
+    ∙ one_more front s (length text - length rest) piece (read_pieces (length text - length rest + length piece + 1) (pieces later)) ∙ ap (λ k. with_members (front ++ s ∷ []) (read_pieces k (pieces later))) (sym (steps text rest piece later h e))
+
+pub stops_here : (front : List Spec) (f : SpecifierRefusal) (out : Result (List Spec) PieceRefusal) (k : ℕ) (rest piece later : List ℕ) → rest ≡ piece ++ (44 ∷ later) → HasNoComma piece → read_specifier piece ≡ Err f
+    → out ≡ with_members front (read_pieces k (pieces rest)) → out ≡ Err (record { error = f; start = k; stop = k + length piece })
+stops_here front f out k rest piece later e none read is =
+    is ∙ ap (with_members front) (here k rest piece later e none ∙ ap (λ x. after_piece k piece x (read_pieces (k + length piece + 1) (pieces later))) read)
+
+-- ---- the last piece
+
+last : (k : ℕ) (rest : List ℕ) → HasNoComma rest → read_pieces k (pieces rest) ≡ after_piece k rest (read_specifier rest) (Ok [])
+unfolding read_pieces
+last k rest none = ap (read_pieces k) (pieces_whole rest none)
+
+pub ends_here : (front : List Spec) (s : Spec) (out : Result (List Spec) PieceRefusal) (k : ℕ) (rest : List ℕ) → HasNoComma rest → read_specifier rest ≡ Ok s
+    → out ≡ with_members front (read_pieces k (pieces rest)) → out ≡ Ok (front ++ s ∷ [])
+ends_here front s out k rest none read is = is ∙ ap (with_members front) (last k rest none ∙ ap (λ x. after_piece k rest x (Ok [])) read)
+
+pub last_stops : (front : List Spec) (f : SpecifierRefusal) (out : Result (List Spec) PieceRefusal) (k : ℕ) (rest : List ℕ) → HasNoComma rest → read_specifier rest ≡ Err f
+    → out ≡ with_members front (read_pieces k (pieces rest)) → out ≡ Err (record { error = f; start = k; stop = k + length rest })
+last_stops front f out k rest none read is = is ∙ ap (with_members front) (last k rest none ∙ ap (λ x. after_piece k rest x (Ok [])) read)
+
+-- ---- the error of a piece
+
+pub piece_refused : (kind : SpecifiersErrorKind) (k : ℕ) (p : List ℕ) (read : Result Spec SpecifierRefusal) (out : Result (List Spec) PieceRefusal) → PieceGives k p (Err kind) read
+    → ((f : SpecifierRefusal) → read ≡ Err f → out ≡ Err (record { error = f; start = k; stop = k + length p })) → IfSome (list_refusal_of kind) (λ f. out ≡ Err f)
+piece_refused OutOfMemory k p read out h all = tt
+piece_refused (Piece error begin end) k p read out (told, b, e) all = by_refusal (specifier_refusal_of (parse_kind_of error)) told
+  where
+    by_refusal : (o : Option SpecifierRefusal) → IfSome o (λ f. read ≡ Err f) → IfSome (option_map (λ f. record { error = f; start = begin; stop = end }) o) (λ f. out ≡ Err f)
+    by_refusal None h = tt
+    by_refusal (Some f) h = all f h ∙ (λ i. Err (record { error = f; start = sym b i; stop = sym e i }))
+
+-- the piece lies in the text where the error says
+pub piece_span : (kind : SpecifiersErrorKind) (text rest piece tail : List ℕ) (read : Result Spec SpecifierRefusal) → IsUtf8 text → IsUtf8 rest → IsUtf8 tail → EndsWith text rest → rest ≡ piece ++ tail
+    → PieceGives (length text - length rest) piece (Err kind) read → IsSpan text kind
+piece_span OutOfMemory text rest piece tail read u v w h e given = record { in_order = omega arith; starts = IsCharBoundary-start text u; stops = IsCharBoundary-start text u }
+piece_span (Piece error begin end) text rest piece tail read u v w h e (told, b, s) =
+    let long = ap length h.1 ∙ length-append h.0 rest in
+    let rest_long = ap length e ∙ length-append piece tail in
+    let at : length text - length tail ≡ end = omega (arith, long, rest_long, s) in
+    record {
+      in_order = omega (arith, b, s);
+      starts = subst (IsCharBoundary text) (sym b) (seam text rest h v);
+      stops = subst (IsCharBoundary text) at (seam text tail (ends_then text rest tail h (piece, e)) w);
+    }
+
+pub comma_utf8 : (later : List ℕ) → IsUtf8 later → IsUtf8 (44 ∷ later)
+comma_utf8 later u = IsUtf8-append (44 ∷ []) later (IsUtf8-from_ascii (44 ∷ []) (IsAscii-cons 44 [] (omega arith) IsAscii-nil)) u
+
+at_seam : (front : List ℕ) (b : ℕ) (later : List ℕ) → get_or (front ++ (b ∷ later)) (length front) 0 ≡ b
+at_seam [] b later = refl
+at_seam (x ∷ front) b later = at_seam front b later
+
+-- what follows a comma is text
+pub after_comma : (text front later : List ℕ) → IsUtf8 text → text ≡ front ++ (44 ∷ later) → IsUtf8 later
+after_comma text front later u e =
+    let whole : IsUtf8 (front ++ (44 ∷ later)) = subst IsUtf8 e u in
+    let long = length-append front (44 ∷ later) in
+    let seam_byte = at_seam front 44 later in
+    let boundary = IsCharBoundary-after_ascii (front ++ (44 ∷ later)) (length front) whole (omega (arith, long)) (omega (arith, seam_byte)) in
+    let one_long = length-append front (44 ∷ []) in
+    subst IsUtf8 (ap (drop (length front + 1)) (sym (append_assoc front (44 ∷ []) later)) ∙ drop_at (front ++ (44 ∷ [])) later (length front + 1) (omega (arith, one_long)))
+    (IsUtf8-drop (front ++ (44 ∷ later)) (length front + 1) whole boundary)
+
+pub members_from : (text : List ℕ) → (length text == 0) ≡ false → read_members text ≡ read_pieces 0 (pieces text)
+members_from text some = rw some refl

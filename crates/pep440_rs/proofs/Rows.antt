@@ -1,0 +1,5 @@
+-- Worked rows, by computation.
+pub mod Examples
+pub mod MatchingRows
+pub mod BoundsRows
+pub mod MembersRows

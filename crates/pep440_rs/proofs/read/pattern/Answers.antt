@@ -1,5 +1,0 @@
-use Rattle.pep440_rs.proofs.Patterns.{reads_pattern}
-use Rattle.pep440_rs.proofs.read.pattern.Goals as goal
-
-pub returns : goal.returns
-returns c = reads_pattern c.args.text.now _ c.from_str.ensures.found c.from_str.ensures.refused

@@ -1,0 +1,10 @@
+use Rattle.std.proofs.Common.{take, ◌++◌, ◌∷◌, []}
+use Rattle.std.specs.List.{flat_map}
+use Rattle.std.specs.Fmt.{HasWrittenStyled, IsFlush}
+use Rattle.pep440_version.specs.Print.{segment_print}
+use Rattle.pep440_version.specs.Segments.{segment}
+use Rattle.pep440_rs.proofs.specifier.error_text.write_segments.Given as goal
+
+abbrev pub invariant-loop-held : goal.invariant-loop-held
+invariant-loop-held g l =
+    IsFlush l.initial.f → HasWrittenStyled g.W.Write.write_str_gives l.initial.f (flat_map (λ s. 46 ∷ [] ++ segment_print (segment s)) (take l.held-index l.segments)) l.f

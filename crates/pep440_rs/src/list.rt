@@ -1,0 +1,200 @@
+//! Lists of specifiers: how one is made, and its members.
+ghost use Rattle.std.specs.Prelude.{◌≡◌, ◌==◌, ◌<◌, ◌∷◌, [], ℕ, List, codes, length, IfOk, IfErr, IfSome, Some, Ok, Err};
+ghost use Rattle.std.specs.List.{All};
+ghost use Rattle.std.specs.Slice.Iter.{iter_rest};
+ghost use Rattle.std.specs.Vec.Iter.{into_iter_items};
+ghost use Rattle.pep440_rs.specs.Agreement.{HasOperand};
+ghost use Rattle.pep440_rs.specs.Arrangement.{Arranges, IsArranged, version_cmp};
+ghost use Rattle.pep440_rs.specs.ListAnswers.{ListAnswers, ListReads, line_for, line_of, list_kind_of};
+ghost use Rattle.pep440_rs.specs.ListErrors.{IsListLifted, list_refusal_of};
+ghost use Rattle.pep440_rs.specs.ListErrorTexts.{list_refusal_text, list_text_of};
+ghost use Rattle.pep440_rs.specs.ListGrammar.{DerivesList, PieceRefusal, RefusesList};
+ghost use Rattle.pep440_rs.specs.ListReading.{read_members};
+ghost use Rattle.pep440_rs.specs.Lists.{joined, list_print};
+ghost use Rattle.pep440_rs.specs.Specifiers.{Spec};
+
+pub(crate) mod contains;
+pub(crate) mod error;
+pub(crate) mod error_text;
+pub(crate) mod hash;
+pub(crate) mod order;
+pub(crate) mod print;
+pub(crate) mod read;
+
+use crate::list::error::VersionSpecifiersParseError;
+use crate::specifier::VersionSpecifier;
+use std::alloc::{AllocError, Global};
+use std::cmp::Ordering;
+use std::marker::Model;
+use std::vec;
+
+/// A list of specifiers, as `>=1.0, <2.0` (PEP 440, "Version specifiers"). A version is held by the list where
+/// each member holds it; so the empty list holds every version.
+///
+/// The members stand by version, and members with equal versions in the order in which they were given.
+#[derive(Debug, Drop)]
+pub struct VersionSpecifiers {
+    members: Vec<VersionSpecifier>,
+}
+
+impl Model for VersionSpecifiers {
+    ghost use Rattle.std.specs.Prelude.{List};
+    ghost use Rattle.pep440_rs.specs.Arrangement.{IsArranged};
+    ghost use Rattle.pep440_rs.specs.Specifiers.{Spec};
+
+    ghost Value = { List Spec };
+
+    ghost view = { λ l. l.members.items };
+
+    ghost invariant = { λ l. IsArranged l.members.items };
+}
+
+// By version alone.
+fn by_version(a: &VersionSpecifier, b: &VersionSpecifier) -> Ordering
+    ensures { result ≡ version_cmp a.now b.now }
+{
+    a.version().cmp(b.version())
+}
+
+impl VersionSpecifiers {
+    /// The list without members.
+    ///
+    /// Takes no memory.
+    pub fn empty(alloc: Global) -> VersionSpecifiers
+        ensures { result ≡ [] }
+    {
+        VersionSpecifiers {
+            members: Vec::new(alloc),
+        }
+    }
+
+    /// The list of these members: by version, and members with equal versions in the order given.
+    ///
+    /// May take memory.
+    pub fn from_specifiers(
+        alloc: Global,
+        specifiers: Vec<VersionSpecifier>,
+    ) -> Result<VersionSpecifiers, AllocError>
+        ensures { IfOk result (λ list. Arranges specifiers.items list) }
+    {
+        let mut members = specifiers;
+        members.sort_by(|a, b| by_version(a, b))?;
+        Ok(VersionSpecifiers { members })
+    }
+
+    /// The list of this one member.
+    ///
+    /// Takes memory.
+    pub fn from_specifier(
+        alloc: Global,
+        specifier: VersionSpecifier,
+    ) -> Result<VersionSpecifiers, AllocError>
+        ensures { IfOk result (λ list. list ≡ specifier ∷ []) }
+    {
+        let mut members = Vec::new(alloc);
+        members.push(specifier)?;
+        Ok(VersionSpecifiers { members })
+    }
+
+    // What the reading from the left gives.
+    fn read(alloc: Global, text: &str) -> Result<VersionSpecifiers, VersionSpecifiersParseError>
+        ensures value { ListReads result (read_members text.now) }
+        ensures lifted { IfErr result (λ e. IsListLifted (list_kind_of e)) }
+        ensures line { IfErr result (λ e. line_of e ≡ line_for text.now (list_kind_of e)) }
+    {
+        let members = read::members(alloc, text).map_err(
+            |kind| VersionSpecifiersParseError::of_text(alloc, text, kind),
+        )?;
+        VersionSpecifiers::from_specifiers(alloc, members).map_err(
+            |_| VersionSpecifiersParseError::out_of_memory(alloc),
+        )
+    }
+
+    /// The list that the text means: specifiers with commas between them, by version, and those with equal
+    /// versions in the order of the text; the empty text is the empty list (PEP 440, "Version specifiers").
+    ///
+    /// Takes memory. Every text that means no list is refused with its first piece that is no specifier, and
+    /// where in the text that piece lies; only where a request for memory was refused the kind may be
+    /// `OutOfMemory` instead.
+    pub fn from_str(
+        alloc: Global,
+        text: &str,
+    ) -> Result<VersionSpecifiers, VersionSpecifiersParseError>
+        // What is answered is what the text means.
+        ensures found { IfOk result (λ list. DerivesList text.now list) }
+        // The version of each member is one that a text can give beside the operator, as the agreement of ranges asks.
+        ensures operand { IfOk result (λ list. All HasOperand list) }
+        // What the text means is answered, unless memory runs out.
+        ensures only { (list : List Spec) → DerivesList text.now list → ListAnswers result (Ok list) }
+        // A refusal is that of the first refused piece.
+        ensures refused { IfErr result (λ e. IfSome (list_refusal_of (list_kind_of e)) (RefusesList text.now)) }
+        // The refusal of the text is answered, unless memory runs out.
+        ensures decided { (f : PieceRefusal) → RefusesList text.now f → ListAnswers result (Err f) }
+        // The error's text is the refusal's, with the whole text and a line that marks the piece.
+        ensures told { IfErr result (λ e. IfSome (list_refusal_of (list_kind_of e)) (λ f. list_text_of (list_kind_of e) (line_of e) ≡ Some (list_refusal_text f text.now))) }
+        // The error holds the whole text, and none where memory ran out.
+        ensures line { IfErr result (λ e. line_of e ≡ line_for text.now (list_kind_of e)) }
+        // Want of memory is the last kind, and stands in no other.
+        ensures lifted { IfErr result (λ e. IsListLifted (list_kind_of e)) }
+        // The print of what some text means is answered with that, unless memory runs out.
+        ensures again { (t : List ℕ) (list : List Spec) → DerivesList t list → text.now ≡ list_print list → ListAnswers result (Ok list) }
+        // So is its form with commas alone between the members.
+        ensures joined { (t : List ℕ) (list : List Spec) → DerivesList t list → text.now ≡ joined (codes ",") list → ListAnswers result (Ok list) }
+    {
+        VersionSpecifiers::read(alloc, text)
+    }
+
+    // The members, taken out of the list.
+    pub(crate) fn into_members(self) -> Vec<VersionSpecifier>
+        ensures { result.items ≡ self }
+    {
+        let VersionSpecifiers { members } = self;
+        members
+    }
+
+    /// Whether there is no member.
+    pub fn is_empty(&self) -> bool
+        ensures { result ≡ (length self.now == 0) }
+    {
+        self.members.is_empty()
+    }
+
+    /// The members in order.
+    pub fn as_slice(&self) -> &[VersionSpecifier]
+        ensures value { result.now ≡ self.now }
+        // Versions never fall.
+        ensures valid { IsArranged self.now }
+    {
+        self.members.as_slice()
+    }
+
+    /// The members in order, one by one.
+    pub fn iter(&self) -> std::slice::Iter<'_, VersionSpecifier>
+        ensures { iter_rest result ≡ self.now }
+    {
+        self.members.iter()
+    }
+}
+
+impl IntoIterator for VersionSpecifiers {
+    type Item = VersionSpecifier;
+
+    type IntoIter = vec::IntoIter<VersionSpecifier>;
+
+    ghost into_iter_gives = { λ list items. into_iter_items items ≡ list };
+
+    fn into_iter(self) -> vec::IntoIter<VersionSpecifier> {
+        let VersionSpecifiers { members } = self;
+        members.into_iter()
+    }
+}
+
+impl Clone for VersionSpecifiers {
+    ghost is_clone = { λ list copy. copy ≡ list };
+
+    fn clone(&self) -> Result<VersionSpecifiers, AllocError> {
+        Ok(VersionSpecifiers {
+            members: self.members.clone()?,
+        })
+    }
+}

@@ -1,0 +1,68 @@
+//! The reader of lists, piece by piece.
+ghost use Rattle.std.specs.Prelude.{◌<◌, ◌+◌, ◌^◌, ◌≡◌, ◌++◌, ◌∷◌, [], length, Ok, IfOk, Err, IfErr};
+ghost use Rattle.pep440_rs.specs.ListErrors.{IsListLifted, IsSpan, MembersGive, PieceGives};
+ghost use Rattle.pep440_rs.specs.ListReading.{read_members};
+ghost use Rattle.pep440_rs.specs.SpecifierReading.{read_specifier};
+ghost use Rattle.pep440_rs.specs.Specifiers.{Spec};
+
+use crate::list::error::SpecifiersErrorKind;
+use crate::specifier::VersionSpecifier;
+use crate::specifier::error::{ParseErrorKind, VersionSpecifierParseError};
+use crate::specifier::read::specifier;
+use std::alloc::Global;
+
+// What a piece of a list reads as, which begins at this byte.
+fn piece(alloc: Global, start: usize, piece: &str) -> Result<VersionSpecifier, SpecifiersErrorKind>
+    requires { start + length piece.now < 2 ^ 64 }
+    ensures value { PieceGives start piece.now result (read_specifier piece.now) }
+    ensures lifted { IfErr result IsListLifted }
+{
+    match specifier(alloc, piece) {
+        Ok(specifier) => Ok(specifier),
+        Err(ParseErrorKind::OutOfMemory) => Err(SpecifiersErrorKind::OutOfMemory),
+        Err(kind) => Err(SpecifiersErrorKind::Piece {
+            error: VersionSpecifierParseError::from(kind),
+            start,
+            stop: start + piece.len(),
+        }),
+    }
+}
+
+// One more member, which a piece that begins at this byte reads as.
+fn add_piece(
+    alloc: Global,
+    members: &mut Vec<VersionSpecifier>,
+    start: usize,
+    text: &str,
+) -> Result<(), SpecifiersErrorKind>
+    requires { start + length text.now < 2 ^ 64 }
+    ensures added { IfOk result (λ _. (s : Spec) × (read_specifier text.now ≡ Ok s) × (members.new.items ≡ members.old.items ++ s ∷ [])) }
+    ensures refused { IfErr result (λ kind. PieceGives start text.now (Err kind) (read_specifier text.now)) }
+    ensures lifted { IfErr result IsListLifted }
+{
+    let member = piece(alloc, start, text)?;
+    members.push(member)?;
+    Ok(())
+}
+
+// The members of a list, in the order of the text.
+pub(crate) fn members(
+    alloc: Global,
+    text: &str,
+) -> Result<Vec<VersionSpecifier>, SpecifiersErrorKind>
+    ensures value { MembersGive (λ v. v.items) result (read_members text.now) }
+    ensures lifted { IfErr result IsListLifted }
+    ensures span { IfErr result (IsSpan text.now) }
+{
+    let mut members = Vec::new(alloc);
+    if text.is_empty() {
+        return Ok(members);
+    }
+    let mut rest = text;
+    while let Some((front, later)) = rest.split_once(',') {
+        add_piece(alloc, &mut members, text.len() - rest.len(), front)?;
+        rest = later;
+    }
+    add_piece(alloc, &mut members, text.len() - rest.len(), rest)?;
+    Ok(members)
+}

@@ -1,0 +1,99 @@
+//! The range of a specifier, by releases alone.
+ghost use Rattle.std.specs.Prelude.{◌≡◌, ◌≤◌, ◌<◌, length, IfOk, IsErrOf, Some, None};
+ghost use Rattle.pep440_rs.specs.Agreement.{Agrees, IsReleaseComparable};
+ghost use Rattle.pep440_rs.specs.Bounds.{release_range_of, release_up_to};
+ghost use Rattle.pep440_rs.specs.Refused.{TellsMax, raised_release_number, raises_max};
+ghost use Rattle.pep440_version.specs.Record.{Record, of_release};
+
+use crate::range::error::RangeError;
+use crate::range::raised::{raised, without_last};
+use crate::specifier::VersionSpecifier;
+use crate::specifier::operator::Operator;
+use pep440_ranges::Ranges;
+use pep440_version::Version;
+use std::alloc::{AllocError, Global};
+use std::ops::Bound;
+
+// Up to the release with the last number of these raised.
+fn release_up_to(
+    alloc: Global,
+    release: &[u64],
+    numbers: &[u64],
+) -> Result<Ranges<Version>, RangeError>
+    requires release { 0 < length release.now }
+    requires numbers { 0 < length numbers.now }
+    ensures range { IfOk result (λ r. release_up_to release.now numbers.now ≡ Some r) }
+    ensures refused { IsErrOf result RangeError.NumberAtMax → release_up_to release.now numbers.now ≡ None }
+{
+    let next = raised(alloc, numbers)?;
+    let start = Version::new(alloc, release)?;
+    let end = Version::new(alloc, &next)?;
+    Ok(Ranges::from_range_bounds(alloc, Bound::Included(start), Bound::Excluded(end))?)
+}
+
+// The range of an operator without star, other than `~=`, over a release.
+fn other_than(alloc: Global, release: Version) -> Result<Ranges<Version>, AllocError>
+    requires { release ≡ of_release release.release }
+    ensures { IfOk result (λ r. release_range_of Operator.NotEqual release ≡ Some r) }
+{
+    let one = Ranges::singleton(alloc, release)?;
+    one.complement(alloc)
+}
+
+// The range, operator by operator.
+fn release_range_of(
+    alloc: Global,
+    operator: Operator,
+    version: &Version,
+) -> Result<Ranges<Version>, RangeError>
+    requires { operator ≡ Operator.TildeEqual → 2 ≤ length version.now.release }
+    ensures range { IfOk result (λ r. release_range_of operator version.now ≡ Some r) }
+    ensures refused { IsErrOf result RangeError.NumberAtMax → release_range_of operator version.now ≡ None }
+{
+    let numbers = version.release();
+    match operator {
+        Operator::Equal | Operator::ExactEqual => {
+            Ok(Ranges::singleton(alloc, version.only_release(alloc)?)?)
+        }
+        Operator::NotEqual => Ok(other_than(alloc, version.only_release(alloc)?)?),
+        Operator::TildeEqual => release_up_to(alloc, numbers, without_last(numbers)),
+        Operator::LessThan => {
+            Ok(Ranges::strictly_lower_than(alloc, version.only_release(alloc)?)?)
+        }
+        Operator::LessThanEqual => Ok(Ranges::lower_than(alloc, version.only_release(alloc)?)?),
+        Operator::GreaterThan => {
+            Ok(Ranges::strictly_higher_than(alloc, version.only_release(alloc)?)?)
+        }
+        Operator::GreaterThanEqual => {
+            Ok(Ranges::higher_than(alloc, version.only_release(alloc)?)?)
+        }
+        Operator::EqualStar => release_up_to(alloc, numbers, numbers),
+        Operator::NotEqualStar => {
+            let inside = release_up_to(alloc, numbers, numbers)?;
+            Ok(inside.complement(alloc)?)
+        }
+    }
+}
+
+/// The release-only range of a specifier: that of its release, whatever its other parts (PEP 440, "Version
+/// specifiers" and "Final releases").
+///
+/// Takes memory. Answers `NumberAtMax` where a number that has to be raised is 18446744073709551615, and
+/// `OutOfMemory` where memory is refused.
+pub fn release_specifier_to_range(
+    alloc: Global,
+    specifier: VersionSpecifier,
+) -> Result<Ranges<Version>, RangeError>
+    ensures range { IfOk result (λ r. release_range_of specifier.operator specifier.version ≡ Some r) }
+    ensures refused { IsErrOf result RangeError.NumberAtMax → release_range_of specifier.operator specifier.version ≡ None }
+    // `NumberAtMax` exactly where the number to be raised is the greatest there is, unless memory runs out.
+    ensures at_max { TellsMax (raises_max raised_release_number specifier) result }
+    // Of releases alone it holds exactly what the specifier contains.
+    ensures agrees { IfOk result (Agrees IsReleaseComparable specifier) }
+{
+    let version = specifier.version();
+    // From this call it is known that there is a release number: for `at_max`.
+    let _one_number = version.release();
+    let range = release_range_of(alloc, *specifier.operator(), version)?;
+    Ok(range)
+}

@@ -1,0 +1,155 @@
+//! The range of a specifier, by the whole order of versions.
+ghost use Rattle.std.specs.Prelude.{◌≡◌, ◌≤◌, length, IfOk, IsErrOf, Some, None};
+ghost use Rattle.pep440_rs.specs.Agreement.{Agrees, IsCandidate, HasOperand, HoldsOnlyMatches, HoldsAllMatches};
+ghost use Rattle.pep440_rs.specs.Bounds.{range_of, greater, compatible_end, star, star_end};
+ghost use Rattle.pep440_rs.specs.Refused.{TellsMax, raised_number, raises_max};
+ghost use Rattle.pep440_version.specs.Record.{Record};
+
+use crate::range::error::RangeError;
+use crate::range::raised::{next_number, raised, without_last};
+use crate::specifier::VersionSpecifier;
+use crate::specifier::operator::Operator;
+use pep440_ranges::Ranges;
+use pep440_version::{Prerelease, Version};
+use std::alloc::{AllocError, Global};
+use std::ops::Bound;
+
+// `!=`: all but the version.
+fn other_than(alloc: Global, version: Version) -> Result<Ranges<Version>, AllocError>
+    ensures { IfOk result (λ r. range_of Operator.NotEqual version ≡ Some r) }
+{
+    let one = Ranges::singleton(alloc, version)?;
+    one.complement(alloc)
+}
+
+// `<`: below the version, or below the mark that is below all of its release.
+fn less(alloc: Global, version: Version) -> Result<Ranges<Version>, AllocError>
+    ensures { IfOk result (λ r. range_of Operator.LessThan version ≡ Some r) }
+{
+    if version.pre().is_some() || version.dev().is_some() {
+        return Ranges::strictly_lower_than(alloc, version);
+    }
+    Ranges::strictly_lower_than(alloc, version.with_min(alloc, Some(0))?)
+}
+
+// `>`: from the next dev, from the first dev of the next post, or above every post.
+fn greater(alloc: Global, version: Version) -> Result<Ranges<Version>, RangeError>
+    ensures range { IfOk result (λ r. greater version version.dev version.post ≡ Some r) }
+    ensures refused { IsErrOf result RangeError.NumberAtMax → greater version version.dev version.post ≡ None }
+{
+    if let Some(dev) = version.dev() {
+        let next = next_number(dev)?;
+        Ok(Ranges::higher_than(alloc, version.with_dev(alloc, Some(next))?)?)
+    } else if let Some(post) = version.post() {
+        let next = next_number(post)?;
+        let next = version.with_post(alloc, Some(next))?;
+        Ok(Ranges::higher_than(alloc, next.with_dev(alloc, Some(0))?)?)
+    } else {
+        Ok(Ranges::strictly_higher_than(alloc, version.with_max(alloc, Some(0))?)?)
+    }
+}
+
+// The end of `~=`.
+fn compatible_end(alloc: Global, version: &Version) -> Result<Version, RangeError>
+    requires { 2 ≤ length version.now.release }
+    ensures end { IfOk result (λ v. compatible_end version.now ≡ Some v) }
+    ensures refused { IsErrOf result RangeError.NumberAtMax → compatible_end version.now ≡ None }
+{
+    let numbers = raised(alloc, without_last(version.release()))?;
+    let end = Version::new(alloc, &numbers)?.with_epoch(alloc, version.epoch())?;
+    Ok(end.with_dev(alloc, Some(0))?)
+}
+
+fn compatible(alloc: Global, version: Version) -> Result<Ranges<Version>, RangeError>
+    requires { 2 ≤ length version.release }
+    ensures range { IfOk result (λ r. range_of Operator.TildeEqual version ≡ Some r) }
+    ensures refused { IsErrOf result RangeError.NumberAtMax → range_of Operator.TildeEqual version ≡ None }
+{
+    let end = compatible_end(alloc, &version)?;
+    Ok(Ranges::from_range_bounds(alloc, Bound::Included(version), Bound::Excluded(end))?)
+}
+
+// The version of a star with its last part raised: post, pre or release.
+fn star_raised(alloc: Global, version: Version) -> Result<Version, RangeError>
+    ensures end { IfOk result (λ v. star_end version version.post version.pre ≡ Some (record v { dev = Some 0 })) }
+    ensures refused { IsErrOf result RangeError.NumberAtMax → star_end version version.post version.pre ≡ None }
+{
+    if let Some(post) = version.post() {
+        let next = next_number(post)?;
+        Ok(version.with_post(alloc, Some(next))?)
+    } else if let Some(pre) = version.pre() {
+        let next = next_number(pre.number)?;
+        let raised = Prerelease {
+            kind: pre.kind,
+            number: next,
+        };
+        Ok(version.with_pre(alloc, Some(raised))?)
+    } else {
+        let numbers = raised(alloc, version.release())?;
+        Ok(version.with_release(alloc, &numbers)?)
+    }
+}
+
+fn star(alloc: Global, version: Version) -> Result<Ranges<Version>, RangeError>
+    ensures range { IfOk result (λ r. star version ≡ Some r) }
+    ensures refused { IsErrOf result RangeError.NumberAtMax → star version ≡ None }
+{
+    let raised = star_raised(alloc, version.clone()?)?;
+    let end = raised.with_dev(alloc, Some(0))?;
+    let start = version.with_dev(alloc, Some(0))?;
+    Ok(Ranges::from_range_bounds(alloc, Bound::Included(start), Bound::Excluded(end))?)
+}
+
+// The range, operator by operator.
+fn range_of(
+    alloc: Global,
+    operator: Operator,
+    version: Version,
+) -> Result<Ranges<Version>, RangeError>
+    requires { operator ≡ Operator.TildeEqual → 2 ≤ length version.release }
+    ensures range { IfOk result (λ r. range_of operator version ≡ Some r) }
+    ensures refused { IsErrOf result RangeError.NumberAtMax → range_of operator version ≡ None }
+{
+    match operator {
+        Operator::Equal | Operator::ExactEqual => Ok(Ranges::singleton(alloc, version)?),
+        Operator::NotEqual => Ok(other_than(alloc, version)?),
+        Operator::TildeEqual => compatible(alloc, version),
+        Operator::LessThan => Ok(less(alloc, version)?),
+        Operator::LessThanEqual => Ok(Ranges::lower_than(alloc, version)?),
+        Operator::GreaterThan => greater(alloc, version),
+        Operator::GreaterThanEqual => Ok(Ranges::higher_than(alloc, version)?),
+        Operator::EqualStar => star(alloc, version),
+        Operator::NotEqualStar => {
+            let inside = star(alloc, version)?;
+            Ok(inside.complement(alloc)?)
+        }
+    }
+}
+
+/// The range of a specifier, by the whole order of versions (PEP 440, "Version specifiers" and "Summary of permitted
+/// suffixes and relative ordering").
+///
+/// Takes memory. Answers `NumberAtMax` where a number that has to be raised is 18446744073709551615, and
+/// `OutOfMemory` where memory is refused.
+pub fn specifier_to_range(
+    alloc: Global,
+    specifier: VersionSpecifier,
+) -> Result<Ranges<Version>, RangeError>
+    ensures range { IfOk result (λ r. range_of specifier.operator specifier.version ≡ Some r) }
+    ensures refused { IsErrOf result RangeError.NumberAtMax → range_of specifier.operator specifier.version ≡ None }
+    // `NumberAtMax` exactly where the number to be raised is the greatest there is, unless memory runs out.
+    ensures at_max { TellsMax (raises_max raised_number specifier) result }
+    // Of a version that a text can give beside the operator it holds exactly what the specifier contains, where the two
+    // can be compared.
+    ensures agrees { HasOperand specifier → IfOk result (Agrees IsCandidate specifier) }
+    // Whatever the suffixes, the range of `<` holds only what matches, and that of `>` all that matches.
+    ensures within { HasOperand specifier → IfOk result (HoldsOnlyMatches specifier) }
+    ensures around { HasOperand specifier → IfOk result (HoldsAllMatches specifier) }
+{
+    // From these calls it is known how many release numbers there are at least: for `range_of`, and for `at_max`.
+    let _two_numbers = specifier.operator();
+    let _one_number = specifier.version().release();
+    let (operator, version) = specifier.into_parts();
+    let range = range_of(alloc, operator, version)?;
+    Ok(range)
+}

@@ -1,0 +1,265 @@
+//! Why a text is no operator or no specifier: kinds, errors and the conversions between them.
+ghost use Rattle.std.specs.Prelude.{◌≡◌, option_map, is_none};
+ghost use Rattle.pep440_version.specs.Errors.{pattern_kind_of, pattern_refusal_of};
+ghost use Rattle.pep440_rs.specs.Errors.{operator_kind_of, unknown_of, build_kind_of, build_refusal_of, parse_kind_of, specifier_refusal_of, IsLifted};
+ghost use Rattle.pep440_rs.specs.SpecifierGrammar.{InvalidOperator, InvalidVersion};
+ghost use Rattle.pep440_rs.specs.declared.specifier.error.ParseErrorKind.TheVariants.{InvalidSpecifier, OutOfMemory};
+
+use crate::specifier::operator::Operator;
+use pep440_version::{ErrorKind, PatternErrorKind, Version, VersionPatternParseError};
+use std::alloc::AllocError;
+
+/// Why a text is no operator.
+#[derive(Debug, PartialEq, Eq, Drop)]
+pub enum OperatorErrorKind {
+    /// The text is none of the eight operators.
+    Unknown {
+        /// The text.
+        got: String,
+    },
+    /// Memory ran out, which says nothing but that the text is no operator.
+    OutOfMemory,
+}
+
+impl Clone for OperatorErrorKind {
+    ghost is_clone = { λ kind copy. unknown_of copy ≡ unknown_of kind };
+
+    fn clone(&self) -> Result<OperatorErrorKind, AllocError> {
+        match self {
+            OperatorErrorKind::Unknown { got } => Ok(OperatorErrorKind::Unknown {
+                got: got.clone()?,
+            }),
+            OperatorErrorKind::OutOfMemory => Ok(OperatorErrorKind::OutOfMemory),
+        }
+    }
+}
+
+/// A text is no operator. Two are equal exactly if they say the same.
+#[derive(Debug, PartialEq, Eq, Drop)]
+pub struct OperatorParseError {
+    kind: OperatorErrorKind,
+}
+
+impl OperatorParseError {
+    /// Why.
+    pub fn kind(&self) -> &OperatorErrorKind
+        ensures { result.now ≡ operator_kind_of self.now }
+    {
+        &self.kind
+    }
+}
+
+impl Clone for OperatorParseError {
+    ghost is_clone = { λ error copy. unknown_of (operator_kind_of copy) ≡ unknown_of (operator_kind_of error) };
+
+    fn clone(&self) -> Result<OperatorParseError, AllocError> {
+        Ok(OperatorParseError {
+            kind: self.kind.clone()?,
+        })
+    }
+}
+
+impl From<OperatorErrorKind> for OperatorParseError {
+    ghost from_gives = { λ kind error. operator_kind_of error ≡ kind };
+
+    fn from(kind: OperatorErrorKind) -> OperatorParseError {
+        OperatorParseError { kind }
+    }
+}
+
+/// Why an operator and a version are no specifier (PEP 440, "Version specifiers").
+#[derive(Debug, PartialEq, Eq, Drop)]
+pub enum BuildErrorKind {
+    /// The version has a local part, and the operator allows none.
+    OperatorLocalCombo {
+        /// The operator.
+        operator: Operator,
+        /// The version.
+        version: Version,
+    },
+    /// A star follows the version, and the operator has no star form.
+    OperatorWithStar {
+        /// The operator.
+        operator: Operator,
+    },
+    /// `~=` before a release of fewer than two numbers.
+    CompatibleRelease,
+}
+
+impl Clone for BuildErrorKind {
+    ghost is_clone = { λ kind copy. build_refusal_of copy ≡ build_refusal_of kind };
+
+    fn clone(&self) -> Result<BuildErrorKind, AllocError> {
+        match self {
+            BuildErrorKind::OperatorLocalCombo { operator, version } => {
+                Ok(BuildErrorKind::OperatorLocalCombo {
+                    operator: *operator,
+                    version: version.clone()?,
+                })
+            }
+            BuildErrorKind::OperatorWithStar { operator } => {
+                Ok(BuildErrorKind::OperatorWithStar {
+                    operator: *operator,
+                })
+            }
+            BuildErrorKind::CompatibleRelease => Ok(BuildErrorKind::CompatibleRelease),
+        }
+    }
+}
+
+/// An operator and a version are no specifier. Two are equal exactly if they say the same.
+#[derive(Debug, PartialEq, Eq, Drop)]
+pub struct VersionSpecifierBuildError {
+    kind: BuildErrorKind,
+}
+
+impl VersionSpecifierBuildError {
+    /// Why.
+    pub fn kind(&self) -> &BuildErrorKind
+        ensures { result.now ≡ build_kind_of self.now }
+    {
+        &self.kind
+    }
+}
+
+impl Clone for VersionSpecifierBuildError {
+    ghost is_clone = { λ error copy. build_refusal_of (build_kind_of copy) ≡ build_refusal_of (build_kind_of error) };
+
+    fn clone(&self) -> Result<VersionSpecifierBuildError, AllocError> {
+        Ok(VersionSpecifierBuildError {
+            kind: self.kind.clone()?,
+        })
+    }
+}
+
+impl From<BuildErrorKind> for VersionSpecifierBuildError {
+    ghost from_gives = { λ kind error. build_kind_of error ≡ kind };
+
+    fn from(kind: BuildErrorKind) -> VersionSpecifierBuildError {
+        VersionSpecifierBuildError { kind }
+    }
+}
+
+/// Why a text is no specifier (PEP 440, "Version specifiers").
+///
+/// Of a text that is no specifier exactly one kind but the last holds.
+#[derive(Debug, PartialEq, Eq, Drop)]
+pub enum ParseErrorKind {
+    /// After the blanks there is no character of an operator.
+    MissingOperator,
+    /// The characters of an operator are none.
+    InvalidOperator(OperatorParseError),
+    /// After the operator and blanks the text ends.
+    MissingVersion,
+    /// What follows the operator, up to the next blank, is no version pattern.
+    InvalidVersion(VersionPatternParseError),
+    /// The operator and the version are no specifier.
+    InvalidSpecifier(VersionSpecifierBuildError),
+    /// The text goes on after the version and blanks: what is left.
+    InvalidTrailing(String),
+    /// Memory ran out, which says nothing of the text.
+    OutOfMemory,
+}
+
+impl Clone for ParseErrorKind {
+    ghost is_clone = { λ kind copy. specifier_refusal_of copy ≡ specifier_refusal_of kind };
+
+    fn clone(&self) -> Result<ParseErrorKind, AllocError> {
+        Ok(match self {
+            ParseErrorKind::MissingOperator => ParseErrorKind::MissingOperator,
+            ParseErrorKind::InvalidOperator(error) => {
+                ParseErrorKind::InvalidOperator(error.clone()?)
+            }
+            ParseErrorKind::MissingVersion => ParseErrorKind::MissingVersion,
+            ParseErrorKind::InvalidVersion(error) => ParseErrorKind::InvalidVersion(error.clone()?),
+            ParseErrorKind::InvalidSpecifier(error) => {
+                ParseErrorKind::InvalidSpecifier(error.clone()?)
+            }
+            ParseErrorKind::InvalidTrailing(rest) => ParseErrorKind::InvalidTrailing(rest.clone()?),
+            ParseErrorKind::OutOfMemory => ParseErrorKind::OutOfMemory,
+        })
+    }
+}
+
+impl From<AllocError> for ParseErrorKind {
+    ghost from_gives = { λ _ kind. kind ≡ OutOfMemory };
+
+    fn from(_refused: AllocError) -> ParseErrorKind {
+        ParseErrorKind::OutOfMemory
+    }
+}
+
+impl From<VersionSpecifierBuildError> for ParseErrorKind {
+    ghost from_gives = { λ error kind. kind ≡ InvalidSpecifier error };
+
+    fn from(error: VersionSpecifierBuildError) -> ParseErrorKind {
+        ParseErrorKind::InvalidSpecifier(error)
+    }
+}
+
+impl ParseErrorKind {
+    // The refusal of an operator, or want of memory.
+    pub(crate) fn of_operator(error: OperatorParseError) -> ParseErrorKind
+        ensures refusal { specifier_refusal_of result ≡ option_map InvalidOperator (unknown_of (operator_kind_of error)) }
+        ensures lifted { IsLifted result }
+    {
+        match error.kind() {
+            OperatorErrorKind::Unknown { .. } => ParseErrorKind::InvalidOperator(error),
+            OperatorErrorKind::OutOfMemory => ParseErrorKind::OutOfMemory,
+        }
+    }
+
+    // The refusal of a version, or want of memory.
+    pub(crate) fn of_version(error: VersionPatternParseError) -> ParseErrorKind
+        ensures refusal { specifier_refusal_of result ≡ option_map InvalidVersion (pattern_refusal_of (pattern_kind_of error)) }
+        ensures lifted { IsLifted result }
+    {
+        if is_out_of_memory(error.kind()) {
+            ParseErrorKind::OutOfMemory
+        } else {
+            ParseErrorKind::InvalidVersion(error)
+        }
+    }
+}
+
+fn is_out_of_memory(kind: &PatternErrorKind) -> bool
+    ensures { result ≡ is_none (pattern_refusal_of kind.now) }
+{
+    match kind {
+        PatternErrorKind::Version(error) => matches!(error.kind(), ErrorKind::OutOfMemory),
+        PatternErrorKind::WildcardNotTrailing => false,
+    }
+}
+
+/// A text is no specifier, or memory ran out. Two are equal exactly if they say the same.
+#[derive(Debug, PartialEq, Eq, Drop)]
+pub struct VersionSpecifierParseError {
+    kind: ParseErrorKind,
+}
+
+impl VersionSpecifierParseError {
+    /// Why.
+    pub fn kind(&self) -> &ParseErrorKind
+        ensures { result.now ≡ parse_kind_of self.now }
+    {
+        &self.kind
+    }
+}
+
+impl Clone for VersionSpecifierParseError {
+    ghost is_clone = { λ error copy. specifier_refusal_of (parse_kind_of copy) ≡ specifier_refusal_of (parse_kind_of error) };
+
+    fn clone(&self) -> Result<VersionSpecifierParseError, AllocError> {
+        Ok(VersionSpecifierParseError {
+            kind: self.kind.clone()?,
+        })
+    }
+}
+
+impl From<ParseErrorKind> for VersionSpecifierParseError {
+    ghost from_gives = { λ kind error. parse_kind_of error ≡ kind };
+
+    fn from(kind: ParseErrorKind) -> VersionSpecifierParseError {
+        VersionSpecifierParseError { kind }
+    }
+}

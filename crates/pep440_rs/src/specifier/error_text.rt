@@ -1,0 +1,213 @@
+//! The texts of the errors, the same whatever width and fill are asked for.
+ghost use Rattle.std.specs.Prelude.{◌≡◌, ◌++◌, Some, None, map, codes, if◌then◌else◌};
+ghost use Rattle.std.specs.Fmt.{DisplaysStyledOnOk, HasWrittenStyled, IsFlush, WritesStyledOnOk};
+ghost use Rattle.std.specs.Char.{is_ascii};
+ghost use Rattle.std.specs.List.{flat_map, list_all};
+ghost use Rattle.pep440_version.specs.Print.{dotted, segment_print};
+ghost use Rattle.pep440_version.specs.Segments.{segment};
+ghost use Rattle.pep440_rs.specs.Errors.{build_kind_of, build_refusal_of, operator_kind_of, parse_kind_of};
+ghost use Rattle.pep440_rs.specs.ErrorTexts.{build_text, operator_text_of, specifier_text_of, unknown_text};
+ghost use Rattle.pep440_rs.specs.Operators.{operator_text};
+
+use crate::specifier::error::{
+    BuildErrorKind, OperatorErrorKind, OperatorParseError, ParseErrorKind,
+    VersionSpecifierBuildError, VersionSpecifierParseError,
+};
+use crate::specifier::operator::Operator;
+use pep440_version::LocalSegment;
+use std::error::Error;
+use std::fmt::{self, Write};
+
+#[tactic(auto, using(pep440_version::proofs::Reread::Writing::two_writes))]
+fn write_three<W: fmt::Write>(f: &mut fmt::Formatter<W>, a: &str, b: &str, c: &str) -> fmt::Result
+    ensures { WritesStyledOnOk W.write_str_gives f.old result (a.now ++ (b.now ++ c.now)) f.new }
+{
+    f.write_str(a)?;
+    f.write_str(b)?;
+    f.write_str(c)
+}
+
+// Writes to the formatter whatever width and fill it has.
+#[derive(Drop)]
+struct Direct<'a, W> {
+    f: &'a mut fmt::Formatter<W>,
+}
+
+impl<W: fmt::Write> fmt::Write for Direct<'_, W> {
+    ghost write_str_gives = { λ s bs t. (IsFlush s.f.now → HasWrittenStyled W.write_str_gives s.f.now bs t.f.now) × (t.f.ghost_name ≡ s.f.ghost_name) };
+
+    fn write_str(&mut self, s: &str) -> fmt::Result {
+        self.f.write_str(s)
+    }
+}
+
+// The refusal of a text that is no operator; the text stands in quotes, as in Rust's debug form.
+fn write_unknown<W: fmt::Write>(f: &mut fmt::Formatter<W>, got: &str) -> fmt::Result
+    ensures { DisplaysStyledOnOk W.write_str_gives f.old result (if list_all is_ascii got.now then Some (unknown_text got.now) else None) f.new }
+{
+    let mut direct = Direct { f };
+    write!(
+        direct,
+        "no such comparison operator {got:?}, must be one of ~= == != <= >= < > ==="
+    )
+}
+
+fn write_operator_kind<W: fmt::Write>(
+    f: &mut fmt::Formatter<W>,
+    kind: &OperatorErrorKind,
+) -> fmt::Result
+    ensures { DisplaysStyledOnOk W.write_str_gives f.old result (operator_text_of kind.now) f.new }
+{
+    match kind {
+        OperatorErrorKind::Unknown { got } => write_unknown(f, got.as_str()),
+        OperatorErrorKind::OutOfMemory => f.write_str("out of memory"),
+    }
+}
+
+impl fmt::Display for OperatorParseError {
+    ghost output = { λ e. operator_text_of (operator_kind_of e) };
+
+    ghost styled_output = { λ e _. operator_text_of (operator_kind_of e) };
+
+    fn fmt<W: fmt::Write>(&self, f: &mut fmt::Formatter<W>) -> fmt::Result {
+        write_operator_kind(f, self.kind())
+    }
+}
+
+impl Error for OperatorParseError {}
+
+#[tactic(auto, using(pep440_version::proofs::Reread::Writing::two_writes))]
+fn write_dotted_segment<W: fmt::Write>(
+    f: &mut fmt::Formatter<W>,
+    held: &LocalSegment,
+) -> fmt::Result
+    ensures { WritesStyledOnOk W.write_str_gives f.old result (codes "." ++ segment_print (segment held.now)) f.new }
+{
+    f.write_str(".")?;
+    fmt::Display::fmt(held, f)
+}
+
+// Each segment after a dot.
+fn write_segments<W: fmt::Write>(
+    f: &mut fmt::Formatter<W>,
+    segments: &[LocalSegment],
+) -> fmt::Result
+    ensures { WritesStyledOnOk W.write_str_gives f.old result (flat_map (λ s. codes "." ++ segment_print (segment s)) segments.now) f.new }
+{
+    for held in segments {
+        write_dotted_segment(f, held)?;
+    }
+    Ok(())
+}
+
+// The segments with dots between them.
+fn write_local<W: fmt::Write>(f: &mut fmt::Formatter<W>, local: &[LocalSegment]) -> fmt::Result
+    ensures { WritesStyledOnOk W.write_str_gives f.old result (dotted segment_print (map segment local.now)) f.new }
+{
+    match local {
+        [] => Ok(()),
+        [first, rest @ ..] => {
+            fmt::Display::fmt(first, f)?;
+            write_segments(f, rest)
+        }
+    }
+}
+
+#[tactic(auto, using(pep440_version::proofs::Reread::Writing::two_writes))]
+fn write_incompatible<W: fmt::Write>(
+    f: &mut fmt::Formatter<W>,
+    local: &[LocalSegment],
+) -> fmt::Result
+    ensures { WritesStyledOnOk W.write_str_gives f.old result (codes " is incompatible with versions containing non-empty local segments (`+" ++ (dotted segment_print (map segment local.now) ++ codes "`)")) f.new }
+{
+    f.write_str(" is incompatible with versions containing non-empty local segments (`+")?;
+    write_local(f, local)?;
+    f.write_str("`)")
+}
+
+// The refusal of a local part.
+#[tactic(auto, using(pep440_version::proofs::Reread::Writing::two_writes))]
+fn write_local_combo<W: fmt::Write>(
+    f: &mut fmt::Formatter<W>,
+    operator: Operator,
+    local: &[LocalSegment],
+) -> fmt::Result
+    ensures { WritesStyledOnOk W.write_str_gives f.old result (codes "Operator " ++ (operator_text operator ++ (codes " is incompatible with versions containing non-empty local segments (`+" ++ (dotted segment_print (map segment local.now) ++ codes "`)")))) f.new }
+{
+    f.write_str("Operator ")?;
+    f.write_str(operator.text())?;
+    write_incompatible(f, local)
+}
+
+fn write_build_kind<W: fmt::Write>(f: &mut fmt::Formatter<W>, kind: &BuildErrorKind) -> fmt::Result
+    ensures { WritesStyledOnOk W.write_str_gives f.old result (build_text (build_refusal_of kind.now)) f.new }
+{
+    match kind {
+        BuildErrorKind::OperatorLocalCombo { operator, version } => {
+            write_local_combo(f, *operator, version.local())
+        }
+        BuildErrorKind::OperatorWithStar { operator } => write_three(
+            f,
+            "Operator ",
+            operator.text(),
+            " cannot be used with a wildcard version specifier",
+        ),
+        BuildErrorKind::CompatibleRelease => write_three(
+            f,
+            "The ",
+            Operator::TildeEqual.text(),
+            " operator requires at least two segments in the release version",
+        ),
+    }
+}
+
+impl fmt::Display for VersionSpecifierBuildError {
+    ghost output = { λ e. Some (build_text (build_refusal_of (build_kind_of e))) };
+
+    ghost styled_output = { λ e _. Some (build_text (build_refusal_of (build_kind_of e))) };
+
+    fn fmt<W: fmt::Write>(&self, f: &mut fmt::Formatter<W>) -> fmt::Result {
+        write_build_kind(f, self.kind())
+    }
+}
+
+impl Error for VersionSpecifierBuildError {}
+
+// The text of a refusal; of an inner error its own.
+pub(crate) fn write_parse_kind<W: fmt::Write>(
+    f: &mut fmt::Formatter<W>,
+    kind: &ParseErrorKind,
+) -> fmt::Result
+    ensures { DisplaysStyledOnOk W.write_str_gives f.old result (specifier_text_of kind.now) f.new }
+{
+    match kind {
+        ParseErrorKind::MissingOperator => f.write_str(
+            "Unexpected end of version specifier, expected operator",
+        ),
+        ParseErrorKind::InvalidOperator(error) => write_operator_kind(f, error.kind()),
+        ParseErrorKind::MissingVersion => f.write_str(
+            "Unexpected end of version specifier, expected version",
+        ),
+        ParseErrorKind::InvalidVersion(error) => fmt::Display::fmt(error, f),
+        ParseErrorKind::InvalidSpecifier(error) => write_build_kind(f, error.kind()),
+        ParseErrorKind::InvalidTrailing(rest) => write_three(
+            f,
+            "Trailing `",
+            rest.as_str(),
+            "` is not allowed",
+        ),
+        ParseErrorKind::OutOfMemory => f.write_str("out of memory"),
+    }
+}
+
+impl fmt::Display for VersionSpecifierParseError {
+    ghost output = { λ e. specifier_text_of (parse_kind_of e) };
+
+    ghost styled_output = { λ e _. specifier_text_of (parse_kind_of e) };
+
+    fn fmt<W: fmt::Write>(&self, f: &mut fmt::Formatter<W>) -> fmt::Result {
+        write_parse_kind(f, self.kind())
+    }
+}
+
+impl Error for VersionSpecifierParseError {}

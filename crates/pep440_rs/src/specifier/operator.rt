@@ -1,0 +1,210 @@
+//! The comparison operators.
+ghost use Rattle.std.specs.Prelude.{◌≡◌, Some, Ok, IfOk, IfErr, IfSome, IsOk, refl};
+ghost use Rattle.std.specs.Cmp.{partial_equiv_from_equiv};
+ghost use Rattle.std.specs.Ordering.{as_partial_cmp, eq_by_cmp};
+ghost use Rattle.pep440_rs.specs.Errors.{operator_kind_of, unknown_of};
+ghost use Rattle.pep440_rs.specs.Operators.{Spells, negated, is_star, has_lower_bound, allows_local, operator_rank, operator_cmp, feed_operator, operator_text, given_back};
+ghost use Rattle.pep440_rs.specs.OperatorLaws.{operator_equiv, operator_po, operator_total, operators_feed_alike};
+
+use crate::specifier::error::{OperatorErrorKind, OperatorParseError};
+use std::alloc::Global;
+use std::cmp::Ordering;
+use std::hash::{Hash, Hasher};
+
+/// A comparison operator (PEP 440, "Version specifiers"). They are ordered as they stand here.
+#[derive(Clone, Copy, Debug)]
+pub enum Operator {
+    /// `== 1.2.3`
+    Equal,
+    /// `== 1.2.*`
+    EqualStar,
+    /// `=== 1.2.3`
+    ExactEqual,
+    /// `!= 1.2.3`
+    NotEqual,
+    /// `!= 1.2.*`
+    NotEqualStar,
+    /// `~= 1.2.3`
+    TildeEqual,
+    /// `< 1.2.3`
+    LessThan,
+    /// `<= 1.2.3`
+    LessThanEqual,
+    /// `> 1.2.3`
+    GreaterThan,
+    /// `>= 1.2.3`
+    GreaterThanEqual,
+}
+
+impl Operator {
+    // The place among the operators.
+    fn place(self) -> u64
+        ensures { result ≡ operator_rank self }
+    {
+        match self {
+            Operator::Equal => 0,
+            Operator::EqualStar => 1,
+            Operator::ExactEqual => 2,
+            Operator::NotEqual => 3,
+            Operator::NotEqualStar => 4,
+            Operator::TildeEqual => 5,
+            Operator::LessThan => 6,
+            Operator::LessThanEqual => 7,
+            Operator::GreaterThan => 8,
+            Operator::GreaterThanEqual => 9,
+        }
+    }
+
+    /// The operator of the opposite comparison; `~=` has none. Negating twice gives the operator back, but for
+    /// `===`, which ends at `==`.
+    pub fn negate(self) -> Option<Operator>
+        ensures table { result ≡ negated self }
+        ensures twice { IfSome result (λ o. negated o ≡ Some (given_back self)) }
+    {
+        match self {
+            Operator::Equal | Operator::ExactEqual => Some(Operator::NotEqual),
+            Operator::EqualStar => Some(Operator::NotEqualStar),
+            Operator::NotEqual => Some(Operator::Equal),
+            Operator::NotEqualStar => Some(Operator::EqualStar),
+            Operator::TildeEqual => None,
+            Operator::LessThan => Some(Operator::GreaterThanEqual),
+            Operator::LessThanEqual => Some(Operator::GreaterThan),
+            Operator::GreaterThan => Some(Operator::LessThanEqual),
+            Operator::GreaterThanEqual => Some(Operator::LessThan),
+        }
+    }
+
+    /// Whether `.*` follows the version.
+    pub fn is_star(self) -> bool
+        ensures { result ≡ is_star self }
+    {
+        matches!(self, Operator::EqualStar | Operator::NotEqualStar)
+    }
+
+    // Whether a specifier with this operator holds nothing below some version.
+    pub(crate) fn has_lower_bound(self) -> bool
+        ensures { result ≡ has_lower_bound self }
+    {
+        match self {
+            Operator::Equal
+            | Operator::EqualStar
+            | Operator::ExactEqual
+            | Operator::TildeEqual
+            | Operator::GreaterThan
+            | Operator::GreaterThanEqual => true,
+            Operator::NotEqual
+            | Operator::NotEqualStar
+            | Operator::LessThan
+            | Operator::LessThanEqual => false,
+        }
+    }
+
+    // Whether a version with a local part may follow.
+    pub(crate) fn allows_local(self) -> bool
+        ensures { result ≡ allows_local self }
+    {
+        matches!(
+            self,
+            Operator::Equal | Operator::ExactEqual | Operator::NotEqual
+        )
+    }
+
+    // How the operator is written.
+    pub(crate) fn text(self) -> &'static str
+        ensures { result.now ≡ operator_text self }
+    {
+        match self {
+            Operator::Equal | Operator::EqualStar => "==",
+            Operator::ExactEqual => "===",
+            Operator::NotEqual | Operator::NotEqualStar => "!=",
+            Operator::TildeEqual => "~=",
+            Operator::LessThan => "<",
+            Operator::LessThanEqual => "<=",
+            Operator::GreaterThan => ">",
+            Operator::GreaterThanEqual => ">=",
+        }
+    }
+
+    /// The operator that the text is: one of `~=`, `==`, `!=`, `<=`, `>=`, `<`, `>` and `===`, and never a
+    /// star form. Any other text is refused as `Unknown`.
+    ///
+    /// Takes memory only to refuse, and may then answer `OutOfMemory` in place of `Unknown`.
+    pub fn from_str(alloc: Global, text: &str) -> Result<Operator, OperatorParseError>
+        // What is answered is written so.
+        ensures found { IfOk result (λ o. Spells text.now o) }
+        // What is written so is answered.
+        ensures only { (o : Operator) → Spells text.now o → result ≡ Ok o }
+        // A refusal names the text.
+        ensures refused { IfErr result (λ e. IfSome (unknown_of (operator_kind_of e)) (λ got. got ≡ text.now)) }
+    {
+        match text {
+            "==" => Ok(Operator::Equal),
+            "===" => Ok(Operator::ExactEqual),
+            "!=" => Ok(Operator::NotEqual),
+            "~=" => Ok(Operator::TildeEqual),
+            "<" => Ok(Operator::LessThan),
+            "<=" => Ok(Operator::LessThanEqual),
+            ">" => Ok(Operator::GreaterThan),
+            ">=" => Ok(Operator::GreaterThanEqual),
+            _ => Err(unknown(alloc, text)),
+        }
+    }
+}
+
+// The refusal of a text that is no operator.
+fn unknown(alloc: Global, text: &str) -> OperatorParseError
+    ensures { IfSome (unknown_of (operator_kind_of result)) (λ got. got ≡ text.now) }
+{
+    OperatorParseError::from(match String::from_str(alloc, text) {
+        Ok(got) => OperatorErrorKind::Unknown { got },
+        Err(_) => OperatorErrorKind::OutOfMemory,
+    })
+}
+
+impl PartialEq for Operator {
+    ghost eq = { eq_by_cmp operator_cmp };
+
+    ghost laws = { partial_equiv_from_equiv operator_equiv };
+
+    fn eq(&self, other: &Operator) -> bool {
+        self.cmp(other) == Ordering::Equal
+    }
+}
+
+impl Eq for Operator {
+    ghost laws = { operator_equiv };
+}
+
+impl PartialOrd for Operator {
+    ghost partial_cmp = { as_partial_cmp operator_cmp };
+
+    ghost laws = { operator_po };
+
+    fn partial_cmp(&self, other: &Operator) -> Option<Ordering> {
+        Some(self.cmp(other))
+    }
+}
+
+impl Ord for Operator {
+    ghost cmp = { operator_cmp };
+
+    ghost total = { operator_total };
+
+    ghost matches_partial_cmp = { λ a b. refl };
+
+    ghost matches_eq = { λ a b. refl };
+
+    fn cmp(&self, other: &Operator) -> Ordering {
+        self.place().cmp(&other.place())
+    }
+}
+
+impl Hash for Operator {
+    ghost hash_input = { feed_operator };
+
+    ghost respects_eq = { operators_feed_alike };
+
+    fn hash<H: Hasher>(&self, state: &mut H) {
+        state.write_u64(self.place());
+    }
+}

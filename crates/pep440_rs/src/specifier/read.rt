@@ -1,0 +1,67 @@
+//! The reader of specifiers.
+ghost use Rattle.std.specs.Prelude.{◌==◌, length, Err, if◌then◌else◌};
+ghost use Rattle.pep440_version.specs.Errors.{Answers, pattern_error_refusal};
+ghost use Rattle.pep440_version.specs.Whole.{read_pattern};
+ghost use Rattle.pep440_rs.specs.Build.{built_pattern};
+ghost use Rattle.pep440_rs.specs.Errors.{SpecifierGives};
+ghost use Rattle.pep440_rs.specs.SpecifierGrammar.{MissingVersion};
+ghost use Rattle.pep440_rs.specs.SpecifierReading.{ended, read_specifier, with_pattern};
+
+use crate::specifier::VersionSpecifier;
+use crate::specifier::error::ParseErrorKind;
+use crate::specifier::operator::Operator;
+use crate::specifier::scan::{Run, past_blanks, split_run};
+use pep440_version::{VersionPattern, VersionPatternParseError};
+use std::alloc::Global;
+
+// The specifier of its parts, where nothing is left.
+fn with_pattern(
+    alloc: Global,
+    operator: Operator,
+    pattern: VersionPattern,
+    rest: &str,
+) -> Result<VersionSpecifier, ParseErrorKind>
+    ensures { SpecifierGives result (ended (built_pattern operator pattern.0 pattern.1) rest.now) }
+{
+    let specifier = VersionSpecifier::from_pattern(operator, pattern)?;
+    if rest.is_empty() {
+        return Ok(specifier);
+    }
+    Err(ParseErrorKind::InvalidTrailing(String::from_str(alloc, rest)?))
+}
+
+// What the text reads as, by what the reader of patterns promises.
+fn pattern(alloc: Global, text: &str) -> Result<VersionPattern, VersionPatternParseError>
+    ensures { Answers pattern_error_refusal result (read_pattern text.now) }
+{
+    VersionPattern::from_str(alloc, text)
+}
+
+// The same, where the version is yet to be read.
+fn with_version(
+    alloc: Global,
+    operator: Operator,
+    version: &str,
+    rest: &str,
+) -> Result<VersionSpecifier, ParseErrorKind>
+    ensures { SpecifierGives result (if length version.now == 0 then Err MissingVersion else with_pattern operator (read_pattern version.now) rest.now) }
+{
+    if version.is_empty() {
+        return Err(ParseErrorKind::MissingVersion);
+    }
+    let pattern = pattern(alloc, version).map_err(ParseErrorKind::of_version)?;
+    with_pattern(alloc, operator, pattern, rest)
+}
+
+// What the text reads as.
+pub(crate) fn specifier(alloc: Global, text: &str) -> Result<VersionSpecifier, ParseErrorKind>
+    ensures { SpecifierGives result (read_specifier text.now) }
+{
+    let (spelled, behind) = split_run(past_blanks(text), Run::Operator);
+    if spelled.is_empty() {
+        return Err(ParseErrorKind::MissingOperator);
+    }
+    let operator = Operator::from_str(alloc, spelled).map_err(ParseErrorKind::of_operator)?;
+    let (version, behind) = split_run(past_blanks(behind), Run::Word);
+    with_version(alloc, operator, version, past_blanks(behind))
+}
