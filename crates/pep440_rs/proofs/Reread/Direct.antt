@@ -1,5 +1,5 @@
 -- What many writes straight to a formatter wrote.
-use Rattle.std.proofs.Common.{◌≡◌, ◌∙◌, ◌++◌, ℕ, List, [], ◌∷◌, Bool, true, false, Some, None, Result, Ok, Err, refl, sym, subst, if◌then◌else◌}
+use Rattle.std.proofs.Common.{◌≡◌, ◌∙◌, ◌++◌, ℕ, List, [], ◌∷◌, Bool, true, false, Option, Some, None, Result, Ok, Err, refl, sym, subst, if◌then◌else◌}
 use Rattle.std.proofs.Output.{has_written_styled_append, has_written_styled_nil, has_written_styled_of_eq}
 use Rattle.std.specs.Fmt.{DisplaysStyledOnOk, HasWrittenStyled, IsFlush, WritesText, ◌++?◌}
 use Rattle.std.specs.List.{FoldsTo, concat}
@@ -19,12 +19,19 @@ module _ {W D N : Type 0} (took : W → List ℕ → W → Type 0) (form : D →
       let later = wrote_straight j parts e rest first.flush in
       (has_written_styled_append took (form d) bs (form j) (concat parts) (form e) first later.0, later.1 ∙ step.1)
 
-  -- a text that may be unknown, between two that are known
-  pub told_straight : (d e : D) (r : Result (Unit {0}) Error) (known : Bool) (a t b : List ℕ) (g : Formatter W) → (name d ≡ name e → g ≡ form e) →
-      OnOk r (WritesText Straight d (Some a ++? ((if known then Some t else None) ++? Some b)) e) →
-      DisplaysStyledOnOk took (form d) r (if known then Some (a ++ (t ++ b)) else None) g
-  told_straight d e r false a t b g back h = tt
-  told_straight d e (Err x) true a t b g back h = λ flush ok. cc ok
-  told_straight d e (Ok x) true a t b g back h = λ flush ok.
-      let all = wrote_straight d h.parts e h.calls flush in
-      subst (λ k. HasWrittenStyled took (form d) (a ++ (t ++ b)) k) (sym (back (sym all.1))) (has_written_styled_of_eq took (form d) (concat h.parts) (a ++ (t ++ b)) (form e) h.whole all.0)
+  -- the formatter g that the writer at last held has the text that was written
+  pub told_straight : (d e : D) (r : Result (Unit {0}) Error) (o : Option (List ℕ)) → OnOk r (WritesText Straight d o e) → (wanted : Option (List ℕ)) → o ≡ wanted → (g : Formatter W) → (name d ≡ name e → g ≡ form e) →
+      DisplaysStyledOnOk took (form d) r wanted g
+  told_straight d e r o h wanted is g back = subst (λ w. DisplaysStyledOnOk took (form d) r w g) is (go r o h)
+    where
+      go : (r : Result (Unit {0}) Error) (o : Option (List ℕ)) → OnOk r (WritesText Straight d o e) → DisplaysStyledOnOk took (form d) r o g
+      go r None h = tt
+      go (Err x) (Some bs) h = λ flush ok. cc ok
+      go (Ok x) (Some bs) h = λ flush ok.
+          let all = wrote_straight d h.parts e h.calls flush in
+          subst (λ k. HasWrittenStyled took (form d) bs k) (sym (back (sym all.1))) (has_written_styled_of_eq took (form d) (concat h.parts) bs (form e) h.whole all.0)
+
+-- a text that may be unknown, between two that are known
+pub between : (known : Bool) (a t b : List ℕ) → Some a ++? ((if known then Some t else None) ++? Some b) ≡ (if known then Some (a ++ (t ++ b)) else None)
+between true a t b = refl
+between false a t b = refl
