@@ -1,0 +1,4 @@
+pub mod Normal
+pub mod Blanks
+pub mod Cutting
+pub mod Choosing

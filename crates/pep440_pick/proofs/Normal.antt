@@ -1,0 +1,52 @@
+-- Names in their normal form, byte by byte.
+use Rattle.std.proofs.Common.{◌≡◌, ◌<◌, ◌+◌, ◌-◌, ◌∙◌, ℕ, suc, zero, List, [], ◌∷◌, Bool, true, false, cond, length, get_or, drop, refl, sym, ap, arith, inl, inr}
+use Rattle.std.proofs.lemmas.Bool.{cases_Bool}
+use Rattle.std.proofs.lemmas.List.{get_or_default}
+use Rattle.std.specs.Char.{to_ascii_lowercase}
+use Rattle.std.specs.List.{prefix_len}
+use Rattle.pep440_version.specs.Grammar.{is_separator, starts}
+use Rattle.pep440_version.specs.Reading.{past}
+use Rattle.pep440_version.specs.Refusals.{ends}
+use Rattle.pep440_pick.specs.Names.{normal}
+
+-- the last byte decides how a text ends
+pub ends_at : (test : ℕ → Bool) (b : ℕ) (rest : List ℕ) (n : ℕ) → n ≡ length rest → ends test (b ∷ rest) ≡ test (get_or (b ∷ rest) n 0)
+ends_at test b [] n e = rw e refl
+ends_at test b (c ∷ rest) n e = rw e (ends_at test c rest (length rest) refl)
+
+past_one : (c : ℕ) (rest : List ℕ) → is_separator c ≡ true → past is_separator (c ∷ rest) ≡ past is_separator rest
+past_one c rest e =
+    let step : 1 + prefix_len is_separator rest ≡ suc (prefix_len is_separator rest) = omega arith in
+    rw (e, step) refl
+
+past_none : (c : ℕ) (rest : List ℕ) → is_separator c ≡ false → past is_separator (c ∷ rest) ≡ c ∷ rest
+past_none c rest e = rw e refl
+
+run_goes_on : (b c : ℕ) (rest : List ℕ) → is_separator b ≡ true → is_separator c ≡ true → normal (b ∷ c ∷ rest) ≡ normal (c ∷ rest)
+run_goes_on b c rest e f =
+    ap (λ (x : Bool). cond x (cond (is_separator c) (normal (c ∷ rest)) (45 ∷ normal (c ∷ rest))) (to_ascii_lowercase b ∷ normal (c ∷ rest))) e
+    ∙ ap (λ (x : Bool). cond x (normal (c ∷ rest)) (45 ∷ normal (c ∷ rest))) f
+
+run_stops : (b c : ℕ) (rest : List ℕ) → is_separator b ≡ true → is_separator c ≡ false → normal (b ∷ c ∷ rest) ≡ 45 ∷ normal (c ∷ rest)
+run_stops b c rest e f =
+    ap (λ (x : Bool). cond x (cond (is_separator c) (normal (c ∷ rest)) (45 ∷ normal (c ∷ rest))) (to_ascii_lowercase b ∷ normal (c ∷ rest))) e
+    ∙ ap (λ (x : Bool). cond x (normal (c ∷ rest)) (45 ∷ normal (c ∷ rest))) f
+
+-- a run of separators is one `-`
+pub run_is_one : (b : ℕ) (rest : List ℕ) → is_separator b ≡ true → normal (b ∷ rest) ≡ 45 ∷ normal (past is_separator rest)
+run_is_one b [] e = rw e refl
+run_is_one b (c ∷ rest) e = elim (cases_Bool (is_separator c)) [
+  | inl f ↦ run_goes_on b c rest e f ∙ run_is_one c rest f ∙ ap (λ t. 45 ∷ normal t) (sym (past_one c rest f))
+  | inr f ↦ run_stops b c rest e f ∙ ap (λ t. 45 ∷ normal t) (sym (past_none c rest f))
+]
+
+-- a byte that is no separator stays, in lower case
+pub byte_stays : (b : ℕ) (rest : List ℕ) → is_separator b ≡ false → normal (b ∷ rest) ≡ to_ascii_lowercase b ∷ normal rest
+byte_stays b rest e = rw e refl
+
+pub ends_last : (test : ℕ → Bool) (t : List ℕ) (d : ℕ) → 0 < length t → ends test t ≡ test (get_or t (length t - 1) d)
+ends_last test [] d some = absurd (omega (arith, some))
+ends_last test (b ∷ rest) d some =
+    let at : length rest ≡ suc (length rest) - 1 = omega arith in
+    let inside : length rest < length (b ∷ rest) = omega arith in
+    ends_at test b rest (length rest) refl ∙ ap test (get_or_default (b ∷ rest) (length rest) 0 d inside) ∙ ap (λ n. test (get_or (b ∷ rest) n d)) at

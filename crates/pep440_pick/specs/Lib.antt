@@ -1,0 +1,7 @@
+pub mod Names
+pub mod RequirementGrammar
+pub mod RequirementReading
+pub mod Requirements
+pub mod RequirementTexts
+pub mod Newest
+pub mod Allowed

@@ -1,0 +1,29 @@
+-- The newest of some candidates: the greatest that each list contains, and of equal ones the first.
+use Rattle.std.specs.Prelude.{◌≡◌, ℕ, List, ◌∷◌, ◌++◌, Bool, true, length, Option, Some, None, IsTrue, not}
+use Rattle.std.specs.List.{All, list_all}
+use Rattle.std.specs.Ordering.{is_le, is_lt}
+use Rattle.pep440_rs.specs.Matching.{list_matches}
+use Rattle.pep440_rs.specs.Specifiers.{Spec}
+use Rattle.pep440_version.specs.Key.{record_cmp}
+use Rattle.pep440_version.specs.Record.{Record}
+
+-- each list contains the version
+abbrev pub all_contain : List (List Spec) → Record → Bool
+all_contain lists v = list_all (λ list. list_matches list v) lists
+
+-- the candidate at this place is contained, those before it that are contained are below it, and those behind it that are
+-- contained are not above it
+pub record IsNewest (lists : List (List Spec)) (candidates : List Record) (place : ℕ) : Type 0 where
+  pub before : List Record
+  pub version : Record
+  pub after : List Record
+  pub split : candidates ≡ before ++ (version ∷ after)
+  pub at : length before ≡ place
+  pub contained : IsTrue (all_contain lists version)
+  pub above : All (λ v. IsTrue (all_contain lists v) → IsTrue (is_lt (record_cmp v version))) before
+  pub greatest : All (λ v. IsTrue (all_contain lists v) → IsTrue (is_le (record_cmp v version))) after
+
+-- the place of the newest, or none where no candidate is contained
+abbrev pub Newest : List (List Spec) → List Record → Option ℕ → Type 0
+Newest lists candidates None = All (λ v. IsTrue (not (all_contain lists v))) candidates
+Newest lists candidates (Some place) = IsNewest lists candidates place

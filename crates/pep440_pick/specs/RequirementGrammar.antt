@@ -1,0 +1,116 @@
+-- The texts of requirements: a name, extras in brackets, and a list of specifiers, with parentheses around it or
+-- without. A blank is a tab, a line feed, a form feed, a carriage return or a space, and may stand before, between and
+-- after the parts.
+use Rattle.std.specs.Prelude.{◌≡◌, ◌==◌, ◌⊎◌, ℕ, List, [], ◌∷◌, ◌++◌, Bool, true, false, map, if◌then◌else◌}
+use Rattle.std.specs.Char.{is_ascii_whitespace}
+use Rattle.std.specs.List.{list_all, list_any}
+use Rattle.pep440_version.specs.Grammar.{starts}
+use Rattle.pep440_version.specs.Reading.{past}
+use Rattle.pep440_rs.specs.ListGrammar.{DerivesList, PieceRefusal, RefusesList, pieces}
+use Rattle.pep440_rs.specs.SpecifierGrammar.{IsRun}
+use Rattle.pep440_rs.specs.Specifiers.{Spec}
+use Rattle.pep440_pick.specs.Names.{is_name, is_name_byte}
+
+-- ---- blanks
+
+-- the text without the blanks at its end
+abbrev pub trimmed_end : List ℕ → List ℕ
+trimmed_end [] = []
+trimmed_end (b ∷ rest) = if list_all is_ascii_whitespace (b ∷ rest) then [] else b ∷ trimmed_end rest
+
+-- the text without the blanks at its ends
+abbrev pub trimmed : List ℕ → List ℕ
+trimmed text = trimmed_end (past is_ascii_whitespace text)
+
+-- ---- the parts of a text
+
+-- the byte stands somewhere in the text
+abbrev pub has_byte : ℕ → List ℕ → Bool
+has_byte b text = list_any (λ x. x == b) text
+
+-- the text begins with the byte
+abbrev pub opens : ℕ → List ℕ → Bool
+opens b text = starts (λ x. x == b) text
+
+-- a text in four parts, each but the last as long as can be: blanks, a name, blanks, and the rest
+pub record Cut (text : List ℕ) : Type 0 where
+  pub before : List ℕ
+  pub name : List ℕ
+  pub between : List ℕ
+  pub rest : List ℕ
+  pub cut : text ≡ before ++ (name ++ (between ++ rest))
+  pub before_run : IsRun is_ascii_whitespace before (name ++ (between ++ rest))
+  pub name_run : IsRun is_name_byte name (between ++ rest)
+  pub between_run : IsRun is_ascii_whitespace between rest
+
+-- blanks alone are no extras, and else names stand between commas, with blanks around them
+abbrev pub AreExtras : List ℕ → List (List ℕ) → Type 0
+AreExtras inside extras = ((list_all is_ascii_whitespace inside ≡ true) × (extras ≡ []))
+    ⊎ ((extras ≡ map trimmed (pieces inside)) × (list_all is_name extras ≡ true))
+
+-- the text is `[`, inside up to the first `]`, and behind
+abbrev pub IsBracketed : List ℕ → List ℕ → List ℕ → Type 0
+IsBracketed text inside behind = (text ≡ 91 ∷ (inside ++ (93 ∷ behind))) × (has_byte 93 inside ≡ false)
+
+-- the text has these extras in brackets at its front, or none and no bracket, and then behind
+abbrev pub HasExtras : List ℕ → List (List ℕ) → List ℕ → Type 0
+HasExtras text extras behind = ((opens 91 text ≡ false) × (extras ≡ []) × (behind ≡ text))
+    ⊎ ((inside : List ℕ) × IsBracketed text inside behind × AreExtras inside extras)
+
+-- the text, without blanks at its ends, is the text of a list, or that in parentheses
+abbrev pub HasList : List ℕ → List ℕ → Type 0
+HasList text list = ((opens 40 (trimmed text) ≡ false) × (list ≡ trimmed text))
+    ⊎ ((inner : List ℕ) × (trimmed text ≡ 40 ∷ (inner ++ 41 ∷ [])) × (list ≡ trimmed inner))
+
+-- ---- what a text means
+
+-- the name, the extras, and the text of the list
+pub record Front : Type 0 where
+  pub name : List ℕ
+  pub extras : List (List ℕ)
+  pub list : List ℕ
+
+-- there is no marker and no URL
+pub record IsPlain (text : List ℕ) : Type 0 where
+  pub marker : has_byte 59 text ≡ false
+  pub url : has_byte 64 text ≡ false
+
+-- the text has these parts
+pub record HasFront (text : List ℕ) (f : Front) : Type 0 where
+  pub plain : IsPlain text
+  pub cut : Cut text
+  pub name : f.name ≡ cut.name
+  pub named : is_name cut.name ≡ true
+  pub behind : List ℕ
+  pub extras : HasExtras cut.rest f.extras behind
+  pub list : HasList behind f.list
+
+-- a name, extras, and the members of a list
+pub record Needed : Type 0 where
+  pub name : List ℕ
+  pub extras : List (List ℕ)
+  pub specifiers : List Spec
+
+-- the text means the requirement
+abbrev pub DerivesRequirement : List ℕ → Needed → Type 0
+DerivesRequirement text n = (f : Front) × HasFront text f × (n.name ≡ f.name) × (n.extras ≡ f.extras) × DerivesList f.list n.specifiers
+
+-- why a text is no requirement
+pub data RequirementRefusal : Type 0 where
+  Marker : RequirementRefusal
+  Url : RequirementRefusal
+  InvalidName : RequirementRefusal
+  InvalidExtras : RequirementRefusal
+  Unclosed : RequirementRefusal
+  Specifiers : (list : List ℕ) → PieceRefusal → RequirementRefusal
+
+-- asked in this order: each speaks of a text of which none before it holds
+abbrev pub RefusesRequirement : List ℕ → RequirementRefusal → Type 0
+RefusesRequirement text Marker = has_byte 59 text ≡ true
+RefusesRequirement text Url = (has_byte 59 text ≡ false) × (has_byte 64 text ≡ true)
+RefusesRequirement text InvalidName = IsPlain text × ((c : Cut text) × (is_name c.name ≡ false))
+RefusesRequirement text InvalidExtras = IsPlain text × ((c : Cut text) × (is_name c.name ≡ true)
+    × ((extras : List (List ℕ)) (behind : List ℕ) → HasExtras c.rest extras behind → ⊥))
+RefusesRequirement text Unclosed = IsPlain text × ((c : Cut text) × (is_name c.name ≡ true)
+    × ((extras : List (List ℕ)) × (behind : List ℕ) × HasExtras c.rest extras behind × ((list : List ℕ) → HasList behind list → ⊥)))
+RefusesRequirement text (Specifiers list f) = (front : Front) × HasFront text front × (list ≡ front.list) × RefusesList front.list f

@@ -1,0 +1,58 @@
+-- What a requirement and its error say, apart from where they lie in memory.
+use Rattle.std.specs.Prelude.{◌≡◌, ◌⊎◌, ℕ, List, Option, option_map, Some, None, Result, Ok, Err, IfSome, map, string_bytes}
+use Rattle.pep440_rs.specs.ListAnswers.{line_of, list_kind_of}
+use Rattle.pep440_rs.specs.ListErrors.{list_refusal_of}
+use Rattle.pep440_rs.specs.ListGrammar.{PieceRefusal, RefusesList}
+use Rattle.pep440_rs.specs.Specifiers.{Spec}
+use Rattle.pep440_pick.specs.RequirementGrammar.{Front, InvalidExtras, InvalidName, Marker, Needed, RequirementRefusal, Specifiers, Unclosed, Url}
+use Rattle.pep440_pick.specs.declared.error.RequirementError.{RequirementError}
+use Rattle.pep440_pick.specs.declared.error.RequirementError.TheVariants as error
+use Rattle.pep440_pick.specs.declared.read.Parts.{Parts}
+use Rattle.pep440_pick.specs.declared.requirement.Requirement.{Requirement}
+
+-- the name, the extras and the members of the list
+abbrev pub needed : Requirement → Needed
+needed r = record { name = string_bytes r.name; extras = map string_bytes r.extras.items; specifiers = r.specifiers }
+
+-- the refusal, or none where memory ran out
+abbrev pub requirement_refusal_of : RequirementError → Option RequirementRefusal
+requirement_refusal_of error.Marker = Some Marker
+requirement_refusal_of error.Url = Some Url
+requirement_refusal_of error.InvalidName = Some InvalidName
+requirement_refusal_of error.InvalidExtras = Some InvalidExtras
+requirement_refusal_of error.Unclosed = Some Unclosed
+requirement_refusal_of (error.Specifiers e) = option_map (λ f. Specifiers (line_of e) f) (list_refusal_of (list_kind_of e))
+requirement_refusal_of error.OutOfMemory = None
+
+-- want of memory is said by the last kind, and not inside another
+abbrev pub IsRequirementLifted : RequirementError → Type 0
+IsRequirementLifted e = requirement_refusal_of e ≡ None → e ≡ error.OutOfMemory
+
+-- the answer is this outcome, unless memory ran out
+abbrev pub RequirementAnswers : Result Requirement RequirementError → Result Needed RequirementRefusal → Type 0
+RequirementAnswers (Ok r) outcome = outcome ≡ Ok (needed r)
+RequirementAnswers (Err e) outcome = IfSome (requirement_refusal_of e) (λ f. outcome ≡ Err f)
+
+-- ---- what the readers of the parts answer
+
+abbrev pub front_of : Parts → Front
+front_of p = record { name = p.name.now; extras = map string_bytes p.extras.items; list = p.list.now }
+
+-- the parts were read as reading gives them, unless memory ran out
+abbrev pub FrontGives : Result Parts RequirementError → Result Front RequirementRefusal → Type 0
+FrontGives (Ok p) read = read ≡ Ok (front_of p)
+FrontGives (Err e) read = IfSome (requirement_refusal_of e) (λ f. read ≡ Err f)
+
+-- what was read, seen by view, is what reading gives, where `InvalidExtras` is the only refusal, unless memory ran out
+abbrev pub ExtrasGive : {X A : Type 0} → (X → A) → Result X RequirementError → Option A → Type 0
+ExtrasGive view (Ok x) read = read ≡ Some (view x)
+ExtrasGive view (Err e) read = ((e ≡ error.InvalidExtras) × (read ≡ None)) ⊎ (e ≡ error.OutOfMemory)
+
+-- the list of this text is this outcome, unless memory ran out
+abbrev pub ListGives : List ℕ → Result (List Spec) RequirementError → Result (List Spec) PieceRefusal → Type 0
+ListGives text (Ok list) outcome = outcome ≡ Ok list
+ListGives text (Err e) outcome = IfSome (requirement_refusal_of e) (λ g. (f : PieceRefusal) × (outcome ≡ Err f) × (g ≡ Specifiers text f))
+
+-- the refusal is that of the list of this text
+abbrev pub IsOfList : List ℕ → RequirementRefusal → Type 0
+IsOfList text g = (f : PieceRefusal) × RefusesList text f × (g ≡ Specifiers text f)

@@ -1,0 +1,81 @@
+//! Why a text is no requirement, and the text of that.
+ghost use Rattle.std.specs.Prelude.{◌≡◌, Some};
+ghost use Rattle.pep440_pick.specs.Requirements.{requirement_refusal_of};
+ghost use Rattle.pep440_pick.specs.RequirementTexts.{requirement_text_of};
+ghost use Rattle.pep440_pick.specs.declared.error.RequirementError.TheVariants.{OutOfMemory};
+
+use pep440_rs::VersionSpecifiersParseError;
+use std::alloc::{AllocError, AllocFailed};
+use std::error::Error;
+use std::fmt;
+
+/// Why a text is no requirement: the first of these that holds of it. Two are equal exactly if they say the same.
+#[derive(Debug, PartialEq, Eq, Drop)]
+pub enum RequirementError {
+    /// There is a `;`: markers are not supported.
+    Marker,
+    /// There is an `@`: URLs are not supported.
+    Url,
+    /// No name stands in front.
+    InvalidName,
+    /// What stands in brackets are no extras, or the brackets are not closed.
+    InvalidExtras,
+    /// A parenthesis stands in front of the list, and none at its end.
+    Unclosed,
+    /// The list of specifiers is refused; the error's line is the text of the list.
+    Specifiers(VersionSpecifiersParseError),
+    /// Memory ran out, which says nothing of the text.
+    OutOfMemory,
+}
+
+impl Clone for RequirementError {
+    ghost is_clone = { λ error copy. requirement_refusal_of copy ≡ requirement_refusal_of error };
+
+    fn clone(&self) -> Result<RequirementError, AllocError> {
+        match self {
+            RequirementError::Marker => Ok(RequirementError::Marker),
+            RequirementError::Url => Ok(RequirementError::Url),
+            RequirementError::InvalidName => Ok(RequirementError::InvalidName),
+            RequirementError::InvalidExtras => Ok(RequirementError::InvalidExtras),
+            RequirementError::Unclosed => Ok(RequirementError::Unclosed),
+            RequirementError::Specifiers(error) => Ok(RequirementError::Specifiers(error.clone()?)),
+            RequirementError::OutOfMemory => Ok(RequirementError::OutOfMemory),
+        }
+    }
+}
+
+impl From<AllocError> for RequirementError {
+    ghost from_gives = { λ _ error. error ≡ OutOfMemory };
+
+    fn from(_refused: AllocError) -> RequirementError {
+        RequirementError::OutOfMemory
+    }
+}
+
+impl<T: Drop> From<AllocFailed<T>> for RequirementError {
+    ghost from_gives = { λ _ error. error ≡ OutOfMemory };
+
+    fn from(_refused: AllocFailed<T>) -> RequirementError {
+        RequirementError::OutOfMemory
+    }
+}
+
+impl fmt::Display for RequirementError {
+    ghost output = { λ e. requirement_text_of e };
+
+    ghost styled_output = { λ e _. requirement_text_of e };
+
+    fn fmt<W: fmt::Write>(&self, f: &mut fmt::Formatter<W>) -> fmt::Result {
+        match self {
+            RequirementError::Marker => f.write_str("markers are not supported"),
+            RequirementError::Url => f.write_str("URLs are not supported"),
+            RequirementError::InvalidName => f.write_str("not a valid name"),
+            RequirementError::InvalidExtras => f.write_str("not valid extras"),
+            RequirementError::Unclosed => f.write_str("unclosed parenthesis"),
+            RequirementError::Specifiers(error) => fmt::Display::fmt(error, f),
+            RequirementError::OutOfMemory => f.write_str("out of memory"),
+        }
+    }
+}
+
+impl Error for RequirementError {}

@@ -1,0 +1,15 @@
+//! Requirements, as `demo[extra] >=1.0, <2.0`, and what they ask of versions: the newest candidate, and the range that is
+//! allowed.
+#![tactic(auto)]
+
+mod candidates;
+mod error;
+mod name;
+mod read;
+mod requirement;
+mod scan;
+
+pub use candidates::newest;
+pub use error::RequirementError;
+pub use name::{is_name, same_name};
+pub use requirement::Requirement;

@@ -1,0 +1,106 @@
+//! Names of packages and of extras.
+ghost use Rattle.std.specs.Prelude.{◌≡◌, ◌∷◌, ◌<◌, ◌≤◌, [], length, IfSome};
+ghost use Rattle.std.specs.Char.{is_ascii_alphanumeric};
+ghost use Rattle.std.specs.List.{list_all, prefix_len};
+ghost use Rattle.std.specs.Option.{option_map_or};
+ghost use Rattle.pep440_version.specs.Grammar.{is_separator, starts};
+ghost use Rattle.pep440_version.specs.Refusals.{ends};
+ghost use Rattle.pep440_pick.specs.Names.{is_name, is_name_byte, normal, same_name};
+
+// `.`, `-` and `_`.
+fn is_separator(byte: u8) -> bool
+    ensures { result ≡ is_separator byte }
+{
+    matches!(byte, b'.' | b'-' | b'_')
+}
+
+// A byte that may stand in a name.
+pub(crate) fn is_name_byte(byte: u8) -> bool
+    ensures { result ≡ is_name_byte byte }
+{
+    byte.is_ascii_alphanumeric() || is_separator(byte)
+}
+
+// A letter or a digit stands in front.
+fn starts_well(text: &[u8]) -> bool
+    ensures { result ≡ starts is_ascii_alphanumeric text.now }
+{
+    match text {
+        [] => false,
+        [first, ..] => first.is_ascii_alphanumeric(),
+    }
+}
+
+// A letter or a digit stands at the end.
+fn ends_well(text: &[u8]) -> bool
+    ensures { result ≡ ends is_ascii_alphanumeric text.now }
+{
+    match text {
+        [] => false,
+        [.., last] => last.is_ascii_alphanumeric(),
+    }
+}
+
+fn has_name_bytes(text: &[u8]) -> bool
+    ensures { result ≡ list_all is_name_byte text.now }
+{
+    text.iter().all(|byte| is_name_byte(*byte))
+}
+
+/// Whether the text is a name: ASCII letters and digits, `.`, `-` and `_`, one or more, with a letter or a digit at both
+/// ends.
+///
+/// Takes no memory.
+pub fn is_name(text: &str) -> bool
+    ensures { result ≡ is_name text.now }
+{
+    let bytes = text.as_bytes();
+    has_name_bytes(bytes) && starts_well(bytes) && ends_well(bytes)
+}
+
+fn separators_len(text: &[u8]) -> usize
+    ensures count { result ≡ prefix_len is_separator text.now }
+    ensures inside { result ≤ length text.now }
+{
+    for i in 0..text.len() {
+        if !is_separator(text[i]) {
+            return i;
+        }
+    }
+    text.len()
+}
+
+// The first byte of the name in its normal form, and what follows.
+fn next_byte(text: &[u8]) -> Option<(u8, &[u8])>
+    ensures value { normal text.now ≡ option_map_or (λ x. x.0 ∷ normal x.1.now) result [] }
+    ensures shorter { IfSome result (λ x. length x.1.now < length text.now) }
+{
+    let (first, rest) = text.split_first()?;
+    if is_separator(*first) {
+        Some((b'-', &rest[separators_len(rest)..]))
+    } else {
+        Some((first.to_ascii_lowercase(), rest))
+    }
+}
+
+/// Whether the two names are the same: equal but for the case of ASCII letters, and with each run of `.`, `-` and `_`
+/// as one `-`.
+///
+/// Takes no memory.
+pub fn same_name(one: &str, other: &str) -> bool
+    ensures { result ≡ same_name one.now other.now }
+{
+    let mut left = one.as_bytes();
+    let mut right = other.as_bytes();
+    while let Some((byte, left_rest)) = next_byte(left) {
+        let Some((other_byte, right_rest)) = next_byte(right) else {
+            return false;
+        };
+        if byte != other_byte {
+            return false;
+        }
+        left = left_rest;
+        right = right_rest;
+    }
+    next_byte(right).is_none()
+}

@@ -1,0 +1,71 @@
+//! Requirements: their parts, and the reader.
+ghost use Rattle.std.specs.Prelude.{◌≡◌, Ok, Err, Some, IfOk, IfErr, IfSome};
+ghost use Rattle.std.specs.List.{All};
+ghost use Rattle.pep440_rs.specs.Agreement.{HasOperand};
+ghost use Rattle.pep440_pick.specs.RequirementGrammar.{DerivesRequirement, Needed, RefusesRequirement, RequirementRefusal};
+ghost use Rattle.pep440_pick.specs.RequirementTexts.{requirement_refusal_text, requirement_text_of};
+
+use crate::error::RequirementError;
+use crate::read::{list_of, read_parts};
+use pep440_rs::VersionSpecifiers;
+use std::alloc::{AllocError, Global};
+
+/// What a line asks for: versions of a package that the list contains, with some extras of it.
+#[derive(Debug, Drop)]
+pub struct Requirement {
+    /// The name, as it is written.
+    pub name: String,
+    /// The names of the extras, as they are written, in order.
+    pub extras: Vec<String>,
+    /// The list of specifiers.
+    pub specifiers: VersionSpecifiers,
+}
+
+impl Requirement {
+    ghost use Rattle.pep440_pick.specs.Requirements.{IsRequirementLifted, RequirementAnswers, needed, requirement_refusal_of};
+
+    /// What the text means: a name, extras in brackets if there are any, and a list of specifiers, with parentheses around
+    /// it or without. Tabs, line feeds, form feeds, carriage returns and spaces may stand before, between and after them.
+    ///
+    /// Takes memory. Every text that means nothing is refused, for the first reason that holds of it in the order of the
+    /// kinds of `RequirementError`; only where a request for memory was refused the kind may be `OutOfMemory` instead.
+    pub fn from_str(alloc: Global, text: &str) -> Result<Requirement, RequirementError>
+        // What is answered is what the text means.
+        ensures found { IfOk result (λ r. DerivesRequirement text.now (needed r)) }
+        // What the text means is answered, unless memory runs out.
+        ensures only { (n : Needed) → DerivesRequirement text.now n → RequirementAnswers result (Ok n) }
+        // A refusal holds of the text.
+        ensures refused { IfErr result (λ e. IfSome (requirement_refusal_of e) (RefusesRequirement text.now)) }
+        // The refusal of the text is answered, unless memory runs out.
+        ensures decided { (f : RequirementRefusal) → RefusesRequirement text.now f → RequirementAnswers result (Err f) }
+        // The error's text is the refusal's.
+        ensures told { IfErr result (λ e. IfSome (requirement_refusal_of e) (λ f. requirement_text_of e ≡ Some (requirement_refusal_text f))) }
+        // Want of memory is the last kind, and stands in no other.
+        ensures lifted { IfErr result IsRequirementLifted }
+        // The version of each member is one that a text can give beside the operator, as the agreement of ranges asks.
+        ensures operand { IfOk result (λ r. All HasOperand r.specifiers) }
+    {
+        let parts = read_parts(alloc, text)?;
+        let specifiers = list_of(alloc, parts.list)?;
+        let name = String::from_str(alloc, parts.name)?;
+        Ok(Requirement {
+            name,
+            extras: parts.extras,
+            specifiers,
+        })
+    }
+}
+
+impl Clone for Requirement {
+    ghost use Rattle.pep440_pick.specs.Requirements.{needed};
+
+    ghost is_clone = { λ requirement copy. needed copy ≡ needed requirement };
+
+    fn clone(&self) -> Result<Requirement, AllocError> {
+        Ok(Requirement {
+            name: self.name.clone()?,
+            extras: self.extras.clone()?,
+            specifiers: self.specifiers.clone()?,
+        })
+    }
+}

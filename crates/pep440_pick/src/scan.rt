@@ -1,0 +1,84 @@
+//! Cuts of a text.
+ghost use Rattle.std.specs.Prelude.{◌≡◌, ◌<◌, ◌≤◌, Some, None, length, option_map, drop, if◌then◌else◌};
+ghost use Rattle.std.specs.Char.{is_ascii_whitespace};
+ghost use Rattle.std.specs.List.{list_all, prefix_len};
+ghost use Rattle.pep440_version.specs.Reading.{lead, past};
+ghost use Rattle.pep440_pick.specs.Names.{is_name_byte};
+ghost use Rattle.pep440_pick.specs.RequirementGrammar.{has_byte, opens, trimmed};
+ghost use Rattle.pep440_pick.specs.RequirementReading.{cut_at, without_end};
+
+use crate::name::is_name_byte;
+
+// The byte stands somewhere in the text.
+pub(crate) fn has_byte(text: &str, byte: u8) -> bool
+    ensures { result ≡ has_byte byte text.now }
+{
+    text.as_bytes().contains(&byte)
+}
+
+// What follows the blanks at the front.
+pub(crate) fn past_blanks(text: &str) -> &str
+    ensures { result.now ≡ past is_ascii_whitespace text.now }
+{
+    text.trim_ascii_start()
+}
+
+// The text without the blanks at its ends.
+pub(crate) fn trimmed(text: &str) -> &str
+    ensures { result.now ≡ trimmed text.now }
+{
+    text.trim_ascii()
+}
+
+fn name_len(text: &[u8]) -> usize
+    ensures count { result ≡ prefix_len is_name_byte text.now }
+    ensures inside { result ≤ length text.now }
+{
+    for i in 0..text.len() {
+        if !is_name_byte(text[i]) {
+            return i;
+        }
+    }
+    text.len()
+}
+
+// The longest run of bytes of names at the front, and what follows it.
+pub(crate) fn split_name(text: &str) -> (&str, &str)
+    ensures front { result.0.now ≡ lead is_name_byte text.now }
+    ensures back { result.1.now ≡ past is_name_byte text.now }
+{
+    text.split_at(name_len(text.as_bytes()))
+}
+
+// Blanks alone, or nothing.
+pub(crate) fn are_blanks(text: &str) -> bool
+    ensures { result ≡ list_all is_ascii_whitespace text.now }
+{
+    text.as_bytes()
+        .iter()
+        .all(|byte| byte.is_ascii_whitespace())
+}
+
+// What stands before the first such character, and what behind it.
+pub(crate) fn cut_at(text: &str, character: char) -> Option<(&str, &str)>
+    requires { character < 128 }
+    ensures { option_map (λ x. (x.0.now, x.1.now)) result ≡ cut_at character text.now }
+{
+    text.split_once(character)
+}
+
+// The text without this character at its front, where it stands there.
+pub(crate) fn without_front(text: &str, character: char) -> Option<&str>
+    requires { character < 128 }
+    ensures { option_map (λ x. x.now) result ≡ (if opens character text.now then Some (drop 1 text.now) else None) }
+{
+    text.strip_prefix(character)
+}
+
+// The text without this character at its end, where it stands there.
+pub(crate) fn without_end(text: &str, character: char) -> Option<&str>
+    requires { character < 128 }
+    ensures { option_map (λ x. x.now) result ≡ without_end character text.now }
+{
+    text.strip_suffix(character)
+}
