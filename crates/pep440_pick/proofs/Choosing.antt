@@ -1,10 +1,11 @@
 -- The newest of the candidates so far, and one candidate more.
 use Rattle.std.proofs.Common.{◌≡◌, ◌<◌, ◌+◌, ◌∙◌, ℕ, List, [], ◌∷◌, ◌++◌, Bool, true, false, length, get_or, take, Option, Some, None, refl, sym, ap, subst, arith, append_assoc}
 use Rattle.std.proofs.lemmas.Bool.{both_ways, not_from_false}
-use Rattle.std.proofs.lemmas.List.{get_or_at, length-append}
+use Rattle.std.proofs.lemmas.List.{get_or-take, get_or_at, length-append, length-take, length-take-le, take_more}
 use Rattle.std.proofs.lemmas.List.Elements.{All-append, All-cons, All-nil, All-push, All-weaker}
 use Rattle.std.specs.Cmp.{IsTotalOrder}
 use Rattle.std.specs.List.{All}
+use Rattle.std.specs.Option.{option_map_or}
 use Rattle.std.specs.Ordering.{is_le, is_lt, ordering_reverse}
 use Rattle.std.specs.Prelude.{IsTrue, not}
 use Rattle.std.specs.declared.cmp.Ordering.{Ordering}
@@ -103,3 +104,38 @@ module _ (lists : List (List Spec)) where
       let long = ap length n.split ∙ length-append n.before (n.version ∷ n.after) in
       let at = n.at in
       (omega (arith, long, at), ap (λ (l : List Record). get_or l place d) n.split ∙ get_or_at n.before n.version n.after d place n.at)
+
+  -- ---- the same at a place of the candidates
+
+  at_place : (candidates : List Record) (i : ℕ) (v : Record) → i < length candidates → v ≡ get_or candidates i v → take (i + 1) candidates ≡ take i candidates ++ v ∷ []
+  at_place candidates i v inside is = take_more candidates i v inside ∙ ap (λ (x : Record). take i candidates ++ x ∷ []) (sym is)
+
+  so_far : (candidates : List Record) (i place : ℕ) (v : Record) → i < length candidates → (n : IsNewest lists (take i candidates) place) → n.version ≡ get_or candidates place v
+  so_far candidates i place v inside n =
+      let there = stands (take i candidates) place v n in
+      let long = length-take i candidates in
+      sym there.1 ∙ get_or-take i candidates place v (omega (arith, there.0, long))
+
+  pub found_more : (candidates : List Record) (i : ℕ) (v : Record) (newest : Option ℕ) → i < length candidates → v ≡ get_or candidates i v → Newest lists (take i candidates) newest
+      → option_map_or (λ place. is_lt (record_cmp (get_or candidates place v) v)) newest true ≡ true → all_contain lists v ≡ true → Newest lists (take (i + 1) candidates) (Some i)
+  found_more candidates i v None inside is n above contained =
+      let long : length (take i candidates) ≡ i = length-take-le i candidates (omega (arith, inside)) in
+      subst (λ (l : List Record). Newest lists l (Some i)) (sym (at_place candidates i v inside is)) (subst (λ k. Newest lists (take i candidates ++ v ∷ []) (Some k)) long (first_one (take i candidates) v contained n))
+  found_more candidates i v (Some place) inside is n above contained =
+      let long : length (take i candidates) ≡ i = length-take-le i candidates (omega (arith, inside)) in
+      let lt : is_lt (record_cmp n.version v) ≡ true = ap (λ (r : Record). is_lt (record_cmp r v)) (so_far candidates i place v inside n) ∙ above in
+      subst (λ (l : List Record). Newest lists l (Some i)) (sym (at_place candidates i v inside is))
+      (subst (λ k. Newest lists (take i candidates ++ v ∷ []) (Some k)) long (newer (take i candidates) v place contained n lt))
+
+  pub out_more : (candidates : List Record) (i : ℕ) (v : Record) (newest : Option ℕ) → i < length candidates → v ≡ get_or candidates i v → Newest lists (take i candidates) newest
+      → all_contain lists v ≡ false → Newest lists (take (i + 1) candidates) newest
+  out_more candidates i v None inside is n out = subst (λ (l : List Record). Newest lists l None) (sym (at_place candidates i v inside is)) (still_none (take i candidates) v out n)
+  out_more candidates i v (Some place) inside is n out =
+      subst (λ (l : List Record). Newest lists l (Some place)) (sym (at_place candidates i v inside is)) (stays (take i candidates) v place n (λ h. absurd (both_ways (all_contain lists v) out h)))
+
+  pub below_more : (candidates : List Record) (i : ℕ) (v : Record) (newest : Option ℕ) → i < length candidates → v ≡ get_or candidates i v → Newest lists (take i candidates) newest
+      → option_map_or (λ place. is_lt (record_cmp (get_or candidates place v) v)) newest true ≡ false → Newest lists (take (i + 1) candidates) newest
+  below_more candidates i v None inside is n above = cc above
+  below_more candidates i v (Some place) inside is n above =
+      let lt : is_lt (record_cmp n.version v) ≡ false = ap (λ (r : Record). is_lt (record_cmp r v)) (so_far candidates i place v inside n) ∙ above in
+      subst (λ (l : List Record). Newest lists l (Some place)) (sym (at_place candidates i v inside is)) (stays (take i candidates) v place n (λ h. not_below v n.version lt))

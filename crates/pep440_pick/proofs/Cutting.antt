@@ -14,10 +14,10 @@ name_byte_ascii b e = grind (arith, nat_tests)
 abbrev pub HasNo : ℕ → List ℕ → Type 0
 HasNo b t = (i : ℕ) → i < length t → get_or t i 0 ≢ b
 
-later : (b x : ℕ) (t : List ℕ) → HasNo b (x ∷ t) → HasNo b t
+pub later : (b x : ℕ) (t : List ℕ) → HasNo b (x ∷ t) → HasNo b t
 later b x t none i lt = none (suc i) (omega (arith, lt))
 
-first : (b x : ℕ) (t : List ℕ) → HasNo b (x ∷ t) → (x == b) ≡ false
+pub first : (b x : ℕ) (t : List ℕ) → HasNo b (x ∷ t) → (x == b) ≡ false
 first b x t none = elim (cases_Bool (x == b)) [
   | inl e ↦ absurd (none 0 (omega arith) (eqb-true x b e))
   | inr e ↦ e
