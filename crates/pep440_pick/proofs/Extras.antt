@@ -1,6 +1,6 @@
 -- Extras, read one after another.
-use Rattle.std.proofs.Common.{◌≡◌, ◌==◌, ◌<◌, ◌+◌, ◌∙◌, ◌&&◌, ℕ, suc, List, [], ◌∷◌, ◌++◌, Bool, true, false, cond, length, get_or, drop, map, Option, Some, None, refl, sym, ap, subst, arith, append-nil, append_assoc, map-append}
-use Rattle.std.proofs.lemmas.List.{drop_at, length-append}
+use Rattle.std.proofs.Common.{◌≡◌, ◌==◌, ◌<◌, ◌+◌, ◌∙◌, ◌&&◌, ℕ, suc, List, [], ◌∷◌, ◌++◌, Bool, true, false, cond, length, get_or, drop, map, Option, Some, None, option_map, refl, sym, ap, subst, arith, append-nil, append_assoc}
+use Rattle.std.proofs.lemmas.List.{drop_at, length-append, map-append}
 use Rattle.std.proofs.lemmas.List.Folds.{list_all-append}
 use Rattle.std.proofs.lemmas.Str.{IsCharBoundary-after_ascii, IsUtf8-drop}
 use Rattle.std.specs.Char.{is_ascii_whitespace}
@@ -118,3 +118,34 @@ no_bracket text e = rw e refl
 pub in_bracket : (text : List ℕ) → opens 91 text ≡ true → extras_at text ≡ bracketed (cut_at 93 (drop 1 text))
 unfolding extras_at
 in_bracket text e = rw e refl
+
+-- ---- what stands at the front of a text
+
+lacks : (b : Bool) (x : List ℕ) → None ≡ cond b (Some x) None → b ≡ false
+lacks true x e = cc e
+lacks false x e = refl
+
+has : (b : Bool) (x rest : List ℕ) → Some rest ≡ cond b (Some x) None → (b ≡ true) × (rest ≡ x)
+has true x rest e = (refl, cc e)
+has false x rest e = cc e
+
+pub front_lacks : (b : ℕ) (t : List ℕ) → None ≡ cond (opens b t) (Some (drop 1 t)) None → opens b t ≡ false
+front_lacks b t e = lacks (opens b t) (drop 1 t) e
+
+pub front_has : (b : ℕ) (t rest : List ℕ) → Some rest ≡ cond (opens b t) (Some (drop 1 t)) None → (opens b t ≡ true) × (rest ≡ drop 1 t)
+front_has b t rest e = has (opens b t) (drop 1 t) rest e
+
+-- ---- what the reader of extras finds
+
+pub unclosed : (text tail : List ℕ) → Some tail ≡ cond (opens 91 text) (Some (drop 1 text)) None → None ≡ cut_at 93 tail → extras_at text ≡ None
+unclosed text tail e none = let h = front_has 91 text tail e in in_bracket text h.0 ∙ ap (λ t. bracketed (cut_at 93 t)) (sym h.1) ∙ ap bracketed (sym none)
+
+closed : (text tail inside behind : List ℕ) → Some tail ≡ cond (opens 91 text) (Some (drop 1 text)) None → Some (inside, behind) ≡ cut_at 93 tail → extras_at text ≡ bracketed (Some (inside, behind))
+closed text tail inside behind e is = let h = front_has 91 text tail e in in_bracket text h.0 ∙ ap (λ t. bracketed (cut_at 93 t)) (sym h.1) ∙ ap bracketed (sym is)
+
+pub closed_some : (text tail inside behind : List ℕ) (extras : List (List ℕ)) → Some tail ≡ cond (opens 91 text) (Some (drop 1 text)) None → Some (inside, behind) ≡ cut_at 93 tail
+    → extras_in inside ≡ Some extras → extras_at text ≡ Some (extras, behind)
+closed_some text tail inside behind extras e is found = closed text tail inside behind e is ∙ ap (option_map (λ x. (x, behind))) found
+
+pub closed_none : (text tail inside behind : List ℕ) → Some tail ≡ cond (opens 91 text) (Some (drop 1 text)) None → Some (inside, behind) ≡ cut_at 93 tail → extras_in inside ≡ None → extras_at text ≡ None
+closed_none text tail inside behind e is none = closed text tail inside behind e is ∙ ap (option_map (λ x. (x, behind))) none

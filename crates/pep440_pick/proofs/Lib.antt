@@ -5,3 +5,7 @@ pub mod Choosing
 pub mod Extras
 pub mod Listing
 pub mod Copies
+pub mod Fronts
+pub mod Parts
+pub mod Tells
+pub mod Whole

@@ -97,6 +97,7 @@ fn list_in(text: &str) -> Option<&str>
 fn named<'a>(alloc: Global, name: &'a str, rest: &'a str) -> Result<Parts<'a>, RequirementError>
     ensures value { FrontGives result (named name.now rest.now) }
     ensures lifted { IfErr result IsRequirementLifted }
+    ensures told { IfErr result (λ e. IfSome (requirement_refusal_of e) (λ f. requirement_text_of e ≡ Some (requirement_refusal_text f))) }
 {
     if !is_name(name) {
         return Err(RequirementError::InvalidName);
@@ -115,6 +116,7 @@ fn named<'a>(alloc: Global, name: &'a str, rest: &'a str) -> Result<Parts<'a>, R
 pub(crate) fn read_parts(alloc: Global, text: &str) -> Result<Parts<'_>, RequirementError>
     ensures value { FrontGives result (read_front text.now) }
     ensures lifted { IfErr result IsRequirementLifted }
+    ensures told { IfErr result (λ e. IfSome (requirement_refusal_of e) (λ f. requirement_text_of e ≡ Some (requirement_refusal_text f))) }
 {
     if has_byte(text, b';') {
         return Err(RequirementError::Marker);
