@@ -9,3 +9,5 @@ pub mod Fronts
 pub mod Parts
 pub mod Tells
 pub mod Whole
+pub mod Joined
+pub mod Once

@@ -23,7 +23,7 @@ list_err f = Err f
 
 -- ---- where the parts are refused
 
-told_front : (text : List ℕ) (f : RequirementRefusal) → FrontTells text (Err f) → RefusesRequirement text f
+pub told_front : (text : List ℕ) (f : RequirementRefusal) → FrontTells text (Err f) → RefusesRequirement text f
 told_front text Marker h = h
 told_front text Url h = h
 told_front text InvalidName h = h

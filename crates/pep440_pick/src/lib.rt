@@ -4,7 +4,9 @@
 
 mod candidates;
 mod error;
+pub mod laws;
 mod name;
+mod range;
 mod read;
 mod requirement;
 mod scan;
@@ -12,4 +14,5 @@ mod scan;
 pub use candidates::newest;
 pub use error::RequirementError;
 pub use name::{is_name, same_name};
+pub use range::allowed;
 pub use requirement::Requirement;

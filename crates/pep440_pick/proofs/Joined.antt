@@ -1,0 +1,90 @@
+-- The members of several lists, in one.
+use Rattle.std.proofs.Common.{◌≡◌, ◌∙◌, ◌&&◌, ◌||◌, ℕ, List, [], ◌∷◌, ◌++◌, Bool, true, false, not, length, map, Option, Some, None, Result, Ok, Err, refl, sym, ap, subst, arith}
+use Rattle.std.proofs.lemmas.List.Folds.{list_all-append, list_all_at, list_any-append}
+use Rattle.std.proofs.lemmas.List.Sorted.{length_permutation, list_any-IsPermutation}
+use Rattle.std.proofs.lemmas.List.{nil_from_length}
+use Rattle.std.specs.List.{Any, flat_map, list_all, list_any}
+use Rattle.std.specs.List.Sorted.{IsPermutation}
+use Rattle.std.specs.Prelude.{IfOk}
+use Rattle.pep440_ranges.specs.Segments.{contains}
+use Rattle.pep440_rs.specs.Agreement.{HoldsInEach, is_held}
+use Rattle.pep440_rs.specs.Bounds.{Segments, full, list_range, range_of}
+use Rattle.pep440_rs.specs.Refused.{TellsMax, raises_max, some_raises_max}
+use Rattle.pep440_rs.specs.Specifiers.{Spec}
+use Rattle.pep440_rs.specs.declared.range_error.RangeError.{RangeError}
+use Rattle.pep440_rs.proofs.ListRanges.{holds_in_each, refused_by_a_member}
+use Rattle.pep440_version.specs.Key.{record_cmp}
+use Rattle.pep440_version.specs.Record.{Record}
+use Rattle.pep440_pick.specs.Allowed.{HoldsAllowed, lists_of, some_at_max}
+use Rattle.pep440_pick.specs.Names.{same_name}
+use Rattle.pep440_pick.specs.RequirementGrammar.{Needed}
+
+abbrev pub joined : List (List Spec) → List Spec
+joined lists = flat_map (λ (list : List Spec). list) lists
+
+-- ---- tests of each member
+
+not_any : (p : Spec → Bool) (xs : List Spec) → list_all p xs ≡ not (list_any (λ x. not (p x)) xs)
+not_any p [] = refl
+not_any p (x ∷ xs) = go (p x) (not_any p xs)
+  where
+    go : (b : Bool) → list_all p xs ≡ not (list_any (λ y. not (p y)) xs) → (b && list_all p xs) ≡ not (not b || list_any (λ y. not (p y)) xs)
+    go true h = h
+    go false h = refl
+
+all_alike : (p : Spec → Bool) (xs ys : List Spec) → IsPermutation xs ys → list_all p ys ≡ list_all p xs
+all_alike p xs ys h = not_any p ys ∙ ap not (sym (list_any-IsPermutation (λ x. not (p x)) xs ys h)) ∙ sym (not_any p xs)
+
+all_joined : (p : Spec → Bool) (lists : List (List Spec)) → list_all p (joined lists) ≡ list_all (λ list. list_all p list) lists
+all_joined p [] = refl
+all_joined p (list ∷ lists) = list_all-append p list (joined lists) ∙ ap (λ b. list_all p list && b) (all_joined p lists)
+
+any_joined : (p : Spec → Bool) (lists : List (List Spec)) → list_any p (joined lists) ≡ list_any (λ list. list_any p list) lists
+any_joined p [] = refl
+any_joined p (list ∷ lists) = list_any-append p list (joined lists) ∙ ap (λ b. list_any p list || b) (any_joined p lists)
+
+-- ---- a version in the range of a list is one in the range of each member
+
+abbrev in_range : Record → Spec → Bool
+in_range v m = is_held (range_of m.operator m.version) v
+
+fails_somewhere : (v : Record) (list : List Spec) → Any (λ (m : Spec). range_of m.operator m.version ≡ None) list → list_all (in_range v) list ≡ false
+fails_somewhere v list (k, m, inside, is, none) =
+    list_all_at (in_range v) list k m inside (ap (in_range v) is ∙ ap (λ o. is_held o v) none)
+
+in_list : (v : Record) (list : List Spec) → is_held (list_range range_of list) v ≡ list_all (in_range v) list
+in_list v list = go (list_range range_of list) refl
+  where
+    go : (o : Option Segments) → list_range range_of list ≡ o → is_held (list_range range_of list) v ≡ list_all (in_range v) list
+    go (Some range) e = ap (λ o. is_held o v) e ∙ holds_in_each range_of list range e v
+    go None e = ap (λ o. is_held o v) e ∙ sym (fails_somewhere v list ((refused_by_a_member range_of list).0 e))
+
+in_lists : (v : Record) (lists : List (List Spec)) → list_all (λ list. list_all (in_range v) list) lists ≡ list_all (λ list. is_held (list_range range_of list) v) lists
+in_lists v [] = refl
+in_lists v (list ∷ lists) = λ i. sym (in_list v list) i && in_lists v lists i
+
+-- ---- the range of the members arranged
+
+pub holds_allowed : (lists : List (List Spec)) (members list : List Spec) (range : Segments) → members ≡ joined lists → IsPermutation members list → HoldsInEach range_of list range → HoldsAllowed lists range
+holds_allowed lists members list range made same holds = λ v.
+    holds v ∙ all_alike (in_range v) members list same ∙ ap (list_all (in_range v)) made ∙ all_joined (in_range v) lists ∙ in_lists v lists
+
+pub at_max_allowed : (lists : List (List Spec)) (members list : List Spec) (result : Result Segments RangeError) → members ≡ joined lists → IsPermutation members list → TellsMax (some_raises_max list) result → TellsMax (some_at_max lists) result
+at_max_allowed lists members list result made same tells =
+    subst (λ b. TellsMax b result) (sym (list_any-IsPermutation raises_max members list same) ∙ ap (list_any raises_max) made ∙ any_joined raises_max lists) tells
+
+pub all_allowed : (lists : List (List Spec)) (members list : List Spec) (range : Segments) → members ≡ joined lists → IsPermutation members list → list_range range_of list ≡ Some range → lists ≡ [] → range ≡ full
+all_allowed lists members list range made same is none =
+    let empty : members ≡ [] = made ∙ ap joined none in
+    let long = length_permutation members list same ∙ ap length empty in
+    let nothing : list ≡ [] = nil_from_length list long in
+    inside range full (sym is ∙ ap (list_range range_of) nothing)
+  where
+    inside : (a b : Segments) → Some a ≡ Some b → a ≡ b
+    inside a b e = cc
+
+-- ---- the requirements one after another
+
+-- the members so far, and those of the requirements that are left, are all
+abbrev pub Gathers : List ℕ → List Spec → List Needed → List Needed → Type 0
+Gathers name members left all = members ++ joined (lists_of name left) ≡ joined (lists_of name all)

@@ -1,0 +1,68 @@
+//! The versions that requirements of one name allow.
+ghost use Rattle.std.specs.Prelude.{◌≡◌, ◌++◌, [], map, IfOk};
+ghost use Rattle.std.specs.List.{flat_map};
+ghost use Rattle.pep440_rs.specs.Bounds.{full};
+ghost use Rattle.pep440_rs.specs.Refused.{TellsMax};
+ghost use Rattle.pep440_pick.specs.Allowed.{HoldsAllowed, lists_of, some_at_max};
+ghost use Rattle.pep440_pick.specs.Requirements.{needed};
+
+use crate::name::same_name;
+use crate::requirement::Requirement;
+use pep440_rs::{
+    RangeError, Ranges, Version, VersionSpecifier, VersionSpecifiers, specifiers_to_ranges,
+};
+use std::alloc::{AllocError, Global};
+
+// The members of the list, behind these.
+fn add_members(
+    members: &mut Vec<VersionSpecifier>,
+    list: &VersionSpecifiers,
+) -> Result<(), AllocError>
+    ensures { IfOk result (λ _. members.new.items ≡ members.old.items ++ list.now) }
+{
+    for member in list.as_slice() {
+        members.push(member.clone()?)?;
+    }
+    Ok(())
+}
+
+// The members of the lists of the requirements of that name.
+fn members_of(
+    alloc: Global,
+    requirements: &[Requirement],
+    name: &str,
+) -> Result<Vec<VersionSpecifier>, AllocError>
+    ensures { IfOk result (λ v. v.items ≡ flat_map (λ list. list) (lists_of name.now (map needed requirements.now))) }
+{
+    let mut members = Vec::new(alloc);
+    for requirement in requirements {
+        if same_name(requirement.name.as_str(), name) {
+            add_members(&mut members, &requirement.specifiers)?;
+        }
+    }
+    Ok(members)
+}
+
+/// The versions that lie in the range of each requirement of that name (`specifiers_to_ranges`): all versions where there
+/// is no such requirement. Requirements of other names are not looked at.
+///
+/// Takes memory. Answers `NumberAtMax` where that is the answer for some requirement of that name, also where the others
+/// allow no version, and `OutOfMemory` where memory is refused. The ranges are intersected by halves: n members take
+/// n log n steps.
+pub fn allowed(
+    alloc: Global,
+    requirements: &[Requirement],
+    name: &str,
+) -> Result<Ranges<Version>, RangeError>
+    ensures set { IfOk result (HoldsAllowed (lists_of name.now (map needed requirements.now))) }
+    // `NumberAtMax` exactly where the range of some requirement of that name is refused, unless memory runs out.
+    ensures at_max { TellsMax (some_at_max (lists_of name.now (map needed requirements.now))) result }
+    ensures all { lists_of name.now (map needed requirements.now) ≡ [] → IfOk result (λ range. range ≡ full) }
+{
+    let members = members_of(alloc, requirements, name)?;
+    let list = VersionSpecifiers::from_specifiers(alloc, members)?;
+    match specifiers_to_ranges(alloc, list) {
+        Ok(range) => Ok(range),
+        Err(error) => Err(error),
+    }
+}

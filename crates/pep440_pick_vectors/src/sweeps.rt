@@ -1,0 +1,78 @@
+//! Each call that takes memory, made twice with one request for memory refused: it answers what it answers with ample
+//! memory, or, at most once, its want of memory.
+use pep440_pick::{Requirement, RequirementError, allowed, newest};
+use pep440_rs::{RangeError, Version, VersionSpecifiers};
+use std::test::Fail;
+
+#[test]
+fn sweep_requirement(rt: HostRuntime) -> Result<(), Fail> {
+    let mut refused: u32 = 0;
+    for _turn in 0..2 {
+        match Requirement::from_str(rt.alloc(), "a[x, y] (>=1, <2)") {
+            Ok(read) => {
+                assert!(rt; read.extras.len() == 2);
+                match read.clone() {
+                    Ok(copy) => assert!(rt; copy.name == read.name),
+                    Err(_) => refused = refused.saturating_add(1),
+                }
+            }
+            Err(error) => {
+                assert!(rt; matches!(error, RequirementError::OutOfMemory));
+                refused = refused.saturating_add(1);
+            }
+        }
+    }
+    assert!(rt; refused <= 1);
+    Ok(())
+}
+
+#[test]
+fn sweep_refused_requirement(rt: HostRuntime) -> Result<(), Fail> {
+    let mut refused: u32 = 0;
+    for _turn in 0..2 {
+        match Requirement::from_str(rt.alloc(), "a[x] >=1,y") {
+            Ok(_) => assert!(rt; false),
+            Err(RequirementError::OutOfMemory) => refused = refused.saturating_add(1),
+            Err(RequirementError::Specifiers(error)) => assert!(rt; error.line() == ">=1,y"),
+            Err(_) => assert!(rt; false),
+        }
+    }
+    assert!(rt; refused <= 1);
+    Ok(())
+}
+
+#[test]
+fn sweep_newest(rt: HostRuntime) -> Result<(), Fail> {
+    let mut refused: u32 = 0;
+    for _turn in 0..2 {
+        let Ok(list) = VersionSpecifiers::from_str(rt.alloc(), "===1.0") else {
+            return Ok(());
+        };
+        let Ok(version) = Version::new(rt.alloc(), &[1, 0]) else {
+            return Ok(());
+        };
+        match newest(rt.alloc(), &[list], &[version]) {
+            Ok(found) => assert!(rt; found == Some(0)),
+            Err(_) => refused = refused.saturating_add(1),
+        }
+    }
+    assert!(rt; refused <= 1);
+    Ok(())
+}
+
+#[test]
+fn sweep_allowed(rt: HostRuntime) -> Result<(), Fail> {
+    let mut refused: u32 = 0;
+    for _turn in 0..2 {
+        let Ok(read) = Requirement::from_str(rt.alloc(), "a>=1,!=2") else {
+            return Ok(());
+        };
+        match allowed(rt.alloc(), &[read], "A") {
+            Ok(range) => assert!(rt; range.iter().count() == 2),
+            Err(RangeError::OutOfMemory) => refused = refused.saturating_add(1),
+            Err(RangeError::NumberAtMax) => assert!(rt; false),
+        }
+    }
+    assert!(rt; refused <= 1);
+    Ok(())
+}
