@@ -81,7 +81,10 @@ fn allowed_of_rows(rt: HostRuntime) -> Result<(), Fail> {
 fn refused_at_max(rt: HostRuntime) -> Result<(), Fail> {
     let given = requirements(rt, &["a<1", "a>2", "a==18446744073709551615.*"])?;
     let answer = allowed(rt.alloc(), given.as_slice(), "A");
-    assert!(rt; matches!(answer, Err(RangeError::NumberAtMax)), "a number at its maximum");
+    assert!(rt;
+        matches!(answer, Err(RangeError::NumberAtMax)),
+        "a number at its maximum"
+    );
     let given = requirements(rt, &["a==18446744073709551615.*"])?;
     let answer = allowed(rt.alloc(), given.as_slice(), "a");
     assert!(rt; matches!(answer, Err(RangeError::NumberAtMax)), "alone");

@@ -13,7 +13,12 @@ const READ: [(&str, &str, &str, &str); 13] = [
     ("a ()", "a", "", ""),
     ("a1.0", "a1.0", "", ""),
     ("demo-pkg[x]>=1.0,<2.0", "demo-pkg", "x,", ">=1.0, <2.0"),
-    (" \t\r\n\u{c}Demo_Pkg [ X.1 ,y ] ==1.* \n", "Demo_Pkg", "X.1,y,", "==1.*"),
+    (
+        " \t\r\n\u{c}Demo_Pkg [ X.1 ,y ] ==1.* \n",
+        "Demo_Pkg",
+        "X.1,y,",
+        "==1.*",
+    ),
     ("a(>=1)", "a", "", ">=1"),
     ("a ( >=1 )", "a", "", ">=1"),
     ("a===1.0", "a", "", "===1.0"),
@@ -39,7 +44,9 @@ fn is_read(rt: HostRuntime, row: (&str, &str, &str, &str)) -> Result<bool, Fail>
     let copy = read.clone()?;
     let names = with_commas(rt, read.extras.as_slice())?;
     let print = read.specifiers.to_string(rt.alloc())?;
-    let same = copy.name == read.name && copy.specifiers == read.specifiers && copy.extras == read.extras;
+    let same = copy.name == read.name
+        && copy.specifiers == read.specifiers
+        && copy.extras == read.extras;
     Ok(same && read.name.as_str() == name && names.as_str() == extras && print.as_str() == list)
 }
 
@@ -53,7 +60,11 @@ fn read(rt: HostRuntime) -> Result<(), Fail> {
 
 // A text, the kind of its refusal, and the text of the error.
 const REFUSED: [(&str, &str, &str); 22] = [
-    ("a>=1; python_version>'3'", "Marker", "markers are not supported"),
+    (
+        "a>=1; python_version>'3'",
+        "Marker",
+        "markers are not supported",
+    ),
     ("a;b@c", "Marker", "markers are not supported"),
     ("-;", "Marker", "markers are not supported"),
     ("a @ https://x", "Url", "URLs are not supported"),
