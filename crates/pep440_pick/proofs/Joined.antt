@@ -1,21 +1,24 @@
 -- The members of several lists, in one.
-use Rattle.std.proofs.Common.{◌≡◌, ◌∙◌, ◌&&◌, ◌||◌, ℕ, List, [], ◌∷◌, ◌++◌, Bool, true, false, not, length, map, Option, Some, None, Result, Ok, Err, refl, sym, ap, subst, arith}
-use Rattle.std.proofs.lemmas.List.Folds.{list_all-append, list_all_at, list_any-append}
+use Rattle.std.proofs.Common.{◌≡◌, ◌∙◌, ◌&&◌, ◌||◌, ℕ, List, [], ◌∷◌, ◌++◌, Bool, true, false, not, length, map, Option, Some, None, Result, Ok, Err, refl, sym, ap, inl, inr}
+use Rattle.std.proofs.lemmas.Bool.{cases_Bool}
+use Rattle.std.proofs.lemmas.List.Folds.{list_all-append, list_all_at, list_any-append, list_any-from_Any, Any-from_list_any}
 use Rattle.std.proofs.lemmas.List.Sorted.{length_permutation, list_any-IsPermutation}
 use Rattle.std.proofs.lemmas.List.{nil_from_length}
 use Rattle.std.specs.List.{Any, flat_map, list_all, list_any}
 use Rattle.std.specs.List.Sorted.{IsPermutation}
-use Rattle.std.specs.Prelude.{IfOk}
+use Rattle.std.specs.Option.{option_map_or}
+use Rattle.std.specs.Prelude.{IfOk, IsErrOf, is_none}
 use Rattle.pep440_ranges.specs.Segments.{contains}
 use Rattle.pep440_rs.specs.Agreement.{HoldsInEach, is_held}
 use Rattle.pep440_rs.specs.Bounds.{Segments, full, list_range, range_of}
-use Rattle.pep440_rs.specs.Refused.{TellsMax, raises_max, some_raises_max}
+use Rattle.pep440_rs.specs.Refused.{TellsMax}
 use Rattle.pep440_rs.specs.Specifiers.{Spec}
 use Rattle.pep440_rs.specs.declared.range_error.RangeError.{RangeError}
+use Rattle.pep440_rs.specs.declared.range_error.RangeError.TheVariants.{NumberAtMax, OutOfMemory}
 use Rattle.pep440_rs.proofs.ListRanges.{holds_in_each, refused_by_a_member}
 use Rattle.pep440_version.specs.Key.{record_cmp}
 use Rattle.pep440_version.specs.Record.{Record}
-use Rattle.pep440_pick.specs.Allowed.{HoldsAllowed, lists_of, some_at_max}
+use Rattle.pep440_pick.specs.Allowed.{HoldsAllowed, lists_of, some_refused}
 use Rattle.pep440_pick.specs.Names.{same_name}
 use Rattle.pep440_pick.specs.RequirementGrammar.{Needed}
 
@@ -52,16 +55,46 @@ fails_somewhere : (v : Record) (list : List Spec) → Any (λ (m : Spec). range_
 fails_somewhere v list (k, m, inside, is, none) =
     list_all_at (in_range v) list k m inside (ap (in_range v) is ∙ ap (λ o. is_held o v) none)
 
-in_list : (v : Record) (list : List Spec) → is_held (list_range range_of list) v ≡ list_all (in_range v) list
+in_list : (v : Record) (list : List Spec) → option_map_or (λ r. contains record_cmp r v) (list_range range_of list) false ≡ list_all (in_range v) list
 in_list v list = go (list_range range_of list) refl
   where
-    go : (o : Option Segments) → list_range range_of list ≡ o → is_held (list_range range_of list) v ≡ list_all (in_range v) list
-    go (Some range) e = ap (λ o. is_held o v) e ∙ holds_in_each range_of list range e v
-    go None e = ap (λ o. is_held o v) e ∙ sym (fails_somewhere v list ((refused_by_a_member range_of list).0 e))
+    go : (o : Option Segments) → list_range range_of list ≡ o → option_map_or (λ r. contains record_cmp r v) (list_range range_of list) false ≡ list_all (in_range v) list
+    go (Some range) e = ap (λ (o : Option Segments). option_map_or (λ r. contains record_cmp r v) o false) e ∙ holds_in_each range_of list range e v
+    go None e = ap (λ (o : Option Segments). option_map_or (λ r. contains record_cmp r v) o false) e ∙ sym (fails_somewhere v list ((refused_by_a_member range_of list).0 e))
 
-in_lists : (v : Record) (lists : List (List Spec)) → list_all (λ list. list_all (in_range v) list) lists ≡ list_all (λ list. is_held (list_range range_of list) v) lists
+in_lists : (v : Record) (lists : List (List Spec)) → list_all (λ list. list_all (in_range v) list) lists ≡ list_all (λ list. option_map_or (λ r. contains record_cmp r v) (list_range range_of list) false) lists
 in_lists v [] = refl
 in_lists v (list ∷ lists) = λ i. sym (in_list v list) i && in_lists v lists i
+
+-- ---- a list is refused where a member is
+
+abbrev is_out : Spec → Bool
+is_out m = is_none (range_of m.operator m.version)
+
+out_none : (o : Option Segments) → is_none o ≡ true → o ≡ None
+out_none None e = refl
+out_none (Some range) e = cc e
+
+some_none : (range : Segments) (o : Option Segments) → o ≡ Some range → o ≡ None → ⊥
+some_none range o e h = cc
+
+out_in : (list : List Spec) → is_none (list_range range_of list) ≡ list_any is_out list
+out_in list = go (list_range range_of list) refl
+  where
+    go : (o : Option Segments) → list_range range_of list ≡ o → is_none (list_range range_of list) ≡ list_any is_out list
+    go None e =
+        let (k, m, inside, is, none) = (refused_by_a_member range_of list).0 e in
+        ap is_none e ∙ sym (list_any-from_Any is_out list (k, m, inside, is, ap is_none none))
+    go (Some range) e = elim (cases_Bool (list_any is_out list)) [
+      | inl t ↦
+          let (k, m, inside, is, out) = Any-from_list_any is_out list t in
+          absurd (some_none range (list_range range_of list) e ((refused_by_a_member range_of list).1 (k, m, inside, is, out_none (range_of m.operator m.version) out)))
+      | inr f ↦ ap is_none e ∙ sym f
+    ]
+
+out_of_lists : (lists : List (List Spec)) → list_any (λ list. list_any is_out list) lists ≡ some_refused lists
+out_of_lists [] = refl
+out_of_lists (list ∷ lists) = λ i. sym (out_in list) i || out_of_lists lists i
 
 -- ---- the range of the members arranged
 
@@ -69,9 +102,15 @@ pub holds_allowed : (lists : List (List Spec)) (members list : List Spec) (range
 holds_allowed lists members list range made same holds = λ v.
     holds v ∙ all_alike (in_range v) members list same ∙ ap (list_all (in_range v)) made ∙ all_joined (in_range v) lists ∙ in_lists v lists
 
-pub at_max_allowed : (lists : List (List Spec)) (members list : List Spec) (result : Result Segments RangeError) → members ≡ joined lists → IsPermutation members list → TellsMax (some_raises_max list) result → TellsMax (some_at_max lists) result
-at_max_allowed lists members list result made same tells =
-    subst (λ b. TellsMax b result) (sym (list_any-IsPermutation raises_max members list same) ∙ ap (list_any raises_max) made ∙ any_joined raises_max lists) tells
+refused_alike : (lists : List (List Spec)) (members list : List Spec) → members ≡ joined lists → IsPermutation members list → is_none (list_range range_of list) ≡ some_refused lists
+refused_alike lists members list made same =
+    out_in list ∙ sym (list_any-IsPermutation is_out members list same) ∙ ap (list_any is_out) made ∙ any_joined is_out lists ∙ out_of_lists lists
+
+pub refused_allowed : (lists : List (List Spec)) (members list : List Spec) (result : Result Segments RangeError) → members ≡ joined lists → IsPermutation members list
+    → IfOk result (λ r. list_range range_of list ≡ Some r) → (IsErrOf result NumberAtMax → list_range range_of list ≡ None) → TellsMax (some_refused lists) result
+refused_allowed lists members list (Ok range) made same is none = sym (refused_alike lists members list made same) ∙ ap is_none is
+refused_allowed lists members list (Err NumberAtMax) made same is none = sym (refused_alike lists members list made same) ∙ ap is_none (none refl)
+refused_allowed lists members list (Err OutOfMemory) made same is none = tt
 
 pub all_allowed : (lists : List (List Spec)) (members list : List Spec) (range : Segments) → members ≡ joined lists → IsPermutation members list → list_range range_of list ≡ Some range → lists ≡ [] → range ≡ full
 all_allowed lists members list range made same is none =

@@ -1,10 +1,9 @@
 -- The versions that requirements of one name allow.
-use Rattle.std.specs.Prelude.{◌≡◌, ℕ, List, Bool, Option, map, Result}
+use Rattle.std.specs.Prelude.{◌≡◌, ℕ, List, Bool, false, is_none, map}
 use Rattle.std.specs.List.{filter, list_all, list_any}
+use Rattle.std.specs.Option.{option_map_or}
 use Rattle.pep440_ranges.specs.Segments.{contains}
-use Rattle.pep440_rs.specs.Agreement.{is_held}
 use Rattle.pep440_rs.specs.Bounds.{Segments, list_range, range_of}
-use Rattle.pep440_rs.specs.Refused.{some_raises_max}
 use Rattle.pep440_rs.specs.Specifiers.{Spec}
 use Rattle.pep440_version.specs.Key.{record_cmp}
 use Rattle.pep440_version.specs.Record.{Record}
@@ -15,10 +14,10 @@ use Rattle.pep440_pick.specs.RequirementGrammar.{Needed}
 abbrev pub lists_of : List ℕ → List Needed → List (List Spec)
 lists_of name requirements = map (λ (n : Needed). n.specifiers) (filter (λ (n : Needed). same_name n.name name) requirements)
 
--- the range holds what the range of each of the lists holds
+-- the range holds what the range of each of the lists holds, none of which is refused
 abbrev pub HoldsAllowed : List (List Spec) → Segments → Type 0
-HoldsAllowed lists range = (v : Record) → contains record_cmp range v ≡ list_all (λ list. is_held (list_range range_of list) v) lists
+HoldsAllowed lists range = (v : Record) → contains record_cmp range v ≡ list_all (λ list. option_map_or (λ r. contains record_cmp r v) (list_range range_of list) false) lists
 
 -- the range of some list is refused
-abbrev pub some_at_max : List (List Spec) → Bool
-some_at_max lists = list_any some_raises_max lists
+abbrev pub some_refused : List (List Spec) → Bool
+some_refused lists = list_any (λ list. is_none (list_range range_of list)) lists
