@@ -32,9 +32,11 @@ fn sweep_refused_requirement(rt: HostRuntime) -> Result<(), Fail> {
     for _turn in 0..2 {
         match Requirement::from_str(rt.alloc(), "a[x] >=1,y") {
             Ok(_) => assert!(rt; false),
-            Err(RequirementError::OutOfMemory) => refused = refused.saturating_add(1),
-            Err(RequirementError::Specifiers(error)) => assert!(rt; error.line() == ">=1,y"),
-            Err(_) => assert!(rt; false),
+            Err(error) => match &error {
+                RequirementError::OutOfMemory => refused = refused.saturating_add(1),
+                RequirementError::Specifiers(inner) => assert!(rt; inner.line() == ">=1,y"),
+                _ => assert!(rt; false),
+            },
         }
     }
     assert!(rt; refused <= 1);
