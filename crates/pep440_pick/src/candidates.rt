@@ -49,6 +49,8 @@ pub fn newest(
     candidates: &[Version],
 ) -> Result<Option<usize>, AllocError>
     ensures newest { IfOk result (Newest lists.now candidates.now) }
+    // It is the place of a candidate.
+    ensures inside { IfOk result (λ newest. IfSome newest (λ place. place < length candidates.now)) }
     ensures answered { All (λ list. All (λ m. m.operator ≢ ExactEqual) list) lists.now → IsOk result }
 {
     let mut newest: Option<usize> = None;
