@@ -4,3 +4,4 @@ mod copies;
 mod operators;
 mod sweeps;
 pub mod texts;
+mod without_memory;
