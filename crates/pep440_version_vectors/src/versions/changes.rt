@@ -1,7 +1,8 @@
-//! Each setter, and the tests for its condition.
+//! Each setter, also with each request for memory refused in turn, and the tests for its condition.
+use super::again;
 use super::calls::{marks as marks_of, version};
 use pep440_version::{LocalSegment, Prerelease, PrereleaseKind, Version, min_version};
-use std::alloc::Global;
+use std::alloc::{AllocError, Global};
 use std::process::Abort;
 use std::test::Fail;
 
@@ -16,13 +17,99 @@ fn assert_prints(
     Ok(())
 }
 
+const B5: Prerelease = Prerelease {
+    kind: PrereleaseKind::Beta,
+    number: 5,
+};
+
+// A call of a setter: the release `3.0`, the local part `ab` or `ab.` and a number, or an empty one.
+#[derive(Clone, Copy)]
+enum Setter {
+    Release,
+    Epoch(u64),
+    Pre(Option<Prerelease>),
+    Post(Option<u64>),
+    Dev(Option<u64>),
+    Local(Option<u64>),
+    EmptyLocal,
+    WithoutLocal,
+    OnlyRelease,
+}
+
+fn local(alloc: Global, number: Option<u64>) -> Result<Vec<LocalSegment>, AllocError> {
+    let mut local = Vec::new(alloc);
+    local.push(LocalSegment::String(String::from_str(alloc, "ab")?))?;
+    if let Some(number) = number {
+        local.push(LocalSegment::Number(number))?;
+    }
+    Ok(local)
+}
+
+fn set(alloc: Global, version: Version, setter: Setter) -> Result<Version, AllocError> {
+    match setter {
+        Setter::Release => version.with_release(alloc, &[3, 0]),
+        Setter::Epoch(epoch) => version.with_epoch(alloc, epoch),
+        Setter::Pre(pre) => version.with_pre(alloc, pre),
+        Setter::Post(post) => version.with_post(alloc, post),
+        Setter::Dev(dev) => version.with_dev(alloc, dev),
+        Setter::Local(number) => version.with_local(alloc, local(alloc, number)?),
+        Setter::EmptyLocal => version.with_local(alloc, Vec::new(alloc)),
+        Setter::WithoutLocal => version.without_local(alloc),
+        Setter::OnlyRelease => version.only_release(alloc),
+    }
+}
+
+// A text, what is set, and the print of the version that comes of it.
+const SET: [(&str, Setter, &str); 21] = [
+    ("2!1.0a1+x", Setter::Release, "2!3.0a1+x"),
+    ("2!3.0a1+x", Setter::Epoch(7), "7!3.0a1+x"),
+    ("1.0", Setter::Epoch(3), "3!1.0"),
+    ("3!1.0", Setter::Epoch(0), "1.0"),
+    ("1.0a1+x", Setter::Pre(Some(B5)), "1.0b5+x"),
+    ("1.0b5+x", Setter::Post(Some(2)), "1.0b5.post2+x"),
+    ("1.0b5.post2+x", Setter::Dev(Some(0)), "1.0b5.post2.dev0+x"),
+    ("1.0b5.post2.dev0+x", Setter::Pre(None), "1.0.post2.dev0+x"),
+    ("1.0.post2.dev0+x", Setter::Post(None), "1.0.dev0+x"),
+    ("1.0.dev0+x", Setter::Dev(None), "1.0+x"),
+    ("1.0.post1", Setter::Pre(Some(B5)), "1.0b5.post1"),
+    ("1.0a1", Setter::Post(Some(2)), "1.0a1.post2"),
+    ("1.0a1", Setter::Dev(Some(0)), "1.0a1.dev0"),
+    ("1.0a1+x", Setter::Local(Some(7)), "1.0a1+ab.7"),
+    ("1.0+x", Setter::Local(None), "1.0+ab"),
+    ("1.0a1+ab.7", Setter::EmptyLocal, "1.0a1"),
+    ("1.0a1+x", Setter::WithoutLocal, "1.0a1"),
+    ("1!1.0a1+x", Setter::WithoutLocal, "1!1.0a1"),
+    ("1!1.0a1+x", Setter::OnlyRelease, "1.0"),
+    (
+        "1!1.2.3.4.5a2.post3.dev0+ubuntu.1",
+        Setter::OnlyRelease,
+        "1.2.3.4.5",
+    ),
+    ("1.0", Setter::OnlyRelease, "1.0"),
+];
+
+// Whether it is set so, once more where memory was refused.
+fn is_set(rt: HostRuntime, text: &str, setter: Setter, want: &str) -> Result<bool, Fail> {
+    let changed = match set(rt.alloc(), again::version(rt, text)?, setter) {
+        Ok(changed) => changed,
+        Err(_) => set(rt.alloc(), again::version(rt, text)?, setter)?,
+    };
+    again::prints(rt.alloc(), &changed, want)
+}
+
 #[test]
-fn release_and_epoch(rt: HostRuntime) -> Result<(), Fail> {
-    let alloc = rt.alloc();
-    let other = version(rt, "2!1.0a1+x")?.with_release(alloc, &[3, 0])?;
-    assert_prints(&rt, alloc, &other, "2!3.0a1+x")?;
-    let other = other.with_epoch(alloc, 7)?;
-    assert_prints(&rt, alloc, &other, "7!3.0a1+x")
+fn sweep_setters(rt: HostRuntime) -> Result<(), Fail> {
+    for (text, setter, want) in SET {
+        assert!(rt; is_set(rt, text, setter, want)?, "{text} to {want}");
+    }
+    Ok(())
+}
+
+#[test]
+fn empty_local(rt: HostRuntime) -> Result<(), Fail> {
+    let none = version(rt, "1.0a1+x")?.with_local(rt.alloc(), Vec::new(rt.alloc()))?;
+    assert!(rt; !none.is_local(), "no local part");
+    Ok(())
 }
 
 #[test]
@@ -33,58 +120,6 @@ fn set_of_a_new_one(rt: HostRuntime) -> Result<(), Fail> {
         .with_post(rt.alloc(), Some(4))?;
     assert_prints(&rt, rt.alloc(), &built, "2!3.post4")?;
     assert_prints(&rt, rt.alloc(), &built.only_release(rt.alloc())?, "3")
-}
-
-#[test]
-fn epoch_set_back(rt: HostRuntime) -> Result<(), Fail> {
-    let back = version(rt, "1.0")?
-        .with_epoch(rt.alloc(), 3)?
-        .with_epoch(rt.alloc(), 0)?;
-    assert!(rt; back == version(rt, "1.0")?, "equality");
-    assert_prints(&rt, rt.alloc(), &back, "1.0")
-}
-
-const B5: Prerelease = Prerelease {
-    kind: PrereleaseKind::Beta,
-    number: 5,
-};
-
-#[test]
-fn suffixes(rt: HostRuntime) -> Result<(), Fail> {
-    let alloc = rt.alloc();
-    let set = version(rt, "1.0a1+x")?
-        .with_pre(alloc, Some(B5))?
-        .with_post(alloc, Some(2))?
-        .with_dev(alloc, Some(0))?;
-    assert_prints(&rt, alloc, &set, "1.0b5.post2.dev0+x")?;
-    let cleared = set
-        .with_pre(alloc, None)?
-        .with_post(alloc, None)?
-        .with_dev(alloc, None)?;
-    assert_prints(&rt, alloc, &cleared, "1.0+x")
-}
-
-// `ab.7`
-fn local(rt: HostRuntime) -> Result<Vec<LocalSegment>, Fail> {
-    let mut local = Vec::new(rt.alloc());
-    local.push(LocalSegment::String(String::from_str(rt.alloc(), "ab")?))?;
-    local.push(LocalSegment::Number(7))?;
-    Ok(local)
-}
-
-#[test]
-fn local_parts(rt: HostRuntime) -> Result<(), Fail> {
-    let set = version(rt, "1.0a1+x")?.with_local(rt.alloc(), local(rt)?)?;
-    assert_prints(&rt, rt.alloc(), &set, "1.0a1+ab.7")?;
-    let none = set.with_local(rt.alloc(), Vec::new(rt.alloc()))?;
-    assert!(rt; !none.is_local(), "no local part");
-    assert_prints(&rt, rt.alloc(), &none, "1.0a1")
-}
-
-#[test]
-fn without_local(rt: HostRuntime) -> Result<(), Fail> {
-    let without = version(rt, "1.0a1+x")?.without_local(rt.alloc())?;
-    assert_prints(&rt, rt.alloc(), &without, "1.0a1")
 }
 
 #[test]

@@ -7,8 +7,8 @@ use super::again;
 use super::again::{TRIES, refused_each_time};
 use super::calls::{Refused, marks};
 use pep440_version::{
-    Change, ChangeError, ErrorKind, LocalSegment, PatternErrorKind, Prerelease, PrereleaseKind,
-    Version, VersionPattern, min_version,
+    Change, ChangeError, ErrorKind, LocalSegment, PatternErrorKind, Version, VersionPattern,
+    min_version,
 };
 use std::alloc::{AllocError, Global};
 use std::process::Abort;
@@ -152,67 +152,6 @@ fn sweep_min_version(rt: HostRuntime) -> Result<(), Fail> {
     Err(refused_each_time())
 }
 
-#[test]
-fn sweep_with_release(rt: HostRuntime) -> Result<(), Fail> {
-    let release = [3, 0];
-    for _ in 0..TRIES {
-        let answer = again::version(rt, "2!1.0a1+x")?.with_release(rt.alloc(), &release);
-        assert!(rt; release == [3, 0], "what is lent");
-        if is_answered(&rt, rt.alloc(), answer, "2!3.0a1+x")? {
-            return Ok(());
-        }
-    }
-    Err(refused_each_time())
-}
-
-#[test]
-fn sweep_with_epoch(rt: HostRuntime) -> Result<(), Fail> {
-    for _ in 0..TRIES {
-        let answer = again::version(rt, "1.0")?.with_epoch(rt.alloc(), 3);
-        if is_answered(&rt, rt.alloc(), answer, "3!1.0")? {
-            return Ok(());
-        }
-    }
-    Err(refused_each_time())
-}
-
-#[test]
-fn sweep_with_pre(rt: HostRuntime) -> Result<(), Fail> {
-    let pre = Prerelease {
-        kind: PrereleaseKind::Beta,
-        number: 5,
-    };
-    for _ in 0..TRIES {
-        let answer = again::version(rt, "1.0.post1")?.with_pre(rt.alloc(), Some(pre));
-        if is_answered(&rt, rt.alloc(), answer, "1.0b5.post1")? {
-            return Ok(());
-        }
-    }
-    Err(refused_each_time())
-}
-
-#[test]
-fn sweep_with_post(rt: HostRuntime) -> Result<(), Fail> {
-    for _ in 0..TRIES {
-        let answer = again::version(rt, "1.0a1")?.with_post(rt.alloc(), Some(2));
-        if is_answered(&rt, rt.alloc(), answer, "1.0a1.post2")? {
-            return Ok(());
-        }
-    }
-    Err(refused_each_time())
-}
-
-#[test]
-fn sweep_with_dev(rt: HostRuntime) -> Result<(), Fail> {
-    for _ in 0..TRIES {
-        let answer = again::version(rt, "1.0a1")?.with_dev(rt.alloc(), Some(0));
-        if is_answered(&rt, rt.alloc(), answer, "1.0a1.dev0")? {
-            return Ok(());
-        }
-    }
-    Err(refused_each_time())
-}
-
 // A list of one local segment.
 fn local(rt: HostRuntime, text: &str) -> Result<Vec<LocalSegment>, Fail> {
     for _ in 0..TRIES {
@@ -220,29 +159,6 @@ fn local(rt: HostRuntime, text: &str) -> Result<Vec<LocalSegment>, Fail> {
         let mut local = Vec::new(rt.alloc());
         if local.push(segment).is_ok() {
             return Ok(local);
-        }
-    }
-    Err(refused_each_time())
-}
-
-#[test]
-fn sweep_with_local(rt: HostRuntime) -> Result<(), Fail> {
-    for _ in 0..TRIES {
-        let segments = local(rt, "ab")?;
-        let answer = again::version(rt, "1.0+x")?.with_local(rt.alloc(), segments);
-        if is_answered(&rt, rt.alloc(), answer, "1.0+ab")? {
-            return Ok(());
-        }
-    }
-    Err(refused_each_time())
-}
-
-#[test]
-fn sweep_without_local(rt: HostRuntime) -> Result<(), Fail> {
-    for _ in 0..TRIES {
-        let answer = again::version(rt, "1!1.0a1+x")?.without_local(rt.alloc());
-        if is_answered(&rt, rt.alloc(), answer, "1!1.0a1")? {
-            return Ok(());
         }
     }
     Err(refused_each_time())
