@@ -172,8 +172,8 @@ impl Version {
         }
     }
 
-    // The same part by part, whatever the text is. Apart, so that the fast path stays short.
-    #[inline(never)]
+    // The same part by part, whatever the text is.
+    #[inline(always)]
     fn read_whole(alloc: Global, text: &str) -> Result<Version, VersionParseError>
         ensures reads { Answers error_refusal result (read_version text.now) }
         ensures memory { (r : Record) → read_version text.now ≡ Ok r → is_packed r ≡ true → IsOk result }
