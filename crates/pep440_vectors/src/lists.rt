@@ -1,5 +1,6 @@
-//! Lists of specifiers: what texts mean, the spans of their refusals, and their members.
-use crate::calls::{list, specifier};
+//! Lists of specifiers: what texts mean, the spans of their refusals, both also with each request for memory refused in turn; and their
+//! members.
+use crate::calls::{copies, list, list_refusal, printed, specifier};
 use crate::specifiers::texts::kind_name;
 use pep440_rs::{Operator, SpecifiersErrorKind, VersionSpecifiers};
 use std::cmp::Ordering;
@@ -7,23 +8,29 @@ use std::test::Fail;
 
 mod sweeps;
 
-const PRINTS: [(&str, &str); 3] = [
+const PRINTS: [(&str, &str); 4] = [
     ("", ""),
     ("<2.0, >=1.16", ">=1.16, <2.0"),
     ("!=1.0.0,==1,>1", "!=1.0.0, ==1, >1"),
+    ("<2,>=1", ">=1, <2"),
 ];
 
+// Whether the text's list prints so, and is copied.
+fn is_read(rt: HostRuntime, text: &str, want: &str) -> Result<bool, Fail> {
+    let read = list(rt, text)?;
+    Ok(copies(&read, &list(rt, want)?)? && printed(rt.alloc(), &read)?.as_str() == want)
+}
+
 #[test]
-fn prints(rt: HostRuntime) -> Result<(), Fail> {
+fn sweep_prints(rt: HostRuntime) -> Result<(), Fail> {
     for (text, want) in PRINTS {
-        let found = list(rt, text)?.to_string(rt.alloc())?;
-        assert!(rt; found.as_str() == want, "{text}: {found}");
+        assert!(rt; is_read(rt, text, want)?, "{text}");
     }
     Ok(())
 }
 
 // A text, where its refused piece begins and ends in bytes, the kind of that refusal, and the text of the error.
-const SPANS: [(&str, usize, usize, &str, &str); 8] = [
+const SPANS: [(&str, usize, usize, &str, &str); 9] = [
     (
         " ",
         0,
@@ -58,6 +65,13 @@ const SPANS: [(&str, usize, usize, &str, &str); 8] = [
         5,
         "MissingOperator",
         "Failed to parse version: Unexpected end of version specifier, expected operator:\n>=1,x,=>2\n    ^\n",
+    ),
+    (
+        "<2,x",
+        3,
+        4,
+        "MissingOperator",
+        "Failed to parse version: Unexpected end of version specifier, expected operator:\n<2,x\n   ^\n",
     ),
     (
         ">=1.0, =>2",
@@ -95,18 +109,13 @@ fn is_piece(kind: &SpecifiersErrorKind, from: usize, to: usize, name: &str) -> b
 // Whether the text is refused for that piece, and tells so.
 fn is_refused(rt: HostRuntime, row: (&str, usize, usize, &str, &str)) -> Result<bool, Fail> {
     let (text, start, stop, name, want) = row;
-    match VersionSpecifiers::from_str(rt.alloc(), text) {
-        Ok(_) => Ok(false),
-        Err(error) => {
-            let placed = is_piece(error.kind(), start, stop, name) && error.line() == text;
-            let told = error.to_string(rt.alloc())?;
-            Ok(placed && told.as_str() == want)
-        }
-    }
+    let error = list_refusal(rt, text)?;
+    let placed = is_piece(error.kind(), start, stop, name) && error.line() == text;
+    Ok(placed && printed(rt.alloc(), &error)?.as_str() == want)
 }
 
 #[test]
-fn spans(rt: HostRuntime) -> Result<(), Fail> {
+fn sweep_spans(rt: HostRuntime) -> Result<(), Fail> {
     for row in SPANS {
         assert!(rt; is_refused(rt, row)?, "{}", row.0);
     }

@@ -2,6 +2,5 @@
 pub mod built;
 mod copies;
 mod operators;
-mod sweeps;
 pub mod texts;
 mod without_memory;

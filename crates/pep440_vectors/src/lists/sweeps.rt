@@ -1,53 +1,7 @@
 //! Each call that takes memory, made twice with one request for memory refused: it answers what it answers with ample
 //! memory, or, at most once, its want of memory.
-use pep440_rs::{SpecifiersErrorKind, Version, VersionSpecifier, VersionSpecifiers};
+use pep440_rs::{Version, VersionSpecifier, VersionSpecifiers};
 use std::test::Fail;
-
-#[test]
-fn sweep_list(rt: HostRuntime) -> Result<(), Fail> {
-    let mut refused: u32 = 0;
-    for _turn in 0..2 {
-        match VersionSpecifiers::from_str(rt.alloc(), "<2,>=1") {
-            Ok(list) => {
-                assert_eq!(rt; list.as_slice().len(), 2);
-                match list.clone() {
-                    Ok(copy) => assert!(rt; copy == list),
-                    Err(_) => refused = refused.saturating_add(1),
-                }
-            }
-            Err(error) => {
-                assert!(rt; matches!(error.kind(), SpecifiersErrorKind::OutOfMemory));
-                assert_eq!(rt; error.line(), "");
-                refused = refused.saturating_add(1);
-            }
-        }
-    }
-    assert!(rt; refused <= 1);
-    Ok(())
-}
-
-#[test]
-fn sweep_refused_list(rt: HostRuntime) -> Result<(), Fail> {
-    let mut refused: u32 = 0;
-    for _turn in 0..2 {
-        match VersionSpecifiers::from_str(rt.alloc(), "<2,x") {
-            Ok(_) => assert!(rt; false),
-            Err(error) => match error.kind() {
-                SpecifiersErrorKind::OutOfMemory => {
-                    assert_eq!(rt; error.line(), "");
-                    refused = refused.saturating_add(1);
-                }
-                SpecifiersErrorKind::Piece { start, stop, .. } => {
-                    assert_eq!(rt; *start, 3);
-                    assert_eq!(rt; *stop, 4);
-                    assert_eq!(rt; error.line(), "<2,x");
-                }
-            },
-        }
-    }
-    assert!(rt; refused <= 1);
-    Ok(())
-}
 
 #[test]
 fn sweep_from_specifier(rt: HostRuntime) -> Result<(), Fail> {

@@ -1,27 +1,12 @@
 //! The conversions into ranges, with one request for memory refused: each answers what it answers with ample memory,
 //! or its want of memory, and then, asked again, what it answers with ample memory.
+use crate::calls::{list, specifier};
 use pep440_rs::{
-    RangeError, Ranges, Version, VersionSpecifier, VersionSpecifiers, release_specifier_to_range,
-    release_specifiers_to_ranges, specifier_to_range, specifiers_to_ranges,
+    RangeError, Ranges, Version, release_specifier_to_range, release_specifiers_to_ranges,
+    specifier_to_range, specifiers_to_ranges,
 };
 use std::alloc::AllocError;
 use std::test::Fail;
-
-// The specifier that the text means, asked for again where memory was refused.
-fn specifier(rt: HostRuntime, text: &str) -> Result<VersionSpecifier, Fail> {
-    match VersionSpecifier::from_str(rt.alloc(), text) {
-        Ok(specifier) => Ok(specifier),
-        Err(_) => Ok(VersionSpecifier::from_str(rt.alloc(), text)?),
-    }
-}
-
-// The same of a list.
-fn list(rt: HostRuntime, text: &str) -> Result<VersionSpecifiers, Fail> {
-    match VersionSpecifiers::from_str(rt.alloc(), text) {
-        Ok(list) => Ok(list),
-        Err(_) => Ok(VersionSpecifiers::from_str(rt.alloc(), text)?),
-    }
-}
 
 // How many segments there are; none where a number could not be raised.
 fn segments(answer: Result<Ranges<Version>, RangeError>) -> Result<Option<usize>, AllocError> {

@@ -1,31 +1,8 @@
 //! Copies of errors, also to be run with each request for memory refused in turn: a copy says what was copied, and that stays as it was.
-use pep440_rs::{
-    ParseErrorKind, SpecifiersErrorKind, VersionSpecifier, VersionSpecifierParseError,
-    VersionSpecifiers, VersionSpecifiersParseError,
-};
+use crate::calls::{copies, list_refusal, refusal};
+use pep440_rs::ParseErrorKind;
 use std::alloc::AllocError;
 use std::test::Fail;
-
-// Whether the value is copied, asked again where memory was refused, and both say what the other value does.
-fn copies<T: Clone + PartialEq + Drop>(value: &T, same: &T) -> Result<bool, AllocError> {
-    let copy = match value.clone() {
-        Ok(copy) => copy,
-        Err(_) => value.clone()?,
-    };
-    Ok(copy == *same && *value == *same)
-}
-
-// Why the text is no specifier, asked again where memory was refused.
-fn refusal(rt: HostRuntime, text: &str) -> Result<VersionSpecifierParseError, Fail> {
-    for _ in 0..2 {
-        if let Err(error) = VersionSpecifier::from_str(rt.alloc(), text) {
-            if *error.kind() != ParseErrorKind::OutOfMemory {
-                return Ok(error);
-            }
-        }
-    }
-    Err(Fail::new("each try was refused"))
-}
 
 // Whether the error within the kind is copied, and its own kind.
 fn copies_within(kind: &ParseErrorKind, same: &ParseErrorKind) -> Result<bool, AllocError> {
@@ -63,18 +40,6 @@ fn sweep_clone_specifier_error(rt: HostRuntime) -> Result<(), Fail> {
         assert!(rt; holds, "{text}");
     }
     Ok(())
-}
-
-// The same of a list's text.
-fn list_refusal(rt: HostRuntime, text: &str) -> Result<VersionSpecifiersParseError, Fail> {
-    for _ in 0..2 {
-        if let Err(error) = VersionSpecifiers::from_str(rt.alloc(), text) {
-            if *error.kind() != SpecifiersErrorKind::OutOfMemory {
-                return Ok(error);
-            }
-        }
-    }
-    Err(Fail::new("each try was refused"))
 }
 
 const LISTS: [&str; 2] = [">=1.0, =>2", ">=1,"];

@@ -1,22 +1,28 @@
-//! What texts of single specifiers mean, or why they are refused.
-use crate::calls::specifier;
-use pep440_rs::{ParseErrorKind, VersionSpecifier};
+//! What texts of single specifiers mean, or why they are refused; also with each request for memory refused in turn.
+use crate::calls::{copies, printed, refusal, specifier};
+use pep440_rs::ParseErrorKind;
 use std::test::Fail;
 
 // A text and the print of what it means.
-const READ: [(&str, &str); 5] = [
+const READ: [(&str, &str); 6] = [
     (" ~= 1.4.5 ", "~=1.4.5"),
     ("==1.* ", "==1.*"),
     ("!= 1.2.*", "!=1.2.*"),
     ("==1.0\u{b}", "==1.0"),
     ("==1.0\u{a0}", "==1.0"),
+    ("==1.0a1+x", "==1.0a1+x"),
 ];
 
+// Whether the text's specifier prints so, and so does its copy.
+fn is_read(rt: HostRuntime, text: &str, want: &str) -> Result<bool, Fail> {
+    let read = specifier(rt, text)?;
+    Ok(copies(&read, &specifier(rt, want)?)? && printed(rt.alloc(), &read)?.as_str() == want)
+}
+
 #[test]
-fn read(rt: HostRuntime) -> Result<(), Fail> {
+fn sweep_read(rt: HostRuntime) -> Result<(), Fail> {
     for (text, want) in READ {
-        let found = specifier(rt, text)?.to_string(rt.alloc())?;
-        assert!(rt; found.as_str() == want, "{text}: {found}");
+        assert!(rt; is_read(rt, text, want)?, "{text}");
     }
     Ok(())
 }
@@ -25,7 +31,7 @@ const TOO_FEW_NUMBERS: &str =
     "The ~= operator requires at least two segments in the release version";
 
 // A text, the kind of its refusal and the text of that.
-const REFUSED: [(&str, &str, &str); 11] = [
+const REFUSED: [(&str, &str, &str); 12] = [
     (
         "==",
         "MissingVersion",
@@ -62,6 +68,11 @@ const REFUSED: [(&str, &str, &str); 11] = [
         "Operator > is incompatible with versions containing non-empty local segments (`+x`)",
     ),
     (
+        ">=1.0a1+x 2",
+        "InvalidSpecifier",
+        "Operator >= is incompatible with versions containing non-empty local segments (`+x`)",
+    ),
+    (
         "~=1.0+abc.5",
         "InvalidSpecifier",
         "Operator ~= is incompatible with versions containing non-empty local segments (`+abc.5`)",
@@ -94,17 +105,12 @@ pub fn kind_name(kind: &ParseErrorKind) -> &'static str {
 
 // Whether the text is refused so.
 fn is_refused(rt: HostRuntime, text: &str, kind: &str, told: &str) -> Result<bool, Fail> {
-    match VersionSpecifier::from_str(rt.alloc(), text) {
-        Ok(_) => Ok(false),
-        Err(error) => {
-            let found = error.to_string(rt.alloc())?;
-            Ok(kind_name(error.kind()) == kind && found.as_str() == told)
-        }
-    }
+    let error = refusal(rt, text)?;
+    Ok(kind_name(error.kind()) == kind && printed(rt.alloc(), &error)?.as_str() == told)
 }
 
 #[test]
-fn refused(rt: HostRuntime) -> Result<(), Fail> {
+fn sweep_refused(rt: HostRuntime) -> Result<(), Fail> {
     for (text, kind, told) in REFUSED {
         assert!(rt; is_refused(rt, text, kind, told)?, "{text}");
     }
