@@ -4,6 +4,8 @@
 #[cfg(test)]
 mod lists;
 #[cfg(test)]
+mod picks;
+#[cfg(test)]
 mod room;
 #[cfg(test)]
 mod rows;

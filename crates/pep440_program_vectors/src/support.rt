@@ -6,7 +6,7 @@ use std::alloc::{AllocError, Global};
 use std::io::{Error, ErrorKind, Read, Write};
 
 pub const USAGE: &str =
-    "usage: pep440 show V / compare A B / match SPECS V / edit V CHANGE.. / range SPECS / filter SPECS\n";
+    "usage: pep440 show V / compare A B / match SPECS V / edit V CHANGE.. / range SPECS / filter SPECS / pick NAME V..\n";
 
 /// What a reader does once its text is used up.
 #[derive(Clone, Copy)]

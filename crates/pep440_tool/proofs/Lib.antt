@@ -6,3 +6,5 @@ pub mod OneAnswer
 pub mod Refused
 pub mod Segments
 pub mod Texts
+pub mod Picked
+pub mod OnePick

@@ -17,9 +17,10 @@ use Rattle.pep440_version.specs.Refusals.{Refusal}
 use Rattle.pep440_version.proofs.Reading.Agreement.{one_record}
 use Rattle.pep440_version.proofs.Refusals.ExactlyOne.{not_both, one_refusal}
 use Rattle.pep440_tool.specs.Answers.{Reads, ReadsList, ToolAnswer, refused, refused_list, shown_lines}
-use Rattle.pep440_tool.specs.Commands.{Show, Compare, Match, Edit, Range, Filter, Usage}
+use Rattle.pep440_tool.specs.Commands.{Show, Compare, Match, Edit, Range, Filter, Pick, Usage}
 use Rattle.pep440_tool.specs.Lines.{ArrangesVersions, LineFault, LineMeans, LinesMean, RefusesLine, ShowsKept, is_skipped, kept, line_fault_text, lines}
 use Rattle.pep440_tool.specs.OneAnswer.{AnswersOnce}
+use Rattle.pep440_tool.proofs.OnePick.{pick_once}
 
 reads_once : (word : List ℕ) (P Q : Record → Type 0) (a b : ToolAnswer) → ((r : Record) → P r → Q r → a ≡ b) → Reads word P a → Reads word Q b → a ≡ b
 reads_once word P Q a b same (inl (r, d, p)) (inl (q, e, u)) = same r p (subst Q (one_record word q r e d) u)
@@ -117,4 +118,5 @@ answers_once (Match list v) input a b = reads_list_once list _ _ a b (λ l p q. 
 answers_once (Edit v changes) input a b = reads_once v _ _ a b (λ r p q. p ∙ sym q)
 answers_once (Range list) input a b = reads_list_once list _ _ a b (λ l p q. p ∙ sym q)
 answers_once (Filter list) input a b = reads_list_once list _ _ a b (λ l p q. filter_once l (lines input) a b p q)
+answers_once (Pick name texts) input a b = pick_once name texts input a b
 answers_once Usage input a b = λ p q. p ∙ sym q

@@ -2,6 +2,7 @@
 use Rattle.std.specs.Prelude.{◌≡◌, ℕ, List, [], ◌∷◌, Bool, true, false, codes, bytes_eq, if◌then◌else◌}
 use Rattle.pep440_tool.specs.Answers.{ToolAnswer, CompareAnswer, EditAnswer, MatchAnswer, RangeAnswer, ShowAnswer, usage_answer}
 use Rattle.pep440_tool.specs.Lines.{FilterAnswer}
+use Rattle.pep440_tool.specs.Picks.{PickAnswer}
 
 -- what words ask for; the usage line where there is no such command, or the number of words is wrong
 pub data Asked : Type 0 where
@@ -11,9 +12,10 @@ pub data Asked : Type 0 where
   Edit : List ℕ → List (List ℕ) → Asked
   Range : List ℕ → Asked
   Filter : List ℕ → Asked
+  Pick : List ℕ → List (List ℕ) → Asked
   Usage : Asked
 
--- a command of one word, of two, and of one and any number more
+-- a command of one word, of two, of one and any number more, and of one and at least one more
 abbrev pub one : (List ℕ → Asked) → List (List ℕ) → Asked
 one command [] = Usage
 one command (a ∷ []) = command a
@@ -29,6 +31,11 @@ abbrev pub one_or_more : (List ℕ → List (List ℕ) → Asked) → List (List
 one_or_more command [] = Usage
 one_or_more command (a ∷ rest) = command a rest
 
+abbrev pub one_and_some : (List ℕ → List (List ℕ) → Asked) → List (List ℕ) → Asked
+one_and_some command [] = Usage
+one_and_some command (a ∷ []) = Usage
+one_and_some command (a ∷ b ∷ rest) = command a (b ∷ rest)
+
 -- a command and the words after it
 abbrev pub asked_by : List ℕ → List (List ℕ) → Asked
 asked_by command words =
@@ -38,6 +45,7 @@ asked_by command words =
     else if bytes_eq command (codes "edit") then one_or_more Edit words
     else if bytes_eq command (codes "range") then one Range words
     else if bytes_eq command (codes "filter") then one Filter words
+    else if bytes_eq command (codes "pick") then one_and_some Pick words
     else Usage
 
 abbrev pub asked : List (List ℕ) → Asked
@@ -52,9 +60,11 @@ IsAnswer (Match specifiers v) input a = MatchAnswer specifiers v a
 IsAnswer (Edit v changes) input a = EditAnswer v changes a
 IsAnswer (Range specifiers) input a = RangeAnswer specifiers a
 IsAnswer (Filter specifiers) input a = FilterAnswer specifiers input a
+IsAnswer (Pick name candidates) input a = PickAnswer name candidates input a
 IsAnswer Usage input a = a ≡ usage_answer
 
--- `filter` alone reads the input
+-- `filter` and `pick` alone read the input
 abbrev pub reads_input : Asked → Bool
 reads_input (Filter specifiers) = true
+reads_input (Pick name candidates) = true
 reads_input _ = false

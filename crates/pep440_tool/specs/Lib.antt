@@ -2,6 +2,7 @@ pub mod Texts
 pub mod ChangeWords
 pub mod Answers
 pub mod Lines
+pub mod Picks
 pub mod Commands
 pub mod OneAnswer
 pub mod Runs

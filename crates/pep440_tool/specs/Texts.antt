@@ -11,7 +11,7 @@ abbrev pub lines_of : List (List ℕ) → List ℕ
 lines_of texts = flat_map line texts
 
 abbrev pub usage_text : List ℕ
-usage_text = codes "usage: pep440 show V / compare A B / match SPECS V / edit V CHANGE.. / range SPECS / filter SPECS\n"
+usage_text = codes "usage: pep440 show V / compare A B / match SPECS V / edit V CHANGE.. / range SPECS / filter SPECS / pick NAME V..\n"
 
 abbrev pub memory_text : List ℕ
 memory_text = codes "error: out of memory\n"

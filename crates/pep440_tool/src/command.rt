@@ -6,6 +6,7 @@ ghost use Rattle.pep440_tool.specs.Said.{request, said};
 use crate::editing::edit;
 use crate::filtering::filter;
 use crate::output::{Answer, usage};
+use crate::picking::pick;
 use crate::ranging::range;
 use crate::reading::{compare, contains, show};
 use std::alloc::{AllocError, Global};
@@ -19,6 +20,7 @@ pub enum Command<'a> {
     Edit(&'a str, &'a [String]),
     Range(&'a str),
     Filter(&'a str),
+    Pick(&'a str, &'a [String]),
     /// No such command, or a wrong number of words.
     Usage,
 }
@@ -52,6 +54,12 @@ fn named<'a>(command: &str, words: &'a [String]) -> Command<'a>
             [list] => Command::Filter(list.as_str()),
             _ => Command::Usage,
         },
+        "pick" => match words {
+            [name, candidates @ ..] if !candidates.is_empty() => {
+                Command::Pick(name.as_str(), candidates)
+            }
+            _ => Command::Usage,
+        },
         _ => Command::Usage,
     }
 }
@@ -70,11 +78,12 @@ fn requested(words: &[String]) -> Command<'_>
 pub fn wants_input(words: &[String]) -> bool
     ensures { result ≡ reads_input (asked (map string_bytes words.now)) }
 {
-    matches!(requested(words), Command::Filter(_))
+    matches!(requested(words), Command::Filter(_) | Command::Pick(_, _))
 }
 
 /// What the program answers to its words and its input: what is written, and the status 0 (answered), 1 (refused)
-/// or 2 (no such command, or a wrong number of words). `filter` alone looks at the input.
+/// or 2 (no such command, or a wrong number of words). `filter` and `pick` alone look at
+/// the input.
 ///
 /// Takes memory; `AllocError` only where it ran out.
 pub fn answer(alloc: Global, words: &[String], input: &[u8]) -> Result<Answer, AllocError>
@@ -88,6 +97,7 @@ pub fn answer(alloc: Global, words: &[String], input: &[u8]) -> Result<Answer, A
         Command::Edit(version, changes) => edit(alloc, version, changes),
         Command::Range(list) => range(alloc, list),
         Command::Filter(list) => filter(alloc, list, input),
+        Command::Pick(name, candidates) => pick(alloc, name, candidates, input),
         Command::Usage => usage(alloc),
     }
 }

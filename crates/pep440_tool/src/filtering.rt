@@ -16,7 +16,7 @@ use std::alloc::{AllocError, Global};
 use std::fmt;
 
 /// The first line, and what stands behind its newline if it has one.
-fn cut_line(input: &[u8]) -> (&[u8], Option<&[u8]>)
+pub fn cut_line(input: &[u8]) -> (&[u8], Option<&[u8]>)
     ensures lines { lines input.now ≡ result.0.now ∷ option_map_or (λ rest. lines rest.now) result.1 [] }
     ensures shorter { IfSome result.1 (λ rest. length rest.now < length input.now) }
 {
@@ -29,14 +29,14 @@ fn cut_line(input: &[u8]) -> (&[u8], Option<&[u8]>)
 }
 
 /// Whether the line has blanks alone.
-fn is_skipped(line: &[u8]) -> bool
+pub fn is_skipped(line: &[u8]) -> bool
     ensures { result ≡ is_skipped line.now }
 {
     line.iter().all(|byte| *byte == b'\t' || *byte == 12 || *byte == b'\r' || *byte == b' ')
 }
 
 /// The answer that refuses a line by its place.
-fn refuse_line(alloc: Global, place: usize, fault: &str) -> Result<Answer, AllocError>
+pub fn refuse_line(alloc: Global, place: usize, fault: &str) -> Result<Answer, AllocError>
     ensures { IfOk result (λ a. said a ≡ refused (line_fault_text place fault.now)) }
 {
     let text = format!(in alloc; "line {place}: {fault}")?;

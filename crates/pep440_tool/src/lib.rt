@@ -7,6 +7,7 @@ mod editing;
 mod filtering;
 pub mod laws;
 mod output;
+mod picking;
 mod printing;
 mod program;
 mod ranging;

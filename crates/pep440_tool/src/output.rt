@@ -13,7 +13,7 @@ pub struct Answer {
 }
 
 const USAGE: &str =
-    "usage: pep440 show V / compare A B / match SPECS V / edit V CHANGE.. / range SPECS / filter SPECS\n";
+    "usage: pep440 show V / compare A B / match SPECS V / edit V CHANGE.. / range SPECS / filter SPECS / pick NAME V..\n";
 
 /// The text as a line, with status 0.
 pub fn shown(alloc: Global, text: &str) -> Result<Answer, AllocError>
