@@ -34,7 +34,13 @@ fn sweep_refused_requirement(rt: HostRuntime) -> Result<(), Fail> {
             Ok(_) => assert!(rt; false),
             Err(error) => match &error {
                 RequirementError::OutOfMemory => refused = refused.saturating_add(1),
-                RequirementError::Specifiers(inner) => assert!(rt; inner.line() == ">=1,y"),
+                RequirementError::Specifiers(inner) => {
+                    assert!(rt; inner.line() == ">=1,y");
+                    match error.clone() {
+                        Ok(copy) => assert!(rt; matches!(copy, RequirementError::Specifiers(_))),
+                        Err(_) => refused = refused.saturating_add(1),
+                    }
+                }
                 _ => assert!(rt; false),
             },
         }
