@@ -1,8 +1,7 @@
 -- Texts cut at a byte.
-use Rattle.std.proofs.Common.{Bor, ◌≡◌, ◌≢◌, ◌<◌, ◌==◌, ◌∙◌, ℕ, suc, List, [], ◌∷◌, ◌++◌, Bool, true, false, length, get_or, drop, Option, Some, None, option_map, refl, sym, ap, arith, inl, inr, eqb-true, if◌then◌else◌}
+use Rattle.std.proofs.Common.{Bor, ◌≡◌, ◌≢◌, ◌<◌, ◌==◌, ◌∙◌, ℕ, suc, List, [], ◌∷◌, ◌++◌, true, false, length, get_or, drop, Option, Some, None, option_map, refl, sym, ap, arith, inl, inr, eqb-true, if◌then◌else◌}
 use Rattle.std.proofs.lemmas.Bool.{cases_Bool}
 use Rattle.std.proofs.lemmas.Bool.Decides.{nat_tests}
-use Rattle.std.specs.List.{list_any}
 use Rattle.std.specs.Option.{MatchOption}
 use Rattle.pep440_pick.specs.Names.{is_name_byte}
 use Rattle.pep440_pick.specs.RequirementGrammar.{has_byte, opens}

@@ -1,8 +1,8 @@
 -- The parts of a text, as its readers find them.
-use Rattle.std.proofs.Common.{◌≡◌, ◌⊎◌, ◌∙◌, ℕ, List, Option, Some, None, Result, Ok, Err, refl, sym, ap, subst, inl, inr, true, false}
+use Rattle.std.proofs.Common.{◌≡◌, ◌⊎◌, ◌∙◌, ℕ, List, Option, Some, None, Ok, Err, refl, sym, ap, subst, inl, inr, true, false}
 use Rattle.std.specs.Prelude.{IfSome}
 use Rattle.pep440_pick.specs.Names.{is_name}
-use Rattle.pep440_pick.specs.RequirementGrammar.{Front, InvalidName, Unclosed, trimmed}
+use Rattle.pep440_pick.specs.RequirementGrammar.{InvalidName, Unclosed, trimmed}
 use Rattle.pep440_pick.specs.RequirementReading.{extras_at, list_in, named, with_extras, with_list}
 use Rattle.pep440_pick.specs.Requirements.{requirement_refusal_of}
 use Rattle.pep440_pick.specs.RequirementTexts.{requirement_refusal_text, requirement_text_of}

@@ -1,5 +1,5 @@
 -- The members of several lists, in one.
-use Rattle.std.proofs.Common.{◌≡◌, ◌∙◌, ◌&&◌, ◌||◌, ℕ, List, [], ◌∷◌, ◌++◌, Bool, true, false, not, length, map, Option, Some, None, Result, Ok, Err, refl, sym, ap, inl, inr}
+use Rattle.std.proofs.Common.{◌≡◌, ◌∙◌, ◌&&◌, ◌||◌, ℕ, List, [], ◌∷◌, ◌++◌, Bool, true, false, not, length, Option, Some, None, Result, Ok, Err, refl, sym, ap, inl, inr}
 use Rattle.std.proofs.lemmas.Bool.{cases_Bool}
 use Rattle.std.proofs.lemmas.List.Folds.{list_all-append, list_all_at, list_any-append, list_any-from_Any, Any-from_list_any}
 use Rattle.std.proofs.lemmas.List.Sorted.{length_permutation, list_any-IsPermutation}
@@ -9,17 +9,16 @@ use Rattle.std.specs.List.Sorted.{IsPermutation}
 use Rattle.std.specs.Option.{option_map_or}
 use Rattle.std.specs.Prelude.{IfOk, IsErrOf, is_none}
 use Rattle.pep440_ranges.specs.Segments.{contains}
-use Rattle.pep440_rs.specs.Agreement.{HoldsInEach, is_held}
+use Rattle.pep440_rs.specs.Agreement.{HoldsInEach}
 use Rattle.pep440_rs.specs.Bounds.{Segments, full, list_range, range_of}
 use Rattle.pep440_rs.specs.Refused.{TellsMax}
 use Rattle.pep440_rs.specs.Specifiers.{Spec}
-use Rattle.pep440_rs.specs.declared.range_error.RangeError.{RangeError}
-use Rattle.pep440_rs.specs.declared.range_error.RangeError.TheVariants.{NumberAtMax, OutOfMemory}
-use Rattle.pep440_rs.proofs.ListRanges.{holds_in_each, refused_by_a_member}
+use Rattle.pep440_rs.specs.declared.range.error.RangeError.{RangeError}
+use Rattle.pep440_rs.specs.declared.range.error.RangeError.TheVariants.{NumberAtMax, OutOfMemory}
+use Rattle.pep440_rs.proofs.Agreement.ListRanges.{holds_in_each, refused_by_a_member}
 use Rattle.pep440_version.specs.Key.{record_cmp}
 use Rattle.pep440_version.specs.Record.{Record}
 use Rattle.pep440_pick.specs.Allowed.{HoldsAllowed, lists_of, some_refused}
-use Rattle.pep440_pick.specs.Names.{same_name}
 use Rattle.pep440_pick.specs.RequirementGrammar.{Needed}
 
 abbrev pub joined : List (List Spec) → List Spec
@@ -47,6 +46,9 @@ any_joined p [] = refl
 any_joined p (list ∷ lists) = list_any-append p list (joined lists) ∙ ap (λ b. list_any p list || b) (any_joined p lists)
 
 -- ---- a version in the range of a list is one in the range of each member
+
+abbrev is_held : Option Segments → Record → Bool
+is_held range v = option_map_or (λ r. contains record_cmp r v) range false
 
 abbrev in_range : Record → Spec → Bool
 in_range v m = is_held (range_of m.operator m.version) v

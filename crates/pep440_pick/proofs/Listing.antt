@@ -1,11 +1,11 @@
 -- The error of a list, as the error of a requirement.
-use Rattle.std.proofs.Common.{◌≡◌, ℕ, List, Option, Some, None, option_map, refl, sym, subst}
+use Rattle.std.proofs.Common.{◌≡◌, ℕ, List, Option, Some, None, option_map, sym, subst}
 use Rattle.std.specs.Prelude.{IfSome}
 use Rattle.pep440_rs.specs.ListAnswers.{line_for}
 use Rattle.pep440_rs.specs.ListErrors.{list_refusal_of}
 use Rattle.pep440_rs.specs.ListGrammar.{PieceRefusal}
-use Rattle.pep440_rs.specs.declared.list_error.SpecifiersErrorKind.{SpecifiersErrorKind}
-use Rattle.pep440_rs.specs.declared.list_error.SpecifiersErrorKind.TheVariants.{Piece, OutOfMemory}
+use Rattle.pep440_rs.specs.declared.list.error.SpecifiersErrorKind.{SpecifiersErrorKind}
+use Rattle.pep440_rs.specs.declared.list.error.SpecifiersErrorKind.TheVariants.{Piece, OutOfMemory}
 use Rattle.pep440_pick.specs.RequirementGrammar.{RequirementRefusal, Specifiers}
 
 with_line : (o : Option PieceRefusal) (text line : List ℕ) (P : RequirementRefusal → Type 0) → line ≡ text → IfSome o (λ f. P (Specifiers text f)) → IfSome (option_map (λ f. Specifiers line f) o) P

@@ -1,10 +1,10 @@
 -- Names in their normal form, byte by byte.
-use Rattle.std.proofs.Common.{◌≡◌, ◌<◌, ◌+◌, ◌-◌, ◌∙◌, ℕ, suc, zero, List, [], ◌∷◌, Bool, true, false, cond, length, get_or, drop, refl, sym, ap, arith, inl, inr}
+use Rattle.std.proofs.Common.{◌≡◌, ◌<◌, ◌+◌, ◌-◌, ◌∙◌, ℕ, suc, List, [], ◌∷◌, Bool, true, false, cond, length, get_or, refl, sym, ap, arith, inl, inr}
 use Rattle.std.proofs.lemmas.Bool.{cases_Bool}
 use Rattle.std.proofs.lemmas.List.{get_or_default}
 use Rattle.std.specs.Char.{to_ascii_lowercase}
 use Rattle.std.specs.List.{prefix_len}
-use Rattle.pep440_version.specs.Grammar.{is_separator, starts}
+use Rattle.pep440_version.specs.Grammar.{is_separator}
 use Rattle.pep440_version.specs.Reading.{past}
 use Rattle.pep440_version.specs.Refusals.{ends}
 use Rattle.pep440_pick.specs.Names.{normal}

@@ -1,22 +1,22 @@
 -- A text means one requirement or is refused for one reason, and there is one newest candidate.
-use Rattle.std.proofs.Common.{◌≡◌, ◌≤◌, ◌<◌, ◌+◌, ◌-◌, ◌∙◌, ◌⊎◌, ℕ, suc, List, [], ◌∷◌, ◌++◌, Bool, true, false, length, get_or, Option, Some, None, Result, Ok, Err, refl, sym, ap, subst, arith, inl, inr}
+use Rattle.std.proofs.Common.{◌≡◌, ◌<◌, ◌-◌, ◌∙◌, ◌⊎◌, ℕ, suc, List, ◌∷◌, true, length, get_or, Option, Some, None, Result, Ok, Err, refl, sym, ap, subst, arith, inl, inr}
 use Rattle.std.proofs.lemmas.Bool.{both_ways, cases_order}
 use Rattle.std.proofs.lemmas.List.{get_or_append_left, get_or-append_right, get_or_at, length-append}
 use Rattle.std.specs.Ordering.{is_le, is_lt, ordering_reverse}
 use Rattle.std.specs.Prelude.{IsTrue, not}
 use Rattle.std.specs.declared.cmp.Ordering.{Ordering}
 use Rattle.std.specs.declared.cmp.Ordering.TheVariants.{Less, Equal, Greater}
-use Rattle.pep440_rs.proofs.OneMeaning.{either_list, not_both_list, one_list, one_list_refusal}
+use Rattle.pep440_rs.proofs.Reading.OneMeaning.{either_list, not_both_list, one_list, one_list_refusal}
 use Rattle.pep440_rs.specs.ListGrammar.{DerivesList, PieceRefusal, RefusesList}
 use Rattle.pep440_rs.specs.Specifiers.{Spec}
 use Rattle.pep440_version.specs.Key.{record_cmp}
 use Rattle.pep440_version.specs.KeyLaws.{record_total}
 use Rattle.pep440_version.specs.Record.{Record}
 use Rattle.pep440_pick.specs.Newest.{IsNewest, Newest, all_contain}
-use Rattle.pep440_pick.specs.RequirementGrammar.{DerivesRequirement, Front, HasFront, Needed, RefusesRequirement, RequirementRefusal, InvalidExtras, InvalidName, Marker, Specifiers, Unclosed, Url}
+use Rattle.pep440_pick.specs.RequirementGrammar.{DerivesRequirement, Front, HasFront, Needed, RefusesRequirement, RequirementRefusal, Specifiers}
 use Rattle.pep440_pick.specs.RequirementReading.{read_front}
 use Rattle.pep440_pick.proofs.Tells.{FrontTells, front_only, front_tells}
-use Rattle.pep440_pick.proofs.Whole.{front_err_decided, front_err_only, parts_of, refusal_of_list, told_front}
+use Rattle.pep440_pick.proofs.Whole.{front_err_decided, parts_of, refusal_of_list, told_front}
 
 -- ---- requirements
 

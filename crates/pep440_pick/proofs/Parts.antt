@@ -1,14 +1,14 @@
 -- Extras and the text of a list: reading and grammar agree.
-use Rattle.std.proofs.Common.{◌≡◌, ◌≢◌, ◌⊎◌, ◌==◌, ◌+◌, ◌∙◌, ◌&&◌, ℕ, suc, List, [], ◌∷◌, ◌++◌, Bool, true, false, cond, drop, map, Option, Some, None, option_map, refl, sym, ap, subst, arith, inl, inr, eqb-true}
+use Rattle.std.proofs.Common.{◌≡◌, ◌==◌, ◌+◌, ◌∙◌, ◌&&◌, ℕ, suc, List, [], ◌∷◌, ◌++◌, Bool, true, false, cond, drop, map, Option, Some, None, option_map, refl, sym, ap, subst, arith, inl, inr, eqb-true}
 use Rattle.std.proofs.lemmas.Bool.{and_parts, cases_Bool}
 use Rattle.std.proofs.lemmas.Bool.Decides.{nat_tests}
 use Rattle.std.specs.Char.{is_ascii_whitespace}
 use Rattle.std.specs.List.{list_all, prefix_len}
 use Rattle.pep440_version.specs.Reading.{past}
-use Rattle.pep440_rs.specs.ListGrammar.{before_first, pieces}
+use Rattle.pep440_rs.specs.ListGrammar.{pieces}
 use Rattle.pep440_pick.specs.Names.{is_name}
-use Rattle.pep440_pick.specs.RequirementGrammar.{AreExtras, HasExtras, HasList, IsBracketed, has_byte, opens, trimmed, trimmed_end}
-use Rattle.pep440_pick.specs.RequirementReading.{bracketed, cut_at, extras_at, extras_in, list_in, names_in, without_end}
+use Rattle.pep440_pick.specs.RequirementGrammar.{AreExtras, HasExtras, HasList, has_byte, opens, trimmed, trimmed_end}
+use Rattle.pep440_pick.specs.RequirementReading.{bracketed, cut_at, extras_at, extras_in, list_in, without_end}
 use Rattle.pep440_pick.proofs.Cutting.{cut_first, end_found}
 use Rattle.pep440_pick.proofs.Extras.{in_bracket, no_bracket, no_extras, some_extras}
 

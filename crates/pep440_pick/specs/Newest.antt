@@ -1,5 +1,5 @@
 -- The newest of some candidates: the greatest that each list contains, and of equal ones the first.
-use Rattle.std.specs.Prelude.{◌≡◌, ℕ, List, ◌∷◌, ◌++◌, Bool, true, length, Option, Some, None, IsTrue, not}
+use Rattle.std.specs.Prelude.{◌≡◌, ℕ, List, ◌∷◌, ◌++◌, Bool, length, Option, Some, None, IsTrue, not}
 use Rattle.std.specs.List.{All, list_all}
 use Rattle.std.specs.Ordering.{is_le, is_lt}
 use Rattle.pep440_rs.specs.Matching.{list_matches}

@@ -4,7 +4,7 @@ ghost use Rattle.std.specs.List.{All};
 ghost use Rattle.std.specs.Option.{option_map_or};
 ghost use Rattle.std.specs.Ordering.{is_lt};
 ghost use Rattle.pep440_version.specs.Key.{record_cmp};
-ghost use Rattle.pep440_rs.specs.declared.operator.Operator.TheVariants.{ExactEqual};
+ghost use Rattle.pep440_rs.specs.declared.specifier.operator.Operator.TheVariants.{ExactEqual};
 ghost use Rattle.pep440_pick.specs.Newest.{Newest, all_contain};
 
 use pep440_rs::{Version, VersionSpecifiers};

@@ -1,4 +1,4 @@
-use Rattle.std.proofs.Common.{◌≡◌, ◌∙◌, ◌+◌, List, sym, subst, take, take_all}
+use Rattle.std.proofs.Common.{◌∙◌, ◌+◌, List, sym, subst, take, take_all}
 use Rattle.pep440_version.specs.Record.{Record}
 use Rattle.pep440_pick.specs.Newest.{Newest}
 use Rattle.pep440_pick.proofs.Choosing.{below_more, found_more, out_more}

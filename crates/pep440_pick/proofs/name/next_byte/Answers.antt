@@ -1,7 +1,6 @@
-use Rattle.std.proofs.Common.{◌≡◌, ◌∙◌, ◌∷◌, true, rules, ap, sym, drop, take, length, ◌-◌}
+use Rattle.std.proofs.Common.{◌≡◌, ◌∙◌, ◌∷◌, true, rules, ap, sym, drop}
 use Rattle.std.proofs.lemmas.List.{take_rest}
 use Rattle.pep440_version.specs.Grammar.{is_separator}
-use Rattle.pep440_version.specs.Reading.{past}
 use Rattle.pep440_pick.specs.Names.{normal}
 use Rattle.pep440_pick.proofs.Normal.{run_is_one}
 use Rattle.pep440_pick.proofs.name.next_byte.Goals as goal

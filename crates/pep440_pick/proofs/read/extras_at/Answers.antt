@@ -1,4 +1,4 @@
-use Rattle.std.proofs.Common.{◌≡◌, ◌∙◌, ap, inl, inr, map, refl, string_bytes, sym, Some}
+use Rattle.std.proofs.Common.{◌∙◌, ap, inl, inr, map, refl, string_bytes, sym, Some}
 use Rattle.pep440_pick.proofs.Extras.{closed_none, closed_some, front_lacks, no_bracket, unclosed}
 use Rattle.pep440_pick.proofs.read.extras_at.Goals as goal
 

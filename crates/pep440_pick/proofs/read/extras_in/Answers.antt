@@ -1,4 +1,4 @@
-use Rattle.std.proofs.Common.{◌≡◌, ◌∙◌, List, ℕ, ap, arith, inl, inr, map, string_bytes, sym, Some, None}
+use Rattle.std.proofs.Common.{◌∙◌, ap, arith, inl, inr, map, string_bytes, sym, Some, None}
 use Rattle.std.proofs.lemmas.Str.Pattern.{split_parts}
 use Rattle.pep440_rs.specs.ListGrammar.{pieces}
 use Rattle.pep440_pick.proofs.Extras.{after_comma, kept_last, kept_more, kept_refused, last_refused, no_extras, some_extras}

@@ -2,7 +2,7 @@ use Rattle.std.proofs.Common.{◌≡◌, Ok, Err, Result, List, refl}
 use Rattle.std.proofs.lemmas.Option.{IfSome_then}
 use Rattle.pep440_rs.specs.ListAnswers.{line_of, list_kind_of}
 use Rattle.pep440_rs.specs.ListErrors.{list_refusal_of}
-use Rattle.pep440_rs.specs.ListGrammar.{PieceRefusal, RefusesList}
+use Rattle.pep440_rs.specs.ListGrammar.{PieceRefusal}
 use Rattle.pep440_rs.specs.Specifiers.{Spec}
 use Rattle.pep440_pick.specs.RequirementGrammar.{RequirementRefusal, Specifiers}
 use Rattle.pep440_pick.specs.Requirements.{IsOfList, requirement_refusal_of}
