@@ -8,3 +8,4 @@ pub mod Segments
 pub mod Texts
 pub mod Picked
 pub mod OnePick
+pub mod Stopped

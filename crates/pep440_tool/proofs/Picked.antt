@@ -167,10 +167,6 @@ refuses_requirement_line place text t e m a b full utf8 not_lacking lifted why t
 
 -- ---- the answer
 
-pub map_ok : {X E : Type 0} (P Q : X → Type 0) (r : Result X E) → ((x : X) → P x → Q x) → IfOk r P → IfOk r Q
-map_ok P Q (Ok x) follows h = follows x h
-map_ok P Q (Err e) follows h = tt
-
 -- the newest is shown by its place
 pub picked : (name : List ℕ) (texts : List (List ℕ)) (input : List ℕ) (versions given : List Record) (lists held : List (List Spec)) (place : ℕ) (v : Record) (t : List ℕ) (a : ToolAnswer)
     → is_name name ≡ true → AllZip Derives texts versions → (found : List (Option Needed)) × AllZip LineNeeds (lines input) found × (lists ≡ lists_of name (flat_map option_to_list found))

@@ -10,7 +10,7 @@ use Rattle.pep440_tool.specs.Lines.{LineFault, is_skipped}
 use Rattle.pep440_tool.specs.Picks.{RefusesCandidate, candidate_fault_text}
 
 -- an error that isn't want of memory tells the refusal of its text, and has its text
-told : (word t : List ℕ) (o : Option Refusal) (m : Option (List ℕ)) → is_none o ≡ false → IfSome o (Refuses word) → IfSome o (λ f. m ≡ Some (refusal_text f)) → IfSome m (λ bs. t ≡ bs)
+pub told : (word t : List ℕ) (o : Option Refusal) (m : Option (List ℕ)) → is_none o ≡ false → IfSome o (Refuses word) → IfSome o (λ f. m ≡ Some (refusal_text f)) → IfSome m (λ bs. t ≡ bs)
     → (f : Refusal) × Refuses word f × (t ≡ refusal_text f)
 told word t None m some why text shown = cc some
 told word t (Some f) m some why text shown = (f, why, rw text at shown)
@@ -33,9 +33,3 @@ pub refuses_line : (text t : List ℕ) (o : Option Refusal) (m : Option (List �
     → IfSome o (λ f. m ≡ Some (refusal_text f)) → IfSome m (λ bs. t ≡ bs) → LineFault text t
 refuses_line text t o m full utf8 some why told_text shown =
     (ap not full, inr (utf8, told text t o m some why told_text shown))
-
--- the answer that refuses a candidate
-pub refuses_candidate : (place : ℕ) (word t : List ℕ) (a : ToolAnswer) (o : Option Refusal) (m : Option (List ℕ)) → is_none o ≡ false → IfSome o (Refuses word) → IfSome o (λ f. m ≡ Some (refusal_text f))
-    → IfSome m (λ bs. t ≡ bs) → a ≡ refused (candidate_fault_text place t) → RefusesCandidate place word a
-refuses_candidate place word t a o m some why text shown said =
-    let f = told word t o m some why text shown in (f.0, f.1, said ∙ ap (λ (x : List ℕ). refused (candidate_fault_text place x)) f.2)

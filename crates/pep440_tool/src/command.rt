@@ -1,11 +1,11 @@
 // What the words ask for, and the answer to words and input bytes.
 ghost use Rattle.std.specs.Prelude.{◌≡◌, ◌≤◌, ◌==◌, map, string_bytes, IfOk};
 ghost use Rattle.pep440_tool.specs.Commands.{IsAnswer, asked, asked_by, reads_input};
-ghost use Rattle.pep440_tool.specs.Said.{request, said};
+ghost use Rattle.pep440_tool.specs.Said.{Answered, request, said};
 
 use crate::editing::edit;
 use crate::filtering::filter;
-use crate::output::{Answer, usage};
+use crate::output::{Answer, Stop};
 use crate::picking::pick;
 use crate::ranging::range;
 use crate::reading::{compare, contains, show};
@@ -81,6 +81,22 @@ pub fn wants_input(words: &[String]) -> bool
     matches!(requested(words), Command::Filter(_) | Command::Pick(_, _))
 }
 
+/// What a command answers to its input, or why it stops.
+fn commanded(alloc: Global, command: Command<'_>, input: &[u8]) -> Result<Answer, Stop>
+    ensures { Answered (IsAnswer (request command.entry) input.now) result }
+{
+    match command {
+        Command::Show(version) => show(alloc, version),
+        Command::Compare(left, right) => compare(alloc, left, right),
+        Command::Match(list, version) => contains(alloc, list, version),
+        Command::Edit(version, changes) => edit(alloc, version, changes),
+        Command::Range(list) => range(alloc, list),
+        Command::Filter(list) => filter(alloc, list, input),
+        Command::Pick(name, candidates) => pick(alloc, name, candidates, input),
+        Command::Usage => Ok(Answer::usage(alloc)?),
+    }
+}
+
 /// What the program answers to its words and its input: what is written, and the status 0 (answered), 1 (refused)
 /// or 2 (no such command, or a wrong number of words). `filter` and `pick` alone look at
 /// the input.
@@ -90,14 +106,9 @@ pub fn answer(alloc: Global, words: &[String], input: &[u8]) -> Result<Answer, A
     ensures answer { IfOk result (λ a. IsAnswer (asked (map string_bytes words.now)) input.now (said a)) }
     ensures known { IfOk result (λ a. a.status ≤ 2) }
 {
-    match requested(words) {
-        Command::Show(version) => show(alloc, version),
-        Command::Compare(left, right) => compare(alloc, left, right),
-        Command::Match(list, version) => contains(alloc, list, version),
-        Command::Edit(version, changes) => edit(alloc, version, changes),
-        Command::Range(list) => range(alloc, list),
-        Command::Filter(list) => filter(alloc, list, input),
-        Command::Pick(name, candidates) => pick(alloc, name, candidates, input),
-        Command::Usage => usage(alloc),
+    match commanded(alloc, requested(words), input) {
+        Ok(answer) => Ok(answer),
+        Err(Stop::Refused(answer)) => Ok(answer),
+        Err(Stop::OutOfMemory) => Err(AllocError),
     }
 }

@@ -1,61 +1,63 @@
 // The command `edit`.
-ghost use Rattle.std.specs.Prelude.{◌≡◌, map, string_bytes, IfOk};
+ghost use Rattle.std.specs.Prelude.{◌≡◌, map, string_bytes};
 ghost use Rattle.std.specs.Result.{result_map_both};
 ghost use Rattle.pep440_tool.specs.Answers.{EditAnswer, edited_answer, not_a_change_text, refused};
-ghost use Rattle.pep440_tool.specs.ChangeWords.{changes_of};
-ghost use Rattle.pep440_tool.specs.Said.{said};
+ghost use Rattle.pep440_tool.specs.Said.{Answered, MeansChanges, Stops};
 ghost use Rattle.pep440_version.specs.Changes.{changed_all, edit};
 
 use crate::change_word::change;
-use crate::output::{Answer, refused, shown};
+use crate::output::{Answer, Stop};
 use crate::printing::marked_print;
 use crate::reading::read;
 use pep440_rs::{Change, ChangeError, Version};
-use std::alloc::{AllocError, Global};
+use std::alloc::Global;
 
-/// The answer that refuses a word by its place.
-fn not_a_change(alloc: Global, place: usize) -> Result<Answer, AllocError>
-    ensures { IfOk result (λ a. said a ≡ refused (not_a_change_text place)) }
+/// A word is refused by its place.
+fn not_a_change(alloc: Global, place: usize) -> Stop
+    ensures { Stops (λ a. a ≡ refused (not_a_change_text place)) result }
 {
-    let text = format!(in alloc; "change {place}: not a change")?;
-    refused(alloc, text.as_str())
+    match format!(in alloc; "change {place}: not a change") {
+        Ok(text) => Stop::refused(alloc, text.as_str()),
+        Err(_) => Stop::OutOfMemory,
+    }
 }
 
-/// The changes that the words ask for, or the place of the first word that asks for none.
-fn find_changes(alloc: Global, words: &[String]) -> Result<Result<Vec<Change>, usize>, AllocError>
-    ensures { IfOk result (λ r. result_map_both (λ v. map edit v.items) (λ place. place) r ≡ changes_of 1 (map string_bytes words.now)) }
+/// The changes that the words ask for; the first word that asks for none is refused by its place.
+fn find_changes(alloc: Global, words: &[String]) -> Result<Vec<Change>, Stop>
+    ensures { MeansChanges (map string_bytes words.now) (result_map_both (λ v. map edit v.items) (λ stop. stop) result) }
 {
     let mut changes = Vec::new(alloc);
     for i in 0..words.len() {
         match change(alloc, words[i].as_str())? {
             Some(change) => changes.push(change)?,
-            None => return Ok(Err(i + 1)),
+            None => return Err(not_a_change(alloc, i + 1)),
         }
     }
-    Ok(Ok(changes))
+    Ok(changes)
 }
 
 /// The version after the changes, or why they can't be made.
-fn edited(alloc: Global, version: Version, changes: &[Change]) -> Result<Answer, AllocError>
-    ensures { IfOk result (λ a. said a ≡ edited_answer (changed_all 1 version (map edit changes.now))) }
+fn edited(alloc: Global, version: Version, changes: &[Change]) -> Result<Answer, Stop>
+    ensures { Answered (λ a. a ≡ edited_answer (changed_all 1 version (map edit changes.now))) result }
 {
     match version.with_changes(alloc, changes) {
-        Ok(version) => shown(alloc, marked_print(alloc, &version)?.as_str()),
-        Err(ChangeError::OutOfMemory) => Err(AllocError),
-        Err(error) => refused(alloc, error.to_string(alloc)?.as_str()),
+        Ok(version) => {
+            let print = marked_print(alloc, &version)?;
+            Ok(Answer::shown(alloc, print.as_str())?)
+        }
+        Err(ChangeError::OutOfMemory) => Err(Stop::OutOfMemory),
+        Err(error) => {
+            let text = error.to_string(alloc)?;
+            Err(Stop::refused(alloc, text.as_str()))
+        }
     }
 }
 
 /// `edit V CHANGE..`: all words are read before a change is made.
-pub fn edit(alloc: Global, word: &str, words: &[String]) -> Result<Answer, AllocError>
-    ensures { IfOk result (λ a. EditAnswer word.now (map string_bytes words.now) (said a)) }
+pub(crate) fn edit(alloc: Global, word: &str, words: &[String]) -> Result<Answer, Stop>
+    ensures { Answered (EditAnswer word.now (map string_bytes words.now)) result }
 {
-    let version = match read(alloc, word)? {
-        Ok(version) => version,
-        Err(answer) => return Ok(answer),
-    };
-    match find_changes(alloc, words)? {
-        Ok(changes) => edited(alloc, version, changes.as_slice()),
-        Err(place) => not_a_change(alloc, place),
-    }
+    let version = read(alloc, word)?;
+    let changes = find_changes(alloc, words)?;
+    edited(alloc, version, changes.as_slice())
 }

@@ -1,18 +1,18 @@
 // The command `filter`.
-ghost use Rattle.std.specs.Prelude.{◌≡◌, ◌<◌, ◌∷◌, [], length, map, IfOk, IfSome, Some};
+ghost use Rattle.std.specs.Prelude.{◌≡◌, ◌<◌, ◌∷◌, [], length, map, IfSome, Some};
 ghost use Rattle.std.specs.Fmt.{WritesStyledOnOk};
 ghost use Rattle.std.specs.List.{flat_map};
 ghost use Rattle.std.specs.Option.{option_map_or};
 ghost use Rattle.pep440_tool.specs.Answers.{refused};
 ghost use Rattle.pep440_tool.specs.Lines.{FilterAnswer, is_skipped, line_fault_text, lines};
-ghost use Rattle.pep440_tool.specs.Said.{MeansLine, MeansLines, said};
+ghost use Rattle.pep440_tool.specs.Said.{Answered, MeansLine, MeansLines, Stops};
 ghost use Rattle.pep440_tool.specs.Texts.{line, lines_of};
 ghost use Rattle.pep440_version.specs.Print.{print};
 
-use crate::output::{Answer, refused, shown_lines};
-use crate::reading::{is_want_of_memory, read_list};
+use crate::output::{Answer, Stop};
+use crate::reading::{Fault, read_list, read_text};
 use pep440_rs::{Version, VersionSpecifiers};
-use std::alloc::{AllocError, Global};
+use std::alloc::Global;
 use std::fmt;
 
 /// The first line, and what stands behind its newline if it has one.
@@ -35,47 +35,36 @@ pub fn is_skipped(line: &[u8]) -> bool
     line.iter().all(|byte| *byte == b'\t' || *byte == 12 || *byte == b'\r' || *byte == b' ')
 }
 
-/// The answer that refuses a line by its place.
-pub fn refuse_line(alloc: Global, place: usize, fault: &str) -> Result<Answer, AllocError>
-    ensures { IfOk result (λ a. said a ≡ refused (line_fault_text place fault.now)) }
+/// A line is refused by its place.
+pub(crate) fn refuse_line(alloc: Global, place: usize, fault: &str) -> Stop
+    ensures { Stops (λ a. a ≡ refused (line_fault_text place fault.now)) result }
 {
-    let text = format!(in alloc; "line {place}: {fault}")?;
-    refused(alloc, text.as_str())
+    match format!(in alloc; "line {place}: {fault}") {
+        Ok(text) => Stop::refused(alloc, text.as_str()),
+        Err(_) => Stop::OutOfMemory,
+    }
 }
 
-/// The version that the line means, none where it is skipped, or the answer that refuses it.
-fn read_line(
-    alloc: Global,
-    place: usize,
-    line: &[u8],
-) -> Result<Result<Option<Version>, Answer>, AllocError>
-    ensures { IfOk result (MeansLine place line.now) }
+/// The version that the line means, none where it is skipped.
+fn read_line(alloc: Global, place: usize, line: &[u8]) -> Result<Option<Version>, Stop>
+    ensures { MeansLine place line.now result }
 {
     if is_skipped(line) {
-        return Ok(Ok(None));
+        return Ok(None);
     }
     let Ok(text) = std::str::from_utf8(line) else {
-        return Ok(Err(refuse_line(alloc, place, "not UTF-8")?));
+        return Err(refuse_line(alloc, place, "not UTF-8"));
     };
-    match Version::from_str(alloc, text) {
-        Ok(version) => Ok(Ok(Some(version))),
-        Err(error) => {
-            if is_want_of_memory(error.kind()) {
-                return Err(AllocError);
-            }
-            let fault = error.to_string(alloc)?;
-            Ok(Err(refuse_line(alloc, place, fault.as_str())?))
-        }
+    match read_text(alloc, text) {
+        Ok(version) => Ok(Some(version)),
+        Err(Fault::Text(fault)) => Err(refuse_line(alloc, place, fault.as_str())),
+        Err(Fault::OutOfMemory) => Err(Stop::OutOfMemory),
     }
 }
 
-/// The versions of the lines that the list contains, in the order of the lines, or the answer that refuses a line.
-fn contained(
-    alloc: Global,
-    list: &VersionSpecifiers,
-    input: &[u8],
-) -> Result<Result<Vec<Version>, Answer>, AllocError>
-    ensures { IfOk result (MeansLines (λ versions. versions.items) list.now (lines input.now)) }
+/// The versions of the lines that the list contains, in the order of the lines.
+fn contained(alloc: Global, list: &VersionSpecifiers, input: &[u8]) -> Result<Vec<Version>, Stop>
+    ensures { MeansLines (λ versions. versions.items) list.now (lines input.now) result }
 {
     let mut versions = Vec::new(alloc);
     let mut place = 0;
@@ -84,17 +73,16 @@ fn contained(
         let (line, later) = cut_line(text);
         place += 1;
         match read_line(alloc, place, line)? {
-            Ok(Some(version)) => {
+            Some(version) => {
                 if list.contains(alloc, &version)? {
                     versions.push(version)?;
                 }
             }
-            Ok(None) => {}
-            Err(answer) => return Ok(Err(answer)),
+            None => {}
         }
         rest = later;
     }
-    Ok(Ok(versions))
+    Ok(versions)
 }
 
 /// Versions to be printed a line each.
@@ -131,20 +119,14 @@ impl fmt::Display for Lines<'_> {
 }
 
 /// `filter SPECS`: the versions of the lines that the list contains, in order.
-pub fn filter(alloc: Global, word: &str, input: &[u8]) -> Result<Answer, AllocError>
-    ensures { IfOk result (λ a. FilterAnswer word.now input.now (said a)) }
+pub(crate) fn filter(alloc: Global, word: &str, input: &[u8]) -> Result<Answer, Stop>
+    ensures { Answered (FilterAnswer word.now input.now) result }
 {
-    let list = match read_list(alloc, word)? {
-        Ok(list) => list,
-        Err(answer) => return Ok(answer),
-    };
-    let mut versions = match contained(alloc, &list, input)? {
-        Ok(versions) => versions,
-        Err(answer) => return Ok(answer),
-    };
+    let list = read_list(alloc, word)?;
+    let mut versions = contained(alloc, &list, input)?;
     versions.sort()?;
     let lines = Lines {
         versions: versions.as_slice(),
     };
-    Ok(shown_lines(lines.to_string(alloc)?))
+    Ok(Answer::shown_lines(lines.to_string(alloc)?))
 }

@@ -6,58 +6,46 @@ ghost use Rattle.pep440_version.specs.Grammar.{Derives};
 ghost use Rattle.pep440_tool.specs.Answers.{refused, refused_list};
 ghost use Rattle.pep440_tool.specs.Lines.{line_fault_text, lines};
 ghost use Rattle.pep440_tool.specs.Picks.{PickAnswer, RefusesCandidate, candidate_fault_text};
-ghost use Rattle.pep440_tool.specs.Said.{MeansCandidate, MeansEach, MeansNeed, MeansNeeds, is_list_error, lacks_memory, said};
+ghost use Rattle.pep440_tool.specs.Said.{Answered, MeansCandidate, MeansEach, MeansNeed, MeansNeeds, Stops, is_list_error, lacks_memory};
 
 use crate::filtering::{cut_line, is_skipped, refuse_line};
-use crate::output::{Answer, refused, refused_list, shown};
-use crate::reading::is_want_of_memory;
+use crate::output::{Answer, Stop};
+use crate::reading::{Fault, read_text};
 use pep440_pick::{Requirement, RequirementError, is_name, newest, same_name};
 use pep440_rs::{Version, VersionSpecifiers};
 use std::alloc::{AllocError, Global};
 
-/// The answer that refuses a candidate by its place.
-fn refuse_candidate(alloc: Global, place: usize, fault: &str) -> Result<Answer, AllocError>
-    ensures { IfOk result (λ a. said a ≡ refused (candidate_fault_text place fault.now)) }
+/// A candidate is refused by its place.
+fn refuse_candidate(alloc: Global, place: usize, fault: &str) -> Stop
+    ensures { Stops (λ a. a ≡ refused (candidate_fault_text place fault.now)) result }
 {
-    let text = format!(in alloc; "candidate {place}: {fault}")?;
-    refused(alloc, text.as_str())
-}
-
-/// The version that the candidate means, or the answer that refuses it.
-fn read_candidate(
-    alloc: Global,
-    place: usize,
-    word: &str,
-) -> Result<Result<Version, Answer>, AllocError>
-    ensures { IfOk result (MeansCandidate place word.now) }
-{
-    match Version::from_str(alloc, word) {
-        Ok(version) => Ok(Ok(version)),
-        Err(error) => {
-            if is_want_of_memory(error.kind()) {
-                return Err(AllocError);
-            }
-            let fault = error.to_string(alloc)?;
-            Ok(Err(refuse_candidate(alloc, place, fault.as_str())?))
-        }
+    match format!(in alloc; "candidate {place}: {fault}") {
+        Ok(text) => Stop::refused(alloc, text.as_str()),
+        Err(_) => Stop::OutOfMemory,
     }
 }
 
-/// The versions that the candidates mean, or the answer that refuses the first that means none.
-fn read_candidates(
-    alloc: Global,
-    words: &[String],
-) -> Result<Result<Vec<Version>, Answer>, AllocError>
-    ensures { IfOk result (MeansEach Derives RefusesCandidate (λ v. v.items) (map string_bytes words.now)) }
+/// The version that the candidate means.
+fn read_candidate(alloc: Global, place: usize, word: &str) -> Result<Version, Stop>
+    ensures { MeansCandidate place word.now result }
+{
+    match read_text(alloc, word) {
+        Ok(version) => Ok(version),
+        Err(Fault::Text(fault)) => Err(refuse_candidate(alloc, place, fault.as_str())),
+        Err(Fault::OutOfMemory) => Err(Stop::OutOfMemory),
+    }
+}
+
+/// The versions that the candidates mean.
+fn read_candidates(alloc: Global, words: &[String]) -> Result<Vec<Version>, Stop>
+    ensures { MeansEach Derives RefusesCandidate (λ v. v.items) (map string_bytes words.now) result }
 {
     let mut versions = Vec::new(alloc);
     for (at, word) in words.iter().enumerate() {
-        match read_candidate(alloc, at + 1, word.as_str())? {
-            Ok(version) => versions.push(version)?,
-            Err(answer) => return Ok(Err(answer)),
-        }
+        let version = read_candidate(alloc, at + 1, word.as_str())?;
+        versions.push(version)?;
     }
-    Ok(Ok(versions))
+    Ok(versions)
 }
 
 /// Whether memory ran out.
@@ -74,39 +62,41 @@ fn is_list_error(error: &RequirementError) -> bool
     matches!(error, RequirementError::Specifiers(_))
 }
 
-/// The answer that refuses a line by its place for a list, whose fault ends its own lines.
-fn refuse_list_line(alloc: Global, place: usize, fault: &str) -> Result<Answer, AllocError>
-    ensures { IfOk result (λ a. said a ≡ refused_list (line_fault_text place fault.now)) }
+/// A line is refused by its place for a list, whose fault ends its own lines.
+fn refuse_list_line(alloc: Global, place: usize, fault: &str) -> Stop
+    ensures { Stops (λ a. a ≡ refused_list (line_fault_text place fault.now)) result }
 {
-    let text = format!(in alloc; "line {place}: {fault}")?;
-    refused_list(alloc, text.as_str())
+    match format!(in alloc; "line {place}: {fault}") {
+        Ok(text) => Stop::refused_list(alloc, text.as_str()),
+        Err(_) => Stop::OutOfMemory,
+    }
 }
 
-/// The requirement that the line means, none where it is skipped, or the answer that refuses it.
+/// The requirement that the line means, none where it is skipped.
 fn read_requirement(
     alloc: Global,
     place: usize,
     line: &[u8],
-) -> Result<Result<Option<Requirement>, Answer>, AllocError>
-    ensures { IfOk result (MeansNeed place line.now) }
+) -> Result<Option<Requirement>, Stop>
+    ensures { MeansNeed place line.now result }
 {
     if is_skipped(line) {
-        return Ok(Ok(None));
+        return Ok(None);
     }
     let Ok(text) = std::str::from_utf8(line) else {
-        return Ok(Err(refuse_line(alloc, place, "not UTF-8")?));
+        return Err(refuse_line(alloc, place, "not UTF-8"));
     };
     match Requirement::from_str(alloc, text) {
-        Ok(requirement) => Ok(Ok(Some(requirement))),
+        Ok(requirement) => Ok(Some(requirement)),
         Err(error) => {
             if lacked_memory(&error) {
-                return Err(AllocError);
+                return Err(Stop::OutOfMemory);
             }
             let fault = error.to_string(alloc)?;
             if is_list_error(&error) {
-                return Ok(Err(refuse_list_line(alloc, place, fault.as_str())?));
+                return Err(refuse_list_line(alloc, place, fault.as_str()));
             }
-            Ok(Err(refuse_line(alloc, place, fault.as_str())?))
+            Err(refuse_line(alloc, place, fault.as_str()))
         }
     }
 }
@@ -125,13 +115,9 @@ fn add_list(
     Ok(())
 }
 
-/// The lists of the lines of that name, or the answer that refuses the first line that means nothing.
-fn lists_of_name(
-    alloc: Global,
-    name: &str,
-    input: &[u8],
-) -> Result<Result<Vec<VersionSpecifiers>, Answer>, AllocError>
-    ensures { IfOk result (MeansNeeds (λ lists. lists.items) name.now (lines input.now)) }
+/// The lists of the lines of that name.
+fn lists_of_name(alloc: Global, name: &str, input: &[u8]) -> Result<Vec<VersionSpecifiers>, Stop>
+    ensures { MeansNeeds (λ lists. lists.items) name.now (lines input.now) result }
 {
     let mut lists = Vec::new(alloc);
     let mut place = 0;
@@ -140,37 +126,33 @@ fn lists_of_name(
         let (line, later) = cut_line(text);
         place += 1;
         match read_requirement(alloc, place, line)? {
-            Ok(Some(requirement)) => add_list(&mut lists, name, requirement)?,
-            Ok(None) => {}
-            Err(answer) => return Ok(Err(answer)),
+            Some(requirement) => add_list(&mut lists, name, requirement)?,
+            None => {}
         }
         rest = later;
     }
-    Ok(Ok(lists))
+    Ok(lists)
 }
 
 /// `pick NAME V..`: the newest of the candidates, by the lists of the lines whose name is NAME.
-pub fn pick(
+pub(crate) fn pick(
     alloc: Global,
     name: &str,
     candidates: &[String],
     input: &[u8],
-) -> Result<Answer, AllocError>
-    ensures { IfOk result (λ a. PickAnswer name.now (map string_bytes candidates.now) input.now (said a)) }
+) -> Result<Answer, Stop>
+    ensures { Answered (PickAnswer name.now (map string_bytes candidates.now) input.now) result }
 {
     if !is_name(name) {
-        return refused(alloc, "name: not a valid name");
+        return Err(Stop::refused(alloc, "name: not a valid name"));
     }
-    let versions = match read_candidates(alloc, candidates)? {
-        Ok(versions) => versions,
-        Err(answer) => return Ok(answer),
-    };
-    let lists = match lists_of_name(alloc, name, input)? {
-        Ok(lists) => lists,
-        Err(answer) => return Ok(answer),
-    };
+    let versions = read_candidates(alloc, candidates)?;
+    let lists = lists_of_name(alloc, name, input)?;
     match newest(alloc, lists.as_slice(), versions.as_slice())? {
-        Some(place) => shown(alloc, versions[place].to_string(alloc)?.as_str()),
-        None => shown(alloc, "none"),
+        Some(place) => {
+            let print = versions[place].to_string(alloc)?;
+            Ok(Answer::shown(alloc, print.as_str())?)
+        }
+        None => Ok(Answer::shown(alloc, "none")?),
     }
 }

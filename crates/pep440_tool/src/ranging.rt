@@ -2,10 +2,10 @@
 ghost use Rattle.std.specs.Prelude.{◌≡◌, ◌++◌, ◌∷◌, [], IfOk, map, string_bytes};
 ghost use Rattle.std.specs.Result.{OnOk};
 ghost use Rattle.pep440_tool.specs.Answers.{RangeAnswer, end_text, marked_print, segment_text, segments_answer, start_text};
-ghost use Rattle.pep440_tool.specs.Said.{said};
+ghost use Rattle.pep440_tool.specs.Said.{Answered, said};
 ghost use Rattle.pep440_tool.specs.Texts.{lines_of};
 
-use crate::output::{Answer, refused, shown, shown_lines};
+use crate::output::{Answer, Stop};
 use crate::printing::marked_print;
 use crate::reading::read_list;
 use pep440_rs::{RangeError, Ranges, Version, specifiers_to_ranges};
@@ -65,23 +65,23 @@ fn segments(alloc: Global, range: &Ranges<Version>) -> Result<Answer, AllocError
     ensures { IfOk result (λ a. said a ≡ segments_answer range.now) }
 {
     if range.is_empty() {
-        return shown(alloc, "empty");
+        return Answer::shown(alloc, "empty");
     }
     let text = segments_text(alloc, range)?;
-    Ok(shown_lines(text))
+    Ok(Answer::shown_lines(text))
 }
 
 /// `range SPECS`: the range of the list.
-pub fn range(alloc: Global, word: &str) -> Result<Answer, AllocError>
-    ensures { IfOk result (λ a. RangeAnswer word.now (said a)) }
+pub(crate) fn range(alloc: Global, word: &str) -> Result<Answer, Stop>
+    ensures { Answered (RangeAnswer word.now) result }
 {
-    let list = match read_list(alloc, word)? {
-        Ok(list) => list,
-        Err(answer) => return Ok(answer),
-    };
+    let list = read_list(alloc, word)?;
     match specifiers_to_ranges(alloc, list) {
-        Ok(range) => segments(alloc, &range),
-        Err(RangeError::OutOfMemory) => Err(AllocError),
-        Err(error) => refused(alloc, error.to_string(alloc)?.as_str()),
+        Ok(range) => Ok(segments(alloc, &range)?),
+        Err(RangeError::OutOfMemory) => Err(Stop::OutOfMemory),
+        Err(error) => {
+            let text = error.to_string(alloc)?;
+            Err(Stop::refused(alloc, text.as_str()))
+        }
     }
 }

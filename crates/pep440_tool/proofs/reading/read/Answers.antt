@@ -1,12 +1,11 @@
-use Rattle.std.proofs.Common.{◌∙◌, string_bytes, sym}
-use Rattle.pep440_version.specs.Errors.{kind_of, refusal_of}
-use Rattle.pep440_version.specs.ErrorTexts.{error_text}
-use Rattle.pep440_tool.specs.Said.{said}
-use Rattle.pep440_tool.proofs.Refused.{refuses_word}
+use Rattle.std.proofs.Common.{◌≡◌, ◌∙◌, Err, ap, subst}
+use Rattle.pep440_tool.specs.Answers.{RefusesWord, refused}
+use Rattle.pep440_tool.specs.Said.{MeansText}
+use Rattle.pep440_tool.specs.declared.reading.Fault.TheVariants.{Text}
+use Rattle.pep440_tool.proofs.Stopped.{stops_weaker}
 use Rattle.pep440_tool.proofs.reading.read.Goals as goal
 
-pub returns-in_ok-refused-in-Err : goal.returns-in_ok-refused-in-Err
-returns-in_ok-refused-in-Err c =
-    refuses_word c.args.word.now (string_bytes c.in_ok-text-in-Err.text) (said c.in_ok-refused-in-Err.field-0) (refusal_of (kind_of c.in-Err.error)) (error_text (refusal_of (kind_of c.in-Err.error)))
-    (rw c.kind.ensures at (sym c.is_want_of_memory.ensures ∙ c.if-is_want_of_memory.false)) c.in-Err.ensures.refused c.in-Err.ensures.told c.in_ok-text-in-Err.ensures.ok
-    (rw c.as_str.ensures.value at c.in_ok-refused-in-Err.ensures)
+pub returns-in-Err-Text : goal.returns-in-Err-Text
+returns-in-Err-Text c =
+    let f : MeansText c.args.word.now (Err (Text c.in-Err-Text.fault)) = subst (λ e. MeansText c.args.word.now (Err e)) c.in-Err-Text.field-0-is c.in-Err-Text.ensures in
+    stops_weaker (λ a. a ≡ refused c.as_str.result.now) (RefusesWord c.args.word.now) (λ a h. (f.0, f.1, h ∙ ap refused (c.as_str.ensures.value ∙ f.2))) c.refused.result c.refused.ensures
