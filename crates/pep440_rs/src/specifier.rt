@@ -184,7 +184,9 @@ impl VersionSpecifier {
 
     /// The operator and the version, taken out of the specifier.
     pub fn into_parts(self) -> (Operator, Version)
-        ensures { result ≡ (self.operator, self.version) }
+        ensures value { result ≡ (self.operator, self.version) }
+        // Every `~=` stands before two release numbers or more.
+        ensures valid { IsSpec self }
     {
         let VersionSpecifier { operator, version } = self;
         (operator, version)

@@ -146,8 +146,7 @@ pub fn specifier_to_range(
     ensures within { HasOperand specifier → IfOk result (HoldsOnlyMatches specifier) }
     ensures around { HasOperand specifier → IfOk result (HoldsAllMatches specifier) }
 {
-    // From these calls it is known how many release numbers there are at least: for `range_of`, and for `at_max`.
-    let _two_numbers = specifier.operator();
+    // From this call it is known that there is a release number: for `at_max`.
     let _one_number = specifier.version().release();
     let (operator, version) = specifier.into_parts();
     let range = range_of(alloc, operator, version)?;
