@@ -1,46 +1,41 @@
-//! The ranges of specifiers and lists, by either conversion.
-use crate::calls::{list, specifier, version};
+//! The ranges of specifiers and lists, by either conversion, also with each request for memory refused in turn: a call that is out of
+//! memory answers its row when it is made again.
+use crate::calls::{list, printed, specifier, version};
 use crate::specifiers::built::unchecked;
 use pep440_rs::{
     Operator, Prerelease, PrereleaseKind, RangeError, Ranges, Version, VersionSpecifier,
     VersionSpecifiers, release_specifier_to_range, release_specifiers_to_ranges,
     specifier_to_range, specifiers_to_ranges,
 };
+use std::alloc::{AllocError, Global};
 use std::ops::Bound;
 use std::test::Fail;
-
-mod sweeps;
 
 // A text, and its range or refusal as `told` writes it.
 type Row = (&'static str, &'static str);
 
 // The print, then min and max.
-fn marked(rt: HostRuntime, version: &Version) -> Result<String, Fail> {
-    let mut text = format!(in rt.alloc(); "{version}")?;
+fn marked(alloc: Global, version: &Version) -> Result<String, AllocError> {
+    let mut text = version.to_string(alloc)?;
     if let Some(min) = version.min() {
-        text.push_str(format!(in rt.alloc(); "~min{min}")?.as_str())?;
+        write!(text, "~min{min}")?;
     }
     if let Some(max) = version.max() {
-        text.push_str(format!(in rt.alloc(); "~max{max}")?.as_str())?;
+        write!(text, "~max{max}")?;
     }
     Ok(text)
 }
 
-fn bound(rt: HostRuntime, bound: &Bound<Version>) -> Result<String, Fail> {
+fn bound(alloc: Global, bound: &Bound<Version>) -> Result<String, AllocError> {
     match bound {
-        Bound::Included(version) => marked(rt, version),
-        Bound::Excluded(version) => marked(rt, version),
-        Bound::Unbounded => Ok(String::from_str(rt.alloc(), "*")?),
+        Bound::Included(version) | Bound::Excluded(version) => marked(alloc, version),
+        Bound::Unbounded => String::from_str(alloc, "*"),
     }
 }
 
-// The segments one after the other, square for included, round for excluded and unbounded; or why there is no range.
-fn told(rt: HostRuntime, range: Result<Ranges<Version>, RangeError>) -> Result<String, Fail> {
-    let range = match range {
-        Ok(range) => range,
-        Err(error) => return Ok(format!(in rt.alloc(); "{error}")?),
-    };
-    let mut text = String::new(rt.alloc());
+// The segments one after the other, square for included, round for excluded and unbounded.
+fn segments(alloc: Global, range: &Ranges<Version>) -> Result<String, AllocError> {
+    let mut text = String::new(alloc);
     for (start, end) in range.iter() {
         let open = if matches!(start, Bound::Included(_)) {
             '['
@@ -52,23 +47,38 @@ fn told(rt: HostRuntime, range: Result<Ranges<Version>, RangeError>) -> Result<S
         } else {
             ')'
         };
-        let from = bound(rt, start)?;
-        let to = bound(rt, end)?;
-        text.push_str(format!(in rt.alloc(); "{open}{from}, {to}{close}")?.as_str())?;
+        let from = bound(alloc, start)?;
+        let to = bound(alloc, end)?;
+        text.push_str(format!(in alloc; "{open}{from}, {to}{close}")?.as_str())?;
     }
     Ok(text)
+}
+
+// The segments, or why there is no range; asked again where memory was refused.
+fn told(rt: HostRuntime, range: Result<Ranges<Version>, RangeError>) -> Result<String, Fail> {
+    match range {
+        Ok(range) => match segments(rt.alloc(), &range) {
+            Ok(text) => Ok(text),
+            Err(_) => Ok(segments(rt.alloc(), &range)?),
+        },
+        Err(error) => Ok(printed(rt.alloc(), &error)?),
+    }
 }
 
 const REFUSED: &str = "a number of 18446744073709551615 cannot be raised";
 
 // PEP 440, "Version specifiers": by the whole order.
-const WHOLE: [Row; 34] = [
+const WHOLE: [Row; 38] = [
     ("", "(*, *)"),
     ("==1.2.*", "[1.2.dev0, 1.3.dev0)"),
     ("!=1.0.*", "(*, 1.0.dev0)[1.1.dev0, *)"),
     ("===1.0", "[1.0, 1.0]"),
     ("==1.0+x", "[1.0+x, 1.0+x]"),
     ("!=1.0", "(*, 1.0)(1.0, *)"),
+    ("!=1.0a1.dev2+x", "(*, 1.0a1.dev2+x)(1.0a1.dev2+x, *)"),
+    ("!=1.2.*", "(*, 1.2.dev0)[1.3.dev0, *)"),
+    ("~=1.2.3.4.5.6", "[1.2.3.4.5.6, 1.2.3.4.6.dev0)"),
+    (">1.0.post4", "[1.0.post5.dev0, *)"),
     (">=1.0a1", "[1.0a1, *)"),
     ("<=1.0", "(*, 1.0]"),
     ("~=1.2.3", "[1.2.3, 1.3.dev0)"),
@@ -109,7 +119,7 @@ const WHOLE: [Row; 34] = [
 ];
 
 // By releases alone.
-const RELEASES: [Row; 16] = [
+const RELEASES: [Row; 20] = [
     ("", "(*, *)"),
     (">=1!2", "[2, *)"),
     ("==1.2.*", "[1.2, 1.3)"),
@@ -117,6 +127,10 @@ const RELEASES: [Row; 16] = [
     ("==1.0+x", "[1.0, 1.0]"),
     ("===1!1.0", "[1.0, 1.0]"),
     ("!=1.0a1", "(*, 1.0)(1.0, *)"),
+    ("!=1.0a1.dev2+x", "(*, 1.0)(1.0, *)"),
+    ("~=1.2.3.4.5.6", "[1.2.3.4.5.6, 1.2.3.4.6)"),
+    (">1.0.post4", "(1.0, *)"),
+    (">=1.0,<2.0,!=1.5", "[1.0, 1.5)(1.5, 2.0)"),
     ("<=1.0", "(*, 1.0]"),
     ("<1.0a1", "(*, 1.0)"),
     (">1.0.post1", "(1.0, *)"),
@@ -130,26 +144,41 @@ const RELEASES: [Row; 16] = [
 
 // The range of a list by the whole order.
 fn whole_told(rt: HostRuntime, text: &str) -> Result<String, Fail> {
-    let list = list(rt, text)?;
-    told(rt, specifiers_to_ranges(rt.alloc(), list))
+    let range = match specifiers_to_ranges(rt.alloc(), list(rt, text)?) {
+        Err(RangeError::OutOfMemory) => specifiers_to_ranges(rt.alloc(), list(rt, text)?),
+        answer => answer,
+    };
+    told(rt, range)
 }
 
 // The same of the one specifier.
 fn whole_told_alone(rt: HostRuntime, text: &str) -> Result<String, Fail> {
-    let alone = specifier(rt, text)?;
-    told(rt, specifier_to_range(rt.alloc(), alone))
+    let range = match specifier_to_range(rt.alloc(), specifier(rt, text)?) {
+        Err(RangeError::OutOfMemory) => specifier_to_range(rt.alloc(), specifier(rt, text)?),
+        answer => answer,
+    };
+    told(rt, range)
 }
 
 // The range of a list by releases alone.
 fn releases_told(rt: HostRuntime, text: &str) -> Result<String, Fail> {
-    let list = list(rt, text)?;
-    told(rt, release_specifiers_to_ranges(rt.alloc(), list))
+    let range = match release_specifiers_to_ranges(rt.alloc(), list(rt, text)?) {
+        Err(RangeError::OutOfMemory) => release_specifiers_to_ranges(rt.alloc(), list(rt, text)?),
+        answer => answer,
+    };
+    told(rt, range)
 }
 
 // The same of the one specifier.
 fn releases_told_alone(rt: HostRuntime, text: &str) -> Result<String, Fail> {
-    let alone = specifier(rt, text)?;
-    told(rt, release_specifier_to_range(rt.alloc(), alone))
+    let range = match release_specifier_to_range(rt.alloc(), specifier(rt, text)?) {
+        Err(RangeError::OutOfMemory) => release_specifier_to_range(
+            rt.alloc(),
+            specifier(rt, text)?,
+        ),
+        answer => answer,
+    };
+    told(rt, range)
 }
 
 // Whether the text is of one specifier.
@@ -157,28 +186,36 @@ fn is_of_one(rt: HostRuntime, text: &str) -> Result<bool, Fail> {
     Ok(list(rt, text)?.as_slice().len() == 1)
 }
 
+// Whether the text has this range by the whole order, and alone where it is of one specifier.
+fn is_whole(rt: HostRuntime, text: &str, want: &str) -> Result<bool, Fail> {
+    let found = whole_told(rt, text)?;
+    if found.as_str() != want || !is_of_one(rt, text)? {
+        return Ok(found.as_str() == want);
+    }
+    Ok(whole_told_alone(rt, text)?.as_str() == want)
+}
+
+// The same by releases alone.
+fn is_by_releases(rt: HostRuntime, text: &str, want: &str) -> Result<bool, Fail> {
+    let found = releases_told(rt, text)?;
+    if found.as_str() != want || !is_of_one(rt, text)? {
+        return Ok(found.as_str() == want);
+    }
+    Ok(releases_told_alone(rt, text)?.as_str() == want)
+}
+
 #[test]
-fn whole(rt: HostRuntime) -> Result<(), Fail> {
+fn sweep_whole(rt: HostRuntime) -> Result<(), Fail> {
     for (text, want) in WHOLE {
-        let found = whole_told(rt, text)?;
-        assert!(rt; found.as_str() == want, "{text}: {found}");
-        if is_of_one(rt, text)? {
-            let found = whole_told_alone(rt, text)?;
-            assert!(rt; found.as_str() == want, "{text} alone: {found}");
-        }
+        assert!(rt; is_whole(rt, text, want)?, "{text}");
     }
     Ok(())
 }
 
 #[test]
-fn releases(rt: HostRuntime) -> Result<(), Fail> {
+fn sweep_releases(rt: HostRuntime) -> Result<(), Fail> {
     for (text, want) in RELEASES {
-        let found = releases_told(rt, text)?;
-        assert!(rt; found.as_str() == want, "{text}: {found}");
-        if is_of_one(rt, text)? {
-            let found = releases_told_alone(rt, text)?;
-            assert!(rt; found.as_str() == want, "{text} alone: {found}");
-        }
+        assert!(rt; is_by_releases(rt, text, want)?, "{text}");
     }
     Ok(())
 }
