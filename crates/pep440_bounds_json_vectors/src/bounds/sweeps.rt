@@ -1,5 +1,5 @@
-//! The calls that make specifiers of bounds, with one request for memory refused: of two calls one answers at most
-//! its want of memory, and every other answer is that with ample memory.
+//! The calls that make specifiers of bounds, with one request for memory refused: of two calls at most one
+//! is out of memory, and every other answer is that with ample memory.
 ghost use Rattle.std.specs.Prelude.{◌<◌, length, IfOk};
 ghost use Rattle.pep440_rs.specs.Agreement.{IsReleaseOnly};
 
@@ -18,7 +18,7 @@ fn release(rt: HostRuntime, numbers: &[u64]) -> Result<Version, AllocError>
     Version::new(rt.alloc(), numbers)
 }
 
-// Whether the answer is this operator's specifier, or want of memory.
+// Whether the answer is this operator's specifier, or out of memory.
 fn is_of(answer: &Result<Option<VersionSpecifier>, BoundError>, operator: Operator) -> bool {
     match answer {
         Ok(Some(member)) => *member.operator() == operator,

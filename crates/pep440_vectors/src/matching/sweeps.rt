@@ -1,4 +1,4 @@
-//! Matching by `===`, with one request for memory refused: it answers what it answers with ample memory, or its want of
+//! Matching by `===`, with one request for memory refused: it answers what it answers with ample memory, or is out of
 //! memory, and then, asked again, what it answers with ample memory.
 use pep440_rs::{Version, VersionSpecifier, VersionSpecifiers};
 use std::test::Fail;
