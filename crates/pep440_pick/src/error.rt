@@ -1,5 +1,5 @@
 //! Why a text is no requirement, and the text of that.
-ghost use Rattle.std.specs.Prelude.{◌≡◌, Some};
+ghost use Rattle.std.specs.Prelude.{◌≡◌};
 ghost use Rattle.pep440_pick.specs.Requirements.{requirement_refusal_of};
 ghost use Rattle.pep440_pick.specs.RequirementTexts.{requirement_text_of};
 ghost use Rattle.pep440_pick.specs.declared.error.RequirementError.TheVariants.{OutOfMemory};

@@ -93,7 +93,7 @@ fn list_in(text: &str) -> Option<&str>
     }
 }
 
-// What follows the name, which is one.
+// The parts of a text, by the name and what follows it behind blanks.
 fn named<'a>(alloc: Global, name: &'a str, rest: &'a str) -> Result<Parts<'a>, RequirementError>
     ensures value { FrontGives result (named name.now rest.now) }
     ensures lifted { IfErr result IsRequirementLifted }

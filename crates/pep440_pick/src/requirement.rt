@@ -24,8 +24,8 @@ pub struct Requirement {
 impl Requirement {
     ghost use Rattle.pep440_pick.specs.Requirements.{IsRequirementLifted, RequirementAnswers, needed, requirement_refusal_of};
 
-    /// What the text means: a name, extras in brackets if there are any, and a list of specifiers, with parentheses around
-    /// it or without. Tabs, line feeds, form feeds, carriage returns and spaces may stand before, between and after them.
+    /// What the text means: a name, extras in brackets if there are any, and a list of specifiers (PEP 440, "Version
+    /// specifiers"), with parentheses around it or without. Tabs, line feeds, form feeds, carriage returns and spaces may stand before, between and after them.
     ///
     /// Takes memory. Every text that means nothing is refused, for the first reason that holds of it in the order of the
     /// kinds of `RequirementError`; only where a request for memory was refused the kind may be `OutOfMemory` instead.
