@@ -103,7 +103,7 @@ fn local_is_refused(rt: HostRuntime) -> Result<(), Fail> {
         refused_operator(&error) == Some(Operator::LessThan),
         "an upper bound"
     );
-    assert!(rt; error != BoundError::OutOfMemory, "no want of memory");
+    assert!(rt; error != BoundError::OutOfMemory, "memory");
     let lack = BoundError::OutOfMemory.to_string(rt.alloc())?;
     assert!(rt; lack.as_str() == "out of memory", "{lack}");
     Ok(())

@@ -23,7 +23,7 @@ pub no_extras_named : (name rest : List ℕ) (e : RequirementError) → is_name 
 no_extras_named name rest e is (inl h) = subst (λ x. IfSome (requirement_refusal_of x) (λ f. named name rest ≡ Err f)) (sym h.0) (is_named name rest is ∙ ap (with_extras name) h.1)
 no_extras_named name rest e is (inr h) = subst (λ x. IfSome (requirement_refusal_of x) (λ f. named name rest ≡ Err f)) (sym h) tt
 
--- want of memory is said by the last kind, and the text of the error is that of the refusal
+-- out of memory is said by the last kind, and the text of the error is that of the refusal
 pub extras_lifted : (e : RequirementError) (P : Type 0) → ((e ≡ InvalidExtras) × P) ⊎ (e ≡ OutOfMemory) → requirement_refusal_of e ≡ None → e ≡ OutOfMemory
 extras_lifted e P (inl h) none = let never = ap requirement_refusal_of (sym h.0) ∙ none in cc never
 extras_lifted e P (inr h) none = h

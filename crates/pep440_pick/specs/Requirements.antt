@@ -24,7 +24,7 @@ requirement_refusal_of error.Unclosed = Some Unclosed
 requirement_refusal_of (error.Specifiers e) = option_map (λ f. Specifiers (line_of e) f) (list_refusal_of (list_kind_of e))
 requirement_refusal_of error.OutOfMemory = None
 
--- want of memory is said by the last kind, and not inside another
+-- out of memory is said by the last kind, and not inside another
 abbrev pub IsRequirementLifted : RequirementError → Type 0
 IsRequirementLifted e = requirement_refusal_of e ≡ None → e ≡ error.OutOfMemory
 

@@ -40,7 +40,7 @@ impl Requirement {
         ensures decided { (f : RequirementRefusal) → RefusesRequirement text.now f → RequirementAnswers result (Err f) }
         // The error's text is the refusal's.
         ensures told { IfErr result (λ e. IfSome (requirement_refusal_of e) (λ f. requirement_text_of e ≡ Some (requirement_refusal_text f))) }
-        // Want of memory is the last kind, and stands in no other.
+        // Out of memory is the last kind, and stands in no other.
         ensures lifted { IfErr result IsRequirementLifted }
         // The version of each member is one that a text can give beside the operator, as the agreement of ranges asks.
         ensures operand { IfOk result (λ r. All HasOperand r.specifiers) }

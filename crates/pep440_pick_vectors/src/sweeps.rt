@@ -1,5 +1,5 @@
 //! Each call that takes memory, made twice with one request for memory refused: it answers what it answers with ample
-//! memory, or, at most once, its want of memory.
+//! memory, or, at most once, 'out of memory'.
 use pep440_pick::{Requirement, RequirementError, allowed, newest};
 use pep440_rs::{RangeError, Version, VersionSpecifiers};
 use std::test::Fail;

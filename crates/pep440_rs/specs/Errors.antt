@@ -47,7 +47,7 @@ specifier_refusal_of (parse.InvalidSpecifier e) = Some (InvalidSpecifier (build_
 specifier_refusal_of (parse.InvalidTrailing rest) = Some (InvalidTrailing (string_bytes rest))
 specifier_refusal_of parse.OutOfMemory = None
 
--- want of memory is said by the last kind, and not inside another
+-- out of memory is said by the last kind, and not inside another
 abbrev pub IsLifted : ParseErrorKind → Type 0
 IsLifted kind = specifier_refusal_of kind ≡ None → kind ≡ parse.OutOfMemory
 

@@ -23,7 +23,7 @@ pub record IsSpan (text : List ℕ) (kind : SpecifiersErrorKind) : Type 0 where
   pub starts : IsCharBoundary text (span_of kind).0
   pub stops : IsCharBoundary text (span_of kind).1
 
--- want of memory is said by the last kind, and not inside another
+-- out of memory is said by the last kind, and not inside another
 abbrev pub IsListLifted : SpecifiersErrorKind → Type 0
 IsListLifted kind = list_refusal_of kind ≡ None → kind ≡ OutOfMemory
 

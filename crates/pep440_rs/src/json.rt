@@ -37,7 +37,7 @@ fn string<E>(value: &Value) -> Result<&str, JsonError<E>>
     value.as_str().ok_or_else(|| JsonError::NotAString)
 }
 
-// The refusal of a text, or want of memory.
+// The refusal of a text, or out of memory.
 fn of_version(error: VersionParseError) -> JsonError<VersionParseError>
     ensures { MatchOption (refusal_of (kind_of error)) (result ≡ OutOfMemory) (λ _. result ≡ Text error) }
 {
@@ -47,7 +47,7 @@ fn of_version(error: VersionParseError) -> JsonError<VersionParseError>
     }
 }
 
-// The refusal of a text, or want of memory.
+// The refusal of a text, or out of memory.
 fn of_specifier(error: VersionSpecifierParseError) -> JsonError<VersionSpecifierParseError>
     requires { IsLifted (parse_kind_of error) }
     ensures { MatchOption (specifier_refusal_of (parse_kind_of error)) (result ≡ OutOfMemory) (λ _. result ≡ Text error) }
@@ -58,7 +58,7 @@ fn of_specifier(error: VersionSpecifierParseError) -> JsonError<VersionSpecifier
     }
 }
 
-// The refusal of a text, or want of memory.
+// The refusal of a text, or out of memory.
 fn of_list(error: VersionSpecifiersParseError) -> JsonError<VersionSpecifiersParseError>
     requires { IsListLifted (list_kind_of error) }
     ensures { MatchOption (list_refusal_of (list_kind_of error)) (result ≡ OutOfMemory) (λ _. result ≡ Text error) }
@@ -93,7 +93,7 @@ pub fn version_from_json(
     ensures found { IfOk result (λ v. (t : List ℕ) × IsString value.now t × Derives t v) }
     // What the text means is answered, unless memory runs out.
     ensures only { (t : List ℕ) (r : Record) → IsString value.now t → Derives t r → JsonAnswers (λ e. refusal_of (kind_of e)) result (Ok r) }
-    // A refusal of the text is one that its fronts tell, and not want of memory.
+    // A refusal of the text is one that its fronts tell, and not out of memory.
     ensures refused { IfErr result (λ e. IfText e (λ inner. IsSomeAnd (refusal_of (kind_of inner)) (λ f. (t : List ℕ) × IsString value.now t × Refuses t f))) }
     // The error's text is the refusal's.
     ensures told { IfErr result (λ e. IfText e (λ inner. IfSome (refusal_of (kind_of inner)) (λ f. error_text (refusal_of (kind_of inner)) ≡ Some (refusal_text f)))) }
@@ -147,7 +147,7 @@ impl VersionSpecifier {
         ensures found { IfOk result (λ s. (t : List ℕ) × IsString value.now t × DerivesSpecifier t s) }
         // What the text means is answered, unless memory runs out.
         ensures only { (t : List ℕ) (s : Spec) → IsString value.now t → DerivesSpecifier t s → JsonAnswers (λ e. specifier_refusal_of (parse_kind_of e)) result (Ok s) }
-        // A refusal of the text is the one of the text, and not want of memory.
+        // A refusal of the text is the one of the text, and not out of memory.
         ensures refused { IfErr result (λ e. IfText e (λ inner. IsSomeAnd (specifier_refusal_of (parse_kind_of inner)) (λ f. (t : List ℕ) × IsString value.now t × RefusesSpecifier t f))) }
         // The error's text is the refusal's.
         ensures told { IfErr result (λ e. IfText e (λ inner. IfSome (specifier_refusal_of (parse_kind_of inner)) (λ f. specifier_text_of (parse_kind_of inner) ≡ Some (specifier_refusal_text f)))) }
@@ -186,7 +186,7 @@ impl VersionSpecifiers {
         ensures found { IfOk result (λ list. (t : List ℕ) × IsString value.now t × DerivesList t list) }
         // What the text means is answered, unless memory runs out.
         ensures only { (t : List ℕ) (list : List Spec) → IsString value.now t → DerivesList t list → JsonAnswers (λ e. list_refusal_of (list_kind_of e)) result (Ok list) }
-        // A refusal of the text is that of its first refused piece, and not want of memory.
+        // A refusal of the text is that of its first refused piece, and not out of memory.
         ensures refused { IfErr result (λ e. IfText e (λ inner. IsSomeAnd (list_refusal_of (list_kind_of inner)) (λ f. (t : List ℕ) × IsString value.now t × RefusesList t f))) }
         // The error's text is the refusal's, with the whole text and a line that marks the piece.
         ensures told { IfErr result (λ e. IfText e (λ inner. IfSome (list_refusal_of (list_kind_of inner)) (λ f. list_text_of (list_kind_of inner) (line_of inner) ≡ Some (list_refusal_text f (line_of inner))))) }

@@ -134,7 +134,7 @@ impl VersionSpecifiers {
         ensures told { IfErr result (λ e. IfSome (list_refusal_of (list_kind_of e)) (λ f. list_text_of (list_kind_of e) (line_of e) ≡ Some (list_refusal_text f text.now))) }
         // The error holds the whole text, and none where memory ran out.
         ensures line { IfErr result (λ e. line_of e ≡ line_for text.now (list_kind_of e)) }
-        // Want of memory is the last kind, and stands in no other.
+        // Out of memory is the last kind, and stands in no other.
         ensures lifted { IfErr result (λ e. IsListLifted (list_kind_of e)) }
         // The print of what some text means is answered with that, unless memory runs out.
         ensures again { (t : List ℕ) (list : List Spec) → DerivesList t list → text.now ≡ list_print list → ListAnswers result (Ok list) }

@@ -235,7 +235,7 @@ impl VersionSpecifier {
         ensures decided { (f : SpecifierRefusal) → RefusesSpecifier text.now f → SpecifierAnswers result (Err f) }
         // The error's text is the refusal's.
         ensures told { IfErr result (λ e. IfSome (specifier_refusal_of (parse_kind_of e)) (λ f. specifier_text_of (parse_kind_of e) ≡ Some (specifier_refusal_text f))) }
-        // Want of memory is the last kind, and stands in no other.
+        // Out of memory is the last kind, and stands in no other.
         ensures lifted { IfErr result (λ e. IsLifted (parse_kind_of e)) }
         // The print of what some text means is answered with that, unless memory runs out.
         ensures again { (t : List ℕ) (s : Spec) → DerivesSpecifier t s → text.now ≡ spec_print s → SpecifierAnswers result (Ok s) }

@@ -144,7 +144,7 @@ list_or_not error.Unclosed f e = same Unclosed f e
 list_or_not (error.Specifiers inner) f e = of_list (list_refusal_of (list_kind_of inner)) (line_of inner) f e
 list_or_not error.OutOfMemory f e = some_none f e
 
--- an error that isn't want of memory tells the refusal of its text, and has its text
+-- an error that isn't 'out of memory' tells the refusal of its text, and has its text
 told : (text t : List ℕ) (o : Option RequirementRefusal) (m : Option (List ℕ)) → IfSome o (RefusesRequirement text) → IfSome o (λ f. m ≡ Some (requirement_refusal_text f)) → IfSome m (λ bs. t ≡ bs)
     → (o ≡ None) ⊎ ((f : RequirementRefusal) × (o ≡ Some f) × RefusesRequirement text f × (t ≡ requirement_refusal_text f))
 told text t None m why text_is shown = inl refl

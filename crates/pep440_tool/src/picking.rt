@@ -73,11 +73,7 @@ fn refuse_list_line(alloc: Global, place: usize, fault: &str) -> Stop
 }
 
 /// The requirement that the line means, none where it is skipped.
-fn read_requirement(
-    alloc: Global,
-    place: usize,
-    line: &[u8],
-) -> Result<Option<Requirement>, Stop>
+fn read_requirement(alloc: Global, place: usize, line: &[u8]) -> Result<Option<Requirement>, Stop>
     ensures { MeansNeed place line.now result }
 {
     if is_skipped(line) {

@@ -15,7 +15,7 @@ pub of_text : {A X : Type 0} (P : A → X → Type 0) (a b : A) (o : Option A) (
 of_text P a b o x first second fact = rw (one_text a b o first second) fact
 
 module _ {E F : Type 0} (refusal : E → Option F) where
-  -- the error of a text, or want of memory
+  -- the error of a text, or out of memory
   abbrev pub IsMade : E → JsonError E → Type 0
   IsMade e j = MatchOption (refusal e) (j ≡ OutOfMemory) (λ _. j ≡ Text e)
 

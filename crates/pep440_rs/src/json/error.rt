@@ -13,7 +13,7 @@ use std::fmt;
 pub enum JsonError<E> {
     /// The value is no string. So is every number refused, a fraction too.
     NotAString,
-    /// The text of the string is refused, and not for want of memory.
+    /// The text of the string is refused, and not because memory ran out.
     Text(E),
     /// Memory ran out, which says nothing of the value.
     OutOfMemory,

@@ -80,7 +80,7 @@ impl VersionSpecifiersParseError {
         self.line.as_str()
     }
 
-    // Want of memory; takes none.
+    // Out of memory; takes none.
     pub(crate) fn out_of_memory(alloc: Global) -> VersionSpecifiersParseError
         ensures kind { list_kind_of result ≡ OutOfMemory }
         ensures line { line_of result ≡ [] }
@@ -91,7 +91,7 @@ impl VersionSpecifiersParseError {
         }
     }
 
-    // This kind of the text, or want of memory.
+    // This kind of the text, or out of memory.
     pub(crate) fn of_text(
         alloc: Global,
         text: &str,
