@@ -1,0 +1,9 @@
+use Rattle.pep440_c.proofs.Placed.{placed_more, stops_at}
+use Rattle.pep440_c.proofs.batch.read_all.Goals as goal
+
+pub returns-in-Err : goal.returns-in-Err
+returns-in-Err c = stops_at c.args.texts.now c.loop-place.place _ c.loop-place.pairs.items c.in-Err.fault c.at.result c.loop-place-test.true c.at.ensures c.in-Err.ensures c.loop-place.invariant
+
+pub loop-place-preserved : goal.loop-place-preserved
+loop-place-preserved c = placed_more c.args.texts.now c.loop-place.place _ c.loop-place.pairs.items c.push.new.self.items c.in-Ok.version c.loop-place-test.true
+    c.in-Ok.ensures c.in_ok-push-in-Ok.ensures.items c.loop-place.invariant

@@ -1,0 +1,85 @@
+-- What each call on one text answers.
+use Rattle.std.specs.Prelude.{◌≡◌, ◌⊎◌, ℕ, ℤ, pos, negsuc, List, [], Bool, Option, None, Some, codes, length, is_some, map}
+use Rattle.std.specs.List.{list_any}
+use Rattle.std.specs.Option.{option_map_or}
+use Rattle.std.specs.declared.cmp.Ordering.{Ordering}
+use Rattle.std.specs.declared.cmp.Ordering.TheVariants.{Less, Equal, Greater}
+use Rattle.pep440_rs.specs.Lists.{list_print}
+use Rattle.pep440_rs.specs.Matching.{any_prerelease, has_local, list_matches}
+use Rattle.pep440_rs.specs.Specifiers.{Spec}
+use Rattle.pep440_version.specs.Key.{record_cmp}
+use Rattle.pep440_version.specs.Print.{print}
+use Rattle.pep440_version.specs.Record.{Record}
+use Rattle.pep440_version.specs.declared.prerelease.Prerelease.{Prerelease}
+use Rattle.pep440_version.specs.declared.prerelease.PrereleaseKind.{PrereleaseKind}
+use Rattle.pep440_version.specs.declared.prerelease.PrereleaseKind.TheVariants.{Alpha, Beta, Rc}
+use Rattle.pep440_c.specs.Meaning.{MeansBytes, MeansListBytes, RefusesBytes, RefusesListBytes, TellsWhy, TellsWhyNoList}
+use Rattle.pep440_c.specs.Statuses.{Fails, PutsFront}
+use Rattle.pep440_c.specs.declared.Parts.{Parts}
+
+-- ---- texts
+
+-- the normal form of a version
+abbrev pub IsNormal : List ℕ → List ℕ → Type 0
+IsNormal text bytes = (r : Record) × MeansBytes text r × (bytes ≡ print r)
+
+-- the normal form of a list
+abbrev pub IsNormalList : List ℕ → List ℕ → Type 0
+IsNormalList text bytes = (list : List Spec) × MeansListBytes text list × (bytes ≡ list_print list)
+
+-- why the text means no version; nothing where it means one
+abbrev pub IsRefusal : List ℕ → List ℕ → Type 0
+IsRefusal text bytes = ((r : Record) × MeansBytes text r × (bytes ≡ [])) ⊎ TellsWhy text bytes
+
+-- why the text means no list; nothing where it means one
+abbrev pub IsListRefusal : List ℕ → List ℕ → Type 0
+IsListRefusal text bytes = ((list : List Spec) × MeansListBytes text list × (bytes ≡ [])) ⊎ TellsWhyNoList text bytes
+
+-- ---- order and matching
+
+-- below, equal, above
+abbrev pub order_number : Ordering → ℤ
+order_number Less = negsuc 0
+order_number Equal = pos 0
+order_number Greater = pos 1
+
+-- how the left version stands to the right one
+abbrev pub Orders : List ℕ → List ℕ → Ordering → Type 0
+Orders left right order = (r q : Record) × MeansBytes left r × MeansBytes right q × (order ≡ record_cmp r q)
+
+-- whether the list contains the version
+abbrev pub Contains : List ℕ → List ℕ → Bool → Type 0
+Contains list_text text contained = (list : List Spec) × (r : Record) × MeansListBytes list_text list × MeansBytes text r × (contained ≡ list_matches list r)
+
+-- the list is read first
+abbrev pub RefusesSecond : List ℕ → List ℕ → Type 0
+RefusesSecond list_text text = (list : List Spec) × MeansListBytes list_text list × RefusesBytes text
+
+-- whether a version of the list is a pre-release or a developmental release
+abbrev pub NamesPrerelease : List ℕ → Bool → Type 0
+NamesPrerelease text any = (list : List Spec) × MeansListBytes text list × (any ≡ list_any (λ (s : Spec). any_prerelease s.version) list)
+
+-- ---- parts
+
+abbrev pub kind_number : PrereleaseKind → ℕ
+kind_number Alpha = 1
+kind_number Beta = 2
+kind_number Rc = 3
+
+-- the parts of the record; 0 where it has none
+pub record TellsParts (r : Record) (p : Parts) : Type 0 where
+  pub epoch : p.epoch ≡ r.epoch
+  pub pre : p.pre ≡ option_map_or (λ (pre : Prerelease). pre.number) r.pre 0
+  pub post : p.post ≡ option_map_or (λ n. n) r.post 0
+  pub dev : p.dev ≡ option_map_or (λ n. n) r.dev 0
+  pub release : p.release_length ≡ length r.release
+  pub kind : p.pre_kind ≡ option_map_or (λ (pre : Prerelease). kind_number pre.kind) r.pre 0
+  pub has_post : p.has_post ≡ is_some r.post
+  pub has_dev : p.has_dev ≡ is_some r.dev
+  pub has_local : p.has_local ≡ has_local r
+
+-- the parts are told, and the release is put at the front of the caller's numbers, or there are too few; or all stays
+abbrev pub PartsAnswer : List ℕ → Parts → Parts → List ℕ → List ℕ → ℕ → Type 0
+PartsAnswer text old parts old_release release status =
+    ((r : Record) × MeansBytes text r × TellsParts r parts × PutsFront r.release old_release release status)
+    ⊎ ((parts ≡ old) × (release ≡ old_release) × Fails (RefusesBytes text) ⊥ status)

@@ -1,0 +1,96 @@
+-- What each call on many texts answers. Places count from 0.
+use Rattle.std.specs.Prelude.{◌≡◌, ◌⊎◌, ◌+◌, ◌≤◌, ℕ, List, [], ◌∷◌, ◌++◌, drop, length, map, if◌then◌else◌, Result, Ok, Err}
+use Rattle.std.specs.List.{AllZip, enumerate_from, flat_map}
+use Rattle.std.specs.List.Sorted.{IsPermutation, IsSorted, IsStable}
+use Rattle.std.specs.Ordering.{on}
+use Rattle.std.specs.declared.cmp.Ordering.{Ordering}
+use Rattle.pep440_rs.specs.Matching.{list_matches}
+use Rattle.pep440_rs.specs.Specifiers.{Spec}
+use Rattle.pep440_version.specs.Key.{record_cmp}
+use Rattle.pep440_version.specs.Record.{Record}
+use Rattle.pep440_c.specs.declared.batch.Stop.{Stop}
+use Rattle.pep440_c.specs.declared.batch.Stop.TheVariants as stop
+use Rattle.pep440_c.specs.declared.texts.Fault.{Fault}
+use Rattle.pep440_c.specs.declared.texts.Fault.TheVariants as fault
+use Rattle.pep440_c.specs.Meaning.{MeansBytes, MeansListBytes, RefusesBytes, RefusesListBytes}
+use Rattle.pep440_c.specs.Statuses.{Fails, PutsFront}
+
+-- ---- which of the texts a list contains
+
+-- 1 contained, 0 not, 2 no version
+abbrev pub IsMark : List Spec → List ℕ → ℕ → Type 0
+IsMark list text mark = ((r : Record) × MeansBytes text r × (mark ≡ if list_matches list r then 1 else 0)) ⊎ (RefusesBytes text × (mark ≡ 2))
+
+-- each text has its mark, in its place
+abbrev pub Marks : List ℕ → List (List ℕ) → List ℕ → Type 0
+Marks list_text texts marks = (list : List Spec) × MeansListBytes list_text list × AllZip (IsMark list) texts marks
+
+-- the marks are put at the front of the caller's, or there are too few; or all stays
+abbrev pub FilterAnswer : List ℕ → List (List ℕ) → List ℕ → List ℕ → ℕ → Type 0
+FilterAnswer list_text texts old marks status =
+    ((found : List ℕ) × Marks list_text texts found × PutsFront found old marks status)
+    ⊎ ((marks ≡ old) × Fails ⊥ (RefusesListBytes list_text) status)
+
+-- ---- texts that are all to be versions
+
+-- the text at this place is the first that means no version
+pub record RefusesFirst (texts : List (List ℕ)) (place : ℕ) : Type 0 where
+  pub before : List (List ℕ)
+  pub text : List ℕ
+  pub after : List (List ℕ)
+  pub split : texts ≡ before ++ (text ∷ after)
+  pub versions : List Record
+  pub means : AllZip MeansBytes before versions
+  pub refused : RefusesBytes text
+  pub at : place ≡ length before
+
+-- the place of the first that means no version is told; or memory ran out
+abbrev pub StopsAt : List (List ℕ) → ℕ → ℕ → ℕ → Type 0
+StopsAt texts old_at at status = ((status ≡ 1) × RefusesFirst texts at) ⊎ ((status ≡ 3) × (at ≡ old_at))
+
+-- by version alone
+abbrev pub placed_cmp : ℕ × Record → ℕ × Record → Ordering
+placed_cmp = on (λ (p : ℕ × Record). p.1) record_cmp
+
+-- the places of the versions in order: nothing is lost or made, versions never fall, and equal ones stay in the order given
+pub record ArrangesPlaces (given : List (ℕ × Record)) (places : List ℕ) : Type 0 where
+  pub sorted : List (ℕ × Record)
+  pub same : IsPermutation given sorted
+  pub rises : IsSorted placed_cmp sorted
+  pub stable : IsStable placed_cmp given sorted
+  pub told : places ≡ map (λ (p : ℕ × Record). p.0) sorted
+
+-- each text means a version, and these are their places in order
+abbrev pub Sorts : List (List ℕ) → List ℕ → Type 0
+Sorts texts places = (versions : List Record) × AllZip MeansBytes texts versions × ArrangesPlaces (enumerate_from 0 versions) places
+
+-- the places are put at the front of the caller's, or there are too few; or all stays
+abbrev pub SortAnswer : List (List ℕ) → List ℕ → List ℕ → ℕ → ℕ → ℕ → Type 0
+SortAnswer texts old places old_at at status =
+    ((found : List ℕ) × Sorts texts found × PutsFront found old places status × (at ≡ old_at))
+    ⊎ ((places ≡ old) × StopsAt texts old_at at status)
+
+-- why nothing is given, where memory didn't run out
+abbrev pub StopsAll : List (List ℕ) → Stop → Type 0
+StopsAll texts (stop.RefusedAt place) = RefusesFirst texts place
+StopsAll texts stop.OutOfMemory = Unit {0}
+
+-- what holds of what is given, or why nothing is
+abbrev pub GivesAll : {X : Type 0} → List (List ℕ) → (X → Type 0) → Result X Stop → Type 0
+GivesAll texts P (Ok x) = P x
+GivesAll texts P (Err s) = StopsAll texts s
+
+-- why the texts are not read, where the one at this place is not
+abbrev pub stop_at : ℕ → Fault → Stop
+stop_at place fault.VersionRefused = stop.RefusedAt place
+stop_at place fault.ListRefused = stop.RefusedAt place
+stop_at place fault.OutOfMemory = stop.OutOfMemory
+
+-- the versions that the texts mean, with their places
+abbrev pub MeansPlaced : List (List ℕ) → List (ℕ × Record) → Type 0
+MeansPlaced texts given = (versions : List Record) × AllZip MeansBytes texts versions × (given ≡ enumerate_from 0 versions)
+
+-- the place that was refused is told, and the status
+abbrev pub TellsStop : Stop → ℕ → ℕ → ℕ → Type 0
+TellsStop (stop.RefusedAt place) old new status = (new ≡ place) × (status ≡ 1)
+TellsStop stop.OutOfMemory old new status = (new ≡ old) × (status ≡ 3)

@@ -1,0 +1,5 @@
+pub mod Meaning
+pub mod Statuses
+pub mod Answers
+pub mod Batches
+pub mod Room

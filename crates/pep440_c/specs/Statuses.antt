@@ -1,0 +1,43 @@
+-- How a call ends: its status, and what it leaves in the caller's memory. 0 answered, 1 a version text is refused, 2 a list text is
+-- refused, 3 out of memory, 4 too little room.
+use Rattle.std.specs.Prelude.{◌≡◌, ◌⊎◌, ◌≤◌, ◌<◌, ℕ, List, ◌++◌, drop, length, Result, Ok, Err}
+use Rattle.pep440_c.specs.declared.texts.Fault.{Fault}
+use Rattle.pep440_c.specs.declared.texts.Fault.TheVariants as fault
+
+-- the status of a call that gives nothing
+abbrev pub fault_status : Fault → ℕ
+fault_status fault.VersionRefused = 1
+fault_status fault.ListRefused = 2
+fault_status fault.OutOfMemory = 3
+
+module _ (version list : Type 0) where
+  -- why nothing is given, where memory didn't run out: a version text is refused, or a list text
+  abbrev pub Faults : Fault → Type 0
+  Faults fault.VersionRefused = version
+  Faults fault.ListRefused = list
+  Faults fault.OutOfMemory = Unit {0}
+
+  -- what holds of what is given, or why nothing is
+  abbrev pub Gives : {X : Type 0} → (X → Type 0) → Result X Fault → Type 0
+  Gives P (Ok x) = P x
+  Gives P (Err f) = Faults f
+
+  -- the status says why nothing is given
+  abbrev pub Fails : ℕ → Type 0
+  Fails status = (f : Fault) × Faults f × (status ≡ fault_status f)
+
+  -- a value of which this holds is put in the place of the caller's, or that stays
+  abbrev pub Puts : {X : Type 0} → (X → Type 0) → X → X → ℕ → Type 0
+  Puts P old new status = ((status ≡ 0) × P new) ⊎ ((new ≡ old) × Fails status)
+
+-- the items stand at the front of the caller's, and behind them these are as they were; or there are too few, and all stay
+abbrev pub PutsFront : {X : Type 0} → List X → List X → List X → ℕ → Type 0
+PutsFront items old new status =
+    ((status ≡ 0) × (length items ≤ length old) × (new ≡ items ++ drop (length items) old))
+    ⊎ ((status ≡ 4) × (length old < length items) × (new ≡ old))
+
+-- bytes of which this holds are put at the front of the caller's, or there are too few; how many it takes is told. Or all stays
+abbrev pub PutsBytes : Type 0 → Type 0 → (List ℕ → Type 0) → List ℕ → List ℕ → ℕ → ℕ → ℕ → Type 0
+PutsBytes version list P old new old_written written status =
+    ((bytes : List ℕ) × P bytes × (written ≡ length bytes) × PutsFront bytes old new status)
+    ⊎ ((new ≡ old) × (written ≡ old_written) × Fails version list status)

@@ -1,0 +1,158 @@
+// Many texts in one call.
+ghost use Rattle.std.specs.Prelude.{◌≡◌, map, IfOk};
+ghost use Rattle.std.specs.List.{AllZip};
+ghost use Rattle.pep440_c.specs.Batches.{ArrangesPlaces, GivesAll, IsMark, Marks, MeansPlaced, Sorts, TellsStop, placed_cmp, stop_at};
+ghost use Rattle.pep440_c.specs.Meaning.{RefusesListBytes};
+ghost use Rattle.pep440_c.specs.Statuses.{Gives};
+ghost use Rattle.pep440_c.specs.declared.batch.Stop.TheVariants.{OutOfMemory};
+
+use crate::texts::{Fault, read, read_list};
+use pep440_rs::{Version, VersionSpecifiers};
+use std::alloc::{AllocError, AllocFailed, Global};
+use std::cmp::Ordering;
+
+const LEFT_OUT: u8 = 0;
+
+const CONTAINED: u8 = 1;
+
+const REFUSED: u8 = 2;
+
+/// Why many texts are not read.
+#[derive(Clone, Copy, Debug)]
+pub(crate) enum Stop {
+    /// The text at this place is the first that means no version.
+    RefusedAt(usize),
+    /// Memory ran out.
+    OutOfMemory,
+}
+
+impl From<AllocError> for Stop {
+    ghost from_gives = { λ _ stop. stop ≡ OutOfMemory };
+
+    fn from(_refused: AllocError) -> Stop {
+        Stop::OutOfMemory
+    }
+}
+
+impl<T: Drop> From<AllocFailed<T>> for Stop {
+    ghost from_gives = { λ _ stop. stop ≡ OutOfMemory };
+
+    fn from(_refused: AllocFailed<T>) -> Stop {
+        Stop::OutOfMemory
+    }
+}
+
+impl Stop {
+    // Why the texts are not read, where the one at this place is not.
+    fn at(place: usize, fault: Fault) -> Stop
+        ensures { result ≡ stop_at place fault }
+    {
+        match fault {
+            Fault::VersionRefused | Fault::ListRefused => Stop::RefusedAt(place),
+            Fault::OutOfMemory => Stop::OutOfMemory,
+        }
+    }
+}
+
+// What the list says of the text.
+fn mark(alloc: Global, list: &VersionSpecifiers, text: &[u8]) -> Result<u8, AllocError>
+    ensures { IfOk result (IsMark list.now text.now) }
+{
+    match read(alloc, text) {
+        Ok(version) => {
+            if list.contains(alloc, &version)? {
+                Ok(CONTAINED)
+            } else {
+                Ok(LEFT_OUT)
+            }
+        }
+        Err(Fault::OutOfMemory) => Err(AllocError),
+        Err(_) => Ok(REFUSED),
+    }
+}
+
+// Of each text, what the list says of it.
+fn marks_of(
+    alloc: Global,
+    list: &VersionSpecifiers,
+    texts: &[&[u8]],
+) -> Result<Vec<u8>, AllocError>
+    ensures { IfOk result (λ found. AllZip (IsMark list.now) (map (λ t. t.now) texts.now) found.items) }
+{
+    let mut found = Vec::with_capacity(alloc, texts.len())?;
+    for text in texts {
+        let said = mark(alloc, list, text)?;
+        found.push(said)?;
+    }
+    Ok(found)
+}
+
+/// Of each text, whether the list contains it.
+pub(crate) fn marks(alloc: Global, list: &[u8], texts: &[&[u8]]) -> Result<Vec<u8>, Fault>
+    ensures { Gives ⊥ (RefusesListBytes list.now) (λ found. Marks list.now (map (λ t. t.now) texts.now) found.items) result }
+{
+    let specifiers = read_list(alloc, list)?;
+    Ok(marks_of(alloc, &specifiers, texts)?)
+}
+
+// The versions that the texts mean, with their places.
+fn read_all(alloc: Global, texts: &[&[u8]]) -> Result<Vec<(usize, Version)>, Stop>
+    ensures { GivesAll (map (λ t. t.now) texts.now) (λ pairs. MeansPlaced (map (λ t. t.now) texts.now) pairs.items) result }
+{
+    let mut pairs = Vec::with_capacity(alloc, texts.len())?;
+    for (place, text) in texts.iter().enumerate() {
+        match read(alloc, text) {
+            Ok(version) => pairs.push((place, version))?,
+            Err(fault) => return Err(Stop::at(place, fault)),
+        }
+    }
+    Ok(pairs)
+}
+
+// By version alone.
+fn by_version(a: &(usize, Version), b: &(usize, Version)) -> Ordering
+    ensures { result ≡ placed_cmp a.now b.now }
+{
+    a.1.cmp(&b.1)
+}
+
+// The places, without the versions.
+fn places(alloc: Global, pairs: &[(usize, Version)]) -> Result<Vec<usize>, AllocError>
+    ensures { IfOk result (λ found. found.items ≡ map (λ p. p.0) pairs.now) }
+{
+    let mut found = Vec::with_capacity(alloc, pairs.len())?;
+    for pair in pairs {
+        found.push(pair.0)?;
+    }
+    Ok(found)
+}
+
+// The places of the versions in order, equal ones in the order given.
+fn arranged(alloc: Global, pairs: Vec<(usize, Version)>) -> Result<Vec<usize>, AllocError>
+    ensures { IfOk result (λ found. ArrangesPlaces pairs.items found.items) }
+{
+    let mut sorted = pairs;
+    sorted.sort_by(|a, b| by_version(a, b))?;
+    places(alloc, sorted.as_slice())
+}
+
+/// The places of the texts in the order of their versions.
+pub(crate) fn sorted(alloc: Global, texts: &[&[u8]]) -> Result<Vec<usize>, Stop>
+    ensures { GivesAll (map (λ t. t.now) texts.now) (λ found. Sorts (map (λ t. t.now) texts.now) found.items) result }
+{
+    let pairs = read_all(alloc, texts)?;
+    Ok(arranged(alloc, pairs)?)
+}
+
+/// Tells the place of the text that is refused, and the status.
+pub(crate) fn tell(stop: Stop, at: &mut usize) -> u8
+    ensures { TellsStop stop at.old at.new result }
+{
+    match stop {
+        Stop::RefusedAt(place) => {
+            *at = place;
+            1
+        }
+        Stop::OutOfMemory => 3,
+    }
+}

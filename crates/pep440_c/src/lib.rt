@@ -1,0 +1,201 @@
+//! PEP 440 for C: versions and lists of specifiers, as texts in the caller's memory.
+//!
+//! A text is bytes and how many there are. No call keeps a pointer, and none has a condition beyond its types. Each answers a status: 0
+//! answered, 1 a version text is refused, 2 a list text is refused, 3 out of memory, 4 too little room. The header is `callers/c/pep440.h`.
+#![tactic(auto)]
+
+ghost use Rattle.std.specs.Prelude.{◌≡◌, ◌⊎◌, map};
+ghost use Rattle.pep440_c.specs.Answers.{Contains, IsListRefusal, IsNormal, IsNormalList, IsRefusal, NamesPrerelease, Orders, PartsAnswer, RefusesSecond, order_number};
+ghost use Rattle.pep440_c.specs.Batches.{FilterAnswer, SortAnswer};
+ghost use Rattle.pep440_c.specs.Meaning.{RefusesBytes, RefusesListBytes};
+ghost use Rattle.pep440_c.specs.Statuses.{Puts, PutsBytes};
+
+mod batch;
+mod room;
+mod telling;
+mod texts;
+
+use crate::batch::Stop;
+use crate::room::{ANSWERED, put, put_text};
+use std::alloc::Global;
+use std::cmp::Ordering;
+
+/// Writes the normal form of the version (PEP 440, "Normalization").
+#[unsafe(no_mangle)]
+pub extern "C" fn pep440_normalize(
+    alloc: Global,
+    text: &[u8],
+    out: &mut [u8],
+    written: &mut usize,
+) -> u8
+    ensures { PutsBytes (RefusesBytes text.now) ⊥ (IsNormal text.now) out.old out.new written.old written.new result }
+{
+    put_text(texts::normal(alloc, text), out, written)
+}
+
+/// Writes the normal form of the list.
+#[unsafe(no_mangle)]
+pub extern "C" fn pep440_normalize_list(
+    alloc: Global,
+    list: &[u8],
+    out: &mut [u8],
+    written: &mut usize,
+) -> u8
+    ensures { PutsBytes ⊥ (RefusesListBytes list.now) (IsNormalList list.now) out.old out.new written.old written.new result }
+{
+    put_text(texts::normal_list(alloc, list), out, written)
+}
+
+/// Writes why the text is no version; nothing where it is one.
+#[unsafe(no_mangle)]
+pub extern "C" fn pep440_refusal(
+    alloc: Global,
+    text: &[u8],
+    out: &mut [u8],
+    written: &mut usize,
+) -> u8
+    ensures { PutsBytes ⊥ ⊥ (IsRefusal text.now) out.old out.new written.old written.new result }
+{
+    put_text(texts::refusal(alloc, text), out, written)
+}
+
+/// Writes why the text is no list of specifiers; nothing where it is one.
+#[unsafe(no_mangle)]
+pub extern "C" fn pep440_list_refusal(
+    alloc: Global,
+    list: &[u8],
+    out: &mut [u8],
+    written: &mut usize,
+) -> u8
+    ensures { PutsBytes ⊥ ⊥ (IsListRefusal list.now) out.old out.new written.old written.new result }
+{
+    put_text(texts::list_refusal(alloc, list), out, written)
+}
+
+// The number that stands for an order.
+fn order_number(order: Ordering) -> i8
+    ensures { result ≡ order_number order }
+{
+    match order {
+        Ordering::Less => -1,
+        Ordering::Equal => 0,
+        Ordering::Greater => 1,
+    }
+}
+
+/// How the left version stands to the right one: -1 below, 0 equal, 1 above (PEP 440, "Summary of permitted suffixes and relative
+/// ordering").
+#[unsafe(no_mangle)]
+pub extern "C" fn pep440_compare(alloc: Global, left: &[u8], right: &[u8], order: &mut i8) -> u8
+    ensures { Puts (RefusesBytes left.now ⊎ RefusesBytes right.now) ⊥ (λ number. (found : Ordering) × Orders left.now right.now found × (number ≡ order_number found)) order.old order.new result }
+{
+    match texts::order(alloc, left, right) {
+        Ok(found) => {
+            *order = order_number(found);
+            ANSWERED
+        }
+        Err(fault) => fault.status(),
+    }
+}
+
+/// Whether the list contains the version (PEP 440, "Version specifiers").
+#[unsafe(no_mangle)]
+pub extern "C" fn pep440_contains(
+    alloc: Global,
+    list: &[u8],
+    text: &[u8],
+    contained: &mut bool,
+) -> u8
+    ensures { Puts (RefusesSecond list.now text.now) (RefusesListBytes list.now) (Contains list.now text.now) contained.old contained.new result }
+{
+    match texts::contains(alloc, list, text) {
+        Ok(found) => {
+            *contained = found;
+            ANSWERED
+        }
+        Err(fault) => fault.status(),
+    }
+}
+
+/// Whether a version of the list's specifiers is a pre-release or a developmental release (PEP 440, "Handling of pre-releases").
+#[unsafe(no_mangle)]
+pub extern "C" fn pep440_any_prerelease(alloc: Global, list: &[u8], any: &mut bool) -> u8
+    ensures { Puts ⊥ (RefusesListBytes list.now) (NamesPrerelease list.now) any.old any.new result }
+{
+    match texts::any_prerelease(alloc, list) {
+        Ok(found) => {
+            *any = found;
+            ANSWERED
+        }
+        Err(fault) => fault.status(),
+    }
+}
+
+/// The numbers of a version, 0 where it has no such part.
+#[repr(C)]
+#[derive(Clone, Copy, Debug)]
+pub struct Parts {
+    pub epoch: u64,
+    pub pre: u64,
+    pub post: u64,
+    pub dev: u64,
+    /// How many numbers the release has.
+    pub release_length: usize,
+    /// 0 no pre-release, 1 alpha, 2 beta, 3 release candidate.
+    pub pre_kind: u8,
+    pub has_post: bool,
+    pub has_dev: bool,
+    pub has_local: bool,
+}
+
+/// Tells the parts of the version, and writes the numbers of its release (PEP 440, "Public version identifiers").
+#[unsafe(no_mangle)]
+pub extern "C" fn pep440_parts_of(
+    alloc: Global,
+    text: &[u8],
+    parts: &mut Parts,
+    release: &mut [u64],
+) -> u8
+    ensures { PartsAnswer text.now parts.old parts.new release.old release.new result }
+{
+    match texts::read(alloc, text) {
+        Ok(version) => {
+            *parts = telling::parts_of(&version);
+            put(version.release(), release)
+        }
+        Err(fault) => fault.status(),
+    }
+}
+
+/// Marks each text, in its place: 1 the list contains its version, 0 it doesn't, 2 it is no version.
+#[unsafe(no_mangle)]
+pub extern "C" fn pep440_filter(
+    alloc: Global,
+    list: &[u8],
+    texts: &[&[u8]],
+    marks: &mut [u8],
+) -> u8
+    ensures { FilterAnswer list.now (map (λ t. t.now) texts.now) marks.old marks.new result }
+{
+    match batch::marks(alloc, list, texts) {
+        Ok(found) => put(found.as_slice(), marks),
+        Err(fault) => fault.status(),
+    }
+}
+
+/// Writes the places of the texts in the order of their versions, equal ones in the order given. With status 1 `at` is the place of the
+/// first that is no version.
+#[unsafe(no_mangle)]
+pub extern "C" fn pep440_sort(
+    alloc: Global,
+    texts: &[&[u8]],
+    places: &mut [usize],
+    at: &mut usize,
+) -> u8
+    ensures { SortAnswer (map (λ t. t.now) texts.now) places.old places.new at.old at.new result }
+{
+    match batch::sorted(alloc, texts) {
+        Ok(found) => put(found.as_slice(), places),
+        Err(stop) => batch::tell(stop, at),
+    }
+}

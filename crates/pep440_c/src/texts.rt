@@ -1,0 +1,184 @@
+// Bytes read as versions and as lists, and why they mean none.
+ghost use Rattle.std.specs.Prelude.{◌≡◌, ◌⊎◌, is_none, string_bytes};
+ghost use Rattle.std.specs.List.{list_any};
+ghost use Rattle.pep440_rs.specs.Matching.{any_prerelease};
+ghost use Rattle.pep440_rs.specs.Specifiers.{Spec};
+ghost use Rattle.pep440_c.specs.Answers.{IsListRefusal, IsNormal, IsNormalList, IsRefusal, Orders, Contains, NamesPrerelease, RefusesSecond};
+ghost use Rattle.pep440_c.specs.Meaning.{MeansBytes, MeansListBytes, RefusesBytes, RefusesListBytes};
+ghost use Rattle.pep440_c.specs.Statuses.{Gives, fault_status};
+ghost use Rattle.pep440_c.specs.declared.texts.Fault.TheVariants.{OutOfMemory};
+ghost use Rattle.pep440_version.specs.Errors.{refusal_of};
+
+use pep440_rs::{ErrorKind, SpecifiersErrorKind, Version, VersionSpecifiers};
+use std::alloc::{AllocError, AllocFailed, Global};
+use std::cmp::Ordering;
+
+const NOT_UTF8: &str = "not UTF-8";
+
+/// Why a call gives nothing.
+#[derive(Clone, Copy, Debug)]
+pub(crate) enum Fault {
+    /// A text means no version.
+    VersionRefused,
+    /// A text means no list of specifiers.
+    ListRefused,
+    /// Memory ran out.
+    OutOfMemory,
+}
+
+impl Fault {
+    /// The status that says it.
+    pub(crate) fn status(self) -> u8
+        ensures { result ≡ fault_status self }
+    {
+        match self {
+            Fault::VersionRefused => 1,
+            Fault::ListRefused => 2,
+            Fault::OutOfMemory => 3,
+        }
+    }
+}
+
+impl From<AllocError> for Fault {
+    ghost from_gives = { λ _ fault. fault ≡ OutOfMemory };
+
+    fn from(_refused: AllocError) -> Fault {
+        Fault::OutOfMemory
+    }
+}
+
+impl<T: Drop> From<AllocFailed<T>> for Fault {
+    ghost from_gives = { λ _ fault. fault ≡ OutOfMemory };
+
+    fn from(_refused: AllocFailed<T>) -> Fault {
+        Fault::OutOfMemory
+    }
+}
+
+// Whether memory ran out.
+fn is_out_of_memory(kind: &ErrorKind) -> bool
+    ensures { result ≡ is_none (refusal_of kind.now) }
+{
+    matches!(kind, ErrorKind::OutOfMemory)
+}
+
+/// The version that the bytes mean.
+pub(crate) fn read(alloc: Global, bytes: &[u8]) -> Result<Version, Fault>
+    ensures { Gives (RefusesBytes bytes.now) ⊥ (MeansBytes bytes.now) result }
+{
+    let Ok(text) = std::str::from_utf8(bytes) else {
+        return Err(Fault::VersionRefused);
+    };
+    match Version::from_str(alloc, text) {
+        Ok(version) => Ok(version),
+        Err(error) => {
+            if is_out_of_memory(error.kind()) {
+                return Err(Fault::OutOfMemory);
+            }
+            Err(Fault::VersionRefused)
+        }
+    }
+}
+
+/// The list that the bytes mean.
+pub(crate) fn read_list(alloc: Global, bytes: &[u8]) -> Result<VersionSpecifiers, Fault>
+    ensures { Gives ⊥ (RefusesListBytes bytes.now) (MeansListBytes bytes.now) result }
+{
+    let Ok(text) = std::str::from_utf8(bytes) else {
+        return Err(Fault::ListRefused);
+    };
+    match VersionSpecifiers::from_str(alloc, text) {
+        Ok(list) => Ok(list),
+        Err(error) => {
+            if let SpecifiersErrorKind::OutOfMemory = error.kind() {
+                return Err(Fault::OutOfMemory);
+            }
+            Err(Fault::ListRefused)
+        }
+    }
+}
+
+/// Why the bytes mean no version; empty where they mean one.
+pub(crate) fn refusal(alloc: Global, bytes: &[u8]) -> Result<String, Fault>
+    ensures { Gives ⊥ ⊥ (λ words. IsRefusal bytes.now (string_bytes words)) result }
+{
+    let Ok(text) = std::str::from_utf8(bytes) else {
+        return Ok(String::from_str(alloc, NOT_UTF8)?);
+    };
+    match Version::from_str(alloc, text) {
+        Ok(_) => Ok(String::new(alloc)),
+        Err(error) => {
+            if is_out_of_memory(error.kind()) {
+                return Err(Fault::OutOfMemory);
+            }
+            Ok(error.to_string(alloc)?)
+        }
+    }
+}
+
+/// Why the bytes mean no list; empty where they mean one.
+pub(crate) fn list_refusal(alloc: Global, bytes: &[u8]) -> Result<String, Fault>
+    ensures { Gives ⊥ ⊥ (λ words. IsListRefusal bytes.now (string_bytes words)) result }
+{
+    let Ok(text) = std::str::from_utf8(bytes) else {
+        return Ok(String::from_str(alloc, NOT_UTF8)?);
+    };
+    match VersionSpecifiers::from_str(alloc, text) {
+        Ok(_) => Ok(String::new(alloc)),
+        Err(error) => {
+            if let SpecifiersErrorKind::OutOfMemory = error.kind() {
+                return Err(Fault::OutOfMemory);
+            }
+            Ok(error.to_string(alloc)?)
+        }
+    }
+}
+
+/// The normal form of a version.
+pub(crate) fn normal(alloc: Global, bytes: &[u8]) -> Result<String, Fault>
+    ensures { Gives (RefusesBytes bytes.now) ⊥ (λ text. IsNormal bytes.now (string_bytes text)) result }
+{
+    let version = read(alloc, bytes)?;
+    Ok(version.to_string(alloc)?)
+}
+
+/// The normal form of a list.
+pub(crate) fn normal_list(alloc: Global, bytes: &[u8]) -> Result<String, Fault>
+    ensures { Gives ⊥ (RefusesListBytes bytes.now) (λ text. IsNormalList bytes.now (string_bytes text)) result }
+{
+    let list = read_list(alloc, bytes)?;
+    Ok(list.to_string(alloc)?)
+}
+
+/// How the left version stands to the right one.
+pub(crate) fn order(alloc: Global, left: &[u8], right: &[u8]) -> Result<Ordering, Fault>
+    ensures { Gives (RefusesBytes left.now ⊎ RefusesBytes right.now) ⊥ (Orders left.now right.now) result }
+{
+    let first = read(alloc, left)?;
+    let second = read(alloc, right)?;
+    Ok(first.cmp(&second))
+}
+
+/// Whether the list contains the version.
+pub(crate) fn contains(alloc: Global, list: &[u8], bytes: &[u8]) -> Result<bool, Fault>
+    ensures { Gives (RefusesSecond list.now bytes.now) (RefusesListBytes list.now) (Contains list.now bytes.now) result }
+{
+    let specifiers = read_list(alloc, list)?;
+    let version = read(alloc, bytes)?;
+    Ok(specifiers.contains(alloc, &version)?)
+}
+
+// Whether the version of a member is a pre-release or a developmental release.
+fn any_member(list: &VersionSpecifiers) -> bool
+    ensures { result ≡ list_any (λ (s : Spec). any_prerelease s.version) list.now }
+{
+    list.as_slice().iter().any(|member| member.any_prerelease())
+}
+
+/// Whether a version of the list is a pre-release or a developmental release.
+pub(crate) fn any_prerelease(alloc: Global, list: &[u8]) -> Result<bool, Fault>
+    ensures { Gives ⊥ (RefusesListBytes list.now) (NamesPrerelease list.now) result }
+{
+    let specifiers = read_list(alloc, list)?;
+    Ok(any_member(&specifiers))
+}
