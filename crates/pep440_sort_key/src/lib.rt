@@ -1,0 +1,17 @@
+//! Sort keys of versions: bytes whose order, byte by byte, is the order of the versions.
+//!
+//! Two keys are compared as `memcmp` compares them, and where one is a beginning of the other the shorter is less. So a
+//! database, a sorted file or an index in another language orders versions by these bytes, without this library; and
+//! two keys are the same bytes exactly where the versions are equal. `laws` says so.
+//!
+//! A key is not read back: zeros at the end of a release are not in it, since they make no difference to the order.
+#![tactic(auto)]
+
+mod key;
+pub mod laws;
+mod number;
+mod place;
+#[cfg(test)]
+mod tests;
+
+pub use key::sort_key;

@@ -1,0 +1,101 @@
+//! Worked rows: texts whose keys rise, and keys by their bytes; and a key with each request for memory refused in turn.
+use crate::sort_key;
+use pep440_version::Version;
+use std::test::Fail;
+
+fn key(rt: HostRuntime, text: &str) -> Result<Vec<u8>, Fail> {
+    let version = Version::from_str(rt.alloc(), text)?;
+    Ok(sort_key(rt.alloc(), &version)?)
+}
+
+// PEP 440, "Summary of permitted suffixes and relative ordering", "Version epochs" and "Local version identifiers";
+// and numbers where one more byte is needed.
+const RISING: [&str; 34] = [
+    "0.dev0",
+    "0",
+    "0.0.1",
+    "1.dev0",
+    "1.0.dev456",
+    "1.0a1",
+    "1.0a2.dev456",
+    "1.0a12.dev456",
+    "1.0a12",
+    "1.0b1.dev456",
+    "1.0b2",
+    "1.0b2.post345.dev456",
+    "1.0b2.post345",
+    "1.0rc1.dev456",
+    "1.0rc1",
+    "1.0",
+    "1.0+abc.5",
+    "1.0+abc.7",
+    "1.0+abcd",
+    "1.0+5",
+    "1.0+5.0",
+    "1.0.post456.dev34",
+    "1.0.post456",
+    "1.0.15",
+    "1.1.dev1",
+    "1.255",
+    "1.256",
+    "1.65535",
+    "1.65536",
+    "2013.10",
+    "2014.04",
+    "18446744073709551615",
+    "1!1.0",
+    "1!2.0",
+];
+
+#[test]
+fn keys_rise(rt: HostRuntime) -> Result<(), Fail> {
+    for (i, low) in RISING.iter().enumerate() {
+        for high in RISING.iter().skip(i + 1) {
+            let rises = key(rt, low)?.as_slice() < key(rt, high)?.as_slice();
+            assert!(rt; rises, "{low} and {high}");
+        }
+    }
+    Ok(())
+}
+
+const KEYS: [(&str, &[u8]); 6] = [
+    ("1.0", &[0, 2, 1, 0, 80, 0, 16, 0]),
+    ("1.00.0", &[0, 2, 1, 0, 80, 0, 16, 0]),
+    ("0", &[0, 0, 80, 0, 16, 0]),
+    ("1!0.256rc3", &[1, 1, 1, 3, 1, 0, 0, 65, 3, 0, 16, 0]),
+    (
+        "1.post2.dev0+ab.7",
+        &[0, 2, 1, 0, 80, 17, 2, 0, 1, 97, 98, 0, 3, 7, 0],
+    ),
+    ("2.dev1", &[0, 2, 2, 0, 16, 0, 1, 1, 0]),
+];
+
+#[test]
+fn keys_are_these(rt: HostRuntime) -> Result<(), Fail> {
+    for (text, want) in KEYS {
+        assert!(rt; key(rt, text)?.as_slice() == want, "{text}");
+    }
+    Ok(())
+}
+
+// Five numbers, which a version holds in memory.
+const LONG: &str = "1.2.3.4.65536+ubuntu.1";
+
+const LONG_KEY: [u8; 28] = [
+    0, 2, 1, 2, 2, 2, 3, 2, 4, 4, 1, 0, 0, 0, 80, 0, 16, 1, 117, 98, 117, 110, 116, 117, 0, 3, 1, 0,
+];
+
+// The key of the text, asked for a second time where memory was refused.
+#[test]
+fn sweep_sort_key(rt: HostRuntime) -> Result<(), Fail> {
+    let version = match Version::from_str(rt.alloc(), LONG) {
+        Ok(version) => version,
+        Err(_) => Version::from_str(rt.alloc(), LONG)?,
+    };
+    let key = match sort_key(rt.alloc(), &version) {
+        Ok(key) => key,
+        Err(_) => sort_key(rt.alloc(), &version)?,
+    };
+    assert!(rt; key.as_slice() == LONG_KEY.as_slice(), "the key");
+    Ok(())
+}
