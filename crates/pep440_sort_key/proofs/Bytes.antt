@@ -1,0 +1,114 @@
+-- Numbers by their bytes: of as many bytes the greatest first decides, and without the zeros in front how many there are
+-- decides first.
+use Rattle.std.proofs.Common.{◌≡◌, ◌≢◌, ◌∙◌, ℕ, zero, suc, ◌+◌, ◌*◌, ◌/◌, ◌%◌, ◌^◌, ◌<◌, ◌≤◌, List, [], ◌∷◌, ◌++◌, refl, sym, ap, arith, length, get_or, drop, drop-cons, add-one, if◌then◌else◌}
+use Rattle.std.proofs.Math.Arith.{mod-mul}
+use Rattle.std.proofs.lemmas.Bool.Decides.{nat_tests}
+use Rattle.std.specs.Prelude.{false, ◌==◌}
+use Rattle.std.proofs.Math.Dec.{eqb-suc-zero}
+use Rattle.std.proofs.Math.Nat.{div-one, mod-one, mod-lt, mod-eq_of_lt, one-le-pow, pow-succ', zero-lt-suc}
+use Rattle.std.specs.Cmp.Lexicographic.{slice_cmp}
+use Rattle.std.specs.Int.{byte_at, bytes_high_first, to_be_bytes, w64}
+use Rattle.std.specs.Ordering.{nat_cmp, ordering_then}
+use Rattle.std.specs.declared.cmp.Ordering.{Ordering}
+use Rattle.std.specs.declared.cmp.Ordering.TheVariants.{Less, Equal, Greater}
+use Rattle.pep440_version.proofs.Ordering.Comparisons.{then_assoc}
+use Rattle.pep440_version.proofs.Word.Blocks.{is_above, is_below, is_same, nat_cmp_block}
+use Rattle.pep440_version.specs.Record.{Fits}
+use Rattle.pep440_sort_key.specs.Keys.{needed_bytes, unpadded}
+
+-- ---- bytes without the zeros in front
+
+unpadded_suc : (b : ℕ) (rest : List ℕ) → unpadded (suc b ∷ rest) ≡ suc b ∷ rest
+unpadded_suc b rest = ap (λ t. if t then unpadded rest else suc b ∷ rest) (eqb-suc-zero b)
+
+pub unpadded_le : (bytes : List ℕ) → length (unpadded bytes) ≤ length bytes
+unpadded_le [] = omega arith
+unpadded_le (zero ∷ rest) = omega (arith, unpadded_le rest)
+unpadded_le (suc b ∷ rest) = omega (arith, ap length (unpadded_suc b rest))
+
+-- lists of one length, whatever follows them
+pub as_long : (xs ys : List ℕ) → length xs ≡ length ys → (u v : List ℕ) → slice_cmp nat_cmp (xs ++ u) (ys ++ v) ≡ ordering_then (slice_cmp nat_cmp xs ys) (slice_cmp nat_cmp u v)
+as_long [] [] e u v = refl
+as_long [] (y ∷ ys) e u v = absurd (omega arith)
+as_long (x ∷ xs) [] e u v = absurd (omega arith)
+as_long (x ∷ xs) (y ∷ ys) e u v =
+    let rest : length xs ≡ length ys = omega arith in
+    ap (ordering_then (nat_cmp x y)) (as_long xs ys rest u v) ∙ sym (then_assoc (nat_cmp x y) (slice_cmp nat_cmp xs ys) (slice_cmp nat_cmp u v))
+
+-- what is left of two of them: how much, and then the bytes
+abbrev pub counted_cmp : List ℕ → List ℕ → List ℕ → List ℕ → Ordering
+counted_cmp xs ys u v = ordering_then (nat_cmp (length xs) (length ys)) (slice_cmp nat_cmp (xs ++ u) (ys ++ v))
+
+pub unpadded_cmp : (xs ys : List ℕ) → length xs ≡ length ys → (u v : List ℕ) → counted_cmp (unpadded xs) (unpadded ys) u v ≡ ordering_then (slice_cmp nat_cmp xs ys) (slice_cmp nat_cmp u v)
+unpadded_cmp [] [] e u v = refl
+unpadded_cmp [] (y ∷ ys) e u v = absurd (omega arith)
+unpadded_cmp (x ∷ xs) [] e u v = absurd (omega arith)
+unpadded_cmp (zero ∷ xs) (zero ∷ ys) e u v = unpadded_cmp xs ys (omega arith) u v
+unpadded_cmp (zero ∷ xs) (suc y ∷ ys) e u v =
+    let fewer : length (unpadded xs) < length (suc y ∷ ys) = omega (arith, unpadded_le xs) in
+    ap (λ l. counted_cmp (unpadded xs) l u v) (unpadded_suc y ys)
+    ∙ ap (λ o. ordering_then o (slice_cmp nat_cmp (unpadded xs ++ u) ((suc y ∷ ys) ++ v))) (is_below _ _ fewer)
+    ∙ sym (ap (λ o. ordering_then (ordering_then o (slice_cmp nat_cmp xs ys)) (slice_cmp nat_cmp u v)) (is_below 0 (suc y) (zero-lt-suc y)))
+unpadded_cmp (suc x ∷ xs) (zero ∷ ys) e u v =
+    let fewer : length (unpadded ys) < length (suc x ∷ xs) = omega (arith, unpadded_le ys) in
+    ap (λ l. counted_cmp l (unpadded ys) u v) (unpadded_suc x xs)
+    ∙ ap (λ o. ordering_then o (slice_cmp nat_cmp ((suc x ∷ xs) ++ u) (unpadded ys ++ v))) (is_above _ _ fewer)
+    ∙ sym (ap (λ o. ordering_then (ordering_then o (slice_cmp nat_cmp xs ys)) (slice_cmp nat_cmp u v)) (is_above (suc x) 0 (zero-lt-suc x)))
+unpadded_cmp (suc x ∷ xs) (suc y ∷ ys) e u v =
+    (λ i. counted_cmp (unpadded_suc x xs i) (unpadded_suc y ys i) u v)
+    ∙ ap (λ o. ordering_then o (slice_cmp nat_cmp ((suc x ∷ xs) ++ u) ((suc y ∷ ys) ++ v))) (is_same _ _ e)
+    ∙ as_long (suc x ∷ xs) (suc y ∷ ys) e u v
+
+-- ---- the bytes of a number, the greatest first
+
+byte_is : (k n : ℕ) → byte_at k n ≡ n / 256 ^ k % 256
+byte_is zero n = ap (λ m. m % 256) (sym (div-one n))
+byte_is (suc k) n = refl
+
+bytes_long : (k n : ℕ) → length (bytes_high_first k n) ≡ k
+bytes_long zero n = refl
+bytes_long (suc k) n = ap suc (bytes_long k n)
+
+-- the highest of k + 1 bytes, and the others
+one_more : (k n : ℕ) → n % 256 ^ suc k ≡ byte_at k n * 256 ^ k + n % 256 ^ k
+one_more k n =
+    ap (λ m. n % m) (pow-succ' 256 k) ∙ mod-mul n (zero-lt-suc 255) (one-le-pow k 256 (zero-lt-suc 255)) ∙ ap (λ b. b * 256 ^ k + n % 256 ^ k) (sym (byte_is k n))
+
+bytes_cmp : (k m n : ℕ) → slice_cmp nat_cmp (bytes_high_first k m) (bytes_high_first k n) ≡ nat_cmp (m % 256 ^ k) (n % 256 ^ k)
+bytes_cmp zero m n = sym (is_same _ _ (mod-one m ∙ sym (mod-one n)))
+bytes_cmp (suc k) m n =
+    let some : 0 < 256 ^ k = one-le-pow k 256 (zero-lt-suc 255) in
+    ap (ordering_then (nat_cmp (byte_at k m) (byte_at k n))) (bytes_cmp k m n)
+    ∙ sym (nat_cmp_block (byte_at k m) (m % 256 ^ k) (byte_at k n) (n % 256 ^ k) (256 ^ k) (mod-lt m some) (mod-lt n some))
+    ∙ (λ i. nat_cmp (sym (one_more k m) i) (sym (one_more k n) i))
+
+-- ---- the bytes that a number needs
+
+pub needed_is : (n : ℕ) (bytes : List ℕ) → bytes ≡ to_be_bytes w64 n → unpadded bytes ≡ needed_bytes n
+unfolding needed_bytes
+needed_is n bytes e = ap unpadded e
+
+pub needed_le : (n : ℕ) → length (needed_bytes n) ≤ 8
+unfolding needed_bytes
+needed_le n = omega (arith, unpadded_le (bytes_high_first 8 n), bytes_long 8 n)
+
+pub needed_cmp : (m n : ℕ) → Fits m → Fits n → (u v : List ℕ) → counted_cmp (needed_bytes m) (needed_bytes n) u v ≡ ordering_then (nat_cmp m n) (slice_cmp nat_cmp u v)
+unfolding needed_bytes
+needed_cmp m n p q u v =
+    unpadded_cmp (bytes_high_first 8 m) (bytes_high_first 8 n) (bytes_long 8 m ∙ sym (bytes_long 8 n)) u v
+    ∙ ap (λ o. ordering_then o (slice_cmp nat_cmp u v)) (bytes_cmp 8 m n ∙ (λ i. nat_cmp (mod-eq_of_lt p i) (mod-eq_of_lt q i)))
+
+-- ---- a walk over the zeros in front
+
+-- one zero less
+pub unpadded-drop_zero : (bytes : List ℕ) (i : ℕ) → i < length bytes → get_or bytes i 0 ≡ 0 → unpadded (drop (i + 1) bytes) ≡ unpadded (drop i bytes)
+unpadded-drop_zero bytes i h zero_here =
+    ap (λ k. unpadded (drop k bytes)) (add-one i) ∙ sym (ap (λ b. unpadded (b ∷ drop (suc i) bytes)) zero_here) ∙ sym (ap unpadded (drop-cons bytes i 0 h))
+
+-- a byte that is not zero stays in front
+kept : (b : ℕ) (rest : List ℕ) → b ≢ 0 → unpadded (b ∷ rest) ≡ b ∷ rest
+kept b rest h = let test : (b == 0) ≡ false = grind (arith, nat_tests) in ap (λ t. if t then unpadded rest else b ∷ rest) test
+
+pub unpadded-drop_other : (bytes : List ℕ) (i : ℕ) → i < length bytes → get_or bytes i 0 ≢ 0 → unpadded (drop i bytes) ≡ drop i bytes
+unpadded-drop_other bytes i h other =
+    ap unpadded (drop-cons bytes i 0 h) ∙ kept (get_or bytes i 0) (drop (suc i) bytes) other ∙ sym (drop-cons bytes i 0 h)

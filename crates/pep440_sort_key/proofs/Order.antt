@@ -1,0 +1,105 @@
+-- Sort keys are in the order of the records; and the records that texts mean have one that tells them apart.
+use Rattle.std.proofs.Common.{◌≡◌, ◌∙◌, ℕ, zero, suc, ◌+◌, ◌<◌, List, [], ◌∷◌, ◌++◌, refl, sym, ap, append_assoc, Bool, true, false, Option, Some, None, IfSome, lit<, if◌then◌else◌}
+use Rattle.std.proofs.Math.Nat.{zero-lt-suc}
+use Rattle.std.proofs.lemmas.Bool.{true≢false}
+use Rattle.std.proofs.lemmas.List.{append-nil}
+use Rattle.std.proofs.lemmas.List.Elements.{All-from_recursion, recursion_from_All}
+use Rattle.std.specs.Cmp.{second_so}
+use Rattle.std.specs.Cmp.Lexicographic.{slice_cmp}
+use Rattle.std.specs.List.{All, AllByRecursion, list_all}
+use Rattle.std.specs.Ordering.{nat_cmp, ordering_then}
+use Rattle.std.specs.Prelude.{◌==◌}
+use Rattle.pep440_version.proofs.Ordering.Comparisons.{then_none}
+use Rattle.pep440_version.proofs.Reread.PrintIsRead.{derived_record, derived_rereads}
+use Rattle.pep440_version.specs.declared.prerelease.Prerelease.{Prerelease}
+use Rattle.pep440_version.specs.Grammar.{Derives}
+use Rattle.pep440_version.specs.Key.{dev_of, dev_place, key, local_cmp, place_cmp, post_of, post_place, record_cmp, release_cmp, stage_of, stage_place}
+use Rattle.pep440_version.specs.Record.{Fits, IsRecord, Record, Segment, Text, Number}
+use Rattle.pep440_version.specs.Reread.{is_lower, SegmentRereads}
+use Rattle.pep440_version.specs.Trim.{trim, before_trimmed}
+use Rattle.pep440_sort_key.proofs.Codes.{IsPlain, local_is_code, number_is_code, place_is_code, release_is_code}
+use Rattle.pep440_sort_key.specs.Keys.{HasNoZero, IsKeyed, key_bytes, local_bytes, number_bytes, place_bytes, release_bytes}
+
+-- ---- what is coded fits
+
+zero_fits : Fits 0
+zero_fits = lit< tt
+
+stage_fits : (min : Option ℕ) (pre : Option Prerelease) (dev post max : Option ℕ) → IfSome pre (λ p. Fits p.number) → Fits (stage_place (stage_of min pre dev post max)).1
+stage_fits (Some n) pre dev post max h = zero_fits
+stage_fits None (Some p) dev post max h = h
+stage_fits None None None post max h = zero_fits
+stage_fits None None (Some d) None None h = zero_fits
+stage_fits None None (Some d) None (Some m) h = zero_fits
+stage_fits None None (Some d) (Some p) max h = zero_fits
+
+post_fits : (max post : Option ℕ) → IfSome max Fits → IfSome post Fits → Fits (post_place (post_of max post)).1
+post_fits (Some m) post h k = h
+post_fits None (Some p) h k = k
+post_fits None None h k = zero_fits
+
+dev_fits : (min dev : Option ℕ) → IfSome min Fits → IfSome dev Fits → Fits (dev_place (dev_of min dev)).1
+dev_fits (Some n) dev h k = h
+dev_fits None (Some d) h k = k
+dev_fits None None h k = zero_fits
+
+before_fits : (b : Bool) (x : ℕ) → Fits x → AllByRecursion Fits (if b then [] else x ∷ [])
+before_fits true x h = tt
+before_fits false x h = (h, tt)
+
+step_fits : (x : ℕ) (rest : List ℕ) → Fits x → AllByRecursion Fits rest → AllByRecursion Fits (before_trimmed x rest)
+step_fits x [] h k = before_fits (x == 0) x h
+step_fits x (y ∷ rest) h k = (h, k)
+
+trim_fits : (xs : List ℕ) → AllByRecursion Fits xs → AllByRecursion Fits (trim xs)
+trim_fits [] h = h
+trim_fits (x ∷ xs) h = step_fits x (trim xs) h.0 (trim_fits xs h.1)
+
+-- ---- the order
+
+parts_in_turn : (e r s p d l : List ℕ) → e ++ r ++ s ++ p ++ d ++ l ≡ e ++ (r ++ (s ++ (p ++ (d ++ (l ++ [])))))
+parts_in_turn e r s p d l = simp (append_assoc, append-nil)
+
+release_fits : (r : Record) → IsKeyed r → All Fits (trim r.release)
+release_fits r h = All-from_recursion Fits (trim r.release) (trim_fits r.release (recursion_from_All Fits r.release h.valid.release))
+
+local_plain : (r : Record) → IsKeyed r → All IsPlain r.local
+local_plain r h = λ k s below. (h.valid.local k s below, h.local k s below)
+
+pub keys_in_order : (r q : Record) → IsKeyed r → IsKeyed q → slice_cmp nat_cmp (key_bytes r) (key_bytes q) ≡ record_cmp r q
+keys_in_order r q h k =
+    let E : Record → List ℕ = λ x. number_bytes 0 x.epoch in
+    let R : Record → List ℕ = λ x. release_bytes x.release in
+    let S : Record → List ℕ = λ x. place_bytes (stage_place (key x).stage) in
+    let P : Record → List ℕ = λ x. place_bytes (post_place (key x).post) in
+    let D : Record → List ℕ = λ x. place_bytes (dev_place (key x).dev) in
+    let L : Record → List ℕ = λ x. local_bytes x.local in
+    (λ i. slice_cmp nat_cmp (parts_in_turn (E r) (R r) (S r) (P r) (D r) (L r) i) (parts_in_turn (E q) (R q) (S q) (P q) (D q) (L q) i))
+    ∙ (number_is_code 0).splits r.epoch q.epoch h.valid.epoch k.valid.epoch _ _
+    ∙ ap (ordering_then (nat_cmp r.epoch q.epoch))
+    (release_is_code.splits r.release q.release (release_fits r h) (release_fits q k) _ _
+    ∙ ap (ordering_then (release_cmp r.release q.release))
+    (place_is_code.splits (stage_place (key r).stage) (stage_place (key q).stage) (stage_fits _ _ _ _ _ h.valid.pre) (stage_fits _ _ _ _ _ k.valid.pre) _ _
+    ∙ ap (ordering_then (place_cmp (stage_place (key r).stage) (stage_place (key q).stage)))
+    (place_is_code.splits (post_place (key r).post) (post_place (key q).post) (post_fits _ _ h.valid.max h.valid.post) (post_fits _ _ k.valid.max k.valid.post) _ _
+    ∙ ap (ordering_then (place_cmp (post_place (key r).post) (post_place (key q).post)))
+    (place_is_code.splits (dev_place (key r).dev) (dev_place (key q).dev) (dev_fits _ _ h.valid.min h.valid.dev) (dev_fits _ _ k.valid.min k.valid.dev) _ _
+    ∙ ap (ordering_then (place_cmp (dev_place (key r).dev) (dev_place (key q).dev)))
+    (local_is_code.splits r.local q.local (local_plain r h) (local_plain q k) [] [] ∙ then_none (local_cmp r.local q.local))))))
+
+-- ---- what texts mean
+
+lower_above : (t : List ℕ) → list_all is_lower t ≡ true → AllByRecursion (λ b. 0 < b) t
+lower_above [] h = tt
+lower_above (zero ∷ t) h = absurd (true≢false (sym h))
+lower_above (suc b ∷ t) h = (zero-lt-suc b, lower_above t (second_so (is_lower (suc b)) (list_all is_lower t) h))
+
+no_zero : (s : Segment) → SegmentRereads s → HasNoZero s
+no_zero (Text t) h = All-from_recursion (λ b. 0 < b) t (lower_above t h.1)
+no_zero (Number n) h = tt
+
+pub derived_keyed : (text : List ℕ) (r : Record) → Derives text r → IsKeyed r
+derived_keyed text r d = record { valid = derived_record text r d; local = λ k s h. no_zero _ ((derived_rereads text r d).local k s h) }
+
+pub texts_in_order : (s t : List ℕ) (r q : Record) → Derives s r → Derives t q → slice_cmp nat_cmp (key_bytes r) (key_bytes q) ≡ record_cmp r q
+texts_in_order s t r q d e = keys_in_order r q (derived_keyed s r d) (derived_keyed t q e)
