@@ -1,16 +1,13 @@
 -- Numbers by their bytes: of as many bytes the greatest first decides, and without the zeros in front how many there are
 -- decides first.
-use Rattle.std.proofs.Common.{◌≡◌, ◌≢◌, ◌∙◌, ℕ, zero, suc, ◌+◌, ◌*◌, ◌/◌, ◌%◌, ◌^◌, ◌<◌, ◌≤◌, List, [], ◌∷◌, ◌++◌, refl, sym, ap, arith, length, get_or, drop, drop-cons, add-one, if◌then◌else◌}
+use Rattle.std.proofs.Common.{◌≡◌, ◌∙◌, ℕ, zero, suc, ◌+◌, ◌*◌, ◌/◌, ◌%◌, ◌^◌, ◌<◌, ◌≤◌, List, [], ◌∷◌, ◌++◌, refl, sym, ap, arith, length, if◌then◌else◌}
 use Rattle.std.proofs.Math.Arith.{mod-mul}
-use Rattle.std.proofs.lemmas.Bool.Decides.{nat_tests}
-use Rattle.std.specs.Prelude.{false, ◌==◌}
 use Rattle.std.proofs.Math.Dec.{eqb-suc-zero}
 use Rattle.std.proofs.Math.Nat.{div-one, mod-one, mod-lt, mod-eq_of_lt, one-le-pow, pow-succ', zero-lt-suc}
 use Rattle.std.specs.Cmp.Lexicographic.{slice_cmp}
 use Rattle.std.specs.Int.{byte_at, bytes_high_first, to_be_bytes, w64}
 use Rattle.std.specs.Ordering.{nat_cmp, ordering_then}
 use Rattle.std.specs.declared.cmp.Ordering.{Ordering}
-use Rattle.std.specs.declared.cmp.Ordering.TheVariants.{Less, Equal, Greater}
 use Rattle.pep440_version.proofs.Ordering.Comparisons.{then_assoc}
 use Rattle.pep440_version.proofs.Word.Blocks.{is_above, is_below, is_same, nat_cmp_block}
 use Rattle.pep440_version.specs.Record.{Fits}
@@ -97,18 +94,3 @@ unfolding needed_bytes
 needed_cmp m n p q u v =
     unpadded_cmp (bytes_high_first 8 m) (bytes_high_first 8 n) (bytes_long 8 m ∙ sym (bytes_long 8 n)) u v
     ∙ ap (λ o. ordering_then o (slice_cmp nat_cmp u v)) (bytes_cmp 8 m n ∙ (λ i. nat_cmp (mod-eq_of_lt p i) (mod-eq_of_lt q i)))
-
--- ---- a walk over the zeros in front
-
--- one zero less
-pub unpadded-drop_zero : (bytes : List ℕ) (i : ℕ) → i < length bytes → get_or bytes i 0 ≡ 0 → unpadded (drop (i + 1) bytes) ≡ unpadded (drop i bytes)
-unpadded-drop_zero bytes i h zero_here =
-    ap (λ k. unpadded (drop k bytes)) (add-one i) ∙ sym (ap (λ b. unpadded (b ∷ drop (suc i) bytes)) zero_here) ∙ sym (ap unpadded (drop-cons bytes i 0 h))
-
--- a byte that is not zero stays in front
-kept : (b : ℕ) (rest : List ℕ) → b ≢ 0 → unpadded (b ∷ rest) ≡ b ∷ rest
-kept b rest h = let test : (b == 0) ≡ false = grind (arith, nat_tests) in ap (λ t. if t then unpadded rest else b ∷ rest) test
-
-pub unpadded-drop_other : (bytes : List ℕ) (i : ℕ) → i < length bytes → get_or bytes i 0 ≢ 0 → unpadded (drop i bytes) ≡ drop i bytes
-unpadded-drop_other bytes i h other =
-    ap unpadded (drop-cons bytes i 0 h) ∙ kept (get_or bytes i 0) (drop (suc i) bytes) other ∙ sym (drop-cons bytes i 0 h)
