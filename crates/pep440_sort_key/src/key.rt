@@ -1,6 +1,5 @@
 //! The sort key of a version, part after part.
-ghost use Rattle.std.specs.Prelude.{◌≡◌, ◌∷◌, [], ◌++◌, IfOk, OnOk, map};
-ghost use Rattle.std.specs.List.{flat_map};
+ghost use Rattle.std.specs.Prelude.{◌≡◌, ◌++◌, IfOk, OnOk, map};
 ghost use Rattle.pep440_sort_key.specs.Keys.{key_bytes, local_bytes, place_bytes, release_bytes, segment_bytes};
 ghost use Rattle.pep440_version.specs.Segments.{segment};
 ghost use Rattle.pep440_version.specs.Trim.{trim};
@@ -74,14 +73,14 @@ fn usual_length(version: &Version) -> usize {
     length
 }
 
-/// The sort key of a version: bytes that are in the order of the versions (PEP 440, "Summary of permitted suffixes and
-/// relative ordering"), equal exactly where the versions are. They are compared byte by byte, a beginning of a longer
-/// key being less.
+/// The sort key of a version: bytes whose order, byte by byte, is the order of the versions (PEP 440, "Summary of permitted
+/// suffixes and relative ordering"); a beginning of a longer key is less. Two keys are the same bytes exactly where the
+/// versions are equal, as `1.0` and `1.0.0` are.
 ///
-/// So are the keys of all versions that texts give, and of all others but those with a local text that has a zero byte
-/// (`laws::keys_are_ordered`).
+/// `laws` says so of every version that a text gives, and of each other one whose local texts have no zero byte. Where one
+/// has a zero byte a key is made too, and nothing is said of its place among the others.
 ///
-/// Takes memory: for most versions one request.
+/// Takes memory, for most versions in one request; the one error is that of memory.
 pub fn sort_key(alloc: Global, version: &Version) -> Result<Vec<u8>, AllocError>
     ensures { IfOk result (λ key. key.items ≡ key_bytes version.now) }
 {

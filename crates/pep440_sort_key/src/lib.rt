@@ -4,7 +4,9 @@
 //! database, a sorted file or an index in another language orders versions by these bytes, without this library; and
 //! two keys are the same bytes exactly where the versions are equal. `laws` says so.
 //!
-//! A key is not read back: zeros at the end of a release are not in it, since they make no difference to the order.
+//! A key is the parts of a version one behind another: epoch, release, stage, post, dev, local. A number is a byte that
+//! says how many bytes it needs, and then these, the greatest first; a list and a text end in a zero byte. A key is not
+//! read back: zeros at the end of a release are not in it, since they make no difference to the order.
 #![tactic(auto)]
 
 mod key;

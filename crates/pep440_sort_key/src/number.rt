@@ -2,7 +2,7 @@
 ghost use Rattle.std.specs.Prelude.{◌≡◌, ◌≤◌, ◌++◌, length, OnOk};
 ghost use Rattle.pep440_sort_key.specs.Keys.{number_bytes, unpadded};
 
-use std::alloc::{AllocError, Global};
+use std::alloc::AllocError;
 
 // The bytes without the zeros in front.
 fn without_padding(bytes: &[u8]) -> &[u8]

@@ -78,11 +78,13 @@ fn keys_are_these(rt: HostRuntime) -> Result<(), Fail> {
     Ok(())
 }
 
-// Five numbers, which a version holds in memory.
-const LONG: &str = "1.2.3.4.65536+ubuntu.1";
+// Numbers of eight bytes, so that the key outgrows the room that it asked for first.
+const LONG: &str = "1.2.3.4.18446744073709551615.18446744073709551615+ubuntu.18446744073709551615";
 
-const LONG_KEY: [u8; 28] = [
-    0, 2, 1, 2, 2, 2, 3, 2, 4, 4, 1, 0, 0, 0, 80, 0, 16, 1, 117, 98, 117, 110, 116, 117, 0, 3, 1, 0,
+const LONG_KEY: [u8; 49] = [
+    0, 2, 1, 2, 2, 2, 3, 2, 4, 9, 255, 255, 255, 255, 255, 255, 255, 255, 9, 255, 255, 255, 255,
+    255, 255, 255, 255, 0, 80, 0, 16, 1, 117, 98, 117, 110, 116, 117, 0, 10, 255, 255, 255, 255,
+    255, 255, 255, 255, 0,
 ];
 
 // The key of the text, asked for a second time where memory was refused.
