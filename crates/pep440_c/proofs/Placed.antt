@@ -1,12 +1,14 @@
--- Many texts, read one after another, and versions with their places.
-use Rattle.std.proofs.Common.{Bor, ◌≡◌, ◌<◌, ◌+◌, ◌∙◌, ℕ, List, [], ◌∷◌, ◌++◌, length, get_or, take, drop, map, refl, sym, ap, subst, arith, take-append-drop}
-use Rattle.std.proofs.lemmas.List.{drop_more, get_or_default, length-map, length-take-le, map-append}
-use Rattle.std.specs.List.{AllZip, enumerate_from}
+-- Many texts, read one after another: versions with their places, marks, sort keys.
+use Rattle.std.proofs.Common.{Bor, ◌≡◌, ◌<◌, ◌+◌, ◌∙◌, ℕ, List, [], ◌∷◌, ◌++◌, length, get_or, take, drop, map, refl, sym, ap, subst, append-nil, arith, take-append-drop}
+use Rattle.std.proofs.lemmas.List.Concat.{flat_map-append}
+use Rattle.std.proofs.lemmas.List.{drop_more, get_or_default, length-append, length-map, length-take-le, map-append}
+use Rattle.std.specs.List.{AllZip, enumerate_from, flat_map}
 use Rattle.std.specs.List.Sorted.{IsPermutation, IsSorted, IsStable}
 use Rattle.std.specs.Prelude.{IfOk, Result, Ok, Err}
 use Rattle.pep440_rs.specs.Specifiers.{Spec}
+use Rattle.pep440_sort_key.specs.Keys.{key_bytes}
 use Rattle.pep440_version.specs.Record.{Record}
-use Rattle.pep440_c.specs.Batches.{ArrangesPlaces, IsMark, MeansPlaced, RefusesFirst, Sorts, StopsAll, placed_cmp, stop_at}
+use Rattle.pep440_c.specs.Batches.{ArrangesPlaces, IsMark, MeansKeys, MeansPlaced, RefusesFirst, Sorts, StopsAll, ends_from, placed_cmp, stop_at}
 use Rattle.pep440_c.specs.Statuses.{Faults}
 use Rattle.pep440_c.specs.declared.texts.Fault.{Fault}
 use Rattle.pep440_c.specs.declared.texts.Fault.TheVariants.{VersionRefused, ListRefused, OutOfMemory}
@@ -55,13 +57,13 @@ placed_more texts i x pairs new v inside means more (versions, all, placed) =
       more ∙ ap (λ (l : List (ℕ × Record)). l ++ (i, v) ∷ []) placed ∙ ap (λ (k : ℕ). enumerate_from 0 versions ++ (k, v) ∷ []) (omega (arith, long)) ∙ sym (placed_push 0 versions v),
     )
 
--- so the text at a place that is refused is the first
-pub stops_at : (texts : List (Bor (List ℕ))) (i : ℕ) (x : Bor (List ℕ)) (pairs : List (ℕ × Record)) (f : Fault) (s : Stop) → i < length texts → s ≡ stop_at i f
-    → Faults (RefusesBytes (get_or texts i x).now) ⊥ f → MeansPlaced (map (λ t. t.now) (take i texts)) pairs → StopsAll (map (λ t. t.now) texts) s
-stops_at texts i x pairs VersionRefused s inside is why (versions, all, placed) = subst (λ (t : Stop). StopsAll (map (λ (y : Bor (List ℕ)). y.now) texts) t) (sym is)
+-- the text at a place that is refused is the first, where those before it mean versions
+pub stops_at : (texts : List (Bor (List ℕ))) (i : ℕ) (x : Bor (List ℕ)) (f : Fault) (s : Stop) (versions : List Record) → i < length texts → s ≡ stop_at i f
+    → Faults (RefusesBytes (get_or texts i x).now) ⊥ f → AllZip MeansBytes (map (λ t. t.now) (take i texts)) versions → StopsAll (map (λ t. t.now) texts) s
+stops_at texts i x VersionRefused s versions inside is why all = subst (λ (t : Stop). StopsAll (map (λ (y : Bor (List ℕ)). y.now) texts) t) (sym is)
     (refused_first texts i (get_or texts i x) versions inside (get_or_default texts i x (get_or texts i x) inside) why all)
-stops_at texts i x pairs ListRefused s inside is why placed = absurd why
-stops_at texts i x pairs OutOfMemory s inside is why placed = subst (λ (t : Stop). StopsAll (map (λ (y : Bor (List ℕ)). y.now) texts) t) (sym is) tt
+stops_at texts i x ListRefused s versions inside is why all = absurd why
+stops_at texts i x OutOfMemory s versions inside is why all = subst (λ (t : Stop). StopsAll (map (λ (y : Bor (List ℕ)). y.now) texts) t) (sym is) tt
 
 -- one more mark
 pub marked_more : (list : List Spec) (texts : List (Bor (List ℕ))) (i : ℕ) (x : Bor (List ℕ)) (marks new : List ℕ) (m : ℕ) → i < length texts → IsMark list (get_or texts i x).now m → new ≡ marks ++ m ∷ []
@@ -78,3 +80,27 @@ pub arranged_if : {V E : Type 0} (view : V → List ℕ) (given sorted : List (�
     → (seen : List (ℕ × Record)) → seen ≡ sorted → IfOk result (λ found. view found ≡ map (λ (p : ℕ × Record). p.0) seen) → IfOk result (λ found. ArrangesPlaces given (view found))
 arranged_if view given sorted (Ok found) same rises stable seen is told = record { sorted = sorted; same = same; rises = rises; stable = stable; told = rw is at told }
 arranged_if view given sorted (Err e) same rises stable seen is told = tt
+
+-- ---- sort keys
+
+-- one more key, and where it ends
+ends_push : (start : ℕ) (versions : List Record) (v : Record) → ends_from start (versions ++ v ∷ []) ≡ ends_from start versions ++ (start + (length (flat_map key_bytes versions) + length (key_bytes v))) ∷ []
+ends_push start [] v = ap (λ (n : ℕ). n ∷ []) (omega arith)
+ends_push start (r ∷ rest) v =
+    let all : length (key_bytes r ++ flat_map key_bytes rest) ≡ length (key_bytes r) + length (flat_map key_bytes rest) = length-append (key_bytes r) (flat_map key_bytes rest) in
+    ap (λ (l : List ℕ). (start + length (key_bytes r)) ∷ l) (ends_push (start + length (key_bytes r)) rest v
+    ∙ ap (λ (n : ℕ). ends_from (start + length (key_bytes r)) rest ++ n ∷ []) (omega (arith, all)))
+
+pub keys_more : (texts : List (Bor (List ℕ))) (i : ℕ) (x : Bor (List ℕ)) (bytes new ends new_ends : List ℕ) (v : Record) → i < length texts → MeansBytes (get_or texts i x).now v
+    → new ≡ bytes ++ key_bytes v → new_ends ≡ ends ++ length new ∷ [] → MeansKeys (map (λ t. t.now) (take i texts)) bytes ends → MeansKeys (map (λ t. t.now) (take (i + 1) texts)) new new_ends
+keys_more texts i x bytes new ends new_ends v inside means more ended (versions, all, keys, places) =
+    let long : length (bytes ++ key_bytes v) ≡ length bytes + length (key_bytes v) = length-append bytes (key_bytes v) in
+    let count : length new ≡ length (bytes ++ key_bytes v) = ap length more in
+    let same : length bytes ≡ length (flat_map key_bytes versions) = ap length keys in
+    (
+      versions ++ v ∷ [],
+      each_more MeansBytes (λ n t a. Unit {0}) (λ (t : Bor (List ℕ)). t.now) texts i (get_or texts i x) versions (versions ++ v ∷ []) v inside (get_or_default texts i x (get_or texts i x) inside) means refl all,
+      more ∙ ap (λ (l : List ℕ). l ++ key_bytes v) keys ∙ ap (λ (l : List ℕ). flat_map key_bytes versions ++ l) (sym (append-nil (key_bytes v)))
+      ∙ sym (flat_map-append key_bytes versions (v ∷ [])),
+      ended ∙ ap (λ (l : List ℕ). l ++ length new ∷ []) places ∙ ap (λ (n : ℕ). ends_from 0 versions ++ n ∷ []) (omega (arith, long, count, same)) ∙ sym (ends_push 0 versions v),
+    )

@@ -1,12 +1,15 @@
 -- What each call on one text answers.
-use Rattle.std.specs.Prelude.{◌≡◌, ◌⊎◌, ℕ, ℤ, pos, negsuc, List, [], Bool, Option, None, Some, codes, length, is_some, map}
+use Rattle.std.specs.Prelude.{◌≡◌, ◌≢◌, ◌⊎◌, ℕ, ℤ, pos, negsuc, List, [], Bool, Option, None, Some, codes, length, is_some, map}
 use Rattle.std.specs.List.{list_any}
 use Rattle.std.specs.Option.{option_map_or}
+use Rattle.std.specs.Str.{IsUtf8}
 use Rattle.std.specs.declared.cmp.Ordering.{Ordering}
 use Rattle.std.specs.declared.cmp.Ordering.TheVariants.{Less, Equal, Greater}
 use Rattle.pep440_rs.specs.Lists.{list_print}
 use Rattle.pep440_rs.specs.Matching.{any_prerelease, has_local, list_matches}
 use Rattle.pep440_rs.specs.Specifiers.{Spec}
+use Rattle.pep440_sort_key.specs.Keys.{key_bytes}
+use Rattle.pep440_tool.specs.Answers.{RangeAnswer, ToolAnswer}
 use Rattle.pep440_version.specs.Key.{record_cmp}
 use Rattle.pep440_version.specs.Print.{print}
 use Rattle.pep440_version.specs.Record.{Record}
@@ -34,6 +37,18 @@ IsRefusal text bytes = ((r : Record) × MeansBytes text r × (bytes ≡ [])) ⊎
 -- why the text means no list; nothing where it means one
 abbrev pub IsListRefusal : List ℕ → List ℕ → Type 0
 IsListRefusal text bytes = ((list : List Spec) × MeansListBytes text list × (bytes ≡ [])) ⊎ TellsWhyNoList text bytes
+
+-- the sort key of a version
+abbrev pub IsKey : List ℕ → List ℕ → Type 0
+IsKey text bytes = (r : Record) × MeansBytes text r × (bytes ≡ key_bytes r)
+
+-- the range of a list, as the program prints it
+abbrev pub IsRange : List ℕ → List ℕ → Type 0
+IsRange text bytes = IsUtf8 text × RangeAnswer text (record { output = bytes; status = 0 })
+
+-- the list has no range that the program prints
+abbrev pub RefusesRange : List ℕ → Type 0
+RefusesRange text = (¬ IsUtf8 text) ⊎ (IsUtf8 text × (a : ToolAnswer) × RangeAnswer text a × (a.status ≢ 0))
 
 -- ---- order and matching
 

@@ -6,6 +6,7 @@ use Rattle.std.specs.Ordering.{on}
 use Rattle.std.specs.declared.cmp.Ordering.{Ordering}
 use Rattle.pep440_rs.specs.Matching.{list_matches}
 use Rattle.pep440_rs.specs.Specifiers.{Spec}
+use Rattle.pep440_sort_key.specs.Keys.{key_bytes}
 use Rattle.pep440_version.specs.Key.{record_cmp}
 use Rattle.pep440_version.specs.Record.{Record}
 use Rattle.pep440_c.specs.declared.batch.Stop.{Stop}
@@ -13,7 +14,7 @@ use Rattle.pep440_c.specs.declared.batch.Stop.TheVariants as stop
 use Rattle.pep440_c.specs.declared.texts.Fault.{Fault}
 use Rattle.pep440_c.specs.declared.texts.Fault.TheVariants as fault
 use Rattle.pep440_c.specs.Meaning.{MeansBytes, MeansListBytes, RefusesBytes, RefusesListBytes}
-use Rattle.pep440_c.specs.Statuses.{Fails, PutsFront}
+use Rattle.pep440_c.specs.Statuses.{Fails, PutsBoth, PutsFront}
 
 -- ---- which of the texts a list contains
 
@@ -69,6 +70,21 @@ abbrev pub SortAnswer : List (List ℕ) → List ℕ → List ℕ → ℕ → �
 SortAnswer texts old places old_at at status =
     ((found : List ℕ) × Sorts texts found × PutsFront found old places status × (at ≡ old_at))
     ⊎ ((places ≡ old) × StopsAt texts old_at at status)
+
+-- where each key ends, the first of them beginning here
+abbrev pub ends_from : ℕ → List Record → List ℕ
+ends_from start [] = []
+ends_from start (r ∷ rest) = (start + length (key_bytes r)) ∷ ends_from (start + length (key_bytes r)) rest
+
+-- each text means a version, and these are their sort keys, one after the other, and where each of them ends
+abbrev pub MeansKeys : List (List ℕ) → List ℕ → List ℕ → Type 0
+MeansKeys texts bytes ends = (versions : List Record) × AllZip MeansBytes texts versions × (bytes ≡ flat_map key_bytes versions) × (ends ≡ ends_from 0 versions)
+
+-- the keys and their ends are put at the front of the caller's, or there are too few; how many bytes it takes is told. Or all stays
+abbrev pub KeysAnswer : List (List ℕ) → List ℕ → List ℕ → List ℕ → List ℕ → ℕ → ℕ → ℕ → ℕ → ℕ → Type 0
+KeysAnswer texts old bytes old_ends ends old_written written old_at at status =
+    ((found : List ℕ) × (places : List ℕ) × MeansKeys texts found places × (written ≡ length found) × PutsBoth found places old bytes old_ends ends status × (at ≡ old_at))
+    ⊎ ((bytes ≡ old) × (ends ≡ old_ends) × (written ≡ old_written) × StopsAt texts old_at at status)
 
 -- why nothing is given, where memory didn't run out
 abbrev pub StopsAll : List (List ℕ) → Stop → Type 0

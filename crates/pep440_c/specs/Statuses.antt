@@ -36,6 +36,12 @@ PutsFront items old new status =
     ((status ≡ 0) × (length items ≤ length old) × (new ≡ items ++ drop (length items) old))
     ⊎ ((status ≡ 4) × (length old < length items) × (new ≡ old))
 
+-- so items of two kinds, where there is room for both
+abbrev pub PutsBoth : {X Y : Type 0} → List X → List Y → List X → List X → List Y → List Y → ℕ → Type 0
+PutsBoth first second old new old_second new_second status =
+    ((status ≡ 0) × (length first ≤ length old) × (length second ≤ length old_second) × (new ≡ first ++ drop (length first) old) × (new_second ≡ second ++ drop (length second) old_second))
+    ⊎ ((status ≡ 4) × ((length old < length first) ⊎ (length old_second < length second)) × (new ≡ old) × (new_second ≡ old_second))
+
 -- bytes of which this holds are put at the front of the caller's, or there are too few; how many it takes is told. Or all stays
 abbrev pub PutsBytes : Type 0 → Type 0 → (List ℕ → Type 0) → List ℕ → List ℕ → ℕ → ℕ → ℕ → Type 0
 PutsBytes version list P old new old_written written status =

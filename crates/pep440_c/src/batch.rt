@@ -1,13 +1,15 @@
 // Many texts in one call.
-ghost use Rattle.std.specs.Prelude.{◌≡◌, map, IfOk};
+ghost use Rattle.std.specs.Prelude.{◌≡◌, ◌++◌, ◌∷◌, [], length, map, IfOk};
 ghost use Rattle.std.specs.List.{AllZip};
-ghost use Rattle.pep440_c.specs.Batches.{ArrangesPlaces, GivesAll, IsMark, Marks, MeansPlaced, Sorts, TellsStop, placed_cmp, stop_at};
+ghost use Rattle.pep440_sort_key.specs.Keys.{key_bytes};
+ghost use Rattle.pep440_c.specs.Batches.{ArrangesPlaces, GivesAll, IsMark, Marks, MeansKeys, MeansPlaced, Sorts, TellsStop, placed_cmp, stop_at};
 ghost use Rattle.pep440_c.specs.Meaning.{RefusesListBytes};
 ghost use Rattle.pep440_c.specs.Statuses.{Gives};
 ghost use Rattle.pep440_c.specs.declared.batch.Stop.TheVariants.{OutOfMemory};
 
 use crate::texts::{Fault, read, read_list};
 use pep440_rs::{Version, VersionSpecifiers};
+use pep440_sort_key::sort_key;
 use std::alloc::{AllocError, AllocFailed, Global};
 use std::cmp::Ordering;
 
@@ -142,6 +144,43 @@ pub(crate) fn sorted(alloc: Global, texts: &[&[u8]]) -> Result<Vec<usize>, Stop>
 {
     let pairs = read_all(alloc, texts)?;
     Ok(arranged(alloc, pairs)?)
+}
+
+/// Sort keys, one after the other, and where each of them ends.
+#[derive(Drop)]
+pub(crate) struct Keys {
+    pub(crate) bytes: Vec<u8>,
+    pub(crate) ends: Vec<usize>,
+}
+
+impl Keys {
+    // One more key.
+    fn push(&mut self, alloc: Global, version: &Version) -> Result<(), AllocError>
+        ensures bytes { IfOk result (λ _. self.new.bytes.items ≡ self.old.bytes.items ++ key_bytes version.now) }
+        ensures ends { IfOk result (λ _. self.new.ends.items ≡ self.old.ends.items ++ length self.new.bytes.items ∷ []) }
+    {
+        let key = sort_key(alloc, version)?;
+        self.bytes.extend_from_slice(key.as_slice())?;
+        self.ends.push(self.bytes.len())?;
+        Ok(())
+    }
+}
+
+/// The sort keys of the texts.
+pub(crate) fn sort_keys(alloc: Global, texts: &[&[u8]]) -> Result<Keys, Stop>
+    ensures { GivesAll (map (λ t. t.now) texts.now) (λ keys. MeansKeys (map (λ t. t.now) texts.now) keys.bytes.items keys.ends.items) result }
+{
+    let mut keys = Keys {
+        bytes: Vec::new(alloc),
+        ends: Vec::with_capacity(alloc, texts.len())?,
+    };
+    for (place, text) in texts.iter().enumerate() {
+        match read(alloc, text) {
+            Ok(version) => keys.push(alloc, &version)?,
+            Err(fault) => return Err(Stop::at(place, fault)),
+        }
+    }
+    Ok(keys)
 }
 
 /// Tells the place of the text that is refused, and the status.

@@ -5,8 +5,8 @@
 #![tactic(auto)]
 
 ghost use Rattle.std.specs.Prelude.{◌≡◌, ◌⊎◌, map};
-ghost use Rattle.pep440_c.specs.Answers.{Contains, IsListRefusal, IsNormal, IsNormalList, IsRefusal, NamesPrerelease, Orders, PartsAnswer, RefusesSecond, order_number};
-ghost use Rattle.pep440_c.specs.Batches.{FilterAnswer, SortAnswer};
+ghost use Rattle.pep440_c.specs.Answers.{Contains, IsKey, IsListRefusal, IsNormal, IsNormalList, IsRange, IsRefusal, NamesPrerelease, Orders, PartsAnswer, RefusesRange, RefusesSecond, order_number};
+ghost use Rattle.pep440_c.specs.Batches.{FilterAnswer, KeysAnswer, SortAnswer};
 ghost use Rattle.pep440_c.specs.Meaning.{RefusesBytes, RefusesListBytes};
 ghost use Rattle.pep440_c.specs.Statuses.{Puts, PutsBytes};
 
@@ -16,7 +16,7 @@ mod telling;
 mod texts;
 
 use crate::batch::Stop;
-use crate::room::{ANSWERED, put, put_text};
+use crate::room::{ANSWERED, put, put_both, put_bytes, put_text};
 use std::alloc::Global;
 use std::cmp::Ordering;
 
@@ -167,6 +167,33 @@ pub extern "C" fn pep440_parts_of(
     }
 }
 
+/// Writes the sort key of the version: keys stand byte by byte as their versions do (PEP 440, "Summary of permitted suffixes and
+/// relative ordering").
+#[unsafe(no_mangle)]
+pub extern "C" fn pep440_sort_key(
+    alloc: Global,
+    text: &[u8],
+    out: &mut [u8],
+    written: &mut usize,
+) -> u8
+    ensures { PutsBytes (RefusesBytes text.now) ⊥ (IsKey text.now) out.old out.new written.old written.new result }
+{
+    put_bytes(texts::key(alloc, text), out, written)
+}
+
+/// Writes the range of the list, a segment a line. A list whose range would need a number above the greatest is refused, too.
+#[unsafe(no_mangle)]
+pub extern "C" fn pep440_ranges(
+    alloc: Global,
+    list: &[u8],
+    out: &mut [u8],
+    written: &mut usize,
+) -> u8
+    ensures { PutsBytes ⊥ (RefusesRange list.now) (IsRange list.now) out.old out.new written.old written.new result }
+{
+    put_bytes(texts::range(alloc, list), out, written)
+}
+
 /// Marks each text, in its place: 1 the list contains its version, 0 it doesn't, 2 it is no version.
 #[unsafe(no_mangle)]
 pub extern "C" fn pep440_filter(
@@ -196,6 +223,27 @@ pub extern "C" fn pep440_sort(
 {
     match batch::sorted(alloc, texts) {
         Ok(found) => put(found.as_slice(), places),
+        Err(stop) => batch::tell(stop, at),
+    }
+}
+
+/// Writes the sort keys of the texts, one after the other, and where each of them ends. `at` as above.
+#[unsafe(no_mangle)]
+pub extern "C" fn pep440_sort_keys(
+    alloc: Global,
+    texts: &[&[u8]],
+    out: &mut [u8],
+    ends: &mut [usize],
+    written: &mut usize,
+    at: &mut usize,
+) -> u8
+    ensures { KeysAnswer (map (λ t. t.now) texts.now) out.old out.new ends.old ends.new written.old written.new at.old at.new result }
+{
+    match batch::sort_keys(alloc, texts) {
+        Ok(found) => {
+            *written = found.bytes.len();
+            put_both(found.bytes.as_slice(), found.ends.as_slice(), out, ends)
+        }
         Err(stop) => batch::tell(stop, at),
     }
 }

@@ -3,13 +3,15 @@ ghost use Rattle.std.specs.Prelude.{◌≡◌, ◌⊎◌, is_none, string_bytes}
 ghost use Rattle.std.specs.List.{list_any};
 ghost use Rattle.pep440_rs.specs.Matching.{any_prerelease};
 ghost use Rattle.pep440_rs.specs.Specifiers.{Spec};
-ghost use Rattle.pep440_c.specs.Answers.{IsListRefusal, IsNormal, IsNormalList, IsRefusal, Orders, Contains, NamesPrerelease, RefusesSecond};
+ghost use Rattle.pep440_c.specs.Answers.{Contains, IsKey, IsListRefusal, IsNormal, IsNormalList, IsRange, IsRefusal, NamesPrerelease, Orders, RefusesRange, RefusesSecond};
 ghost use Rattle.pep440_c.specs.Meaning.{MeansBytes, MeansListBytes, RefusesBytes, RefusesListBytes};
 ghost use Rattle.pep440_c.specs.Statuses.{Gives, fault_status};
 ghost use Rattle.pep440_c.specs.declared.texts.Fault.TheVariants.{OutOfMemory};
 ghost use Rattle.pep440_version.specs.Errors.{refusal_of};
 
 use pep440_rs::{ErrorKind, SpecifiersErrorKind, Version, VersionSpecifiers};
+use pep440_sort_key::sort_key;
+use pep440_tool::answer;
 use std::alloc::{AllocError, AllocFailed, Global};
 use std::cmp::Ordering;
 
@@ -181,4 +183,27 @@ pub(crate) fn any_prerelease(alloc: Global, list: &[u8]) -> Result<bool, Fault>
 {
     let specifiers = read_list(alloc, list)?;
     Ok(any_member(&specifiers))
+}
+
+/// The sort key of a version.
+pub(crate) fn key(alloc: Global, bytes: &[u8]) -> Result<Vec<u8>, Fault>
+    ensures { Gives (RefusesBytes bytes.now) ⊥ (λ key. IsKey bytes.now key.items) result }
+{
+    let version = read(alloc, bytes)?;
+    Ok(sort_key(alloc, &version)?)
+}
+
+/// The range of a list, as the program prints it.
+pub(crate) fn range(alloc: Global, list: &[u8]) -> Result<Vec<u8>, Fault>
+    ensures { Gives ⊥ (RefusesRange list.now) (λ text. IsRange list.now text.items) result }
+{
+    let Ok(text) = std::str::from_utf8(list) else {
+        return Err(Fault::ListRefused);
+    };
+    let words = [String::from_str(alloc, "range")?, String::from_str(alloc, text)?];
+    let said = answer(alloc, &words, &[])?;
+    if said.status != 0 {
+        return Err(Fault::ListRefused);
+    }
+    Ok(said.output)
 }

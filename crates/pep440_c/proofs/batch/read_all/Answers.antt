@@ -2,7 +2,7 @@ use Rattle.pep440_c.proofs.Placed.{placed_more, stops_at}
 use Rattle.pep440_c.proofs.batch.read_all.Goals as goal
 
 pub returns-in-Err : goal.returns-in-Err
-returns-in-Err c = stops_at c.args.texts.now c.loop-place.place _ c.loop-place.pairs.items c.in-Err.fault c.at.result c.loop-place-test.true c.at.ensures c.in-Err.ensures c.loop-place.invariant
+returns-in-Err c = stops_at c.args.texts.now c.loop-place.place _ c.in-Err.fault c.at.result c.loop-place.invariant.0 c.loop-place-test.true c.at.ensures c.in-Err.ensures c.loop-place.invariant.1
 
 pub loop-place-preserved : goal.loop-place-preserved
 loop-place-preserved c = placed_more c.args.texts.now c.loop-place.place _ c.loop-place.pairs.items c.push.new.self.items c.in-Ok.version c.loop-place-test.true
