@@ -50,8 +50,7 @@ pub placed_more : (texts : List (Bor (List ℕ))) (i : ℕ) (x : Bor (List ℕ))
     → MeansPlaced (map (λ t. t.now) (take i texts)) pairs → MeansPlaced (map (λ t. t.now) (take (i + 1) texts)) new
 placed_more texts i x pairs new v inside means more (versions, all, placed) =
     let long : length versions ≡ i =
-        sym (all_length (map (λ (t : Bor (List ℕ)). t.now) (take i texts)) versions all) ∙ length-map (take i texts) (λ (t : Bor (List ℕ)). t.now) ∙ length-take-le i texts (omega (arith, inside)) in
-    (
+    sym (all_length (map (λ (t : Bor (List ℕ)). t.now) (take i texts)) versions all) ∙ length-map (take i texts) (λ (t : Bor (List ℕ)). t.now) ∙ length-take-le i texts (omega (arith, inside)) in (
       versions ++ v ∷ [],
       each_more MeansBytes (λ n t a. Unit {0}) (λ (t : Bor (List ℕ)). t.now) texts i (get_or texts i x) versions (versions ++ v ∷ []) v inside (get_or_default texts i x (get_or texts i x) inside) means refl all,
       more ∙ ap (λ (l : List (ℕ × Record)). l ++ (i, v) ∷ []) placed ∙ ap (λ (k : ℕ). enumerate_from 0 versions ++ (k, v) ∷ []) (omega (arith, long)) ∙ sym (placed_push 0 versions v),
@@ -96,11 +95,10 @@ pub keys_more : (texts : List (Bor (List ℕ))) (i : ℕ) (x : Bor (List ℕ)) (
 keys_more texts i x bytes new ends new_ends v inside means more ended (versions, all, keys, places) =
     let long : length (bytes ++ key_bytes v) ≡ length bytes + length (key_bytes v) = length-append bytes (key_bytes v) in
     let count : length new ≡ length (bytes ++ key_bytes v) = ap length more in
-    let same : length bytes ≡ length (flat_map key_bytes versions) = ap length keys in
-    (
+    let same : length bytes ≡ length (flat_map key_bytes versions) = ap length keys in (
       versions ++ v ∷ [],
       each_more MeansBytes (λ n t a. Unit {0}) (λ (t : Bor (List ℕ)). t.now) texts i (get_or texts i x) versions (versions ++ v ∷ []) v inside (get_or_default texts i x (get_or texts i x) inside) means refl all,
       more ∙ ap (λ (l : List ℕ). l ++ key_bytes v) keys ∙ ap (λ (l : List ℕ). flat_map key_bytes versions ++ l) (sym (append-nil (key_bytes v)))
-      ∙ sym (flat_map-append key_bytes versions (v ∷ [])),
+          ∙ sym (flat_map-append key_bytes versions (v ∷ [])),
       ended ∙ ap (λ (l : List ℕ). l ++ length new ∷ []) places ∙ ap (λ (n : ℕ). ends_from 0 versions ++ n ∷ []) (omega (arith, long, count, same)) ∙ sym (ends_push 0 versions v),
     )

@@ -74,11 +74,7 @@ fn mark(alloc: Global, list: &VersionSpecifiers, text: &[u8]) -> Result<u8, Allo
 }
 
 // Of each text, what the list says of it.
-fn marks_of(
-    alloc: Global,
-    list: &VersionSpecifiers,
-    texts: &[&[u8]],
-) -> Result<Vec<u8>, AllocError>
+fn marks_of(alloc: Global, list: &VersionSpecifiers, texts: &[&[u8]]) -> Result<Vec<u8>, AllocError>
     ensures { IfOk result (λ found. AllZip (IsMark list.now) (map (λ t. t.now) texts.now) found.items) }
 {
     let mut found = Vec::with_capacity(alloc, texts.len())?;

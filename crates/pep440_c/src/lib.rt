@@ -13,6 +13,8 @@ ghost use Rattle.pep440_c.specs.Statuses.{Puts, PutsBytes};
 mod batch;
 mod room;
 mod telling;
+#[cfg(test)]
+mod tests;
 mod texts;
 
 use crate::batch::Stop;
@@ -196,12 +198,7 @@ pub extern "C" fn pep440_ranges(
 
 /// Marks each text, in its place: 1 the list contains its version, 0 it doesn't, 2 it is no version.
 #[unsafe(no_mangle)]
-pub extern "C" fn pep440_filter(
-    alloc: Global,
-    list: &[u8],
-    texts: &[&[u8]],
-    marks: &mut [u8],
-) -> u8
+pub extern "C" fn pep440_filter(alloc: Global, list: &[u8], texts: &[&[u8]], marks: &mut [u8]) -> u8
     ensures { FilterAnswer list.now (map (λ t. t.now) texts.now) marks.old marks.new result }
 {
     match batch::marks(alloc, list, texts) {

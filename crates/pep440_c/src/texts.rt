@@ -200,7 +200,10 @@ pub(crate) fn range(alloc: Global, list: &[u8]) -> Result<Vec<u8>, Fault>
     let Ok(text) = std::str::from_utf8(list) else {
         return Err(Fault::ListRefused);
     };
-    let words = [String::from_str(alloc, "range")?, String::from_str(alloc, text)?];
+    let words = [
+        String::from_str(alloc, "range")?,
+        String::from_str(alloc, text)?,
+    ];
     let said = answer(alloc, &words, &[])?;
     if said.status != 0 {
         return Err(Fault::ListRefused);

@@ -1,0 +1,289 @@
+//! Each call once where it answers and where it refuses, with too little room, and with each request for memory refused in turn.
+use crate::{
+    Parts, pep440_any_prerelease, pep440_compare, pep440_contains, pep440_filter,
+    pep440_list_refusal, pep440_normalize, pep440_normalize_list, pep440_parts_of, pep440_ranges,
+    pep440_refusal, pep440_sort, pep440_sort_key, pep440_sort_keys,
+};
+use std::alloc::Global;
+use std::test::Fail;
+
+// The calls that write bytes.
+#[derive(Clone, Copy, Debug)]
+enum Call {
+    Normalize,
+    NormalizeList,
+    Refusal,
+    ListRefusal,
+    SortKey,
+    Ranges,
+}
+
+fn write(alloc: Global, call: Call, text: &[u8], out: &mut [u8], written: &mut usize) -> u8 {
+    match call {
+        Call::Normalize => pep440_normalize(alloc, text, out, written),
+        Call::NormalizeList => pep440_normalize_list(alloc, text, out, written),
+        Call::Refusal => pep440_refusal(alloc, text, out, written),
+        Call::ListRefusal => pep440_list_refusal(alloc, text, out, written),
+        Call::SortKey => pep440_sort_key(alloc, text, out, written),
+        Call::Ranges => pep440_ranges(alloc, text, out, written),
+    }
+}
+
+// Texts that take memory wherever the call may take any: the version's numbers are too many for one word.
+const WRITTEN: [(Call, &[u8], &[u8]); 11] = [
+    (
+        Call::Normalize,
+        b" V1.0-Alpha.2-3.DEV+Ubuntu-01 ",
+        b"1.0a2.post3.dev0+ubuntu.1",
+    ),
+    (Call::Normalize, b"1.2.3.4.5.6", b"1.2.3.4.5.6"),
+    (Call::NormalizeList, b">=1.16 ,<2.0", b">=1.16, <2.0"),
+    (Call::NormalizeList, b"", b""),
+    (
+        Call::Refusal,
+        b"1.0prev",
+        b"after parsing `1.0pre`, found `v`, which is not part of a valid version",
+    ),
+    (Call::Refusal, b"1.2.3.4.5.6", b""),
+    (Call::Refusal, b"1.\xff", b"not UTF-8"),
+    (Call::ListRefusal, b">=1.2.3.4.5.6", b""),
+    (Call::ListRefusal, b"\xc3", b"not UTF-8"),
+    (
+        Call::SortKey,
+        b"1.0.post1+ab.7",
+        b"\x00\x02\x01\x00\x50\x11\x01\x10\x01ab\x00\x03\x07\x00",
+    ),
+    (
+        Call::Ranges,
+        b">=1.0,<2.0,!=1.5",
+        b"[1.0, 1.5)\n(1.5, 2.0~min0)\n",
+    ),
+];
+
+const REFUSED: [(Call, &[u8], u8); 6] = [
+    (Call::Normalize, b"1.2.3.4.5.6x", 1),
+    (Call::Normalize, b"1.0\xff", 1),
+    (Call::NormalizeList, b">=1.16; <2.0", 2),
+    (Call::NormalizeList, b">=1.0\xff", 2),
+    (Call::SortKey, b"1.2.3.4.5.6x", 1),
+    (Call::Ranges, b"~1.2.3.4.5.6", 2),
+];
+
+// The status of the call, asked for a second time where memory was refused; what the caller passed is then as it was.
+fn write_again(
+    rt: HostRuntime,
+    call: Call,
+    text: &[u8],
+    out: &mut [u8],
+    written: &mut usize,
+) -> u8 {
+    let status = write(rt.alloc(), call, text, out, written);
+    if status == 3 {
+        write(rt.alloc(), call, text, out, written)
+    } else {
+        status
+    }
+}
+
+#[test]
+fn sweep_written(rt: HostRuntime) -> Result<(), Fail> {
+    for (call, text, want) in WRITTEN {
+        let mut out = [7u8; 96];
+        let mut written = 99;
+        let status = write_again(rt, call, text, &mut out, &mut written);
+        assert!(rt; status == 0 && written == want.len(), "{call:?}");
+        assert!(rt; &out[..written] == want && out[written] == 7, "{call:?}");
+    }
+    Ok(())
+}
+
+#[test]
+fn sweep_refused(rt: HostRuntime) -> Result<(), Fail> {
+    for (call, text, want) in REFUSED {
+        let mut out = [7u8; 96];
+        let mut written = 99;
+        let status = write_again(rt, call, text, &mut out, &mut written);
+        assert!(rt;
+            status == want && written == 99 && out == [7u8; 96],
+            "{call:?}"
+        );
+    }
+    Ok(())
+}
+
+#[test]
+fn little_room(rt: HostRuntime) -> Result<(), Fail> {
+    for (call, text, want) in WRITTEN {
+        if want.len() > 0 {
+            let mut out = [7u8; 96];
+            let mut written = 99;
+            let status = write(
+                rt.alloc(),
+                call,
+                text,
+                &mut out[..want.len() - 1],
+                &mut written,
+            );
+            assert!(rt;
+                status == 4 && written == want.len() && out == [7u8; 96],
+                "{call:?}"
+            );
+        }
+    }
+    Ok(())
+}
+
+#[test]
+fn sweep_compare(rt: HostRuntime) -> Result<(), Fail> {
+    for (left, right, want) in [
+        ("1.0", "1.0.0", 0),
+        ("1.2.3.4.5.6.dev1", "1.2.3.4.5.6", -1),
+        ("1.0+5", "1.0+a", 1),
+    ] {
+        let mut order = 7;
+        let status = pep440_compare(rt.alloc(), left.as_bytes(), right.as_bytes(), &mut order);
+        if status == 3 {
+            assert!(rt; order == 7);
+            pep440_compare(rt.alloc(), left.as_bytes(), right.as_bytes(), &mut order);
+        }
+        assert!(rt; order == want, "{left} and {right}");
+    }
+    Ok(())
+}
+
+#[test]
+fn sweep_contains(rt: HostRuntime) -> Result<(), Fail> {
+    for (list, text, want) in [
+        (">=1.16, <2.0", "1.19", true),
+        (">=1.16, <2.0", "2.0a1", false),
+        ("===1.2.3.4.5.6", "1.2.3.4.5.6", true),
+    ] {
+        let mut contained = !want;
+        if pep440_contains(rt.alloc(), list.as_bytes(), text.as_bytes(), &mut contained) == 3 {
+            assert!(rt; contained != want);
+            pep440_contains(rt.alloc(), list.as_bytes(), text.as_bytes(), &mut contained);
+        }
+        assert!(rt; contained == want, "{list} and {text}");
+    }
+    Ok(())
+}
+
+#[test]
+fn sweep_any_prerelease(rt: HostRuntime) -> Result<(), Fail> {
+    for (list, want) in [
+        (">=1.0, <2.0", false),
+        (">=1.0, <2.0.dev1", true),
+        ("==1.0a1", true),
+        ("", false),
+    ] {
+        let mut any = !want;
+        if pep440_any_prerelease(rt.alloc(), list.as_bytes(), &mut any) == 3 {
+            assert!(rt; any != want);
+            pep440_any_prerelease(rt.alloc(), list.as_bytes(), &mut any);
+        }
+        assert!(rt; any == want, "{list}");
+    }
+    Ok(())
+}
+
+const NO_PARTS: Parts = Parts {
+    epoch: 9,
+    pre: 9,
+    post: 9,
+    dev: 9,
+    release_length: 9,
+    pre_kind: 9,
+    has_post: false,
+    has_dev: false,
+    has_local: false,
+};
+
+#[test]
+fn sweep_parts_of(rt: HostRuntime) -> Result<(), Fail> {
+    let text = b"1!2.3.4.5.6b7.post8.dev9+a";
+    let mut parts = NO_PARTS;
+    let mut release = [7; 6];
+    let mut status = pep440_parts_of(rt.alloc(), text, &mut parts, &mut release);
+    if status == 3 {
+        assert!(rt; parts.epoch == 9 && release == [7; 6]);
+        status = pep440_parts_of(rt.alloc(), text, &mut parts, &mut release);
+    }
+    assert!(rt; status == 0 && release == [2, 3, 4, 5, 6, 7]);
+    assert!(rt; parts.epoch == 1 && parts.release_length == 5 && parts.pre_kind == 2);
+    assert!(rt; parts.pre == 7 && parts.post == 8 && parts.dev == 9);
+    assert!(rt; parts.has_post && parts.has_dev && parts.has_local);
+    Ok(())
+}
+
+#[test]
+fn sweep_filter(rt: HostRuntime) -> Result<(), Fail> {
+    let texts: [&[u8]; 5] = [b"1.0", b"0.9", b"1.2.3.4.5.6", b"x", b"1.6"];
+    let mut marks = [7u8; 6];
+    let mut status = pep440_filter(rt.alloc(), b">=1,!=1.2.*", &texts, &mut marks);
+    if status == 3 {
+        assert!(rt; marks == [7u8; 6]);
+        status = pep440_filter(rt.alloc(), b">=1,!=1.2.*", &texts, &mut marks);
+    }
+    assert!(rt; status == 0 && marks == [1, 0, 0, 2, 1, 7]);
+    Ok(())
+}
+
+#[test]
+fn sweep_sort(rt: HostRuntime) -> Result<(), Fail> {
+    let texts: [&[u8]; 5] = [b"1.0", b"0.9", b"1.2.3.4.5.6", b"1.0a1", b"1.0.0"];
+    let mut places = [7; 6];
+    let mut at = 99;
+    let mut status = pep440_sort(rt.alloc(), &texts, &mut places, &mut at);
+    if status == 3 {
+        assert!(rt; places == [7; 6] && at == 99);
+        status = pep440_sort(rt.alloc(), &texts, &mut places, &mut at);
+    }
+    assert!(rt; status == 0 && places == [1, 3, 0, 4, 2, 7] && at == 99);
+    Ok(())
+}
+
+#[test]
+fn sweep_sort_keys(rt: HostRuntime) -> Result<(), Fail> {
+    let texts: [&[u8]; 3] = [b"1.0", b"0", b"1.2.3.4.5.6"];
+    let mut out = [9u8; 40];
+    let mut ends = [99; 4];
+    let (mut written, mut at) = (99, 99);
+    let mut status = pep440_sort_keys(
+        rt.alloc(),
+        &texts,
+        &mut out,
+        &mut ends,
+        &mut written,
+        &mut at,
+    );
+    if status == 3 {
+        assert!(rt; out == [9u8; 40] && written == 99);
+        status = pep440_sort_keys(
+            rt.alloc(),
+            &texts,
+            &mut out,
+            &mut ends,
+            &mut written,
+            &mut at,
+        );
+    }
+    assert!(rt; status == 0 && written == 32 && ends == [8, 14, 32, 99] && at == 99);
+    assert!(rt; out[..14] == [0, 2, 1, 0, 80, 0, 16, 0, 0, 0, 80, 0, 16, 0]);
+    Ok(())
+}
+
+#[test]
+fn refuses(rt: HostRuntime) -> Result<(), Fail> {
+    let mut order = 7;
+    assert!(rt; pep440_compare(rt.alloc(), b"1", b"x", &mut order) == 1 && order == 7);
+    let mut contained = true;
+    assert!(rt; pep440_contains(rt.alloc(), b"1", b"x", &mut contained) == 2 && contained);
+    assert!(rt; pep440_contains(rt.alloc(), b"<1", b"x", &mut contained) == 1 && contained);
+    let texts: [&[u8]; 3] = [b"1.0", b"1.x", b"x"];
+    let (mut places, mut at) = ([7; 3], 99);
+    assert!(rt; pep440_sort(rt.alloc(), &texts, &mut places, &mut at) == 1);
+    assert!(rt; at == 1 && places == [7; 3]);
+    let mut marks = [7u8; 2];
+    assert!(rt; pep440_filter(rt.alloc(), b"<1", &texts, &mut marks) == 4 && marks == [7u8; 2]);
+    Ok(())
+}
