@@ -27,8 +27,10 @@ fn sweep_read(rt: HostRuntime) -> Result<(), Fail> {
     Ok(())
 }
 
-const TOO_FEW_NUMBERS: &str =
-    "The ~= operator requires at least two segments in the release version";
+const TOO_FEW_NUMBERS: &str = concat!(
+    "The ~=",
+    " operator requires at least two segments in the release version",
+);
 
 // A text, the kind of its refusal and the text of that.
 const REFUSED: [(&str, &str, &str); 12] = [
