@@ -16,9 +16,9 @@ pub record Spec : Type 0 where
   pub operator : Operator
   pub version : Record
 
--- `~=` stands before two release numbers or more (PEP 440, "Compatible release")
+-- there is a release number, and `~=` stands before two or more (PEP 440, "Compatible release")
 abbrev pub IsSpec : Spec → Type 0
-IsSpec s = s.operator ≡ TildeEqual → 1 < length s.version.release
+IsSpec s = (0 < length s.version.release) × (s.operator ≡ TildeEqual → 1 < length s.version.release)
 
 -- the operator, the version, and `.*` for a star form
 abbrev pub spec_print : Spec → List ℕ

@@ -9,7 +9,7 @@ ghost use Rattle.pep440_rs.specs.Operators.{has_lower_bound};
 ghost use Rattle.pep440_rs.specs.SpecifierGrammar.{DerivesSpecifier, RefusesSpecifier, SpecifierRefusal};
 ghost use Rattle.pep440_rs.specs.SpecifierReading.{read_specifier};
 ghost use Rattle.pep440_rs.specs.Specifiers.{Spec, IsSpec, spec_print};
-ghost use Rattle.pep440_rs.specs.declared.specifier.operator.Operator.TheVariants.{Equal, EqualStar, NotEqual, NotEqualStar, LessThan, LessThanEqual, GreaterThan, GreaterThanEqual};
+ghost use Rattle.pep440_rs.specs.declared.specifier.operator.Operator.TheVariants.{Equal, EqualStar, NotEqual, NotEqualStar, LessThan, LessThanEqual, GreaterThan, GreaterThanEqual, TildeEqual};
 
 pub(crate) mod contains;
 pub(crate) mod error;
@@ -53,9 +53,10 @@ impl Model for VersionSpecifier {
 impl VersionSpecifier {
     // What was read or built: every specifier is made here.
     fn of_parts(operator: Operator, version: Version) -> VersionSpecifier
-        requires { IsSpec (record { operator = operator; version = version }) }
+        requires { operator ≡ TildeEqual → 1 < length version.release }
         ensures { result ≡ record { operator = operator; version = version } }
     {
+        prove!(!version.release().is_empty());
         VersionSpecifier { operator, version }
     }
 
@@ -167,7 +168,7 @@ impl VersionSpecifier {
     /// The operator.
     pub fn operator(&self) -> &Operator
         ensures value { result.now ≡ self.now.operator }
-        // Every `~=` stands before two release numbers or more.
+        // There is a release number, and `~=` stands before two or more.
         ensures valid { IsSpec self.now }
     {
         &self.operator
@@ -176,7 +177,7 @@ impl VersionSpecifier {
     /// The version.
     pub fn version(&self) -> &Version
         ensures value { result.now ≡ self.now.version }
-        // Every `~=` stands before two release numbers or more.
+        // There is a release number, and `~=` stands before two or more.
         ensures valid { IsSpec self.now }
     {
         &self.version
@@ -185,7 +186,7 @@ impl VersionSpecifier {
     /// The operator and the version, taken out of the specifier.
     pub fn into_parts(self) -> (Operator, Version)
         ensures value { result ≡ (self.operator, self.version) }
-        // Every `~=` stands before two release numbers or more.
+        // There is a release number, and `~=` stands before two or more.
         ensures valid { IsSpec self }
     {
         let VersionSpecifier { operator, version } = self;

@@ -1,5 +1,5 @@
 -- What is answered exactly where the greatest number there is has to be raised.
-use Rattle.std.proofs.Common.{◌≡◌, ◌∙◌, ℕ, List, ◌∷◌, Bool, true, false, Option, Some, None, Result, Ok, Err, nat_eq, refl, sym, ap, subst, arith, ◌||◌}
+use Rattle.std.proofs.Common.{◌≡◌, ◌∙◌, ◌<◌, ℕ, List, ◌∷◌, length, Bool, true, false, Option, Some, None, Result, Ok, Err, nat_eq, refl, sym, ap, subst, arith, ◌||◌}
 use Rattle.std.proofs.lemmas.Bool.Decides.{nat_tests}
 use Rattle.std.specs.List.{list_any}
 use Rattle.std.specs.Prelude.{IfOk, IsErrOf}
@@ -16,17 +16,20 @@ use Rattle.pep440_version.specs.Record.{Record, IsRecord}
 use Rattle.pep440_rs.proofs.Raising.Refused.{refused_at_max, release_refused_at_max}
 
 -- a specifier has the numbers that its operator asks for
-has_numbers : (op : Operator) (s : Record) → IsSpec (record { operator = op; version = s }) → IsRecord s → HasNumbers op s
-has_numbers TildeEqual s two some = let h = two refl in omega (arith, h)
-has_numbers Equal s two some = let h = some.some in omega (arith, h)
-has_numbers EqualStar s two some = let h = some.some in omega (arith, h)
-has_numbers ExactEqual s two some = let h = some.some in omega (arith, h)
-has_numbers NotEqual s two some = let h = some.some in omega (arith, h)
-has_numbers NotEqualStar s two some = let h = some.some in omega (arith, h)
-has_numbers LessThan s two some = let h = some.some in omega (arith, h)
-has_numbers LessThanEqual s two some = let h = some.some in omega (arith, h)
-has_numbers GreaterThan s two some = let h = some.some in omega (arith, h)
-has_numbers GreaterThanEqual s two some = let h = some.some in omega (arith, h)
+has_numbers : (s : Spec) → IsSpec s → HasNumbers s.operator s.version
+has_numbers s is = counted s.operator s.version is.0 is.1
+  where
+    counted : (op : Operator) (s : Record) → 0 < length s.release → (op ≡ TildeEqual → 1 < length s.release) → HasNumbers op s
+    counted TildeEqual s one two = let h = two refl in omega (arith, h)
+    counted Equal s one two = omega arith
+    counted EqualStar s one two = omega arith
+    counted ExactEqual s one two = omega arith
+    counted NotEqual s one two = omega arith
+    counted NotEqualStar s one two = omega arith
+    counted LessThan s one two = omega arith
+    counted LessThanEqual s one two = omega arith
+    counted GreaterThan s one two = omega arith
+    counted GreaterThanEqual s one two = omega arith
 
 some_none : {A : Type 0} (x : A) → Some x ≡ None → ⊥
 some_none x h = cc
@@ -48,25 +51,18 @@ module _ (conversion : Operator → Record → Option Segments) (number : Operat
   tells op s h (Err NumberAtMax) is none = at_max (number op s) ((refused op s h).0 (none refl))
   tells op s h (Err OutOfMemory) is none = tt
 
--- as a call has it: v is the version that was looked at, p the parts that were converted
-pub tells_max : (s : Spec) → IsSpec s → (v : Record) → v ≡ s.version → IsRecord v → (p : Operator × Record) → p ≡ (s.operator, s.version) → (result : Result Segments RangeError)
+-- as a call has it: p are the parts that were converted
+pub tells_max : (s : Spec) → IsSpec s → (p : Operator × Record) → p ≡ (s.operator, s.version) → (result : Result Segments RangeError)
     → IfOk result (λ r. range_of p.0 p.1 ≡ Some r) → (IsErrOf result NumberAtMax → range_of p.0 p.1 ≡ None) → TellsMax (raises_max raised_number s) result
-tells_max s two v same some p parts result is none =
-    let valid : IsRecord s.version = subst IsRecord same some in
+tells_max s valid p parts result is none =
     subst (λ (q : Operator × Record). TellsMax (is_at_max (raised_number q.0 q.1)) result) parts
-    (tells range_of raised_number refused_at_max p.0 p.1 (subst (λ (q : Operator × Record). HasNumbers q.0 q.1) (sym parts) (has_numbers s.operator s.version two valid)) result is none)
+    (tells range_of raised_number refused_at_max p.0 p.1 (subst (λ (q : Operator × Record). HasNumbers q.0 q.1) (sym parts) (has_numbers s valid)) result is none)
 
-pub tells_release_max : (s : Spec) → IsSpec s → (v : Record) → v ≡ s.version → IsRecord v → (p : Operator × Record) → p ≡ (s.operator, s.version) → (result : Result Segments RangeError)
+pub tells_release_max : (s : Spec) → IsSpec s → (p : Operator × Record) → p ≡ (s.operator, s.version) → (result : Result Segments RangeError)
     → IfOk result (λ r. release_range_of p.0 p.1 ≡ Some r) → (IsErrOf result NumberAtMax → release_range_of p.0 p.1 ≡ None) → TellsMax (raises_max raised_release_number s) result
-tells_release_max s two v same some p parts result is none =
-    let valid : IsRecord s.version = subst IsRecord same some in
+tells_release_max s valid p parts result is none =
     subst (λ (q : Operator × Record). TellsMax (is_at_max (raised_release_number q.0 q.1)) result) parts
-    (tells release_range_of raised_release_number release_refused_at_max p.0 p.1 (subst (λ (q : Operator × Record). HasNumbers q.0 q.1) (sym parts) (has_numbers s.operator s.version two valid)) result is none)
-
--- an error passed on
-pub passed_on : (at_max : Bool) (e : RangeError) (result : Result Segments RangeError) → IsErrAnd result (λ x. x ≡ e) → TellsMax at_max (Err e) → TellsMax at_max result
-passed_on at_max e (Ok range) none h = absurd none
-passed_on at_max e (Err x) same h = subst (λ y. TellsMax at_max (Err y)) (sym same) h
+    (tells release_range_of raised_release_number release_refused_at_max p.0 p.1 (subst (λ (q : Operator × Record). HasNumbers q.0 q.1) (sym parts) (has_numbers s valid)) result is none)
 
 -- ---- of a list: those that are left raise the greatest number exactly where some member does
 

@@ -91,9 +91,5 @@ pub fn release_specifier_to_range(
     // Of releases alone it holds exactly what the specifier contains.
     ensures agrees { IfOk result (Agrees IsReleaseComparable specifier) }
 {
-    let version = specifier.version();
-    // From this call it is known that there is a release number: for `at_max`.
-    let _one_number = version.release();
-    let range = release_range_of(alloc, *specifier.operator(), version)?;
-    Ok(range)
+    release_range_of(alloc, *specifier.operator(), specifier.version())
 }

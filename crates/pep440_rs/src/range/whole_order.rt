@@ -146,9 +146,6 @@ pub fn specifier_to_range(
     ensures within { HasOperand specifier → IfOk result (HoldsOnlyMatches specifier) }
     ensures around { HasOperand specifier → IfOk result (HoldsAllMatches specifier) }
 {
-    // From this call it is known that there is a release number: for `at_max`.
-    let _one_number = specifier.version().release();
     let (operator, version) = specifier.into_parts();
-    let range = range_of(alloc, operator, version)?;
-    Ok(range)
+    range_of(alloc, operator, version)
 }

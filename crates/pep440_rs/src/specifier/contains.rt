@@ -26,13 +26,8 @@ fn cmp_candidate(specifier: &Version, version: &Version) -> Ordering
 fn begins_with(numbers: &[u64], prefix: &[u64]) -> bool
     ensures { result ≡ begins_with numbers.now prefix.now }
 {
-    for i in 0..prefix.len() {
-        let number = if i < numbers.len() { numbers[i] } else { 0 };
-        if number != prefix[i] {
-            return false;
-        }
-    }
-    true
+    let (front, beyond) = prefix.split_at(prefix.len().min(numbers.len()));
+    numbers.starts_with(front) && beyond.iter().all(|number| *number == 0)
 }
 
 fn has_prefix(specifier: &Version, prefix: &[u64], version: &Version) -> bool
