@@ -1,15 +1,19 @@
 -- Extras, read one after another.
-use Rattle.std.proofs.Common.{◌≡◌, ◌+◌, ◌∙◌, ◌&&◌, ℕ, List, [], ◌∷◌, ◌++◌, Bool, true, false, cond, length, get_or, drop, map, Some, None, option_map, refl, sym, ap, subst, arith, append-nil, append_assoc}
+use Rattle.std.proofs.Common.{◌≡◌, ◌⊎◌, ◌+◌, ◌∙◌, ◌&&◌, ℕ, List, [], ◌∷◌, ◌++◌, Bool, true, false, cond, length, get_or, drop, map, Option, Some, None, option_map, Result, Ok, Err, inl, inr, refl, sym, ap, subst, arith, append-nil, append_assoc}
 use Rattle.std.proofs.lemmas.List.{drop_at, length-append, map-append}
 use Rattle.std.proofs.lemmas.List.Folds.{list_all-append}
 use Rattle.std.proofs.lemmas.Str.{IsCharBoundary-after_ascii, IsUtf8-drop}
 use Rattle.std.specs.Char.{is_ascii_whitespace}
 use Rattle.std.specs.List.{list_all}
+use Rattle.std.specs.Prelude.{IsErrAnd}
 use Rattle.std.specs.Str.{IsUtf8}
 use Rattle.pep440_rs.specs.ListGrammar.{pieces}
 use Rattle.pep440_pick.specs.Names.{is_name}
 use Rattle.pep440_pick.specs.RequirementGrammar.{opens, trimmed}
 use Rattle.pep440_pick.specs.RequirementReading.{bracketed, cut_at, extras_at, extras_in, names_in}
+use Rattle.pep440_pick.specs.Requirements.{ExtrasGive}
+use Rattle.pep440_pick.specs.declared.error.RequirementError.{RequirementError}
+use Rattle.pep440_pick.specs.declared.error.RequirementError.TheVariants.{InvalidExtras, OutOfMemory}
 use Rattle.pep440_pick.proofs.Cutting.{HasNo, first, later}
 
 -- a text without a comma is one piece
@@ -149,3 +153,11 @@ closed_some text tail inside behind extras e is found = closed text tail inside 
 
 pub closed_none : (text tail inside behind : List ℕ) → Some tail ≡ cond (opens 91 text) (Some (drop 1 text)) None → Some (inside, behind) ≡ cut_at 93 tail → extras_in inside ≡ None → extras_at text ≡ None
 closed_none text tail inside behind e is none = closed text tail inside behind e is ∙ ap (option_map (λ x. (x, behind))) none
+
+-- ---- refusals that are passed on
+
+pub passed_on : {X A : Type 0} (view : X → A) (read : Option A) (P : Type 0) (e : RequirementError) (result : Result X RequirementError) → ((e ≡ InvalidExtras) × P) ⊎ (e ≡ OutOfMemory) → (P → read ≡ None)
+    → IsErrAnd result (λ x. x ≡ e) → ExtrasGive view result read
+passed_on view read P e (Ok x) given none never = absurd never
+passed_on view read P e (Err x) (inl h) none same = inl (same ∙ h.0, none h.1)
+passed_on view read P e (Err x) (inr h) none same = inr (same ∙ h)

@@ -62,12 +62,7 @@ fn separators_len(text: &[u8]) -> usize
     ensures count { result ≡ prefix_len is_separator text.now }
     ensures inside { result ≤ length text.now }
 {
-    for i in 0..text.len() {
-        if !is_separator(text[i]) {
-            return i;
-        }
-    }
-    text.len()
+    text.iter().take_while(|byte| is_separator(**byte)).count()
 }
 
 // The first byte of the name in its normal form, and what follows.

@@ -61,8 +61,5 @@ pub fn allowed(
 {
     let members = members_of(alloc, requirements, name)?;
     let list = VersionSpecifiers::from_specifiers(alloc, members)?;
-    match specifiers_to_ranges(alloc, list) {
-        Ok(range) => Ok(range),
-        Err(error) => Err(error),
-    }
+    specifiers_to_ranges(alloc, list)
 }

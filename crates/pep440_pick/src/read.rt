@@ -53,15 +53,11 @@ fn extras_in(alloc: Global, inside: &str) -> Result<Vec<String>, RequirementErro
     }
     let mut rest = inside;
     while let Some((part, later)) = rest.split_once(',') {
-        if let Err(error) = add_name(alloc, &mut names, part) {
-            return Err(error);
-        }
+        add_name(alloc, &mut names, part)?;
         rest = later;
     }
-    match add_name(alloc, &mut names, rest) {
-        Ok(()) => Ok(names),
-        Err(error) => Err(error),
-    }
+    add_name(alloc, &mut names, rest)?;
+    Ok(names)
 }
 
 // The extras at the front, where brackets open there, and what follows.
@@ -74,10 +70,7 @@ fn extras_at(alloc: Global, text: &str) -> Result<(Vec<String>, &str), Requireme
     let Some((inside, behind)) = cut_at(open, ']') else {
         return Err(RequirementError::InvalidExtras);
     };
-    match extras_in(alloc, inside) {
-        Ok(extras) => Ok((extras, behind)),
-        Err(error) => Err(error),
-    }
+    Ok((extras_in(alloc, inside)?, behind))
 }
 
 // The text of the list, with parentheses around it or without; none where they are not closed.
@@ -86,10 +79,7 @@ fn list_in(text: &str) -> Option<&str>
 {
     match without_front(text, '(') {
         None => Some(text),
-        Some(open) => match without_end(open, ')') {
-            None => None,
-            Some(inner) => Some(trimmed(inner)),
-        },
+        Some(open) => Some(trimmed(without_end(open, ')')?)),
     }
 }
 
@@ -102,10 +92,7 @@ fn named<'a>(alloc: Global, name: &'a str, rest: &'a str) -> Result<Parts<'a>, R
     if !is_name(name) {
         return Err(RequirementError::InvalidName);
     }
-    let (extras, behind) = match extras_at(alloc, rest) {
-        Ok(found) => found,
-        Err(error) => return Err(error),
-    };
+    let (extras, behind) = extras_at(alloc, rest)?;
     match list_in(trimmed(behind)) {
         Some(list) => Ok(Parts { name, extras, list }),
         None => Err(RequirementError::Unclosed),

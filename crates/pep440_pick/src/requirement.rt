@@ -45,14 +45,8 @@ impl Requirement {
         // The version of each member is one that a text can give beside the operator, as the agreement of ranges asks.
         ensures operand { IfOk result (λ r. All HasOperand r.specifiers) }
     {
-        let parts = match read_parts(alloc, text) {
-            Ok(parts) => parts,
-            Err(error) => return Err(error),
-        };
-        let specifiers = match list_of(alloc, parts.list) {
-            Ok(list) => list,
-            Err(error) => return Err(error),
-        };
+        let parts = read_parts(alloc, text)?;
+        let specifiers = list_of(alloc, parts.list)?;
         let name = String::from_str(alloc, parts.name)?;
         Ok(Requirement {
             name,

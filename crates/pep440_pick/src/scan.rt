@@ -34,12 +34,7 @@ fn name_len(text: &[u8]) -> usize
     ensures count { result ≡ prefix_len is_name_byte text.now }
     ensures inside { result ≤ length text.now }
 {
-    for i in 0..text.len() {
-        if !is_name_byte(text[i]) {
-            return i;
-        }
-    }
-    text.len()
+    text.iter().take_while(|byte| is_name_byte(**byte)).count()
 }
 
 // The longest run of bytes of names at the front, and what follows it.

@@ -1,5 +1,6 @@
-use Rattle.std.proofs.Common.{◌∙◌, ap, inl, inr, map, refl, string_bytes, sym, Some}
-use Rattle.pep440_pick.proofs.Extras.{closed_none, closed_some, front_lacks, no_bracket, unclosed}
+use Rattle.std.proofs.Common.{◌≡◌, ◌∙◌, ap, inl, map, refl, string_bytes, sym, Some, None}
+use Rattle.pep440_pick.specs.RequirementReading.{extras_at, extras_in}
+use Rattle.pep440_pick.proofs.Extras.{closed_none, closed_some, front_lacks, no_bracket, passed_on, unclosed}
 use Rattle.pep440_pick.proofs.read.extras_at.Goals as goal
 
 pub returns-in_default : goal.returns-in_default
@@ -8,12 +9,12 @@ returns-in_default c = no_bracket c.args.text.now (front_lacks 91 c.args.text.no
 pub returns-in_default-cut_at : goal.returns-in_default-cut_at
 returns-in_default-cut_at c = inl (refl, unclosed c.args.text.now c.in-Some.open.now c.in-Some.ensures c.in_default-cut_at.ensures)
 
-pub returns-in-Ok : goal.returns-in-Ok
-returns-in-Ok c =
-    closed_some c.args.text.now c.in-Some.open.now c.in-Some-cut_at.inside.now c.in-Some-cut_at.behind.now (map string_bytes c.in-Ok.extras.items) c.in-Some.ensures c.in-Some-cut_at.ensures c.in-Ok.ensures
+pub returns : goal.returns
+returns c =
+    closed_some c.args.text.now c.in-Some.open.now c.in-Some-cut_at.inside.now c.in-Some-cut_at.behind.now (map string_bytes c.in_ok-extras_in.field-0.items) c.in-Some.ensures c.in-Some-cut_at.ensures
+    c.in_ok-extras_in.ensures
 
-pub returns-in-Err : goal.returns-in-Err
-returns-in-Err c = elim c.in-Err.ensures [
-  | inl h ↦ inl (h.0, closed_none c.args.text.now c.in-Some.open.now c.in-Some-cut_at.inside.now c.in-Some-cut_at.behind.now c.in-Some.ensures c.in-Some-cut_at.ensures h.1)
-  | inr h ↦ inr h
-]
+pub returns-in_err-extras_in : goal.returns-in_err-extras_in
+returns-in_err-extras_in c =
+    passed_on _ (extras_at c.args.text.now) (extras_in c.in-Some-cut_at.inside.now ≡ None) c.in_err-extras_in.field-0.0 c.from_residual.result c.in_err-extras_in.ensures
+    (λ none. closed_none c.args.text.now c.in-Some.open.now c.in-Some-cut_at.inside.now c.in-Some-cut_at.behind.now c.in-Some.ensures c.in-Some-cut_at.ensures none) c.from_residual.ensures.1
