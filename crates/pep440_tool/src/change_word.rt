@@ -1,5 +1,7 @@
 // A word of `edit`, read as the change that it asks for.
 ghost use Rattle.std.specs.Prelude.{◌≡◌, ◌==◌, map, IfOk};
+ghost use Rattle.pep440_tool.specs.Said.{ReadsAs};
+ghost use Rattle.pep440_tool.specs.declared.change_word.NoChange.TheVariants.{OutOfMemory};
 ghost use Rattle.std.specs.List.{slice_split};
 ghost use Rattle.std.specs.Char.{is_ascii_digit, is_ascii_alphanumeric};
 ghost use Rattle.std.specs.Option.{option_map, option_copied};
@@ -8,7 +10,32 @@ ghost use Rattle.pep440_version.specs.Changes.{edit};
 ghost use Rattle.pep440_version.specs.Segments.{segment};
 
 use pep440_rs::{Change, LocalSegment, Prerelease, PrereleaseKind};
-use std::alloc::{AllocError, Global};
+use std::alloc::{AllocError, AllocFailed, Global};
+
+/// Why a word, or a part of it, is not read.
+#[derive(Debug, Drop)]
+pub(crate) enum NoChange {
+    /// It asks for no change.
+    NotAChange,
+    /// Memory ran out.
+    OutOfMemory,
+}
+
+impl From<AllocError> for NoChange {
+    ghost from_gives = { λ _ error. error ≡ OutOfMemory };
+
+    fn from(_refused: AllocError) -> NoChange {
+        NoChange::OutOfMemory
+    }
+}
+
+impl<T: Drop> From<AllocFailed<T>> for NoChange {
+    ghost from_gives = { λ _ error. error ≡ OutOfMemory };
+
+    fn from(_refused: AllocFailed<T>) -> NoChange {
+        NoChange::OutOfMemory
+    }
+}
 
 fn is_digits(text: &str) -> bool
     ensures { result ≡ is_run is_ascii_digit text.now }
@@ -95,76 +122,81 @@ fn pieces<'a>(alloc: Global, text: &'a str) -> Result<Vec<&'a str>, AllocError>
 }
 
 /// The numbers that the pieces write, if each writes one.
-fn all_numbers(alloc: Global, pieces: &[&str]) -> Result<Option<Vec<u64>>, AllocError>
-    ensures { IfOk result (λ o. option_map (λ v. v.items) o ≡ all_of number_of (map (λ p. p.now) pieces.now)) }
+fn all_numbers(alloc: Global, pieces: &[&str]) -> Result<Vec<u64>, NoChange>
+    ensures { ReadsAs (λ v. v.items) result (all_of number_of (map (λ p. p.now) pieces.now)) }
 {
     let mut numbers = Vec::new(alloc);
     for i in 0..pieces.len() {
         let Some(number) = number(pieces[i]) else {
-            return Ok(None);
+            return Err(NoChange::NotAChange);
         };
         numbers.push(number)?;
     }
-    Ok(Some(numbers))
+    Ok(numbers)
 }
 
 /// Numbers joined by `.`, or nothing.
-fn numbers(alloc: Global, text: &str) -> Result<Option<Vec<u64>>, AllocError>
-    ensures { IfOk result (λ o. option_map (λ v. v.items) o ≡ dotted_of number_of text.now) }
+fn numbers(alloc: Global, text: &str) -> Result<Vec<u64>, NoChange>
+    ensures { ReadsAs (λ v. v.items) result (dotted_of number_of text.now) }
 {
     let pieces = pieces(alloc, text)?;
     all_numbers(alloc, pieces.as_slice())
 }
 
 /// One or more ASCII letters and digits: digits that fit are a number, all else is a text in lower case.
-fn segment(alloc: Global, text: &str) -> Result<Option<LocalSegment>, AllocError>
-    ensures { IfOk result (λ o. option_map segment o ≡ local_segment_of text.now) }
+fn segment(alloc: Global, text: &str) -> Result<LocalSegment, NoChange>
+    ensures { ReadsAs segment result (local_segment_of text.now) }
 {
     if !is_alphanumeric(text) {
-        return Ok(None);
+        return Err(NoChange::NotAChange);
     }
     match number(text) {
-        Some(number) => Ok(Some(LocalSegment::Number(number))),
-        None => Ok(Some(LocalSegment::String(text.to_ascii_lowercase(alloc)?))),
+        Some(number) => Ok(LocalSegment::Number(number)),
+        None => Ok(LocalSegment::String(text.to_ascii_lowercase(alloc)?)),
     }
 }
 
 /// The segments that the pieces write, if each writes one.
-fn all_segments(alloc: Global, pieces: &[&str]) -> Result<Option<Vec<LocalSegment>>, AllocError>
-    ensures { IfOk result (λ o. option_map (λ v. map segment v.items) o ≡ all_of local_segment_of (map (λ p. p.now) pieces.now)) }
+fn all_segments(alloc: Global, pieces: &[&str]) -> Result<Vec<LocalSegment>, NoChange>
+    ensures { ReadsAs (λ v. map segment v.items) result (all_of local_segment_of (map (λ p. p.now) pieces.now)) }
 {
     let mut segments = Vec::new(alloc);
     for i in 0..pieces.len() {
-        let Some(segment) = segment(alloc, pieces[i])? else {
-            return Ok(None);
-        };
+        let segment = segment(alloc, pieces[i])?;
         segments.push(segment)?;
     }
-    Ok(Some(segments))
+    Ok(segments)
 }
 
 /// Segments joined by `.`, or nothing.
-fn segments(alloc: Global, text: &str) -> Result<Option<Vec<LocalSegment>>, AllocError>
-    ensures { IfOk result (λ o. option_map (λ v. map segment v.items) o ≡ dotted_of local_segment_of text.now) }
+fn segments(alloc: Global, text: &str) -> Result<Vec<LocalSegment>, NoChange>
+    ensures { ReadsAs (λ v. map segment v.items) result (dotted_of local_segment_of text.now) }
 {
     let pieces = pieces(alloc, text)?;
     all_segments(alloc, pieces.as_slice())
 }
 
+/// The change, if there is one.
+fn or_refused(change: Option<Change>) -> Result<Change, NoChange>
+    ensures { ReadsAs edit result (option_map edit change) }
+{
+    change.ok_or(NoChange::NotAChange)
+}
+
 /// The change of a field to the value that the text writes.
-fn field_change(alloc: Global, field: &str, value: &str) -> Result<Option<Change>, AllocError>
-    ensures { IfOk result (λ o. option_map edit o ≡ field_change field.now value.now) }
+fn field_change(alloc: Global, field: &str, value: &str) -> Result<Change, NoChange>
+    ensures { ReadsAs edit result (field_change field.now value.now) }
 {
     match field {
-        "release" => Ok(numbers(alloc, value)?.map(Change::Release)),
-        "epoch" => Ok(number(value).map(Change::Epoch)),
-        "pre" => Ok(optional_prerelease(value).map(Change::Pre)),
-        "post" => Ok(optional_number(value).map(Change::Post)),
-        "dev" => Ok(optional_number(value).map(Change::Dev)),
-        "local" => Ok(segments(alloc, value)?.map(Change::Local)),
-        "min" => Ok(optional_number(value).map(Change::Min)),
-        "max" => Ok(optional_number(value).map(Change::Max)),
-        _ => Ok(None),
+        "release" => Ok(Change::Release(numbers(alloc, value)?)),
+        "epoch" => or_refused(number(value).map(Change::Epoch)),
+        "pre" => or_refused(optional_prerelease(value).map(Change::Pre)),
+        "post" => or_refused(optional_number(value).map(Change::Post)),
+        "dev" => or_refused(optional_number(value).map(Change::Dev)),
+        "local" => Ok(Change::Local(segments(alloc, value)?)),
+        "min" => or_refused(optional_number(value).map(Change::Min)),
+        "max" => or_refused(optional_number(value).map(Change::Max)),
+        _ => Err(NoChange::NotAChange),
     }
 }
 
@@ -179,12 +211,12 @@ fn bare_change(word: &str) -> Option<Change>
     }
 }
 
-/// The change that the word asks for, or none.
-pub fn change(alloc: Global, word: &str) -> Result<Option<Change>, AllocError>
-    ensures { IfOk result (λ o. option_map edit o ≡ change_of word.now) }
+/// The change that the word asks for.
+pub(crate) fn change(alloc: Global, word: &str) -> Result<Change, NoChange>
+    ensures { ReadsAs edit result (change_of word.now) }
 {
     match word.split_once('=') {
         Some((field, value)) => field_change(alloc, field, value),
-        None => Ok(bare_change(word)),
+        None => or_refused(bare_change(word)),
     }
 }

@@ -5,7 +5,7 @@ ghost use Rattle.pep440_tool.specs.Answers.{EditAnswer, edited_answer, not_a_cha
 ghost use Rattle.pep440_tool.specs.Said.{Answered, MeansChanges, Stops};
 ghost use Rattle.pep440_version.specs.Changes.{changed_all, edit};
 
-use crate::change_word::change;
+use crate::change_word::{NoChange, change};
 use crate::output::{Answer, Stop};
 use crate::printing::marked_print;
 use crate::reading::read;
@@ -28,9 +28,10 @@ fn find_changes(alloc: Global, words: &[String]) -> Result<Vec<Change>, Stop>
 {
     let mut changes = Vec::new(alloc);
     for i in 0..words.len() {
-        match change(alloc, words[i].as_str())? {
-            Some(change) => changes.push(change)?,
-            None => return Err(not_a_change(alloc, i + 1)),
+        match change(alloc, words[i].as_str()) {
+            Ok(change) => changes.push(change)?,
+            Err(NoChange::NotAChange) => return Err(not_a_change(alloc, i + 1)),
+            Err(NoChange::OutOfMemory) => return Err(Stop::OutOfMemory),
         }
     }
     Ok(changes)

@@ -5,8 +5,8 @@ use Rattle.pep440_tool.proofs.change_word.all_numbers.Goals as goal
 
 pub returns-in_default : goal.returns-in_default
 returns-in_default c =
-    sym (stop number_of (λ p. p.now) c.args.pieces.now c.loop-i.i (get_or c.args.pieces.now c.loop-i.i no_text) no_text c.loop-i.numbers.items
-    c.loop-i-test.true refl (sym c.number.ensures ∙ c.in_default.is) c.loop-i.invariant)
+    stop number_of (λ p. p.now) c.args.pieces.now c.loop-i.i (get_or c.args.pieces.now c.loop-i.i no_text) no_text c.loop-i.numbers.items
+    c.loop-i-test.true refl (sym c.number.ensures ∙ c.in_default.is) c.loop-i.invariant
 
 pub loop-i-preserved : goal.loop-i-preserved
 loop-i-preserved c =
