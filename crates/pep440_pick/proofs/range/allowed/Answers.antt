@@ -1,6 +1,6 @@
-use Rattle.std.proofs.Common.{◌≡◌, [], map, Some}
+use Rattle.std.proofs.Common.{◌≡◌, map, Some}
 use Rattle.std.proofs.lemmas.Result.{IfOk-weaker}
-use Rattle.pep440_rs.specs.Bounds.{Segments, full, list_range, range_of}
+use Rattle.pep440_rs.specs.Bounds.{full, list_range, range_of}
 use Rattle.pep440_rs.specs.Agreement.{HoldsInEach}
 use Rattle.pep440_pick.specs.Allowed.{HoldsAllowed, lists_of}
 use Rattle.pep440_pick.specs.Requirements.{needed}

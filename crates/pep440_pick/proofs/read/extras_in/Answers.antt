@@ -15,7 +15,7 @@ returns-in_err-add_name c =
     let parts = split_parts 44 c.loop-part.rest.now (Some (c.in-Some.part, c.in-Some.later)) c.in-Some.ensures.cases (omega arith) in
     passed_on _ (extras_in c.args.inside.now) (is_name (trimmed c.in-Some.part.now) ≡ false) c.in_err-add_name.field-0.0 c.from_residual.result c.in_err-add_name.ensures.refused
     (λ none. some_extras c.args.inside.now (sym c.are_blanks.ensures ∙ c.if-are_blanks.false)
-        ∙ kept_refused c.args.inside.now c.loop-part.rest.now c.in-Some.part.now c.in-Some.later.now (map string_bytes c.loop-part.names.items) parts.0 parts.1 none c.loop-part.invariant.kept)
+    ∙ kept_refused c.args.inside.now c.loop-part.rest.now c.in-Some.part.now c.in-Some.later.now (map string_bytes c.loop-part.names.items) parts.0 parts.1 none c.loop-part.invariant.kept)
     c.from_residual.ensures.1
 
 pub loop-part-preserved : goal.loop-part-preserved
@@ -33,7 +33,7 @@ returns-in_err-add_name-2 c =
     let none = split_parts 44 c.loop-part.rest.now None c.in_default.ensures.cases (omega arith) in
     passed_on _ (extras_in c.args.inside.now) (is_name (trimmed c.loop-part.rest.now) ≡ false) c.in_err-add_name-2.field-0.0 c.from_residual-in_err-add_name-2.result c.in_err-add_name-2.ensures.refused
     (λ refused. some_extras c.args.inside.now (sym c.are_blanks.ensures ∙ c.if-are_blanks.false)
-        ∙ last_refused c.args.inside.now c.loop-part.rest.now (map string_bytes c.loop-part.names.items) none refused c.loop-part.invariant.kept)
+    ∙ last_refused c.args.inside.now c.loop-part.rest.now (map string_bytes c.loop-part.names.items) none refused c.loop-part.invariant.kept)
     c.from_residual-in_err-add_name-2.ensures.1
 
 pub returns : goal.returns
