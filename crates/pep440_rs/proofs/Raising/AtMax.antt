@@ -4,7 +4,6 @@ use Rattle.std.proofs.lemmas.Bool.Decides.{nat_tests}
 use Rattle.std.specs.List.{list_any}
 use Rattle.std.specs.Prelude.{IfOk, IsErrOf}
 use Rattle.std.specs.Option.{option_eq}
-use Rattle.std.specs.Result.{IsErrAnd}
 use Rattle.pep440_rs.specs.Bounds.{Segments, range_of, release_range_of}
 use Rattle.pep440_rs.specs.Refused.{HasNumbers, RefusedAtMax, TellsMax, raised_number, raised_release_number, raises_max}
 use Rattle.pep440_rs.specs.Specifiers.{Spec, IsSpec}
@@ -12,7 +11,7 @@ use Rattle.pep440_rs.specs.declared.specifier.operator.Operator.{Operator}
 use Rattle.pep440_rs.specs.declared.specifier.operator.Operator.TheVariants.{Equal, EqualStar, ExactEqual, NotEqual, NotEqualStar, TildeEqual, LessThan, LessThanEqual, GreaterThan, GreaterThanEqual}
 use Rattle.pep440_rs.specs.declared.range.error.RangeError.{RangeError}
 use Rattle.pep440_rs.specs.declared.range.error.RangeError.TheVariants.{NumberAtMax, OutOfMemory}
-use Rattle.pep440_version.specs.Record.{Record, IsRecord}
+use Rattle.pep440_version.specs.Record.{Record}
 use Rattle.pep440_rs.proofs.Raising.Refused.{refused_at_max, release_refused_at_max}
 
 -- a specifier has the numbers that its operator asks for
