@@ -1,11 +1,11 @@
 -- Texts read one after another, and the lines of `pick`.
-use Rattle.std.proofs.Common.{◌≡◌, ◌<◌, ◌+◌, ◌∙◌, ◌⊎◌, ℕ, List, [], ◌∷◌, ◌++◌, Bool, true, false, cond, not, length, get_or, take, drop, map, Option, Some, None, IfSome, refl, sym, ap, subst, arith, inl, inr, append_assoc, append-nil, take-append-drop, Result, Ok, Err}
+use Rattle.std.proofs.Common.{◌≡◌, ◌<◌, ◌+◌, ◌∙◌, ◌⊎◌, ℕ, List, [], ◌∷◌, ◌++◌, Bool, true, false, cond, not, length, get_or, take, drop, map, Option, Some, None, IfSome, refl, sym, ap, subst, arith, inl, inr, append_assoc, append-nil, take-append-drop}
 use Rattle.std.proofs.lemmas.List.{drop_more, length-map, length-take-le, length_push, map-append, take_more}
 use Rattle.std.proofs.lemmas.List.Concat.{flat_map-append}
 use Rattle.std.specs.List.{AllZip, filter, flat_map}
 use Rattle.std.proofs.lemmas.Option.{slice_get_read}
 use Rattle.std.specs.Option.{option_map_or}
-use Rattle.std.specs.Prelude.{IfOk, codes, option_map, option_to_list, slice_get}
+use Rattle.std.specs.Prelude.{codes, option_map, option_to_list, slice_get}
 use Rattle.std.specs.Str.{IsUtf8}
 use Rattle.pep440_pick.specs.Allowed.{lists_of}
 use Rattle.pep440_pick.specs.Names.{is_name, same_name}

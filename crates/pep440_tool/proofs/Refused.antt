@@ -7,7 +7,6 @@ use Rattle.pep440_version.specs.ErrorTexts.{refusal_text}
 use Rattle.pep440_version.specs.Refusals.{Refusal, Refuses}
 use Rattle.pep440_tool.specs.Answers.{RefusesListWord, RefusesWord, ToolAnswer, refused, refused_list}
 use Rattle.pep440_tool.specs.Lines.{LineFault, is_skipped}
-use Rattle.pep440_tool.specs.Picks.{RefusesCandidate, candidate_fault_text}
 
 -- an error that isn't 'out of memory' tells the refusal of its text, and has its text
 pub told : (word t : List ℕ) (o : Option Refusal) (m : Option (List ℕ)) → is_none o ≡ false → IfSome o (Refuses word) → IfSome o (λ f. m ≡ Some (refusal_text f)) → IfSome m (λ bs. t ≡ bs)

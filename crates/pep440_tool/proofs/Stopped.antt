@@ -1,5 +1,5 @@
 -- A command that stops where what it reads is refused, or memory runs out.
-use Rattle.std.proofs.Common.{◌≡◌, ◌∙◌, Option, None, Result, Ok, Err, sym, subst}
+use Rattle.std.proofs.Common.{◌≡◌, Option, None, Result, Ok, Err, sym, subst}
 use Rattle.std.specs.Prelude.{IsErrAnd}
 use Rattle.pep440_tool.specs.Answers.{ToolAnswer}
 use Rattle.pep440_tool.specs.Said.{Answered, Gives, Lacks, ReadsAs, Stops, said}

@@ -1,9 +1,9 @@
-use Rattle.std.proofs.Common.{◌≡◌, [], ◌∷◌, get_or, map, refl, None}
+use Rattle.std.proofs.Common.{[], ◌∷◌, get_or, map, refl}
 use Rattle.std.proofs.lemmas.List.{map-append}
 use Rattle.pep440_version.specs.Segments.{segment}
 use Rattle.pep440_tool.proofs.Items.{more, no_text, stop}
 use Rattle.pep440_tool.proofs.Stopped.{not_read}
-use Rattle.pep440_tool.specs.ChangeWords.{all_of, local_segment_of}
+use Rattle.pep440_tool.specs.ChangeWords.{local_segment_of}
 use Rattle.pep440_tool.proofs.change_word.all_segments.Goals as goal
 
 pub returns-in_err-segment : goal.returns-in_err-segment
