@@ -1,0 +1,27 @@
+-- What a line of a lock file means, `NAME; LIST; VERSION`, and which lines are broken.
+use Rattle.std.specs.Prelude.{ℕ, List, Bool, filter, map, not, string_bytes, IfSome}
+use Rattle.pep440_version.specs.Errors.{error_refusal}
+use Rattle.pep440_version.specs.Refusals.{Refuses}
+use Rattle.pep440_rs.specs.ListAnswers.{list_kind_of}
+use Rattle.pep440_rs.specs.ListErrors.{list_refusal_of}
+use Rattle.pep440_rs.specs.ListGrammar.{RefusesList}
+use Rattle.pep440_rs.specs.Matching.{list_matches}
+use Rattle.pep440_uses.specs.Parts.{IsShort, list_part, version_part}
+use Rattle.pep440_uses.specs.declared.lock.Locked.{Locked}
+use Rattle.pep440_uses.specs.declared.lock.LockError.{LockError}
+use Rattle.pep440_uses.specs.declared.lock.LockError.TheVariants.{Parts, Wanted, Version, OutOfMemory}
+
+-- why the line is refused
+abbrev pub IsFault : List ℕ → LockError → Type 0
+IsFault line Parts = IsShort line
+IsFault line (Wanted e) = IfSome (list_refusal_of (list_kind_of e)) (RefusesList (list_part line))
+IsFault line (Version e) = IfSome (error_refusal e) (Refuses (version_part line))
+IsFault line OutOfMemory = Unit {0}
+
+-- its list does not contain its version
+abbrev pub is_broken : Locked → Bool
+is_broken l = not (list_matches l.wanted l.version)
+
+-- the names of the broken lines, in order
+abbrev pub broken_names : List Locked → List (List ℕ)
+broken_names lock = map (λ (l : Locked). string_bytes l.name) (filter is_broken lock)

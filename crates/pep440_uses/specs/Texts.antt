@@ -1,0 +1,11 @@
+-- What is said of a text: the version that it means, or why it means none.
+use Rattle.std.specs.Prelude.{◌≡◌, ℕ, List, string_bytes}
+use Rattle.pep440_version.specs.ErrorTexts.{refusal_text}
+use Rattle.pep440_version.specs.Grammar.{Derives}
+use Rattle.pep440_version.specs.Refusals.{Refusal, Refuses}
+use Rattle.pep440_uses.specs.declared.untrusted.Verdict.{Verdict}
+use Rattle.pep440_uses.specs.declared.untrusted.Verdict.TheVariants.{Accepted, Refused}
+
+abbrev pub Tells : List ℕ → Verdict → Type 0
+Tells text (Accepted v) = Derives text v
+Tells text (Refused reason) = (f : Refusal) × Refuses text f × (string_bytes reason ≡ refusal_text f)

@@ -1,0 +1,10 @@
+-- The versions that a range holds.
+use Rattle.std.specs.Prelude.{List, Option, filter, option_map}
+use Rattle.pep440_ranges.specs.Segments.{contains}
+use Rattle.pep440_rs.specs.Bounds.{Segments}
+use Rattle.pep440_version.specs.Key.{record_cmp}
+use Rattle.pep440_version.specs.Record.{Record}
+
+-- those that the range holds, if there is one
+abbrev pub held : Option Segments → List Record → Option (List Record)
+held range versions = option_map (λ r. filter (contains record_cmp r) versions) range

@@ -1,0 +1,10 @@
+//! Five cores of small programs over `pep440_rs`, a file each, written as a caller would write them.
+//!
+//! `docs/CALLING.md` shows them; copy the one that is nearest.
+#![tactic(auto)]
+
+pub mod downloads;
+pub mod lock;
+pub mod page;
+pub mod untrusted;
+pub mod within;

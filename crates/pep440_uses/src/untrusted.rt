@@ -1,0 +1,72 @@
+//! A reader of texts that nobody vouches for: each is accepted or refused with the reason, and none ends the process.
+ghost use Rattle.std.specs.Prelude.{◌≡◌, is_none, IfOk};
+ghost use Rattle.std.specs.List.{AllZip};
+ghost use Rattle.pep440_version.specs.Errors.{error_refusal};
+ghost use Rattle.pep440_uses.specs.Texts.{Tells};
+
+use pep440_rs::{ErrorKind, Version, VersionParseError};
+use std::alloc::{AllocError, Global};
+
+/// What a text is: a version, or none for this reason.
+#[derive(Debug, Drop)]
+pub enum Verdict {
+    Accepted(Version),
+    Refused(String),
+}
+
+// The error says nothing of the text.
+fn is_out_of_memory(error: &VersionParseError) -> bool
+    ensures { result ≡ is_none (error_refusal error.now) }
+{
+    matches!(error.kind(), ErrorKind::OutOfMemory)
+}
+
+/// The version that the text means, or why it means none.
+///
+/// Takes memory; an error says that it ran out.
+pub fn read(alloc: Global, text: &str) -> Result<Verdict, AllocError>
+    ensures { IfOk result (Tells text.now) }
+{
+    match Version::from_str(alloc, text) {
+        Ok(version) => Ok(Verdict::Accepted(version)),
+        Err(error) => {
+            if is_out_of_memory(&error) {
+                return Err(AllocError);
+            }
+            let reason = error.to_string(alloc)?;
+            Ok(Verdict::Refused(reason))
+        }
+    }
+}
+
+/// A verdict for each text, in order.
+///
+/// Takes memory; an error says that it ran out.
+pub fn read_all(alloc: Global, texts: &[&str]) -> Result<Vec<Verdict>, AllocError>
+    ensures { IfOk result (λ verdicts. AllZip (λ text. Tells text.now) texts.now verdicts.items) }
+{
+    let mut verdicts = Vec::new(alloc);
+    for text in texts {
+        verdicts.push(read(alloc, text)?)?;
+    }
+    Ok(verdicts)
+}
+
+#[cfg(test)]
+mod tests {
+    use super::*;
+    use std::test::Fail;
+
+    // PEP 440, "Local version identifiers" and "Version specifiers": a local part may not be empty.
+    const TEXTS: [&str; 3] = ["1.0", "1.0+", "latest"];
+
+    #[test]
+    fn refusals_are_told(rt: HostRuntime) -> Result<(), Fail> {
+        let mut refused = Vec::new(rt.alloc());
+        for verdict in read_all(rt.alloc(), &TEXTS)? {
+            refused.push(matches!(verdict, Verdict::Refused(_)))?;
+        }
+        assert!(rt; refused.as_slice() == [false, true, true].as_slice());
+        Ok(())
+    }
+}
