@@ -2,6 +2,27 @@
 //!
 //! A specifier is an operator and a version, as `>=1.2`, and a list is specifiers with commas between them. What
 //! `pep440_version` and `pep440_ranges` offer is offered here under the same names.
+//!
+//! ```rust
+//! use anyhow::Result;
+//! use pep440_rs::{Version, VersionSpecifiers};
+//!
+//! fn main(rt: HostRuntime) -> Result<()> {
+//!     let wanted = VersionSpecifiers::from_str(rt.alloc(), ">=1.16, <2.0")?;
+//!     for text in ["1.19", "2.0.dev1", "1.19.x"] {
+//!         match Version::from_str(rt.alloc(), text) {
+//!             Ok(version) => {
+//!                 let answer = wanted.contains(rt.alloc(), &version)?;
+//!                 println!(rt; "{version}: {answer}")?;
+//!             }
+//!             Err(error) => println!(rt; "{error}")?,
+//!         }
+//!     }
+//!     Ok(())
+//! }
+//! ```
+//!
+//! A call that may take memory is passed an allocator and answers a `Result`; nothing ends the process.
 #![tactic(auto)]
 
 mod bounds;

@@ -1,8 +1,8 @@
-//! Versions of PEP 440: their texts, prints, order, hash and changes, and version patterns.
+//! Versions of PEP 440: their texts, prints, order, hash and changes; and version patterns, as `1.2.*`.
 //!
-//! A call whose text does not name memory takes none and always answers. `clone` takes memory, but for a version that
-//! is packed. A refused request for memory is answered as `AllocError`, or as the `OutOfMemory` of the call's own error,
-//! and changes nothing that was borrowed.
+//! A call whose documentation does not speak of memory takes none, and always answers. `clone` takes memory, unless the
+//! version is packed (see `Version`). Where a request for memory is refused, a call answers `AllocError`, or the
+//! `OutOfMemory` of its own error, and what it borrowed is unchanged.
 #![tactic(auto)]
 
 mod change;

@@ -14,25 +14,26 @@ use std::hash::{Hash, Hasher};
 /// A comparison operator (PEP 440, "Version specifiers"). They are ordered as they stand here.
 #[derive(Clone, Copy, Debug)]
 pub enum Operator {
-    /// `== 1.2.3`
+    /// `==1.2`: this version; `1.2.0` too, and `1.2+local` too, since a local part counts only where the specifier has one
+    /// ("Version matching").
     Equal,
-    /// `== 1.2.*`
+    /// `==1.2.*`: every version of this epoch whose release begins with these numbers, pre-releases too ("Version matching").
     EqualStar,
-    /// `=== 1.2.3`
+    /// `===1.2`: the version that prints as this one, so not `1.2.0` ("Arbitrary equality").
     ExactEqual,
-    /// `!= 1.2.3`
+    /// `!=1.2`: what `==1.2` does not contain ("Version exclusion").
     NotEqual,
-    /// `!= 1.2.*`
+    /// `!=1.2.*`: what `==1.2.*` does not contain ("Version exclusion").
     NotEqualStar,
-    /// `~= 1.2.3`
+    /// `~=1.2.3`: at least this version, and its release begins with `1.2` ("Compatible release").
     TildeEqual,
-    /// `< 1.2.3`
+    /// `<1.2`: below this version, and no pre-release of `1.2` itself ("Exclusive ordered comparison").
     LessThan,
-    /// `<= 1.2.3`
+    /// `<=1.2`: this version or below it, local parts aside ("Inclusive ordered comparison").
     LessThanEqual,
-    /// `> 1.2.3`
+    /// `>1.2`: above this version, and no post-release or local version of `1.2` itself ("Exclusive ordered comparison").
     GreaterThan,
-    /// `>= 1.2.3`
+    /// `>=1.2`: this version or above it, local parts aside ("Inclusive ordered comparison").
     GreaterThanEqual,
 }
 
