@@ -18,7 +18,7 @@ pub fn loaded(downloads: &BTreeMap<Version, u64>, version: &Version) -> u64
 
 /// The version was loaded so many times more, up to the greatest number there is. After an error the map is what it was.
 ///
-/// May take memory.
+/// May take memory; an error says that it ran out.
 pub fn add(
     downloads: &mut BTreeMap<Version, u64>,
     version: Version,

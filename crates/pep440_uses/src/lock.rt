@@ -2,16 +2,20 @@
 ghost use Rattle.std.specs.Prelude.{◌≡◌, map, string_bytes, IfErr, IfNone, IfOk, IfSome};
 ghost use Rattle.pep440_version.specs.Grammar.{Derives};
 ghost use Rattle.pep440_rs.specs.ListGrammar.{DerivesList};
+ghost use Rattle.pep440_uses.specs.Lock.{IsFault, broken_names};
 ghost use Rattle.pep440_uses.specs.Parts.{IsShort, list_part, name_part, version_part};
 
 use pep440_rs::{Version, VersionParseError, VersionSpecifiers, VersionSpecifiersParseError};
-use std::alloc::{AllocError, AllocFailed, Global};
+use std::alloc::{AllocError, Global};
 
 /// A line of a lock file, as `demo; >=1.0, <2.0; 1.5`.
 #[derive(Debug, Drop)]
 pub struct Locked {
+    /// The name, as it is written.
     pub name: String,
+    /// The versions that are wanted.
     pub wanted: VersionSpecifiers,
+    /// The version that was chosen.
     pub version: Version,
 }
 
@@ -71,11 +75,9 @@ fn parts(line: &str) -> Option<(&str, &str, &str)>
 }
 
 impl Locked {
-    ghost use Rattle.pep440_uses.specs.Lock.{IsFault};
-
     /// What the line says: a name, a list and a version, with semicolons between them.
     ///
-    /// Takes memory.
+    /// Takes memory. A line is refused as `Parts`, then for its list, then for its version; `OutOfMemory` says nothing of it.
     pub fn from_line(alloc: Global, line: &str) -> Result<Locked, LockError>
         ensures name { IfOk result (λ l. string_bytes l.name ≡ name_part line.now) }
         ensures wanted { IfOk result (λ l. DerivesList (list_part line.now) l.wanted) }
@@ -93,11 +95,9 @@ impl Locked {
     }
 }
 
-ghost use Rattle.pep440_uses.specs.Lock.{broken_names};
-
 /// The names of the lines whose version is not contained in their list, in order.
 ///
-/// Takes memory.
+/// Takes memory; an error says that it ran out.
 pub fn broken(alloc: Global, lock: &[Locked]) -> Result<Vec<String>, AllocError>
     ensures { IfOk result (λ names. map string_bytes names.items ≡ broken_names lock.now) }
 {

@@ -25,7 +25,7 @@ fn contained(
 /// The newest version of the page that the list contains; none where it contains none. Of equal ones, as `1.0` and
 /// `1.0.0`, the last.
 ///
-/// Takes memory.
+/// Takes memory; an error says that it ran out.
 pub fn newest(
     alloc: Global,
     wanted: &VersionSpecifiers,

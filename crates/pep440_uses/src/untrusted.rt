@@ -10,7 +10,9 @@ use std::alloc::{AllocError, Global};
 /// What a text is: a version, or none for this reason.
 #[derive(Debug, Drop)]
 pub enum Verdict {
+    /// The version that the text means.
     Accepted(Version),
+    /// Why it means none.
     Refused(String),
 }
 
