@@ -1,0 +1,114 @@
+/* One call of the C interface, many times over: callers CALL COUNT. Texts of the batches are scrambled; each call is held to its status. */
+#include <stdio.h>
+#include <stdlib.h>
+#include <string.h>
+#include <time.h>
+
+#include "pep440.h"
+
+#define TEXT(text) (const uint8_t *)(text), sizeof(text) - 1
+#define LIST ">=1.0,<2.0,!=1.5.*"
+#define LONGER "1!2.0rc1.post2.dev3+ubuntu.1"
+
+static uint8_t out[256];
+static size_t written;
+static int8_t order;
+static bool is;
+static pep440_parts parts;
+static uint64_t release[16];
+
+static uint8_t normalize(void) { return pep440_normalize(TEXT("1.2.3"), out, sizeof out, &written); }
+static uint8_t normalize_longer(void) { return pep440_normalize(TEXT(LONGER), out, sizeof out, &written); }
+static uint8_t normalize_list(void) { return pep440_normalize_list(TEXT(LIST), out, sizeof out, &written); }
+static uint8_t refusal(void) { return pep440_refusal(TEXT("1.0prev"), out, sizeof out, &written); }
+static uint8_t compare(void) { return pep440_compare(TEXT("1.2.3"), TEXT("1.2.4"), &order); }
+static uint8_t compare_longer(void) { return pep440_compare(TEXT(LONGER), TEXT("1!2.0rc1.post2"), &order); }
+static uint8_t contains(void) { return pep440_contains(TEXT(LIST), TEXT("1.2.3"), &is); }
+static uint8_t contains_one(void) { return pep440_contains(TEXT(">=1.0"), TEXT("1.2.3"), &is); }
+static uint8_t any_prerelease(void) { return pep440_any_prerelease(TEXT(LIST), &is); }
+static uint8_t parts_of(void) { return pep440_parts_of(TEXT("1.2.3"), &parts, release, 16); }
+static uint8_t sort_key(void) { return pep440_sort_key(TEXT("1.2.3"), out, sizeof out, &written); }
+static uint8_t sort_key_longer(void) { return pep440_sort_key(TEXT(LONGER), out, sizeof out, &written); }
+static uint8_t ranges(void) { return pep440_ranges(TEXT(LIST), out, sizeof out, &written); }
+
+static const struct {
+    const char *name;
+    uint8_t (*call)(void);
+    uint8_t wanted;
+} CALLS[] = {{"normalize", normalize, PEP440_ANSWERED},           {"normalize_longer", normalize_longer, PEP440_ANSWERED},
+             {"normalize_list", normalize_list, PEP440_ANSWERED}, {"refusal", refusal, PEP440_ANSWERED},
+             {"compare", compare, PEP440_ANSWERED},               {"compare_longer", compare_longer, PEP440_ANSWERED},
+             {"contains", contains, PEP440_ANSWERED},             {"contains_one", contains_one, PEP440_ANSWERED},
+             {"any_prerelease", any_prerelease, PEP440_ANSWERED}, {"parts_of", parts_of, PEP440_ANSWERED},
+             {"sort_key", sort_key, PEP440_ANSWERED},             {"sort_key_longer", sort_key_longer, PEP440_ANSWERED},
+             {"ranges", ranges, PEP440_ANSWERED}};
+
+/* Versions of three numbers, scrambled: one in eight each with a pre-release, a post-release and a dev. */
+static pep440_text *some_texts(size_t how_many)
+{
+    static const char *const suffixes[] = {"", "rc%d", ".post%d", ".dev%d", "", "", "", ""};
+    pep440_text *made = calloc(how_many + 1, sizeof *made);
+    for (size_t place = 0; place < how_many; place++) {
+        size_t number = place * 7919 % 1000003;
+        char *text = malloc(64);
+        int length = sprintf(text, "%zu.%zu.%zu", number % 5, number / 5 % 40, number / 200 % 30);
+        length += sprintf(text + length, suffixes[number % 8], (int)(number % 4));
+        made[place] = (pep440_text){(const uint8_t *)text, (size_t)length};
+    }
+    return made;
+}
+
+static pep440_text *texts;
+static size_t *places, count, at;
+static uint8_t *room;
+
+static void make(void)
+{
+    texts = some_texts(count);
+    places = calloc(count + 1, sizeof *places);
+    room = calloc(count + 1, 64);
+}
+
+static uint8_t nothing(void) { return PEP440_ANSWERED; }
+
+static uint8_t filter(void) { return pep440_filter(TEXT(LIST), texts, count, room, count); }
+static uint8_t sort(void) { return pep440_sort(texts, count, places, count, &at); }
+static uint8_t sort_keys(void) { return pep440_sort_keys(texts, count, room, count * 64, places, count, &written, &at); }
+
+static const struct {
+    const char *name;
+    uint8_t (*call)(void);
+} BATCHES[] = {{"made", nothing}, {"filter", filter}, {"sort", sort}, {"sort_keys", sort_keys}};
+
+/* Whether the calls of this name have the status that they are to have; `start` is when they began. */
+static int run(const char *name, struct timespec *start)
+{
+    for (size_t which = 0; which < sizeof CALLS / sizeof *CALLS; which++) {
+        if (strcmp(CALLS[which].name, name) != 0)
+            continue;
+        clock_gettime(CLOCK_MONOTONIC, start);
+        for (size_t turn = 0; turn < count; turn++)
+            if (CALLS[which].call() != CALLS[which].wanted)
+                return 0;
+        return 1;
+    }
+    for (size_t which = 0; which < sizeof BATCHES / sizeof *BATCHES; which++) {
+        if (strcmp(BATCHES[which].name, name) != 0)
+            continue;
+        make();
+        clock_gettime(CLOCK_MONOTONIC, start);
+        return BATCHES[which].call() == PEP440_ANSWERED;
+    }
+    return 0;
+}
+
+int main(int argc, char **argv)
+{
+    struct timespec start, end;
+    count = argc > 2 ? strtoul(argv[2], NULL, 10) : 0;
+    if (argc < 3 || !run(argv[1], &start))
+        return EXIT_FAILURE;
+    clock_gettime(CLOCK_MONOTONIC, &end);
+    printf("%.0f\n", (double)(end.tv_sec - start.tv_sec) * 1e9 + (double)(end.tv_nsec - start.tv_nsec));
+    return EXIT_SUCCESS;
+}

@@ -1,0 +1,129 @@
+/* What a C program does with versions; it holds each answer against what PEP 440 wants, and ends with 0 where all are right.
+
+   cc -I callers/c callers/c/example.c crates/pep440_c/out/libpep440_c.a KIT/c/liblibc_c.a */
+#include <stdio.h>
+#include <stdlib.h>
+#include <string.h>
+
+#include "pep440.h"
+
+/* A text that ends in a zero, as the bytes and the length that a call takes. */
+#define TEXT(text) (const uint8_t *)(text), strlen(text)
+
+static int wrong;
+
+static void hold(int is_right, const char *what)
+{
+    if (!is_right) {
+        printf("WRONG: %s\n", what);
+        wrong++;
+    }
+}
+
+static void hold_text(const uint8_t *out, size_t written, const char *wanted)
+{
+    hold(written == strlen(wanted) && memcmp(out, wanted, written) == 0, wanted);
+}
+
+static void print_and_refuse(void)
+{
+    uint8_t out[256];
+    size_t written = 0;
+    hold(pep440_normalize(TEXT(" V1!1.0-Alpha.2-3.DEV+Ubuntu-01 "), out, sizeof out, &written) == PEP440_ANSWERED, "normalize");
+    hold_text(out, written, "1!1.0a2.post3.dev0+ubuntu.1");
+    printf("normal form: %.*s\n", (int)written, (const char *)out);
+
+    /* With too little room the call says how much it takes. */
+    hold(pep440_normalize(TEXT("1.0.post1"), out, 3, &written) == PEP440_NO_ROOM && written == 9, "room");
+
+    hold(pep440_normalize(TEXT("1.0prev"), out, sizeof out, &written) == PEP440_VERSION_REFUSED, "refused");
+    hold(pep440_refusal(TEXT("1.0prev"), out, sizeof out, &written) == PEP440_ANSWERED && written > 0, "why");
+    printf("1.0prev: %.*s\n", (int)written, (const char *)out);
+    hold(pep440_refusal(TEXT("1.0"), out, sizeof out, &written) == PEP440_ANSWERED && written == 0, "nothing is refused");
+
+    hold(pep440_normalize_list(TEXT(">=1.16 ,<2.0"), out, sizeof out, &written) == PEP440_ANSWERED, "normalize_list");
+    hold_text(out, written, ">=1.16, <2.0");
+    hold(pep440_list_refusal(TEXT(">=1.16; <2.0"), out, sizeof out, &written) == PEP440_ANSWERED && written > 0, "why no list");
+    printf("%.*s", (int)written, (const char *)out);
+}
+
+static void compare_and_match(void)
+{
+    int8_t order = 9;
+    bool is = false;
+    hold(pep440_compare(TEXT("1.0rc1"), TEXT("1.0"), &order) == PEP440_ANSWERED && order == -1, "1.0rc1 < 1.0");
+    hold(pep440_compare(TEXT("1.0"), TEXT("1.0.0"), &order) == PEP440_ANSWERED && order == 0, "1.0 == 1.0.0");
+    hold(pep440_compare(TEXT("1.10"), TEXT("1.9"), &order) == PEP440_ANSWERED && order == 1, "1.10 > 1.9");
+    hold(pep440_contains(TEXT(">=1.16, <2.0"), TEXT("1.19"), &is) == PEP440_ANSWERED && is, "contains 1.19");
+    hold(pep440_contains(TEXT(">=1.16, <2.0"), TEXT("2.0a1"), &is) == PEP440_ANSWERED && !is, "does not contain 2.0a1");
+    hold(pep440_contains(TEXT(">=1.16; <2.0"), TEXT("1.19"), &is) == PEP440_LIST_REFUSED, "no list");
+    hold(pep440_contains(TEXT(">=1.16"), TEXT("latest"), &is) == PEP440_VERSION_REFUSED, "no version");
+    hold(pep440_any_prerelease(TEXT(">=1.0, <2.0rc1"), &is) == PEP440_ANSWERED && is, "a pre-release among them");
+    hold(pep440_any_prerelease(TEXT(">=1.0, <2.0"), &is) == PEP440_ANSWERED && !is, "none among them");
+}
+
+static void take_apart(void)
+{
+    pep440_parts parts;
+    uint64_t release[4];
+    uint8_t out[256];
+    size_t written = 0;
+    hold(pep440_parts_of(TEXT("2!1.2.3rc4.post5+ubuntu.1"), &parts, release, 4) == PEP440_ANSWERED, "parts");
+    hold(parts.epoch == 2 && parts.release_length == 3 && release[0] == 1 && release[1] == 2 && release[2] == 3, "epoch and release");
+    hold(parts.pre_kind == PEP440_RC && parts.pre == 4 && parts.has_post && parts.post == 5, "suffixes");
+    hold(!parts.has_dev && parts.dev == 0 && parts.has_local, "dev and local");
+    hold(pep440_parts_of(TEXT("1.2.3.4.5"), &parts, release, 4) == PEP440_NO_ROOM && parts.release_length == 5, "no room, and told");
+
+    hold(pep440_ranges(TEXT(">=1.0,<2.0,!=1.5"), out, sizeof out, &written) == PEP440_ANSWERED, "ranges");
+    printf("the range of >=1.0,<2.0,!=1.5:\n%.*s\n", (int)written, (const char *)out);
+}
+
+static int as_bytes(const uint8_t *left, size_t left_length, const uint8_t *right, size_t right_length)
+{
+    int order = memcmp(left, right, left_length < right_length ? left_length : right_length);
+    return order ? order : (left_length > right_length) - (left_length < right_length);
+}
+
+static void keep_keys(void)
+{
+    uint8_t left[64], right[64];
+    size_t left_length = 0, right_length = 0;
+    hold(pep440_sort_key(TEXT("1.9"), left, sizeof left, &left_length) == PEP440_ANSWERED, "a key");
+    hold(pep440_sort_key(TEXT("1.10rc1"), right, sizeof right, &right_length) == PEP440_ANSWERED, "another key");
+    hold(as_bytes(left, left_length, right, right_length) < 0, "keys stand as versions do");
+    hold(pep440_sort_key(TEXT("1.9.0"), right, sizeof right, &right_length) == PEP440_ANSWERED, "a third key");
+    hold(as_bytes(left, left_length, right, right_length) == 0, "equal versions have one key");
+}
+
+static void many_at_once(void)
+{
+    static const char *const given[] = {"1.10", "1.9", "latest", "1.10rc1", "2.0"};
+    enum { COUNT = 5 };
+    pep440_text texts[COUNT];
+    uint8_t marks[COUNT];
+    size_t places[COUNT] = {0}, at = 99;
+    static const uint8_t wanted_marks[] = {PEP440_CONTAINED, PEP440_LEFT_OUT, PEP440_REFUSED, PEP440_CONTAINED, PEP440_LEFT_OUT};
+    for (size_t place = 0; place < COUNT; place++)
+        texts[place] = (pep440_text){(const uint8_t *)given[place], strlen(given[place])};
+    hold(pep440_filter(TEXT(">1.9,<2.0"), texts, COUNT, marks, COUNT) == PEP440_ANSWERED, "filter");
+    hold(memcmp(marks, wanted_marks, COUNT) == 0, "marks");
+    hold(pep440_sort(texts, COUNT, places, COUNT, &at) == PEP440_VERSION_REFUSED && at == 2, "the first that is no version");
+    texts[2] = texts[4];
+    hold(pep440_sort(texts, COUNT, places, COUNT, &at) == PEP440_ANSWERED, "sort");
+    hold(places[0] == 1 && places[1] == 3 && places[2] == 0 && places[3] == 2 && places[4] == 4, "places");
+    printf("in order:");
+    for (size_t turn = 0; turn < COUNT; turn++)
+        printf(" %.*s", (int)texts[places[turn]].length, (const char *)texts[places[turn]].bytes);
+    printf("\n");
+}
+
+int main(void)
+{
+    print_and_refuse();
+    compare_and_match();
+    take_apart();
+    keep_keys();
+    many_at_once();
+    printf("%d wrong\n", wrong);
+    return wrong ? EXIT_FAILURE : EXIT_SUCCESS;
+}

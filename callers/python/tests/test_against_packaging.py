@@ -1,0 +1,213 @@
+"""Every answer beside that of `packaging`: PEP440_CASES cases (200,000) by the generator's seed PEP440_SEED (7).
+
+A case is one text read, one pair compared, one candidate asked of a set, or one candidate of a filter. What stands in the README's table of
+departures is told by rule (`peer.py`), counted, and left out; the last lines say how many there were of what.
+"""
+import collections
+import os
+import pickle
+import random
+import re
+import unittest
+
+import peer
+from pep440_rattle import VERSION_PATTERN, filter_texts, sort_keys, sort_texts
+from pep440_rattle import specifiers as our_specifiers
+from pep440_rattle import version as our_version
+
+CASES = int(os.environ.get("PEP440_CASES", "200000"))
+VERSION_VALUES = (
+    "epoch release pre post dev local public base_version is_prerelease is_postrelease is_devrelease major minor micro".split()
+)
+CHOICES = [None, None, True, False]
+
+
+def answer(call, *given, **named):
+    """What the call answers, or that it refuses."""
+    try:
+        return call(*given, **named)
+    except (TypeError, ValueError) as error:
+        return type(error).__name__
+
+
+class AgainstPackaging(unittest.TestCase):
+    @classmethod
+    def setUpClass(cls):
+        cls.their_version, cls.their_specifiers, cls.name = peer.load()
+        cls.cases, cls.left_out = collections.Counter(), collections.Counter()
+        random.seed(int(os.environ.get("PEP440_SEED", "7")))
+
+    @classmethod
+    def tearDownClass(cls):
+        told = ", ".join(f"{count} {kind}" for kind, count in sorted(cls.cases.items()))
+        print(f"\nbeside {cls.name}: {cls.cases.total()} cases: {told}")
+        print("left out as departures: " + ", ".join(f"{count} {kind}" for kind, count in sorted(cls.left_out.items())))
+
+    def print_of(self, text):
+        return str(self.their_version.Version(text))
+
+    # ---- versions
+
+    def test_texts(self):
+        pattern = re.compile(rf"\s*{VERSION_PATTERN}\s*", re.VERBOSE | re.IGNORECASE)
+        while self.cases["texts"] < CASES // 4:
+            text = peer.some_text()
+            if peer.is_beyond(text):
+                self.left_out["texts beyond"] += 1
+                continue
+            ours, theirs = answer(our_version.Version, text), answer(self.their_version.Version, text)
+            with self.subTest(text=text):
+                self.assertEqual(repr(ours), repr(theirs))
+                self.assertEqual(bool(pattern.fullmatch(text)), not isinstance(theirs, str))
+                if not isinstance(theirs, str):
+                    self.assertEqual([getattr(ours, it) for it in VERSION_VALUES], [getattr(theirs, it) for it in VERSION_VALUES])
+            self.cases["texts"] += 1
+
+    def test_orders(self):
+        while self.cases["pairs"] < CASES // 8:
+            left = peer.loosely(peer.some_version())
+            right = peer.near(left) if random.random() < 0.5 else peer.some_version()
+            if random.random() < 0.1:
+                right = left + random.choice([".0", "", " "])
+            if isinstance(answer(self.their_version.Version, right), str):
+                continue
+            ours = [our_version.Version(it) for it in (left, right)]
+            theirs = [self.their_version.Version(it) for it in (left, right)]
+            with self.subTest(left=left, right=right):
+                for name in ("__lt__", "__le__", "__eq__", "__ne__", "__ge__", "__gt__"):
+                    self.assertEqual(getattr(ours[0], name)(ours[1]), getattr(theirs[0], name)(theirs[1]), name)
+                self.assertEqual(hash(ours[0]) == hash(ours[1]), theirs[0] == theirs[1])
+                self.assertEqual(ours[0].sort_key < ours[1].sort_key, theirs[0] < theirs[1])
+            self.cases["pairs"] += 1
+
+    def test_sorts(self):
+        while self.cases["sorted texts"] < CASES // 20:
+            texts = [peer.loosely(peer.some_version()) for _ in range(random.choice([0, 1, 2, 30, 300]))]
+            wanted = sorted(texts, key=self.their_version.Version)
+            self.assertEqual(sorted(texts, key=our_version.Version), wanted)
+            self.assertEqual(sort_texts(texts), wanted)
+            keys = sort_keys(texts)
+            self.assertEqual(keys, [our_version.Version(it).sort_key for it in texts])
+            self.assertEqual([it for _, _, it in sorted(zip(keys, range(len(keys)), texts))], wanted)
+            self.cases["sorted texts"] += len(texts)
+
+    # ---- specifiers
+
+    def is_departure(self, specifiers, candidates=()):
+        """Whether a departure of the table plays a part, and which."""
+        parsed = [self.their_version.Version(it) for it in candidates]
+        for each in specifiers:
+            operator, version = each.operator, each.version
+            if peer.is_arbitrary(operator, version, self.print_of):
+                return "arbitrary equality"
+            if not version.endswith(".*"):
+                if peer.is_compatible_by_text(operator, version, self.print_of):
+                    return "loose compatible release"
+                bound = self.their_version.Version(version)
+                if any(peer.is_local_above(operator, bound, it) for it in parsed):
+                    return "local above"
+        return None
+
+    def same_specifiers(self, ours, theirs):
+        self.assertEqual((str(ours), repr(ours), ours.prereleases), (str(theirs), repr(theirs), theirs.prereleases))
+        copy = pickle.loads(pickle.dumps(ours))
+        self.assertEqual((copy, hash(copy), copy.prereleases), (ours, hash(ours), ours.prereleases))
+
+    def test_specifiers(self):
+        before = None
+        while self.cases["specifiers"] < CASES // 20:
+            text, prereleases = peer.some_piece(), random.choice(CHOICES)
+            if peer.is_beyond(text):
+                self.left_out["texts beyond"] += 1
+                continue
+            theirs = answer(self.their_specifiers.Specifier, text, prereleases)
+            if not isinstance(theirs, str) and peer.is_arbitrary(theirs.operator, theirs.version, lambda it: self.print_of(it) and it.lower()):
+                self.left_out["arbitrary equality"] += 1
+                continue
+            ours = answer(our_specifiers.Specifier, text, prereleases)
+            with self.subTest(text=text, before=before):
+                self.assertEqual(isinstance(ours, str) and ours, isinstance(theirs, str) and theirs)
+                if isinstance(theirs, str):
+                    continue
+                self.same_specifiers(ours, theirs)
+                self.assertEqual((ours.operator, ours.version), (theirs.operator, theirs.version))
+                if before:
+                    self.assertEqual(ours == our_specifiers.Specifier(before), theirs == self.their_specifiers.Specifier(before))
+                    self.assertEqual(ours == before, theirs == before)
+                before = text
+            self.cases["specifiers"] += 1
+
+    def some_set(self):
+        pieces = [peer.some_specifier() for _ in range(random.choice([0, 1, 1, 2, 3, 4]))] + [""] * random.choice([0, 0, 1])
+        random.shuffle(pieces)
+        return random.choice([",", ", ", " , "]).join(pieces), random.choice(CHOICES)
+
+    def test_sets(self):
+        while self.cases["candidates"] + self.cases["filtered"] < CASES * 11 // 20:
+            text, prereleases = self.some_set()
+            theirs = answer(self.their_specifiers.SpecifierSet, text, prereleases)
+            with self.subTest(text=text, prereleases=prereleases):
+                if isinstance(theirs, str):
+                    self.assertEqual(answer(our_specifiers.SpecifierSet, text, prereleases), theirs)
+                    self.cases["sets refused"] += 1
+                    continue
+                ours = our_specifiers.SpecifierSet(text, prereleases)
+                self.same_specifiers(ours, theirs)
+                self.assertEqual(len(ours), len(theirs))
+                self.ask(ours, theirs)
+                self.combine(ours, theirs)
+
+    def combine(self, ours, theirs):
+        text, prereleases = self.some_set()
+        other = answer(self.their_specifiers.SpecifierSet, text, prereleases)
+        if isinstance(other, str):
+            return
+        mine = our_specifiers.SpecifierSet(text, prereleases)
+        self.assertEqual(repr(answer(lambda: ours & mine)), repr(answer(lambda: theirs & other)))
+        self.assertEqual(repr(answer(lambda: ours & text)), repr(answer(lambda: theirs & text)))
+        self.assertEqual(ours == mine, theirs == other)
+        self.cases["pairs of sets"] += 1
+
+    def ask(self, ours, theirs):
+        """Candidates near to the members, one by one, and as a filter."""
+        stems = [it.version.removesuffix(".*") for it in theirs] or ["1.0"]
+        stems = [self.print_of(it) if not isinstance(answer(self.print_of, it), str) else "1.0" for it in stems]
+        texts = [peer.near(random.choice(stems)) if random.random() < 0.7 else peer.some_version() for _ in range(30)]
+        texts = [it for it in texts if not peer.is_beyond(it)]
+        texts = [peer.loosely(it) if random.random() < 0.2 else it for it in texts]
+        kept = []
+        for text in texts:
+            departure = self.is_departure(theirs, [text])
+            if departure:
+                self.left_out[departure] += 1
+                continue
+            kept.append(text)
+            self.ask_one(ours, theirs, text)
+        self.ask_all(ours, theirs, kept)
+
+    def ask_one(self, ours, theirs, text):
+        named = {"prereleases": random.choice(CHOICES), "installed": random.choice([None, None, True, False])}
+        item, item_of_theirs = (our_version.Version(text), self.their_version.Version(text)) if random.random() < 0.5 else (text, text)
+        if not (named["installed"] and self.is_departure(theirs, [self.their_version.Version(text).base_version])):
+            self.assertEqual(ours.contains(item, **named), theirs.contains(item_of_theirs, **named), (text, named))
+        self.assertEqual(item in ours, item_of_theirs in theirs, text)
+        del named["installed"]
+        for member in theirs:
+            mine = our_specifiers.Specifier(str(member), member._prereleases)
+            self.assertEqual(mine.contains(item, **named), member.contains(item_of_theirs, **named), (str(member), text, named))
+        self.cases["candidates"] += 1
+
+    def ask_all(self, ours, theirs, texts):
+        for prereleases in (None, True, False):
+            wanted = list(theirs.filter(texts, prereleases))
+            self.assertEqual(list(ours.filter(iter(texts), prereleases)), wanted, (texts, prereleases))
+            for member in theirs:
+                mine = our_specifiers.Specifier(str(member))
+                again = self.their_specifiers.Specifier(str(member))
+                self.assertEqual(list(mine.filter(texts, prereleases)), list(again.filter(texts, prereleases)), (str(member), texts))
+        self.assertEqual(filter_texts(str(ours), texts), list(theirs.filter(texts, True)))
+        self.cases["filtered"] += 3 * len(texts)
+
+
+if __name__ == "__main__":
+    unittest.main()

@@ -1,0 +1,237 @@
+"""What is given may be anything, from many threads, in a child process, with memory refused; and copies stay what they were."""
+import concurrent.futures
+import copy
+import ctypes
+import os
+import pickle
+import random
+import resource
+import shutil
+import subprocess
+import sys
+import tempfile
+import unittest
+import weakref
+
+from pep440_rattle import InvalidSpecifier, InvalidVersion, Specifier, SpecifierSet, Version, filter_texts, sort_keys, sort_texts
+
+HERE = os.path.dirname(os.path.abspath(__file__))
+TEXTS = [f"{place % 3}.{place * 7919 % 1000}.{place % 11}{suffix}" for place in range(2000) for suffix in ("", "rc1", ".post2", "+u.1")]
+LIST = ">=1.0,<2.0,!=1.5.*"
+
+
+class Text(str):
+    """A str with more to it."""
+
+
+class Garbage(unittest.TestCase):
+    def test_other_types(self):
+        for given in (None, 1, 1.5, b"1.0", bytearray(b"1.0"), memoryview(b"1.0"), ["1.0"], {"1.0"}, object(), Version, Specifier(">=1")):
+            for call in (Version, Specifier, lambda it: SpecifierSet(">=1").contains(it), lambda it: list(SpecifierSet(">=1").filter([it]))):
+                with self.assertRaises(TypeError, msg=repr(given)):
+                    call(given)
+        for call in (Version, lambda: Version("1", "2"), lambda: Version(text="1"), lambda: SpecifierSet(5), lambda: sort_texts(None), lambda: sort_texts([1])):
+            with self.assertRaises(TypeError):
+                call()
+        self.assertEqual(Version(version="1.0"), Version("1.0"))
+        for call in (lambda: Version("1") < "2", lambda: Version("1") < 2, lambda: SpecifierSet("") & 5):
+            with self.assertRaises(TypeError):
+                call()
+        self.assertFalse(Version("1") == "1" or Version("1") == 1 or Specifier("==1") == 1 or SpecifierSet("==1") == 1)
+
+    def test_texts_of_all_kinds(self):
+        for text in ("", "\0", "1.0\0", "\ud800", "1.0\udc80", "\U0001f600", "1" * 400, "1.0 ; python_version", "latest", "-1", "+1", "1..0"):
+            with self.assertRaises(InvalidVersion, msg=repr(text)):
+                Version(text)
+            with self.assertRaises(InvalidSpecifier, msg=repr(text)):
+                Specifier(">=" + text)
+            with self.assertRaises(InvalidVersion, msg=repr(text)):
+                SpecifierSet(">=1.0").contains(text)
+            with self.assertRaises(InvalidVersion, msg=repr(text)):
+                sort_texts(["1.0", text])
+            with self.assertRaises(InvalidVersion, msg=repr(text)):
+                sort_keys(["1.0", text])
+            with self.assertRaises(InvalidVersion, msg=repr(text)):
+                filter_texts(LIST, ["1.0", text])
+            self.assertEqual(filter_texts(LIST, ["1.0", text], skip_invalid=True), ["1.0"])
+
+    def test_long_texts(self):
+        numbers = tuple(range(150_000))
+        long = ".".join(map(str, numbers))
+        self.assertGreater(len(long), 900_000)
+        version = Version(long)
+        self.assertEqual((version.release, str(version), version == Version(long + ".0")), (numbers, long, True))
+        self.assertTrue(SpecifierSet(">=" + long).contains(long))
+        self.assertEqual(sort_texts([long, "0"]), ["0", long])
+        self.assertEqual(sort_keys([long, "0"]), [version.sort_key, Version("0").sort_key])
+        with self.assertRaises(InvalidVersion) as caught:
+            Version("x" * 1_000_000)
+        self.assertTrue(str(caught.exception).startswith("Invalid version: 'xxx"))
+        with self.assertRaises(InvalidSpecifier):
+            SpecifierSet(">=1," * 100_000 + "x")
+
+    def test_garbage_by_chance(self):
+        random.seed(440)
+        for _ in range(20_000):
+            text = "".join(chr(random.choice([random.randrange(128), random.randrange(0x3000), random.randrange(0x110000)])) for _ in range(random.randint(0, 6)))
+            for call, refusal in ((Version, InvalidVersion), (Specifier, InvalidSpecifier)):
+                try:
+                    self.assertIsInstance(str(call(text)), str)
+                except refusal:
+                    pass
+
+    def test_a_list_that_shrinks_meanwhile(self):
+        class Shrinking:
+            def __init__(self):
+                self.items = list(TEXTS)
+
+            def __iter__(self):
+                while self.items:
+                    yield self.items.pop()
+
+        self.assertEqual(sort_texts(Shrinking()), sort_texts(reversed(TEXTS)))
+
+
+class Copies(unittest.TestCase):
+    def test_versions(self):
+        for text in ("1.0", "1!2.0rc1.post2.dev3+ubuntu.1"):
+            version = Version(text)
+            for protocol in range(pickle.HIGHEST_PROTOCOL + 1):
+                again = pickle.loads(pickle.dumps(version, protocol))
+                self.assertEqual((again, str(again), hash(again), type(again)), (version, text, hash(version), Version))
+            for again in (copy.copy(version), copy.deepcopy(version), Version(Text(text))):
+                self.assertEqual((again, str(again)), (version, text))
+        self.assertEqual({Version("1.0"), Version("1"), Version("1.0.0"), Version("1.0+x")}, {Version("1"), Version("1.0.0+x")})
+        self.assertEqual({Version("1.0"): "found"}[Version("1.0.0")], "found")
+
+    def test_sets(self):
+        for several in (SpecifierSet(LIST), SpecifierSet(LIST, prereleases=True), SpecifierSet("")):
+            for protocol in range(pickle.HIGHEST_PROTOCOL + 1):
+                again = pickle.loads(pickle.dumps(several, protocol))
+                self.assertEqual((again, str(again), hash(again), again.prereleases), (several, str(several), hash(several), several.prereleases))
+            self.assertEqual(repr(copy.deepcopy(several)), repr(several))
+        self.assertEqual(len({SpecifierSet(">=1.0"), SpecifierSet(">=1.0.0"), SpecifierSet(">=1")}), 1)
+        for error in (InvalidVersion("x"), InvalidSpecifier("y")):
+            self.assertEqual(repr(pickle.loads(pickle.dumps(error))), repr(error))
+
+    def test_a_str_of_a_class_is_let_go(self):
+        text = Text("1.0")
+        gone = weakref.ref(text)
+        version = Version(text)
+        del text
+        self.assertIsNone(gone())
+        self.assertEqual(str(version), "1.0")
+
+    def test_nothing_is_kept(self):
+        def turn():
+            version = Version("1!2.0rc1.post2.dev3+ubuntu.1")
+            str(version), version.release, version.local, hash(version), version < Version("1.0")
+            for call in (lambda: Version("x"), lambda: SpecifierSet("x"), lambda: sort_texts(["1", "x"]), lambda: sort_keys(["x"])):
+                try:
+                    call()
+                except ValueError:
+                    pass
+            several = SpecifierSet(LIST)
+            several.contains("1.2"), list(several.filter(TEXTS[:20])), several.ranges(), sort_texts(TEXTS[:20]), sort_keys(TEXTS[:20])
+
+        for _ in range(500):
+            turn()
+        before = resource.getrusage(resource.RUSAGE_SELF).ru_maxrss
+        for _ in range(5000):
+            turn()
+        self.assertLess(resource.getrusage(resource.RUSAGE_SELF).ru_maxrss - before, 2000)
+
+
+class Threads(unittest.TestCase):
+    def test_threads(self):
+        def turn(_):
+            shared = SpecifierSet(LIST)
+            kept = filter_texts(LIST, TEXTS)
+            held = sorted(map(Version, TEXTS))
+            return kept == wanted[0] and held == wanted[1] and sort_texts(TEXTS) == wanted[2] and list(shared.filter(TEXTS, True)) == wanted[0]
+
+        wanted = filter_texts(LIST, TEXTS), sorted(map(Version, TEXTS)), sort_texts(TEXTS)
+        with concurrent.futures.ThreadPoolExecutor(8) as pool:
+            self.assertTrue(all(pool.map(turn, range(32))))
+
+    def test_one_version_in_many_threads(self):
+        def turn(_):
+            version = Version("1!2.0rc1.post2.dev3+ubuntu.1")
+            with concurrent.futures.ThreadPoolExecutor(4) as inner:
+                return set(inner.map(lambda _: (version.release, version.pre, version.local, str(version)), range(20)))
+
+        for _ in range(20):
+            self.assertEqual(turn(None), {((2, 0), ("rc", 1), "ubuntu.1", "1!2.0rc1.post2.dev3+ubuntu.1")})
+
+    @unittest.skipUnless(hasattr(os, "fork"), "no fork here")
+    def test_fork(self):
+        held, several = Version("1.5rc1"), SpecifierSet(LIST)
+        wanted = sort_texts(TEXTS)
+        child = os.fork()
+        if child == 0:
+            right = held < Version("1.5") and "1.4" in several and sort_texts(TEXTS) == wanted and held.pre == ("rc", 1)
+            os._exit(0 if right else 1)
+        self.assertEqual(os.waitpid(child, 0)[1], 0)
+        self.assertEqual(sort_texts(TEXTS), wanted)
+
+
+# What runs where requests for memory are refused: each call answers rightly or raises MemoryError, and then answers rightly.
+REFUSED = """
+import ctypes, sys
+from pep440_rattle import InvalidSpecifier, InvalidVersion, SpecifierSet, Version, filter_texts, sort_keys, sort_texts, _core
+arm, refused = ctypes.CDLL(None).refuse_arm, ctypes.CDLL(None).refuse_came
+long = "V1!1.2.3.4.5.6-Alpha.2-3.DEV+Ubuntu-01.long.local.part"
+texts = [long, "1.0+b", "1.0", "0.9rc1", "1.0+a"] * 40
+members = ">=1.16,!=1.5.*,===1.17,<2.0"
+longest = ".".join(["12345678"] * 1000)
+def refusal(call, text, error):
+    try:
+        call(text)
+    except error as raised:
+        return str(raised)
+calls = [
+    lambda: Version(long).sort_key, lambda: str(Version(long)), lambda: Version(long)._parts, lambda: Version(longest).release[-1], lambda: str(Version(longest)),
+    lambda: refusal(Version, "1.0prev", InvalidVersion), lambda: refusal(_core.normalize_list, ">=1.0;<2", InvalidSpecifier),
+    lambda: _core.normalize_list(members), lambda: _core.ranges(members), lambda: _core.contains(members, "1.17", False),
+    lambda: filter_texts(members, texts), lambda: _core.filter(">=0", texts, False, False), lambda: sort_texts(texts), lambda: sort_keys(texts),
+    lambda: sort_keys([longest] * 3), lambda: refusal(sort_texts, texts + ["x"], InvalidVersion),
+]
+def attempt(call, number):
+    try:
+        arm(number)
+        answer = call()
+        arm(0)
+        return answer
+    except MemoryError:
+        return MemoryError
+total = 0
+for call in calls:
+    wanted, number = call(), 1
+    while True:
+        answer = attempt(call, number)
+        came = refused()
+        assert answer == wanted or (came and answer is MemoryError), (number, answer, wanted)
+        assert call() == wanted
+        if not came:
+            break
+        total, number = total + 1, number + 1
+print(total)
+"""
+
+
+class Memory(unittest.TestCase):
+    @unittest.skipUnless(shutil.which("cc") and sys.platform == "linux", "no cc here")
+    def test_each_request_refused_in_turn(self):
+        with tempfile.TemporaryDirectory() as work:
+            library = os.path.join(work, "refuse.so")
+            subprocess.run(["cc", "-O1", "-shared", "-fPIC", "-o", library, os.path.join(HERE, "refuse.c")], check=True)
+            # Python's own allocator asks malloc for much at a time, so that few of its requests are refused: it does not answer for these
+            environment = dict(os.environ, LD_PRELOAD=library, PYTHONMALLOC="pymalloc", PYTHONPATH=os.pathsep.join(sys.path))
+            ran = subprocess.run([sys.executable, "-c", REFUSED], env=environment, capture_output=True, text=True, check=False)
+            self.assertEqual((ran.returncode, ran.stderr), (0, ""))
+            self.assertGreater(int(ran.stdout), 50)
+            print(f"\n{int(ran.stdout)} requests for memory refused in turn")
+
+
+if __name__ == "__main__":
+    unittest.main()

@@ -1,0 +1,148 @@
+"""Worked rows, from PEP 440 and from the documentation of `packaging`, and the examples of the docstrings."""
+import doctest
+import importlib
+import random
+import sqlite3
+import unittest
+
+from pep440_rattle import Bound, InvalidSpecifier, InvalidVersion, Specifier, SpecifierSet, Version, filter_texts, parse, sort_keys, sort_texts
+
+# PEP 440, "Summary of permitted suffixes and relative ordering" and "Local version identifiers", with epochs
+ASCENDING = (
+    "1.dev0 1.0.dev456 1.0a1 1.0a2.dev456 1.0a12.dev456 1.0a12 1.0b1.dev456 1.0b2 1.0b2.post345.dev456 1.0b2.post345 1.0rc1.dev456 1.0rc1 1.0 "
+    "1.0+abc.5 1.0+abc.7 1.0+5 1.0.post456.dev34 1.0.post456 1.0.15 1.1.dev1 1!0.1"
+).split()
+# PEP 440, "Normalization"
+PRINTS = {
+    "1.1RC1": "1.1rc1", "00": "0", "09000": "9000", "1.0+foo0100": "1.0+foo0100", "1.1.a1": "1.1a1", "1.1-a1": "1.1a1", "1.1a.1": "1.1a1",
+    "1.1alpha1": "1.1a1", "1.1beta2": "1.1b2", "1.1c3": "1.1rc3", "1.2a": "1.2a0", "1.2-post2": "1.2.post2", "1.2post2": "1.2.post2",
+    "1.2.post-2": "1.2.post2", "1.0-r4": "1.0.post4", "1.2.post": "1.2.post0", "1.0-1": "1.0.post1", "1.2-dev2": "1.2.dev2", "1.2dev2": "1.2.dev2",
+    "1.2.dev": "1.2.dev0", "1.0+ubuntu-1": "1.0+ubuntu.1", "v1.0": "1.0", "1.0\n": "1.0", "1!1.0": "1!1.0",
+}  # fmt: skip
+# PEP 440, "Version specifiers"
+CONTAINS = [
+    ("~=2.2", "2.3", True), ("~=2.2", "3.0", False), ("~=2.2.0", "2.3", False), ("~=2.2.post3", "2.2", False), ("==1.1", "1.1.post1", False),
+    ("==1.1.post1", "1.1.post1", True), ("==1.1.*", "1.1.post1", True), ("==1.1", "1.1.0", True), ("==1.1", "1.1+x", True), ("==1.1+x", "1.1", False),
+    ("!=1.1", "1.1.post1", True), ("!=1.1.*", "1.1.post1", False), (">1.7", "1.7.0.post1", False), (">1.7", "1.7.1", True), (">1.7.post2", "1.7.0", False),
+    (">1.7.post2", "1.7.post3", True), (">=1.7", "1.7+x", True), ("<=1.7", "1.7+x", True), (">1.7", "1.7+x", False), ("<1.7", "1.6.9", True),
+    ("", "1.0", True), ("~=0.9, >=1.0, !=1.3.4.*, <2.0", "1.3.4.post1", False),
+]  # fmt: skip
+
+
+def load_tests(loader, tests, pattern):
+    for name in ("version", "specifiers", "texts"):
+        module = importlib.import_module(f"pep440_rattle.{name}")
+        tests.addTests(doctest.DocTestSuite(module, extraglobs={"Version": Version, "SpecifierSet": SpecifierSet, "Specifier": Specifier}))
+    return tests
+
+
+class Versions(unittest.TestCase):
+    def test_order(self):
+        held = [Version(it) for it in ASCENDING]
+        for place, left in enumerate(held):
+            for other, right in enumerate(held):
+                self.assertEqual((left < right, left == right, left >= right), (place < other, place == other, place >= other), (left, right))
+        self.assertEqual(sort_texts(reversed(ASCENDING)), ASCENDING)
+        self.assertEqual(sorted(sort_keys(ASCENDING)), [it.sort_key for it in held])
+
+    def test_database(self):
+        shuffled = random.Random(440).sample(ASCENDING, len(ASCENDING))
+        table = sqlite3.connect(":memory:")
+        table.execute("CREATE TABLE releases (version TEXT, key BLOB)")
+        table.executemany("INSERT INTO releases VALUES (?, ?)", zip(shuffled, sort_keys(shuffled)))
+        found = table.execute("SELECT version FROM releases WHERE key >= ? ORDER BY key", [Version("1.0").sort_key])
+        self.assertEqual([text for (text,) in found], ASCENDING[ASCENDING.index("1.0") :])
+        table.close()
+
+    def test_prints(self):
+        for text, printed in PRINTS.items():
+            self.assertEqual(str(Version(text)), printed)
+            self.assertEqual(parse(text), Version(printed))
+
+    def test_parts(self):
+        version = Version("V2!1.2.3-Alpha.4-5.DEV6+Ubuntu-07")
+        self.assertEqual((version.epoch, version.release, version.pre, version.post, version.dev), (2, (1, 2, 3), ("a", 4), 5, 6))
+        self.assertEqual((version.local, version.public, version.base_version), ("ubuntu.7", "2!1.2.3a4.post5.dev6", "2!1.2.3"))
+        self.assertEqual((version.major, version.minor, version.micro), (1, 2, 3))
+        self.assertTrue(version.is_prerelease and version.is_postrelease and version.is_devrelease)
+        plain = Version("7")
+        self.assertEqual((plain.pre, plain.post, plain.dev, plain.local, plain.minor, plain.micro), (None, None, None, None, 0, 0))
+        self.assertFalse(plain.is_prerelease or plain.is_postrelease or plain.is_devrelease)
+        self.assertEqual(Version(".".join(map(str, range(100)))).release, tuple(range(100)))
+        self.assertEqual(Version(str(2**64 - 1)).major, 2**64 - 1)
+
+    def test_refusals(self):
+        with self.assertRaises(InvalidVersion) as caught:
+            Version("1.0prev")
+        first, _, reason = str(caught.exception).partition("'1.0prev': ")
+        self.assertEqual(first, "Invalid version: ")
+        self.assertIn("1.0pre", reason)
+        self.assertIsInstance(caught.exception, ValueError)
+
+    def test_subclass(self):
+        class Written(Version):
+            def __init__(self, version):
+                super().__init__(version)
+                self.written = version
+
+            def __str__(self):
+                return self.written
+
+        version = Written("1.0-alpha")
+        self.assertEqual((str(version), version.release, version == Version("1.0a0"), hash(version)), ("1.0-alpha", (1, 0), True, hash(Version("1.0a"))))
+
+
+class Specifiers(unittest.TestCase):
+    def test_contains(self):
+        for text, version, wanted in CONTAINS:
+            self.assertIs(SpecifierSet(text).contains(version), wanted, (text, version))
+            self.assertIs(SpecifierSet(text).contains(Version(version)), wanted, (text, version))
+            self.assertEqual(filter_texts(text, [version]), [version] if wanted else [])
+
+    def test_prereleases(self):
+        # PEP 440, "Handling of pre-releases"
+        self.assertFalse(SpecifierSet(">=1.0").contains("1.1a1"))
+        self.assertTrue(SpecifierSet(">=1.0a1").contains("1.1a1"))
+        self.assertTrue(SpecifierSet(">=1.0", prereleases=True).contains("1.1a1"))
+        self.assertFalse(SpecifierSet(">=1.0a1", prereleases=False).contains("1.1a1"))
+        self.assertEqual(list(Specifier(">=1.0").filter(["0.9", "1.1a1"])), ["1.1a1"])
+        several = SpecifierSet(">=1.0,<3")
+        self.assertIs(several.prereleases, False)
+        next(iter(several)).prereleases = True
+        self.assertIs(several.prereleases, True)
+        several.prereleases = False
+        self.assertFalse(several.contains("1.1a1"))
+
+    def test_refusals(self):
+        for text in ("1.0", "==", "=1.0", ">=1.0.*", "~=1", ">=1.0+x", "== 1.0 2.0", ">= =1.0", "", " "):
+            with self.assertRaises(InvalidSpecifier) as caught:
+                Specifier(text)
+            self.assertTrue(str(caught.exception).startswith(f"Invalid specifier: '{text.strip() or text}'"), caught.exception)
+        with self.assertRaises(InvalidSpecifier):
+            SpecifierSet(">=1.0, <x")
+
+    def test_ranges(self):
+        def shown(text):
+            return [(lower and (str(lower), lower.included), upper and (str(upper), upper.included)) for lower, upper in SpecifierSet(text).ranges()]
+
+        self.assertEqual(shown(""), [(None, None)])
+        self.assertEqual(shown(">=1.0"), [(("1.0", True), None)])
+        self.assertEqual(shown("<2.0"), [(None, ("2.0~min0", False))])
+        self.assertEqual(shown(">=1.0,<2.0,!=1.5"), [(("1.0", True), ("1.5", False)), (("1.5", False), ("2.0~min0", False))])
+        self.assertEqual(shown(">=2.0,<1.0"), [])
+        self.assertEqual(shown("==1.5.*"), [(("1.5.dev0", True), ("1.6.dev0", False))])
+        with self.assertRaises(OverflowError):
+            SpecifierSet(f"=={2**64 - 1}.*").ranges()
+        self.assertEqual(Specifier(">=1.0").ranges(), [(Bound(Version("1.0"), True, ""), None)])
+        self.assertEqual(SpecifierSet("<2.0").ranges()[0][1], Bound(Version("2.0"), False, "min0"))
+
+    def test_sets(self):
+        several = SpecifierSet([Specifier(">=1.0"), Specifier("!=1.5")])
+        self.assertEqual(several, SpecifierSet("!=1.5, >=1.0"))
+        self.assertEqual(len(several & ">=1.0.0"), 2)
+        with self.assertRaises(ValueError):
+            SpecifierSet(">=1", prereleases=True) & SpecifierSet("<2", prereleases=False)
+
+
+if __name__ == "__main__":
+    unittest.main()

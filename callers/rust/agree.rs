@@ -1,0 +1,374 @@
+//! Calls the library as C does, by a small safe wrapper, and holds its answers against each other by both routes: one call a text against
+//! batches, keys against comparisons, filters against single matches, places against a sort by comparisons.
+//!
+//! Usage: agree [COUNT [SEED]]    (100,000 generated texts, seed 440)
+//!
+//!     rustc -O callers/rust/agree.rs -l static=pep440_c -L crates/pep440_c/out -l static=libc_c -L KIT/c
+use std::cmp::Ordering;
+use std::collections::HashMap;
+use std::fmt::Write;
+
+mod pep440 {
+    //! No call asks anything of its caller but what Rust's references hold: pointers that are not null, and no overlap.
+    use std::cmp::Ordering;
+
+    #[derive(Clone, Copy, Debug, PartialEq, Eq)]
+    pub enum Refusal {
+        Version,
+        List,
+        OutOfMemory,
+    }
+
+    /// What becomes of a text of a filter.
+    #[derive(Clone, Copy, Debug, PartialEq, Eq)]
+    pub enum Mark {
+        LeftOut,
+        Contained,
+        Refused,
+    }
+
+    #[repr(C)]
+    pub struct Text {
+        bytes: *const u8,
+        length: usize,
+    }
+
+    #[repr(C)]
+    #[derive(Clone, Debug, Default, PartialEq, Eq)]
+    pub struct Parts {
+        pub epoch: u64,
+        pub pre: u64,
+        pub post: u64,
+        pub dev: u64,
+        pub release_length: usize,
+        pub pre_kind: u8,
+        pub has_post: bool,
+        pub has_dev: bool,
+        pub has_local: bool,
+    }
+
+    type Writes = unsafe extern "C" fn(*const u8, usize, *mut u8, usize, *mut usize) -> u8;
+
+    unsafe extern "C" {
+        fn pep440_normalize(text: *const u8, length: usize, out: *mut u8, room: usize, written: *mut usize) -> u8;
+        fn pep440_normalize_list(list: *const u8, length: usize, out: *mut u8, room: usize, written: *mut usize) -> u8;
+        fn pep440_refusal(text: *const u8, length: usize, out: *mut u8, room: usize, written: *mut usize) -> u8;
+        fn pep440_list_refusal(list: *const u8, length: usize, out: *mut u8, room: usize, written: *mut usize) -> u8;
+        fn pep440_sort_key(text: *const u8, length: usize, out: *mut u8, room: usize, written: *mut usize) -> u8;
+        fn pep440_ranges(list: *const u8, length: usize, out: *mut u8, room: usize, written: *mut usize) -> u8;
+        fn pep440_compare(left: *const u8, left_length: usize, right: *const u8, right_length: usize, order: *mut i8) -> u8;
+        fn pep440_contains(list: *const u8, list_length: usize, text: *const u8, length: usize, contained: *mut bool) -> u8;
+        fn pep440_any_prerelease(list: *const u8, length: usize, any: *mut bool) -> u8;
+        fn pep440_parts_of(text: *const u8, length: usize, parts: *mut Parts, release: *mut u64, room: usize) -> u8;
+        fn pep440_filter(list: *const u8, list_length: usize, texts: *const Text, count: usize, marks: *mut u8, room: usize) -> u8;
+        fn pep440_sort(texts: *const Text, count: usize, places: *mut usize, room: usize, at: *mut usize) -> u8;
+        fn pep440_sort_keys(
+            texts: *const Text,
+            count: usize,
+            out: *mut u8,
+            room: usize,
+            ends: *mut usize,
+            ends_room: usize,
+            written: *mut usize,
+            at: *mut usize,
+        ) -> u8;
+    }
+
+    /// Whether it was answered; `false` says that there was too little room.
+    fn answered(status: u8) -> Result<bool, Refusal> {
+        match status {
+            0 => Ok(true),
+            1 => Err(Refusal::Version),
+            2 => Err(Refusal::List),
+            3 => Err(Refusal::OutOfMemory),
+            4 => Ok(false),
+            _ => unreachable!("status {status}"),
+        }
+    }
+
+    fn written_by(call: Writes, text: &str) -> Result<Vec<u8>, Refusal> {
+        let (mut out, mut written) = (vec![0; 64], 0);
+        loop {
+            // SAFETY: both slices lend as many bytes as are told, and a slice's pointer is never null.
+            if answered(unsafe { call(text.as_ptr(), text.len(), out.as_mut_ptr(), out.len(), &mut written) })? {
+                out.truncate(written);
+                return Ok(out);
+            }
+            assert!(written > out.len(), "too little room, and no more is asked for");
+            out.resize(written, 0);
+        }
+    }
+
+    fn as_text(written: Result<Vec<u8>, Refusal>) -> Result<String, Refusal> {
+        Ok(String::from_utf8(written?).expect("what is written is UTF-8"))
+    }
+
+    pub fn normalize(text: &str) -> Result<String, Refusal> {
+        as_text(written_by(pep440_normalize, text))
+    }
+
+    pub fn normalize_list(list: &str) -> Result<String, Refusal> {
+        as_text(written_by(pep440_normalize_list, list))
+    }
+
+    pub fn refusal(text: &str) -> Result<String, Refusal> {
+        as_text(written_by(pep440_refusal, text))
+    }
+
+    pub fn list_refusal(list: &str) -> Result<String, Refusal> {
+        as_text(written_by(pep440_list_refusal, list))
+    }
+
+    pub fn ranges(list: &str) -> Result<String, Refusal> {
+        as_text(written_by(pep440_ranges, list))
+    }
+
+    pub fn sort_key(text: &str) -> Result<Vec<u8>, Refusal> {
+        written_by(pep440_sort_key, text)
+    }
+
+    pub fn compare(left: &str, right: &str) -> Result<Ordering, Refusal> {
+        let mut order = 0;
+        // SAFETY: as in `written_by`; so in all calls below.
+        answered(unsafe { pep440_compare(left.as_ptr(), left.len(), right.as_ptr(), right.len(), &mut order) })?;
+        Ok(order.cmp(&0))
+    }
+
+    pub fn contains(list: &str, text: &str) -> Result<bool, Refusal> {
+        let mut contained = false;
+        answered(unsafe { pep440_contains(list.as_ptr(), list.len(), text.as_ptr(), text.len(), &mut contained) })?;
+        Ok(contained)
+    }
+
+    pub fn any_prerelease(list: &str) -> Result<bool, Refusal> {
+        let mut any = false;
+        answered(unsafe { pep440_any_prerelease(list.as_ptr(), list.len(), &mut any) })?;
+        Ok(any)
+    }
+
+    pub fn parts_of(text: &str) -> Result<(Parts, Vec<u64>), Refusal> {
+        let (mut parts, mut release) = (Parts::default(), vec![0; 2]);
+        while !answered(unsafe { pep440_parts_of(text.as_ptr(), text.len(), &mut parts, release.as_mut_ptr(), release.len()) })? {
+            assert!(parts.release_length > release.len(), "too little room, and no more is asked for");
+            release.resize(parts.release_length, 0);
+        }
+        release.truncate(parts.release_length);
+        Ok((parts, release))
+    }
+
+    fn lent(texts: &[String]) -> Vec<Text> {
+        texts.iter().map(|text| Text { bytes: text.as_ptr(), length: text.len() }).collect()
+    }
+
+    pub fn filter(list: &str, texts: &[String]) -> Result<Vec<Mark>, Refusal> {
+        let (lent, mut marks) = (lent(texts), vec![9; texts.len()]);
+        let status = unsafe { pep440_filter(list.as_ptr(), list.len(), lent.as_ptr(), lent.len(), marks.as_mut_ptr(), marks.len()) };
+        assert!(answered(status)?, "there is room");
+        Ok(marks.iter().map(|mark| [Mark::LeftOut, Mark::Contained, Mark::Refused][usize::from(*mark)]).collect())
+    }
+
+    /// The places in the order of the versions, or the place of the first text that is none.
+    pub fn sort(texts: &[String]) -> Result<Vec<usize>, (Refusal, usize)> {
+        let (lent, mut places, mut at) = (lent(texts), vec![0; texts.len()], usize::MAX);
+        let status = unsafe { pep440_sort(lent.as_ptr(), lent.len(), places.as_mut_ptr(), places.len(), &mut at) };
+        assert!(answered(status).map_err(|refusal| (refusal, at))?, "there is room");
+        Ok(places)
+    }
+
+    pub fn sort_keys(texts: &[String]) -> Result<Vec<Vec<u8>>, (Refusal, usize)> {
+        let (lent, mut ends, mut at, mut written) = (lent(texts), vec![0; texts.len()], usize::MAX, 0);
+        let mut out = vec![0; 8];
+        loop {
+            let (room, keys) = (out.len(), out.as_mut_ptr());
+            let status =
+                unsafe { pep440_sort_keys(lent.as_ptr(), lent.len(), keys, room, ends.as_mut_ptr(), ends.len(), &mut written, &mut at) };
+            if answered(status).map_err(|refusal| (refusal, at))? {
+                let starts = std::iter::once(&0).chain(&ends);
+                return Ok(starts.zip(&ends).map(|(start, end)| out[*start..*end].to_vec()).collect());
+            }
+            assert!(written > room, "too little room, and no more is asked for");
+            out.resize(written, 0);
+        }
+    }
+}
+
+use pep440::{Mark, Refusal};
+
+/// Texts by chance (xorshift), the same ones for the same seed.
+struct Chance(u64);
+
+impl Chance {
+    fn below(&mut self, end: u64) -> u64 {
+        self.0 ^= self.0 << 13;
+        self.0 ^= self.0 >> 7;
+        self.0 ^= self.0 << 17;
+        self.0 % end
+    }
+
+    fn one_of<'a>(&mut self, choices: &[&'a str]) -> &'a str {
+        choices[self.below(choices.len() as u64) as usize]
+    }
+
+    fn number(&mut self) -> u64 {
+        match self.below(8) {
+            0..=5 => self.below(3),
+            6 => [255, 256, 65_535, 65_536, 16_777_216, 2_097_152][self.below(6) as usize],
+            _ => [20_240_101, u64::MAX, u64::MAX - 1, 1 << 32, (1 << 32) - 1][self.below(5) as usize],
+        }
+    }
+
+    fn release(&mut self) -> String {
+        let numbers: Vec<String> = (0..=self.below(5)).map(|_| self.number().to_string()).collect();
+        numbers.join(".")
+    }
+
+    fn version(&mut self) -> String {
+        let mut text = String::from(self.one_of(&["", "", "", "", "v", "1!", " "])) + &self.release();
+        if self.below(3) == 0 {
+            write!(text, "{}{}", self.one_of(&["a", "b", "rc", ".alpha", "-BETA-", "_c."]), self.number()).unwrap();
+        }
+        if self.below(4) == 0 {
+            write!(text, "{}{}", self.one_of(&[".post", "-", ".rev.", "_r"]), self.number()).unwrap();
+        }
+        if self.below(4) == 0 {
+            write!(text, "{}{}", self.one_of(&[".dev", "dev", "-DEV_"]), self.number()).unwrap();
+        }
+        if self.below(6) == 0 {
+            write!(text, "+{}{}{}", self.one_of(&["a", "A1", "10", "ubuntu"]), self.one_of(&[".", "-"]), self.number()).unwrap();
+        }
+        text
+    }
+
+    /// A version, or now and then a text that is none.
+    fn text(&mut self) -> String {
+        let mut text = self.version();
+        if self.below(16) == 0 {
+            text.push_str(self.one_of(&["x", "..", "!", "prev", "é", "-", "+", "18446744073709551616"]));
+        }
+        text
+    }
+
+    fn list(&mut self) -> String {
+        let members: Vec<String> = (0..self.below(4))
+            .map(|_| match self.below(3) {
+                0 => format!("{}{}.*", self.one_of(&["==", "!="]), self.below(3)),
+                1 => format!("{}{}", self.one_of(&["==", "!=", "==="]), self.version()),
+                _ => format!("{}{}", self.one_of(&[">=", "<=", ">", "<"]), self.release()),
+            })
+            .collect();
+        members.join(", ")
+    }
+}
+
+fn same_readings(texts: &[String]) -> usize {
+    let mut versions = 0;
+    for text in texts {
+        let told = pep440::refusal(text).unwrap();
+        match pep440::normalize(text) {
+            Ok(print) => {
+                versions += 1;
+                assert_eq!(told, "", "{text}");
+                assert_eq!(pep440::normalize(&print).unwrap(), print);
+                assert_eq!(pep440::sort_key(&print), pep440::sort_key(text));
+                assert_eq!(pep440::parts_of(&print), pep440::parts_of(text));
+                let (parts, release) = pep440::parts_of(text).unwrap();
+                let start = if parts.epoch == 0 { String::new() } else { format!("{}!", parts.epoch) };
+                let numbers: Vec<String> = release.iter().map(u64::to_string).collect();
+                assert!(print.starts_with(&(start + &numbers.join("."))), "{text}");
+                assert_eq!((print.contains(".post"), print.contains(".dev"), print.contains('+')), (parts.has_post, parts.has_dev, parts.has_local));
+            }
+            Err(refusal) => {
+                assert_eq!(refusal, Refusal::Version, "{text}");
+                assert_ne!(told, "", "{text}");
+                assert_eq!(pep440::sort_key(text), Err(Refusal::Version));
+                assert_eq!(pep440::parts_of(text), Err(Refusal::Version));
+                assert_eq!(pep440::compare(text, "1"), Err(Refusal::Version));
+                assert_eq!(pep440::contains(">=1", text), Err(Refusal::Version));
+            }
+        }
+    }
+    versions
+}
+
+fn same_orders(versions: &[String]) {
+    let keys = pep440::sort_keys(versions).unwrap();
+    for (place, text) in versions.iter().enumerate() {
+        assert_eq!(keys[place], pep440::sort_key(text).unwrap(), "{text}");
+        for step in [1, 2, 1001] {
+            let other = (place + step) % versions.len();
+            let order = pep440::compare(text, &versions[other]).unwrap();
+            assert_eq!(keys[place].cmp(&keys[other]), order, "{text} {}", versions[other]);
+            assert_eq!(pep440::compare(&versions[other], text).unwrap(), order.reverse());
+        }
+    }
+    let places = pep440::sort(versions).unwrap();
+    let mut by_compare: Vec<usize> = (0..versions.len()).collect();
+    by_compare.sort_by(|left, right| pep440::compare(&versions[*left], &versions[*right]).unwrap());
+    assert_eq!(places, by_compare);
+    let mut by_key: Vec<usize> = (0..versions.len()).collect();
+    by_key.sort_by(|left, right| keys[*left].cmp(&keys[*right]));
+    assert_eq!(places, by_key);
+}
+
+fn same_refusals(texts: &[String]) {
+    let first = texts.iter().position(|text| pep440::normalize(text).is_err()).expect("some text is refused");
+    assert_eq!(pep440::sort(texts), Err((Refusal::Version, first)));
+    assert_eq!(pep440::sort_keys(texts), Err((Refusal::Version, first)));
+}
+
+/// How many candidates were asked of lists.
+fn same_filters(chance: &mut Chance, texts: &[String]) -> usize {
+    let mut asked = 0;
+    for chunk in texts.chunks(500) {
+        let list = chance.list();
+        let told = pep440::list_refusal(&list).unwrap();
+        let marks = match pep440::filter(&list, chunk) {
+            Ok(marks) => marks,
+            Err(refusal) => {
+                assert_eq!((refusal, told.is_empty()), (Refusal::List, false), "{list}");
+                assert_eq!(pep440::normalize_list(&list), Err(Refusal::List));
+                assert_eq!(pep440::contains(&list, "1"), Err(Refusal::List));
+                continue;
+            }
+        };
+        assert_eq!(told, "", "{list}");
+        let print = pep440::normalize_list(&list).unwrap();
+        assert_eq!(pep440::normalize_list(&print).as_ref(), Ok(&print));
+        assert_eq!(pep440::filter(&print, chunk).as_ref(), Ok(&marks), "{list}");
+        assert_eq!(pep440::any_prerelease(&list), pep440::any_prerelease(&print));
+        let members: Vec<&str> = list.split(", ").filter(|member| !member.is_empty()).collect();
+        for (text, mark) in chunk.iter().zip(&marks) {
+            let wanted = match pep440::contains(&list, text) {
+                Ok(true) => Mark::Contained,
+                Ok(false) => Mark::LeftOut,
+                Err(refusal) => {
+                    assert_eq!(refusal, Refusal::Version);
+                    Mark::Refused
+                }
+            };
+            assert_eq!(*mark, wanted, "{list} {text}");
+            if wanted != Mark::Refused {
+                assert_eq!(members.iter().all(|member| pep440::contains(member, text).unwrap()), wanted == Mark::Contained, "{list} {text}");
+            }
+        }
+        asked += chunk.len();
+    }
+    asked
+}
+
+fn main() {
+    let mut words = std::env::args().skip(1);
+    let count: usize = words.next().map_or(100_000, |word| word.parse().expect("a count"));
+    let mut chance = Chance(words.next().map_or(440, |word| word.parse().expect("a seed")));
+    let texts: Vec<String> = (0..count).map(|_| chance.text()).collect();
+    let found = same_readings(&texts);
+    let versions: Vec<String> = texts.iter().filter(|text| pep440::normalize(text).is_ok()).cloned().collect();
+    same_orders(&versions);
+    same_refusals(&texts);
+    let asked = same_filters(&mut chance, &texts);
+    let distinct: HashMap<Vec<u8>, &String> = pep440::sort_keys(&versions).unwrap().into_iter().zip(&versions).collect();
+    assert_eq!(pep440::sort(&[]), Ok(vec![]));
+    assert_eq!(pep440::compare("1.0", "1.0.0"), Ok(Ordering::Equal));
+    assert!(!pep440::ranges("").unwrap().is_empty());
+    println!("{count} texts: {found} versions ({} distinct), {} refused, {asked} asked of lists; both routes agree", distinct.len(), count - found);
+}
