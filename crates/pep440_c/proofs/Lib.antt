@@ -1,2 +1,3 @@
 pub mod Refused
 pub mod Placed
+pub mod Once

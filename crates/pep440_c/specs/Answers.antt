@@ -62,6 +62,10 @@ order_number Greater = pos 1
 abbrev pub Orders : List ℕ → List ℕ → Ordering → Type 0
 Orders left right order = (r q : Record) × MeansBytes left r × MeansBytes right q × (order ≡ record_cmp r q)
 
+-- the number that says how the left version stands to the right one
+abbrev pub IsOrder : List ℕ → List ℕ → ℤ → Type 0
+IsOrder left right number = (order : Ordering) × Orders left right order × (number ≡ order_number order)
+
 -- whether the list contains the version
 abbrev pub Contains : List ℕ → List ℕ → Bool → Type 0
 Contains list_text text contained = (list : List Spec) × (r : Record) × MeansListBytes list_text list × MeansBytes text r × (contained ≡ list_matches list r)

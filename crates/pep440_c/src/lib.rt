@@ -5,12 +5,13 @@
 #![tactic(auto)]
 
 ghost use Rattle.std.specs.Prelude.{◌≡◌, ◌⊎◌, map};
-ghost use Rattle.pep440_c.specs.Answers.{Contains, IsKey, IsListRefusal, IsNormal, IsNormalList, IsRange, IsRefusal, NamesPrerelease, Orders, PartsAnswer, RefusesRange, RefusesSecond, order_number};
+ghost use Rattle.pep440_c.specs.Answers.{Contains, IsKey, IsListRefusal, IsNormal, IsNormalList, IsOrder, IsRange, IsRefusal, NamesPrerelease, PartsAnswer, RefusesRange, RefusesSecond, order_number};
 ghost use Rattle.pep440_c.specs.Batches.{FilterAnswer, KeysAnswer, SortAnswer};
 ghost use Rattle.pep440_c.specs.Meaning.{RefusesBytes, RefusesListBytes};
 ghost use Rattle.pep440_c.specs.Statuses.{Puts, PutsBytes};
 
 mod batch;
+pub mod laws;
 mod room;
 mod telling;
 #[cfg(test)]
@@ -89,7 +90,7 @@ fn order_number(order: Ordering) -> i8
 /// ordering").
 #[unsafe(no_mangle)]
 pub extern "C" fn pep440_compare(alloc: Global, left: &[u8], right: &[u8], order: &mut i8) -> u8
-    ensures { Puts (RefusesBytes left.now ⊎ RefusesBytes right.now) ⊥ (λ number. (found : Ordering) × Orders left.now right.now found × (number ≡ order_number found)) order.old order.new result }
+    ensures { Puts (RefusesBytes left.now ⊎ RefusesBytes right.now) ⊥ (IsOrder left.now right.now) order.old order.new result }
 {
     match texts::order(alloc, left, right) {
         Ok(found) => {

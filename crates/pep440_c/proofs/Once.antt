@@ -1,0 +1,72 @@
+-- Bytes mean one version or list, or are refused for one reason, and never both.
+use Rattle.std.proofs.Common.{◌≡◌, ◌⊎◌, ◌∙◌, ℕ, List, Bool, true, false, refl, sym, ap, inl, inr}
+use Rattle.std.proofs.lemmas.Str.{IsUtf8-from_is_utf8, is_utf8-from_IsUtf8}
+use Rattle.std.specs.Str.{IsUtf8, is_utf8}
+use Rattle.pep440_rs.proofs.Reading.OneMeaning.{either_list, not_both_list, one_list, one_list_refusal}
+use Rattle.pep440_rs.specs.ListErrorTexts.{list_refusal_text}
+use Rattle.pep440_rs.specs.ListGrammar.{DerivesList, PieceRefusal, RefusesList}
+use Rattle.pep440_rs.specs.Specifiers.{Spec}
+use Rattle.pep440_version.proofs.Reading.Agreement.{one_record}
+use Rattle.pep440_version.proofs.Refusals.ExactlyOne.{not_both, one_or_other, one_refusal}
+use Rattle.pep440_version.specs.ErrorTexts.{refusal_text}
+use Rattle.pep440_version.specs.Grammar.{Derives}
+use Rattle.pep440_version.specs.Record.{Record}
+use Rattle.pep440_version.specs.Refusals.{Refusal, Refuses}
+use Rattle.pep440_c.proofs.Refused.{no_list_text, no_text}
+use Rattle.pep440_c.specs.Meaning.{MeansBytes, MeansListBytes, RefusesBytes, RefusesListBytes, TellsWhy, TellsWhyNoList}
+
+no_utf8 : (bytes : List ℕ) → is_utf8 bytes ≡ false → ¬ IsUtf8 bytes
+no_utf8 bytes is utf8 = cc (sym (is_utf8-from_IsUtf8 bytes utf8) ∙ is)
+
+-- ---- versions
+
+pub one_version : (bytes : List ℕ) (r q : Record) → MeansBytes bytes r → MeansBytes bytes q → r ≡ q
+one_version bytes r q (u, means) (v, other) = one_record bytes r q means other
+
+pub one_why : (bytes words others : List ℕ) → TellsWhy bytes words → TellsWhy bytes others → words ≡ others
+one_why bytes words others (inl (stray, w)) (inl (again, o)) = w ∙ sym o
+one_why bytes words others (inl (stray, w)) (inr (utf8, g, other, o)) = absurd (stray utf8)
+one_why bytes words others (inr (utf8, f, why, w)) (inl (stray, o)) = absurd (stray utf8)
+one_why bytes words others (inr (utf8, f, why, w)) (inr (again, g, other, o)) = w ∙ ap refusal_text (one_refusal bytes f g why other) ∙ sym o
+
+of_text : (bytes : List ℕ) → IsUtf8 bytes → ((r : Record) × Derives bytes r) ⊎ ((f : Refusal) × Refuses bytes f) → ((r : Record) × MeansBytes bytes r) ⊎ RefusesBytes bytes
+of_text bytes utf8 (inl (r, means)) = inl (r, (utf8, means))
+of_text bytes utf8 (inr (f, why)) = inr (refusal_text f, inr (utf8, f, why, refl))
+
+either_by : (bytes : List ℕ) (b : Bool) → is_utf8 bytes ≡ b → ((r : Record) × MeansBytes bytes r) ⊎ RefusesBytes bytes
+either_by bytes true is = of_text bytes (IsUtf8-from_is_utf8 bytes is) (one_or_other bytes)
+either_by bytes false is = inr (no_text bytes (no_utf8 bytes is))
+
+pub either_version : (bytes : List ℕ) → ((r : Record) × MeansBytes bytes r) ⊎ RefusesBytes bytes
+either_version bytes = either_by bytes (is_utf8 bytes) refl
+
+pub never_both : (bytes : List ℕ) (r : Record) → MeansBytes bytes r → RefusesBytes bytes → ⊥
+never_both bytes r (utf8, means) (words, inl (stray, w)) = stray utf8
+never_both bytes r (utf8, means) (words, inr (again, f, why, w)) = not_both bytes r f means why
+
+-- ---- lists
+
+pub one_bytes_list : (bytes : List ℕ) (l m : List Spec) → MeansListBytes bytes l → MeansListBytes bytes m → l ≡ m
+one_bytes_list bytes l m (u, means) (v, other) = one_list bytes l m means other
+
+pub one_list_why : (bytes words others : List ℕ) → TellsWhyNoList bytes words → TellsWhyNoList bytes others → words ≡ others
+one_list_why bytes words others (inl (stray, w)) (inl (again, o)) = w ∙ sym o
+one_list_why bytes words others (inl (stray, w)) (inr (utf8, g, other, o)) = absurd (stray utf8)
+one_list_why bytes words others (inr (utf8, f, why, w)) (inl (stray, o)) = absurd (stray utf8)
+one_list_why bytes words others (inr (utf8, f, why, w)) (inr (again, g, other, o)) =
+    w ∙ ap (λ (h : PieceRefusal). list_refusal_text h bytes) (one_list_refusal bytes f g why other) ∙ sym o
+
+of_list : (bytes : List ℕ) → IsUtf8 bytes → ((l : List Spec) × DerivesList bytes l) ⊎ ((f : PieceRefusal) × RefusesList bytes f) → ((l : List Spec) × MeansListBytes bytes l) ⊎ RefusesListBytes bytes
+of_list bytes utf8 (inl (l, means)) = inl (l, (utf8, means))
+of_list bytes utf8 (inr (f, why)) = inr (list_refusal_text f bytes, inr (utf8, f, why, refl))
+
+either_list_by : (bytes : List ℕ) (b : Bool) → is_utf8 bytes ≡ b → ((l : List Spec) × MeansListBytes bytes l) ⊎ RefusesListBytes bytes
+either_list_by bytes true is = of_list bytes (IsUtf8-from_is_utf8 bytes is) (either_list bytes)
+either_list_by bytes false is = inr (no_list_text bytes (no_utf8 bytes is))
+
+pub either_bytes_list : (bytes : List ℕ) → ((l : List Spec) × MeansListBytes bytes l) ⊎ RefusesListBytes bytes
+either_bytes_list bytes = either_list_by bytes (is_utf8 bytes) refl
+
+pub never_both_lists : (bytes : List ℕ) (l : List Spec) → MeansListBytes bytes l → RefusesListBytes bytes → ⊥
+never_both_lists bytes l (utf8, means) (words, inl (stray, w)) = stray utf8
+never_both_lists bytes l (utf8, means) (words, inr (again, f, why, w)) = not_both_list bytes l f means why

@@ -1,0 +1,21 @@
+//! What holds of the bytes of a caller, as contracts of functions that do nothing.
+ghost use Rattle.std.specs.Prelude.{◌≡◌, ◌⊎◌, ℕ, List};
+ghost use Rattle.pep440_rs.specs.Specifiers.{Spec};
+ghost use Rattle.pep440_version.specs.Record.{Record};
+ghost use Rattle.pep440_c.specs.Meaning.{MeansBytes, MeansListBytes, RefusesBytes, RefusesListBytes, TellsWhy, TellsWhyNoList};
+
+/// Bytes mean one version, or are refused for one reason, and never both: so where memory is found a call on them has one answer.
+pub fn versions_once()
+    ensures one { (bytes : List ℕ) (r q : Record) → MeansBytes bytes r → MeansBytes bytes q → r ≡ q }
+    ensures why { (bytes words others : List ℕ) → TellsWhy bytes words → TellsWhy bytes others → words ≡ others }
+    ensures either { (bytes : List ℕ) → ((r : Record) × MeansBytes bytes r) ⊎ RefusesBytes bytes }
+    ensures never_both { (bytes : List ℕ) (r : Record) → MeansBytes bytes r → RefusesBytes bytes → ⊥ }
+{}
+
+/// The same of lists.
+pub fn lists_once()
+    ensures one { (bytes : List ℕ) (l m : List Spec) → MeansListBytes bytes l → MeansListBytes bytes m → l ≡ m }
+    ensures why { (bytes words others : List ℕ) → TellsWhyNoList bytes words → TellsWhyNoList bytes others → words ≡ others }
+    ensures either { (bytes : List ℕ) → ((l : List Spec) × MeansListBytes bytes l) ⊎ RefusesListBytes bytes }
+    ensures never_both { (bytes : List ℕ) (l : List Spec) → MeansListBytes bytes l → RefusesListBytes bytes → ⊥ }
+{}
