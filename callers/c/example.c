@@ -74,6 +74,8 @@ static void take_apart(void)
     hold(!parts.has_dev && parts.dev == 0 && parts.has_local, "dev and local");
     hold(pep440_parts_of(TEXT("1.2.3.4.5"), &parts, release, 4) == PEP440_NO_ROOM && parts.release_length == 5, "no room, and told");
 
+    /* The end of this range would have a number that is too big. */
+    hold(pep440_ranges(TEXT("==18446744073709551615.*"), out, sizeof out, &written) == PEP440_LIST_REFUSED, "no range");
     hold(pep440_ranges(TEXT(">=1.0,<2.0,!=1.5"), out, sizeof out, &written) == PEP440_ANSWERED, "ranges");
     printf("the range of >=1.0,<2.0,!=1.5:\n%.*s\n", (int)written, (const char *)out);
 }

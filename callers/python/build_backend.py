@@ -58,7 +58,7 @@ def compile_extension(out):
     include = [sysconfig.get_path("include"), sysconfig.get_path("platinclude"), str(HERE.parent / "c")]
     command = [
         *shlex.split(os.environ.get("CC", "cc")),
-        *"-std=c11 -O2 -Wall -fPIC -fvisibility=hidden -shared -Wl,--exclude-libs,ALL".split(),
+        *"-std=c11 -O2 -Wall -Werror=implicit-function-declaration -fPIC -fvisibility=hidden -shared -Wl,--exclude-libs,ALL".split(),
         *shlex.split(os.environ.get("CFLAGS", "")),
         *(f"-I{each}" for each in dict.fromkeys(include)),
         *("-o", str(out), str(HERE / "_core.c")),

@@ -336,6 +336,7 @@ fn same_filters(chance: &mut Chance, texts: &[String]) -> usize {
         assert_eq!(pep440::normalize_list(&print).as_ref(), Ok(&print));
         assert_eq!(pep440::filter(&print, chunk).as_ref(), Ok(&marks), "{list}");
         assert_eq!(pep440::any_prerelease(&list), pep440::any_prerelease(&print));
+        assert_eq!(pep440::ranges(&list), pep440::ranges(&print), "{list}");
         let members: Vec<&str> = list.split(", ").filter(|member| !member.is_empty()).collect();
         for (text, mark) in chunk.iter().zip(&marks) {
             let wanted = match pep440::contains(&list, text) {
