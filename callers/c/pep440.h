@@ -75,7 +75,8 @@ uint8_t pep440_parts_of(const uint8_t *text, size_t length, pep440_parts *parts,
    equal exactly where the versions are. A key may be stored, and compared by whatever compares bytes. */
 uint8_t pep440_sort_key(const uint8_t *text, size_t length, uint8_t *out, size_t room, size_t *written);
 
-/* The versions that the list allows, by their bounds, a segment a line, as `[1.0, 1.5)`; `empty` where there are none. */
+/* The versions that the list allows, by their bounds, a segment a line, as `[1.0, 1.5)`; `empty` where there are none. A list whose range
+   would need a number above the greatest is refused, too; pep440_list_refusal then writes no bytes. */
 uint8_t pep440_ranges(const uint8_t *list, size_t length, uint8_t *out, size_t room, size_t *written);
 
 /* ---- batches: many texts in one call */
