@@ -2,6 +2,9 @@
 //!
 //! A text is bytes and how many there are. No call keeps a pointer, and none has a condition beyond its types. Each answers a status: 0
 //! answered, 1 a version text is refused, 2 a list text is refused, 3 out of memory, 4 too little room. The header is `callers/c/pep440.h`.
+//!
+//! A call may take memory while it runs, from `malloc`, and gives it back before it ends. Where a request is refused it answers 3, and may be
+//! made again.
 #![tactic(auto)]
 
 ghost use Rattle.std.specs.Prelude.{◌≡◌, ◌⊎◌, map};
