@@ -297,15 +297,14 @@ static int has_count(const char *call, Py_ssize_t count, Py_ssize_t wanted)
 static PyObject *contains(PyObject *module, PyObject *const *args, Py_ssize_t count)
 {
     pep440_text list, text;
-    uint8_t status = PEP440_ANSWERED;
+    uint8_t status;
     bool contained = false;
     int prereleases;
     if (!has_count("contains", count, 3) || view(args[0], &list) < 0 || view(args[1], &text) < 0 || (prereleases = PyObject_IsTrue(args[2])) < 0)
         return NULL;
-    if (!prereleases && is_prerelease(text, &status))
-        Py_RETURN_FALSE;
-    if (status == PEP440_ANSWERED)
-        status = pep440_contains(list.bytes, list.length, text.bytes, text.length, &contained);
+    status = pep440_contains(list.bytes, list.length, text.bytes, text.length, &contained);
+    if (status == PEP440_ANSWERED && contained && !prereleases)
+        contained = !is_prerelease(text, &status);
     return status == PEP440_ANSWERED ? PyBool_FromLong(contained) : raise_by(status, args[1], args[0]);
 }
 
