@@ -61,8 +61,8 @@ class Version(Held):
     def release(self) -> tuple[int, ...]:
         """The numbers of the release, zeros at its end included.
 
-        >>> Version("1.2.0.post1").release
-        (1, 2, 0)
+        >>> Version("2.1.0rc1").release
+        (2, 1, 0)
         """
         return self._parts[1]
 
