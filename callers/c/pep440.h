@@ -1,7 +1,8 @@
 /* PEP 440 for C: version numbers of Python packages, read, printed, compared and matched by the proved core.
 
    A text is its bytes and how many there are; it needs no zero at its end. No pointer may be null, also where its length is 0,
-   and what is written to may overlap nothing else that is passed; a bool that is written to is to hold 0 or 1 before. No call keeps a pointer, and no call ends the process.
+   and what is written to may overlap nothing else that is passed; a bool that is written to is to hold 0 or 1 before. No call keeps a
+   pointer, and no call ends the process.
 
    Each call answers a status. Where it is neither PEP440_ANSWERED nor PEP440_NO_ROOM, nothing was written but `at` of the batches.
    PEP440_NO_ROOM says that `room` is too little and, in `written`, how much it takes; what is to be written there is unchanged.
