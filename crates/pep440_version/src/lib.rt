@@ -28,5 +28,6 @@ pub use error::{ErrorKind, PatternErrorKind, VersionParseError, VersionPatternPa
 pub use order::{cmp_releases, cmp_without_local};
 pub use pattern::VersionPattern;
 pub use prerelease::{Prerelease, PrereleaseKind};
+pub use print::write_local_segments;
 pub use segment::LocalSegment;
 pub use version::{Version, min_version};

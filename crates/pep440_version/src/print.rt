@@ -134,15 +134,13 @@ fn write_segment<W: fmt::Write>(f: &mut fmt::Formatter<W>, held: &LocalSegment) 
     }
 }
 
-#[tactic(auto, using(crate::proofs::Reread::Writing::two_writes))]
-fn write_segment_after<W: fmt::Write>(
+fn write_dotted_segment<W: fmt::Write>(
     f: &mut fmt::Formatter<W>,
-    label: &str,
     held: &LocalSegment,
 ) -> fmt::Result
-    ensures { WritesStyledOnOk W.write_str_gives f.old result (label.now ++ segment_print (segment held.now)) f.new }
+    ensures { WritesStyledOnOk W.write_str_gives f.old result (codes "." ++ segment_print (segment held.now)) f.new }
 {
-    f.write_str(label)?;
+    f.write_str(".")?;
     write_segment(f, held)
 }
 
@@ -154,21 +152,38 @@ fn write_segments<W: fmt::Write>(
     ensures { WritesStyledOnOk W.write_str_gives f.old result (flat_map (λ s. codes "." ++ segment_print (segment s)) segments.now) f.new }
 {
     for held in segments {
-        write_segment_after(f, ".", held)?;
+        write_dotted_segment(f, held)?;
     }
     Ok(())
+}
+
+/// Writes local segments with dots between them, as a version's print has them after its `+`, whatever width and fill `f`
+/// has; no segments are no text (PEP 440, "Local version identifiers").
+///
+/// An error is that of the writer.
+pub fn write_local_segments<W: fmt::Write>(
+    f: &mut fmt::Formatter<W>,
+    local: &[LocalSegment],
+) -> fmt::Result
+    ensures { WritesStyledOnOk W.write_str_gives f.old result (dotted segment_print (map segment local.now)) f.new }
+{
+    match local {
+        [] => Ok(()),
+        [first, rest @ ..] => {
+            write_segment(f, first)?;
+            write_segments(f, rest)
+        }
+    }
 }
 
 fn write_local<W: fmt::Write>(f: &mut fmt::Formatter<W>, local: &[LocalSegment]) -> fmt::Result
     ensures { WritesStyledOnOk W.write_str_gives f.old result (local_text (map segment local.now)) f.new }
 {
-    match local {
-        [] => Ok(()),
-        [first, rest @ ..] => {
-            write_segment_after(f, "+", first)?;
-            write_segments(f, rest)
-        }
+    if local.is_empty() {
+        return Ok(());
     }
+    f.write_str("+")?;
+    write_local_segments(f, local)
 }
 
 // The print of a version.

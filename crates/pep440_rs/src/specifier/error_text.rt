@@ -2,7 +2,7 @@
 ghost use Rattle.std.specs.Prelude.{◌≡◌, ◌++◌, Some, None, map, codes, if◌then◌else◌};
 ghost use Rattle.std.specs.Fmt.{DisplaysStyledOnOk, HasWrittenStyled, IsFlush, WritesStyledOnOk};
 ghost use Rattle.std.specs.Char.{is_ascii};
-ghost use Rattle.std.specs.List.{flat_map, list_all};
+ghost use Rattle.std.specs.List.{list_all};
 ghost use Rattle.pep440_version.specs.Print.{dotted, segment_print};
 ghost use Rattle.pep440_version.specs.Segments.{segment};
 ghost use Rattle.pep440_rs.specs.Errors.{build_kind_of, build_refusal_of, operator_kind_of, parse_kind_of};
@@ -14,7 +14,7 @@ use crate::specifier::error::{
     VersionSpecifierBuildError, VersionSpecifierParseError,
 };
 use crate::specifier::operator::Operator;
-use pep440_version::LocalSegment;
+use pep440_version::{LocalSegment, write_local_segments};
 use std::error::Error;
 use std::fmt::{self, Write};
 
@@ -77,43 +77,6 @@ impl fmt::Display for OperatorParseError {
 impl Error for OperatorParseError {}
 
 #[tactic(auto, using(pep440_version::proofs::Reread::Writing::two_writes))]
-fn write_dotted_segment<W: fmt::Write>(
-    f: &mut fmt::Formatter<W>,
-    held: &LocalSegment,
-) -> fmt::Result
-    ensures { WritesStyledOnOk W.write_str_gives f.old result (codes "." ++ segment_print (segment held.now)) f.new }
-{
-    f.write_str(".")?;
-    fmt::Display::fmt(held, f)
-}
-
-// Each segment after a dot.
-fn write_segments<W: fmt::Write>(
-    f: &mut fmt::Formatter<W>,
-    segments: &[LocalSegment],
-) -> fmt::Result
-    ensures { WritesStyledOnOk W.write_str_gives f.old result (flat_map (λ s. codes "." ++ segment_print (segment s)) segments.now) f.new }
-{
-    for held in segments {
-        write_dotted_segment(f, held)?;
-    }
-    Ok(())
-}
-
-// The segments with dots between them.
-fn write_local<W: fmt::Write>(f: &mut fmt::Formatter<W>, local: &[LocalSegment]) -> fmt::Result
-    ensures { WritesStyledOnOk W.write_str_gives f.old result (dotted segment_print (map segment local.now)) f.new }
-{
-    match local {
-        [] => Ok(()),
-        [first, rest @ ..] => {
-            fmt::Display::fmt(first, f)?;
-            write_segments(f, rest)
-        }
-    }
-}
-
-#[tactic(auto, using(pep440_version::proofs::Reread::Writing::two_writes))]
 fn write_incompatible<W: fmt::Write>(
     f: &mut fmt::Formatter<W>,
     local: &[LocalSegment],
@@ -121,7 +84,7 @@ fn write_incompatible<W: fmt::Write>(
     ensures { WritesStyledOnOk W.write_str_gives f.old result (codes " is incompatible with versions containing non-empty local segments (`+" ++ (dotted segment_print (map segment local.now) ++ codes "`)")) f.new }
 {
     f.write_str(" is incompatible with versions containing non-empty local segments (`+")?;
-    write_local(f, local)?;
+    write_local_segments(f, local)?;
     f.write_str("`)")
 }
 

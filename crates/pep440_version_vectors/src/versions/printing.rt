@@ -1,11 +1,15 @@
 //! Prints, whatever width and fill are asked for, and the debug forms.
+ghost use Rattle.std.specs.Prelude.{Some, map};
+ghost use Rattle.pep440_version.specs.Print.{dotted, segment_print};
+ghost use Rattle.pep440_version.specs.Segments.{segment};
+
 use super::calls::{Refused, kind, pattern, version};
 use pep440_version::{
     Change, ChangeError, LocalSegment, Prerelease, PrereleaseKind, Version, VersionParseError,
-    VersionPatternParseError, min_version,
+    VersionPatternParseError, min_version, write_local_segments,
 };
 use std::alloc::Global;
-use std::fmt::{Debug, Display};
+use std::fmt::{self, Debug, Display};
 use std::process::Abort;
 use std::test::Fail;
 
@@ -45,6 +49,34 @@ fn local_segments(rt: HostRuntime) -> Result<(), Fail> {
     let text = LocalSegment::String(String::from_str(rt.alloc(), "ubuntu")?);
     assert_prints(&rt, rt.alloc(), &text, "ubuntu")?;
     assert_prints(&rt, rt.alloc(), &LocalSegment::Number(10), "10")
+}
+
+// The segments with dots between them.
+#[derive(Drop)]
+struct Joined<'a> {
+    segments: &'a [LocalSegment],
+}
+
+impl Display for Joined<'_> {
+    ghost output = { λ j. Some (dotted segment_print (map segment j.segments.now)) };
+
+    ghost styled_output = { λ j _. Some (dotted segment_print (map segment j.segments.now)) };
+
+    fn fmt<W: fmt::Write>(&self, f: &mut fmt::Formatter<W>) -> fmt::Result {
+        write_local_segments(f, self.segments)
+    }
+}
+
+#[test]
+fn local_segments_with_dots(rt: HostRuntime) -> Result<(), Fail> {
+    for (text, want) in [("1", ""), ("1+a", "a"), ("1+Ubuntu-007_1", "ubuntu.7.1")] {
+        let version = version(rt, text)?;
+        let joined = Joined {
+            segments: version.local(),
+        };
+        assert_prints(&rt, rt.alloc(), &joined, want)?;
+    }
+    Ok(())
 }
 
 #[test]

@@ -1,10 +1,10 @@
-use Rattle.std.proofs.Common.{refl}
-use Rattle.pep440_version.proofs.Reread.Writing.{local_front}
+use Rattle.std.proofs.Common.{refl, sym, ◌∙◌}
+use Rattle.pep440_version.proofs.Reread.Writing.{with_plus}
 use Rattle.std.proofs.Output.{has_written_styled_append, has_written_styled_of_eq}
 use Rattle.pep440_version.proofs.print.write_local.Goals as goal
 
-pub returns-in_ok-write_segment_after-in-len1-up : goal.returns-in_ok-write_segment_after-in-len1-up
-returns-in_ok-write_segment_after-in-len1-up g c = λ flush ok.
-    let front = c.in_ok-write_segment_after-in-len1-up.ensures flush refl in
-    has_written_styled_of_eq _ _ _ _ _ (local_front c.args.local.now c.first-item.result c.first-item.is c.in-len1-up.len_at_least)
-    (has_written_styled_append _ _ _ _ _ _ front (c.write_segments.ensures front.flush ok))
+pub returns : goal.returns
+returns g c = λ flush ok.
+    let plus = c.in_ok-write_str.ensures.styled flush refl in
+    has_written_styled_of_eq _ _ _ _ _ (with_plus c.args.local.now (sym c.is_empty.ensures ∙ c.if-is_empty.false))
+    (has_written_styled_append _ _ _ _ _ _ plus (c.write_local_segments.ensures plus.flush ok))

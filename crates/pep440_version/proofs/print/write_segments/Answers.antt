@@ -9,4 +9,4 @@ pub loop-held-preserved : goal.loop-held-preserved
 loop-held-preserved g c = λ flush.
     let was = c.loop-held.invariant flush in
     has_written_styled_of_eq _ _ _ _ _ (flat_map_item (λ s. 46 ∷ [] ++ segment_print (segment s)) c.args.segments.now c.loop-held.held-index c.held-item.result c.held-item.is c.loop-held-test.true)
-    (has_written_styled_append _ _ _ _ _ _ was (c.in_ok-write_segment_after.ensures was.flush refl))
+    (has_written_styled_append _ _ _ _ _ _ was (c.in_ok-write_dotted_segment.ensures was.flush refl))

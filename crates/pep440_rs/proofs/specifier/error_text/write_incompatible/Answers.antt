@@ -5,5 +5,5 @@ use Rattle.pep440_rs.proofs.specifier.error_text.write_incompatible.Goals as goa
 pub returns : goal.returns
 returns g c = λ flush ok.
     let before = c.in_ok-write_str.ensures.styled flush refl in
-    let local = c.in_ok-write_local.ensures before.flush refl in
+    let local = c.in_ok-write_local_segments.ensures before.flush refl in
     has_written_styled_append _ _ _ _ _ _ before (has_written_styled_append _ _ _ _ _ _ local (c.write_str-2.ensures.styled local.flush ok))
