@@ -3,7 +3,7 @@
 //!
 //! Usage: agree [COUNT [SEED]]    (100,000 generated texts, seed 440)
 //!
-//!     rustc -O callers/rust/agree.rs -l static=pep440_c -L crates/pep440_c/out -l static=libc_c -L KIT/c
+//!     rustc --edition 2021 -O callers/rust/agree.rs -l static=pep440_c -L crates/pep440_c/out -l static=libc_c -L KIT/c
 use std::cmp::Ordering;
 use std::collections::HashMap;
 use std::fmt::Write;

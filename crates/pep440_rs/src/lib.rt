@@ -1,7 +1,7 @@
 //! Versions and version specifiers of PEP 440: the one crate that users name.
 //!
-//! A specifier is an operator and a version, as `>=1.2`, and a list is specifiers with commas between them. What
-//! `pep440_version` and `pep440_ranges` offer is offered here under the same names.
+//! A specifier is an operator and a version, as `>=1.2`, and a list is specifiers with commas between them. All that
+//! `pep440_version` and `pep440_ranges` offer, but their `laws`, is offered here under the same names.
 //!
 //! ```rust
 //! use anyhow::Result;
@@ -41,7 +41,8 @@ pub use list::error::{SpecifiersErrorKind, VersionSpecifiersParseError};
 pub use pep440_ranges::{Ranges, Segments};
 pub use pep440_version::{
     Change, ChangeError, ErrorKind, LocalSegment, PatternErrorKind, Prerelease, PrereleaseKind,
-    Version, VersionParseError, VersionPattern, VersionPatternParseError, min_version,
+    Version, VersionParseError, VersionPattern, VersionPatternParseError, cmp_releases,
+    cmp_without_local, min_version, write_local_segments,
 };
 pub use range::error::RangeError;
 pub use range::list::{release_specifiers_to_ranges, specifiers_to_ranges};

@@ -1,7 +1,7 @@
 //! What specifiers and lists contain.
 use crate::calls::{list as list_of, specifier as specifier_of, version as version_of};
 use crate::specifiers::built::unchecked;
-use pep440_rs::Operator;
+use pep440_rs::{Operator, cmp_releases, cmp_without_local};
 use std::test::Fail;
 
 mod requests;
@@ -114,5 +114,15 @@ fn of_no_text(rt: HostRuntime) -> Result<(), Fail> {
         let found = specifier.contains(rt.alloc(), &candidate)?;
         assert!(rt; found == expected, "{specifier} and {version}");
     }
+    Ok(())
+}
+
+// The two orders that matching asks, by the names that users of `pep440_rs` have.
+#[test]
+fn orders_that_matching_asks(rt: HostRuntime) -> Result<(), Fail> {
+    let local = version_of(rt, "1.0.0+ubuntu.7")?;
+    let plain = version_of(rt, "1.0")?;
+    assert!(rt; cmp_without_local(&local, &plain).is_eq());
+    assert!(rt; cmp_releases(&[1], &[1, 0, 1]).is_lt());
     Ok(())
 }
