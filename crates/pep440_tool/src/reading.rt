@@ -11,7 +11,7 @@ use std::alloc::{AllocError, Global};
 use std::cmp::Ordering;
 
 /// Whether memory ran out.
-fn is_want_of_memory(kind: &ErrorKind) -> bool
+fn is_out_of_memory(kind: &ErrorKind) -> bool
     ensures { result ≡ is_none (refusal_of kind.now) }
 {
     matches!(kind, ErrorKind::OutOfMemory)
@@ -41,7 +41,7 @@ pub(crate) fn read_text(alloc: Global, text: &str) -> Result<Version, Fault>
     match Version::from_str(alloc, text) {
         Ok(version) => Ok(version),
         Err(error) => {
-            if is_want_of_memory(error.kind()) {
+            if is_out_of_memory(error.kind()) {
                 return Err(Fault::OutOfMemory);
             }
             let fault = error.to_string(alloc)?;

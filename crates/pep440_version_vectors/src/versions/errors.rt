@@ -50,7 +50,7 @@ fn stars_to_errors(rt: HostRuntime) {
 }
 
 #[test]
-fn want_of_memory(rt: HostRuntime) -> Result<(), Fail> {
+fn out_of_memory(rt: HostRuntime) -> Result<(), Fail> {
     assert!(rt;
         ErrorKind::from(AllocError) == ErrorKind::OutOfMemory,
         "a kind"
