@@ -194,7 +194,7 @@ impl Version {
         Version::from_full(alloc, Full::new(alloc, release)?)
     }
 
-    // The word that is kept, where the version is held in one.
+    // The word that is kept, where the version is packed.
     #[inline(always)]
     pub(crate) fn word(&self) -> Option<&u64>
         ensures { option_copied result ≡ (if is_packed self.now then Some (word self.now) else None) }
