@@ -1,4 +1,4 @@
-//! A version in one word: its release, and the one suffix that it may have.
+//! A packed version: its release, and the word of the release and of the one suffix that there may be.
 ghost use Rattle.std.specs.Prelude.{◌≡◌, ◌+◌, ◌*◌, ◌^◌, ◌<◌, ◌≤◌, ◌&&◌, nat_le, true, false, None, length, slice_index, IfSome, IfNone, if◌then◌else◌};
 ghost use Rattle.pep440_version.specs.Form.{IsWord, class_in, full_record, number_in, number_of_class, packed_record, pre_at};
 ghost use Rattle.pep440_version.specs.Record.{of_release};
@@ -160,7 +160,7 @@ fn word_of(numbers: [u64; 4], class: u64, number: u64) -> u64
 }
 
 impl Packed {
-    // The same in one word, where it can be.
+    // The same packed, where it can be.
     pub(crate) fn pack(full: &Full) -> Option<Packed>
         ensures none { IfNone result (is_packed (full_record full.now) ≡ false) }
         ensures some { IfSome result (λ p. IsWord p.count p.word p.numbers × (packed_record p.count p.word p.numbers ≡ full_record full.now)) }
@@ -175,7 +175,7 @@ impl Packed {
         })
     }
 
-    // A release alone in one word, where it can be.
+    // A release alone, packed where it can be.
     pub(crate) fn of_release(release: &[u64]) -> Option<Packed>
         ensures none { IfNone result (is_short release.now ≡ false) }
         ensures some { IfSome result (λ p. IsWord p.count p.word p.numbers × (packed_record p.count p.word p.numbers ≡ of_release release.now)) }

@@ -31,7 +31,7 @@ fn release_up_to(
     Ok(Ranges::from_range_bounds(alloc, Bound::Included(start), Bound::Excluded(end))?)
 }
 
-// The range of an operator without star, other than `~=`, over a release.
+// `!=`: all but the release.
 fn other_than(alloc: Global, release: Version) -> Result<Ranges<Version>, AllocError>
     requires { release ≡ of_release release.release }
     ensures { IfOk result (λ r. release_range_of Operator.NotEqual release ≡ Some r) }
