@@ -1,5 +1,5 @@
-/* What the calls do with null and length 0: as with an empty string or an empty batch. The header forbids null, since the proof holds of
-   pointers that point to something; this shows what both builds of the library do with it nonetheless. */
+/* What the calls do with null and length 0: as with an empty string or an empty batch. The header forbids null, since the
+   proof holds of pointers that point to something (docs/DECISIONS.md); this shows what a build of the library does with it nonetheless. */
 #include <stdio.h>
 #include <stdlib.h>
 
@@ -20,7 +20,7 @@ static void hold(int is_right, const char *what)
 
 static void strings(void)
 {
-    uint8_t out[64], is;
+    uint8_t out[128], is;
     int8_t order;
     size_t written;
     uint64_t release[4];

@@ -1,5 +1,5 @@
-/* How much stack a call takes: each call runs in a thread whose stack was filled with one byte before, and the deepest byte that changed
-   counts. Strings are short, long, hostile to a reader, and very many. The header's bound must hold of all. */
+/* How much stack a call takes: each runs in a thread whose stack was filled with one byte before, and the deepest byte that changed counts.
+   Strings are short, long, hostile to a reader, and very many. The header's bound must hold of all. */
 #define _GNU_SOURCE
 #include <pthread.h>
 #include <stdio.h>
@@ -9,7 +9,7 @@
 
 #include "pep440.h"
 
-enum { BOUND = 32 * 1024, STACK = 1 << 20, LONG = 1 << 16, MANY = 100000, FILL = 0xA5 };
+enum { BOUND = 16 * 1024, STACK = 1 << 20, LONG = 1 << 16, MANY = 100000, FILL = 0xA5 };
 
 static pep440_string given, list;
 static pep440_string *strings;
@@ -24,7 +24,6 @@ static int8_t order;
 #define LIST list.bytes, list.length
 #define OUT out, (size_t)LONG * 4, &written
 
-static void *nothing(void *unused) { return unused; }
 static void *normalize(void *unused) { pep440_normalize(GIVEN, OUT); return unused; }
 static void *normalize_list(void *unused) { pep440_normalize_list(LIST, OUT); return unused; }
 static void *version_error(void *unused) { pep440_version_error(GIVEN, OUT); return unused; }
@@ -52,24 +51,37 @@ static const struct {
              {"ranges", ranges},                 {"filter", filter},                 {"sort", sort},
              {"sort_keys", sort_keys}};
 
-/* The bytes of stack that changed while the call ran in a thread. */
-static size_t touched(void *(*call)(void *))
+static uint8_t *stack;
+static void *(*call)(void *);
+static size_t taken;
+
+/* Makes the call, and counts from here down to the deepest byte that changed. */
+static void *measure(void *unused)
+{
+    const uint8_t *deepest = stack;
+    void *made = call(unused);
+    while (*deepest == FILL)
+        deepest++;
+    taken = (size_t)((const uint8_t *)__builtin_frame_address(0) - deepest);
+    return made;
+}
+
+/* The bytes of stack that the call takes in a thread. */
+static size_t stack_of(void *(*of_call)(void *))
 {
     pthread_t thread;
     pthread_attr_t attributes;
-    size_t untouched = 0;
-    uint8_t *stack = mmap(NULL, STACK, PROT_READ | PROT_WRITE, MAP_PRIVATE | MAP_ANONYMOUS, -1, 0);
+    call = of_call;
+    stack = mmap(NULL, STACK, PROT_READ | PROT_WRITE, MAP_PRIVATE | MAP_ANONYMOUS, -1, 0);
     if (stack == MAP_FAILED)
         exit(EXIT_FAILURE);
     memset(stack, FILL, STACK);
     pthread_attr_init(&attributes);
-    if (pthread_attr_setstack(&attributes, stack, STACK) || pthread_create(&thread, &attributes, call, NULL) || pthread_join(thread, NULL))
+    if (pthread_attr_setstack(&attributes, stack, STACK) || pthread_create(&thread, &attributes, measure, NULL) || pthread_join(thread, NULL))
         exit(EXIT_FAILURE);
     pthread_attr_destroy(&attributes);
-    while (untouched < STACK && stack[untouched] == FILL)
-        untouched++;
     munmap(stack, STACK);
-    return STACK - untouched;
+    return taken;
 }
 
 /* A string of this length: the piece over and over, behind a start. */
@@ -102,15 +114,15 @@ int main(void)
                                       repeated("1", "0", LONG), repeated("", " ", LONG), of("1.0prev"), of("x")};
     const pep440_string lists[] = {of(">=1.0"), of(">=1!2.3.4.5.6rc7.post8.dev9, !=1.5.*, ~=1!2.0"), repeated(">=1", ",>=1", LONG),
                                    repeated(">=1", ",!=1.*", LONG), repeated("===1", ".1", LONG), repeated(">=1", ",x", LONG), of("==18446744073709551615.*")};
-    size_t most = 0, thread_alone = touched(nothing);
+    size_t most = 0;
     out = malloc((size_t)LONG * 64);
     release = calloc(LONG, sizeof *release);
     indices = calloc(MANY, sizeof *indices);
     ends = calloc(MANY, sizeof *ends);
     make_strings();
-    for (size_t call = 0; call < sizeof CALLS / sizeof *CALLS; call++) {
+    for (size_t turn = 0; turn < sizeof CALLS / sizeof *CALLS; turn++) {
         size_t of_call = 0;
-        int is_batch = call + 3 >= sizeof CALLS / sizeof *CALLS;
+        int is_batch = turn + 3 >= sizeof CALLS / sizeof *CALLS;
         for (size_t v = 0; v < sizeof versions / sizeof *versions; v++)
             for (size_t l = 0; l < sizeof lists / sizeof *lists; l++) {
                 size_t bytes;
@@ -118,10 +130,10 @@ int main(void)
                     continue;
                 given = versions[v];
                 list = lists[l];
-                bytes = touched(CALLS[call].call) - thread_alone;
+                bytes = stack_of(CALLS[turn].call);
                 of_call = bytes > of_call ? bytes : of_call;
             }
-        printf("%-16s %6zu bytes of stack\n", CALLS[call].name, of_call);
+        printf("%-16s %6zu bytes of stack\n", CALLS[turn].name, of_call);
         most = of_call > most ? of_call : most;
     }
     printf("%zu bytes of stack at most, of %d\n", most, BOUND);
