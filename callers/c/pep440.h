@@ -62,8 +62,8 @@ uint8_t pep440_list_error(const uint8_t *list, size_t length, uint8_t *out, size
 uint8_t pep440_compare(const uint8_t *left, size_t left_length, const uint8_t *right, size_t right_length, int8_t *order);
 
 /* Writes to `contained` whether the list contains the version, 1 or 0: whether each of its specifiers does. Pre-releases are versions like
-   others here: `>=1.0` contains `2.0rc1`. A caller that wants PEP 440's default leaves them out by pep440_parts_of, unless
-   pep440_any_prerelease writes 1 of the list. */
+   others here: `>=1.0` contains `2.0rc1`. A caller that leaves pre-releases out (PEP 440, "Handling of
+   pre-releases") finds them by pep440_parts_of, and whether the list names one by pep440_any_prerelease. */
 uint8_t pep440_contains(const uint8_t *list, size_t list_length, const uint8_t *version, size_t length, uint8_t *contained);
 
 /* Writes to `any` whether the version of some specifier of the list is a pre-release or a developmental release, 1 or 0. */
@@ -97,8 +97,9 @@ uint8_t pep440_sort_key(const uint8_t *version, size_t length, uint8_t *out, siz
 
 /* Writes the range of the list: its segments in ascending order, a line each, each line with a newline at its end; the one line `empty` where
    there are none. `out` and `written` as for pep440_normalize. A line is `[1.0, 1.5)`: two bounds between a square bracket, where the bound
-   is in the segment, or a round one, where it is not. `*` is no bound, as in `(*, 2.0]`. A bound may have the sentinel `~min0` or `~max0`
-   after its version: it lies below, or above, all versions that begin with it, as in `[1.0, 2.0~min0)` of `>=1.0,<2.0`.
+   is in the segment, or a round one, where it is not. `*` is no bound, as in `(*, 2.0]`. A bound may have a sentinel after its version, which
+   no string of a version has: `2.0~min0` lies below each version of release 2.0, `2.0.dev0` too, as in `[1.0, 2.0~min0)` of `>=1.0,<2.0`;
+   `1.0~max0` lies above each post-release and local version of `1.0`, and below `1.0.1`, as in `(1.0~max0, *)` of `>1.0`.
 
    A range goes by the order of versions, so it is not always what pep440_contains matches: `<=1.0` contains `1.0+cu1`, which its range ends
    below, and `===1.0` does not contain `1.0.0`, which its range has. docs/PROMISES.md, "Conversions into ranges", says where both agree.
