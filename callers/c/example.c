@@ -68,7 +68,8 @@ static void take_apart(void)
 {
     pep440_parts parts;
     uint64_t release[4];
-    uint8_t out[256];
+    uint8_t out[256], is;
+    int8_t order;
     size_t written;
     hold(pep440_parts_of(TEXT("2!1.2.3rc4.post5+ubuntu.1"), &parts, release, 4) == PEP440_OK, "parts");
     hold(parts.epoch == 2 && parts.release_length == 3 && release[0] == 1 && release[1] == 2 && release[2] == 3, "epoch and release");
@@ -84,6 +85,14 @@ static void take_apart(void)
     hold(pep440_ranges(TEXT(">=1.0,<2.0,!=1.5"), out, sizeof out, &written) == PEP440_OK, "ranges");
     hold_text(out, written, "[1.0, 1.5)\n(1.5, 2.0~min0)\n");
     printf("the range of >=1.0,<2.0,!=1.5:\n%.*s\n", (int)written, (const char *)out);
+    hold(pep440_ranges(TEXT(">1.0"), out, sizeof out, &written) == PEP440_OK, "a range without an end");
+    hold_text(out, written, "(1.0~max0, *)\n");
+
+    /* The range of a list goes by the order alone, so it ends below a local version that the list contains. */
+    hold(pep440_ranges(TEXT("<=1.0"), out, sizeof out, &written) == PEP440_OK, "a range that ends at 1.0");
+    hold_text(out, written, "(*, 1.0]\n");
+    hold(pep440_contains(TEXT("<=1.0"), TEXT("1.0+cu1"), &is) == PEP440_OK && is == 1, "a local version of 1.0");
+    hold(pep440_compare(TEXT("1.0+cu1"), TEXT("1.0"), &order) == PEP440_OK && order == 1, "which is above 1.0");
 }
 
 static int as_bytes(const uint8_t *left, size_t left_length, const uint8_t *right, size_t right_length)

@@ -103,7 +103,8 @@ static void make_strings(void)
     for (size_t index = 0; index < MANY; index++) {
         char text[64];
         size_t number = index * 7919 % 1000003;
-        snprintf(text, sizeof text, "%zu.%zu.%zu.0.%zu%s", number % 5, number / 5 % 40, number / 200 % 30, number % 3, index % 4 ? "" : "rc1+a.7");
+        snprintf(text, sizeof text, "%zu.%zu.%zu.0.%zu%s", number % 5, number / 5 % 40, number / 200 % 30, number % 3,
+                 index % 4 ? "" : "rc1+a.7");
         strings[index] = of(text);
     }
 }
@@ -113,7 +114,8 @@ int main(void)
     const pep440_string versions[] = {of("1.0"), of("1!2.3.4.5.6rc7.post8.dev9+a.10.b"), repeated("1", ".1", LONG), repeated("1+a", ".b", LONG),
                                       repeated("1", "0", LONG), repeated("", " ", LONG), of("1.0prev"), of("x")};
     const pep440_string lists[] = {of(">=1.0"), of(">=1!2.3.4.5.6rc7.post8.dev9, !=1.5.*, ~=1!2.0"), repeated(">=1", ",>=1", LONG),
-                                   repeated(">=1", ",!=1.*", LONG), repeated("===1", ".1", LONG), repeated(">=1", ",x", LONG), of("==18446744073709551615.*")};
+                                   repeated(">=1", ",!=1.*", LONG), repeated("===1", ".1", LONG), repeated(">=1", ",x", LONG),
+                                   of("==18446744073709551615.*")};
     size_t most = 0;
     out = malloc((size_t)LONG * 64);
     release = calloc(LONG, sizeof *release);
