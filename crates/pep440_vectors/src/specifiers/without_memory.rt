@@ -1,5 +1,5 @@
-//! Specifiers whose version fits a word are read without memory: whatever is refused, they are answered.
-use pep440_rs::{Operator, VersionSpecifier};
+//! What allocates nothing: reading a specifier whose version is packed, reading an operator, the list without members.
+use pep440_rs::{Operator, VersionSpecifier, VersionSpecifiers};
 use std::test::Fail;
 
 const FIT: [(&str, Operator); 10] = [
@@ -21,5 +21,32 @@ fn sweep_specifiers_that_fit_take_none(rt: HostRuntime) -> Result<(), Fail> {
         let read = VersionSpecifier::from_str(rt.alloc(), text)?;
         assert!(rt; *read.operator() == want, "{text}");
     }
+    Ok(())
+}
+
+const OPERATORS: [(&str, Operator); 8] = [
+    ("==", Operator::Equal),
+    ("===", Operator::ExactEqual),
+    ("!=", Operator::NotEqual),
+    ("~=", Operator::TildeEqual),
+    ("<", Operator::LessThan),
+    ("<=", Operator::LessThanEqual),
+    (">", Operator::GreaterThan),
+    (">=", Operator::GreaterThanEqual),
+];
+
+#[test]
+fn sweep_operators_take_none(rt: HostRuntime) -> Result<(), Fail> {
+    for (text, want) in OPERATORS {
+        let read = Operator::from_str(rt.alloc(), text)?;
+        assert!(rt; read == want, "{text}");
+    }
+    Ok(())
+}
+
+#[test]
+fn sweep_empty_lists_take_none(rt: HostRuntime) -> Result<(), Fail> {
+    let list = VersionSpecifiers::empty(rt.alloc());
+    assert!(rt; list.as_slice().is_empty(), "the list");
     Ok(())
 }

@@ -6,7 +6,7 @@ use super::again::{TRIES, refused_each_time};
 use super::calls::version;
 use super::kept::Call::Number;
 use super::kept::{Call, Kept};
-use pep440_version::{Version, laws};
+use pep440_version::{Version, VersionPattern, laws};
 use std::alloc::{AllocError, Global};
 use std::hash::Hash;
 use std::test::Fail;
@@ -202,6 +202,18 @@ fn sweep_packed_versions_take_none(rt: HostRuntime) -> Result<(), Fail> {
     assert!(rt; word(&release) == Some(0x0004_0500_00c0_0005), "release");
     let alone = release.only_release(alloc)?;
     assert!(rt; word(&alone) == Some(0x0004_0500_00a0_0000), "alone");
+    Ok(())
+}
+
+#[test]
+fn sweep_packed_patterns_take_none(rt: HostRuntime) -> Result<(), Fail> {
+    let alloc = rt.alloc();
+    let pattern = VersionPattern::wildcard(Version::new(alloc, &[1, 2, 3])?);
+    let copy = pattern.clone()?;
+    assert!(rt;
+        copy.is_wildcard() && word(copy.version()) == Some(0x0001_0203_00a0_0000),
+        "copy"
+    );
     Ok(())
 }
 
