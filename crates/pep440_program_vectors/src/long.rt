@@ -1,62 +1,91 @@
-//! Words and lines of more than 65,536 bytes: no command gives up because a text is long.
-use pep440_tool::answer;
+//! Words and lines of more than 65,536 bytes: no command gives up because a string is long.
+use super::support::{After, Manner, Trickle, answered, is_line, run_over, words_of};
+use std::alloc::{AllocError, Global};
 use std::test::Fail;
 
-// A release of 40,000 ones.
-fn long_version(rt: HostRuntime) -> Result<String, Fail> {
-    let mut text = String::from_str(rt.alloc(), "1")?;
-    for _ in 1..40_000 {
-        text.push_str(".1")?;
+// `1.0` and 70,000 blanks.
+fn long_version(alloc: Global) -> Result<String, AllocError> {
+    let mut text = String::from_str(alloc, "1.0")?;
+    for _ in 0..7000 {
+        text.push_str("          ")?;
     }
     Ok(text)
 }
 
-// Whether the words, with this one behind them, print the line `want`.
-fn prints(rt: HostRuntime, words: &[&str], last: String, want: &str) -> Result<bool, Fail> {
-    let mut all = Vec::new(rt.alloc());
-    for word in words {
-        all.push(String::from_str(rt.alloc(), word)?)?;
-    }
-    all.push(last)?;
-    let said = answer(rt.alloc(), all.as_slice(), b"")?;
-    Ok(said.status == 0 && super::support::is_line(said.output.as_slice(), want))
+// Whether the words print this line over the input, by `answer` and by `run`.
+fn prints(alloc: Global, words: &[&str], input: &[u8], line: &str) -> Result<bool, AllocError> {
+    let list = words_of(alloc, words)?;
+    let said = answered(alloc, list.as_slice(), input)?;
+    let mut reader = Trickle::new(input, After::End);
+    let (status, sink) = run_over(
+        alloc,
+        list.as_slice(),
+        &mut reader,
+        Manner::TakesAtMost(512),
+    );
+    let alike = status == said.status && sink.bytes() == said.output.as_slice();
+    Ok(alike && said.status == 0 && is_line(said.output.as_slice(), line))
 }
 
 #[test]
 fn long_words(rt: HostRuntime) -> Result<(), Fail> {
-    let version = long_version(rt)?;
+    let text = long_version(rt.alloc())?;
+    let version = text.as_str();
+    let list = format!(in rt.alloc(); ">={version}")?;
+    let alloc = rt.alloc();
+    assert!(rt; prints(alloc, &["show", version], b"", "1.0")?, "show");
     assert!(rt;
-        prints(rt, &["show"], version.clone()?, version.as_str())?,
-        "show"
-    );
-    assert!(rt;
-        prints(rt, &["compare", "2"], version.clone()?, ">")?,
+        prints(alloc, &["compare", version, version], b"", "=")?,
         "compare"
     );
-    assert!(rt; prints(rt, &["match", ">=1,<2"], version, "yes")?, "match");
+    assert!(rt;
+        prints(alloc, &["edit", version, "post=2"], b"", "1.0.post2")?,
+        "edit"
+    );
+    assert!(rt;
+        prints(alloc, &["match", list.as_str(), version], b"", "yes")?,
+        "match"
+    );
+    assert!(rt;
+        prints(alloc, &["range", list.as_str()], b"", "[1.0, *)")?,
+        "range"
+    );
     Ok(())
 }
 
+#[test]
+fn long_lines(rt: HostRuntime) -> Result<(), Fail> {
+    let version = long_version(rt.alloc())?;
+    let line = format!(in rt.alloc(); "demo>={version}\n")?;
+    let alloc = rt.alloc();
+    let filter = prints(alloc, &["filter", ">=1"], version.as_bytes(), "1.0")?;
+    assert!(rt; filter, "filter");
+    let pick = prints(alloc, &["pick", "demo", "1.5"], line.as_bytes(), "1.5")?;
+    assert!(rt; pick, "pick");
+    Ok(())
+}
+
+// A list of 20,001 members.
 #[test]
 fn long_list(rt: HostRuntime) -> Result<(), Fail> {
     let mut list = String::from_str(rt.alloc(), "<2")?;
     for _ in 0..20_000 {
         list.push_str(",!=3")?;
     }
-    assert!(rt; prints(rt, &["range"], list, "(*, 2~min0)")?, "range");
+    let printed = prints(rt.alloc(), &["range", list.as_str()], b"", "(*, 2~min0)")?;
+    assert!(rt; printed, "range");
     Ok(())
 }
 
-// The line ends in a line feed, as an answer of `filter` does.
+// A release of 40,001 ones, which is in normal form.
 #[test]
-fn long_line(rt: HostRuntime) -> Result<(), Fail> {
-    let mut line = long_version(rt)?;
-    line.push('\n')?;
-    let mut words = Vec::new(rt.alloc());
-    for word in ["filter", "<2"] {
-        words.push(String::from_str(rt.alloc(), word)?)?;
+fn long_output(rt: HostRuntime) -> Result<(), Fail> {
+    let mut version = String::from_str(rt.alloc(), "1")?;
+    for _ in 0..40_000 {
+        version.push_str(".1")?;
     }
-    let said = answer(rt.alloc(), words.as_slice(), line.as_bytes())?;
-    assert!(rt; said.status == 0 && said.output.as_slice() == line.as_bytes());
+    let words = words_of(rt.alloc(), &["show", version.as_str()])?;
+    let said = answered(rt.alloc(), words.as_slice(), b"")?;
+    assert!(rt; said.status == 0 && is_line(said.output.as_slice(), version.as_str()));
     Ok(())
 }
