@@ -1,10 +1,8 @@
 -- A command that stops where what it reads is refused, or memory runs out.
-use Rattle.std.proofs.Common.{◌≡◌, Option, None, Result, Ok, Err, sym, subst}
+use Rattle.std.proofs.Common.{◌≡◌, Result, Ok, Err, sym, subst}
 use Rattle.std.specs.Prelude.{IsErrAnd}
 use Rattle.pep440_tool.specs.Answers.{ToolAnswer}
-use Rattle.pep440_tool.specs.Said.{Answered, Gives, Lacks, ReadsAs, Stops, said}
-use Rattle.pep440_tool.specs.declared.change_word.NoChange.{NoChange}
-use Rattle.pep440_tool.specs.declared.change_word.NoChange.TheVariants as no
+use Rattle.pep440_tool.specs.Said.{Answered, Gives, Stops, said}
 use Rattle.pep440_tool.specs.declared.output.Answer.{Answer}
 use Rattle.pep440_tool.specs.declared.output.Stop.{Stop}
 use Rattle.pep440_tool.specs.declared.output.Stop.TheVariants.{Refused, OutOfMemory}
@@ -27,12 +25,3 @@ stops_too P Q R all s h (Err e) same = subst (Stops R) (sym same) (stops_weaker 
 pub answered_weaker : (Q R : ToolAnswer → Type 0) → ((a : ToolAnswer) → Q a → R a) → (result : Result Answer Stop) → Answered Q result → Answered R result
 answered_weaker Q R all (Ok a) h = all (said a) h
 answered_weaker Q R all (Err s) h = stops_weaker Q R all s h
-
--- a part that is not read leaves the whole unread
-lacks_weaker : (P Q : Type 0) → (P → Q) → (e : NoChange) → Lacks P e → Lacks Q e
-lacks_weaker P Q all no.NotAChange h = all h
-lacks_weaker P Q all no.OutOfMemory h = tt
-
-pub not_read : {X A : Type 0} (view : X → A) (read : Option A) (P : Type 0) (e : NoChange) (result : Result X NoChange) → Lacks P e → (P → read ≡ None) → IsErrAnd result (λ x. x ≡ e) → ReadsAs view result read
-not_read view read P e (Ok x) h all never = absurd never
-not_read view read P e (Err x) h all same = subst (Lacks (read ≡ None)) (sym same) (lacks_weaker P (read ≡ None) all e h)

@@ -1,23 +1,22 @@
 -- What the program answers: bytes and a status. Each command's answer is told by what its words mean.
-use Rattle.std.specs.Prelude.{◌≡◌, ◌⊎◌, ℕ, List, [], ◌∷◌, ◌++◌, Bool, true, false, codes, map, Option, Some, None, Result, Ok, Err}
+use Rattle.std.specs.Prelude.{◌≡◌, ◌⊎◌, ℕ, List, ◌++◌, Bool, true, false, codes, Option, Some, None, Result, Ok, Err}
 use Rattle.std.specs.Fmt.{decimal}
 use Rattle.std.specs.declared.cmp.Ordering.{Ordering}
 use Rattle.std.specs.declared.cmp.Ordering.TheVariants.{Less, Equal, Greater}
-use Rattle.std.specs.declared.ops.Bound.{Bound}
-use Rattle.std.specs.declared.ops.Bound.TheVariants.{Included, Excluded, Unbounded}
-use Rattle.pep440_ranges.specs.Segments.{Segment}
+use Rattle.pep440_change_words.specs.Sentinels.{print_with_sentinels}
 use Rattle.pep440_rs.specs.Bounds.{Segments, range_of, list_range}
 use Rattle.pep440_rs.specs.ErrorTexts.{range_error_text}
 use Rattle.pep440_rs.specs.ListErrorTexts.{list_refusal_text}
 use Rattle.pep440_rs.specs.ListGrammar.{DerivesList, PieceRefusal, RefusesList}
 use Rattle.pep440_rs.specs.Matching.{list_matches}
+use Rattle.pep440_rs.specs.RangeLines.{range_lines}
 use Rattle.pep440_rs.specs.Specifiers.{Spec}
 use Rattle.pep440_rs.specs.declared.range.error.RangeError.TheVariants.{NumberAtMax}
 use Rattle.pep440_version.specs.Changes.{Edit, changed_all}
 use Rattle.pep440_version.specs.ErrorTexts.{refusal_text, change_error_text}
 use Rattle.pep440_version.specs.Grammar.{Derives}
 use Rattle.pep440_version.specs.Key.{record_cmp}
-use Rattle.pep440_version.specs.Print.{print, labelled}
+use Rattle.pep440_version.specs.Print.{print}
 use Rattle.pep440_version.specs.Record.{Record}
 use Rattle.pep440_version.specs.Refusals.{Refusal, Refuses}
 use Rattle.pep440_version.specs.declared.change.ChangeError.{ChangeError}
@@ -82,13 +81,9 @@ sign_of Greater = codes ">"
 abbrev pub CompareAnswer : List ℕ → List ℕ → ToolAnswer → Type 0
 CompareAnswer left right a = Reads left (λ r. Reads right (λ q. a ≡ shown (sign_of (record_cmp r q))) a) a
 
--- the print, and then the marks that it leaves out
-abbrev pub marked_print : Record → List ℕ
-marked_print r = print r ++ (labelled (codes "~min") r.min ++ labelled (codes "~max") r.max)
-
 -- the version that was reached, or the change that can't be made
 abbrev pub edited_answer : Result Record ChangeError → ToolAnswer
-edited_answer (Ok r) = shown (marked_print r)
+edited_answer (Ok r) = shown (print_with_sentinels r)
 edited_answer (Err e) = refused (change_error_text e)
 
 abbrev pub not_a_change_text : ℕ → List ℕ
@@ -113,28 +108,9 @@ yes_or_no false = codes "no"
 abbrev pub MatchAnswer : List ℕ → List ℕ → ToolAnswer → Type 0
 MatchAnswer specifiers text a = ReadsList specifiers (λ list. Reads text (λ r. a ≡ shown (yes_or_no (list_matches list r))) a) a
 
--- where a segment begins: square for included, round for excluded; a side that is open is a star
-abbrev pub start_text : Bound Record → List ℕ
-start_text (Included v) = codes "[" ++ marked_print v
-start_text (Excluded v) = codes "(" ++ marked_print v
-start_text Unbounded = codes "(*"
-
-abbrev pub end_text : Bound Record → List ℕ
-end_text (Included v) = marked_print v ++ codes "]"
-end_text (Excluded v) = marked_print v ++ codes ")"
-end_text Unbounded = codes "*)"
-
-abbrev pub segment_text : Segment Record → List ℕ
-segment_text s = start_text s.0 ++ (codes ", " ++ end_text s.1)
-
--- the segments, a line each
-abbrev pub segments_answer : Segments → ToolAnswer
-segments_answer [] = shown (codes "empty")
-segments_answer (s ∷ rest) = shown_lines (map segment_text (s ∷ rest))
-
--- or that a number would have to be raised that can't be
+-- the range's lines, or that a number would have to be raised that can't be
 abbrev pub range_answer : Option Segments → ToolAnswer
-range_answer (Some range) = segments_answer range
+range_answer (Some range) = record { output = range_lines range; status = 0 }
 range_answer None = refused (range_error_text NumberAtMax)
 
 -- `range SPECS`: the range of the list

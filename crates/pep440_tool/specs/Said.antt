@@ -1,5 +1,5 @@
 -- What the program's own types say, apart from where they lie in memory; and what it is to read words and lines.
-use Rattle.std.specs.Prelude.{◌≡◌, ℕ, List, Bool, true, false, map, Option, Some, None, option_map, option_to_list, Result, Ok, Err, string_bytes}
+use Rattle.std.specs.Prelude.{◌≡◌, ℕ, List, Bool, true, false, map, Option, option_map, option_to_list, Result, Ok, Err, string_bytes}
 use Rattle.std.specs.List.{AllZip, flat_map}
 use Rattle.pep440_rs.specs.ListGrammar.{DerivesList}
 use Rattle.pep440_rs.specs.Specifiers.{Spec}
@@ -10,8 +10,6 @@ use Rattle.pep440_tool.specs.declared.command.Command.TheVariants as command
 use Rattle.pep440_version.specs.Changes.{Edit as Change}
 use Rattle.pep440_version.specs.ErrorTexts.{refusal_text}
 use Rattle.pep440_version.specs.Refusals.{Refusal, Refuses}
-use Rattle.pep440_tool.specs.declared.change_word.NoChange.{NoChange}
-use Rattle.pep440_tool.specs.declared.change_word.NoChange.TheVariants as no
 use Rattle.pep440_tool.specs.declared.output.Answer.{Answer}
 use Rattle.pep440_tool.specs.declared.output.Stop.{Stop}
 use Rattle.pep440_tool.specs.declared.output.Stop.TheVariants as stop
@@ -77,16 +75,6 @@ MeansLine place text = Gives (LineMeans text) (λ a. (fault : List ℕ) × LineF
 -- the versions of the lines that the list contains, seen by view, or the answer that refuses a line
 abbrev pub MeansLines : {X : Type 0} → (X → List Record) → List Spec → List (List ℕ) → Result X Stop → Type 0
 MeansLines view list texts = Gives (λ versions. (found : List (Option Record)) × LinesMean texts found × (view versions ≡ flat_map (kept list) found)) (RefusesLine texts)
-
--- what holds where there is no change, and memory didn't run out
-abbrev pub Lacks : Type 0 → NoChange → Type 0
-Lacks P no.NotAChange = P
-Lacks P no.OutOfMemory = Unit {0}
-
--- what a word or a part of one is read as, seen by view
-abbrev pub ReadsAs : {X A : Type 0} → (X → A) → Result X NoChange → Option A → Type 0
-ReadsAs view (Ok x) read = read ≡ Some (view x)
-ReadsAs view (Err e) read = Lacks (read ≡ None) e
 
 -- the changes that words ask for, or the answer that refuses the first word that asks for none
 abbrev pub MeansChanges : List (List ℕ) → Result (List Change) Stop → Type 0

@@ -5,10 +5,9 @@ ghost use Rattle.pep440_tool.specs.Answers.{EditAnswer, edited_answer, not_a_cha
 ghost use Rattle.pep440_tool.specs.Said.{Answered, MeansChanges, Stops};
 ghost use Rattle.pep440_version.specs.Changes.{changed_all, edit};
 
-use crate::change_word::{NoChange, change};
 use crate::output::{Answer, Stop};
-use crate::printing::marked_print;
 use crate::reading::read;
+use pep440_change_words::{ChangeWordError, WithSentinels, parse_change};
 use pep440_rs::{Change, ChangeError, Version};
 use std::alloc::Global;
 
@@ -28,10 +27,10 @@ fn find_changes(alloc: Global, words: &[String]) -> Result<Vec<Change>, Stop>
 {
     let mut changes = Vec::new(alloc);
     for i in 0..words.len() {
-        match change(alloc, words[i].as_str()) {
+        match parse_change(alloc, words[i].as_str()) {
             Ok(change) => changes.push(change)?,
-            Err(NoChange::NotAChange) => return Err(not_a_change(alloc, i + 1)),
-            Err(NoChange::OutOfMemory) => return Err(Stop::OutOfMemory),
+            Err(ChangeWordError::NotAChange) => return Err(not_a_change(alloc, i + 1)),
+            Err(ChangeWordError::OutOfMemory) => return Err(Stop::OutOfMemory),
         }
     }
     Ok(changes)
@@ -43,7 +42,7 @@ fn edited(alloc: Global, version: Version, changes: &[Change]) -> Result<Answer,
 {
     match version.with_changes(alloc, changes) {
         Ok(version) => {
-            let print = marked_print(alloc, &version)?;
+            let print = WithSentinels(&version).to_string(alloc)?;
             Ok(Answer::shown(alloc, print.as_str())?)
         }
         Err(ChangeError::OutOfMemory) => Err(Stop::OutOfMemory),

@@ -1,14 +1,12 @@
 //! The program `pep440` as a function of its words and its input, and over any reader and any writer.
 #![tactic(auto)]
 
-mod change_word;
 mod command;
 mod editing;
 mod filtering;
 pub mod laws;
 mod output;
 mod picking;
-mod printing;
 mod program;
 mod ranging;
 mod reading;

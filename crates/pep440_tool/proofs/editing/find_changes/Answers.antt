@@ -3,7 +3,8 @@ use Rattle.std.proofs.lemmas.List.{map-append}
 use Rattle.pep440_tool.specs.Answers.{not_a_change_text, refused}
 use Rattle.pep440_tool.proofs.Stopped.{stops_weaker}
 use Rattle.pep440_tool.proofs.Items.{word_more, word_stop}
-use Rattle.pep440_tool.specs.ChangeWords.{change_of, changes_of}
+use Rattle.pep440_change_words.specs.ChangeWords.{change_of}
+use Rattle.pep440_tool.specs.ChangeWords.{changes_of}
 use Rattle.pep440_version.specs.Changes.{edit}
 use Rattle.pep440_tool.proofs.editing.find_changes.Goals as goal
 
