@@ -1,8 +1,10 @@
 -- What the program answers: bytes and a status. Each command's answer is told by what its words mean.
-use Rattle.std.specs.Prelude.{◌≡◌, ◌⊎◌, ℕ, List, ◌++◌, Bool, true, false, codes, Option, Some, None, Result, Ok, Err}
+use Rattle.std.specs.Prelude.{◌≡◌, ◌⊎◌, ℕ, List, ◌∷◌, ◌++◌, Bool, true, false, codes, Option, Some, None, Result, Ok, Err}
 use Rattle.std.specs.Fmt.{decimal}
+use Rattle.std.specs.List.{AllZip, enumerate_from}
 use Rattle.std.specs.declared.cmp.Ordering.{Ordering}
 use Rattle.std.specs.declared.cmp.Ordering.TheVariants.{Less, Equal, Greater}
+use Rattle.pep440_change_words.specs.ChangeWords.{change_of}
 use Rattle.pep440_change_words.specs.Sentinels.{print_with_sentinels}
 use Rattle.pep440_rs.specs.Bounds.{Segments, range_of, list_range}
 use Rattle.pep440_rs.specs.ErrorTexts.{range_error_text}
@@ -20,7 +22,6 @@ use Rattle.pep440_version.specs.Print.{print}
 use Rattle.pep440_version.specs.Record.{Record}
 use Rattle.pep440_version.specs.Refusals.{Refusal, Refuses}
 use Rattle.pep440_version.specs.declared.change.ChangeError.{ChangeError}
-use Rattle.pep440_tool.specs.ChangeWords.{changes_of}
 use Rattle.pep440_tool.specs.Texts.{line, lines_of, usage_text}
 
 -- what is written, and the status of the process
@@ -66,6 +67,23 @@ RefusesListWord word a = (f : PieceRefusal) × RefusesList word f × (a ≡ refu
 abbrev pub ReadsList : List ℕ → (List Spec → Type 0) → ToolAnswer → Type 0
 ReadsList word Then a = ((list : List Spec) × DerivesList word list × Then list) ⊎ RefusesListWord word a
 
+-- ---- texts with their numbers, one after another
+
+module _ {A : Type 0} (Means : ℕ × List ℕ → A → Type 0) (RejectsText : ℕ × List ℕ → ToolAnswer → Type 0) where
+  -- the answer says why the first text that means nothing does not
+  pub record RejectsFirst (texts : List (ℕ × List ℕ)) (a : ToolAnswer) : Type 0 where
+    pub before : List (ℕ × List ℕ)
+    pub text : ℕ × List ℕ
+    pub after : List (ℕ × List ℕ)
+    pub split : texts ≡ before ++ (text ∷ after)
+    pub found : List A
+    pub means : AllZip Means before found
+    pub why : RejectsText text a
+
+  -- each text means something, and of these in order this holds; or the answer rejects the first that means nothing
+  abbrev pub ReadsEach : List (ℕ × List ℕ) → (List A → Type 0) → ToolAnswer → Type 0
+  ReadsEach texts Then a = ((found : List A) × AllZip Means texts found × Then found) ⊎ RejectsFirst texts a
+
 -- ---- versions
 
 -- `show V`: the print of V
@@ -86,17 +104,28 @@ abbrev pub edited_answer : Result Record ChangeError → ToolAnswer
 edited_answer (Ok r) = shown (print_with_sentinels r)
 edited_answer (Err e) = refused (change_error_text e)
 
+-- ---- texts of errors with their numbers
+
+abbrev pub candidate_fault_text : ℕ → List ℕ → List ℕ
+candidate_fault_text number fault = codes "candidate " ++ (decimal number ++ (codes ": " ++ fault))
+
+abbrev pub line_fault_text : ℕ → List ℕ → List ℕ
+line_fault_text number fault = codes "line " ++ (decimal number ++ (codes ": " ++ fault))
+
 abbrev pub not_a_change_text : ℕ → List ℕ
 not_a_change_text place = codes "change " ++ (decimal place ++ codes ": not a change")
 
--- the version after the changes; before one is made, a word that asks for none is refused by its place
-abbrev pub changed_answer : Record → Result (List Edit) ℕ → ToolAnswer
-changed_answer r (Ok edits) = edited_answer (changed_all 1 r edits)
-changed_answer r (Err place) = refused (not_a_change_text place)
+-- a word asks for a change
+abbrev pub AsksChange : ℕ × List ℕ → Edit → Type 0
+AsksChange word edit = change_of word.1 ≡ Some edit
+
+-- the answer says which word asks for none
+abbrev pub RejectsChange : ℕ × List ℕ → ToolAnswer → Type 0
+RejectsChange word a = (change_of word.1 ≡ None) × (a ≡ refused (not_a_change_text word.0))
 
 -- `edit V CHANGE..`: V is read, then all the words, and then the changes are made
 abbrev pub EditAnswer : List ℕ → List (List ℕ) → ToolAnswer → Type 0
-EditAnswer text words a = Reads text (λ r. a ≡ changed_answer r (changes_of 1 words)) a
+EditAnswer text words a = Reads text (λ r. ReadsEach AsksChange RejectsChange (enumerate_from 1 words) (λ edits. a ≡ edited_answer (changed_all 1 r edits)) a) a
 
 -- ---- lists of specifiers
 

@@ -3,8 +3,10 @@
 
 mod command;
 mod editing;
+mod error;
 mod filtering;
 pub mod laws;
+mod lines;
 mod output;
 mod picking;
 mod program;

@@ -2,22 +2,19 @@
 ghost use Rattle.pep440_tool.specs.Answers.{RangeAnswer};
 ghost use Rattle.pep440_tool.specs.Said.{Answered};
 
-use crate::output::{Answer, Stop};
+use crate::error::CommandError;
+use crate::output::Answer;
 use crate::reading::read_list;
-use pep440_rs::{RangeError, RangeLines, specifiers_to_ranges};
+use pep440_rs::{RangeLines, specifiers_to_ranges};
 use std::alloc::Global;
 
 /// `range SPECS`: the range of the list.
-pub(crate) fn range(alloc: Global, word: &str) -> Result<Answer, Stop>
+pub(crate) fn range(alloc: Global, word: &str) -> Result<Answer, CommandError>
     ensures { Answered (RangeAnswer word.now) result }
 {
     let list = read_list(alloc, word)?;
     match specifiers_to_ranges(alloc, list) {
         Ok(range) => Ok(Answer::shown_lines(RangeLines(&range).to_string(alloc)?)),
-        Err(RangeError::OutOfMemory) => Err(Stop::OutOfMemory),
-        Err(error) => {
-            let text = error.to_string(alloc)?;
-            Err(Stop::refused(alloc, text.as_str()))
-        }
+        Err(error) => Err(CommandError::Range(error)),
     }
 }

@@ -3,8 +3,8 @@ use Rattle.std.proofs.lemmas.Bool.{ne_eqb}
 use Rattle.std.proofs.lemmas.List.{take_rest}
 use Rattle.std.proofs.lemmas.List.Elements.{All-more}
 use Rattle.std.proofs.lemmas.List.Splits.{slice_split_none}
-use Rattle.pep440_tool.proofs.Filtered.{line_read}
-use Rattle.pep440_tool.proofs.filtering.cut_line.Goals as goal
+use Rattle.pep440_tool.proofs.LinesLeft.{line_read}
+use Rattle.pep440_tool.proofs.lines.split_line.Goals as goal
 
 pub returns-then-byte-eq10-clause-lines : goal.returns-then-byte-eq10-clause-lines
 returns-then-byte-eq10-clause-lines c = rw take_rest (line_read c.args.input.now c.loop-at.at c.loop-at-test.true c.if-byte-eq10.true c.loop-at.invariant)
