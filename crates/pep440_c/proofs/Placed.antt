@@ -11,7 +11,7 @@ use Rattle.pep440_version.specs.Record.{Record}
 use Rattle.pep440_c.specs.Batches.{ArrangesPlaces, IsMark, MeansKeys, MeansPlaced, RefusesFirst, Sorts, StopsAll, ends_from, placed_cmp, stop_at}
 use Rattle.pep440_c.specs.Statuses.{Faults}
 use Rattle.pep440_c.specs.declared.texts.Fault.{Fault}
-use Rattle.pep440_c.specs.declared.texts.Fault.TheVariants.{VersionRefused, ListRefused, OutOfMemory}
+use Rattle.pep440_c.specs.declared.texts.Fault.TheVariants.{InvalidVersion, InvalidList, NumberAtMax, OutOfMemory}
 use Rattle.pep440_c.specs.declared.batch.Stop.{Stop}
 use Rattle.pep440_tool.proofs.Picked.{each_more}
 use Rattle.pep440_c.specs.Meaning.{MeansBytes, RefusesBytes}
@@ -58,10 +58,11 @@ placed_more texts i x pairs new v inside means more (versions, all, placed) =
 
 -- the text at a place that is refused is the first, where those before it mean versions
 pub stops_at : (texts : List (Bor (List ℕ))) (i : ℕ) (x : Bor (List ℕ)) (f : Fault) (s : Stop) (versions : List Record) → i < length texts → s ≡ stop_at i f
-    → Faults (RefusesBytes (get_or texts i x).now) ⊥ f → AllZip MeansBytes (map (λ t. t.now) (take i texts)) versions → StopsAll (map (λ t. t.now) texts) s
-stops_at texts i x VersionRefused s versions inside is why all = subst (λ (t : Stop). StopsAll (map (λ (y : Bor (List ℕ)). y.now) texts) t) (sym is)
+    → Faults (RefusesBytes (get_or texts i x).now) ⊥ ⊥ f → AllZip MeansBytes (map (λ t. t.now) (take i texts)) versions → StopsAll (map (λ t. t.now) texts) s
+stops_at texts i x InvalidVersion s versions inside is why all = subst (λ (t : Stop). StopsAll (map (λ (y : Bor (List ℕ)). y.now) texts) t) (sym is)
     (refused_first texts i (get_or texts i x) versions inside (get_or_default texts i x (get_or texts i x) inside) why all)
-stops_at texts i x ListRefused s versions inside is why all = absurd why
+stops_at texts i x InvalidList s versions inside is why all = absurd why
+stops_at texts i x NumberAtMax s versions inside is why all = absurd why
 stops_at texts i x OutOfMemory s versions inside is why all = subst (λ (t : Stop). StopsAll (map (λ (y : Bor (List ℕ)). y.now) texts) t) (sym is) tt
 
 -- one more mark
