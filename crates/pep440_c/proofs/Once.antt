@@ -6,6 +6,7 @@ use Rattle.pep440_rs.proofs.Reading.OneMeaning.{either_list, not_both_list, one_
 use Rattle.pep440_rs.specs.Bounds.{Segments, list_range, range_of}
 use Rattle.pep440_rs.specs.ListErrorTexts.{list_refusal_text}
 use Rattle.pep440_rs.specs.ListGrammar.{DerivesList, PieceRefusal, RefusesList}
+use Rattle.pep440_rs.specs.RangeLines.{range_lines}
 use Rattle.pep440_rs.specs.Specifiers.{Spec}
 use Rattle.pep440_version.proofs.Reading.Agreement.{one_record}
 use Rattle.pep440_version.proofs.Refusals.ExactlyOne.{not_both, one_or_other, one_refusal}
@@ -14,7 +15,7 @@ use Rattle.pep440_version.specs.Grammar.{Derives}
 use Rattle.pep440_version.specs.Record.{Record}
 use Rattle.pep440_version.specs.Refusals.{Refusal, Refuses}
 use Rattle.pep440_c.proofs.Refused.{no_list_text, no_text}
-use Rattle.pep440_c.specs.Answers.{HasNoRange, IsRange, range_text}
+use Rattle.pep440_c.specs.Answers.{HasNoRange, IsRange}
 use Rattle.pep440_c.specs.Meaning.{MeansBytes, MeansListBytes, RefusesBytes, RefusesListBytes, TellsWhy, TellsWhyNoList}
 
 no_utf8 : (bytes : List ℕ) → is_utf8 bytes ≡ false → ¬ IsUtf8 bytes
@@ -77,7 +78,7 @@ never_both_lists bytes l (utf8, means) (words, inr (again, f, why, w)) = not_bot
 
 abbrev text_of : Option Segments → List ℕ
 text_of None = []
-text_of (Some range) = range_text range
+text_of (Some range) = range_lines range
 
 same_range : (bytes : List ℕ) (l m : List Spec) (o p : Option Segments) → MeansListBytes bytes l → MeansListBytes bytes m → list_range range_of l ≡ o → list_range range_of m ≡ p → o ≡ p
 same_range bytes l m o p means other is also = sym is ∙ ap (λ (list : List Spec). list_range range_of list) (one_bytes_list bytes l m means other) ∙ also
@@ -87,7 +88,7 @@ one_range bytes words others (l, s, means, is, w) (m, t, other, also, o) = w ∙
 
 range_by_option : (bytes : List ℕ) (l : List Spec) (o : Option Segments) → MeansListBytes bytes l → list_range range_of l ≡ o → ((words : List ℕ) × IsRange bytes words) ⊎ HasNoRange bytes
 range_by_option bytes l None means is = inr (l, means, is)
-range_by_option bytes l (Some range) means is = inl (range_text range, (l, range, means, is, refl))
+range_by_option bytes l (Some range) means is = inl (range_lines range, (l, range, means, is, refl))
 
 or_none : (bytes : List ℕ) → ((words : List ℕ) × IsRange bytes words) ⊎ HasNoRange bytes → ((words : List ℕ) × IsRange bytes words) ⊎ (RefusesListBytes bytes ⊎ HasNoRange bytes)
 or_none bytes (inl found) = inl found

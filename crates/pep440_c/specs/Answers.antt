@@ -1,5 +1,5 @@
 -- What each call on one text answers.
-use Rattle.std.specs.Prelude.{◌≡◌, ◌⊎◌, ℕ, ℤ, pos, negsuc, List, [], ◌∷◌, Bool, Some, None, codes, length, is_some, map}
+use Rattle.std.specs.Prelude.{◌≡◌, ◌⊎◌, ℕ, ℤ, pos, negsuc, List, [], Bool, Some, None, length, is_some}
 use Rattle.std.specs.List.{list_any}
 use Rattle.std.specs.Option.{option_map_or}
 use Rattle.std.specs.declared.cmp.Ordering.{Ordering}
@@ -7,10 +7,9 @@ use Rattle.std.specs.declared.cmp.Ordering.TheVariants.{Less, Equal, Greater}
 use Rattle.pep440_rs.specs.Bounds.{Segments, list_range, range_of}
 use Rattle.pep440_rs.specs.Lists.{list_print}
 use Rattle.pep440_rs.specs.Matching.{any_prerelease, has_local, list_matches}
+use Rattle.pep440_rs.specs.RangeLines.{range_lines}
 use Rattle.pep440_rs.specs.Specifiers.{Spec}
 use Rattle.pep440_sort_key.specs.Keys.{key_bytes}
-use Rattle.pep440_tool.specs.Answers.{segment_text}
-use Rattle.pep440_tool.specs.Texts.{line, lines_of}
 use Rattle.pep440_version.specs.Key.{record_cmp}
 use Rattle.pep440_version.specs.Print.{print}
 use Rattle.pep440_version.specs.Record.{Record}
@@ -43,14 +42,9 @@ IsListError text bytes = ((list : List Spec) × MeansListBytes text list × (byt
 abbrev pub IsKey : List ℕ → List ℕ → Type 0
 IsKey text bytes = (r : Record) × MeansBytes text r × (bytes ≡ key_bytes r)
 
--- the segments of a range, a line each; `empty` where there are none
-abbrev pub range_text : Segments → List ℕ
-range_text [] = line (codes "empty")
-range_text (s ∷ rest) = lines_of (map segment_text (s ∷ rest))
-
 -- the range of a list
 abbrev pub IsRange : List ℕ → List ℕ → Type 0
-IsRange text bytes = (list : List Spec) × (range : Segments) × MeansListBytes text list × (list_range range_of list ≡ Some range) × (bytes ≡ range_text range)
+IsRange text bytes = (list : List Spec) × (range : Segments) × MeansListBytes text list × (list_range range_of list ≡ Some range) × (bytes ≡ range_lines range)
 
 -- the list has no range, since a number that can't be raised would have to be
 abbrev pub HasNoRange : List ℕ → Type 0

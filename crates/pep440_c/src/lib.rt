@@ -194,7 +194,7 @@ pub extern "C" fn pep440_ranges(
 ) -> u8
     ensures { PutsBytes ⊥ (RefusesListBytes list.now) (HasNoRange list.now) (IsRange list.now) out.old out.new written.old written.new result }
 {
-    put_bytes(texts::range(alloc, list), out, written)
+    put_text(texts::range(alloc, list), out, written)
 }
 
 /// Writes a mark for each string, in order: 1 the list contains its version, 0 it doesn't, 2 it is no version.

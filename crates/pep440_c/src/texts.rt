@@ -9,9 +9,11 @@ ghost use Rattle.pep440_c.specs.Statuses.{Gives, fault_status};
 ghost use Rattle.pep440_c.specs.declared.texts.Fault.TheVariants.{OutOfMemory};
 ghost use Rattle.pep440_version.specs.Errors.{refusal_of};
 
-use pep440_rs::{ErrorKind, SpecifiersErrorKind, Version, VersionSpecifiers};
+use pep440_rs::{
+    ErrorKind, RangeError, RangeLines, SpecifiersErrorKind, Version, VersionSpecifiers,
+    specifiers_to_ranges,
+};
 use pep440_sort_key::sort_key;
-use pep440_tool::answer;
 use std::alloc::{AllocError, AllocFailed, Global};
 use std::cmp::Ordering;
 
@@ -196,22 +198,14 @@ pub(crate) fn key(alloc: Global, bytes: &[u8]) -> Result<Vec<u8>, Fault>
     Ok(sort_key(alloc, &version)?)
 }
 
-/// The range of a list, as the program prints it.
-pub(crate) fn range(alloc: Global, list: &[u8]) -> Result<Vec<u8>, Fault>
-    ensures { Gives ⊥ (RefusesListBytes list.now) (HasNoRange list.now) (λ text. IsRange list.now text.items) result }
+/// The range of a list, a segment a line.
+pub(crate) fn range(alloc: Global, list: &[u8]) -> Result<String, Fault>
+    ensures { Gives ⊥ (RefusesListBytes list.now) (HasNoRange list.now) (λ text. IsRange list.now (string_bytes text)) result }
 {
-    let Ok(text) = std::str::from_utf8(list) else {
-        return Err(Fault::InvalidList);
-    };
-    let words = [
-        String::from_str(alloc, "range")?,
-        String::from_str(alloc, text)?,
-    ];
-    let said = answer(alloc, &words, &[])?;
-    if said.status != 0 {
-        // `range` prints an error for either of two reasons
-        read_list(alloc, list)?;
-        return Err(Fault::NumberAtMax);
+    let specifiers = read_list(alloc, list)?;
+    match specifiers_to_ranges(alloc, specifiers) {
+        Ok(range) => Ok(RangeLines(&range).to_string(alloc)?),
+        Err(RangeError::NumberAtMax) => Err(Fault::NumberAtMax),
+        Err(RangeError::OutOfMemory) => Err(Fault::OutOfMemory),
     }
-    Ok(said.output)
 }
