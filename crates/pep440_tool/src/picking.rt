@@ -1,9 +1,8 @@
 // The command `pick`.
-ghost use Rattle.std.specs.Prelude.{◌≡◌, ◌++◌, ◌∷◌, [], List, map, string_bytes, IfOk};
+ghost use Rattle.std.specs.Prelude.{◌≡◌, ◌++◌, ◌∷◌, [], List, map, option_to_list, string_bytes, IfOk};
 ghost use Rattle.std.specs.List.{AllZip, enumerate_from};
 ghost use Rattle.pep440_pick.specs.Allowed.{lists_of};
 ghost use Rattle.pep440_pick.specs.RequirementGrammar.{DerivesRequirement, Needed, RefusesRequirement};
-ghost use Rattle.pep440_pick.specs.Requirements.{needed};
 ghost use Rattle.pep440_tool.specs.Answers.{RejectsFirst};
 ghost use Rattle.pep440_tool.specs.CommandErrors.{Gives};
 ghost use Rattle.pep440_tool.specs.Lines.{LineMeans, RejectsLine, numbered_lines};
@@ -13,7 +12,7 @@ ghost use Rattle.pep440_tool.specs.Said.{Answered};
 use crate::error::CommandError;
 use crate::lines::{Line, Lines};
 use crate::output::Answer;
-use pep440_pick::{Requirement, is_name, newest, same_name};
+use pep440_pick::{Requirement, is_name, newest};
 use pep440_rs::{Version, VersionSpecifiers};
 use std::alloc::{AllocError, Global};
 
@@ -39,28 +38,31 @@ fn read_candidates(alloc: Global, words: &[String]) -> Result<Vec<Version>, Comm
     Ok(versions)
 }
 
-/// The requirement that the line means.
-fn read_requirement(alloc: Global, line: Line<'_>) -> Result<Requirement, CommandError>
-    ensures { Gives (λ r. LineMeans DerivesRequirement (line.entry.number, line.entry.bytes.now) (needed r)) (RejectsLine RefusesRequirement refused_requirement (line.entry.number, line.entry.bytes.now)) result }
+/// The list of the requirement that the line means, if it is of that name.
+fn read_specifiers(
+    alloc: Global,
+    name: &str,
+    line: Line<'_>,
+) -> Result<Option<VersionSpecifiers>, CommandError>
+    ensures { Gives (λ o. (n : Needed) × LineMeans DerivesRequirement (line.entry.number, line.entry.bytes.now) n × (option_to_list o ≡ lists_of name.now (n ∷ []))) (RejectsLine RefusesRequirement refused_requirement (line.entry.number, line.entry.bytes.now)) result }
 {
-    match Requirement::from_str(alloc, line.text()?) {
-        Ok(requirement) => Ok(requirement),
+    match Requirement::specifiers_for(alloc, name, line.text()?) {
+        Ok(specifiers) => Ok(specifiers),
         Err(error) => Err(CommandError::Requirement(line.number, error)),
     }
 }
 
-/// One more list, where the requirement is of that name.
-fn add_list(
+/// One more list, where there is one.
+fn push_list(
     lists: &mut Vec<VersionSpecifiers>,
-    name: &str,
-    requirement: Requirement,
+    list: Option<VersionSpecifiers>,
 ) -> Result<(), AllocError>
-    ensures { IfOk result (λ _. lists.new.items ≡ lists.old.items ++ lists_of name.now (needed requirement ∷ [])) }
+    ensures { IfOk result (λ _. lists.new.items ≡ lists.old.items ++ option_to_list list) }
 {
-    if same_name(requirement.name.as_str(), name) {
-        lists.push(requirement.specifiers)?;
+    match list {
+        Some(list) => Ok(lists.push(list)?),
+        None => Ok(()),
     }
-    Ok(())
 }
 
 /// The lists of the lines of that name.
@@ -74,8 +76,8 @@ fn read_lists(
     let mut lists = Vec::new(alloc);
     let mut lines = Lines::new(input);
     while let Some((line, later)) = lines.next_line() {
-        let requirement = read_requirement(alloc, line)?;
-        add_list(&mut lists, name, requirement)?;
+        let list = read_specifiers(alloc, name, line)?;
+        push_list(&mut lists, list)?;
         lines = later;
     }
     Ok(lists)
