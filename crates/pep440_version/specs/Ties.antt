@@ -1,7 +1,7 @@
 -- Records that tie have the same key, but for zeros at the end of the release; so they feed a hasher alike.
 use Rattle.std.specs.Hash.{u64}
 use Rattle.std.proofs.Common.{◌≡◌, ◌==◌, ℕ, List, ◌++◌, refl, sym, ap, ◌∙◌, true, cond}
-use Rattle.std.specs.Ordering.{nat_cmp, on, ordering_then, eq_by_cmp, is_eq}
+use Rattle.std.specs.Ordering.{nat_cmp, ordering_then, eq_by_cmp, is_eq}
 use Rattle.std.proofs.lemmas.Bool.{true≢false}
 use Rattle.std.specs.Cmp.{Equal-is}
 use Rattle.std.specs.Cmp.Lexicographic.{slice_cmp}
@@ -9,15 +9,11 @@ use Rattle.std.specs.FinMap.{nat_cmp-IsAntisymmetric, slice_cmp-IsAntisymmetric}
 use Rattle.std.specs.declared.cmp.Ordering.{Ordering}
 use Rattle.std.specs.declared.cmp.Ordering.TheVariants.{Less, Equal, Greater}
 use Rattle.pep440_version.specs.declared.prerelease.PrereleaseKind.TheVariants.{Alpha, Beta, Rc}
-use Rattle.pep440_version.specs.Feed.{feed, feed_numbers, feed_stage, feed_post, feed_dev, feed_local, feed_segment, feed_kind, feed_prerelease}
-use Rattle.pep440_version.specs.Key.{Key, key, key_cmp, record_cmp, Stage, Min, Dev, Pre, Final, PostPlace, NoPost, PostAt, PostTop, DevPlace, DevAt, NoDev, stage_cmp, stage_place, post_cmp, post_place, dev_cmp, dev_place, segment_cmp, kind_rank, kind_cmp, prerelease_cmp}
+use Rattle.pep440_version.specs.Feed.{feed, feed_numbers, feed_stage, feed_post, feed_dev, feed_local}
+use Rattle.pep440_version.specs.Key.{Key, key, key_cmp, record_cmp, Stage, Min, Dev, Pre, Final, PostPlace, NoPost, PostAt, PostTop, DevPlace, DevAt, NoDev, stage_cmp, stage_place, post_cmp, post_place, dev_cmp, dev_place, segment_cmp}
 use Rattle.pep440_version.specs.KeyLaws.{release_cmp-trim, segment_cmp-places, segment_rank, segment_text, segment_number}
 use Rattle.pep440_version.specs.Record.{Record, Segment, Text, Number}
-use Rattle.pep440_version.specs.Segments.{segment}
 use Rattle.pep440_version.specs.Trim.{trim}
-use Rattle.pep440_version.specs.declared.segment.LocalSegment.{LocalSegment}
-use Rattle.pep440_version.specs.declared.prerelease.PrereleaseKind.{PrereleaseKind}
-use Rattle.pep440_version.specs.declared.prerelease.Prerelease.{Prerelease}
 
 -- both parts of a comparison that ties tie
 first : (r s : Ordering) → ordering_then r s ≡ Equal → r ≡ Equal
@@ -128,28 +124,3 @@ pub feeds_alike : (x y : Record) → eq_by_cmp record_cmp x y ≡ true → feed 
 feeds_alike x y e =
     let t = ties (key x) (key y) ((Equal-is (record_cmp x y)).0 e) in
     λ i. u64 (t.epoch i) ++ feed_numbers (t.release i) ++ feed_stage (t.stage i) ++ feed_post (t.post i) ++ feed_dev (t.dev i) ++ feed_local (t.local i)
-
-pub segments_feed_alike : (x y : LocalSegment) → eq_by_cmp (on segment segment_cmp) x y ≡ true → feed_segment (segment x) ≡ feed_segment (segment y)
-segments_feed_alike x y e = ap feed_segment (same_segment (segment x) (segment y) ((Equal-is (on segment segment_cmp x y)).0 e))
-
-kind_from : ℕ → PrereleaseKind
-kind_from rank = cond (rank == 0) Alpha (cond (rank == 1) Beta Rc)
-
-kind_back : (k : PrereleaseKind) → kind_from (kind_rank k) ≡ k
-unfolding kind_from
-kind_back Alpha = refl
-kind_back Beta = refl
-kind_back Rc = refl
-
-same_kind : (x y : PrereleaseKind) → kind_cmp x y ≡ Equal → x ≡ y
-same_kind x y e = sym (kind_back x) ∙ ap kind_from (same_number _ _ e) ∙ kind_back y
-
-pub kinds_feed_alike : (x y : PrereleaseKind) → eq_by_cmp kind_cmp x y ≡ true → feed_kind x ≡ feed_kind y
-kinds_feed_alike x y e = ap feed_kind (same_kind x y ((Equal-is (kind_cmp x y)).0 e))
-
-pub prereleases_feed_alike : (x y : Prerelease) → eq_by_cmp prerelease_cmp x y ≡ true → feed_prerelease x ≡ feed_prerelease y
-prereleases_feed_alike x y e =
-    let t = (Equal-is (prerelease_cmp x y)).0 e in
-    let kind = same_kind x.kind y.kind (first _ _ t) in
-    let number = same_number x.number y.number (second _ _ t) in
-    λ i. feed_kind (kind i) ++ u64 (number i)

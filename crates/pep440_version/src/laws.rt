@@ -7,13 +7,15 @@ ghost use Rattle.pep440_version.specs.Print.{print};
 ghost use Rattle.pep440_version.specs.Record.{Record, IsRecord};
 ghost use Rattle.pep440_version.specs.Refusals.{PatternRefusal, Refusal, Refuses, RefusesPattern};
 ghost use Rattle.pep440_version.specs.Reread.{Rereads};
-ghost use Rattle.pep440_version.specs.Key.{record_cmp};
+ghost use Rattle.pep440_version.specs.Key.{kind_rank, record_cmp};
 ghost use Rattle.pep440_version.specs.Whole.{read_version, read_pattern};
 ghost use Rattle.pep440_version.specs.Word.{is_packed, word};
 ghost use Rattle.std.specs.Option.{option_copied};
-ghost use Rattle.std.specs.Ordering.{nat_cmp};
+ghost use Rattle.std.specs.Ordering.{nat_cmp, ordering_then};
 
+use crate::prerelease::Prerelease;
 use crate::version::Version;
+use std::cmp::Ordering;
 
 /// The word of the version, where its record is packed. It is lent out of the version, which keeps it. Of any other
 /// version None.
@@ -23,6 +25,13 @@ pub fn word(version: &Version) -> Option<&u64>
     ensures { option_copied result ≡ (if is_packed version.now then Some (word version.now) else None) }
 {
     version.word()
+}
+
+/// The order of two pre-releases: by kind, `Alpha` before `Beta` before `Rc`, and then by number.
+pub fn cmp_prereleases(a: &Prerelease, b: &Prerelease) -> Ordering
+    ensures { result ≡ ordering_then (nat_cmp (kind_rank a.now.kind) (kind_rank b.now.kind)) (nat_cmp a.now.number b.now.number) }
+{
+    a.cmp(b)
 }
 
 /// Of packed records the words are in the order of the keys, and equal exactly where the keys are.
