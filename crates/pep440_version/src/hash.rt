@@ -1,13 +1,11 @@
 //! What is given to a hasher: the key, so that equal values are hashed alike.
 ghost use Rattle.std.specs.Prelude.{◌≡◌, length, take, map};
-ghost use Rattle.std.proofs.Common.{rules};
-ghost use Rattle.std.specs.Cmp.Rules.{hashing};
 ghost use Rattle.std.specs.Hash as fed;
 ghost use Rattle.std.specs.List.{flat_map, fold};
 ghost use Rattle.pep440_version.specs.Feed.{feed, feed_kind, feed_prerelease, feed_numbers, feed_stage, feed_post, feed_dev, feed_segment, feed_local};
 ghost use Rattle.pep440_version.specs.Key.{key};
 ghost use Rattle.pep440_version.specs.Segments.{segment};
-ghost use Rattle.pep440_version.specs.Ties.{feeds_alike};
+ghost use Rattle.pep440_version.specs.Ties.{feeds_alike, segments_feed_alike, kinds_feed_alike, prereleases_feed_alike};
 
 use crate::key::{Place, trimmed};
 use crate::prerelease::{Prerelease, PrereleaseKind};
@@ -18,7 +16,7 @@ use std::hash::{Hash, Hasher};
 impl Hash for PrereleaseKind {
     ghost hash_input = { feed_kind };
 
-    ghost respects_eq = { Prim.search (hashing, rules) };
+    ghost respects_eq = { kinds_feed_alike };
 
     fn hash<H: Hasher>(&self, state: &mut H) {
         match self {
@@ -32,7 +30,7 @@ impl Hash for PrereleaseKind {
 impl Hash for Prerelease {
     ghost hash_input = { feed_prerelease };
 
-    ghost respects_eq = { Prim.search (hashing, rules) };
+    ghost respects_eq = { prereleases_feed_alike };
 
     fn hash<H: Hasher>(&self, state: &mut H) {
         self.kind.hash(state);
@@ -43,7 +41,7 @@ impl Hash for Prerelease {
 impl Hash for LocalSegment {
     ghost hash_input = { λ s. feed_segment (segment s) };
 
-    ghost respects_eq = { Prim.search (hashing, rules) };
+    ghost respects_eq = { segments_feed_alike };
 
     fn hash<H: Hasher>(&self, state: &mut H) {
         match self {
