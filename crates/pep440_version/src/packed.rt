@@ -1,6 +1,6 @@
 //! A version in one word: its release, and the one suffix that it may have.
 ghost use Rattle.std.specs.Prelude.{◌≡◌, ◌+◌, ◌*◌, ◌^◌, ◌<◌, ◌≤◌, ◌&&◌, nat_le, true, false, None, length, slice_index, IfSome, IfNone, if◌then◌else◌};
-ghost use Rattle.pep440_version.specs.Form.{IsWord, class_in, full_record, number_in, number_of_class, packed_record, pre_at};
+ghost use Rattle.pep440_version.specs.Form.{IsWord, class_in, class_of_field, full_record, number_in, number_of_class, packed_record, pre_at, word_with, word_with_number};
 ghost use Rattle.pep440_version.specs.Record.{of_release};
 ghost use Rattle.pep440_version.specs.Word.{is_packed, is_short, suffix};
 
@@ -24,6 +24,18 @@ const NONE: u64 = 5;
 const POST: u64 = 6;
 
 const MAX: u64 = 7;
+
+// The greatest number of a suffix.
+const GREATEST: u64 = 2097151;
+
+// The fields that are a number, each with a class of its own.
+#[derive(Clone, Copy)]
+pub(crate) enum Field {
+    Min,
+    Dev,
+    Post,
+    Max,
+}
 
 // How many release numbers there are, the word, and the numbers that it stands for.
 pub(crate) struct Packed {
@@ -94,6 +106,50 @@ pub(crate) fn max_in(word: u64) -> Option<u64>
     ensures { result ≡ number_of_class 7 (class_in word) (number_in word) }
 {
     number_of_class(MAX, word)
+}
+
+fn class_of_field(field: Field) -> u64
+    ensures { result ≡ class_of_field field }
+{
+    match field {
+        Field::Min => MIN,
+        Field::Dev => DEV,
+        Field::Post => POST,
+        Field::Max => MAX,
+    }
+}
+
+// The word with this suffix in place of its own.
+fn replace_suffix(word: u64, class: u64, number: u64) -> u64
+    requires class { class < 8 }
+    requires number { number ≤ 2097151 }
+    ensures { result ≡ word_with word class number }
+{
+    (word >> 24 << 3 | class) << 21 | number
+}
+
+// The word with this number in the field, where it has no suffix of another class.
+pub(crate) fn replace_number(word: u64, field: Field, number: Option<u64>) -> Option<u64>
+    ensures { result ≡ word_with_number word (class_of_field field) number }
+{
+    let class = class_of_field(field);
+    let own = class_in(word);
+    match number {
+        Some(number) => {
+            if number <= GREATEST && (own == NONE || own == class) {
+                Some(replace_suffix(word, class, number))
+            } else {
+                None
+            }
+        }
+        None => {
+            if own == class {
+                Some(replace_suffix(word, NONE, 0))
+            } else {
+                Some(word)
+            }
+        }
+    }
 }
 
 // The class and the number of the one suffix that is there; None where there are more.
