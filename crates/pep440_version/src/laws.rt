@@ -22,8 +22,8 @@ ghost use Rattle.std.specs.Ordering.{nat_cmp};
 
 use crate::version::Version;
 
-/// The word of the version, where it is held in one: exactly where its record is packed. It is lent out of the
-/// version, which keeps it. Of any other version None.
+/// The word of the version, where its record is packed. It is lent out of the version, which keeps it. Of any other
+/// version None.
 ///
 /// Takes no memory.
 pub fn word(version: &Version) -> Option<&u64>

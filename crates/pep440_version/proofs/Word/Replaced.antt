@@ -1,11 +1,11 @@
 -- A word with another suffix shows the record with that suffix.
-use Rattle.std.proofs.Common.{◌≡◌, ◌==◌, ◌≤◌, ◌<◌, ℕ, ◌+◌, ◌*◌, ◌/◌, ◌^◌, ◌&&◌, ◌||◌, ◌∙◌, ◌⊎◌, inl, inr, refl, sym, subst, ap, arith, List, take, slice_index, Bool, true, false, Option, Some, None, unwrap_or, if◌then◌else◌, nat_le, IfSome}
+use Rattle.std.proofs.Common.{◌≡◌, ◌==◌, ◌≤◌, ◌<◌, ℕ, ◌+◌, ◌*◌, ◌/◌, ◌^◌, ◌&&◌, ◌||◌, ◌∙◌, ◌⊎◌, inl, inr, refl, sym, subst, ap, arith, List, take, slice_index, Bool, true, false, Option, Some, None, unwrap_or, if◌then◌else◌, nat_le}
 use Rattle.std.proofs.lemmas.Bool.Decides.{nat_tests}
 use Rattle.std.proofs.lemmas.Nat.{div-mul-add}
 use Rattle.pep440_version.specs.declared.packed.Field.{Field}
 use Rattle.pep440_version.specs.declared.packed.Field.TheVariants as field
 use Rattle.pep440_version.specs.Form.{IsWord, class_in, class_of_field, number_in, packed_record, record_in, with_field, word_with, word_with_number}
-use Rattle.pep440_version.specs.Record.{Fits, IsRecord, Record}
+use Rattle.pep440_version.specs.Record.{Record}
 use Rattle.pep440_version.specs.Word.{is_packed, is_short, suffix, word, word_of}
 use Rattle.pep440_version.proofs.Word.Order.{word_at}
 use Rattle.pep440_version.proofs.Word.Packed.{below, both, packed, same}

@@ -1,5 +1,5 @@
-use Rattle.std.proofs.Common.{◌≡◌, ◌∙◌, ℕ, Some, ap, subst, sym}
-use Rattle.pep440_version.specs.Form.{IsForm, IsWord, class_of_field, form_record, packed_record, with_field, word_with_number}
+use Rattle.std.proofs.Common.{◌≡◌, ◌∙◌, Some, ap, subst, sym}
+use Rattle.pep440_version.specs.Form.{IsForm, IsWord, class_of_field, form_record, with_field, word_with_number}
 use Rattle.pep440_version.proofs.Word.Replaced.{number_is_set}
 use Rattle.pep440_version.proofs.version.Version.with_number.Goals as goal
 
