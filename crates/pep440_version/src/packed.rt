@@ -48,6 +48,7 @@ pub(crate) struct Packed {
     pub(crate) numbers: [u64; 4],
 }
 
+#[inline(always)]
 fn class_in(word: u64) -> u64
     ensures { result ≡ class_in word }
 {
@@ -112,6 +113,7 @@ pub(crate) fn max_in(word: u64) -> Option<u64>
     number_of_class(MAX, word)
 }
 
+#[inline(always)]
 fn class_of_field(field: Field) -> u64
     ensures { result ≡ class_of_field field }
 {
@@ -124,6 +126,7 @@ fn class_of_field(field: Field) -> u64
 }
 
 // The word with this suffix in place of its own.
+#[inline(always)]
 fn replace_suffix(word: u64, class: u64, number: u64) -> u64
     requires class { class < 8 }
     requires number { number ≤ 2097151 }
@@ -133,6 +136,7 @@ fn replace_suffix(word: u64, class: u64, number: u64) -> u64
 }
 
 // The word with this number in the field, where it has no suffix of another class.
+#[inline(always)]
 pub(crate) fn replace_number(word: u64, field: Field, number: Option<u64>) -> Option<u64>
     ensures { result ≡ word_with_number word (class_of_field field) number }
 {

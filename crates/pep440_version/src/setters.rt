@@ -59,6 +59,7 @@ impl Version {
     /// The version with this post-release number, or without one.
     ///
     /// Takes memory only where the answer is not packed.
+    #[inline(always)]
     pub fn with_post(self, alloc: Global, post: Option<u64>) -> Result<Version, AllocError>
         ensures value { IfOk result (λ v. v ≡ record self { post = post }) }
         ensures memory { is_packed (record self { post = post }) ≡ true → IsOk result }
@@ -74,6 +75,7 @@ impl Version {
     /// The version with this developmental number, or without one.
     ///
     /// Takes memory only where the answer is not packed.
+    #[inline(always)]
     pub fn with_dev(self, alloc: Global, dev: Option<u64>) -> Result<Version, AllocError>
         ensures value { IfOk result (λ v. v ≡ record self { dev = dev }) }
         ensures memory { is_packed (record self { dev = dev }) ≡ true → IsOk result }
@@ -135,6 +137,7 @@ impl Version {
     /// developmental part, also where the mark is taken away; `any_prerelease` is the test.
     ///
     /// Takes memory only where the answer is not packed.
+    #[inline(always)]
     pub fn with_min(self, alloc: Global, min: Option<u64>) -> Result<Version, AllocError>
         requires no_pre { self.pre ≡ None }
         requires no_dev { self.dev ≡ None }
@@ -153,6 +156,7 @@ impl Version {
     /// developmental part, also where the mark is taken away; `is_post` and `is_dev` are the tests.
     ///
     /// Takes memory only where the answer is not packed.
+    #[inline(always)]
     pub fn with_max(self, alloc: Global, max: Option<u64>) -> Result<Version, AllocError>
         requires no_post { self.post ≡ None }
         requires no_dev { self.dev ≡ None }
