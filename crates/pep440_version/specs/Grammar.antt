@@ -77,7 +77,7 @@ IsSpelling (s ∷ rest) word a = ((map to_ascii_lowercase word ≡ s.0) × (a �
 
 -- a part that is spelled: separator, spelling, separator, count, where all but the spelling may be missing;
 -- what comes after the part is given. A separator directly after the spelling belongs to the part, and so do
--- digits that then stand there.
+-- digits that then stand there: so the part `-RC_2` is `-`, `RC`, `_` and `2`, and stands for Rc and 2; `rc` alone, for Rc and 0.
 pub record IsSpelled {A : Type 0} (table : Spellings A) (part after : List ℕ) (a : A) (n : ℕ) : Type 0 where
   pub before : List ℕ
   pub word : List ℕ

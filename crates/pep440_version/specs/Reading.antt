@@ -48,6 +48,12 @@ release_at zero text = Ok ([], text)
 release_at (suc more) text = number_at text >>= λ n.
     if goes_on n.1 then (release_at more (drop 1 n.1) >>= λ rest. Ok (n.0 ∷ rest.0, rest.1)) else Ok (n.0 ∷ [], n.1)
 
+-- a text and what stands at its end
+abbrev pub EndsWith : List ℕ → List ℕ → Type 0
+EndsWith text rest = (front : List ℕ) × (text ≡ front ++ rest)
+
+-- ---- a release in turn, as the code reads it: after its first number
+
 -- the numbers that go on a release
 abbrev pub more_at : ℕ → List ℕ → Read (List ℕ × List ℕ)
 more_at k text = if goes_on text then release_at k (drop 1 text) else Ok ([], text)
@@ -55,7 +61,3 @@ more_at k text = if goes_on text then release_at k (drop 1 text) else Ok ([], te
 -- a release, after its first number
 abbrev pub release_from : ℕ → List ℕ → Read (List ℕ × List ℕ)
 release_from first text = more_at (length text) text >>= λ x. Ok (first ∷ x.0, x.1)
-
--- a text and what stands at its end
-abbrev pub EndsWith : List ℕ → List ℕ → Type 0
-EndsWith text rest = (front : List ℕ) × (text ≡ front ++ rest)

@@ -52,15 +52,15 @@ pre_at text = suffix_at pre_spellings text >>= λ x. Ok (prerelease_of x.0, x.1)
 abbrev pub is_bare_post : List ℕ → Bool
 is_bare_post text = starts (λ b. b == 45) text && starts_number (drop 1 text)
 
+-- a post-release that is spelled
+abbrev pub spelled_post_at : List ℕ → Read (Option ℕ × List ℕ)
+spelled_post_at text = suffix_at post_spellings text >>= λ x. Ok (number_of x.0, x.1)
+
 -- a post-release, or nothing
 abbrev pub post_at : List ℕ → Read (Option ℕ × List ℕ)
 post_at text = if is_bare_post text then (number_at (drop 1 text) >>= λ n. Ok (Some n.0, n.1))
-    else (suffix_at post_spellings text >>= λ x. Ok (number_of x.0, x.1))
+    else spelled_post_at text
 
 -- a developmental release, or nothing
 abbrev pub dev_at : List ℕ → Read (Option ℕ × List ℕ)
 dev_at text = suffix_at dev_spellings text >>= λ x. Ok (number_of x.0, x.1)
-
--- a post-release that is spelled
-abbrev pub spelled_post_at : List ℕ → Read (Option ℕ × List ℕ)
-spelled_post_at text = suffix_at post_spellings text >>= λ x. Ok (number_of x.0, x.1)

@@ -69,6 +69,8 @@ version_of (Err WildcardNotTrailing) = Err Wildcard
 abbrev pub read_version : List ℕ → Read Record
 read_version text = version_of (read_pattern text)
 
+-- ---- a release in turn, as the code reads it
+
 -- epoch and release, after the first number
 abbrev pub release_after_first : ℕ → ℕ → List ℕ → Read ((ℕ × List ℕ) × List ℕ)
 release_after_first epoch first text = release_from first text >>= λ x. Ok ((epoch, x.0), x.1)
