@@ -32,13 +32,13 @@ pub(crate) struct Packed {
     pub(crate) numbers: [u64; 4],
 }
 
-fn class_in(word: u64) -> u64
+pub(crate) fn class_in(word: u64) -> u64
     ensures { result ≡ class_in word }
 {
     word >> 21 & 7
 }
 
-fn number_in(word: u64) -> u64
+pub(crate) fn number_in(word: u64) -> u64
     ensures { result ≡ number_in word }
 {
     word & 0x1f_ffff

@@ -98,7 +98,7 @@ impl Version {
     }
 
     // The form of a record in one word.
-    fn of_packed(packed: Packed) -> Version
+    pub(crate) fn of_packed(packed: Packed) -> Version
         requires valid { IsRecord (packed_record packed.count packed.word packed.numbers) }
         requires word { IsWord packed.count packed.word packed.numbers }
         ensures { result ≡ packed_record packed.count packed.word packed.numbers }
