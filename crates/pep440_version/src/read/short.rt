@@ -2,10 +2,8 @@
 ghost use Rattle.std.specs.Prelude.{◌≡◌, IfSome};
 ghost use Rattle.pep440_version.specs.Grammar.{Derives};
 
+use crate::packed::MAX_FIRST_NUMBER;
 use crate::version::Version;
-
-// The greatest number that a packed release may begin with; no later one is greater.
-const GREATEST: u64 = 65535;
 
 // What the text means, where it is one to four small numbers joined by single dots and nothing else; None says nothing.
 #[inline(always)]
@@ -20,7 +18,7 @@ pub(crate) fn short_version(text: &str) -> Option<Version>
         if byte.is_ascii_digit() {
             number = number * 10 + u64::from(*byte - b'0');
             is_open = false;
-            if number > GREATEST {
+            if number > MAX_FIRST_NUMBER {
                 return None;
             }
         } else {

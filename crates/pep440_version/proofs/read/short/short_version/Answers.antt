@@ -1,17 +1,17 @@
 use Rattle.std.proofs.Common.{◌<◌, ◌∙◌, length, take, arith, sym, subst}
 use Rattle.std.proofs.lemmas.List.{take_more_set, drop_all, length-set}
 use Rattle.pep440_version.proofs.Reading.ShortReleases.{Goes, of_short, digit_at, dot_at, at_end}
-use Rattle.pep440_version.proofs.read.short.short_version.Goals.{then-is_ascii_digit+else-number-gt-GREATEST, else-is_ascii_digit+else-byte-ne46+else-is_open+else-count-eq3}
+use Rattle.pep440_version.proofs.read.short.short_version.Goals.{then-is_ascii_digit+else-number-gt-MAX_FIRST_NUMBER, else-is_ascii_digit+else-byte-ne46+else-is_open+else-count-eq3}
 use Rattle.pep440_version.proofs.read.short.short_version.Goals as goal
 
 pub loop-byte-preserved : goal.loop-byte-preserved
 loop-byte-preserved c = elim c.if-is_ascii_digit.branch [
-  | then-is_ascii_digit+else-number-gt-GREATEST w ↦
+  | then-is_ascii_digit+else-number-gt-MAX_FIRST_NUMBER w ↦
       let digit = sym c.is_ascii_digit.ensures.value ∙ w.if-is_ascii_digit.true in
       rw (w.numbers-is, w.count-is, w.is_open-is, w.number-is, w.from.ensures) (
         c.loop-byte.invariant.0,
         c.loop-byte.invariant.1,
-        rw (sym w.from.ensures) w.if-number-gt-GREATEST.false,
+        rw (sym w.from.ensures) w.if-number-gt-MAX_FIRST_NUMBER.false,
         digit_at c.args.text.now _ c.as_bytes-byte-items.result.now c.loop-byte.byte-index c.loop-byte.number c.loop-byte.is_open c.loop-byte-test.true c.loop-byte.invariant.3 digit,
       )
   | else-is_ascii_digit+else-byte-ne46+else-is_open+else-count-eq3 w ↦
