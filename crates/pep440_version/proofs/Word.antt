@@ -4,3 +4,4 @@ pub mod Packed
 pub mod Order
 pub mod Shown
 pub mod Replaced
+pub mod Exact

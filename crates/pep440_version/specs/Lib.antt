@@ -6,6 +6,7 @@ pub mod Segments
 pub mod Inline
 pub mod Word
 pub mod Form
+pub mod WordParts
 pub mod Print
 pub mod Grammar
 pub mod Reading

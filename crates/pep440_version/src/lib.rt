@@ -22,6 +22,7 @@ mod read;
 mod segment;
 mod setters;
 mod version;
+pub mod words;
 
 pub use change::{Change, ChangeError};
 pub use error::{ErrorKind, PatternErrorKind, VersionParseError, VersionPatternParseError};

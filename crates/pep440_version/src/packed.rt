@@ -49,13 +49,13 @@ pub(crate) struct Packed {
 }
 
 #[inline(always)]
-fn class_in(word: u64) -> u64
+pub(crate) fn class_in(word: u64) -> u64
     ensures { result ≡ class_in word }
 {
     word >> 21 & 7
 }
 
-fn number_in(word: u64) -> u64
+pub(crate) fn number_in(word: u64) -> u64
     ensures { result ≡ number_in word }
 {
     word & MAX_SUFFIX_NUMBER

@@ -99,7 +99,7 @@ impl Version {
 
     // The version that is packed so.
     #[inline(always)]
-    fn of_packed(packed: Packed) -> Version
+    pub(crate) fn of_packed(packed: Packed) -> Version
         requires valid { IsRecord (packed_record packed.count packed.word packed.numbers) }
         requires word { IsWord packed.count packed.word packed.numbers }
         ensures { result ≡ packed_record packed.count packed.word packed.numbers }
