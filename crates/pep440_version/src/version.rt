@@ -1,10 +1,10 @@
 //! The type `Version`: how one is made, and its parts.
-ghost use Rattle.std.specs.Prelude.{◌≡◌, ◌<◌, ◌||◌, ◌↔◌, [], ◌∷◌, length, Some, None, IfNone, IfOk, IfSome, IsOk, IsTrue, map, is_some, is_none, if◌then◌else◌, true, false};
+ghost use Rattle.std.specs.Prelude.{◌≡◌, ◌<◌, ◌||◌, ◌↔◌, [], ◌∷◌, length, Some, None, IfOk, IfSome, IsOk, IsTrue, map, is_some, is_none, if◌then◌else◌, true, false};
 ghost use Rattle.std.specs.List.{All};
 ghost use Rattle.pep440_version.specs.Form.{IsWord, full_record, packed_record};
 ghost use Rattle.pep440_version.specs.Record.{of_parts, of_release, zero_alpha_dev, IsRecord, SegmentFits};
 ghost use Rattle.pep440_version.specs.Segments.{segment};
-ghost use Rattle.pep440_version.specs.Word.{is_packed, is_short, word};
+ghost use Rattle.pep440_version.specs.Word.{is_packed, word};
 ghost use Rattle.std.specs.Option.{option_copied};
 
 use crate::full::Full;
@@ -98,7 +98,7 @@ impl Version {
     }
 
     // The form of a record in one word.
-    fn of_packed(packed: Packed) -> Version
+    pub(crate) fn of_packed(packed: Packed) -> Version
         requires valid { IsRecord (packed_record packed.count packed.word packed.numbers) }
         requires word { IsWord packed.count packed.word packed.numbers }
         ensures { result ≡ packed_record packed.count packed.word packed.numbers }
@@ -115,17 +115,6 @@ impl Version {
                 numbers,
             },
         }
-    }
-
-    // The version that is this release alone, where it fits in one word.
-    pub(crate) fn of_short(release: &[u64]) -> Option<Version>
-        requires { 0 < length release.now }
-        ensures none { IfNone result (is_short release.now ≡ false) }
-        ensures some { IfSome result (λ v. v ≡ of_release release.now) }
-    {
-        known_numbers(release);
-        let packed = Packed::of_release(release)?;
-        Some(Version::of_packed(packed))
     }
 
     // Each part, to be changed.
