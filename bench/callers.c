@@ -13,14 +13,14 @@
 static uint8_t out[256];
 static size_t written;
 static int8_t order;
-static bool is;
+static uint8_t is;
 static pep440_parts parts;
 static uint64_t release[16];
 
 static uint8_t normalize(void) { return pep440_normalize(TEXT("1.2.3"), out, sizeof out, &written); }
 static uint8_t normalize_longer(void) { return pep440_normalize(TEXT(LONGER), out, sizeof out, &written); }
 static uint8_t normalize_list(void) { return pep440_normalize_list(TEXT(LIST), out, sizeof out, &written); }
-static uint8_t refusal(void) { return pep440_refusal(TEXT("1.0prev"), out, sizeof out, &written); }
+static uint8_t version_error(void) { return pep440_version_error(TEXT("1.0prev"), out, sizeof out, &written); }
 static uint8_t compare(void) { return pep440_compare(TEXT("1.2.3"), TEXT("1.2.4"), &order); }
 static uint8_t compare_longer(void) { return pep440_compare(TEXT(LONGER), TEXT("1!2.0rc1.post2"), &order); }
 static uint8_t contains(void) { return pep440_contains(TEXT(LIST), TEXT("1.2.3"), &is); }
@@ -35,30 +35,30 @@ static const struct {
     const char *name;
     uint8_t (*call)(void);
     uint8_t wanted;
-} CALLS[] = {{"normalize", normalize, PEP440_ANSWERED},           {"normalize_longer", normalize_longer, PEP440_ANSWERED},
-             {"normalize_list", normalize_list, PEP440_ANSWERED}, {"refusal", refusal, PEP440_ANSWERED},
-             {"compare", compare, PEP440_ANSWERED},               {"compare_longer", compare_longer, PEP440_ANSWERED},
-             {"contains", contains, PEP440_ANSWERED},             {"contains_one", contains_one, PEP440_ANSWERED},
-             {"any_prerelease", any_prerelease, PEP440_ANSWERED}, {"parts_of", parts_of, PEP440_ANSWERED},
-             {"sort_key", sort_key, PEP440_ANSWERED},             {"sort_key_longer", sort_key_longer, PEP440_ANSWERED},
-             {"ranges", ranges, PEP440_ANSWERED}};
+} CALLS[] = {{"normalize", normalize, PEP440_OK},           {"normalize_longer", normalize_longer, PEP440_OK},
+             {"normalize_list", normalize_list, PEP440_OK}, {"version_error", version_error, PEP440_OK},
+             {"compare", compare, PEP440_OK},               {"compare_longer", compare_longer, PEP440_OK},
+             {"contains", contains, PEP440_OK},             {"contains_one", contains_one, PEP440_OK},
+             {"any_prerelease", any_prerelease, PEP440_OK}, {"parts_of", parts_of, PEP440_OK},
+             {"sort_key", sort_key, PEP440_OK},             {"sort_key_longer", sort_key_longer, PEP440_OK},
+             {"ranges", ranges, PEP440_OK}};
 
 /* Versions of three numbers, scrambled: one in eight each with a pre-release, a post-release and a dev. */
-static pep440_text *some_texts(size_t how_many)
+static pep440_string *some_texts(size_t how_many)
 {
     static const char *const suffixes[] = {"", "rc%d", ".post%d", ".dev%d", "", "", "", ""};
-    pep440_text *made = calloc(how_many + 1, sizeof *made);
+    pep440_string *made = calloc(how_many + 1, sizeof *made);
     for (size_t place = 0; place < how_many; place++) {
         size_t number = place * 7919 % 1000003;
         char *text = malloc(64);
         int length = sprintf(text, "%zu.%zu.%zu", number % 5, number / 5 % 40, number / 200 % 30);
         length += sprintf(text + length, suffixes[number % 8], (int)(number % 4));
-        made[place] = (pep440_text){(const uint8_t *)text, (size_t)length};
+        made[place] = (pep440_string){(const uint8_t *)text, (size_t)length};
     }
     return made;
 }
 
-static pep440_text *texts;
+static pep440_string *texts;
 static size_t *places, count, at;
 static uint8_t *room;
 
@@ -69,7 +69,7 @@ static void make(void)
     room = calloc(count + 1, 64);
 }
 
-static uint8_t nothing(void) { return PEP440_ANSWERED; }
+static uint8_t nothing(void) { return PEP440_OK; }
 
 static uint8_t filter(void) { return pep440_filter(TEXT(LIST), texts, count, room, count); }
 static uint8_t sort(void) { return pep440_sort(texts, count, places, count, &at); }
@@ -97,7 +97,7 @@ static int run(const char *name, struct timespec *start)
             continue;
         make();
         clock_gettime(CLOCK_MONOTONIC, start);
-        return BATCHES[which].call() == PEP440_ANSWERED;
+        return BATCHES[which].call() == PEP440_OK;
     }
     return 0;
 }

@@ -1,4 +1,5 @@
-/* What a C program does with versions; it holds each answer against what PEP 440 wants, and ends with 0 where all are right.
+/* What a C program does with versions; it holds each result against what PEP 440 wants, and ends with 0 where all are right.
+   What a call writes to is uninitialized before, which the header allows: valgrind finds no use of such bytes.
 
    cc -I callers/c callers/c/example.c crates/pep440_c/out/libpep440_c.a KIT/c/liblibc_c.a */
 #include <stdio.h>
@@ -7,7 +8,7 @@
 
 #include "pep440.h"
 
-/* A text that ends in a zero, as the bytes and the length that a call takes. */
+/* A string that ends in a zero, as the bytes and the length that a call takes. */
 #define TEXT(text) (const uint8_t *)(text), strlen(text)
 
 static int wrong;
@@ -25,59 +26,73 @@ static void hold_text(const uint8_t *out, size_t written, const char *wanted)
     hold(written == strlen(wanted) && memcmp(out, wanted, written) == 0, wanted);
 }
 
-static void print_and_refuse(void)
+static void normalize_and_explain(void)
 {
     uint8_t out[256];
-    size_t written = 0;
-    hold(pep440_normalize(TEXT(" V1!1.0-Alpha.2-3.DEV+Ubuntu-01 "), out, sizeof out, &written) == PEP440_ANSWERED, "normalize");
+    size_t written;
+    hold(pep440_normalize(TEXT(" V1!1.0-Alpha.2-3.DEV+Ubuntu-01 "), out, sizeof out, &written) == PEP440_OK, "normalize");
     hold_text(out, written, "1!1.0a2.post3.dev0+ubuntu.1");
     printf("normal form: %.*s\n", (int)written, (const char *)out);
 
-    /* With too little room the call says how much it takes. */
+    /* With too little room the call writes the length that is needed. */
     hold(pep440_normalize(TEXT("1.0.post1"), out, 3, &written) == PEP440_NO_ROOM && written == 9, "room");
 
-    hold(pep440_normalize(TEXT("1.0prev"), out, sizeof out, &written) == PEP440_VERSION_REFUSED, "refused");
-    hold(pep440_refusal(TEXT("1.0prev"), out, sizeof out, &written) == PEP440_ANSWERED && written > 0, "why");
+    hold(pep440_normalize(TEXT("1.0prev"), out, sizeof out, &written) == PEP440_INVALID_VERSION, "invalid");
+    hold(pep440_version_error(TEXT("1.0prev"), out, sizeof out, &written) == PEP440_OK && written > 0, "why");
     printf("1.0prev: %.*s\n", (int)written, (const char *)out);
-    hold(pep440_refusal(TEXT("1.0"), out, sizeof out, &written) == PEP440_ANSWERED && written == 0, "nothing is refused");
+    hold(pep440_version_error(TEXT("1.0"), out, sizeof out, &written) == PEP440_OK && written == 0, "nothing is wrong");
 
-    hold(pep440_normalize_list(TEXT(">=1.16 ,<2.0"), out, sizeof out, &written) == PEP440_ANSWERED, "normalize_list");
+    hold(pep440_normalize_list(TEXT(">=1.16 ,<2.0"), out, sizeof out, &written) == PEP440_OK, "normalize_list");
     hold_text(out, written, ">=1.16, <2.0");
-    hold(pep440_list_refusal(TEXT(">=1.16; <2.0"), out, sizeof out, &written) == PEP440_ANSWERED && written > 0, "why no list");
+    hold(pep440_list_error(TEXT(">=1.16; <2.0"), out, sizeof out, &written) == PEP440_OK && written > 0, "why no list");
     printf("%.*s", (int)written, (const char *)out);
 }
 
 static void compare_and_match(void)
 {
-    int8_t order = 9;
-    bool is = false;
-    hold(pep440_compare(TEXT("1.0rc1"), TEXT("1.0"), &order) == PEP440_ANSWERED && order == -1, "1.0rc1 < 1.0");
-    hold(pep440_compare(TEXT("1.0"), TEXT("1.0.0"), &order) == PEP440_ANSWERED && order == 0, "1.0 == 1.0.0");
-    hold(pep440_compare(TEXT("1.10"), TEXT("1.9"), &order) == PEP440_ANSWERED && order == 1, "1.10 > 1.9");
-    hold(pep440_contains(TEXT(">=1.16, <2.0"), TEXT("1.19"), &is) == PEP440_ANSWERED && is, "contains 1.19");
-    hold(pep440_contains(TEXT(">=1.16, <2.0"), TEXT("2.0a1"), &is) == PEP440_ANSWERED && !is, "does not contain 2.0a1");
-    hold(pep440_contains(TEXT(">=1.16; <2.0"), TEXT("1.19"), &is) == PEP440_LIST_REFUSED, "no list");
-    hold(pep440_contains(TEXT(">=1.16"), TEXT("latest"), &is) == PEP440_VERSION_REFUSED, "no version");
-    hold(pep440_any_prerelease(TEXT(">=1.0, <2.0rc1"), &is) == PEP440_ANSWERED && is, "a pre-release among them");
-    hold(pep440_any_prerelease(TEXT(">=1.0, <2.0"), &is) == PEP440_ANSWERED && !is, "none among them");
+    int8_t order;
+    uint8_t is;
+    hold(pep440_compare(TEXT("1.0rc1"), TEXT("1.0"), &order) == PEP440_OK && order == -1, "1.0rc1 < 1.0");
+    hold(pep440_compare(TEXT("1.0"), TEXT("1.0.0"), &order) == PEP440_OK && order == 0, "1.0 == 1.0.0");
+    hold(pep440_compare(TEXT("1.10"), TEXT("1.9"), &order) == PEP440_OK && order == 1, "1.10 > 1.9");
+    hold(pep440_contains(TEXT(">=1.16, <2.0"), TEXT("1.19"), &is) == PEP440_OK && is == 1, "contains 1.19");
+    hold(pep440_contains(TEXT(">=1.16, <2.0"), TEXT("2.0a1"), &is) == PEP440_OK && is == 0, "does not contain 2.0a1");
+    hold(pep440_contains(TEXT(">=1.0"), TEXT("2.0rc1"), &is) == PEP440_OK && is == 1, "a pre-release is a version like others");
+    hold(pep440_contains(TEXT(">=1.16; <2.0"), TEXT("1.19"), &is) == PEP440_INVALID_LIST, "no list");
+    hold(pep440_contains(TEXT(">=1.16"), TEXT("latest"), &is) == PEP440_INVALID_VERSION, "no version");
+    hold(pep440_any_prerelease(TEXT(">=1.0, <2.0rc1"), &is) == PEP440_OK && is == 1, "a pre-release among them");
+    hold(pep440_any_prerelease(TEXT(">=1.0, <2.0"), &is) == PEP440_OK && is == 0, "none among them");
 }
 
 static void take_apart(void)
 {
     pep440_parts parts;
     uint64_t release[4];
-    uint8_t out[256];
-    size_t written = 0;
-    hold(pep440_parts_of(TEXT("2!1.2.3rc4.post5+ubuntu.1"), &parts, release, 4) == PEP440_ANSWERED, "parts");
+    uint8_t out[256], is;
+    int8_t order;
+    size_t written;
+    hold(pep440_parts_of(TEXT("2!1.2.3rc4.post5+ubuntu.1"), &parts, release, 4) == PEP440_OK, "parts");
     hold(parts.epoch == 2 && parts.release_length == 3 && release[0] == 1 && release[1] == 2 && release[2] == 3, "epoch and release");
-    hold(parts.pre_kind == PEP440_RC && parts.pre == 4 && parts.has_post && parts.post == 5, "suffixes");
-    hold(!parts.has_dev && parts.dev == 0 && parts.has_local, "dev and local");
-    hold(pep440_parts_of(TEXT("1.2.3.4.5"), &parts, release, 4) == PEP440_NO_ROOM && parts.release_length == 5, "no room, and told");
+    hold(parts.pre_kind == PEP440_RC && parts.pre == 4 && parts.has_post == 1 && parts.post == 5, "suffixes");
+    hold(parts.has_dev == 0 && parts.dev == 0 && parts.has_local == 1, "dev and local");
+    hold(pep440_parts_of(TEXT("1.2.3.4.5"), &parts, release, 4) == PEP440_NO_ROOM && parts.release_length == 5, "no room, and how much is needed");
 
     /* The end of this range would have a number that is too big. */
-    hold(pep440_ranges(TEXT("==18446744073709551615.*"), out, sizeof out, &written) == PEP440_LIST_REFUSED, "no range");
-    hold(pep440_ranges(TEXT(">=1.0,<2.0,!=1.5"), out, sizeof out, &written) == PEP440_ANSWERED, "ranges");
+    hold(pep440_ranges(TEXT("==18446744073709551615.*"), out, sizeof out, &written) == PEP440_NUMBER_AT_MAX, "no range");
+    hold(pep440_ranges(TEXT("=1.0"), out, sizeof out, &written) == PEP440_INVALID_LIST, "no list, so no range");
+    hold(pep440_ranges(TEXT(">1.0,<1.0"), out, sizeof out, &written) == PEP440_OK, "no version");
+    hold_text(out, written, "empty\n");
+    hold(pep440_ranges(TEXT(">=1.0,<2.0,!=1.5"), out, sizeof out, &written) == PEP440_OK, "ranges");
+    hold_text(out, written, "[1.0, 1.5)\n(1.5, 2.0~min0)\n");
     printf("the range of >=1.0,<2.0,!=1.5:\n%.*s\n", (int)written, (const char *)out);
+    hold(pep440_ranges(TEXT(">1.0"), out, sizeof out, &written) == PEP440_OK, "a range without an end");
+    hold_text(out, written, "(1.0~max0, *)\n");
+
+    /* The range of a list goes by the order alone, so it ends below a local version that the list contains. */
+    hold(pep440_ranges(TEXT("<=1.0"), out, sizeof out, &written) == PEP440_OK, "a range that ends at 1.0");
+    hold_text(out, written, "(*, 1.0]\n");
+    hold(pep440_contains(TEXT("<=1.0"), TEXT("1.0+cu1"), &is) == PEP440_OK && is == 1, "a local version of 1.0");
+    hold(pep440_compare(TEXT("1.0+cu1"), TEXT("1.0"), &order) == PEP440_OK && order == 1, "which is above 1.0");
 }
 
 static int as_bytes(const uint8_t *left, size_t left_length, const uint8_t *right, size_t right_length)
@@ -89,11 +104,11 @@ static int as_bytes(const uint8_t *left, size_t left_length, const uint8_t *righ
 static void keep_keys(void)
 {
     uint8_t left[64], right[64];
-    size_t left_length = 0, right_length = 0;
-    hold(pep440_sort_key(TEXT("1.9"), left, sizeof left, &left_length) == PEP440_ANSWERED, "a key");
-    hold(pep440_sort_key(TEXT("1.10rc1"), right, sizeof right, &right_length) == PEP440_ANSWERED, "another key");
-    hold(as_bytes(left, left_length, right, right_length) < 0, "keys stand as versions do");
-    hold(pep440_sort_key(TEXT("1.9.0"), right, sizeof right, &right_length) == PEP440_ANSWERED, "a third key");
+    size_t left_length, right_length;
+    hold(pep440_sort_key(TEXT("1.9"), left, sizeof left, &left_length) == PEP440_OK, "a key");
+    hold(pep440_sort_key(TEXT("1.10rc1"), right, sizeof right, &right_length) == PEP440_OK, "another key");
+    hold(as_bytes(left, left_length, right, right_length) < 0, "keys have the order of the versions");
+    hold(pep440_sort_key(TEXT("1.9.0"), right, sizeof right, &right_length) == PEP440_OK, "a third key");
     hold(as_bytes(left, left_length, right, right_length) == 0, "equal versions have one key");
 }
 
@@ -101,27 +116,27 @@ static void many_at_once(void)
 {
     static const char *const given[] = {"1.10", "1.9", "latest", "1.10rc1", "2.0"};
     enum { COUNT = 5 };
-    pep440_text texts[COUNT];
+    pep440_string texts[COUNT];
     uint8_t marks[COUNT];
-    size_t places[COUNT] = {0}, at = 99;
-    static const uint8_t wanted_marks[] = {PEP440_CONTAINED, PEP440_LEFT_OUT, PEP440_REFUSED, PEP440_CONTAINED, PEP440_LEFT_OUT};
-    for (size_t place = 0; place < COUNT; place++)
-        texts[place] = (pep440_text){(const uint8_t *)given[place], strlen(given[place])};
-    hold(pep440_filter(TEXT(">1.9,<2.0"), texts, COUNT, marks, COUNT) == PEP440_ANSWERED, "filter");
+    size_t indices[COUNT], index;
+    static const uint8_t wanted_marks[] = {PEP440_MATCH, PEP440_NO_MATCH, PEP440_NOT_A_VERSION, PEP440_MATCH, PEP440_NO_MATCH};
+    for (size_t at = 0; at < COUNT; at++)
+        texts[at] = (pep440_string){(const uint8_t *)given[at], strlen(given[at])};
+    hold(pep440_filter(TEXT(">1.9,<2.0"), texts, COUNT, marks, COUNT) == PEP440_OK, "filter");
     hold(memcmp(marks, wanted_marks, COUNT) == 0, "marks");
-    hold(pep440_sort(texts, COUNT, places, COUNT, &at) == PEP440_VERSION_REFUSED && at == 2, "the first that is no version");
+    hold(pep440_sort(texts, COUNT, indices, COUNT, &index) == PEP440_INVALID_VERSION && index == 2, "the first that is no version");
     texts[2] = texts[4];
-    hold(pep440_sort(texts, COUNT, places, COUNT, &at) == PEP440_ANSWERED, "sort");
-    hold(places[0] == 1 && places[1] == 3 && places[2] == 0 && places[3] == 2 && places[4] == 4, "places");
+    hold(pep440_sort(texts, COUNT, indices, COUNT, &index) == PEP440_OK, "sort");
+    hold(indices[0] == 1 && indices[1] == 3 && indices[2] == 0 && indices[3] == 2 && indices[4] == 4, "indices");
     printf("in order:");
     for (size_t turn = 0; turn < COUNT; turn++)
-        printf(" %.*s", (int)texts[places[turn]].length, (const char *)texts[places[turn]].bytes);
+        printf(" %.*s", (int)texts[indices[turn]].length, (const char *)texts[indices[turn]].bytes);
     printf("\n");
 }
 
 int main(void)
 {
-    print_and_refuse();
+    normalize_and_explain();
     compare_and_match();
     take_apart();
     keep_keys();

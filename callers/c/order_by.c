@@ -17,9 +17,9 @@ int main(void)
     while (fgets(line, sizeof line, stdin)) {
         size_t length = strcspn(line, "\n");
         uint8_t status = pep440_sort_key((const uint8_t *)line, length, key, sizeof key, &key_length);
-        if (status == PEP440_ANSWERED)
+        if (status == PEP440_OK)
             status = pep440_normalize((const uint8_t *)line, length, text, sizeof text, &written);
-        if (status != PEP440_ANSWERED) {
+        if (status != PEP440_OK) {
             fprintf(stderr, "order_by: %.*s: status %d\n", (int)length, line, status);
             return EXIT_FAILURE;
         }

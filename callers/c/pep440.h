@@ -1,17 +1,27 @@
-/* PEP 440 for C: version numbers of Python packages, read, printed, compared and matched by the proved core.
+/* PEP 440 for C: version numbers of Python packages, parsed, normalized, compared and matched by the proved library.
 
-   A text is its bytes and how many there are; it needs no zero at its end. No pointer may be null, not even where its length is 0.
-   What is written to must not overlap anything else that is passed, and a bool that is written to must hold 0 or 1 before. No call
-   keeps a pointer, and no call ends the process.
+   A string is its bytes and its length; it needs no zero at its end, and bytes that are no UTF-8 are an invalid version or list. Each call
+   returns a status. No call keeps a pointer, and none ends the process.
 
-   Each call returns a status. PEP440_NO_ROOM says that there is less room than the answer takes: nothing of the answer is written, and
-   `written`, where the call has it, says how many bytes it takes. PEP440_OUT_OF_MEMORY says that malloc or realloc refused: the same
-   call may be made again. Where the status is neither PEP440_ANSWERED nor PEP440_NO_ROOM, nothing is written, except `at` of the batches
-   with PEP440_VERSION_REFUSED. */
+   What the caller must keep, for nothing checks it:
+   - No pointer is null, not even where its length is 0 (docs/DECISIONS.md says why), and behind each lies what its length says. For an
+     empty string pass any other pointer, as "".
+   - Each pointer is aligned as its type: a pep440_string, a pep440_parts, a size_t and a uint64_t to 8 bytes.
+   - What a call writes to overlaps nothing else that is passed to it. Strings that it only reads may overlap each other.
+   - While a call runs, nothing else writes to what it reads, or reads or writes what it writes.
+   - malloc, realloc and free come from one allocator, and align a block to each power of two up to 16 that divides its size.
+   - No call is made from a signal handler, or from the forked child of a process with threads.
+
+   What a call writes to may be uninitialized before. Several threads may call at once, each with memory of its own to write to: the
+   library has no state. A call takes at most 16 KiB of stack, whatever the length of what it reads (tested: callers/c/stack.c). The code is
+   for processors of the level x86-64-v2 and above.
+
+   PEP440_NO_ROOM: the result needs more than the buffer has. It is not written; each call below says what is. PEP440_OUT_OF_MEMORY: malloc
+   or realloc failed; the same call may be made again. With any status but PEP440_OK and PEP440_NO_ROOM nothing is written, except `index`
+   of the batches with PEP440_INVALID_VERSION. */
 #ifndef PEP440_H
 #define PEP440_H
 
-#include <stdbool.h>
 #include <stddef.h>
 #include <stdint.h>
 
@@ -20,41 +30,46 @@ extern "C" {
 #endif
 
 enum {
-    PEP440_ANSWERED = 0,
-    PEP440_VERSION_REFUSED = 1, /* a text is no version */
-    PEP440_LIST_REFUSED = 2,    /* a text is no list of specifiers */
+    PEP440_OK = 0,
+    PEP440_INVALID_VERSION = 1, /* a string is no version */
+    PEP440_INVALID_LIST = 2,    /* a string is no list of specifiers */
     PEP440_OUT_OF_MEMORY = 3,
-    PEP440_NO_ROOM = 4
+    PEP440_NO_ROOM = 4,
+    PEP440_NUMBER_AT_MAX = 5 /* of pep440_ranges alone: a bound would lie above 18446744073709551615 */
 };
 
-/* A text of a batch. */
+/* A string of a batch. */
 typedef struct {
     const uint8_t *bytes;
     size_t length;
-} pep440_text;
+} pep440_string;
 
-/* Writes the normal form of a version, as `1.0a2` of ` V1.0-Alpha.2`, at the front of `out`. */
-uint8_t pep440_normalize(const uint8_t *text, size_t length, uint8_t *out, size_t room, size_t *written);
+/* Writes the normalized form of a version, as `1.0a2` of ` V1.0-Alpha.2`, at the start of `out`, which has `size` bytes, and its length to
+   `written`. With PEP440_NO_ROOM `written` is the length that `out` must have, and `out` is unchanged: so a first call with a buffer of one
+   byte and size 0 asks for the length. */
+uint8_t pep440_normalize(const uint8_t *version, size_t length, uint8_t *out, size_t size, size_t *written);
 
-/* The normal form of a list of specifiers, as `>=1.16, <2.0`. */
-uint8_t pep440_normalize_list(const uint8_t *list, size_t length, uint8_t *out, size_t room, size_t *written);
+/* The same of a list of specifiers, as `>=1.16, <2.0`. */
+uint8_t pep440_normalize_list(const uint8_t *list, size_t length, uint8_t *out, size_t size, size_t *written);
 
-/* Why a text is no version, in words; no bytes where it is one. */
-uint8_t pep440_refusal(const uint8_t *text, size_t length, uint8_t *out, size_t room, size_t *written);
+/* Writes why a string is no version, in words, and 0 bytes where it is one; `out` and `written` as for pep440_normalize. */
+uint8_t pep440_version_error(const uint8_t *version, size_t length, uint8_t *out, size_t size, size_t *written);
 
-/* Why a text is no list of specifiers, in lines; no bytes where it is one. */
-uint8_t pep440_list_refusal(const uint8_t *list, size_t length, uint8_t *out, size_t room, size_t *written);
+/* Writes why a string is no list of specifiers, in lines, and 0 bytes where it is one; `out` and `written` as for pep440_normalize. */
+uint8_t pep440_list_error(const uint8_t *list, size_t length, uint8_t *out, size_t size, size_t *written);
 
-/* Whether the left version is below the right one (-1), equal to it (0) or above it (1). */
+/* Writes to `order` whether the left version is below the right one (-1), equal to it (0) or above it (1). */
 uint8_t pep440_compare(const uint8_t *left, size_t left_length, const uint8_t *right, size_t right_length, int8_t *order);
 
-/* Whether the list contains the version: whether each of its specifiers does. */
-uint8_t pep440_contains(const uint8_t *list, size_t list_length, const uint8_t *text, size_t length, bool *contained);
+/* Writes to `contained` whether the list contains the version, 1 or 0: whether each of its specifiers does. Pre-releases are versions like
+   others here: `>=1.0` contains `2.0rc1`. A caller that leaves pre-releases out (PEP 440, "Handling of
+   pre-releases") finds them by pep440_parts_of, and whether the list names one by pep440_any_prerelease. */
+uint8_t pep440_contains(const uint8_t *list, size_t list_length, const uint8_t *version, size_t length, uint8_t *contained);
 
-/* Whether a version of the list's specifiers is a pre-release or a developmental release. */
-uint8_t pep440_any_prerelease(const uint8_t *list, size_t length, bool *any);
+/* Writes to `any` whether the version of some specifier of the list is a pre-release or a developmental release, 1 or 0. */
+uint8_t pep440_any_prerelease(const uint8_t *list, size_t length, uint8_t *any);
 
-/* What a pre-release is. */
+/* The kind of a pre-release. */
 enum { PEP440_NO_PRE = 0, PEP440_ALPHA = 1, PEP440_BETA = 2, PEP440_RC = 3 };
 
 /* The numbers of a version, 0 where it has no such part. */
@@ -65,38 +80,52 @@ typedef struct {
     uint64_t dev;
     size_t release_length; /* how many numbers the release has, at least 1 */
     uint8_t pre_kind;
-    bool has_post;
-    bool has_dev;
-    bool has_local;
+    uint8_t has_post; /* 1 or 0, as the next two */
+    uint8_t has_dev;
+    uint8_t has_local;
 } pep440_parts;
 
-/* The parts of a version; the numbers of its release at the front of `release`. With PEP440_NO_ROOM `parts` is written, too. */
-uint8_t pep440_parts_of(const uint8_t *text, size_t length, pep440_parts *parts, uint64_t *release, size_t room);
+/* Writes the parts of a version, and the numbers of its release at the start of `release`, which has room for `size` numbers. With
+   PEP440_NO_ROOM `parts` is written, with the `release_length` that is needed, and `release` is unchanged. */
+uint8_t pep440_parts_of(const uint8_t *version, size_t length, pep440_parts *parts, uint64_t *release, size_t size);
 
-/* The sort key of a version: keys compared byte by byte (memcmp, then the shorter one first) have the order of their versions, and are
-   equal exactly where the versions are. A key may be stored, and compared by whatever compares bytes. */
-uint8_t pep440_sort_key(const uint8_t *text, size_t length, uint8_t *out, size_t room, size_t *written);
+/* Writes the sort key of a version; `out` and `written` as for pep440_normalize. Keys compared byte by byte (memcmp, then the shorter one
+   first) have the order of their versions, and are equal exactly where the versions are. No key is a prefix of another one, so a key may be
+   followed by other bytes in an index, and these count only between equal versions. A key may be stored and compared by whatever compares
+   bytes; it cannot be parsed back, so store the version beside it. */
+uint8_t pep440_sort_key(const uint8_t *version, size_t length, uint8_t *out, size_t size, size_t *written);
 
-/* The versions that the list allows, by their bounds, a segment a line, as `[1.0, 1.5)`; `empty` where there are none. A list whose range
-   would need a number above the greatest is refused, too; pep440_list_refusal then writes no bytes. */
-uint8_t pep440_ranges(const uint8_t *list, size_t length, uint8_t *out, size_t room, size_t *written);
+/* Writes the range of the list: its segments in ascending order, a line each, each line with a newline at its end; the one line `empty` where
+   there are none. `out` and `written` as for pep440_normalize. A line is `[1.0, 1.5)`: two bounds between a square bracket, where the bound
+   is in the segment, or a round one, where it is not. `*` is no bound, as in `(*, 2.0]`. A bound may have a sentinel after its version, which
+   no string of a version has: `2.0~min0` lies below each version of release 2.0, `2.0.dev0` too, as in `[1.0, 2.0~min0)` of `>=1.0,<2.0`;
+   `1.0~max0` lies above each post-release and local version of `1.0`, and below `1.0.1`, as in `(1.0~max0, *)` of `>1.0`.
 
-/* ---- batches: many texts in one call */
+   A range goes by the order of versions, so it is not always what pep440_contains matches: `<=1.0` contains `1.0+cu1`, which its range ends
+   below, and `===1.0` does not contain `1.0.0`, which its range has. docs/PROMISES.md, "Conversions into ranges", says where both agree.
 
-/* The mark of a text of a filter. */
-enum { PEP440_LEFT_OUT = 0, PEP440_CONTAINED = 1, PEP440_REFUSED = 2 };
+   PEP440_NUMBER_AT_MAX where a bound would need a number above 18446744073709551615, as the end of `==18446744073709551615.*`. */
+uint8_t pep440_ranges(const uint8_t *list, size_t length, uint8_t *out, size_t size, size_t *written);
 
-/* A mark for each text, in its place: whether the list contains its version, or that it is no version. `room` must be `count` or more. */
-uint8_t pep440_filter(const uint8_t *list, size_t list_length, const pep440_text *texts, size_t count, uint8_t *marks, size_t room);
+/* ---- batches: many strings in one call */
 
-/* The places of the texts, from 0, in the order of their versions; equal ones in the order in which they were given. `room` must be
-   `count` or more. With PEP440_VERSION_REFUSED `at` is the place of the first text that is no version. */
-uint8_t pep440_sort(const pep440_text *texts, size_t count, size_t *places, size_t room, size_t *at);
+/* The mark of a string of a filter. */
+enum { PEP440_NO_MATCH = 0, PEP440_MATCH = 1, PEP440_NOT_A_VERSION = 2 };
 
-/* The sort keys of the texts, one after the other at the front of `out`; in `ends` where each of them ends, counted from the front of
-   `out`. `ends_room` must be `count` or more. `at` is as for pep440_sort. */
-uint8_t pep440_sort_keys(const pep440_text *texts, size_t count, uint8_t *out, size_t room, size_t *ends, size_t ends_room,
-                         size_t *written, size_t *at);
+/* Writes a mark for each string, in order: whether the list contains its version, or that it is no version. PEP440_NO_ROOM where `size` is
+   less than `count`; then nothing is written. */
+uint8_t pep440_filter(const uint8_t *list, size_t list_length, const pep440_string *strings, size_t count, uint8_t *marks, size_t size);
+
+/* Writes the indices of the strings, from 0, in the order of their versions; equal ones in the order given. With PEP440_INVALID_VERSION
+   `index` is that of the first string that is no version, and nothing else is written. PEP440_NO_ROOM where `size` is less than `count`; then
+   nothing is written. */
+uint8_t pep440_sort(const pep440_string *strings, size_t count, size_t *indices, size_t size, size_t *index);
+
+/* Writes the sort keys of the strings, one after the other, at the start of `out`, and to `ends` where each of them ends, counted from the
+   start of `out`; to `written` how many bytes they are. `index` as for pep440_sort. With PEP440_NO_ROOM (`size` is less than that, or
+   `ends_size` less than `count`) `written` is written, and `out` and `ends` are unchanged. */
+uint8_t pep440_sort_keys(const pep440_string *strings, size_t count, uint8_t *out, size_t size, size_t *ends, size_t ends_size,
+                         size_t *written, size_t *index);
 
 #ifdef __cplusplus
 }

@@ -1,7 +1,7 @@
 /* What the package asks of the proved library (callers/c/pep440.h), and the type that holds a version with its sort key.
 
-   Nothing here is proved, so it only carries: texts to the library, its answers back, a status into an exception. What a pre-release
-   is allowed to be, how a list is cut and what a property is called stands above, in Python. */
+   Nothing here is proved, so it only carries: strings to the library, its results back, a status into an exception. When a pre-release
+   is allowed, how a list is split and what a property is called is written in Python. */
 #define PY_SSIZE_T_CLEAN
 #define Py_LIMITED_API 0x030A0000
 #include <Python.h>
@@ -32,7 +32,7 @@ static PyObject *str_of(PyObject *given)
 }
 
 /* The bytes of a str or of a version's text, which live as long as it does. */
-static int view(PyObject *given, pep440_text *text)
+static int view(PyObject *given, pep440_string *text)
 {
     Py_ssize_t length = 0;
     const char *bytes;
@@ -56,20 +56,20 @@ static int view(PyObject *given, pep440_text *text)
 typedef uint8_t (*Writer)(const uint8_t *, size_t, uint8_t *, size_t, size_t *);
 typedef PyObject *(*Maker)(const char *, Py_ssize_t);
 
-/* What the call writes, made into a bytes or a str. NULL where the status is not PEP440_ANSWERED, or with an error set. */
-static PyObject *written_by(Writer call, pep440_text text, Maker make, uint8_t *status)
+/* What the call writes, made into a bytes or a str. NULL where the status is not PEP440_OK, or with an error set. */
+static PyObject *written_by(Writer call, pep440_string text, Maker make, uint8_t *status)
 {
     uint8_t few[256], *more;
     size_t written = 0;
     PyObject *made = NULL;
     *status = call(text.bytes, text.length, few, sizeof few, &written);
-    if (*status == PEP440_ANSWERED)
+    if (*status == PEP440_OK)
         return make((const char *)few, (Py_ssize_t)written);
     if (*status != PEP440_NO_ROOM)
         return NULL;
     more = PyMem_Malloc(written);
     *status = more ? call(text.bytes, text.length, more, written, &written) : PEP440_OUT_OF_MEMORY;
-    if (*status == PEP440_ANSWERED)
+    if (*status == PEP440_OK)
         made = make((const char *)more, (Py_ssize_t)written);
     PyMem_Free(more);
     return made;
@@ -81,10 +81,10 @@ static PyObject *lines_of(const char *bytes, Py_ssize_t length)
     return PyUnicode_FromStringAndSize(bytes, length > 0 && bytes[length - 1] == '\n' ? length - 1 : length);
 }
 
-static PyObject *refuse(PyObject *error, const char *form, PyObject *given, Writer why)
+static PyObject *raise_invalid(PyObject *error, const char *form, PyObject *given, Writer why)
 {
-    pep440_text text;
-    uint8_t status = PEP440_ANSWERED;
+    pep440_string text;
+    uint8_t status = PEP440_OK;
     PyObject *reason;
     if (view(given, &text) < 0)
         return NULL;
@@ -98,28 +98,30 @@ static PyObject *refuse(PyObject *error, const char *form, PyObject *given, Writ
     return NULL;
 }
 
-/* Raises what the status says of a version or a list, unless an error is set already; the one that no status tells of may be NULL. */
+/* Raises the exception of the status, unless one is set already; the version or the list that no such status is about may be NULL. */
 static PyObject *raise_by(uint8_t status, PyObject *version, PyObject *list)
 {
     if (PyErr_Occurred())
         return NULL;
-    if (status == PEP440_VERSION_REFUSED && version)
-        return refuse(InvalidVersion, "Invalid version: '%U': %U", version, pep440_refusal);
-    if (status == PEP440_LIST_REFUSED && list)
-        return refuse(InvalidSpecifier, "Invalid specifier: '%U'\n%U", list, pep440_list_refusal);
+    if (status == PEP440_INVALID_VERSION && version)
+        return raise_invalid(InvalidVersion, "Invalid version: '%U': %U", version, pep440_version_error);
+    if (status == PEP440_INVALID_LIST && list)
+        return raise_invalid(InvalidSpecifier, "Invalid specifier: '%U'\n%U", list, pep440_list_error);
+    if (status == PEP440_NUMBER_AT_MAX && list)
+        return PyErr_Format(PyExc_OverflowError, "no ranges of '%U': a bound lies above 18446744073709551615", str_of(list));
     if (status == PEP440_OUT_OF_MEMORY)
         return PyErr_NoMemory();
     return PyErr_Format(PyExc_SystemError, "pep440: no such status here: %d", (int)status);
 }
 
-static int is_prerelease(pep440_text text, uint8_t *status)
+static int is_prerelease(pep440_string text, uint8_t *status)
 {
     pep440_parts parts;
     uint64_t none;
     *status = pep440_parts_of(text.bytes, text.length, &parts, &none, 0);
     if (*status == PEP440_NO_ROOM)
-        *status = PEP440_ANSWERED;
-    return *status == PEP440_ANSWERED && (parts.pre_kind != PEP440_NO_PRE || parts.has_dev);
+        *status = PEP440_OK;
+    return *status == PEP440_OK && (parts.pre_kind != PEP440_NO_PRE || parts.has_dev);
 }
 
 /* ---- the type */
@@ -138,7 +140,7 @@ static PyObject *held_new(PyTypeObject *type, PyObject *args, PyObject *named)
 {
     static char *names[] = {"version", NULL};
     PyObject *given = NULL, *key;
-    pep440_text text;
+    pep440_string text;
     uint8_t status;
     Held *self;
     if (!named && PyTuple_Size(args) == 1)
@@ -194,7 +196,7 @@ static Py_hash_t held_hash(Held *self) { return PyObject_Hash(self->key); }
 
 static PyObject *held_str(Held *self)
 {
-    pep440_text text;
+    pep440_string text;
     uint8_t status;
     PyObject *made;
     if (view((PyObject *)self, &text) < 0)
@@ -203,7 +205,7 @@ static PyObject *held_str(Held *self)
     return made ? made : raise_by(status, (PyObject *)self, NULL);
 }
 
-static PyObject *number_or_none(bool is_there, uint64_t number)
+static PyObject *number_or_none(uint8_t is_there, uint64_t number)
 {
     return is_there ? PyLong_FromUnsignedLongLong(number) : Py_NewRef(Py_None);
 }
@@ -228,7 +230,7 @@ static PyObject *tuple_of(const pep440_parts *parts, const uint64_t *release)
 
 static PyObject *read_parts(PyObject *self)
 {
-    pep440_text text;
+    pep440_string text;
     pep440_parts parts;
     uint64_t few[16], *more = NULL;
     uint8_t status;
@@ -240,7 +242,7 @@ static PyObject *read_parts(PyObject *self)
         more = PyMem_Calloc(parts.release_length, sizeof *more);
         status = more ? pep440_parts_of(text.bytes, text.length, &parts, more, parts.release_length) : PEP440_OUT_OF_MEMORY;
     }
-    if (status == PEP440_ANSWERED)
+    if (status == PEP440_OK)
         made = tuple_of(&parts, more ? more : few);
     PyMem_Free(more);
     return made ? made : raise_by(status, self, NULL);
@@ -274,7 +276,7 @@ static PyType_Spec held_spec = {"pep440_rattle._core.Held", sizeof(Held), 0, Py_
 
 static PyObject *on_a_list(Writer call, PyObject *list)
 {
-    pep440_text text;
+    pep440_string text;
     uint8_t status;
     PyObject *made;
     if (view(list, &text) < 0)
@@ -296,16 +298,16 @@ static int has_count(const char *call, Py_ssize_t count, Py_ssize_t wanted)
 
 static PyObject *contains(PyObject *module, PyObject *const *args, Py_ssize_t count)
 {
-    pep440_text list, text;
+    pep440_string list, text;
     uint8_t status;
-    bool contained = false;
+    uint8_t contained;
     int prereleases;
     if (!has_count("contains", count, 3) || view(args[0], &list) < 0 || view(args[1], &text) < 0 || (prereleases = PyObject_IsTrue(args[2])) < 0)
         return NULL;
     status = pep440_contains(list.bytes, list.length, text.bytes, text.length, &contained);
-    if (status == PEP440_ANSWERED && contained && !prereleases)
+    if (status == PEP440_OK && contained && !prereleases)
         contained = !is_prerelease(text, &status);
-    return status == PEP440_ANSWERED ? PyBool_FromLong(contained) : raise_by(status, args[1], args[0]);
+    return status == PEP440_OK ? PyBool_FromLong(contained) : raise_by(status, args[1], args[0]);
 }
 
 /* ---- batches: what they read is held by a tuple of their own, so that other threads may run meanwhile */
@@ -313,7 +315,7 @@ static PyObject *contains(PyObject *module, PyObject *const *args, Py_ssize_t co
 typedef struct {
     PyObject *items;
     size_t count;
-    pep440_text *texts;
+    pep440_string *texts;
 } Batch;
 
 static void drop(Batch *batch)
@@ -344,12 +346,12 @@ static int gather(PyObject *given, Batch *batch)
 static PyObject *item(const Batch *batch, size_t place) { return PyTuple_GetItem(batch->items, (Py_ssize_t)place); }
 
 /* The marks of pep440_filter; of what is contained, a pre-release is left out unless it is asked for. */
-static uint8_t mark(pep440_text list, const Batch *batch, int prereleases, uint8_t *marks)
+static uint8_t mark(pep440_string list, const Batch *batch, int prereleases, uint8_t *marks)
 {
     uint8_t status = pep440_filter(list.bytes, list.length, batch->texts, batch->count, marks, batch->count);
-    for (size_t place = 0; status == PEP440_ANSWERED && !prereleases && place < batch->count; place++)
-        if (marks[place] == PEP440_CONTAINED && is_prerelease(batch->texts[place], &status))
-            marks[place] = PEP440_LEFT_OUT;
+    for (size_t place = 0; status == PEP440_OK && !prereleases && place < batch->count; place++)
+        if (marks[place] == PEP440_MATCH && is_prerelease(batch->texts[place], &status))
+            marks[place] = PEP440_NO_MATCH;
     return status;
 }
 
@@ -357,9 +359,9 @@ static PyObject *marked(const Batch *batch, const uint8_t *marks, int skip)
 {
     PyObject *kept = PyList_New(0);
     for (size_t place = 0; kept && place < batch->count; place++) {
-        if (marks[place] == PEP440_REFUSED && !skip)
-            raise_by(PEP440_VERSION_REFUSED, item(batch, place), NULL);
-        else if (marks[place] != PEP440_CONTAINED || PyList_Append(kept, item(batch, place)) == 0)
+        if (marks[place] == PEP440_NOT_A_VERSION && !skip)
+            raise_by(PEP440_INVALID_VERSION, item(batch, place), NULL);
+        else if (marks[place] != PEP440_MATCH || PyList_Append(kept, item(batch, place)) == 0)
             continue;
         Py_CLEAR(kept);
     }
@@ -368,7 +370,7 @@ static PyObject *marked(const Batch *batch, const uint8_t *marks, int skip)
 
 static PyObject *filter(PyObject *module, PyObject *const *args, Py_ssize_t count)
 {
-    pep440_text list;
+    pep440_string list;
     Batch batch;
     uint8_t *marks, status = PEP440_OUT_OF_MEMORY;
     int prereleases, skip;
@@ -382,7 +384,7 @@ static PyObject *filter(PyObject *module, PyObject *const *args, Py_ssize_t coun
         status = mark(list, &batch, prereleases, marks);
         Py_END_ALLOW_THREADS
     }
-    kept = status == PEP440_ANSWERED ? marked(&batch, marks, skip) : raise_by(status, NULL, args[0]);
+    kept = status == PEP440_OK ? marked(&batch, marks, skip) : raise_by(status, NULL, args[0]);
     PyMem_Free(marks);
     drop(&batch);
     return kept;
@@ -411,8 +413,8 @@ static PyObject *sort(PyObject *module, PyObject *given)
         status = pep440_sort(batch.texts, batch.count, places, batch.count, &at);
         Py_END_ALLOW_THREADS
     }
-    sorted = status == PEP440_ANSWERED ? in_places(&batch, places)
-                                       : raise_by(status, status == PEP440_VERSION_REFUSED ? item(&batch, at) : NULL, NULL);
+    sorted = status == PEP440_OK ? in_places(&batch, places)
+                                       : raise_by(status, status == PEP440_INVALID_VERSION ? item(&batch, at) : NULL, NULL);
     PyMem_Free(places);
     drop(&batch);
     return sorted;
@@ -451,8 +453,8 @@ static PyObject *sort_keys(PyObject *module, PyObject *given)
             Py_END_ALLOW_THREADS
         }
     }
-    list = status == PEP440_ANSWERED ? in_pieces(keys, ends, batch.count)
-                                     : raise_by(status, status == PEP440_VERSION_REFUSED ? item(&batch, at) : NULL, NULL);
+    list = status == PEP440_OK ? in_pieces(keys, ends, batch.count)
+                                     : raise_by(status, status == PEP440_INVALID_VERSION ? item(&batch, at) : NULL, NULL);
     PyMem_Free(keys);
     PyMem_Free(ends);
     drop(&batch);

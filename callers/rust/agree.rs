@@ -9,22 +9,23 @@ use std::collections::HashMap;
 use std::fmt::Write;
 
 mod pep440 {
-    //! No call asks anything of its caller but what Rust's references hold: pointers that are not null, and no overlap.
+    //! No call requires anything of its caller but what Rust's references hold: pointers that are not null, and no overlap.
     use std::cmp::Ordering;
 
     #[derive(Clone, Copy, Debug, PartialEq, Eq)]
-    pub enum Refusal {
-        Version,
-        List,
+    pub enum Error {
+        InvalidVersion,
+        InvalidList,
         OutOfMemory,
+        NumberAtMax,
     }
 
-    /// What becomes of a text of a filter.
+    /// What a filter finds of a string.
     #[derive(Clone, Copy, Debug, PartialEq, Eq)]
     pub enum Mark {
-        LeftOut,
-        Contained,
-        Refused,
+        NoMatch,
+        Match,
+        NotAVersion,
     }
 
     #[repr(C)]
@@ -42,9 +43,9 @@ mod pep440 {
         pub dev: u64,
         pub release_length: usize,
         pub pre_kind: u8,
-        pub has_post: bool,
-        pub has_dev: bool,
-        pub has_local: bool,
+        pub has_post: u8,
+        pub has_dev: u8,
+        pub has_local: u8,
     }
 
     type Writes = unsafe extern "C" fn(*const u8, usize, *mut u8, usize, *mut usize) -> u8;
@@ -52,13 +53,13 @@ mod pep440 {
     unsafe extern "C" {
         fn pep440_normalize(text: *const u8, length: usize, out: *mut u8, room: usize, written: *mut usize) -> u8;
         fn pep440_normalize_list(list: *const u8, length: usize, out: *mut u8, room: usize, written: *mut usize) -> u8;
-        fn pep440_refusal(text: *const u8, length: usize, out: *mut u8, room: usize, written: *mut usize) -> u8;
-        fn pep440_list_refusal(list: *const u8, length: usize, out: *mut u8, room: usize, written: *mut usize) -> u8;
+        fn pep440_version_error(text: *const u8, length: usize, out: *mut u8, room: usize, written: *mut usize) -> u8;
+        fn pep440_list_error(list: *const u8, length: usize, out: *mut u8, room: usize, written: *mut usize) -> u8;
         fn pep440_sort_key(text: *const u8, length: usize, out: *mut u8, room: usize, written: *mut usize) -> u8;
         fn pep440_ranges(list: *const u8, length: usize, out: *mut u8, room: usize, written: *mut usize) -> u8;
         fn pep440_compare(left: *const u8, left_length: usize, right: *const u8, right_length: usize, order: *mut i8) -> u8;
-        fn pep440_contains(list: *const u8, list_length: usize, text: *const u8, length: usize, contained: *mut bool) -> u8;
-        fn pep440_any_prerelease(list: *const u8, length: usize, any: *mut bool) -> u8;
+        fn pep440_contains(list: *const u8, list_length: usize, text: *const u8, length: usize, contained: *mut u8) -> u8;
+        fn pep440_any_prerelease(list: *const u8, length: usize, any: *mut u8) -> u8;
         fn pep440_parts_of(text: *const u8, length: usize, parts: *mut Parts, release: *mut u64, room: usize) -> u8;
         fn pep440_filter(list: *const u8, list_length: usize, texts: *const Text, count: usize, marks: *mut u8, room: usize) -> u8;
         fn pep440_sort(texts: *const Text, count: usize, places: *mut usize, room: usize, at: *mut usize) -> u8;
@@ -74,23 +75,24 @@ mod pep440 {
         ) -> u8;
     }
 
-    /// Whether it was answered; `false` says that there was too little room.
-    fn answered(status: u8) -> Result<bool, Refusal> {
+    /// Whether the call wrote its result; `false` where there was too little room.
+    fn has_room(status: u8) -> Result<bool, Error> {
         match status {
             0 => Ok(true),
-            1 => Err(Refusal::Version),
-            2 => Err(Refusal::List),
-            3 => Err(Refusal::OutOfMemory),
+            1 => Err(Error::InvalidVersion),
+            2 => Err(Error::InvalidList),
+            3 => Err(Error::OutOfMemory),
             4 => Ok(false),
+            5 => Err(Error::NumberAtMax),
             _ => unreachable!("status {status}"),
         }
     }
 
-    fn written_by(call: Writes, text: &str) -> Result<Vec<u8>, Refusal> {
+    fn written_by(call: Writes, text: &str) -> Result<Vec<u8>, Error> {
         let (mut out, mut written) = (vec![0; 64], 0);
         loop {
             // SAFETY: both slices lend as many bytes as are told, and a slice's pointer is never null.
-            if answered(unsafe { call(text.as_ptr(), text.len(), out.as_mut_ptr(), out.len(), &mut written) })? {
+            if has_room(unsafe { call(text.as_ptr(), text.len(), out.as_mut_ptr(), out.len(), &mut written) })? {
                 out.truncate(written);
                 return Ok(out);
             }
@@ -99,56 +101,61 @@ mod pep440 {
         }
     }
 
-    fn as_text(written: Result<Vec<u8>, Refusal>) -> Result<String, Refusal> {
+    fn as_text(written: Result<Vec<u8>, Error>) -> Result<String, Error> {
         Ok(String::from_utf8(written?).expect("what is written is UTF-8"))
     }
 
-    pub fn normalize(text: &str) -> Result<String, Refusal> {
+    pub fn normalize(text: &str) -> Result<String, Error> {
         as_text(written_by(pep440_normalize, text))
     }
 
-    pub fn normalize_list(list: &str) -> Result<String, Refusal> {
+    pub fn normalize_list(list: &str) -> Result<String, Error> {
         as_text(written_by(pep440_normalize_list, list))
     }
 
-    pub fn refusal(text: &str) -> Result<String, Refusal> {
-        as_text(written_by(pep440_refusal, text))
+    pub fn version_error(text: &str) -> Result<String, Error> {
+        as_text(written_by(pep440_version_error, text))
     }
 
-    pub fn list_refusal(list: &str) -> Result<String, Refusal> {
-        as_text(written_by(pep440_list_refusal, list))
+    pub fn list_error(list: &str) -> Result<String, Error> {
+        as_text(written_by(pep440_list_error, list))
     }
 
-    pub fn ranges(list: &str) -> Result<String, Refusal> {
+    pub fn ranges(list: &str) -> Result<String, Error> {
         as_text(written_by(pep440_ranges, list))
     }
 
-    pub fn sort_key(text: &str) -> Result<Vec<u8>, Refusal> {
+    pub fn sort_key(text: &str) -> Result<Vec<u8>, Error> {
         written_by(pep440_sort_key, text)
     }
 
-    pub fn compare(left: &str, right: &str) -> Result<Ordering, Refusal> {
+    pub fn compare(left: &str, right: &str) -> Result<Ordering, Error> {
         let mut order = 0;
         // SAFETY: as in `written_by`; so in all calls below.
-        answered(unsafe { pep440_compare(left.as_ptr(), left.len(), right.as_ptr(), right.len(), &mut order) })?;
+        has_room(unsafe { pep440_compare(left.as_ptr(), left.len(), right.as_ptr(), right.len(), &mut order) })?;
         Ok(order.cmp(&0))
     }
 
-    pub fn contains(list: &str, text: &str) -> Result<bool, Refusal> {
-        let mut contained = false;
-        answered(unsafe { pep440_contains(list.as_ptr(), list.len(), text.as_ptr(), text.len(), &mut contained) })?;
-        Ok(contained)
+    fn truth(number: u8) -> bool {
+        assert!(number < 2, "a truth value is 0 or 1, not {number}");
+        number == 1
     }
 
-    pub fn any_prerelease(list: &str) -> Result<bool, Refusal> {
-        let mut any = false;
-        answered(unsafe { pep440_any_prerelease(list.as_ptr(), list.len(), &mut any) })?;
-        Ok(any)
+    pub fn contains(list: &str, text: &str) -> Result<bool, Error> {
+        let mut contained = 9;
+        has_room(unsafe { pep440_contains(list.as_ptr(), list.len(), text.as_ptr(), text.len(), &mut contained) })?;
+        Ok(truth(contained))
     }
 
-    pub fn parts_of(text: &str) -> Result<(Parts, Vec<u64>), Refusal> {
+    pub fn any_prerelease(list: &str) -> Result<bool, Error> {
+        let mut any = 9;
+        has_room(unsafe { pep440_any_prerelease(list.as_ptr(), list.len(), &mut any) })?;
+        Ok(truth(any))
+    }
+
+    pub fn parts_of(text: &str) -> Result<(Parts, Vec<u64>), Error> {
         let (mut parts, mut release) = (Parts::default(), vec![0; 2]);
-        while !answered(unsafe { pep440_parts_of(text.as_ptr(), text.len(), &mut parts, release.as_mut_ptr(), release.len()) })? {
+        while !has_room(unsafe { pep440_parts_of(text.as_ptr(), text.len(), &mut parts, release.as_mut_ptr(), release.len()) })? {
             assert!(parts.release_length > release.len(), "too little room, and no more is asked for");
             release.resize(parts.release_length, 0);
         }
@@ -160,29 +167,29 @@ mod pep440 {
         texts.iter().map(|text| Text { bytes: text.as_ptr(), length: text.len() }).collect()
     }
 
-    pub fn filter(list: &str, texts: &[String]) -> Result<Vec<Mark>, Refusal> {
+    pub fn filter(list: &str, texts: &[String]) -> Result<Vec<Mark>, Error> {
         let (lent, mut marks) = (lent(texts), vec![9; texts.len()]);
         let status = unsafe { pep440_filter(list.as_ptr(), list.len(), lent.as_ptr(), lent.len(), marks.as_mut_ptr(), marks.len()) };
-        assert!(answered(status)?, "there is room");
-        Ok(marks.iter().map(|mark| [Mark::LeftOut, Mark::Contained, Mark::Refused][usize::from(*mark)]).collect())
+        assert!(has_room(status)?, "there is room");
+        Ok(marks.iter().map(|mark| [Mark::NoMatch, Mark::Match, Mark::NotAVersion][usize::from(*mark)]).collect())
     }
 
     /// The places in the order of the versions, or the place of the first text that is none.
-    pub fn sort(texts: &[String]) -> Result<Vec<usize>, (Refusal, usize)> {
+    pub fn sort(texts: &[String]) -> Result<Vec<usize>, (Error, usize)> {
         let (lent, mut places, mut at) = (lent(texts), vec![0; texts.len()], usize::MAX);
         let status = unsafe { pep440_sort(lent.as_ptr(), lent.len(), places.as_mut_ptr(), places.len(), &mut at) };
-        assert!(answered(status).map_err(|refusal| (refusal, at))?, "there is room");
+        assert!(has_room(status).map_err(|error| (error, at))?, "there is room");
         Ok(places)
     }
 
-    pub fn sort_keys(texts: &[String]) -> Result<Vec<Vec<u8>>, (Refusal, usize)> {
+    pub fn sort_keys(texts: &[String]) -> Result<Vec<Vec<u8>>, (Error, usize)> {
         let (lent, mut ends, mut at, mut written) = (lent(texts), vec![0; texts.len()], usize::MAX, 0);
         let mut out = vec![0; 8];
         loop {
             let (room, keys) = (out.len(), out.as_mut_ptr());
             let status =
                 unsafe { pep440_sort_keys(lent.as_ptr(), lent.len(), keys, room, ends.as_mut_ptr(), ends.len(), &mut written, &mut at) };
-            if answered(status).map_err(|refusal| (refusal, at))? {
+            if has_room(status).map_err(|error| (error, at))? {
                 let starts = std::iter::once(&0).chain(&ends);
                 return Ok(starts.zip(&ends).map(|(start, end)| out[*start..*end].to_vec()).collect());
             }
@@ -192,7 +199,7 @@ mod pep440 {
     }
 }
 
-use pep440::{Mark, Refusal};
+use pep440::{Error, Mark};
 
 /// Texts by chance (xorshift), the same ones for the same seed.
 struct Chance(u64);
@@ -263,7 +270,7 @@ impl Chance {
 fn same_readings(texts: &[String]) -> usize {
     let mut versions = 0;
     for text in texts {
-        let told = pep440::refusal(text).unwrap();
+        let told = pep440::version_error(text).unwrap();
         match pep440::normalize(text) {
             Ok(print) => {
                 versions += 1;
@@ -275,15 +282,15 @@ fn same_readings(texts: &[String]) -> usize {
                 let start = if parts.epoch == 0 { String::new() } else { format!("{}!", parts.epoch) };
                 let numbers: Vec<String> = release.iter().map(u64::to_string).collect();
                 assert!(print.starts_with(&(start + &numbers.join("."))), "{text}");
-                assert_eq!((print.contains(".post"), print.contains(".dev"), print.contains('+')), (parts.has_post, parts.has_dev, parts.has_local));
+                assert_eq!((print.contains(".post"), print.contains(".dev"), print.contains('+')), (parts.has_post == 1, parts.has_dev == 1, parts.has_local == 1));
             }
-            Err(refusal) => {
-                assert_eq!(refusal, Refusal::Version, "{text}");
+            Err(error) => {
+                assert_eq!(error, Error::InvalidVersion, "{text}");
                 assert_ne!(told, "", "{text}");
-                assert_eq!(pep440::sort_key(text), Err(Refusal::Version));
-                assert_eq!(pep440::parts_of(text), Err(Refusal::Version));
-                assert_eq!(pep440::compare(text, "1"), Err(Refusal::Version));
-                assert_eq!(pep440::contains(">=1", text), Err(Refusal::Version));
+                assert_eq!(pep440::sort_key(text), Err(Error::InvalidVersion));
+                assert_eq!(pep440::parts_of(text), Err(Error::InvalidVersion));
+                assert_eq!(pep440::compare(text, "1"), Err(Error::InvalidVersion));
+                assert_eq!(pep440::contains(">=1", text), Err(Error::InvalidVersion));
             }
         }
     }
@@ -310,10 +317,10 @@ fn same_orders(versions: &[String]) {
     assert_eq!(places, by_key);
 }
 
-fn same_refusals(texts: &[String]) {
-    let first = texts.iter().position(|text| pep440::normalize(text).is_err()).expect("some text is refused");
-    assert_eq!(pep440::sort(texts), Err((Refusal::Version, first)));
-    assert_eq!(pep440::sort_keys(texts), Err((Refusal::Version, first)));
+fn same_errors(texts: &[String]) {
+    let first = texts.iter().position(|text| pep440::normalize(text).is_err()).expect("some string is no version");
+    assert_eq!(pep440::sort(texts), Err((Error::InvalidVersion, first)));
+    assert_eq!(pep440::sort_keys(texts), Err((Error::InvalidVersion, first)));
 }
 
 /// How many candidates were asked of lists.
@@ -321,13 +328,13 @@ fn same_filters(chance: &mut Chance, texts: &[String]) -> usize {
     let mut asked = 0;
     for chunk in texts.chunks(500) {
         let list = chance.list();
-        let told = pep440::list_refusal(&list).unwrap();
+        let told = pep440::list_error(&list).unwrap();
         let marks = match pep440::filter(&list, chunk) {
             Ok(marks) => marks,
-            Err(refusal) => {
-                assert_eq!((refusal, told.is_empty()), (Refusal::List, false), "{list}");
-                assert_eq!(pep440::normalize_list(&list), Err(Refusal::List));
-                assert_eq!(pep440::contains(&list, "1"), Err(Refusal::List));
+            Err(error) => {
+                assert_eq!((error, told.is_empty()), (Error::InvalidList, false), "{list}");
+                assert_eq!(pep440::normalize_list(&list), Err(Error::InvalidList));
+                assert_eq!(pep440::contains(&list, "1"), Err(Error::InvalidList));
                 continue;
             }
         };
@@ -340,16 +347,16 @@ fn same_filters(chance: &mut Chance, texts: &[String]) -> usize {
         let members: Vec<&str> = list.split(", ").filter(|member| !member.is_empty()).collect();
         for (text, mark) in chunk.iter().zip(&marks) {
             let wanted = match pep440::contains(&list, text) {
-                Ok(true) => Mark::Contained,
-                Ok(false) => Mark::LeftOut,
-                Err(refusal) => {
-                    assert_eq!(refusal, Refusal::Version);
-                    Mark::Refused
+                Ok(true) => Mark::Match,
+                Ok(false) => Mark::NoMatch,
+                Err(error) => {
+                    assert_eq!(error, Error::InvalidVersion);
+                    Mark::NotAVersion
                 }
             };
             assert_eq!(*mark, wanted, "{list} {text}");
-            if wanted != Mark::Refused {
-                assert_eq!(members.iter().all(|member| pep440::contains(member, text).unwrap()), wanted == Mark::Contained, "{list} {text}");
+            if wanted != Mark::NotAVersion {
+                assert_eq!(members.iter().all(|member| pep440::contains(member, text).unwrap()), wanted == Mark::Match, "{list} {text}");
             }
         }
         asked += chunk.len();
@@ -365,11 +372,13 @@ fn main() {
     let found = same_readings(&texts);
     let versions: Vec<String> = texts.iter().filter(|text| pep440::normalize(text).is_ok()).cloned().collect();
     same_orders(&versions);
-    same_refusals(&texts);
+    same_errors(&texts);
     let asked = same_filters(&mut chance, &texts);
     let distinct: HashMap<Vec<u8>, &String> = pep440::sort_keys(&versions).unwrap().into_iter().zip(&versions).collect();
     assert_eq!(pep440::sort(&[]), Ok(vec![]));
     assert_eq!(pep440::compare("1.0", "1.0.0"), Ok(Ordering::Equal));
-    assert!(!pep440::ranges("").unwrap().is_empty());
-    println!("{count} texts: {found} versions ({} distinct), {} refused, {asked} asked of lists; both routes agree", distinct.len(), count - found);
+    assert_eq!(pep440::ranges("").as_deref(), Ok("(*, *)\n"));
+    assert_eq!(pep440::ranges("==18446744073709551615.*"), Err(Error::NumberAtMax));
+    assert_eq!(pep440::ranges("=1.0"), Err(Error::InvalidList));
+    println!("{count} texts: {found} versions ({} distinct), {} invalid, {asked} asked of lists; both routes agree", distinct.len(), count - found);
 }

@@ -5,6 +5,7 @@ import random
 import sqlite3
 import unittest
 
+from pep440_rattle import _core
 from pep440_rattle import Bound, InvalidSpecifier, InvalidVersion, Specifier, SpecifierSet, Version, filter_texts, parse, sort_keys, sort_texts
 
 # PEP 440, "Summary of permitted suffixes and relative ordering" and "Local version identifiers", with epochs
@@ -131,8 +132,10 @@ class Specifiers(unittest.TestCase):
         self.assertEqual(shown(">=1.0,<2.0,!=1.5"), [(("1.0", True), ("1.5", False)), (("1.5", False), ("2.0~min0", False))])
         self.assertEqual(shown(">=2.0,<1.0"), [])
         self.assertEqual(shown("==1.5.*"), [(("1.5.dev0", True), ("1.6.dev0", False))])
-        with self.assertRaises(OverflowError):
+        with self.assertRaisesRegex(OverflowError, "no ranges of '==18446744073709551615.\\*': a bound lies above 18446744073709551615"):
             SpecifierSet(f"=={2**64 - 1}.*").ranges()
+        with self.assertRaises(InvalidSpecifier):
+            _core.ranges("=1.0")
         self.assertEqual(Specifier(">=1.0").ranges(), [(Bound(Version("1.0"), True, ""), None)])
         self.assertEqual(SpecifierSet("<2.0").ranges()[0][1], Bound(Version("2.0"), False, "min0"))
 

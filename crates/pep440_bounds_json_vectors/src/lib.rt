@@ -8,3 +8,5 @@ mod bounds;
 mod calls;
 #[cfg(test)]
 mod json;
+#[cfg(test)]
+mod long;

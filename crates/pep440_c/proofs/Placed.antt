@@ -1,7 +1,7 @@
 -- Many texts, read one after another: versions with their places, marks, sort keys.
 use Rattle.std.proofs.Common.{Bor, ◌≡◌, ◌<◌, ◌+◌, ◌∙◌, ℕ, List, [], ◌∷◌, ◌++◌, length, get_or, take, drop, map, refl, sym, ap, subst, append-nil, arith, take-append-drop}
 use Rattle.std.proofs.lemmas.List.Concat.{flat_map-append}
-use Rattle.std.proofs.lemmas.List.{drop_more, get_or_default, length-append, length-map, length-take-le, map-append}
+use Rattle.std.proofs.lemmas.List.{drop_more, get_or_default, length-append, length-map, length-take-le, map-append, take_more}
 use Rattle.std.specs.List.{AllZip, enumerate_from, flat_map}
 use Rattle.std.specs.List.Sorted.{IsPermutation, IsSorted, IsStable}
 use Rattle.std.specs.Prelude.{IfOk, Result, Ok, Err}
@@ -11,10 +11,24 @@ use Rattle.pep440_version.specs.Record.{Record}
 use Rattle.pep440_c.specs.Batches.{ArrangesPlaces, IsMark, MeansKeys, MeansPlaced, RefusesFirst, Sorts, StopsAll, ends_from, placed_cmp, stop_at}
 use Rattle.pep440_c.specs.Statuses.{Faults}
 use Rattle.pep440_c.specs.declared.texts.Fault.{Fault}
-use Rattle.pep440_c.specs.declared.texts.Fault.TheVariants.{VersionRefused, ListRefused, OutOfMemory}
+use Rattle.pep440_c.specs.declared.texts.Fault.TheVariants.{InvalidVersion, InvalidList, NumberAtMax, OutOfMemory}
 use Rattle.pep440_c.specs.declared.batch.Stop.{Stop}
-use Rattle.pep440_tool.proofs.Picked.{each_more}
 use Rattle.pep440_c.specs.Meaning.{MeansBytes, RefusesBytes}
+
+-- one text more
+all_more : {A B : Type 0} (R : A → B → Type 0) (xs : List A) (ys : List B) (x : A) (y : B) → AllZip R xs ys → R x y → AllZip R (xs ++ x ∷ []) (ys ++ y ∷ [])
+all_more R [] [] x y h r = (r, tt)
+all_more R [] (z ∷ ys) x y h r = absurd h
+all_more R (z ∷ xs) [] x y h r = absurd h
+all_more R (z ∷ xs) (u ∷ ys) x y h r = (h.0, all_more R xs ys x y h.1 r)
+
+each_more : {A : Type 0} (Means : List ℕ → A → Type 0) (texts : List (Bor (List ℕ))) (i : ℕ) (x : Bor (List ℕ)) (found new : List A) (a : A) → i < length texts → x ≡ get_or texts i x → Means x.now a
+    → new ≡ found ++ a ∷ [] → AllZip Means (map (λ t. t.now) (take i texts)) found → AllZip Means (map (λ t. t.now) (take (i + 1) texts)) new
+each_more {A} Means texts i x found new a inside is means more all =
+    let now : Bor (List ℕ) → List ℕ = λ t. t.now in
+    let seen : map now (take (i + 1) texts) ≡ map now (take i texts) ++ now x ∷ [] =
+    ap (map now) (take_more texts i x inside ∙ ap (λ (y : Bor (List ℕ)). take i texts ++ y ∷ []) (sym is)) ∙ map-append now (take i texts) (x ∷ []) in
+    subst (λ (l : List (List ℕ)). AllZip Means l new) (sym seen) (subst (λ (l : List A). AllZip Means (map now (take i texts) ++ now x ∷ []) l) (sym more) (all_more Means (map now (take i texts)) found (now x) a all means))
 
 -- the text at a place is refused, and those before it mean versions
 refused_first : (texts : List (Bor (List ℕ))) (i : ℕ) (x : Bor (List ℕ)) (versions : List Record) → i < length texts → x ≡ get_or texts i x → RefusesBytes x.now
@@ -52,23 +66,24 @@ placed_more texts i x pairs new v inside means more (versions, all, placed) =
     let long : length versions ≡ i =
     sym (all_length (map (λ (t : Bor (List ℕ)). t.now) (take i texts)) versions all) ∙ length-map (take i texts) (λ (t : Bor (List ℕ)). t.now) ∙ length-take-le i texts (omega (arith, inside)) in (
       versions ++ v ∷ [],
-      each_more MeansBytes (λ n t a. Unit {0}) (λ (t : Bor (List ℕ)). t.now) texts i (get_or texts i x) versions (versions ++ v ∷ []) v inside (get_or_default texts i x (get_or texts i x) inside) means refl all,
+      each_more MeansBytes texts i (get_or texts i x) versions (versions ++ v ∷ []) v inside (get_or_default texts i x (get_or texts i x) inside) means refl all,
       more ∙ ap (λ (l : List (ℕ × Record)). l ++ (i, v) ∷ []) placed ∙ ap (λ (k : ℕ). enumerate_from 0 versions ++ (k, v) ∷ []) (omega (arith, long)) ∙ sym (placed_push 0 versions v),
     )
 
 -- the text at a place that is refused is the first, where those before it mean versions
 pub stops_at : (texts : List (Bor (List ℕ))) (i : ℕ) (x : Bor (List ℕ)) (f : Fault) (s : Stop) (versions : List Record) → i < length texts → s ≡ stop_at i f
-    → Faults (RefusesBytes (get_or texts i x).now) ⊥ f → AllZip MeansBytes (map (λ t. t.now) (take i texts)) versions → StopsAll (map (λ t. t.now) texts) s
-stops_at texts i x VersionRefused s versions inside is why all = subst (λ (t : Stop). StopsAll (map (λ (y : Bor (List ℕ)). y.now) texts) t) (sym is)
+    → Faults (RefusesBytes (get_or texts i x).now) ⊥ ⊥ f → AllZip MeansBytes (map (λ t. t.now) (take i texts)) versions → StopsAll (map (λ t. t.now) texts) s
+stops_at texts i x InvalidVersion s versions inside is why all = subst (λ (t : Stop). StopsAll (map (λ (y : Bor (List ℕ)). y.now) texts) t) (sym is)
     (refused_first texts i (get_or texts i x) versions inside (get_or_default texts i x (get_or texts i x) inside) why all)
-stops_at texts i x ListRefused s versions inside is why all = absurd why
+stops_at texts i x InvalidList s versions inside is why all = absurd why
+stops_at texts i x NumberAtMax s versions inside is why all = absurd why
 stops_at texts i x OutOfMemory s versions inside is why all = subst (λ (t : Stop). StopsAll (map (λ (y : Bor (List ℕ)). y.now) texts) t) (sym is) tt
 
 -- one more mark
 pub marked_more : (list : List Spec) (texts : List (Bor (List ℕ))) (i : ℕ) (x : Bor (List ℕ)) (marks new : List ℕ) (m : ℕ) → i < length texts → IsMark list (get_or texts i x).now m → new ≡ marks ++ m ∷ []
     → AllZip (IsMark list) (map (λ t. t.now) (take i texts)) marks → AllZip (IsMark list) (map (λ t. t.now) (take (i + 1) texts)) new
 marked_more list texts i x marks new m inside is more all =
-    each_more (IsMark list) (λ n t a. Unit {0}) (λ (t : Bor (List ℕ)). t.now) texts i (get_or texts i x) marks new m inside (get_or_default texts i x (get_or texts i x) inside) is more all
+    each_more (IsMark list) texts i (get_or texts i x) marks new m inside (get_or_default texts i x (get_or texts i x) inside) is more all
 
 -- the places of the versions that the texts mean
 pub sorts : (texts : List (List ℕ)) (pairs : List (ℕ × Record)) (places : List ℕ) → MeansPlaced texts pairs → ArrangesPlaces pairs places → Sorts texts places
@@ -97,7 +112,7 @@ keys_more texts i x bytes new ends new_ends v inside means more ended (versions,
     let count : length new ≡ length (bytes ++ key_bytes v) = ap length more in
     let same : length bytes ≡ length (flat_map key_bytes versions) = ap length keys in (
       versions ++ v ∷ [],
-      each_more MeansBytes (λ n t a. Unit {0}) (λ (t : Bor (List ℕ)). t.now) texts i (get_or texts i x) versions (versions ++ v ∷ []) v inside (get_or_default texts i x (get_or texts i x) inside) means refl all,
+      each_more MeansBytes texts i (get_or texts i x) versions (versions ++ v ∷ []) v inside (get_or_default texts i x (get_or texts i x) inside) means refl all,
       more ∙ ap (λ (l : List ℕ). l ++ key_bytes v) keys ∙ ap (λ (l : List ℕ). flat_map key_bytes versions ++ l) (sym (append-nil (key_bytes v)))
           ∙ sym (flat_map-append key_bytes versions (v ∷ [])),
       ended ∙ ap (λ (l : List ℕ). l ++ length new ∷ []) places ∙ ap (λ (n : ℕ). ends_from 0 versions ++ n ∷ []) (omega (arith, long, count, same)) ∙ sym (ends_push 0 versions v),

@@ -1,13 +1,10 @@
 -- Bytes that are refused, by the errors of the readers.
-use Rattle.std.proofs.Common.{◌≡◌, ◌≢◌, ◌∙◌, ℕ, List, [], ◌∷◌, Option, Some, None, IfSome, codes, is_none, false, refl, inl, inr, subst}
+use Rattle.std.proofs.Common.{◌≡◌, ◌≢◌, ℕ, List, Option, Some, None, IfSome, codes, is_none, false, refl, inl, inr}
 use Rattle.std.specs.Str.{IsUtf8}
 use Rattle.pep440_rs.specs.ListErrorTexts.{list_refusal_text}
 use Rattle.pep440_rs.specs.ListGrammar.{PieceRefusal, RefusesList}
 use Rattle.pep440_version.specs.ErrorTexts.{refusal_text}
 use Rattle.pep440_version.specs.Refusals.{Refusal, Refuses}
-use Rattle.pep440_tool.specs.Answers.{RangeAnswer, ToolAnswer}
-use Rattle.pep440_tool.specs.Commands.{IsAnswer, asked}
-use Rattle.pep440_c.specs.Answers.{RefusesRange}
 use Rattle.pep440_c.specs.Meaning.{RefusesBytes, RefusesListBytes, TellsWhy, TellsWhyNoList}
 
 pub no_text : (bytes : List ℕ) → (¬ IsUtf8 bytes) → RefusesBytes bytes
@@ -36,11 +33,3 @@ pub tells_list : (bytes text words : List ℕ) (o : Option PieceRefusal) (m : Op
 tells_list bytes text words None m same utf8 some why told shown = absurd (some refl)
 tells_list bytes text words (Some f) m same utf8 some why told shown =
     let is : words ≡ list_refusal_text f text = rw told at shown in inr (utf8, f, rw same at why, rw same at is)
-
--- the program's answer to `range` has another status than 0
-pub refuses_range : (bytes text command word : List ℕ) (a : ToolAnswer) → command ≡ codes "range" → word ≡ text → text ≡ bytes → IsUtf8 bytes → IsAnswer (asked (command ∷ word ∷ [])) [] a → a.status ≢ 0
-    → RefusesRange bytes
-refuses_range bytes text command word a named same seen utf8 is other =
-    let first : IsAnswer (asked (codes "range" ∷ word ∷ [])) [] a = subst (λ (c : List ℕ). IsAnswer (asked (c ∷ word ∷ [])) [] a) named is in
-    let whole : word ≡ bytes = same ∙ seen in
-    inr (utf8, a, subst (λ (w : List ℕ). RangeAnswer w a) whole first, other)

@@ -1,15 +1,15 @@
 -- What each call on one text answers.
-use Rattle.std.specs.Prelude.{◌≡◌, ◌≢◌, ◌⊎◌, ℕ, ℤ, pos, negsuc, List, [], Bool, length, is_some}
+use Rattle.std.specs.Prelude.{◌≡◌, ◌⊎◌, ℕ, ℤ, pos, negsuc, List, [], Bool, Some, None, length, is_some}
 use Rattle.std.specs.List.{list_any}
 use Rattle.std.specs.Option.{option_map_or}
-use Rattle.std.specs.Str.{IsUtf8}
 use Rattle.std.specs.declared.cmp.Ordering.{Ordering}
 use Rattle.std.specs.declared.cmp.Ordering.TheVariants.{Less, Equal, Greater}
+use Rattle.pep440_rs.specs.Bounds.{Segments, list_range, range_of}
 use Rattle.pep440_rs.specs.Lists.{list_print}
 use Rattle.pep440_rs.specs.Matching.{any_prerelease, has_local, list_matches}
+use Rattle.pep440_rs.specs.RangeLines.{range_lines}
 use Rattle.pep440_rs.specs.Specifiers.{Spec}
 use Rattle.pep440_sort_key.specs.Keys.{key_bytes}
-use Rattle.pep440_tool.specs.Answers.{RangeAnswer, ToolAnswer}
 use Rattle.pep440_version.specs.Key.{record_cmp}
 use Rattle.pep440_version.specs.Print.{print}
 use Rattle.pep440_version.specs.Record.{Record}
@@ -17,7 +17,7 @@ use Rattle.pep440_version.specs.declared.prerelease.Prerelease.{Prerelease}
 use Rattle.pep440_version.specs.declared.prerelease.PrereleaseKind.{PrereleaseKind}
 use Rattle.pep440_version.specs.declared.prerelease.PrereleaseKind.TheVariants.{Alpha, Beta, Rc}
 use Rattle.pep440_c.specs.Meaning.{MeansBytes, MeansListBytes, RefusesBytes, TellsWhy, TellsWhyNoList}
-use Rattle.pep440_c.specs.Statuses.{Fails, PutsFront}
+use Rattle.pep440_c.specs.Statuses.{Fails, PutsFront, flag}
 use Rattle.pep440_c.specs.declared.Parts.{Parts}
 
 -- ---- texts
@@ -31,24 +31,24 @@ abbrev pub IsNormalList : List ℕ → List ℕ → Type 0
 IsNormalList text bytes = (list : List Spec) × MeansListBytes text list × (bytes ≡ list_print list)
 
 -- why the text means no version; nothing where it means one
-abbrev pub IsRefusal : List ℕ → List ℕ → Type 0
-IsRefusal text bytes = ((r : Record) × MeansBytes text r × (bytes ≡ [])) ⊎ TellsWhy text bytes
+abbrev pub IsVersionError : List ℕ → List ℕ → Type 0
+IsVersionError text bytes = ((r : Record) × MeansBytes text r × (bytes ≡ [])) ⊎ TellsWhy text bytes
 
 -- why the text means no list; nothing where it means one
-abbrev pub IsListRefusal : List ℕ → List ℕ → Type 0
-IsListRefusal text bytes = ((list : List Spec) × MeansListBytes text list × (bytes ≡ [])) ⊎ TellsWhyNoList text bytes
+abbrev pub IsListError : List ℕ → List ℕ → Type 0
+IsListError text bytes = ((list : List Spec) × MeansListBytes text list × (bytes ≡ [])) ⊎ TellsWhyNoList text bytes
 
 -- the sort key of a version
 abbrev pub IsKey : List ℕ → List ℕ → Type 0
 IsKey text bytes = (r : Record) × MeansBytes text r × (bytes ≡ key_bytes r)
 
--- the range of a list, as the program prints it
+-- the range of a list
 abbrev pub IsRange : List ℕ → List ℕ → Type 0
-IsRange text bytes = IsUtf8 text × RangeAnswer text (record { output = bytes; status = 0 })
+IsRange text bytes = (list : List Spec) × (range : Segments) × MeansListBytes text list × (list_range range_of list ≡ Some range) × (bytes ≡ range_lines range)
 
--- the list has no range that the program prints
-abbrev pub RefusesRange : List ℕ → Type 0
-RefusesRange text = (¬ IsUtf8 text) ⊎ (IsUtf8 text × (a : ToolAnswer) × RangeAnswer text a × (a.status ≢ 0))
+-- the list has no range, since a number that can't be raised would have to be
+abbrev pub HasNoRange : List ℕ → Type 0
+HasNoRange text = (list : List Spec) × MeansListBytes text list × (list_range range_of list ≡ None)
 
 -- ---- order and matching
 
@@ -93,12 +93,12 @@ pub record TellsParts (r : Record) (p : Parts) : Type 0 where
   pub dev : p.dev ≡ option_map_or (λ n. n) r.dev 0
   pub release : p.release_length ≡ length r.release
   pub kind : p.pre_kind ≡ option_map_or (λ (pre : Prerelease). kind_number pre.kind) r.pre 0
-  pub has_post : p.has_post ≡ is_some r.post
-  pub has_dev : p.has_dev ≡ is_some r.dev
-  pub has_local : p.has_local ≡ has_local r
+  pub has_post : p.has_post ≡ flag (is_some r.post)
+  pub has_dev : p.has_dev ≡ flag (is_some r.dev)
+  pub has_local : p.has_local ≡ flag (has_local r)
 
 -- the parts are told, and the release is put at the front of the caller's numbers, or there are too few; or all stays
 abbrev pub PartsAnswer : List ℕ → Parts → Parts → List ℕ → List ℕ → ℕ → Type 0
 PartsAnswer text old parts old_release release status =
     ((r : Record) × MeansBytes text r × TellsParts r parts × PutsFront r.release old_release release status)
-    ⊎ ((parts ≡ old) × (release ≡ old_release) × Fails (RefusesBytes text) ⊥ status)
+    ⊎ ((parts ≡ old) × (release ≡ old_release) × Fails (RefusesBytes text) ⊥ ⊥ status)

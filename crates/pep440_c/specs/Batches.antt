@@ -30,7 +30,7 @@ Marks list_text texts marks = (list : List Spec) × MeansListBytes list_text lis
 abbrev pub FilterAnswer : List ℕ → List (List ℕ) → List ℕ → List ℕ → ℕ → Type 0
 FilterAnswer list_text texts old marks status =
     ((found : List ℕ) × Marks list_text texts found × PutsFront found old marks status)
-    ⊎ ((marks ≡ old) × Fails ⊥ (RefusesListBytes list_text) status)
+    ⊎ ((marks ≡ old) × Fails ⊥ (RefusesListBytes list_text) ⊥ status)
 
 -- ---- texts that are all to be versions
 
@@ -88,7 +88,7 @@ KeysAnswer texts old bytes old_ends ends old_written written old_at at status =
 
 -- why nothing is given, where memory didn't run out
 abbrev pub StopsAll : List (List ℕ) → Stop → Type 0
-StopsAll texts (stop.RefusedAt place) = RefusesFirst texts place
+StopsAll texts (stop.InvalidAt place) = RefusesFirst texts place
 StopsAll texts stop.OutOfMemory = Unit {0}
 
 -- what holds of what is given, or why nothing is
@@ -98,8 +98,9 @@ GivesAll texts P (Err s) = StopsAll texts s
 
 -- why the texts are not read, where the one at this place is not
 abbrev pub stop_at : ℕ → Fault → Stop
-stop_at place fault.VersionRefused = stop.RefusedAt place
-stop_at place fault.ListRefused = stop.RefusedAt place
+stop_at place fault.InvalidVersion = stop.InvalidAt place
+stop_at place fault.InvalidList = stop.InvalidAt place
+stop_at place fault.NumberAtMax = stop.InvalidAt place
 stop_at place fault.OutOfMemory = stop.OutOfMemory
 
 -- the versions that the texts mean, with their places
@@ -108,5 +109,5 @@ MeansPlaced texts given = (versions : List Record) × AllZip MeansBytes texts ve
 
 -- the place that was refused is told, and the status
 abbrev pub TellsStop : Stop → ℕ → ℕ → ℕ → Type 0
-TellsStop (stop.RefusedAt place) old new status = (new ≡ place) × (status ≡ 1)
+TellsStop (stop.InvalidAt place) old new status = (new ≡ place) × (status ≡ 1)
 TellsStop stop.OutOfMemory old new status = (new ≡ old) × (status ≡ 3)

@@ -1,21 +1,32 @@
--- How a call ends: its status, and what it leaves in the caller's memory. 0 answered, 1 a version text is refused, 2 a list text is
--- refused, 3 out of memory, 4 too little room.
-use Rattle.std.specs.Prelude.{◌≡◌, ◌⊎◌, ◌≤◌, ◌<◌, ℕ, List, ◌++◌, drop, length, Result, Ok, Err}
+-- How a call ends: its status, and what it leaves in the caller's memory. 0 ok, 1 a version is invalid, 2 a list is invalid, 3 out of
+-- memory, 4 too little room, 5 a bound lies above the greatest number.
+use Rattle.std.specs.Prelude.{◌≡◌, ◌⊎◌, ◌≤◌, ◌<◌, ℕ, Bool, true, false, List, ◌++◌, drop, length, Result, Ok, Err}
 use Rattle.pep440_c.specs.declared.texts.Fault.{Fault}
 use Rattle.pep440_c.specs.declared.texts.Fault.TheVariants as fault
 
 -- the status of a call that gives nothing
 abbrev pub fault_status : Fault → ℕ
-fault_status fault.VersionRefused = 1
-fault_status fault.ListRefused = 2
+fault_status fault.InvalidVersion = 1
+fault_status fault.InvalidList = 2
 fault_status fault.OutOfMemory = 3
+fault_status fault.NumberAtMax = 5
 
-module _ (version list : Type 0) where
-  -- why nothing is given, where memory didn't run out: a version text is refused, or a list text
+-- a truth value as the number that C gets, 0 or 1 and no other
+abbrev pub flag : Bool → ℕ
+flag true = 1
+flag false = 0
+
+-- the number is the truth value of which this holds
+abbrev pub IsFlagOf : (Bool → Type 0) → ℕ → Type 0
+IsFlagOf P number = (truth : Bool) × P truth × (number ≡ flag truth)
+
+module _ (version list range : Type 0) where
+  -- why nothing is given, where memory didn't run out: a version is invalid, a list is, or the list has no range
   abbrev pub Faults : Fault → Type 0
-  Faults fault.VersionRefused = version
-  Faults fault.ListRefused = list
+  Faults fault.InvalidVersion = version
+  Faults fault.InvalidList = list
   Faults fault.OutOfMemory = Unit {0}
+  Faults fault.NumberAtMax = range
 
   -- what holds of what is given, or why nothing is
   abbrev pub Gives : {X : Type 0} → (X → Type 0) → Result X Fault → Type 0
@@ -43,7 +54,7 @@ PutsBoth first second old new old_second new_second status =
     ⊎ ((status ≡ 4) × ((length old < length first) ⊎ (length old_second < length second)) × (new ≡ old) × (new_second ≡ old_second))
 
 -- bytes of which this holds are put at the front of the caller's, or there are too few; how many it takes is told. Or all stays
-abbrev pub PutsBytes : Type 0 → Type 0 → (List ℕ → Type 0) → List ℕ → List ℕ → ℕ → ℕ → ℕ → Type 0
-PutsBytes version list P old new old_written written status =
+abbrev pub PutsBytes : Type 0 → Type 0 → Type 0 → (List ℕ → Type 0) → List ℕ → List ℕ → ℕ → ℕ → ℕ → Type 0
+PutsBytes version list range P old new old_written written status =
     ((bytes : List ℕ) × P bytes × (written ≡ length bytes) × PutsFront bytes old new status)
-    ⊎ ((new ≡ old) × (written ≡ old_written) × Fails version list status)
+    ⊎ ((new ≡ old) × (written ≡ old_written) × Fails version list range status)

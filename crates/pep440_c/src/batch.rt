@@ -13,17 +13,17 @@ use pep440_sort_key::sort_key;
 use std::alloc::{AllocError, AllocFailed, Global};
 use std::cmp::Ordering;
 
-const LEFT_OUT: u8 = 0;
+const NO_MATCH: u8 = 0;
 
-const CONTAINED: u8 = 1;
+const MATCH: u8 = 1;
 
-const REFUSED: u8 = 2;
+const NOT_A_VERSION: u8 = 2;
 
 /// Why many texts are not read.
 #[derive(Clone, Copy, Debug)]
 pub(crate) enum Stop {
     /// The text at this place is the first that means no version.
-    RefusedAt(usize),
+    InvalidAt(usize),
     /// Memory ran out.
     OutOfMemory,
 }
@@ -50,7 +50,9 @@ impl Stop {
         ensures { result ≡ stop_at place fault }
     {
         match fault {
-            Fault::VersionRefused | Fault::ListRefused => Stop::RefusedAt(place),
+            Fault::InvalidVersion | Fault::InvalidList | Fault::NumberAtMax => {
+                Stop::InvalidAt(place)
+            }
             Fault::OutOfMemory => Stop::OutOfMemory,
         }
     }
@@ -63,13 +65,13 @@ fn mark(alloc: Global, list: &VersionSpecifiers, text: &[u8]) -> Result<u8, Allo
     match read(alloc, text) {
         Ok(version) => {
             if list.contains(alloc, &version)? {
-                Ok(CONTAINED)
+                Ok(MATCH)
             } else {
-                Ok(LEFT_OUT)
+                Ok(NO_MATCH)
             }
         }
         Err(Fault::OutOfMemory) => Err(AllocError),
-        Err(_) => Ok(REFUSED),
+        Err(_) => Ok(NOT_A_VERSION),
     }
 }
 
@@ -87,7 +89,7 @@ fn marks_of(alloc: Global, list: &VersionSpecifiers, texts: &[&[u8]]) -> Result<
 
 /// Of each text, whether the list contains it.
 pub(crate) fn marks(alloc: Global, list: &[u8], texts: &[&[u8]]) -> Result<Vec<u8>, Fault>
-    ensures { Gives ⊥ (RefusesListBytes list.now) (λ found. Marks list.now (map (λ t. t.now) texts.now) found.items) result }
+    ensures { Gives ⊥ (RefusesListBytes list.now) ⊥ (λ found. Marks list.now (map (λ t. t.now) texts.now) found.items) result }
 {
     let specifiers = read_list(alloc, list)?;
     Ok(marks_of(alloc, &specifiers, texts)?)
@@ -184,7 +186,7 @@ pub(crate) fn tell(stop: Stop, at: &mut usize) -> u8
     ensures { TellsStop stop at.old at.new result }
 {
     match stop {
-        Stop::RefusedAt(place) => {
+        Stop::InvalidAt(place) => {
             *at = place;
             1
         }

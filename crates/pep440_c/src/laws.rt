@@ -2,9 +2,10 @@
 ghost use Rattle.std.specs.Prelude.{◌≡◌, ◌⊎◌, ℕ, List};
 ghost use Rattle.pep440_rs.specs.Specifiers.{Spec};
 ghost use Rattle.pep440_version.specs.Record.{Record};
+ghost use Rattle.pep440_c.specs.Answers.{HasNoRange, IsRange};
 ghost use Rattle.pep440_c.specs.Meaning.{MeansBytes, MeansListBytes, RefusesBytes, RefusesListBytes, TellsWhy, TellsWhyNoList};
 
-/// Bytes mean one version, or are refused for one reason, and never both: so where memory is found a call on them has one answer.
+/// Bytes mean one version, or are invalid with one error, and never both.
 pub fn versions_once()
     ensures one { (bytes : List ℕ) (r q : Record) → MeansBytes bytes r → MeansBytes bytes q → r ≡ q }
     ensures why { (bytes words others : List ℕ) → TellsWhy bytes words → TellsWhy bytes others → words ≡ others }
@@ -18,4 +19,13 @@ pub fn lists_once()
     ensures why { (bytes words others : List ℕ) → TellsWhyNoList bytes words → TellsWhyNoList bytes others → words ≡ others }
     ensures either { (bytes : List ℕ) → ((l : List Spec) × MeansListBytes bytes l) ⊎ RefusesListBytes bytes }
     ensures never_both { (bytes : List ℕ) (l : List Spec) → MeansListBytes bytes l → RefusesListBytes bytes → ⊥ }
+{}
+
+/// Bytes have one range, or are no list, or are a list without a range, and never two of these: so of the statuses 0, 2 and 5 a call has one.
+pub fn ranges_once()
+    ensures one { (bytes words others : List ℕ) → IsRange bytes words → IsRange bytes others → words ≡ others }
+    ensures either { (bytes : List ℕ) → ((words : List ℕ) × IsRange bytes words) ⊎ (RefusesListBytes bytes ⊎ HasNoRange bytes) }
+    ensures never_both { (bytes words : List ℕ) → IsRange bytes words → RefusesListBytes bytes → ⊥ }
+    ensures never_at_max { (bytes words : List ℕ) → IsRange bytes words → HasNoRange bytes → ⊥ }
+    ensures one_error { (bytes : List ℕ) → HasNoRange bytes → RefusesListBytes bytes → ⊥ }
 {}

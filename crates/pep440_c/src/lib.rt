@@ -1,17 +1,18 @@
 //! PEP 440 for C: versions and lists of specifiers, as texts in the caller's memory.
 //!
-//! A text is bytes and how many there are. No call keeps a pointer, and none has a condition beyond its types. Each answers a status: 0
-//! answered, 1 a version text is refused, 2 a list text is refused, 3 out of memory, 4 too little room. The header is `callers/c/pep440.h`.
+//! A string is bytes and how many there are. No call keeps a pointer, and none has a condition beyond its types. Each returns a status: 0
+//! ok, 1 a version is invalid, 2 a list is invalid, 3 out of memory, 4 too little room, 5 a bound of a range lies above the greatest number.
+//! The header is `callers/c/pep440.h`.
 //!
-//! A call may take memory while it runs, from `malloc`, and gives it back before it ends. Where a request is refused it answers 3, and may be
-//! made again.
+//! A call may allocate from `malloc`, and frees what it allocated before it returns. Where `malloc` fails it returns 3, and may be made
+//! again.
 #![tactic(auto)]
 
 ghost use Rattle.std.specs.Prelude.{◌≡◌, ◌⊎◌, map};
-ghost use Rattle.pep440_c.specs.Answers.{Contains, IsKey, IsListRefusal, IsNormal, IsNormalList, IsOrder, IsRange, IsRefusal, NamesPrerelease, PartsAnswer, RefusesRange, RefusesSecond, order_number};
+ghost use Rattle.pep440_c.specs.Answers.{Contains, HasNoRange, IsKey, IsListError, IsNormal, IsNormalList, IsOrder, IsRange, IsVersionError, NamesPrerelease, PartsAnswer, RefusesSecond, order_number};
 ghost use Rattle.pep440_c.specs.Batches.{FilterAnswer, KeysAnswer, SortAnswer};
 ghost use Rattle.pep440_c.specs.Meaning.{RefusesBytes, RefusesListBytes};
-ghost use Rattle.pep440_c.specs.Statuses.{Puts, PutsBytes};
+ghost use Rattle.pep440_c.specs.Statuses.{IsFlagOf, Puts, PutsBytes};
 
 mod batch;
 pub mod laws;
@@ -22,7 +23,7 @@ mod tests;
 mod texts;
 
 use crate::batch::Stop;
-use crate::room::{ANSWERED, put, put_both, put_bytes, put_text};
+use crate::room::{OK, flag, put, put_both, put_bytes, put_text};
 use std::alloc::Global;
 use std::cmp::Ordering;
 
@@ -34,7 +35,7 @@ pub extern "C" fn pep440_normalize(
     out: &mut [u8],
     written: &mut usize,
 ) -> u8
-    ensures { PutsBytes (RefusesBytes text.now) ⊥ (IsNormal text.now) out.old out.new written.old written.new result }
+    ensures { PutsBytes (RefusesBytes text.now) ⊥ ⊥ (IsNormal text.now) out.old out.new written.old written.new result }
 {
     put_text(texts::normal(alloc, text), out, written)
 }
@@ -47,35 +48,35 @@ pub extern "C" fn pep440_normalize_list(
     out: &mut [u8],
     written: &mut usize,
 ) -> u8
-    ensures { PutsBytes ⊥ (RefusesListBytes list.now) (IsNormalList list.now) out.old out.new written.old written.new result }
+    ensures { PutsBytes ⊥ (RefusesListBytes list.now) ⊥ (IsNormalList list.now) out.old out.new written.old written.new result }
 {
     put_text(texts::normal_list(alloc, list), out, written)
 }
 
-/// Writes why the text is no version; nothing where it is one.
+/// Writes why the string is no version; nothing where it is one.
 #[unsafe(no_mangle)]
-pub extern "C" fn pep440_refusal(
+pub extern "C" fn pep440_version_error(
     alloc: Global,
     text: &[u8],
     out: &mut [u8],
     written: &mut usize,
 ) -> u8
-    ensures { PutsBytes ⊥ ⊥ (IsRefusal text.now) out.old out.new written.old written.new result }
+    ensures { PutsBytes ⊥ ⊥ ⊥ (IsVersionError text.now) out.old out.new written.old written.new result }
 {
-    put_text(texts::refusal(alloc, text), out, written)
+    put_text(texts::version_error(alloc, text), out, written)
 }
 
-/// Writes why the text is no list of specifiers; nothing where it is one.
+/// Writes why the string is no list of specifiers; nothing where it is one.
 #[unsafe(no_mangle)]
-pub extern "C" fn pep440_list_refusal(
+pub extern "C" fn pep440_list_error(
     alloc: Global,
     list: &[u8],
     out: &mut [u8],
     written: &mut usize,
 ) -> u8
-    ensures { PutsBytes ⊥ ⊥ (IsListRefusal list.now) out.old out.new written.old written.new result }
+    ensures { PutsBytes ⊥ ⊥ ⊥ (IsListError list.now) out.old out.new written.old written.new result }
 {
-    put_text(texts::list_refusal(alloc, list), out, written)
+    put_text(texts::list_error(alloc, list), out, written)
 }
 
 // The number that stands for an order.
@@ -93,45 +94,40 @@ fn order_number(order: Ordering) -> i8
 /// ordering").
 #[unsafe(no_mangle)]
 pub extern "C" fn pep440_compare(alloc: Global, left: &[u8], right: &[u8], order: &mut i8) -> u8
-    ensures { Puts (RefusesBytes left.now ⊎ RefusesBytes right.now) ⊥ (IsOrder left.now right.now) order.old order.new result }
+    ensures { Puts (RefusesBytes left.now ⊎ RefusesBytes right.now) ⊥ ⊥ (IsOrder left.now right.now) order.old order.new result }
 {
     match texts::order(alloc, left, right) {
         Ok(found) => {
             *order = order_number(found);
-            ANSWERED
+            OK
         }
         Err(fault) => fault.status(),
     }
 }
 
-/// Whether the list contains the version (PEP 440, "Version specifiers").
+/// Whether the list contains the version, 1 or 0 (PEP 440, "Version specifiers").
 #[unsafe(no_mangle)]
-pub extern "C" fn pep440_contains(
-    alloc: Global,
-    list: &[u8],
-    text: &[u8],
-    contained: &mut bool,
-) -> u8
-    ensures { Puts (RefusesSecond list.now text.now) (RefusesListBytes list.now) (Contains list.now text.now) contained.old contained.new result }
+pub extern "C" fn pep440_contains(alloc: Global, list: &[u8], text: &[u8], contained: &mut u8) -> u8
+    ensures { Puts (RefusesSecond list.now text.now) (RefusesListBytes list.now) ⊥ (IsFlagOf (Contains list.now text.now)) contained.old contained.new result }
 {
     match texts::contains(alloc, list, text) {
         Ok(found) => {
-            *contained = found;
-            ANSWERED
+            *contained = flag(found);
+            OK
         }
         Err(fault) => fault.status(),
     }
 }
 
-/// Whether a version of the list's specifiers is a pre-release or a developmental release (PEP 440, "Handling of pre-releases").
+/// Whether a version of the list's specifiers is a pre-release or a developmental release, 1 or 0 (PEP 440, "Handling of pre-releases").
 #[unsafe(no_mangle)]
-pub extern "C" fn pep440_any_prerelease(alloc: Global, list: &[u8], any: &mut bool) -> u8
-    ensures { Puts ⊥ (RefusesListBytes list.now) (NamesPrerelease list.now) any.old any.new result }
+pub extern "C" fn pep440_any_prerelease(alloc: Global, list: &[u8], any: &mut u8) -> u8
+    ensures { Puts ⊥ (RefusesListBytes list.now) ⊥ (IsFlagOf (NamesPrerelease list.now)) any.old any.new result }
 {
     match texts::any_prerelease(alloc, list) {
         Ok(found) => {
-            *any = found;
-            ANSWERED
+            *any = flag(found);
+            OK
         }
         Err(fault) => fault.status(),
     }
@@ -149,12 +145,13 @@ pub struct Parts {
     pub release_length: usize,
     /// 0 no pre-release, 1 alpha, 2 beta, 3 release candidate.
     pub pre_kind: u8,
-    pub has_post: bool,
-    pub has_dev: bool,
-    pub has_local: bool,
+    /// 1 or 0, as the next two.
+    pub has_post: u8,
+    pub has_dev: u8,
+    pub has_local: u8,
 }
 
-/// Tells the parts of the version, and writes the numbers of its release (PEP 440, "Public version identifiers").
+/// Writes the parts of the version, and the numbers of its release (PEP 440, "Public version identifiers").
 #[unsafe(no_mangle)]
 pub extern "C" fn pep440_parts_of(
     alloc: Global,
@@ -182,12 +179,12 @@ pub extern "C" fn pep440_sort_key(
     out: &mut [u8],
     written: &mut usize,
 ) -> u8
-    ensures { PutsBytes (RefusesBytes text.now) ⊥ (IsKey text.now) out.old out.new written.old written.new result }
+    ensures { PutsBytes (RefusesBytes text.now) ⊥ ⊥ (IsKey text.now) out.old out.new written.old written.new result }
 {
     put_bytes(texts::key(alloc, text), out, written)
 }
 
-/// Writes the range of the list, a segment a line. A list whose range would need a number above the greatest is refused, too.
+/// Writes the range of the list, a segment a line. Status 5 where a bound of it would need a number above the greatest.
 #[unsafe(no_mangle)]
 pub extern "C" fn pep440_ranges(
     alloc: Global,
@@ -195,12 +192,12 @@ pub extern "C" fn pep440_ranges(
     out: &mut [u8],
     written: &mut usize,
 ) -> u8
-    ensures { PutsBytes ⊥ (RefusesRange list.now) (IsRange list.now) out.old out.new written.old written.new result }
+    ensures { PutsBytes ⊥ (RefusesListBytes list.now) (HasNoRange list.now) (IsRange list.now) out.old out.new written.old written.new result }
 {
-    put_bytes(texts::range(alloc, list), out, written)
+    put_text(texts::range(alloc, list), out, written)
 }
 
-/// Marks each text, in its place: 1 the list contains its version, 0 it doesn't, 2 it is no version.
+/// Writes a mark for each string, in order: 1 the list contains its version, 0 it doesn't, 2 it is no version.
 #[unsafe(no_mangle)]
 pub extern "C" fn pep440_filter(alloc: Global, list: &[u8], texts: &[&[u8]], marks: &mut [u8]) -> u8
     ensures { FilterAnswer list.now (map (λ t. t.now) texts.now) marks.old marks.new result }

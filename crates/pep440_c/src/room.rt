@@ -1,13 +1,20 @@
 // What is put into the caller's memory.
 ghost use Rattle.std.specs.Prelude.{◌≡◌, length, string_bytes};
-ghost use Rattle.pep440_c.specs.Statuses.{PutsBoth, PutsFront};
+ghost use Rattle.pep440_c.specs.Statuses.{PutsBoth, PutsFront, flag};
 ghost use Rattle.pep440_c.specs.Room.{PutsGiven};
 
 use crate::texts::Fault;
 
-pub(crate) const ANSWERED: u8 = 0;
+pub(crate) const OK: u8 = 0;
 
 pub(crate) const NO_ROOM: u8 = 4;
+
+/// The number that stands for a truth value.
+pub(crate) fn flag(truth: bool) -> u8
+    ensures { result ≡ flag truth }
+{
+    if truth { 1 } else { 0 }
+}
 
 /// Puts the items at the front of the caller's, where there are enough of these.
 pub(crate) fn put<T: Copy>(items: &[T], out: &mut [T]) -> u8
@@ -17,7 +24,7 @@ pub(crate) fn put<T: Copy>(items: &[T], out: &mut [T]) -> u8
         return NO_ROOM;
     }
     out[..items.len()].copy_from_slice(items);
-    ANSWERED
+    OK
 }
 
 // The same of bytes, and tells how many they are.
@@ -58,5 +65,5 @@ pub(crate) fn put_both(bytes: &[u8], places: &[usize], out: &mut [u8], ends: &mu
     }
     out[..bytes.len()].copy_from_slice(bytes);
     ends[..places.len()].copy_from_slice(places);
-    ANSWERED
+    OK
 }

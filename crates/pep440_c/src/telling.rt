@@ -3,6 +3,7 @@ ghost use Rattle.pep440_c.specs.Answers.{TellsParts, kind_number};
 ghost use Rattle.std.specs.Prelude.{◌≡◌};
 
 use crate::Parts;
+use crate::room::flag;
 use pep440_rs::{PrereleaseKind, Version};
 
 // The number that stands for a kind of pre-release.
@@ -31,8 +32,8 @@ pub(crate) fn parts_of(version: &Version) -> Parts
         dev: version.dev().unwrap_or(0),
         release_length: version.release().len(),
         pre_kind,
-        has_post: version.is_post(),
-        has_dev: version.is_dev(),
-        has_local: version.is_local(),
+        has_post: flag(version.is_post()),
+        has_dev: flag(version.is_dev()),
+        has_local: flag(version.is_local()),
     }
 }

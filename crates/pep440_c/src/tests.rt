@@ -1,8 +1,8 @@
-//! Each call once where it answers and where it refuses, with too little room, and with each request for memory refused in turn.
+//! Each call once where it returns a value and where it returns an error, with too little room, and with each allocation failing in turn.
 use crate::{
     Parts, pep440_any_prerelease, pep440_compare, pep440_contains, pep440_filter,
-    pep440_list_refusal, pep440_normalize, pep440_normalize_list, pep440_parts_of, pep440_ranges,
-    pep440_refusal, pep440_sort, pep440_sort_key, pep440_sort_keys,
+    pep440_list_error, pep440_normalize, pep440_normalize_list, pep440_parts_of, pep440_ranges,
+    pep440_sort, pep440_sort_key, pep440_sort_keys, pep440_version_error,
 };
 use std::alloc::Global;
 use std::test::Fail;
@@ -12,8 +12,8 @@ use std::test::Fail;
 enum Call {
     Normalize,
     NormalizeList,
-    Refusal,
-    ListRefusal,
+    VersionError,
+    ListError,
     SortKey,
     Ranges,
 }
@@ -22,8 +22,8 @@ fn write(alloc: Global, call: Call, text: &[u8], out: &mut [u8], written: &mut u
     match call {
         Call::Normalize => pep440_normalize(alloc, text, out, written),
         Call::NormalizeList => pep440_normalize_list(alloc, text, out, written),
-        Call::Refusal => pep440_refusal(alloc, text, out, written),
-        Call::ListRefusal => pep440_list_refusal(alloc, text, out, written),
+        Call::VersionError => pep440_version_error(alloc, text, out, written),
+        Call::ListError => pep440_list_error(alloc, text, out, written),
         Call::SortKey => pep440_sort_key(alloc, text, out, written),
         Call::Ranges => pep440_ranges(alloc, text, out, written),
     }
@@ -40,14 +40,14 @@ const WRITTEN: [(Call, &[u8], &[u8]); 11] = [
     (Call::NormalizeList, b">=1.16 ,<2.0", b">=1.16, <2.0"),
     (Call::NormalizeList, b"", b""),
     (
-        Call::Refusal,
+        Call::VersionError,
         b"1.0prev",
         b"after parsing `1.0pre`, found `v`, which is not part of a valid version",
     ),
-    (Call::Refusal, b"1.2.3.4.5.6", b""),
-    (Call::Refusal, b"1.\xff", b"not UTF-8"),
-    (Call::ListRefusal, b">=1.2.3.4.5.6", b""),
-    (Call::ListRefusal, b"\xc3", b"not UTF-8"),
+    (Call::VersionError, b"1.2.3.4.5.6", b""),
+    (Call::VersionError, b"1.\xff", b"not UTF-8"),
+    (Call::ListError, b">=1.2.3.4.5.6", b""),
+    (Call::ListError, b"\xc3", b"not UTF-8"),
     (
         Call::SortKey,
         b"1.0.post1+ab.7",
@@ -60,13 +60,16 @@ const WRITTEN: [(Call, &[u8], &[u8]); 11] = [
     ),
 ];
 
-const REFUSED: [(Call, &[u8], u8); 6] = [
+const ERRORS: [(Call, &[u8], u8); 9] = [
     (Call::Normalize, b"1.2.3.4.5.6x", 1),
     (Call::Normalize, b"1.0\xff", 1),
     (Call::NormalizeList, b">=1.16; <2.0", 2),
     (Call::NormalizeList, b">=1.0\xff", 2),
     (Call::SortKey, b"1.2.3.4.5.6x", 1),
     (Call::Ranges, b"~1.2.3.4.5.6", 2),
+    (Call::Ranges, b">=1.0\xff", 2),
+    (Call::Ranges, b"==18446744073709551615.*", 5),
+    (Call::Ranges, b">=1.2.3.4.5.6, ==18446744073709551615.*", 5),
 ];
 
 // The status of the call, asked for a second time where memory was refused; what the caller passed is then as it was.
@@ -98,8 +101,8 @@ fn sweep_written(rt: HostRuntime) -> Result<(), Fail> {
 }
 
 #[test]
-fn sweep_refused(rt: HostRuntime) -> Result<(), Fail> {
-    for (call, text, want) in REFUSED {
+fn sweep_errors(rt: HostRuntime) -> Result<(), Fail> {
+    for (call, text, want) in ERRORS {
         let mut out = [7u8; 96];
         let mut written = 99;
         let status = write_again(rt, call, text, &mut out, &mut written);
@@ -154,13 +157,14 @@ fn sweep_compare(rt: HostRuntime) -> Result<(), Fail> {
 #[test]
 fn sweep_contains(rt: HostRuntime) -> Result<(), Fail> {
     for (list, text, want) in [
-        (">=1.16, <2.0", "1.19", true),
-        (">=1.16, <2.0", "2.0a1", false),
-        ("===1.2.3.4.5.6", "1.2.3.4.5.6", true),
+        (">=1.16, <2.0", "1.19", 1),
+        (">=1.16, <2.0", "2.0a1", 0),
+        ("===1.2.3.4.5.6", "1.2.3.4.5.6", 1),
+        (">=1.0", "2.0rc1", 1),
     ] {
-        let mut contained = !want;
+        let mut contained = 7;
         if pep440_contains(rt.alloc(), list.as_bytes(), text.as_bytes(), &mut contained) == 3 {
-            assert!(rt; contained != want);
+            assert!(rt; contained == 7);
             pep440_contains(rt.alloc(), list.as_bytes(), text.as_bytes(), &mut contained);
         }
         assert!(rt; contained == want, "{list} and {text}");
@@ -171,14 +175,14 @@ fn sweep_contains(rt: HostRuntime) -> Result<(), Fail> {
 #[test]
 fn sweep_any_prerelease(rt: HostRuntime) -> Result<(), Fail> {
     for (list, want) in [
-        (">=1.0, <2.0", false),
-        (">=1.0, <2.0.dev1", true),
-        ("==1.0a1", true),
-        ("", false),
+        (">=1.0, <2.0", 0),
+        (">=1.0, <2.0.dev1", 1),
+        ("==1.0a1", 1),
+        ("", 0),
     ] {
-        let mut any = !want;
+        let mut any = 7;
         if pep440_any_prerelease(rt.alloc(), list.as_bytes(), &mut any) == 3 {
-            assert!(rt; any != want);
+            assert!(rt; any == 7);
             pep440_any_prerelease(rt.alloc(), list.as_bytes(), &mut any);
         }
         assert!(rt; any == want, "{list}");
@@ -193,9 +197,9 @@ const NO_PARTS: Parts = Parts {
     dev: 9,
     release_length: 9,
     pre_kind: 9,
-    has_post: false,
-    has_dev: false,
-    has_local: false,
+    has_post: 9,
+    has_dev: 9,
+    has_local: 9,
 };
 
 #[test]
@@ -211,7 +215,18 @@ fn sweep_parts_of(rt: HostRuntime) -> Result<(), Fail> {
     assert!(rt; status == 0 && release == [2, 3, 4, 5, 6, 7]);
     assert!(rt; parts.epoch == 1 && parts.release_length == 5 && parts.pre_kind == 2);
     assert!(rt; parts.pre == 7 && parts.post == 8 && parts.dev == 9);
-    assert!(rt; parts.has_post && parts.has_dev && parts.has_local);
+    assert!(rt; parts.has_post == 1 && parts.has_dev == 1 && parts.has_local == 1);
+    Ok(())
+}
+
+#[test]
+fn no_parts(rt: HostRuntime) -> Result<(), Fail> {
+    let mut parts = NO_PARTS;
+    let mut release = [7; 2];
+    assert!(rt; pep440_parts_of(rt.alloc(), b"1.2", &mut parts, &mut release) == 0);
+    assert!(rt; parts.epoch == 0 && parts.release_length == 2 && release == [1, 2]);
+    assert!(rt; parts.pre_kind == 0 && parts.pre == 0 && parts.post == 0 && parts.dev == 0);
+    assert!(rt; parts.has_post == 0 && parts.has_dev == 0 && parts.has_local == 0);
     Ok(())
 }
 
@@ -273,12 +288,12 @@ fn sweep_sort_keys(rt: HostRuntime) -> Result<(), Fail> {
 }
 
 #[test]
-fn refuses(rt: HostRuntime) -> Result<(), Fail> {
+fn errors(rt: HostRuntime) -> Result<(), Fail> {
     let mut order = 7;
     assert!(rt; pep440_compare(rt.alloc(), b"1", b"x", &mut order) == 1 && order == 7);
-    let mut contained = true;
-    assert!(rt; pep440_contains(rt.alloc(), b"1", b"x", &mut contained) == 2 && contained);
-    assert!(rt; pep440_contains(rt.alloc(), b"<1", b"x", &mut contained) == 1 && contained);
+    let mut contained = 7;
+    assert!(rt; pep440_contains(rt.alloc(), b"1", b"x", &mut contained) == 2 && contained == 7);
+    assert!(rt; pep440_contains(rt.alloc(), b"<1", b"x", &mut contained) == 1 && contained == 7);
     let texts: [&[u8]; 3] = [b"1.0", b"1.x", b"x"];
     let (mut places, mut at) = ([7; 3], 99);
     assert!(rt; pep440_sort(rt.alloc(), &texts, &mut places, &mut at) == 1);

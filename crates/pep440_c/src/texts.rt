@@ -3,15 +3,17 @@ ghost use Rattle.std.specs.Prelude.{◌≡◌, ◌⊎◌, is_none, string_bytes}
 ghost use Rattle.std.specs.List.{list_any};
 ghost use Rattle.pep440_rs.specs.Matching.{any_prerelease};
 ghost use Rattle.pep440_rs.specs.Specifiers.{Spec};
-ghost use Rattle.pep440_c.specs.Answers.{Contains, IsKey, IsListRefusal, IsNormal, IsNormalList, IsRange, IsRefusal, NamesPrerelease, Orders, RefusesRange, RefusesSecond};
+ghost use Rattle.pep440_c.specs.Answers.{Contains, HasNoRange, IsKey, IsListError, IsNormal, IsNormalList, IsRange, IsVersionError, NamesPrerelease, Orders, RefusesSecond};
 ghost use Rattle.pep440_c.specs.Meaning.{MeansBytes, MeansListBytes, RefusesBytes, RefusesListBytes};
 ghost use Rattle.pep440_c.specs.Statuses.{Gives, fault_status};
 ghost use Rattle.pep440_c.specs.declared.texts.Fault.TheVariants.{OutOfMemory};
 ghost use Rattle.pep440_version.specs.Errors.{refusal_of};
 
-use pep440_rs::{ErrorKind, SpecifiersErrorKind, Version, VersionSpecifiers};
+use pep440_rs::{
+    ErrorKind, RangeError, RangeLines, SpecifiersErrorKind, Version, VersionSpecifiers,
+    specifiers_to_ranges,
+};
 use pep440_sort_key::sort_key;
-use pep440_tool::answer;
 use std::alloc::{AllocError, AllocFailed, Global};
 use std::cmp::Ordering;
 
@@ -20,12 +22,14 @@ const NOT_UTF8: &str = "not UTF-8";
 /// Why a call gives nothing.
 #[derive(Clone, Copy, Debug)]
 pub(crate) enum Fault {
-    /// A text means no version.
-    VersionRefused,
-    /// A text means no list of specifiers.
-    ListRefused,
-    /// Memory ran out.
+    /// A string is no version.
+    InvalidVersion,
+    /// A string is no list of specifiers.
+    InvalidList,
+    /// Out of memory.
     OutOfMemory,
+    /// A bound of a range would need a number above the greatest.
+    NumberAtMax,
 }
 
 impl Fault {
@@ -34,9 +38,10 @@ impl Fault {
         ensures { result ≡ fault_status self }
     {
         match self {
-            Fault::VersionRefused => 1,
-            Fault::ListRefused => 2,
+            Fault::InvalidVersion => 1,
+            Fault::InvalidList => 2,
             Fault::OutOfMemory => 3,
+            Fault::NumberAtMax => 5,
         }
     }
 }
@@ -66,10 +71,10 @@ fn is_out_of_memory(kind: &ErrorKind) -> bool
 
 /// The version that the bytes mean.
 pub(crate) fn read(alloc: Global, bytes: &[u8]) -> Result<Version, Fault>
-    ensures { Gives (RefusesBytes bytes.now) ⊥ (MeansBytes bytes.now) result }
+    ensures { Gives (RefusesBytes bytes.now) ⊥ ⊥ (MeansBytes bytes.now) result }
 {
     let Ok(text) = std::str::from_utf8(bytes) else {
-        return Err(Fault::VersionRefused);
+        return Err(Fault::InvalidVersion);
     };
     match Version::from_str(alloc, text) {
         Ok(version) => Ok(version),
@@ -77,17 +82,17 @@ pub(crate) fn read(alloc: Global, bytes: &[u8]) -> Result<Version, Fault>
             if is_out_of_memory(error.kind()) {
                 return Err(Fault::OutOfMemory);
             }
-            Err(Fault::VersionRefused)
+            Err(Fault::InvalidVersion)
         }
     }
 }
 
 /// The list that the bytes mean.
 pub(crate) fn read_list(alloc: Global, bytes: &[u8]) -> Result<VersionSpecifiers, Fault>
-    ensures { Gives ⊥ (RefusesListBytes bytes.now) (MeansListBytes bytes.now) result }
+    ensures { Gives ⊥ (RefusesListBytes bytes.now) ⊥ (MeansListBytes bytes.now) result }
 {
     let Ok(text) = std::str::from_utf8(bytes) else {
-        return Err(Fault::ListRefused);
+        return Err(Fault::InvalidList);
     };
     match VersionSpecifiers::from_str(alloc, text) {
         Ok(list) => Ok(list),
@@ -95,14 +100,14 @@ pub(crate) fn read_list(alloc: Global, bytes: &[u8]) -> Result<VersionSpecifiers
             if let SpecifiersErrorKind::OutOfMemory = error.kind() {
                 return Err(Fault::OutOfMemory);
             }
-            Err(Fault::ListRefused)
+            Err(Fault::InvalidList)
         }
     }
 }
 
 /// Why the bytes mean no version; empty where they mean one.
-pub(crate) fn refusal(alloc: Global, bytes: &[u8]) -> Result<String, Fault>
-    ensures { Gives ⊥ ⊥ (λ words. IsRefusal bytes.now (string_bytes words)) result }
+pub(crate) fn version_error(alloc: Global, bytes: &[u8]) -> Result<String, Fault>
+    ensures { Gives ⊥ ⊥ ⊥ (λ words. IsVersionError bytes.now (string_bytes words)) result }
 {
     let Ok(text) = std::str::from_utf8(bytes) else {
         return Ok(String::from_str(alloc, NOT_UTF8)?);
@@ -119,8 +124,8 @@ pub(crate) fn refusal(alloc: Global, bytes: &[u8]) -> Result<String, Fault>
 }
 
 /// Why the bytes mean no list; empty where they mean one.
-pub(crate) fn list_refusal(alloc: Global, bytes: &[u8]) -> Result<String, Fault>
-    ensures { Gives ⊥ ⊥ (λ words. IsListRefusal bytes.now (string_bytes words)) result }
+pub(crate) fn list_error(alloc: Global, bytes: &[u8]) -> Result<String, Fault>
+    ensures { Gives ⊥ ⊥ ⊥ (λ words. IsListError bytes.now (string_bytes words)) result }
 {
     let Ok(text) = std::str::from_utf8(bytes) else {
         return Ok(String::from_str(alloc, NOT_UTF8)?);
@@ -138,7 +143,7 @@ pub(crate) fn list_refusal(alloc: Global, bytes: &[u8]) -> Result<String, Fault>
 
 /// The normal form of a version.
 pub(crate) fn normal(alloc: Global, bytes: &[u8]) -> Result<String, Fault>
-    ensures { Gives (RefusesBytes bytes.now) ⊥ (λ text. IsNormal bytes.now (string_bytes text)) result }
+    ensures { Gives (RefusesBytes bytes.now) ⊥ ⊥ (λ text. IsNormal bytes.now (string_bytes text)) result }
 {
     let version = read(alloc, bytes)?;
     Ok(version.to_string(alloc)?)
@@ -146,7 +151,7 @@ pub(crate) fn normal(alloc: Global, bytes: &[u8]) -> Result<String, Fault>
 
 /// The normal form of a list.
 pub(crate) fn normal_list(alloc: Global, bytes: &[u8]) -> Result<String, Fault>
-    ensures { Gives ⊥ (RefusesListBytes bytes.now) (λ text. IsNormalList bytes.now (string_bytes text)) result }
+    ensures { Gives ⊥ (RefusesListBytes bytes.now) ⊥ (λ text. IsNormalList bytes.now (string_bytes text)) result }
 {
     let list = read_list(alloc, bytes)?;
     Ok(list.to_string(alloc)?)
@@ -154,7 +159,7 @@ pub(crate) fn normal_list(alloc: Global, bytes: &[u8]) -> Result<String, Fault>
 
 /// How the left version stands to the right one.
 pub(crate) fn order(alloc: Global, left: &[u8], right: &[u8]) -> Result<Ordering, Fault>
-    ensures { Gives (RefusesBytes left.now ⊎ RefusesBytes right.now) ⊥ (Orders left.now right.now) result }
+    ensures { Gives (RefusesBytes left.now ⊎ RefusesBytes right.now) ⊥ ⊥ (Orders left.now right.now) result }
 {
     let first = read(alloc, left)?;
     let second = read(alloc, right)?;
@@ -163,7 +168,7 @@ pub(crate) fn order(alloc: Global, left: &[u8], right: &[u8]) -> Result<Ordering
 
 /// Whether the list contains the version.
 pub(crate) fn contains(alloc: Global, list: &[u8], bytes: &[u8]) -> Result<bool, Fault>
-    ensures { Gives (RefusesSecond list.now bytes.now) (RefusesListBytes list.now) (Contains list.now bytes.now) result }
+    ensures { Gives (RefusesSecond list.now bytes.now) (RefusesListBytes list.now) ⊥ (Contains list.now bytes.now) result }
 {
     let specifiers = read_list(alloc, list)?;
     let version = read(alloc, bytes)?;
@@ -179,7 +184,7 @@ fn any_member(list: &VersionSpecifiers) -> bool
 
 /// Whether a version of the list is a pre-release or a developmental release.
 pub(crate) fn any_prerelease(alloc: Global, list: &[u8]) -> Result<bool, Fault>
-    ensures { Gives ⊥ (RefusesListBytes list.now) (NamesPrerelease list.now) result }
+    ensures { Gives ⊥ (RefusesListBytes list.now) ⊥ (NamesPrerelease list.now) result }
 {
     let specifiers = read_list(alloc, list)?;
     Ok(any_member(&specifiers))
@@ -187,26 +192,20 @@ pub(crate) fn any_prerelease(alloc: Global, list: &[u8]) -> Result<bool, Fault>
 
 /// The sort key of a version.
 pub(crate) fn key(alloc: Global, bytes: &[u8]) -> Result<Vec<u8>, Fault>
-    ensures { Gives (RefusesBytes bytes.now) ⊥ (λ key. IsKey bytes.now key.items) result }
+    ensures { Gives (RefusesBytes bytes.now) ⊥ ⊥ (λ key. IsKey bytes.now key.items) result }
 {
     let version = read(alloc, bytes)?;
     Ok(sort_key(alloc, &version)?)
 }
 
-/// The range of a list, as the program prints it.
-pub(crate) fn range(alloc: Global, list: &[u8]) -> Result<Vec<u8>, Fault>
-    ensures { Gives ⊥ (RefusesRange list.now) (λ text. IsRange list.now text.items) result }
+/// The range of a list, a segment a line.
+pub(crate) fn range(alloc: Global, list: &[u8]) -> Result<String, Fault>
+    ensures { Gives ⊥ (RefusesListBytes list.now) (HasNoRange list.now) (λ text. IsRange list.now (string_bytes text)) result }
 {
-    let Ok(text) = std::str::from_utf8(list) else {
-        return Err(Fault::ListRefused);
-    };
-    let words = [
-        String::from_str(alloc, "range")?,
-        String::from_str(alloc, text)?,
-    ];
-    let said = answer(alloc, &words, &[])?;
-    if said.status != 0 {
-        return Err(Fault::ListRefused);
+    let specifiers = read_list(alloc, list)?;
+    match specifiers_to_ranges(alloc, specifiers) {
+        Ok(range) => Ok(RangeLines(&range).to_string(alloc)?),
+        Err(RangeError::NumberAtMax) => Err(Fault::NumberAtMax),
+        Err(RangeError::OutOfMemory) => Err(Fault::OutOfMemory),
     }
-    Ok(said.output)
 }

@@ -1,9 +1,11 @@
 -- What follows for the answers of the reader.
-use Rattle.std.proofs.Common.{◌≡◌, ◌∙◌, ℕ, List, Option, Result, Ok, Err, refl, sym, ap, subst}
+use Rattle.std.proofs.Common.{◌≡◌, ◌∙◌, ℕ, List, Option, Result, Ok, Err, Bool, true, false, cond, [], ◌∷◌, map, refl, sym, ap, subst}
 use Rattle.std.specs.Prelude.{IfSome}
 use Rattle.std.proofs.lemmas.Option.{IfSome_then}
 use Rattle.pep440_rs.specs.ListGrammar.{DerivesList, PieceRefusal, RefusesList}
 use Rattle.pep440_rs.specs.Specifiers.{Spec}
+use Rattle.pep440_pick.specs.Allowed.{lists_of}
+use Rattle.pep440_pick.specs.Names.{same_name}
 use Rattle.pep440_pick.specs.RequirementGrammar.{DerivesRequirement, Front, HasFront, Needed, RefusesRequirement, RequirementRefusal, InvalidExtras, InvalidName, Marker, Specifiers, Unclosed, Url}
 use Rattle.pep440_pick.specs.RequirementReading.{read_front}
 use Rattle.pep440_pick.specs.Requirements.{IsOfList}
@@ -114,3 +116,8 @@ module _ (text : List ℕ) (front : Front) (is : read_front text ≡ Ok front) w
 
     pub list_ok_decided : ((f : PieceRefusal) → RefusesList front.list f → list_err f ≡ Ok n.specifiers) → (f : RequirementRefusal) → RefusesRequirement text f → err_of f ≡ Ok n
     list_ok_decided decided f h = let piece = refusal_of_list f h in never (list_err piece.0) n.specifiers piece.0 (decided piece.0 piece.2) refl
+
+-- the list of a requirement of this name, or none
+pub of_name : (n : Needed) (name : List ℕ) (b : Bool) → same_name n.name name ≡ b → cond b (n.specifiers ∷ []) [] ≡ lists_of name (n ∷ [])
+of_name n name true is = ap (λ (c : Bool). map (λ (m : Needed). m.specifiers) (cond c (n ∷ []) [])) (sym is)
+of_name n name false is = ap (λ (c : Bool). map (λ (m : Needed). m.specifiers) (cond c (n ∷ []) [])) (sym is)

@@ -1,8 +1,9 @@
 -- The texts of the errors of requirements.
-use Rattle.std.specs.Prelude.{ℕ, List, Option, Some, codes}
+use Rattle.std.specs.Prelude.{ℕ, List, Option, Some, codes, option_map}
 use Rattle.pep440_rs.specs.ListAnswers.{line_of, list_kind_of}
 use Rattle.pep440_rs.specs.ListErrorTexts.{list_refusal_text, list_text_of}
 use Rattle.pep440_pick.specs.RequirementGrammar.{InvalidExtras, InvalidName, Marker, RequirementRefusal, Specifiers, Unclosed, Url}
+use Rattle.pep440_pick.specs.Requirements.{requirement_refusal_of}
 use Rattle.pep440_pick.specs.declared.error.RequirementError.{RequirementError}
 use Rattle.pep440_pick.specs.declared.error.RequirementError.TheVariants as error
 
@@ -17,10 +18,6 @@ requirement_refusal_text (Specifiers list f) = list_refusal_text f list
 
 -- the text of an error
 abbrev pub requirement_text_of : RequirementError → Option (List ℕ)
-requirement_text_of error.Marker = Some (codes "markers are not supported")
-requirement_text_of error.Url = Some (codes "URLs are not supported")
-requirement_text_of error.InvalidName = Some (codes "not a valid name")
-requirement_text_of error.InvalidExtras = Some (codes "not valid extras")
-requirement_text_of error.Unclosed = Some (codes "unclosed parenthesis")
 requirement_text_of (error.Specifiers e) = list_text_of (list_kind_of e) (line_of e)
 requirement_text_of error.OutOfMemory = Some (codes "out of memory")
+requirement_text_of e = option_map requirement_refusal_text (requirement_refusal_of e)

@@ -1,11 +1,13 @@
 //! Requirements: their parts, and the reader.
-ghost use Rattle.std.specs.Prelude.{◌≡◌, Ok, Err, Some, IfOk, IfErr, IfSome};
+ghost use Rattle.std.specs.Prelude.{◌≡◌, ◌∷◌, [], Ok, Err, Some, IfOk, IfErr, IfSome, option_to_list};
 ghost use Rattle.std.specs.List.{All};
 ghost use Rattle.pep440_rs.specs.Agreement.{HasOperand};
+ghost use Rattle.pep440_pick.specs.Allowed.{lists_of};
 ghost use Rattle.pep440_pick.specs.RequirementGrammar.{DerivesRequirement, Needed, RefusesRequirement, RequirementRefusal};
 ghost use Rattle.pep440_pick.specs.RequirementTexts.{requirement_refusal_text, requirement_text_of};
 
 use crate::error::RequirementError;
+use crate::name::same_name;
 use crate::read::{list_of, read_parts};
 use pep440_rs::VersionSpecifiers;
 use std::alloc::{AllocError, Global};
@@ -53,6 +55,33 @@ impl Requirement {
             extras: parts.extras,
             specifiers,
         })
+    }
+
+    /// The list of specifiers of the requirement that the text means, if it is of this name, else none: what `from_str` and
+    /// `same_name` give, without a copy of the name.
+    ///
+    /// Allocates. A text that means no requirement is rejected as by `from_str`, whatever its name.
+    pub fn specifiers_for(
+        alloc: Global,
+        name: &str,
+        text: &str,
+    ) -> Result<Option<VersionSpecifiers>, RequirementError>
+        // What is returned is the list of what the text means, if that is of the name.
+        ensures found { IfOk result (λ o. (n : Needed) × DerivesRequirement text.now n × (option_to_list o ≡ lists_of name.now (n ∷ []))) }
+        // A refusal holds of the text.
+        ensures refused { IfErr result (λ e. IfSome (requirement_refusal_of e) (RefusesRequirement text.now)) }
+        // The error's text is the refusal's.
+        ensures told { IfErr result (λ e. IfSome (requirement_refusal_of e) (λ f. requirement_text_of e ≡ Some (requirement_refusal_text f))) }
+        // Out of memory is the last kind, and stands in no other.
+        ensures lifted { IfErr result IsRequirementLifted }
+    {
+        let parts = read_parts(alloc, text)?;
+        let specifiers = list_of(alloc, parts.list)?;
+        if same_name(parts.name, name) {
+            Ok(Some(specifiers))
+        } else {
+            Ok(None)
+        }
     }
 }
 

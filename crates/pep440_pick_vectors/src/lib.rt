@@ -7,6 +7,8 @@ mod calls;
 #[cfg(test)]
 mod choices;
 #[cfg(test)]
+mod long;
+#[cfg(test)]
 mod names;
 #[cfg(test)]
 mod requirements;

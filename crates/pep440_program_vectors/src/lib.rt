@@ -4,6 +4,8 @@
 #[cfg(test)]
 mod lists;
 #[cfg(test)]
+mod long;
+#[cfg(test)]
 mod picks;
 #[cfg(test)]
 mod room;

@@ -37,7 +37,7 @@ impl<V: Ord + Clone> Model for Ranges<V> {
 }
 
 impl<V: Ord + Clone> Ranges<V> {
-    /// No value: the range of no segment. Takes no memory.
+    /// No value: the range of no segment. Allocates nothing.
     pub fn empty(alloc: Global) -> Self
         ensures segments { result ≡ [] }
         ensures set { (v : V) → contains V.cmp result v ≡ false }

@@ -1,5 +1,6 @@
 -- Prints, and that they are read again.
 pub mod Prints
+pub mod SegmentLines
 pub mod Plain
 pub mod Shown
 pub mod Around

@@ -14,9 +14,13 @@ version_cmp = on (λ (s : Spec). s.version) record_cmp
 abbrev pub IsArranged : List Spec → Type 0
 IsArranged list = IsSorted version_cmp list
 
--- list is the arrangement of the members: nothing is lost or made, versions never fall, and members with equal
--- versions keep the order in which they were given
-pub record Arranges (members list : List Spec) : Type 0 where
-  pub same : IsPermutation members list
-  pub rises : IsArranged list
-  pub stable : IsStable version_cmp members list
+-- list is the arrangement of what was given, by this order: nothing is lost or made, it never falls, and equal items keep the
+-- order in which they were given
+pub record ArrangesBy {A : Type 0} (cmp : A → A → Ordering) (given list : List A) : Type 0 where
+  pub same : IsPermutation given list
+  pub rises : IsSorted cmp list
+  pub stable : IsStable cmp given list
+
+-- list is the arrangement of the members
+abbrev pub Arranges : List Spec → List Spec → Type 0
+Arranges = ArrangesBy version_cmp

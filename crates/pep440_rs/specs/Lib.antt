@@ -17,6 +17,7 @@ pub mod ErrorTexts
 pub mod ListErrorTexts
 pub mod Agreement
 pub mod Bounds
+pub mod RangeLines
 pub mod BoundErrors
 pub mod BoundsAgreement
 pub mod Matching

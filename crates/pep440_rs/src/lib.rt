@@ -45,6 +45,7 @@ pub use pep440_version::{
     cmp_without_local, min_version, write_local_segments,
 };
 pub use range::error::RangeError;
+pub use range::lines::RangeLines;
 pub use range::list::{release_specifiers_to_ranges, specifiers_to_ranges};
 pub use range::release_only::release_specifier_to_range;
 pub use range::whole_order::specifier_to_range;

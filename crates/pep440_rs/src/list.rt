@@ -59,7 +59,7 @@ fn by_version(a: &VersionSpecifier, b: &VersionSpecifier) -> Ordering
 impl VersionSpecifiers {
     /// The list without members.
     ///
-    /// Takes no memory.
+    /// Allocates nothing.
     pub fn empty(alloc: Global) -> VersionSpecifiers
         ensures { result ≡ [] }
     {

@@ -60,7 +60,7 @@ fn push_local(key: &mut Vec<u8>, local: &[LocalSegment]) -> Result<(), AllocErro
     Ok(())
 }
 
-// Room for the key where each number is below 256: a guess, so that most keys ask for memory once.
+// The greatest length of a packed version's key, and a guess for others: a longer key allocates again.
 fn usual_length(version: &Version) -> usize {
     let mut length = version.release().len().saturating_mul(2).saturating_add(10);
     for part in version.local() {
@@ -80,7 +80,7 @@ fn usual_length(version: &Version) -> usize {
 /// `laws` says so of every version that a text gives, and of each other one whose local texts have no zero byte. Where one
 /// has a zero byte a key is made too, and nothing is said of its place among the others.
 ///
-/// Takes memory, for most versions in one request; the one error is that of memory.
+/// Allocates, once for a packed version; the one error is that of memory.
 pub fn sort_key(alloc: Global, version: &Version) -> Result<Vec<u8>, AllocError>
     ensures { IfOk result (λ key. key.items ≡ key_bytes version.now) }
 {

@@ -101,3 +101,31 @@ fn sweep_sort_key(rt: HostRuntime) -> Result<(), Fail> {
     assert!(rt; key.as_slice() == LONG_KEY.as_slice(), "the key");
     Ok(())
 }
+
+// The longest keys of packed versions are among these.
+const PACKED: [&str; 6] = [
+    "0",
+    "1.2.3",
+    "1.0rc1",
+    "65535.255.255.255a2097151",
+    "65535.255.255.255.post2097151",
+    "65535.255.255.255.dev2097151",
+];
+
+// `scripts/sweep` compares the requests of this pair: a key of a packed version is one.
+#[test]
+fn requests_of_packed_keys_0(rt: HostRuntime) -> Result<(), Fail> {
+    for text in PACKED {
+        let copy = text.as_bytes().to_vec(rt.alloc())?;
+        assert!(rt; copy.len() == text.len(), "{text}");
+    }
+    Ok(())
+}
+
+#[test]
+fn requests_of_packed_keys_1(rt: HostRuntime) -> Result<(), Fail> {
+    for text in PACKED {
+        assert!(rt; !key(rt, text)?.is_empty(), "{text}");
+    }
+    Ok(())
+}

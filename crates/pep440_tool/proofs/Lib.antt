@@ -1,11 +1,5 @@
 pub mod Bytes
-pub mod Filtered
-pub mod Items
-pub mod Numbers
+pub mod Each
+pub mod LinesLeft
 pub mod OneAnswer
-pub mod Refused
-pub mod Segments
-pub mod Texts
-pub mod Picked
-pub mod OnePick
-pub mod Stopped
+pub mod Rejected

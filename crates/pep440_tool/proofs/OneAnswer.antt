@@ -1,26 +1,32 @@
 -- There is at most one answer to what is asked.
-use Rattle.std.proofs.Common.{◌≡◌, ◌⊎◌, inl, inr, ℕ, suc, ◌+◌, Bool, true, false, not, List, [], ◌∷◌, ◌++◌, map, length, Option, Some, None, IsTrue, refl, sym, ap, subst, ◌∙◌}
-use Rattle.std.specs.List.{flat_map}
-use Rattle.std.specs.Ordering.{is_lt}
-use Rattle.std.proofs.lemmas.List.Sorted.{ranks_by}
+use Rattle.std.proofs.Common.{◌≡◌, inl, inr, ℕ, ◌∙◌, List, [], ◌∷◌, ◌++◌, map, Option, Some, refl, sym, ap, subst}
+use Rattle.std.proofs.lemmas.Bool.{both_ways}
+use Rattle.std.specs.List.{AllZip, filter}
+use Rattle.pep440_change_words.specs.ChangeWords.{change_of}
+use Rattle.pep440_pick.proofs.Once.{not_both_requirement, one_newest, one_requirement}
+use Rattle.pep440_pick.proofs.Once as pick
+use Rattle.pep440_pick.specs.Allowed.{lists_of}
+use Rattle.pep440_pick.specs.Names.{is_name}
+use Rattle.pep440_pick.specs.RequirementGrammar.{DerivesRequirement, Needed, RefusesRequirement}
 use Rattle.pep440_rs.specs.ListErrorTexts.{list_refusal_text}
 use Rattle.pep440_rs.specs.ListGrammar.{PieceRefusal}
+use Rattle.pep440_rs.specs.Matching.{list_matches}
 use Rattle.pep440_rs.specs.Specifiers.{Spec}
-use Rattle.pep440_rs.proofs.Arranging.Arranged.{same_by_ties}
+use Rattle.pep440_rs.proofs.Arranging.Arranged.{one_arrangement_by}
 use Rattle.pep440_rs.proofs.Reading.OneMeaning.{not_both_list, one_list, one_list_refusal}
+use Rattle.pep440_version.specs.Changes.{Edit}
 use Rattle.pep440_version.specs.ErrorTexts.{refusal_text}
-use Rattle.pep440_version.specs.Key.{record_cmp}
-use Rattle.pep440_version.specs.KeyLaws.{record_total}
+use Rattle.pep440_version.specs.Grammar.{Derives}
 use Rattle.pep440_version.specs.Print.{print}
 use Rattle.pep440_version.specs.Record.{Record}
-use Rattle.pep440_version.specs.Refusals.{Refusal}
+use Rattle.pep440_version.specs.Refusals.{Refusal, Refuses}
 use Rattle.pep440_version.proofs.Reading.Agreement.{one_record}
 use Rattle.pep440_version.proofs.Refusals.ExactlyOne.{not_both, one_refusal}
-use Rattle.pep440_tool.specs.Answers.{Reads, ReadsList, ToolAnswer, refused, refused_list, shown_lines}
-use Rattle.pep440_tool.specs.Commands.{Show, Compare, Match, Edit, Range, Filter, Pick, Usage}
-use Rattle.pep440_tool.specs.Lines.{ArrangesVersions, LineFault, LineMeans, LinesMean, RefusesLine, ShowsKept, is_skipped, kept, line_fault_text, lines}
+use Rattle.pep440_tool.specs.Answers.{AsksChange, Reads, ReadsEach, ReadsList, RejectsChange, ToolAnswer, candidate_fault_text, refused, refused_list, shown, shown_lines}
+use Rattle.pep440_tool.specs.Commands.{Show, Compare, Match, Edit as AskEdit, Range, Filter, Pick, Usage}
+use Rattle.pep440_tool.specs.Lines.{LineMeans, RejectsLine, ShowsContained, numbered_lines, refused_version}
 use Rattle.pep440_tool.specs.OneAnswer.{AnswersOnce}
-use Rattle.pep440_tool.proofs.OnePick.{pick_once}
+use Rattle.pep440_tool.specs.Picks.{CandidateMeans, PickAnswer, RejectsCandidate, ShowsNewest, newest_text, refused_requirement}
 
 reads_once : (word : List ℕ) (P Q : Record → Type 0) (a b : ToolAnswer) → ((r : Record) → P r → Q r → a ≡ b) → Reads word P a → Reads word Q b → a ≡ b
 reads_once word P Q a b same (inl (r, d, p)) (inl (q, e, u)) = same r p (subst Q (one_record word q r e d) u)
@@ -34,89 +40,119 @@ reads_list_once word P Q a b same (inl (l, d, p)) (inr (f, e, is)) = absurd (not
 reads_list_once word P Q a b same (inr (f, d, is)) (inl (l, e, p)) = absurd (not_both_list word l f e d)
 reads_list_once word P Q a b same (inr (f, d, is)) (inr (g, e, so)) = is ∙ ap (λ (x : PieceRefusal). refused_list (list_refusal_text x word)) (one_list_refusal word f g d e) ∙ sym so
 
--- ---- lines
+-- ---- texts that mean something, one after another
 
-not_skipped : (b : Bool) → IsTrue b → IsTrue (not b) → ⊥
-not_skipped b is isnt = let n : false ≡ true = rw is at isnt in cc n
+module _ {A : Type 0} (Means : ℕ × List ℕ → A → Type 0) (means_once : (text : ℕ × List ℕ) (x y : A) → Means text x → Means text y → x ≡ y) where
+  all_once : (texts : List (ℕ × List ℕ)) (found there : List A) → AllZip Means texts found → AllZip Means texts there → found ≡ there
+  all_once [] [] [] h g = refl
+  all_once [] [] (y ∷ there) h g = absurd g
+  all_once [] (x ∷ found) there h g = absurd h
+  all_once (t ∷ texts) [] there h g = absurd h
+  all_once (t ∷ texts) (x ∷ found) [] h g = absurd g
+  all_once (t ∷ texts) (x ∷ found) (y ∷ there) h g =
+      let head = means_once t x y h.0 g.0 in
+      let tail = all_once texts found there h.1 g.1 in
+      λ i. head i ∷ tail i
 
-line_once : (text : List ℕ) (o p : Option Record) → LineMeans text o → LineMeans text p → o ≡ p
-line_once text None None h g = refl
-line_once text None (Some r) h g = absurd (not_skipped (is_skipped text) h g.0)
-line_once text (Some r) None h g = absurd (not_skipped (is_skipped text) g h.0)
-line_once text (Some r) (Some q) h g = ap Some (one_record text r q h.2 g.2)
-
-means_or_fault : (text : List ℕ) (o : Option Record) (fault : List ℕ) → LineMeans text o → LineFault text fault → ⊥
-means_or_fault text None fault h g = not_skipped (is_skipped text) h g.0
-means_or_fault text (Some r) fault h (full, inl other) = other.0 h.1
-means_or_fault text (Some r) fault h (full, inr (utf8, (f, d, is))) = not_both text r f h.2 d
-
-fault_once : (text f g : List ℕ) → LineFault text f → LineFault text g → f ≡ g
-fault_once text f g (full, inl a) (also, inl b) = a.1 ∙ sym b.1
-fault_once text f g (full, inl a) (also, inr (utf8, b)) = absurd (a.0 utf8)
-fault_once text f g (full, inr (utf8, a)) (also, inl b) = absurd (b.0 utf8)
-fault_once text f g (full, inr (utf8, (x, d, is))) (also, inr (again, (y, e, so))) = is ∙ ap refusal_text (one_refusal text x y d e) ∙ sym so
-
-lines_once : (texts : List (List ℕ)) (found there : List (Option Record)) → LinesMean texts found → LinesMean texts there → found ≡ there
-lines_once [] [] [] h g = refl
-lines_once [] [] (p ∷ there) h g = absurd g
-lines_once [] (o ∷ found) there h g = absurd h
-lines_once (t ∷ texts) [] there h g = absurd h
-lines_once (t ∷ texts) (o ∷ found) [] h g = absurd g
-lines_once (t ∷ texts) (o ∷ found) (p ∷ there) h g =
-    let head = line_once t o p h.0 g.0 in
-    let tail = lines_once texts found there h.1 g.1 in
-    λ i. head i ∷ tail i
-
-arranged_once : (given a b : List Record) → ArrangesVersions given a → ArrangesVersions given b → a ≡ b
-arranged_once given a b h g = same_by_ties (λ (x y : Record). is_lt (record_cmp x y)) (ranks_by record_total (λ (r : Record). r)) a b h.rises g.rises (λ z. h.stable z ∙ sym (g.stable z))
-
--- lines that mean something, and then one that means nothing
-none_before : (texts before : List (List ℕ)) (text : List ℕ) (after : List (List ℕ)) (found : List (Option Record)) (fault : List ℕ) → texts ≡ before ++ (text ∷ after) → LinesMean texts found
-    → LineFault text fault → ⊥
-none_before texts before text after found fault split means why = go before found (subst (λ ts. LinesMean ts found) split means)
-  where
-    go : (before : List (List ℕ)) (found : List (Option Record)) → LinesMean (before ++ (text ∷ after)) found → ⊥
-    go [] [] h = h
-    go [] (o ∷ found) h = means_or_fault text o fault h.0 why
-    go (t ∷ before) [] h = h
-    go (t ∷ before) (o ∷ found) h = go before found h.1
-
-head_same : (x y : List ℕ) (xs ys : List (List ℕ)) → x ∷ xs ≡ y ∷ ys → x ≡ y
+head_same : {X : Type 0} (x y : X) (xs ys : List X) → x ∷ xs ≡ y ∷ ys → x ≡ y
 head_same x y xs ys e = cc e
 
-tail_same : (x y : List ℕ) (xs ys : List (List ℕ)) → x ∷ xs ≡ y ∷ ys → xs ≡ ys
+tail_same : {X : Type 0} (x y : X) (xs ys : List X) → x ∷ xs ≡ y ∷ ys → xs ≡ ys
 tail_same x y xs ys e = cc e
 
--- the first refused line is the same, however the lines are cut
-first_once : (xs : List (List ℕ)) (x : List ℕ) (xa : List (List ℕ)) (xf : List (Option Record)) (f : List ℕ) (ys : List (List ℕ)) (y : List ℕ) (ya : List (List ℕ)) (yf : List (Option Record)) (g : List ℕ)
-    → xs ++ (x ∷ xa) ≡ ys ++ (y ∷ ya) → LinesMean xs xf → LinesMean ys yf → LineFault x f → LineFault y g → (length xs ≡ length ys) × (f ≡ g)
-first_once [] x xa xf f [] y ya yf g e h k w v = (refl, fault_once x f g w (subst (λ t. LineFault t g) (sym (head_same x y xa ya e)) v))
-first_once [] x xa xf f (z ∷ ys) y ya [] g e h k w v = absurd k
-first_once [] x xa xf f (z ∷ ys) y ya (o ∷ yf) g e h k w v = absurd (means_or_fault x o f (subst (λ t. LineMeans t o) (sym (head_same x z xa (ys ++ (y ∷ ya)) e)) k.0) w)
-first_once (z ∷ xs) x xa [] f [] y ya yf g e h k w v = absurd h
-first_once (z ∷ xs) x xa (o ∷ xf) f [] y ya yf g e h k w v = absurd (means_or_fault y o g (subst (λ t. LineMeans t o) (head_same z y (xs ++ (x ∷ xa)) ya e) h.0) v)
-first_once (z ∷ xs) x xa [] f (u ∷ ys) y ya yf g e h k w v = absurd h
-first_once (z ∷ xs) x xa (o ∷ xf) f (u ∷ ys) y ya [] g e h k w v = absurd k
-first_once (z ∷ xs) x xa (o ∷ xf) f (u ∷ ys) y ya (p ∷ yf) g e h k w v =
-    let rest = first_once xs x xa xf f ys y ya yf g (tail_same z u (xs ++ (x ∷ xa)) (ys ++ (y ∷ ya)) e) h.1 k.1 w v in (ap suc rest.0, rest.1)
+module _ {A : Type 0} (Means : ℕ × List ℕ → A → Type 0) (R : ℕ × List ℕ → ToolAnswer → Type 0) (means_once : (text : ℕ × List ℕ) (x y : A) → Means text x → Means text y → x ≡ y)
+    (rejected_once : (t : ℕ × List ℕ) (a b : ToolAnswer) → R t a → R t b → a ≡ b) (apart : (t : ℕ × List ℕ) (x : A) (a : ToolAnswer) → Means t x → R t a → ⊥) where
+  -- the first rejected text is the same, however the texts are split
+  first_once : (xs : List (ℕ × List ℕ)) (x : ℕ × List ℕ) (xa : List (ℕ × List ℕ)) (xf : List A) (a : ToolAnswer) (ys : List (ℕ × List ℕ)) (y : ℕ × List ℕ) (ya : List (ℕ × List ℕ)) (yf : List A) (b : ToolAnswer)
+      → xs ++ (x ∷ xa) ≡ ys ++ (y ∷ ya) → AllZip Means xs xf → AllZip Means ys yf → R x a → R y b → a ≡ b
+  first_once [] x xa xf a [] y ya yf b e h k w v = rejected_once x a b w (subst (λ t. R t b) (sym (head_same x y xa ya e)) v)
+  first_once [] x xa xf a (z ∷ ys) y ya [] b e h k w v = absurd k
+  first_once [] x xa xf a (z ∷ ys) y ya (q ∷ yf) b e h k w v = absurd (apart x q a (subst (λ t. Means t q) (sym (head_same x z xa (ys ++ (y ∷ ya)) e)) k.0) w)
+  first_once (z ∷ xs) x xa [] a [] y ya yf b e h k w v = absurd h
+  first_once (z ∷ xs) x xa (p ∷ xf) a [] y ya yf b e h k w v = absurd (apart y p b (subst (λ t. Means t p) (head_same z y (xs ++ (x ∷ xa)) ya e) h.0) v)
+  first_once (z ∷ xs) x xa [] a (u ∷ ys) y ya yf b e h k w v = absurd h
+  first_once (z ∷ xs) x xa (p ∷ xf) a (u ∷ ys) y ya [] b e h k w v = absurd k
+  first_once (z ∷ xs) x xa (p ∷ xf) a (u ∷ ys) y ya (q ∷ yf) b e h k w v = first_once xs x xa xf a ys y ya yf b (tail_same z u (xs ++ (x ∷ xa)) (ys ++ (y ∷ ya)) e) h.1 k.1 w v
 
-filter_once : (list : List Spec) (texts : List (List ℕ)) (a b : ToolAnswer) → ShowsKept list texts a ⊎ RefusesLine texts a → ShowsKept list texts b ⊎ RefusesLine texts b → a ≡ b
-filter_once list texts a b (inl s) (inl t) =
-    let found = lines_once texts t.found s.found t.means s.means in
-    let same = arranged_once (flat_map (kept list) s.found) s.shown t.shown s.arranged (subst (λ os. ArrangesVersions (flat_map (kept list) os) t.shown) found t.arranged) in
-    s.told ∙ ap (λ (rs : List Record). shown_lines (map print rs)) same ∙ sym t.told
-filter_once list texts a b (inl s) (inr t) = absurd (none_before texts t.before t.text t.after s.found t.fault t.split s.means t.why)
-filter_once list texts a b (inr s) (inl t) = absurd (none_before texts s.before s.text s.after t.found s.fault s.split t.means s.why)
-filter_once list texts a b (inr s) (inr t) =
-    let same = first_once s.before s.text s.after s.found s.fault t.before t.text t.after t.found t.fault (sym s.split ∙ t.split) s.means t.means s.why t.why in
-    s.told ∙ ap (λ (n : ℕ). refused (line_fault_text (n + 1) s.fault)) same.0 ∙ ap (λ (f : List ℕ). refused (line_fault_text (length t.before + 1) f)) same.1 ∙ sym t.told
+  -- texts that mean something, and then one that is rejected
+  none_before : (texts before : List (ℕ × List ℕ)) (text : ℕ × List ℕ) (after : List (ℕ × List ℕ)) (found : List A) (a : ToolAnswer) → texts ≡ before ++ (text ∷ after) → AllZip Means texts found → R text a → ⊥
+  none_before texts before text after found a split means why = go before found (subst (λ (ts : List (ℕ × List ℕ)). AllZip Means ts found) split means)
+    where
+      go : (before : List (ℕ × List ℕ)) (found : List A) → AllZip Means (before ++ (text ∷ after)) found → ⊥
+      go [] [] h = h
+      go [] (x ∷ found) h = apart text x a h.0 why
+      go (t ∷ before) [] h = h
+      go (t ∷ before) (x ∷ found) h = go before found h.1
+
+  each_once : (texts : List (ℕ × List ℕ)) (P Q : List A → Type 0) (a b : ToolAnswer) → ((found : List A) → P found → Q found → a ≡ b) → ReadsEach Means R texts P a → ReadsEach Means R texts Q b → a ≡ b
+  each_once texts P Q a b same (inl (x, h, p)) (inl (y, g, q)) = same x p (subst Q (all_once Means means_once texts y x g h) q)
+  each_once texts P Q a b same (inl (x, h, p)) (inr t) = absurd (none_before texts t.before t.text t.after x b t.split h t.why)
+  each_once texts P Q a b same (inr s) (inl (y, g, q)) = absurd (none_before texts s.before s.text s.after y a s.split g s.why)
+  each_once texts P Q a b same (inr s) (inr t) = first_once s.before s.text s.after s.found a t.before t.text t.after t.found b (sym s.split ∙ t.split) s.means t.means s.why t.why
+
+-- ---- changes
+
+some_same : (x y : Edit) (o : Option Edit) → o ≡ Some x → o ≡ Some y → x ≡ y
+some_same x y o e f = cc (e, f)
+
+change_once : (word : ℕ × List ℕ) (x y : Edit) → AsksChange word x → AsksChange word y → x ≡ y
+change_once word x y h g = some_same x y (change_of word.1) h g
+
+change_rejected_once : (word : ℕ × List ℕ) (a b : ToolAnswer) → RejectsChange word a → RejectsChange word b → a ≡ b
+change_rejected_once word a b h g = h.1 ∙ sym g.1
+
+change_apart : (word : ℕ × List ℕ) (x : Edit) (a : ToolAnswer) → AsksChange word x → RejectsChange word a → ⊥
+change_apart word x a h g = let none = g.0 in cc (h, none)
+
+-- ---- candidates
+
+candidate_rejected_once : (t : ℕ × List ℕ) (a b : ToolAnswer) → RejectsCandidate t a → RejectsCandidate t b → a ≡ b
+candidate_rejected_once t a b (f, d, is) (g, e, so) = is ∙ ap (λ x. refused (candidate_fault_text t.0 (refusal_text x))) (one_refusal t.1 f g d e) ∙ sym so
+
+candidate_apart : (t : ℕ × List ℕ) (r : Record) (a : ToolAnswer) → CandidateMeans t r → RejectsCandidate t a → ⊥
+candidate_apart t r a d (f, e, is) = not_both t.1 r f d e
+
+-- ---- lines
+
+module _ {A F : Type 0} (Means : List ℕ → A → Type 0) (Refuse : List ℕ → F → Type 0) (answer_at : ℕ → F → ToolAnswer) (one_refused : (t : List ℕ) (f g : F) → Refuse t f → Refuse t g → f ≡ g)
+    (never_both : (t : List ℕ) (x : A) (f : F) → Means t x → Refuse t f → ⊥) where
+  line_rejected_once : (t : ℕ × List ℕ) (a b : ToolAnswer) → RejectsLine Refuse answer_at t a → RejectsLine Refuse answer_at t b → a ≡ b
+  line_rejected_once t a b (inl x) (inl y) = x.1 ∙ sym y.1
+  line_rejected_once t a b (inl x) (inr (utf8, y)) = absurd (x.0 utf8)
+  line_rejected_once t a b (inr (utf8, x)) (inl y) = absurd (y.0 utf8)
+  line_rejected_once t a b (inr (utf8, (f, d, is))) (inr (again, (g, e, so))) = is ∙ ap (answer_at t.0) (one_refused t.1 f g d e) ∙ sym so
+
+  line_apart : (t : ℕ × List ℕ) (x : A) (a : ToolAnswer) → LineMeans Means t x → RejectsLine Refuse answer_at t a → ⊥
+  line_apart t x a h (inl other) = other.0 h.0
+  line_apart t x a h (inr (utf8, (f, d, is))) = never_both t.1 x f h.1 d
+
+-- ---- answers
+
+contained_once : (list : List Spec) (found : List Record) (a b : ToolAnswer) → ShowsContained list found a → ShowsContained list found b → a ≡ b
+contained_once list found a b (x, h, is) (y, g, so) = is ∙ ap (λ (rs : List Record). shown_lines (map print rs)) (one_arrangement_by (λ (r : Record). r) (filter (list_matches list) found) x y h g) ∙ sym so
+
+newest_once : (name : List ℕ) (candidates : List Record) (found : List Needed) (a b : ToolAnswer) → ShowsNewest name candidates found a → ShowsNewest name candidates found b → a ≡ b
+newest_once name candidates found a b (i, n, is) (j, m, so) = is ∙ ap (λ (k : Option ℕ). shown (newest_text candidates k)) (one_newest (lists_of name found) candidates i j n m) ∙ sym so
+
+pick_once : (name : List ℕ) (texts : List (List ℕ)) (input : List ℕ) (a b : ToolAnswer) → PickAnswer name texts input a → PickAnswer name texts input b → a ≡ b
+pick_once name texts input a b (inl h) (inl g) = h.1 ∙ sym g.1
+pick_once name texts input a b (inl h) (inr g) = absurd (both_ways (is_name name) h.0 g.0)
+pick_once name texts input a b (inr h) (inl g) = absurd (both_ways (is_name name) g.0 h.0)
+pick_once name texts input a b (inr h) (inr g) =
+    each_once CandidateMeans RejectsCandidate (λ t x y. one_record t.1 x y) candidate_rejected_once candidate_apart _ _ _ a b
+    (λ candidates p q. each_once (LineMeans DerivesRequirement) (RejectsLine RefusesRequirement refused_requirement) (λ t x y k l. one_requirement t.1 x y k.1 l.1)
+    (line_rejected_once DerivesRequirement RefusesRequirement refused_requirement pick.one_refusal not_both_requirement) (line_apart DerivesRequirement RefusesRequirement refused_requirement pick.one_refusal not_both_requirement)
+    (numbered_lines input) _ _ a b (λ found x y. newest_once name candidates found a b x y) p q) h.1 g.1
 
 pub answers_once : AnswersOnce
 answers_once (Show v) input a b = reads_once v _ _ a b (λ r p q. p ∙ sym q)
 answers_once (Compare v w) input a b = reads_once v _ _ a b (λ r p q. reads_once w _ _ a b (λ s x y. x ∙ sym y) p q)
 answers_once (Match list v) input a b = reads_list_once list _ _ a b (λ l p q. reads_once v _ _ a b (λ r x y. x ∙ sym y) p q)
-answers_once (Edit v changes) input a b = reads_once v _ _ a b (λ r p q. p ∙ sym q)
+answers_once (AskEdit v changes) input a b =
+    reads_once v _ _ a b (λ r p q. each_once AsksChange RejectsChange change_once change_rejected_once change_apart _ _ _ a b (λ edits x y. x ∙ sym y) p q)
 answers_once (Range list) input a b = reads_list_once list _ _ a b (λ l p q. p ∙ sym q)
-answers_once (Filter list) input a b = reads_list_once list _ _ a b (λ l p q. filter_once l (lines input) a b p q)
+answers_once (Filter list) input a b =
+    reads_list_once list _ _ a b (λ l p q. each_once (LineMeans Derives) (RejectsLine Refuses refused_version) (λ t x y h g. one_record t.1 x y h.1 g.1) (line_rejected_once Derives Refuses refused_version one_refusal not_both)
+    (line_apart Derives Refuses refused_version one_refusal not_both) (numbered_lines input) _ _ a b (λ found x y. contained_once l found a b x y) p q)
 answers_once (Pick name texts) input a b = pick_once name texts input a b
 answers_once Usage input a b = λ p q. p ∙ sym q

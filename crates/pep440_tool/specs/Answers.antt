@@ -1,27 +1,27 @@
 -- What the program answers: bytes and a status. Each command's answer is told by what its words mean.
-use Rattle.std.specs.Prelude.{◌≡◌, ◌⊎◌, ℕ, List, [], ◌∷◌, ◌++◌, Bool, true, false, codes, map, Option, Some, None, Result, Ok, Err}
+use Rattle.std.specs.Prelude.{◌≡◌, ◌⊎◌, ℕ, List, ◌∷◌, ◌++◌, Bool, true, false, codes, Option, Some, None, Result, Ok, Err}
 use Rattle.std.specs.Fmt.{decimal}
+use Rattle.std.specs.List.{AllZip, enumerate_from}
 use Rattle.std.specs.declared.cmp.Ordering.{Ordering}
 use Rattle.std.specs.declared.cmp.Ordering.TheVariants.{Less, Equal, Greater}
-use Rattle.std.specs.declared.ops.Bound.{Bound}
-use Rattle.std.specs.declared.ops.Bound.TheVariants.{Included, Excluded, Unbounded}
-use Rattle.pep440_ranges.specs.Segments.{Segment}
+use Rattle.pep440_change_words.specs.ChangeWords.{change_of}
+use Rattle.pep440_change_words.specs.Sentinels.{print_with_sentinels}
 use Rattle.pep440_rs.specs.Bounds.{Segments, range_of, list_range}
 use Rattle.pep440_rs.specs.ErrorTexts.{range_error_text}
 use Rattle.pep440_rs.specs.ListErrorTexts.{list_refusal_text}
 use Rattle.pep440_rs.specs.ListGrammar.{DerivesList, PieceRefusal, RefusesList}
 use Rattle.pep440_rs.specs.Matching.{list_matches}
+use Rattle.pep440_rs.specs.RangeLines.{range_lines}
 use Rattle.pep440_rs.specs.Specifiers.{Spec}
 use Rattle.pep440_rs.specs.declared.range.error.RangeError.TheVariants.{NumberAtMax}
 use Rattle.pep440_version.specs.Changes.{Edit, changed_all}
 use Rattle.pep440_version.specs.ErrorTexts.{refusal_text, change_error_text}
 use Rattle.pep440_version.specs.Grammar.{Derives}
 use Rattle.pep440_version.specs.Key.{record_cmp}
-use Rattle.pep440_version.specs.Print.{print, labelled}
+use Rattle.pep440_version.specs.Print.{print}
 use Rattle.pep440_version.specs.Record.{Record}
 use Rattle.pep440_version.specs.Refusals.{Refusal, Refuses}
 use Rattle.pep440_version.specs.declared.change.ChangeError.{ChangeError}
-use Rattle.pep440_tool.specs.ChangeWords.{changes_of}
 use Rattle.pep440_tool.specs.Texts.{line, lines_of, usage_text}
 
 -- what is written, and the status of the process
@@ -67,6 +67,23 @@ RefusesListWord word a = (f : PieceRefusal) × RefusesList word f × (a ≡ refu
 abbrev pub ReadsList : List ℕ → (List Spec → Type 0) → ToolAnswer → Type 0
 ReadsList word Then a = ((list : List Spec) × DerivesList word list × Then list) ⊎ RefusesListWord word a
 
+-- ---- texts with their numbers, one after another
+
+module _ {A : Type 0} (Means : ℕ × List ℕ → A → Type 0) (RejectsText : ℕ × List ℕ → ToolAnswer → Type 0) where
+  -- the answer says why the first text that means nothing does not
+  pub record RejectsFirst (texts : List (ℕ × List ℕ)) (a : ToolAnswer) : Type 0 where
+    pub before : List (ℕ × List ℕ)
+    pub text : ℕ × List ℕ
+    pub after : List (ℕ × List ℕ)
+    pub split : texts ≡ before ++ (text ∷ after)
+    pub found : List A
+    pub means : AllZip Means before found
+    pub why : RejectsText text a
+
+  -- each text means something, and of these in order this holds; or the answer rejects the first that means nothing
+  abbrev pub ReadsEach : List (ℕ × List ℕ) → (List A → Type 0) → ToolAnswer → Type 0
+  ReadsEach texts Then a = ((found : List A) × AllZip Means texts found × Then found) ⊎ RejectsFirst texts a
+
 -- ---- versions
 
 -- `show V`: the print of V
@@ -82,26 +99,33 @@ sign_of Greater = codes ">"
 abbrev pub CompareAnswer : List ℕ → List ℕ → ToolAnswer → Type 0
 CompareAnswer left right a = Reads left (λ r. Reads right (λ q. a ≡ shown (sign_of (record_cmp r q))) a) a
 
--- the print, and then the marks that it leaves out
-abbrev pub marked_print : Record → List ℕ
-marked_print r = print r ++ (labelled (codes "~min") r.min ++ labelled (codes "~max") r.max)
-
 -- the version that was reached, or the change that can't be made
 abbrev pub edited_answer : Result Record ChangeError → ToolAnswer
-edited_answer (Ok r) = shown (marked_print r)
+edited_answer (Ok r) = shown (print_with_sentinels r)
 edited_answer (Err e) = refused (change_error_text e)
+
+-- ---- texts of errors with their numbers
+
+abbrev pub candidate_fault_text : ℕ → List ℕ → List ℕ
+candidate_fault_text number fault = codes "candidate " ++ (decimal number ++ (codes ": " ++ fault))
+
+abbrev pub line_fault_text : ℕ → List ℕ → List ℕ
+line_fault_text number fault = codes "line " ++ (decimal number ++ (codes ": " ++ fault))
 
 abbrev pub not_a_change_text : ℕ → List ℕ
 not_a_change_text place = codes "change " ++ (decimal place ++ codes ": not a change")
 
--- the version after the changes; before one is made, a word that asks for none is refused by its place
-abbrev pub changed_answer : Record → Result (List Edit) ℕ → ToolAnswer
-changed_answer r (Ok edits) = edited_answer (changed_all 1 r edits)
-changed_answer r (Err place) = refused (not_a_change_text place)
+-- a word asks for a change
+abbrev pub AsksChange : ℕ × List ℕ → Edit → Type 0
+AsksChange word edit = change_of word.1 ≡ Some edit
+
+-- the answer says which word asks for none
+abbrev pub RejectsChange : ℕ × List ℕ → ToolAnswer → Type 0
+RejectsChange word a = (change_of word.1 ≡ None) × (a ≡ refused (not_a_change_text word.0))
 
 -- `edit V CHANGE..`: V is read, then all the words, and then the changes are made
 abbrev pub EditAnswer : List ℕ → List (List ℕ) → ToolAnswer → Type 0
-EditAnswer text words a = Reads text (λ r. a ≡ changed_answer r (changes_of 1 words)) a
+EditAnswer text words a = Reads text (λ r. ReadsEach AsksChange RejectsChange (enumerate_from 1 words) (λ edits. a ≡ edited_answer (changed_all 1 r edits)) a) a
 
 -- ---- lists of specifiers
 
@@ -113,28 +137,9 @@ yes_or_no false = codes "no"
 abbrev pub MatchAnswer : List ℕ → List ℕ → ToolAnswer → Type 0
 MatchAnswer specifiers text a = ReadsList specifiers (λ list. Reads text (λ r. a ≡ shown (yes_or_no (list_matches list r))) a) a
 
--- where a segment begins: square for included, round for excluded; a side that is open is a star
-abbrev pub start_text : Bound Record → List ℕ
-start_text (Included v) = codes "[" ++ marked_print v
-start_text (Excluded v) = codes "(" ++ marked_print v
-start_text Unbounded = codes "(*"
-
-abbrev pub end_text : Bound Record → List ℕ
-end_text (Included v) = marked_print v ++ codes "]"
-end_text (Excluded v) = marked_print v ++ codes ")"
-end_text Unbounded = codes "*)"
-
-abbrev pub segment_text : Segment Record → List ℕ
-segment_text s = start_text s.0 ++ (codes ", " ++ end_text s.1)
-
--- the segments, a line each
-abbrev pub segments_answer : Segments → ToolAnswer
-segments_answer [] = shown (codes "empty")
-segments_answer (s ∷ rest) = shown_lines (map segment_text (s ∷ rest))
-
--- or that a number would have to be raised that can't be
+-- the range's lines, or that a number would have to be raised that can't be
 abbrev pub range_answer : Option Segments → ToolAnswer
-range_answer (Some range) = segments_answer range
+range_answer (Some range) = record { output = range_lines range; status = 0 }
 range_answer None = refused (range_error_text NumberAtMax)
 
 -- `range SPECS`: the range of the list

@@ -1,11 +1,12 @@
-// What the words ask for, and the answer to words and input bytes.
+// The command that words ask for, and what it prints.
 ghost use Rattle.std.specs.Prelude.{◌≡◌, ◌≤◌, ◌==◌, map, string_bytes, IfOk};
 ghost use Rattle.pep440_tool.specs.Commands.{IsAnswer, asked, asked_by, reads_input};
 ghost use Rattle.pep440_tool.specs.Said.{Answered, request, said};
 
 use crate::editing::edit;
+use crate::error::CommandError;
 use crate::filtering::filter;
-use crate::output::{Answer, Stop};
+use crate::output::Answer;
 use crate::picking::pick;
 use crate::ranging::range;
 use crate::reading::{compare, contains, show};
@@ -25,8 +26,8 @@ pub enum Command<'a> {
     Usage,
 }
 
-/// What a command and the words after it ask for.
-fn named<'a>(command: &str, words: &'a [String]) -> Command<'a>
+/// The command with this name, and the words after it.
+fn parse_named<'a>(command: &str, words: &'a [String]) -> Command<'a>
     ensures { request result ≡ asked_by command.now (map string_bytes words.now) }
 {
     match command {
@@ -64,36 +65,49 @@ fn named<'a>(command: &str, words: &'a [String]) -> Command<'a>
     }
 }
 
-/// What the words ask for.
-fn requested(words: &[String]) -> Command<'_>
-    ensures { request result ≡ asked (map string_bytes words.now) }
-{
-    match words {
-        [command, rest @ ..] => named(command.as_str(), rest),
-        [] => Command::Usage,
+impl<'a> Command<'a> {
+    /// The command that the words ask for.
+    pub(crate) fn parse(words: &'a [String]) -> Command<'a>
+        ensures { request result ≡ asked (map string_bytes words.now) }
+    {
+        match words {
+            [name, rest @ ..] => parse_named(name.as_str(), rest),
+            [] => Command::Usage,
+        }
     }
-}
 
-/// Whether these words want the input.
-pub fn wants_input(words: &[String]) -> bool
-    ensures { result ≡ reads_input (asked (map string_bytes words.now)) }
-{
-    matches!(requested(words), Command::Filter(_) | Command::Pick(_, _))
-}
+    /// Whether it reads the input.
+    pub(crate) fn reads_input(self) -> bool
+        ensures { result ≡ reads_input (request self.entry) }
+    {
+        matches!(self, Command::Filter(_) | Command::Pick(_, _))
+    }
 
-/// What a command answers to its input, or why it stops.
-fn commanded(alloc: Global, command: Command<'_>, input: &[u8]) -> Result<Answer, Stop>
-    ensures { Answered (IsAnswer (request command.entry) input.now) result }
-{
-    match command {
-        Command::Show(version) => show(alloc, version),
-        Command::Compare(left, right) => compare(alloc, left, right),
-        Command::Match(list, version) => contains(alloc, list, version),
-        Command::Edit(version, changes) => edit(alloc, version, changes),
-        Command::Range(list) => range(alloc, list),
-        Command::Filter(list) => filter(alloc, list, input),
-        Command::Pick(name, candidates) => pick(alloc, name, candidates, input),
-        Command::Usage => Ok(Answer::usage(alloc)?),
+    /// What it prints for its input, or why it prints no result.
+    fn run(self, alloc: Global, input: &[u8]) -> Result<Answer, CommandError>
+        ensures { Answered (IsAnswer (request self.entry) input.now) result }
+    {
+        match self {
+            Command::Show(version) => show(alloc, version),
+            Command::Compare(left, right) => compare(alloc, left, right),
+            Command::Match(list, version) => contains(alloc, list, version),
+            Command::Edit(version, changes) => edit(alloc, version, changes),
+            Command::Range(list) => range(alloc, list),
+            Command::Filter(list) => filter(alloc, list, input),
+            Command::Pick(name, candidates) => pick(alloc, name, candidates, input),
+            Command::Usage => Ok(Answer::usage(alloc)?),
+        }
+    }
+
+    /// What it prints for its input: a result, or the error's text.
+    pub(crate) fn answer(self, alloc: Global, input: &[u8]) -> Result<Answer, AllocError>
+        ensures answer { IfOk result (λ a. IsAnswer (request self.entry) input.now (said a)) }
+        ensures known { IfOk result (λ a. a.status ≤ 2) }
+    {
+        match self.run(alloc, input) {
+            Ok(answer) => Ok(answer),
+            Err(error) => Answer::error(alloc, &error),
+        }
     }
 }
 
@@ -106,9 +120,5 @@ pub fn answer(alloc: Global, words: &[String], input: &[u8]) -> Result<Answer, A
     ensures answer { IfOk result (λ a. IsAnswer (asked (map string_bytes words.now)) input.now (said a)) }
     ensures known { IfOk result (λ a. a.status ≤ 2) }
 {
-    match commanded(alloc, requested(words), input) {
-        Ok(answer) => Ok(answer),
-        Err(Stop::Refused(answer)) => Ok(answer),
-        Err(Stop::OutOfMemory) => Err(AllocError),
-    }
+    Command::parse(words).answer(alloc, input)
 }

@@ -1,64 +1,55 @@
 // The command `edit`.
 ghost use Rattle.std.specs.Prelude.{◌≡◌, map, string_bytes};
-ghost use Rattle.std.specs.Result.{result_map_both};
-ghost use Rattle.pep440_tool.specs.Answers.{EditAnswer, edited_answer, not_a_change_text, refused};
-ghost use Rattle.pep440_tool.specs.Said.{Answered, MeansChanges, Stops};
+ghost use Rattle.std.specs.List.{AllZip, enumerate_from};
+ghost use Rattle.pep440_tool.specs.Answers.{AsksChange, EditAnswer, RejectsChange, RejectsFirst, edited_answer};
+ghost use Rattle.pep440_tool.specs.CommandErrors.{Gives};
+ghost use Rattle.pep440_tool.specs.Said.{Answered};
 ghost use Rattle.pep440_version.specs.Changes.{changed_all, edit};
 
-use crate::change_word::{NoChange, change};
-use crate::output::{Answer, Stop};
-use crate::printing::marked_print;
+use crate::error::CommandError;
+use crate::output::Answer;
 use crate::reading::read;
-use pep440_rs::{Change, ChangeError, Version};
+use pep440_change_words::{ChangeWordError, WithSentinels, parse_change};
+use pep440_rs::{Change, Version};
 use std::alloc::Global;
 
-/// A word is refused by its place.
-fn not_a_change(alloc: Global, place: usize) -> Stop
-    ensures { Stops (λ a. a ≡ refused (not_a_change_text place)) result }
-{
-    match format!(in alloc; "change {place}: not a change") {
-        Ok(text) => Stop::refused(alloc, text.as_str()),
-        Err(_) => Stop::OutOfMemory,
-    }
-}
-
-/// The changes that the words ask for; the first word that asks for none is refused by its place.
-fn find_changes(alloc: Global, words: &[String]) -> Result<Vec<Change>, Stop>
-    ensures { MeansChanges (map string_bytes words.now) (result_map_both (λ v. map edit v.items) (λ stop. stop) result) }
+/// The changes that the words ask for.
+fn read_changes(alloc: Global, words: &[String]) -> Result<Vec<Change>, CommandError>
+    ensures { Gives (λ v. AllZip AsksChange (enumerate_from 1 (map string_bytes words.now)) (map edit v.items)) (RejectsFirst AsksChange RejectsChange (enumerate_from 1 (map string_bytes words.now))) result }
 {
     let mut changes = Vec::new(alloc);
-    for i in 0..words.len() {
-        match change(alloc, words[i].as_str()) {
+    for (at, word) in words.iter().enumerate() {
+        match parse_change(alloc, word.as_str()) {
             Ok(change) => changes.push(change)?,
-            Err(NoChange::NotAChange) => return Err(not_a_change(alloc, i + 1)),
-            Err(NoChange::OutOfMemory) => return Err(Stop::OutOfMemory),
+            Err(ChangeWordError::NotAChange) => return Err(CommandError::NotAChange(at + 1)),
+            Err(ChangeWordError::OutOfMemory) => return Err(CommandError::OutOfMemory),
         }
     }
     Ok(changes)
 }
 
-/// The version after the changes, or why they can't be made.
-fn edited(alloc: Global, version: Version, changes: &[Change]) -> Result<Answer, Stop>
+/// The version after the changes, with its sentinels.
+fn apply_changes(
+    alloc: Global,
+    version: Version,
+    changes: &[Change],
+) -> Result<Answer, CommandError>
     ensures { Answered (λ a. a ≡ edited_answer (changed_all 1 version (map edit changes.now))) result }
 {
     match version.with_changes(alloc, changes) {
         Ok(version) => {
-            let print = marked_print(alloc, &version)?;
+            let print = WithSentinels(&version).to_string(alloc)?;
             Ok(Answer::shown(alloc, print.as_str())?)
         }
-        Err(ChangeError::OutOfMemory) => Err(Stop::OutOfMemory),
-        Err(error) => {
-            let text = error.to_string(alloc)?;
-            Err(Stop::refused(alloc, text.as_str()))
-        }
+        Err(error) => Err(CommandError::Change(error)),
     }
 }
 
 /// `edit V CHANGE..`: all words are read before a change is made.
-pub(crate) fn edit(alloc: Global, word: &str, words: &[String]) -> Result<Answer, Stop>
+pub(crate) fn edit(alloc: Global, word: &str, words: &[String]) -> Result<Answer, CommandError>
     ensures { Answered (EditAnswer word.now (map string_bytes words.now)) result }
 {
     let version = read(alloc, word)?;
-    let changes = find_changes(alloc, words)?;
-    edited(alloc, version, changes.as_slice())
+    let changes = read_changes(alloc, words)?;
+    apply_changes(alloc, version, changes.as_slice())
 }

@@ -1,93 +1,72 @@
 // The command `filter`.
-ghost use Rattle.std.specs.Prelude.{◌≡◌, ◌<◌, ◌∷◌, [], length, map, IfSome, Some};
+ghost use Rattle.std.specs.Prelude.{◌≡◌, ◌∷◌, ◌++◌, [], IfOk, List, Some};
 ghost use Rattle.std.specs.Fmt.{WritesStyledOnOk};
-ghost use Rattle.std.specs.List.{flat_map};
-ghost use Rattle.std.specs.Option.{option_map_or};
-ghost use Rattle.pep440_tool.specs.Answers.{refused};
-ghost use Rattle.pep440_tool.specs.Lines.{FilterAnswer, is_skipped, line_fault_text, lines};
-ghost use Rattle.pep440_tool.specs.Said.{Answered, MeansLine, MeansLines, Stops};
-ghost use Rattle.pep440_tool.specs.Texts.{line, lines_of};
+ghost use Rattle.std.specs.List.{AllZip, filter, flat_map};
+ghost use Rattle.pep440_rs.specs.Matching.{list_matches};
+ghost use Rattle.pep440_tool.specs.Answers.{RejectsFirst};
+ghost use Rattle.pep440_tool.specs.CommandErrors.{Gives};
+ghost use Rattle.pep440_tool.specs.Lines.{FilterAnswer, LineMeans, RejectsLine, numbered_lines, refused_version};
+ghost use Rattle.pep440_tool.specs.Said.{Answered};
+ghost use Rattle.pep440_tool.specs.Texts.{line};
+ghost use Rattle.pep440_version.specs.Grammar.{Derives};
 ghost use Rattle.pep440_version.specs.Print.{print};
+ghost use Rattle.pep440_version.specs.Record.{Record};
+ghost use Rattle.pep440_version.specs.Refusals.{Refuses};
 
-use crate::output::{Answer, Stop};
-use crate::reading::{Fault, read_list, read_text};
+use crate::error::CommandError;
+use crate::lines::{Line, Lines};
+use crate::output::Answer;
+use crate::reading::read_list;
 use pep440_rs::{Version, VersionSpecifiers};
-use std::alloc::Global;
+use std::alloc::{AllocError, Global};
 use std::fmt;
 
-/// The first line, and what stands behind its newline if it has one.
-pub fn cut_line(input: &[u8]) -> (&[u8], Option<&[u8]>)
-    ensures lines { lines input.now ≡ result.0.now ∷ option_map_or (λ rest. lines rest.now) result.1 [] }
-    ensures shorter { IfSome result.1 (λ rest. length rest.now < length input.now) }
+/// The version that the line means.
+fn read_line(alloc: Global, line: Line<'_>) -> Result<Version, CommandError>
+    ensures { Gives (LineMeans Derives (line.entry.number, line.entry.bytes.now)) (RejectsLine Refuses refused_version (line.entry.number, line.entry.bytes.now)) result }
 {
-    for (at, byte) in input.iter().enumerate() {
-        if *byte == b'\n' {
-            return (&input[..at], Some(&input[at + 1..]));
-        }
-    }
-    (input, None)
-}
-
-/// Whether the line has blanks alone.
-pub fn is_skipped(line: &[u8]) -> bool
-    ensures { result ≡ is_skipped line.now }
-{
-    line.iter().all(|byte| *byte == b'\t' || *byte == 12 || *byte == b'\r' || *byte == b' ')
-}
-
-/// A line is refused by its place.
-pub(crate) fn refuse_line(alloc: Global, place: usize, fault: &str) -> Stop
-    ensures { Stops (λ a. a ≡ refused (line_fault_text place fault.now)) result }
-{
-    match format!(in alloc; "line {place}: {fault}") {
-        Ok(text) => Stop::refused(alloc, text.as_str()),
-        Err(_) => Stop::OutOfMemory,
+    match Version::from_str(alloc, line.text()?) {
+        Ok(version) => Ok(version),
+        Err(error) => Err(CommandError::Line(line.number, error)),
     }
 }
 
-/// The version that the line means, none where it is skipped.
-fn read_line(alloc: Global, place: usize, line: &[u8]) -> Result<Option<Version>, Stop>
-    ensures { MeansLine place line.now result }
+/// One more version, where the list contains it.
+fn push_contained(
+    alloc: Global,
+    list: &VersionSpecifiers,
+    version: Version,
+    versions: &mut Vec<Version>,
+) -> Result<(), AllocError>
+    ensures { IfOk result (λ _. versions.new.items ≡ versions.old.items ++ filter (list_matches list.now) (version ∷ [])) }
 {
-    if is_skipped(line) {
-        return Ok(None);
+    if list.contains(alloc, &version)? {
+        versions.push(version)?;
     }
-    let Ok(text) = std::str::from_utf8(line) else {
-        return Err(refuse_line(alloc, place, "not UTF-8"));
-    };
-    match read_text(alloc, text) {
-        Ok(version) => Ok(Some(version)),
-        Err(Fault::Text(fault)) => Err(refuse_line(alloc, place, fault.as_str())),
-        Err(Fault::OutOfMemory) => Err(Stop::OutOfMemory),
-    }
+    Ok(())
 }
 
 /// The versions of the lines that the list contains, in the order of the lines.
-fn contained(alloc: Global, list: &VersionSpecifiers, input: &[u8]) -> Result<Vec<Version>, Stop>
-    ensures { MeansLines (λ versions. versions.items) list.now (lines input.now) result }
+fn read_contained(
+    alloc: Global,
+    list: &VersionSpecifiers,
+    input: &[u8],
+) -> Result<Vec<Version>, CommandError>
+    ensures { Gives (λ versions. (found : List Record) × AllZip (LineMeans Derives) (numbered_lines input.now) found × (versions.items ≡ filter (list_matches list.now) found)) (RejectsFirst (LineMeans Derives) (RejectsLine Refuses refused_version) (numbered_lines input.now)) result }
 {
     let mut versions = Vec::new(alloc);
-    let mut place = 0;
-    let mut rest = Some(input);
-    while let Some(text) = rest {
-        let (line, later) = cut_line(text);
-        place += 1;
-        match read_line(alloc, place, line)? {
-            Some(version) => {
-                if list.contains(alloc, &version)? {
-                    versions.push(version)?;
-                }
-            }
-            None => {}
-        }
-        rest = later;
+    let mut lines = Lines::new(input);
+    while let Some((line, later)) = lines.next_line() {
+        let version = read_line(alloc, line)?;
+        push_contained(alloc, list, version, &mut versions)?;
+        lines = later;
     }
     Ok(versions)
 }
 
 /// Versions to be printed a line each.
 #[derive(Drop)]
-struct Lines<'a> {
+struct VersionLines<'a> {
     versions: &'a [Version],
 }
 
@@ -108,7 +87,7 @@ fn write_lines<W: fmt::Write>(f: &mut fmt::Formatter<W>, versions: &[Version]) -
     Ok(())
 }
 
-impl fmt::Display for Lines<'_> {
+impl fmt::Display for VersionLines<'_> {
     ghost output = { λ l. Some (flat_map (λ v. line (print v)) l.versions.now) };
 
     ghost styled_output = { λ l _. Some (flat_map (λ v. line (print v)) l.versions.now) };
@@ -119,13 +98,13 @@ impl fmt::Display for Lines<'_> {
 }
 
 /// `filter SPECS`: the versions of the lines that the list contains, in order.
-pub(crate) fn filter(alloc: Global, word: &str, input: &[u8]) -> Result<Answer, Stop>
+pub(crate) fn filter(alloc: Global, word: &str, input: &[u8]) -> Result<Answer, CommandError>
     ensures { Answered (FilterAnswer word.now input.now) result }
 {
     let list = read_list(alloc, word)?;
-    let mut versions = contained(alloc, &list, input)?;
+    let mut versions = read_contained(alloc, &list, input)?;
     versions.sort()?;
-    let lines = Lines {
+    let lines = VersionLines {
         versions: versions.as_slice(),
     };
     Ok(Answer::shown_lines(lines.to_string(alloc)?))

@@ -1,14 +1,14 @@
 //! The program `pep440` as a function of its words and its input, and over any reader and any writer.
 #![tactic(auto)]
 
-mod change_word;
 mod command;
 mod editing;
+mod error;
 mod filtering;
 pub mod laws;
+mod lines;
 mod output;
 mod picking;
-mod printing;
 mod program;
 mod ranging;
 mod reading;

@@ -1,10 +1,11 @@
-// What the program writes, and its status; and why a command ends before its answer.
-ghost use Rattle.std.specs.Prelude.{◌≡◌, IfOk, ◌++◌, codes, string_bytes};
-ghost use Rattle.pep440_tool.specs.Said.{Stops, said};
-ghost use Rattle.pep440_tool.specs.declared.output.Stop.TheVariants.{OutOfMemory};
-ghost use Rattle.pep440_tool.specs.Answers.{shown, refused, refused_list, usage_answer};
+// What the program writes, and its status.
+ghost use Rattle.std.specs.Prelude.{◌≡◌, IfOk, IfSome, false, string_bytes};
+ghost use Rattle.pep440_tool.specs.Answers.{shown, usage_answer};
+ghost use Rattle.pep440_tool.specs.CommandErrors.{ends_lines, error_answer, error_text_of, lacks_memory};
+ghost use Rattle.pep440_tool.specs.Said.{said};
 
-use std::alloc::{AllocError, AllocFailed, Global};
+use crate::error::CommandError;
+use std::alloc::{AllocError, Global};
 
 /// What the program writes, and the status that it ends with.
 #[derive(Debug, Drop)]
@@ -36,21 +37,20 @@ impl Answer {
         }
     }
 
-    /// The fault as a line, with status 1.
-    pub(crate) fn refused(alloc: Global, text: &str) -> Result<Answer, AllocError>
-        ensures { IfOk result (λ a. said a ≡ refused text.now) }
+    /// The text of the error as a line, with status 1.
+    pub(crate) fn error(alloc: Global, error: &CommandError) -> Result<Answer, AllocError>
+        ensures memory { IfOk result (λ _. lacks_memory error.now ≡ false) }
+        ensures status { IfOk result (λ a. a.status ≡ 1) }
+        ensures printed { IfOk result (λ a. IfSome (error_text_of error.now) (λ text. said a ≡ error_answer (ends_lines error.now) text)) }
     {
-        let mut answer = Answer::refused_list(alloc, text)?;
-        answer.output.push(b'\n')?;
-        Ok(answer)
-    }
-
-    /// The fault of a list, which ends its own lines, with status 1.
-    pub(crate) fn refused_list(alloc: Global, text: &str) -> Result<Answer, AllocError>
-        ensures { IfOk result (λ a. said a ≡ refused_list text.now) }
-    {
+        if error.is_out_of_memory() {
+            return Err(AllocError);
+        }
         let mut output = Vec::from_slice(alloc, b"error: ")?;
-        output.extend_from_slice(text.as_bytes())?;
+        output.extend_from_slice(error.to_string(alloc)?.as_bytes())?;
+        if !error.ends_lines() {
+            output.push(b'\n')?;
+        }
         Ok(Answer { output, status: 1 })
     }
 
@@ -62,52 +62,5 @@ impl Answer {
             output: Vec::from_slice(alloc, USAGE.as_bytes())?,
             status: 2,
         })
-    }
-}
-
-/// Why a command ends before its answer.
-#[derive(Debug, Drop)]
-pub(crate) enum Stop {
-    /// What it was given is refused, by this answer.
-    Refused(Answer),
-    /// Memory ran out.
-    OutOfMemory,
-}
-
-impl From<AllocError> for Stop {
-    ghost from_gives = { λ _ stop. stop ≡ OutOfMemory };
-
-    fn from(_refused: AllocError) -> Stop {
-        Stop::OutOfMemory
-    }
-}
-
-impl<T: Drop> From<AllocFailed<T>> for Stop {
-    ghost from_gives = { λ _ stop. stop ≡ OutOfMemory };
-
-    fn from(_refused: AllocFailed<T>) -> Stop {
-        Stop::OutOfMemory
-    }
-}
-
-impl Stop {
-    /// The fault as a line.
-    pub(crate) fn refused(alloc: Global, text: &str) -> Stop
-        ensures { Stops (λ a. a ≡ refused text.now) result }
-    {
-        match Answer::refused(alloc, text) {
-            Ok(answer) => Stop::Refused(answer),
-            Err(_) => Stop::OutOfMemory,
-        }
-    }
-
-    /// The fault of a list, which ends its own lines.
-    pub(crate) fn refused_list(alloc: Global, text: &str) -> Stop
-        ensures { Stops (λ a. a ≡ refused_list text.now) result }
-    {
-        match Answer::refused_list(alloc, text) {
-            Ok(answer) => Stop::Refused(answer),
-            Err(_) => Stop::OutOfMemory,
-        }
     }
 }

@@ -4,7 +4,7 @@ ghost use Rattle.pep440_tool.specs.Texts.{memory_text};
 ghost use Rattle.std.specs.Io.KnownBytes.{Appends};
 ghost use Rattle.pep440_tool.specs.Runs.{RunEnds, WroteFront};
 
-use crate::command::{answer, wants_input};
+use crate::command::Command;
 use crate::stream::{ReadFailure, read_whole, write_whole};
 use std::alloc::Global;
 use std::io::{Read, Write};
@@ -15,15 +15,16 @@ const MEMORY: &str = "error: out of memory\n";
 pub fn run<R: Read, W: Write>(alloc: Global, words: &[String], reader: &mut R, writer: &mut W) -> u8
     ensures { RunEnds R.remaining W.contents (map string_bytes words.now) reader.old reader.new writer.old writer.new result }
 {
+    let command = Command::parse(words);
     let mut input = Vec::new(alloc);
-    if wants_input(words) {
+    if command.reads_input() {
         match read_whole(alloc, reader) {
             Ok(bytes) => input = bytes,
             Err(ReadFailure::Io) => return 4,
             Err(ReadFailure::OutOfMemory) => return refuse(writer),
         }
     }
-    let Ok(said) = answer(alloc, words, input.as_slice()) else {
+    let Ok(said) = command.answer(alloc, input.as_slice()) else {
         return refuse(writer);
     };
     if write_whole(writer, said.output.as_slice()) {

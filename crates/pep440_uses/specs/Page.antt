@@ -1,7 +1,7 @@
 -- The newest of the versions that a list contains.
-use Rattle.std.specs.Prelude.{◌≡◌, List, false, filter, length, Option, Some, None}
-use Rattle.std.specs.List.{All, Contains}
-use Rattle.std.specs.Ordering.{is_gt}
+use Rattle.std.specs.Prelude.{◌≡◌, List, [], ◌∷◌, ◌++◌, false, filter, Option, Some, None, IsTrue}
+use Rattle.std.specs.List.{All}
+use Rattle.std.specs.Ordering.{is_gt, is_lt}
 use Rattle.pep440_rs.specs.Matching.{list_matches}
 use Rattle.pep440_rs.specs.Specifiers.{Spec}
 use Rattle.pep440_version.specs.Key.{record_cmp}
@@ -11,7 +11,15 @@ use Rattle.pep440_version.specs.Record.{Record}
 abbrev pub contained : List Spec → List Record → List Record
 contained list versions = filter (list_matches list) versions
 
--- none where there are no versions, else one of them that none of them is above
-abbrev pub IsGreatest : List Record → Option Record → Type 0
-IsGreatest versions None = length versions ≡ 0
-IsGreatest versions (Some v) = Contains versions v × All (λ w. is_gt (record_cmp w v) ≡ false) versions
+-- one of them: those before it are not above it, and those behind it are below it; so of equal ones it is the last
+pub record IsLastGreatest (versions : List Record) (v : Record) : Type 0 where
+  pub before : List Record
+  pub after : List Record
+  pub split : versions ≡ before ++ (v ∷ after)
+  pub greatest : All (λ w. is_gt (record_cmp w v) ≡ false) before
+  pub above : All (λ w. IsTrue (is_lt (record_cmp w v))) after
+
+-- none exactly where there are no versions
+abbrev pub LastGreatest : List Record → Option Record → Type 0
+LastGreatest versions None = versions ≡ []
+LastGreatest versions (Some v) = IsLastGreatest versions v

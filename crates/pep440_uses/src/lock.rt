@@ -19,7 +19,7 @@ pub struct Locked {
     pub version: Version,
 }
 
-/// Why a line is refused.
+/// Why a line is rejected.
 #[derive(Debug, Drop)]
 pub enum LockError {
     /// There are fewer than two semicolons.
@@ -65,6 +65,7 @@ impl From<AllocError> for LockError {
 // The parts of the line, which stand between semicolons; none where there are fewer than two.
 fn parts(line: &str) -> Option<(&str, &str, &str)>
     ensures short { IfNone result (IsShort line.now) }
+    ensures long { IfSome result (λ _. ¬ IsShort line.now) }
     ensures name { IfSome result (λ p. p.0.now ≡ name_part line.now) }
     ensures list { IfSome result (λ p. p.1.now ≡ list_part line.now) }
     ensures version { IfSome result (λ p. p.2.now ≡ version_part line.now) }
@@ -77,7 +78,8 @@ fn parts(line: &str) -> Option<(&str, &str, &str)>
 impl Locked {
     /// What the line says: a name, a list and a version, with semicolons between them.
     ///
-    /// Takes memory. A line is refused as `Parts`, then for its list, then for its version; `OutOfMemory` says nothing of it.
+    /// Allocates. The error names the first fault: `Parts`, else that of the list, else that of the version. `OutOfMemory`
+    /// says nothing of the line.
     pub fn from_line(alloc: Global, line: &str) -> Result<Locked, LockError>
         ensures name { IfOk result (λ l. string_bytes l.name ≡ name_part line.now) }
         ensures wanted { IfOk result (λ l. DerivesList (list_part line.now) l.wanted) }

@@ -1,6 +1,6 @@
 //! The newest candidate of an index page.
 ghost use Rattle.std.specs.Prelude.{◌≡◌, IfOk};
-ghost use Rattle.pep440_uses.specs.Page.{IsGreatest, contained};
+ghost use Rattle.pep440_uses.specs.Page.{LastGreatest, contained};
 
 use pep440_rs::{Version, VersionSpecifiers};
 use std::alloc::{AllocError, Global};
@@ -25,13 +25,13 @@ fn contained(
 /// The newest version of the page that the list contains; none where it contains none. Of equal ones, as `1.0` and
 /// `1.0.0`, the last.
 ///
-/// Takes memory; an error says that it ran out.
+/// Allocates; the error says that memory ran out.
 pub fn newest(
     alloc: Global,
     wanted: &VersionSpecifiers,
     page: Vec<Version>,
 ) -> Result<Option<Version>, AllocError>
-    ensures { IfOk result (IsGreatest (contained wanted.now page.items)) }
+    ensures { IfOk result (LastGreatest (contained wanted.now page.items)) }
 {
     let versions = contained(alloc, wanted, page)?;
     Ok(versions.into_iter().max())

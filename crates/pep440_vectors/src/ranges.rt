@@ -298,6 +298,25 @@ fn beside_matching(rt: HostRuntime) -> Result<(), Fail> {
     Ok(())
 }
 
+// From one version to the other, both included.
+fn between(rt: HostRuntime, start: &str, end: &str) -> Result<Ranges<Version>, Fail> {
+    let from = Bound::Included(version(rt, start)?);
+    let to = Bound::Included(version(rt, end)?);
+    Ok(Ranges::from_range_bounds(rt.alloc(), from, to)?)
+}
+
+// Bounds that are equal and print otherwise: of two alike that of self is taken.
+#[test]
+fn intersection_takes_the_bounds_of_self(rt: HostRuntime) -> Result<(), Fail> {
+    let short = between(rt, "1.0", "2.0")?;
+    let long = between(rt, "1.0.0", "2.0.0")?;
+    let shared = segments(rt.alloc(), &short.intersection(rt.alloc(), &long)?)?;
+    assert!(rt; shared.as_str() == "[1.0, 2.0]", "{shared}");
+    let shared = segments(rt.alloc(), &long.intersection(rt.alloc(), &short)?)?;
+    assert!(rt; shared.as_str() == "[1.0.0, 2.0.0]", "{shared}");
+    Ok(())
+}
+
 // `!=1,!=2` and so on, up to `!=1000`.
 fn exclusions(rt: HostRuntime) -> Result<VersionSpecifiers, Fail> {
     let mut text = String::from_str(rt.alloc(), "!=1")?;

@@ -1,6 +1,7 @@
 //! Operators and single specifiers.
 pub mod built;
 mod copies;
+mod long;
 mod operators;
 pub mod texts;
 mod without_memory;

@@ -7,11 +7,9 @@ use Rattle.std.specs.declared.cmp.Ordering.TheVariants.{Less, Equal, Greater}
 use Rattle.std.specs.Ordering.{nat_cmp, on, ordering_then, then_cmp, eq_by_cmp, as_partial_cmp}
 use Rattle.std.specs.Cmp.{IsPartialOrder, po, IsTotalOrder, IsEquivalence, eq_by_cmp_equiv, nat_cmp_total, nat_cmp_is, on_total, then_total}
 use Rattle.std.specs.Cmp.Lexicographic.{lists_total, nat_list_cmp_total, slice_cmp}
-use Rattle.pep440_version.specs.Key.{Key, key, key_cmp, record_cmp, release_cmp, stage_place, post_place, dev_place, place_cmp, segment_cmp, kind_rank, kind_cmp, prerelease_cmp}
+use Rattle.pep440_version.specs.Key.{Key, key, key_cmp, record_cmp, release_cmp, stage_place, post_place, dev_place, place_cmp, segment_cmp}
 use Rattle.pep440_version.specs.Record.{Segment, Text, Number}
-use Rattle.pep440_version.specs.Segments.{segment}
 use Rattle.pep440_version.specs.Trim.{trim, before_trimmed}
-use Rattle.pep440_version.specs.declared.prerelease.Prerelease.{Prerelease}
 
 below_suc : (y : ℕ) → nat_cmp 0 (suc y) ≡ Less
 below_suc y = sym (nat_cmp_is 0 (suc y) Less (zero-lt-suc y))
@@ -93,33 +91,5 @@ record_total = on_total key key_total
 pub record_equiv : IsEquivalence (eq_by_cmp record_cmp)
 record_equiv = eq_by_cmp_equiv record_total
 
--- the same of segments as they are held
-pub held_segment_total : IsTotalOrder (on segment segment_cmp)
-held_segment_total = on_total segment segment_total
-
-pub held_segment_equiv : IsEquivalence (eq_by_cmp (on segment segment_cmp))
-held_segment_equiv = eq_by_cmp_equiv held_segment_total
-
-pub held_segment_po : IsPartialOrder (eq_by_cmp (on segment segment_cmp)) (as_partial_cmp (on segment segment_cmp))
-held_segment_po = po held_segment_total (λ x y. refl)
-
 pub record_po : IsPartialOrder (eq_by_cmp record_cmp) (as_partial_cmp record_cmp)
 record_po = po record_total (λ x y. refl)
-
-pub kind_total : IsTotalOrder kind_cmp
-kind_total = on_total kind_rank nat_cmp_total
-
-pub kind_equiv : IsEquivalence (eq_by_cmp kind_cmp)
-kind_equiv = eq_by_cmp_equiv kind_total
-
-pub kind_po : IsPartialOrder (eq_by_cmp kind_cmp) (as_partial_cmp kind_cmp)
-kind_po = po kind_total (λ x y. refl)
-
-pub prerelease_total : IsTotalOrder prerelease_cmp
-prerelease_total = then_total (on_total (λ (p : Prerelease). p.kind) kind_total) (on_total (λ (p : Prerelease). p.number) nat_cmp_total)
-
-pub prerelease_equiv : IsEquivalence (eq_by_cmp prerelease_cmp)
-prerelease_equiv = eq_by_cmp_equiv prerelease_total
-
-pub prerelease_po : IsPartialOrder (eq_by_cmp prerelease_cmp) (as_partial_cmp prerelease_cmp)
-prerelease_po = po prerelease_total (λ x y. refl)

@@ -1,21 +1,26 @@
 -- Records that tie have the same key, but for zeros at the end of the release; so they feed a hasher alike.
 use Rattle.std.specs.Hash.{u64}
 use Rattle.std.proofs.Common.{◌≡◌, ◌==◌, ℕ, List, ◌++◌, refl, sym, ap, ◌∙◌, true, cond}
-use Rattle.std.specs.Ordering.{nat_cmp, on, ordering_then, eq_by_cmp, is_eq}
+use Rattle.std.specs.Ordering.{nat_cmp, ordering_then, eq_by_cmp, is_eq}
+use Rattle.std.specs.Prelude.{string_bytes}
 use Rattle.std.proofs.lemmas.Bool.{true≢false}
-use Rattle.std.specs.Cmp.{Equal-is}
-use Rattle.std.specs.Cmp.Lexicographic.{slice_cmp}
+use Rattle.std.specs.Cmp.{Equal-is, first_so, second_so, unsigned_Decides}
+use Rattle.std.specs.Cmp.Lexicographic.{slice_cmp, pointwise_decides}
 use Rattle.std.specs.FinMap.{nat_cmp-IsAntisymmetric, slice_cmp-IsAntisymmetric}
 use Rattle.std.specs.declared.cmp.Ordering.{Ordering}
 use Rattle.std.specs.declared.cmp.Ordering.TheVariants.{Less, Equal, Greater}
 use Rattle.pep440_version.specs.declared.prerelease.PrereleaseKind.TheVariants.{Alpha, Beta, Rc}
 use Rattle.pep440_version.specs.Feed.{feed, feed_numbers, feed_stage, feed_post, feed_dev, feed_local, feed_segment, feed_kind, feed_prerelease}
-use Rattle.pep440_version.specs.Key.{Key, key, key_cmp, record_cmp, Stage, Min, Dev, Pre, Final, PostPlace, NoPost, PostAt, PostTop, DevPlace, DevAt, NoDev, stage_cmp, stage_place, post_cmp, post_place, dev_cmp, dev_place, segment_cmp, kind_rank, kind_cmp, prerelease_cmp}
+use Rattle.pep440_version.specs.Key.{Key, key, key_cmp, record_cmp, Stage, Min, Dev, Pre, Final, PostPlace, NoPost, PostAt, PostTop, DevPlace, DevAt, NoDev, stage_cmp, stage_place, post_cmp, post_place, dev_cmp, dev_place, segment_cmp}
 use Rattle.pep440_version.specs.KeyLaws.{release_cmp-trim, segment_cmp-places, segment_rank, segment_text, segment_number}
 use Rattle.pep440_version.specs.Record.{Record, Segment, Text, Number}
 use Rattle.pep440_version.specs.Segments.{segment}
 use Rattle.pep440_version.specs.Trim.{trim}
+use Rattle.pep440_version.specs.contracts.prerelease.PrereleaseKindPartialEq.TheImpl.{eq-value as equal_kinds}
+use Rattle.pep440_version.specs.contracts.prerelease.PrereleasePartialEq.TheImpl.{eq-value as equal_prereleases}
+use Rattle.pep440_version.specs.contracts.segment.LocalSegmentPartialEq.TheImpl.{eq-value as equal_segments}
 use Rattle.pep440_version.specs.declared.segment.LocalSegment.{LocalSegment}
+use Rattle.pep440_version.specs.declared.segment.LocalSegment.TheVariants as held
 use Rattle.pep440_version.specs.declared.prerelease.PrereleaseKind.{PrereleaseKind}
 use Rattle.pep440_version.specs.declared.prerelease.Prerelease.{Prerelease}
 
@@ -129,27 +134,29 @@ feeds_alike x y e =
     let t = ties (key x) (key y) ((Equal-is (record_cmp x y)).0 e) in
     λ i. u64 (t.epoch i) ++ feed_numbers (t.release i) ++ feed_stage (t.stage i) ++ feed_post (t.post i) ++ feed_dev (t.dev i) ++ feed_local (t.local i)
 
-pub segments_feed_alike : (x y : LocalSegment) → eq_by_cmp (on segment segment_cmp) x y ≡ true → feed_segment (segment x) ≡ feed_segment (segment y)
-segments_feed_alike x y e = ap feed_segment (same_segment (segment x) (segment y) ((Equal-is (on segment segment_cmp x y)).0 e))
+-- segments that are equal as they are held mean the same
+same_held : (x y : LocalSegment) → equal_segments.it x y ≡ true → segment x ≡ segment y
+same_held (held.String s) (held.String t) e = ap Text ((pointwise_decides unsigned_Decides (string_bytes s) (string_bytes t)).0 e)
+same_held (held.String s) (held.Number n) e = cc e
+same_held (held.Number m) (held.String t) e = cc e
+same_held (held.Number m) (held.Number n) e = ap Number ((unsigned_Decides m n).0 e)
 
-kind_from : ℕ → PrereleaseKind
-kind_from rank = cond (rank == 0) Alpha (cond (rank == 1) Beta Rc)
+pub segments_feed_alike : (x y : LocalSegment) → equal_segments.it x y ≡ true → feed_segment (segment x) ≡ feed_segment (segment y)
+segments_feed_alike x y e = ap feed_segment (same_held x y e)
 
-kind_back : (k : PrereleaseKind) → kind_from (kind_rank k) ≡ k
-unfolding kind_from
-kind_back Alpha = refl
-kind_back Beta = refl
-kind_back Rc = refl
+pub kinds_feed_alike : (x y : PrereleaseKind) → equal_kinds.it x y ≡ true → feed_kind x ≡ feed_kind y
+kinds_feed_alike Alpha Alpha e = refl
+kinds_feed_alike Alpha Beta e = cc e
+kinds_feed_alike Alpha Rc e = cc e
+kinds_feed_alike Beta Alpha e = cc e
+kinds_feed_alike Beta Beta e = refl
+kinds_feed_alike Beta Rc e = cc e
+kinds_feed_alike Rc Alpha e = cc e
+kinds_feed_alike Rc Beta e = cc e
+kinds_feed_alike Rc Rc e = refl
 
-same_kind : (x y : PrereleaseKind) → kind_cmp x y ≡ Equal → x ≡ y
-same_kind x y e = sym (kind_back x) ∙ ap kind_from (same_number _ _ e) ∙ kind_back y
-
-pub kinds_feed_alike : (x y : PrereleaseKind) → eq_by_cmp kind_cmp x y ≡ true → feed_kind x ≡ feed_kind y
-kinds_feed_alike x y e = ap feed_kind (same_kind x y ((Equal-is (kind_cmp x y)).0 e))
-
-pub prereleases_feed_alike : (x y : Prerelease) → eq_by_cmp prerelease_cmp x y ≡ true → feed_prerelease x ≡ feed_prerelease y
+pub prereleases_feed_alike : (x y : Prerelease) → equal_prereleases.it x y ≡ true → feed_prerelease x ≡ feed_prerelease y
 prereleases_feed_alike x y e =
-    let t = (Equal-is (prerelease_cmp x y)).0 e in
-    let kind = same_kind x.kind y.kind (first _ _ t) in
-    let number = same_number x.number y.number (second _ _ t) in
-    λ i. feed_kind (kind i) ++ u64 (number i)
+    let kind = kinds_feed_alike x.kind y.kind (first_so (equal_kinds.it x.kind y.kind) (x.number == y.number) e) in
+    let number = (unsigned_Decides x.number y.number).0 (second_so (equal_kinds.it x.kind y.kind) (x.number == y.number) e) in
+    λ i. kind i ++ u64 (number i)

@@ -1,4 +1,4 @@
-//! What holds of texts, records, prints and words, each as the contract of a function that does nothing; and the word
+//! What holds of texts, records, prints, words and orders, each as the contract of a function that does nothing; and the word
 //! of a version.
 ghost use Rattle.std.specs.Prelude.{Ok, Err, Some, None, ◌≡◌, ◌⊎◌, ℕ, List, Bool, true, if◌then◌else◌};
 ghost use Rattle.pep440_version.specs.Grammar.{Derives};
@@ -7,7 +7,14 @@ ghost use Rattle.pep440_version.specs.Print.{print};
 ghost use Rattle.pep440_version.specs.Record.{Record, IsRecord};
 ghost use Rattle.pep440_version.specs.Refusals.{PatternRefusal, Refusal, Refuses, RefusesPattern};
 ghost use Rattle.pep440_version.specs.Reread.{Rereads};
-ghost use Rattle.pep440_version.specs.Key.{record_cmp};
+ghost use Rattle.pep440_version.specs.Key.{kind_cmp, prerelease_cmp, record_cmp, segment_cmp};
+ghost use Rattle.pep440_version.specs.Segments.{segment};
+ghost use Rattle.pep440_version.specs.contracts.prerelease.PrereleaseKindOrd.TheImpl.{cmp-value as cmp_kinds};
+ghost use Rattle.pep440_version.specs.contracts.prerelease.PrereleaseOrd.TheImpl.{cmp-value as cmp_prereleases};
+ghost use Rattle.pep440_version.specs.contracts.segment.LocalSegmentOrd.TheImpl.{cmp-value as cmp_segments};
+ghost use Rattle.pep440_version.specs.declared.prerelease.Prerelease.{Prerelease};
+ghost use Rattle.pep440_version.specs.declared.prerelease.PrereleaseKind.{PrereleaseKind};
+ghost use Rattle.pep440_version.specs.declared.segment.LocalSegment.{LocalSegment};
 ghost use Rattle.pep440_version.specs.Whole.{read_version, read_pattern};
 ghost use Rattle.pep440_version.specs.Word.{is_packed, word};
 ghost use Rattle.std.specs.Option.{option_copied};
@@ -15,8 +22,8 @@ ghost use Rattle.std.specs.Ordering.{nat_cmp};
 
 use crate::version::Version;
 
-/// The word of the version, where it is held in one: exactly where its record is packed. It is lent out of the
-/// version, which keeps it. Of any other version None.
+/// The word of the version, where its record is packed. It is lent out of the version, which keeps it. Of any other
+/// version None.
 ///
 /// Takes no memory.
 pub fn word(version: &Version) -> Option<&u64>
@@ -59,4 +66,11 @@ pub fn reading_agrees()
     ensures refused { (text : List ℕ) (f : Refusal) → Refuses text f → read_version text ≡ Err f }
     ensures pattern { (text : List ℕ) (r : Record) (s : Bool) → DerivesPattern text r s → read_pattern text ≡ Ok (r, s) }
     ensures refused_pattern { (text : List ℕ) (f : PatternRefusal) → RefusesPattern text f → read_pattern text ≡ Err f }
+{}
+
+/// `cmp` of kinds, pre-releases and segments, which are derived, is the stated order.
+pub fn parts_are_ordered()
+    ensures kind { (j k : PrereleaseKind) → cmp_kinds.it j k ≡ kind_cmp j k }
+    ensures prerelease { (p q : Prerelease) → cmp_prereleases.it p q ≡ prerelease_cmp p q }
+    ensures segment { (s t : LocalSegment) → cmp_segments.it s t ≡ segment_cmp (segment s) (segment t) }
 {}

@@ -1,6 +1,6 @@
-//! A version in one word: its release, and the one suffix that it may have.
+//! A packed version: its release, and the word of the release and of the one suffix that there may be.
 ghost use Rattle.std.specs.Prelude.{◌≡◌, ◌+◌, ◌*◌, ◌^◌, ◌<◌, ◌≤◌, ◌&&◌, nat_le, true, false, None, length, slice_index, take, IfSome, IfNone, if◌then◌else◌};
-ghost use Rattle.pep440_version.specs.Form.{IsWord, class_in, full_record, number_in, number_of_class, packed_record, pre_at, record_in};
+ghost use Rattle.pep440_version.specs.Form.{IsWord, class_in, dev_class, full_record, max_class, min_class, number_in, number_of_class, packed_record, post_class, pre_at, record_in};
 ghost use Rattle.pep440_version.specs.Normal.{IsPadded, IsKnown};
 ghost use Rattle.pep440_version.specs.Word.{is_packed, is_short, suffix};
 
@@ -25,6 +25,13 @@ pub(crate) const POST: u64 = 6;
 
 const MAX: u64 = 7;
 
+// The greatest numbers that fit into their bits: the first of a release, each other one, and that of a suffix.
+const MAX_FIRST_NUMBER: u64 = 65535;
+
+const MAX_OTHER_NUMBER: u64 = 255;
+
+pub(crate) const MAX_SUFFIX_NUMBER: u64 = 2097151;
+
 // How many release numbers there are, the word, and the numbers that it stands for.
 pub(crate) struct Packed {
     pub(crate) count: u8,
@@ -41,7 +48,7 @@ fn class_in(word: u64) -> u64
 fn number_in(word: u64) -> u64
     ensures { result ≡ number_in word }
 {
-    word & 0x1f_ffff
+    word & MAX_SUFFIX_NUMBER
 }
 
 // The number, where the word's suffix is of this class.
@@ -73,25 +80,25 @@ pub(crate) fn pre_in(word: u64) -> Option<Prerelease>
 }
 
 pub(crate) fn post_in(word: u64) -> Option<u64>
-    ensures { result ≡ number_of_class 6 (class_in word) (number_in word) }
+    ensures { result ≡ number_of_class post_class (class_in word) (number_in word) }
 {
     number_of_class(POST, word)
 }
 
 pub(crate) fn dev_in(word: u64) -> Option<u64>
-    ensures { result ≡ number_of_class 1 (class_in word) (number_in word) }
+    ensures { result ≡ number_of_class dev_class (class_in word) (number_in word) }
 {
     number_of_class(DEV, word)
 }
 
 pub(crate) fn min_in(word: u64) -> Option<u64>
-    ensures { result ≡ number_of_class 0 (class_in word) (number_in word) }
+    ensures { result ≡ number_of_class min_class (class_in word) (number_in word) }
 {
     number_of_class(MIN, word)
 }
 
 pub(crate) fn max_in(word: u64) -> Option<u64>
-    ensures { result ≡ number_of_class 7 (class_in word) (number_in word) }
+    ensures { result ≡ number_of_class max_class (class_in word) (number_in word) }
 {
     number_of_class(MAX, word)
 }
@@ -120,7 +127,10 @@ fn are_small(numbers: [u64; 4]) -> bool
     ensures { result ≡ (nat_le (slice_index numbers 0) 65535 && (nat_le (slice_index numbers 1) 255 && (nat_le (slice_index numbers 2) 255 && nat_le (slice_index numbers 3) 255))) }
 {
     let [first, second, third, fourth] = numbers;
-    first <= 65535 && second <= 255 && third <= 255 && fourth <= 255
+    first <= MAX_FIRST_NUMBER
+        && second <= MAX_OTHER_NUMBER
+        && third <= MAX_OTHER_NUMBER
+        && fourth <= MAX_OTHER_NUMBER
 }
 
 fn is_short(release: &[u64]) -> bool
@@ -137,7 +147,7 @@ fn packed_suffix(full: &Full) -> Option<(u64, u64)>
         return None;
     }
     let (class, number) = suffix(full)?;
-    if number > 2097151 {
+    if number > MAX_SUFFIX_NUMBER {
         None
     } else {
         Some((class, number))
@@ -160,7 +170,7 @@ fn word_of(numbers: [u64; 4], class: u64, number: u64) -> u64
 }
 
 impl Packed {
-    // The same in one word, where it can be.
+    // The same packed, where it can be.
     pub(crate) fn pack(full: &Full) -> Option<Packed>
         ensures none { IfNone result (is_packed (full_record full.now) ≡ false) }
         ensures some { IfSome result (λ p. IsWord p.count p.word p.numbers × (packed_record p.count p.word p.numbers ≡ full_record full.now)) }
@@ -175,7 +185,7 @@ impl Packed {
         })
     }
 
-    // Up to four numbers and one suffix in one word, where it can be.
+    // Up to four numbers and one suffix packed, where it can be.
     #[inline(always)]
     pub(crate) fn of_suffix(
         numbers: [u64; 4],

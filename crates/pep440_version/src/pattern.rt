@@ -119,6 +119,8 @@ impl VersionPattern {
 impl Clone for VersionPattern {
     ghost is_clone = { λ pattern copy. copy ≡ pattern };
 
+    ghost is_infallible = { λ pattern. is_packed pattern.0 ≡ true };
+
     fn clone(&self) -> Result<VersionPattern, AllocError> {
         Ok(VersionPattern {
             version: self.version.clone()?,

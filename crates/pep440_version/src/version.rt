@@ -22,13 +22,13 @@ use std::marker::Model;
 ///
 /// A version is packed where its epoch is 0, it has no local part, at most four release numbers, the first at most
 /// 65535 and the others at most 255, and at most one of pre, post, dev, `min` and `max`, whose number is at most
-/// 2097151. It is then held in one word (`laws::word`), without memory.
+/// 2097151. It then holds its release numbers, their count and one word (`laws::word`) in place, without a box.
 #[derive(Drop)]
 pub struct Version {
     form: Form,
 }
 
-// In a word exactly where the record is packed: so the record tells the form.
+// Packed, with its word, exactly where the record is: so the record tells the form.
 #[derive(Drop)]
 enum Form {
     InWord {
@@ -83,7 +83,7 @@ pub fn min_version(alloc: Global) -> Result<Version, AllocError>
 }
 
 impl Version {
-    // The form that holds the record: every version is made here or by `of_packed`.
+    // The form that holds the record: every version but a clone is made here or by `of_packed`.
     pub(crate) fn from_full(alloc: Global, full: Full) -> Result<Version, AllocError>
         requires { IsRecord (full_record full) }
         ensures value { IfOk result (λ v. v ≡ full_record full) }
@@ -97,7 +97,7 @@ impl Version {
         }
     }
 
-    // The form of a record in one word.
+    // The version that is packed so.
     pub(crate) fn of_packed(packed: Packed) -> Version
         requires valid { IsRecord (packed_record packed.count packed.word packed.numbers) }
         requires word { IsWord packed.count packed.word packed.numbers }
@@ -183,7 +183,7 @@ impl Version {
         Version::from_full(alloc, Full::new(alloc, release)?)
     }
 
-    // The word that is kept, where the version is held in one.
+    // The word that is kept, where the version is packed.
     #[inline(always)]
     pub(crate) fn word(&self) -> Option<&u64>
         ensures { option_copied result ≡ (if is_packed self.now then Some (word self.now) else None) }

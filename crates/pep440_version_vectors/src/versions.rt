@@ -10,6 +10,7 @@ mod extremes;
 mod generic;
 mod hashing;
 mod kept;
+mod long;
 mod order;
 mod packed;
 mod patterns;

@@ -77,12 +77,7 @@ class BaseSpecifier:
 
         Raises `OverflowError` where a bound lies above 18446744073709551615, as that of `==18446744073709551615.*`.
         """
-        try:
-            lines = _core.ranges(str(self)).splitlines()
-        except InvalidSpecifier:
-            # it is a list, so this is the one other reason
-            raise OverflowError(f"no ranges of '{self}': a bound lies above 18446744073709551615") from None
-        return [segment_of(line) for line in lines if line != "empty"]
+        return [segment_of(line) for line in _core.ranges(str(self)).splitlines() if line != "empty"]
 
 
 class Specifier(BaseSpecifier):

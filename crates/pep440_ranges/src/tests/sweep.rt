@@ -56,6 +56,13 @@ const TWO_PARTS: [(Bound<u64>, Bound<u64>); 2] = [
 ];
 
 #[test]
+fn sweep_empty_ranges_take_none(rt: HostRuntime) -> Result<(), Fail> {
+    let range: Ranges<Held> = Ranges::empty(rt.alloc());
+    assert!(rt; is(&range, &[]));
+    Ok(())
+}
+
+#[test]
 fn sweep_full(rt: HostRuntime) -> Result<(), Fail> {
     let range = match Ranges::full(rt.alloc()) {
         Ok(range) => range,

@@ -5,9 +5,11 @@ use Rattle.std.proofs.lemmas.List.Sorted.{IsPermutation-refl, ranks_by, sorted_f
 use Rattle.std.specs.Cmp.{IsStrictWeakOrder}
 use Rattle.std.specs.List.{filter}
 use Rattle.std.specs.List.Sorted.{IsSortedBy, ties}
-use Rattle.std.specs.Ordering.{is_lt}
+use Rattle.std.specs.Ordering.{is_lt, on}
+use Rattle.pep440_version.specs.Key.{record_cmp}
 use Rattle.pep440_version.specs.KeyLaws.{record_total}
-use Rattle.pep440_rs.specs.Arrangement.{Arranges, IsArranged, version_cmp}
+use Rattle.pep440_version.specs.Record.{Record}
+use Rattle.pep440_rs.specs.Arrangement.{Arranges, ArrangesBy, IsArranged, version_cmp}
 use Rattle.pep440_rs.specs.Specifiers.{Spec}
 use Rattle.pep440_rs.proofs.Arranging.Sorting.{sorted, sorted_same, sorted_stable, sorted_up}
 
@@ -66,9 +68,13 @@ module _ {X : Type 0} (lt : X → X → Bool) (weak : IsStrictWeakOrder lt) wher
       let rest = same_by_ties xs ys (later_sorted x xs up) (later_sorted y ys down) tails in
       λ i. head i ∷ rest i
 
+-- whatever is ordered by its version
+pub one_arrangement_by : {X : Type 0} (version : X → Record) (given a b : List X) → ArrangesBy (on version record_cmp) given a → ArrangesBy (on version record_cmp) given b → a ≡ b
+one_arrangement_by {X} version given a b h g =
+    same_by_ties (λ (x y : X). is_lt (record_cmp (version x) (version y))) (ranks_by record_total version) a b h.rises g.rises (λ z. h.stable z ∙ sym (g.stable z))
+
 pub one_arrangement : (members a b : List Spec) → Arranges members a → Arranges members b → a ≡ b
-one_arrangement members a b h g =
-    same_by_ties (λ (x y : Spec). is_lt (version_cmp x y)) (ranks_by record_total (λ (s : Spec). s.version)) a b h.rises g.rises (λ z. h.stable z ∙ sym (g.stable z))
+one_arrangement members a b h g = one_arrangement_by (λ (s : Spec). s.version) members a b h g
 
 pub arranged_again : (list : List Spec) → IsArranged list → Arranges list list
 arranged_again list up = record { same = IsPermutation-refl list; rises = up; stable = λ x. refl }

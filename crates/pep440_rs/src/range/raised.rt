@@ -1,7 +1,6 @@
 //! Numbers and releases raised.
-ghost use Rattle.std.specs.Prelude.{◌≡◌, ◌+◌, ◌<◌, length, MatchResult, IfOk, IsErrOf, Some, None};
+ghost use Rattle.std.specs.Prelude.{◌≡◌, ◌<◌, length, MatchResult, IfOk, IsErrOf, Some, None};
 ghost use Rattle.pep440_rs.specs.Bounds.{next_number, raised};
-ghost use Rattle.pep440_rs.specs.Matching.{without_last};
 
 use crate::range::error::RangeError;
 use std::alloc::Global;
@@ -29,13 +28,4 @@ pub(crate) fn raised(alloc: Global, release: &[u64]) -> Result<Vec<u64>, RangeEr
     let mut numbers = Vec::from_slice(alloc, &release[..at])?;
     numbers.push(next)?;
     Ok(numbers)
-}
-
-// The release without its last number.
-pub(crate) fn without_last(release: &[u64]) -> &[u64]
-    requires { 0 < length release.now }
-    ensures value { result.now ≡ without_last release.now }
-    ensures len { length result.now + 1 ≡ length release.now }
-{
-    &release[..release.len() - 1]
 }

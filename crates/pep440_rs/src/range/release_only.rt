@@ -6,8 +6,9 @@ ghost use Rattle.pep440_rs.specs.Refused.{TellsMax, raised_release_number, raise
 ghost use Rattle.pep440_version.specs.Record.{Record, of_release};
 
 use crate::range::error::RangeError;
-use crate::range::raised::{raised, without_last};
+use crate::range::raised::raised;
 use crate::specifier::VersionSpecifier;
+use crate::specifier::contains::without_last;
 use crate::specifier::operator::Operator;
 use pep440_ranges::Ranges;
 use pep440_version::Version;
@@ -31,7 +32,7 @@ fn release_up_to(
     Ok(Ranges::from_range_bounds(alloc, Bound::Included(start), Bound::Excluded(end))?)
 }
 
-// The range of an operator without star, other than `~=`, over a release.
+// `!=`: all but the release.
 fn other_than(alloc: Global, release: Version) -> Result<Ranges<Version>, AllocError>
     requires { release ≡ of_release release.release }
     ensures { IfOk result (λ r. release_range_of Operator.NotEqual release ≡ Some r) }

@@ -6,8 +6,9 @@ ghost use Rattle.pep440_rs.specs.Refused.{TellsMax, raised_number, raises_max};
 ghost use Rattle.pep440_version.specs.Record.{Record};
 
 use crate::range::error::RangeError;
-use crate::range::raised::{next_number, raised, without_last};
+use crate::range::raised::{next_number, raised};
 use crate::specifier::VersionSpecifier;
+use crate::specifier::contains::without_last;
 use crate::specifier::operator::Operator;
 use pep440_ranges::Ranges;
 use pep440_version::{Prerelease, Version};

@@ -1,10 +1,9 @@
 //! Whether a specifier contains a version.
-ghost use Rattle.std.specs.Prelude.{◌≡◌, ◌≢◌, not, IfOk, IsOk};
-ghost use Rattle.pep440_rs.specs.Matching.{matches, candidate, same_release, begins_with, has_prefix, is_early, is_late};
+ghost use Rattle.std.specs.Prelude.{◌≡◌, ◌≢◌, ◌<◌, ◌+◌, length, not, IfOk, IsOk};
+ghost use Rattle.pep440_rs.specs.Matching.{matches, candidate, same_release, begins_with, has_prefix, is_early, is_late, without_last};
 ghost use Rattle.pep440_rs.specs.declared.specifier.operator.Operator.TheVariants.{Equal, EqualStar, ExactEqual, NotEqual, NotEqualStar};
 ghost use Rattle.pep440_version.specs.Key.{record_cmp};
 
-use crate::range::raised::without_last;
 use crate::specifier::VersionSpecifier;
 use crate::specifier::operator::Operator;
 use pep440_version::{Version, cmp_releases, cmp_without_local};
@@ -20,6 +19,15 @@ fn cmp_candidate(specifier: &Version, version: &Version) -> Ordering
     } else {
         cmp_without_local(version, specifier)
     }
+}
+
+// The release without its last number.
+pub(crate) fn without_last(release: &[u64]) -> &[u64]
+    requires { 0 < length release.now }
+    ensures value { result.now ≡ without_last release.now }
+    ensures len { length result.now + 1 ≡ length release.now }
+{
+    &release[..release.len() - 1]
 }
 
 // The release, padded with zeros, begins with these numbers.

@@ -129,7 +129,7 @@ impl Operator {
     /// The operator that the text is: one of `~=`, `==`, `!=`, `<=`, `>=`, `<`, `>` and `===`, and never a
     /// star form. Any other text is refused as `Unknown`.
     ///
-    /// Takes memory only to refuse, and may then answer `OutOfMemory` in place of `Unknown`.
+    /// Allocates only for `Unknown`, and may then return `OutOfMemory` in its place.
     pub fn from_str(alloc: Global, text: &str) -> Result<Operator, OperatorParseError>
         // What is answered is written so.
         ensures found { IfOk result (λ o. Spells text.now o) }

@@ -5,11 +5,8 @@ ghost use Rattle.pep440_version.specs.Grammar.{Derives, IsNumber, IsRelease};
 ghost use Rattle.pep440_version.specs.Normal.{IsClass, IsPadded, IsSuffix, spelling};
 
 use super::past_v;
-use crate::packed::{ALPHA, BETA, DEV, NONE, POST, Packed, RC};
+use crate::packed::{ALPHA, BETA, DEV, MAX_SUFFIX_NUMBER, NONE, POST, Packed, RC};
 use crate::version::Version;
-
-// The greatest number that a word holds: that of a suffix.
-const GREATEST: u64 = 2097151;
 
 // The number at the front, where it is small, and what follows it.
 #[inline(always)]
@@ -26,7 +23,7 @@ fn small_number(text: &[u8]) -> Option<(u64, &[u8])>
             return Some((number, &rest[i..]));
         }
         number = number * 10 + u64::from(rest[i] - b'0');
-        if number > GREATEST {
+        if number > MAX_SUFFIX_NUMBER {
             return None;
         }
     }

@@ -1,29 +1,19 @@
-use Rattle.std.proofs.Common.{◌≡◌, ◌∙◌, List, ℕ, Err, ap, codes, inl, inr, not, refl, string_bytes, subst, sym}
-use Rattle.pep440_tool.specs.Answers.{ToolAnswer, refused}
-use Rattle.pep440_tool.specs.Lines.{LineFault, line_fault_text}
-use Rattle.pep440_tool.specs.Said.{MeansText}
-use Rattle.pep440_tool.specs.declared.reading.Fault.TheVariants.{Text}
-use Rattle.pep440_tool.proofs.Stopped.{stops_weaker}
+use Rattle.std.proofs.Common.{ap, inr, refl}
+use Rattle.std.specs.Prelude.{option_map}
+use Rattle.pep440_version.specs.ErrorTexts.{refusal_text}
+use Rattle.pep440_version.specs.Refusals.{Refuses}
+use Rattle.pep440_tool.specs.Answers.{line_fault_text}
+use Rattle.pep440_tool.specs.Lines.{RejectsLine, refused_version}
+use Rattle.pep440_tool.proofs.Rejected.{not_text, stopped, told}
 use Rattle.pep440_tool.proofs.filtering.read_line.Goals as goal
 
-abbrev RefusesAt : ℕ → List ℕ → ToolAnswer → Type 0
-RefusesAt place line a = (fault : List ℕ) × LineFault line fault × (a ≡ refused (line_fault_text place fault))
+pub returns-in_err-text : goal.returns-in_err-text
+returns-in_err-text c =
+    let R = RejectsLine Refuses refused_version (c.args.line.number, c.args.line.bytes.now) in
+    stopped _ R R (λ a h. h) c.in_err-text.field-0.0 (not_text Refuses refused_version c.args.line.number c.args.line.bytes.now c.in_err-text.field-0.0 c.in_err-text.ensures)
+    c.from_residual.result c.from_residual.ensures.1
 
-pub returns-in_default : goal.returns-in_default
-returns-in_default c = stops_weaker (λ a. a ≡ refused (line_fault_text c.args.place (codes "not UTF-8"))) (RefusesAt c.args.place c.args.line.now)
-    (λ a h. (codes "not UTF-8", (ap not (sym c.is_skipped.ensures ∙ c.if-is_skipped.false), inl (c.in_default.ensures.cases.0, refl)), h)) c.refuse_line.result c.refuse_line.ensures
-
-pub returns-in-Err-Text : goal.returns-in-Err-Text
-returns-in-Err-Text c = stops_weaker (λ a. a ≡ refused (line_fault_text c.args.place c.as_str.result.now)) (RefusesAt c.args.place c.args.line.now)
-    (λ a h. (
-      string_bytes c.in-Err-Text.fault,
-      (
-        ap not (sym c.is_skipped.ensures ∙ c.if-is_skipped.false),
-        inr (
-          c.in-Ok.ensures.cases.1,
-          subst (λ t. MeansText t (Err (Text c.in-Err-Text.fault))) c.in-Ok.ensures.cases.0
-              (subst (λ e. MeansText c.in-Ok.text.now (Err e)) c.in-Err-Text.field-0-is c.in-Err-Text.ensures),
-        ),
-      ),
-      h ∙ ap (λ t. refused (line_fault_text c.args.place t)) c.as_str.ensures.value,
-    )) c.refuse_line-in-Err-Text.result c.refuse_line-in-Err-Text.ensures
+pub returns-in-Err : goal.returns-in-Err
+returns-in-Err c = λ lacks.
+    let f = told c.args.line.bytes.now _ _ lacks (rw c.in_ok-text.ensures.0 at c.in-Err.ensures.refused) c.in-Err.ensures.told in
+    (line_fault_text c.args.line.number (refusal_text f.0), ap (option_map (line_fault_text c.args.line.number)) f.2, inr (c.in_ok-text.ensures.1, (f.0, f.1, refl)))

@@ -1,18 +1,19 @@
-use Rattle.std.proofs.Common.{◌∙◌, inl, inr, map, string_bytes, sym}
-use Rattle.pep440_version.specs.Grammar.{Derives}
-use Rattle.pep440_tool.specs.Lines.{lines}
-use Rattle.pep440_tool.specs.Picks.{LineNeeds, PickAnswer, RefusesCandidate, RefusesFirst, RefusesRequirementLine}
+use Rattle.std.proofs.Common.{◌∙◌, codes, inl, inr, map, refl, string_bytes, sym}
+use Rattle.pep440_pick.specs.RequirementGrammar.{DerivesRequirement, RefusesRequirement}
+use Rattle.pep440_tool.specs.Answers.{RejectsFirst}
+use Rattle.pep440_tool.specs.Lines.{LineMeans, RejectsLine, numbered_lines}
+use Rattle.pep440_tool.specs.Picks.{PickAnswer, refused_requirement}
 use Rattle.pep440_tool.specs.Said.{said}
-use Rattle.pep440_tool.proofs.Picked.{picked}
-use Rattle.pep440_tool.proofs.Stopped.{stopped}
+use Rattle.pep440_tool.proofs.Each.{picked}
+use Rattle.pep440_tool.proofs.Rejected.{stopped}
 use Rattle.pep440_tool.proofs.picking.pick.Goals as goal
 
-pub returns-in_err-versions : goal.returns-in_err-versions
-returns-in_err-versions c = stopped (RefusesFirst Derives RefusesCandidate (map string_bytes c.args.candidates.now)) (PickAnswer c.args.name.now (map string_bytes c.args.candidates.now) c.args.input.now)
-    (λ a h. inr (sym c.is_name.ensures ∙ c.if-not-is_name.false, inr h)) c.in_err-versions.field-0.0 c.in_err-versions.ensures c.from_residual.result c.from_residual.ensures.1
+pub returns-then-not-is_name : goal.returns-then-not-is_name
+returns-then-not-is_name c = λ lacks. (codes "name: not a valid name", refl, inl (sym c.is_name.ensures ∙ c.if-not-is_name.true, refl))
 
 pub returns-in_err-lists : goal.returns-in_err-lists
-returns-in_err-lists c = stopped (RefusesFirst LineNeeds RefusesRequirementLine (lines c.args.input.now)) (PickAnswer c.args.name.now (map string_bytes c.args.candidates.now) c.args.input.now)
+returns-in_err-lists c =
+    stopped _ (RejectsFirst (LineMeans DerivesRequirement) (RejectsLine RefusesRequirement refused_requirement) (numbered_lines c.args.input.now)) (PickAnswer c.args.name.now (map string_bytes c.args.candidates.now) c.args.input.now)
     (λ a h. inr (sym c.is_name.ensures ∙ c.if-not-is_name.false, inl (c.in_ok-versions.versions.items, c.in_ok-versions.ensures, inr h))) c.in_err-lists.field-0.0 c.in_err-lists.ensures
     c.from_residual-in_err-lists.result c.from_residual-in_err-lists.ensures.1
 

@@ -1,0 +1,72 @@
+/* What the calls do with null and length 0: as with an empty string or an empty batch. The header forbids null, since the
+   proof holds of pointers that point to something (docs/DECISIONS.md); this shows what a build of the library does with it nonetheless. */
+#include <stdio.h>
+#include <stdlib.h>
+
+#include "pep440.h"
+
+#define NONE NULL, 0
+#define EMPTY (const uint8_t *)"", 0
+
+static int wrong;
+
+static void hold(int is_right, const char *what)
+{
+    if (!is_right) {
+        printf("WRONG: %s\n", what);
+        wrong++;
+    }
+}
+
+static void strings(void)
+{
+    uint8_t out[128], is;
+    int8_t order;
+    size_t written;
+    uint64_t release[4];
+    pep440_parts parts;
+    hold(pep440_normalize(NONE, out, sizeof out, &written) == PEP440_INVALID_VERSION, "normalize");
+    hold(pep440_sort_key(NONE, out, sizeof out, &written) == PEP440_INVALID_VERSION, "sort_key");
+    hold(pep440_version_error(NONE, out, sizeof out, &written) == PEP440_OK && written > 0, "version_error");
+    hold(pep440_parts_of(NONE, &parts, release, 4) == PEP440_INVALID_VERSION, "parts_of");
+    hold(pep440_compare(NONE, (const uint8_t *)"1", 1, &order) == PEP440_INVALID_VERSION, "compare, left");
+    hold(pep440_compare((const uint8_t *)"1", 1, NONE, &order) == PEP440_INVALID_VERSION, "compare, right");
+    /* An empty list is one without a specifier, and contains each version. */
+    hold(pep440_normalize_list(NONE, out, sizeof out, &written) == PEP440_OK && written == 0, "normalize_list");
+    hold(pep440_list_error(NONE, out, sizeof out, &written) == PEP440_OK && written == 0, "list_error");
+    hold(pep440_contains(NONE, (const uint8_t *)"1", 1, &is) == PEP440_OK && is == 1, "contains, list");
+    hold(pep440_contains(EMPTY, NONE, &is) == PEP440_INVALID_VERSION, "contains, version");
+    hold(pep440_any_prerelease(NONE, &is) == PEP440_OK && is == 0, "any_prerelease");
+    hold(pep440_ranges(NONE, out, sizeof out, &written) == PEP440_OK && written == 7, "ranges");
+}
+
+static void buffers(void)
+{
+    size_t written;
+    pep440_parts parts;
+    hold(pep440_normalize((const uint8_t *)"1.0", 3, NONE, &written) == PEP440_NO_ROOM && written == 3, "normalize, no buffer");
+    hold(pep440_normalize_list(EMPTY, NONE, &written) == PEP440_OK && written == 0, "normalize_list, no buffer");
+    hold(pep440_parts_of((const uint8_t *)"1.0", 3, &parts, NONE) == PEP440_NO_ROOM && parts.release_length == 2, "parts_of, no numbers");
+}
+
+static void batches(void)
+{
+    const pep440_string one[] = {{NULL, 0}};
+    uint8_t marks[1], out[8];
+    size_t indices[1], ends[1], written, index;
+    hold(pep440_filter(EMPTY, NONE, NONE) == PEP440_OK, "filter of none");
+    hold(pep440_sort(NONE, NONE, &index) == PEP440_OK, "sort of none");
+    hold(pep440_sort_keys(NONE, NONE, NONE, &written, &index) == PEP440_OK && written == 0, "sort_keys of none");
+    hold(pep440_filter(EMPTY, one, 1, marks, 1) == PEP440_OK && marks[0] == PEP440_NOT_A_VERSION, "filter of null");
+    hold(pep440_sort(one, 1, indices, 1, &index) == PEP440_INVALID_VERSION && index == 0, "sort of null");
+    hold(pep440_sort_keys(one, 1, out, 8, ends, 1, &written, &index) == PEP440_INVALID_VERSION && index == 0, "sort_keys of null");
+}
+
+int main(void)
+{
+    strings();
+    buffers();
+    batches();
+    printf("null with length 0 is as empty in each place, %d wrong\n", wrong);
+    return wrong ? EXIT_FAILURE : EXIT_SUCCESS;
+}

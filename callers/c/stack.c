@@ -1,0 +1,143 @@
+/* How much stack a call takes: each runs in a thread whose stack was filled with one byte before, and the deepest byte that changed counts.
+   Strings are short, long, hostile to a reader, and very many. The header's bound must hold of all. */
+#define _GNU_SOURCE
+#include <pthread.h>
+#include <stdio.h>
+#include <stdlib.h>
+#include <string.h>
+#include <sys/mman.h>
+
+#include "pep440.h"
+
+enum { BOUND = 16 * 1024, STACK = 1 << 20, LONG = 1 << 16, MANY = 100000, FILL = 0xA5 };
+
+static pep440_string given, list;
+static pep440_string *strings;
+static uint8_t *out;
+static size_t *indices, *ends, written, at;
+static uint64_t *release;
+static pep440_parts parts;
+static uint8_t flag;
+static int8_t order;
+
+#define GIVEN given.bytes, given.length
+#define LIST list.bytes, list.length
+#define OUT out, (size_t)LONG * 4, &written
+
+static void *normalize(void *unused) { pep440_normalize(GIVEN, OUT); return unused; }
+static void *normalize_list(void *unused) { pep440_normalize_list(LIST, OUT); return unused; }
+static void *version_error(void *unused) { pep440_version_error(GIVEN, OUT); return unused; }
+static void *list_error(void *unused) { pep440_list_error(LIST, OUT); return unused; }
+static void *compare(void *unused) { pep440_compare(GIVEN, GIVEN, &order); return unused; }
+static void *contains(void *unused) { pep440_contains(LIST, GIVEN, &flag); return unused; }
+static void *any_prerelease(void *unused) { pep440_any_prerelease(LIST, &flag); return unused; }
+static void *parts_of(void *unused) { pep440_parts_of(GIVEN, &parts, release, LONG); return unused; }
+static void *sort_key(void *unused) { pep440_sort_key(GIVEN, OUT); return unused; }
+static void *ranges(void *unused) { pep440_ranges(LIST, OUT); return unused; }
+static void *filter(void *unused) { pep440_filter(LIST, strings, MANY, out, MANY); return unused; }
+static void *sort(void *unused) { pep440_sort(strings, MANY, indices, MANY, &at); return unused; }
+static void *sort_keys(void *unused)
+{
+    pep440_sort_keys(strings, MANY, out, (size_t)LONG * 64, ends, MANY, &written, &at);
+    return unused;
+}
+
+static const struct {
+    const char *name;
+    void *(*call)(void *);
+} CALLS[] = {{"normalize", normalize},           {"normalize_list", normalize_list}, {"version_error", version_error},
+             {"list_error", list_error},         {"compare", compare},               {"contains", contains},
+             {"any_prerelease", any_prerelease}, {"parts_of", parts_of},             {"sort_key", sort_key},
+             {"ranges", ranges},                 {"filter", filter},                 {"sort", sort},
+             {"sort_keys", sort_keys}};
+
+static uint8_t *stack;
+static void *(*call)(void *);
+static size_t taken;
+
+/* Makes the call, and counts from here down to the deepest byte that changed. */
+static void *measure(void *unused)
+{
+    const uint8_t *deepest = stack;
+    void *made = call(unused);
+    while (*deepest == FILL)
+        deepest++;
+    taken = (size_t)((const uint8_t *)__builtin_frame_address(0) - deepest);
+    return made;
+}
+
+/* The bytes of stack that the call takes in a thread. */
+static size_t stack_of(void *(*of_call)(void *))
+{
+    pthread_t thread;
+    pthread_attr_t attributes;
+    call = of_call;
+    stack = mmap(NULL, STACK, PROT_READ | PROT_WRITE, MAP_PRIVATE | MAP_ANONYMOUS, -1, 0);
+    if (stack == MAP_FAILED)
+        exit(EXIT_FAILURE);
+    memset(stack, FILL, STACK);
+    pthread_attr_init(&attributes);
+    if (pthread_attr_setstack(&attributes, stack, STACK) || pthread_create(&thread, &attributes, measure, NULL) || pthread_join(thread, NULL))
+        exit(EXIT_FAILURE);
+    pthread_attr_destroy(&attributes);
+    munmap(stack, STACK);
+    return taken;
+}
+
+/* A string of this length: the piece over and over, behind a start. */
+static pep440_string repeated(const char *start, const char *piece, size_t length)
+{
+    size_t used = strlen(start), width = strlen(piece);
+    uint8_t *bytes = malloc(length + used + width);
+    memcpy(bytes, start, used);
+    for (; used + width <= length; used += width)
+        memcpy(bytes + used, piece, width);
+    return (pep440_string){bytes, used};
+}
+
+static pep440_string of(const char *text) { return repeated(text, "", 0); }
+
+static void make_strings(void)
+{
+    strings = calloc(MANY, sizeof *strings);
+    for (size_t index = 0; index < MANY; index++) {
+        char text[64];
+        size_t number = index * 7919 % 1000003;
+        snprintf(text, sizeof text, "%zu.%zu.%zu.0.%zu%s", number % 5, number / 5 % 40, number / 200 % 30, number % 3,
+                 index % 4 ? "" : "rc1+a.7");
+        strings[index] = of(text);
+    }
+}
+
+int main(void)
+{
+    const pep440_string versions[] = {of("1.0"), of("1!2.3.4.5.6rc7.post8.dev9+a.10.b"), repeated("1", ".1", LONG), repeated("1+a", ".b", LONG),
+                                      repeated("1", "0", LONG), repeated("", " ", LONG), of("1.0prev"), of("x")};
+    const pep440_string lists[] = {of(">=1.0"), of(">=1!2.3.4.5.6rc7.post8.dev9, !=1.5.*, ~=1!2.0"), repeated(">=1", ",>=1", LONG),
+                                   repeated(">=1", ",!=1.*", LONG), repeated("===1", ".1", LONG), repeated(">=1", ",x", LONG),
+                                   of("==18446744073709551615.*")};
+    size_t most = 0;
+    out = malloc((size_t)LONG * 64);
+    release = calloc(LONG, sizeof *release);
+    indices = calloc(MANY, sizeof *indices);
+    ends = calloc(MANY, sizeof *ends);
+    make_strings();
+    for (size_t turn = 0; turn < sizeof CALLS / sizeof *CALLS; turn++) {
+        size_t of_call = 0;
+        int is_batch = turn + 3 >= sizeof CALLS / sizeof *CALLS;
+        for (size_t v = 0; v < sizeof versions / sizeof *versions; v++)
+            for (size_t l = 0; l < sizeof lists / sizeof *lists; l++) {
+                size_t bytes;
+                if (is_batch && (v > 0 || l > 1))
+                    continue;
+                given = versions[v];
+                list = lists[l];
+                bytes = stack_of(CALLS[turn].call);
+                of_call = bytes > of_call ? bytes : of_call;
+            }
+        printf("%-16s %6zu bytes of stack\n", CALLS[turn].name, of_call);
+        most = of_call > most ? of_call : most;
+    }
+    printf("%zu bytes of stack at most, of %d\n", most, BOUND);
+    return most > BOUND ? EXIT_FAILURE : EXIT_SUCCESS;
+}

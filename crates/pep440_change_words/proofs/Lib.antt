@@ -1,0 +1,4 @@
+pub mod Items
+pub mod NotRead
+pub mod Numbers
+pub mod Texts

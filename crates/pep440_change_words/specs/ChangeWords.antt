@@ -1,0 +1,81 @@
+-- What a change word asks for: a field, `=` and the value that it gets, or one of two words that stand alone.
+use Rattle.std.specs.Prelude.{ℕ, ◌^◌, ◌==◌, ◌&&◌, List, [], ◌∷◌, Bool, length, drop, codes, bytes_eq, nat_lt, Option, Some, None, option_and_then, if◌then◌else◌}
+use Rattle.std.specs.Option.{option_map, option_or}
+use Rattle.std.specs.Char.{is_ascii_digit, is_ascii_alphanumeric}
+use Rattle.std.specs.List.{list_all, position_or_len, before_first, after_first, slice_split, starts_with}
+use Rattle.std.specs.Prelude.{nat_eq}
+use Rattle.std.specs.Str.Parse.{digits_value}
+use Rattle.pep440_version.specs.declared.prerelease.PrereleaseKind.{PrereleaseKind}
+use Rattle.pep440_version.specs.declared.prerelease.PrereleaseKind.TheVariants.{Alpha, Beta, Rc}
+use Rattle.pep440_version.specs.declared.prerelease.Prerelease.{Prerelease}
+use Rattle.pep440_version.specs.Changes.{Edit, Release, Epoch, Pre, Post, Dev, Local, WithoutLocal, OnlyRelease, Min, Max}
+use Rattle.pep440_version.specs.Grammar.{segment_of}
+use Rattle.pep440_version.specs.Record.{Segment}
+
+-- one or more bytes that pass the test
+abbrev pub is_run : (ℕ → Bool) → List ℕ → Bool
+is_run test text = nat_lt 0 (length text) && list_all test text
+
+-- one or more digits, zeros may lead, with a value that fits
+abbrev pub number_of : List ℕ → Option ℕ
+number_of text = if is_run is_ascii_digit text && nat_lt (digits_value 10 text) (2 ^ 64) then Some (digits_value 10 text) else None
+
+-- one or more ASCII letters and digits: a number where they are digits whose value fits, else a text in lower case
+abbrev pub local_segment_of : List ℕ → Option Segment
+local_segment_of text = if is_run is_ascii_alphanumeric text then Some (segment_of text) else None
+
+-- what follows the spelling, where the text begins with it
+abbrev pub after : List ℕ → List ℕ → Option (List ℕ)
+after spelling text = if starts_with nat_eq text spelling then Some (drop (length spelling) text) else None
+
+-- the spelling of a kind, and a number
+abbrev pub of_kind : PrereleaseKind → List ℕ → List ℕ → Option Prerelease
+of_kind kind spelling text = option_map (λ n. record { kind = kind; number = n }) (option_and_then number_of (after spelling text))
+
+-- `a`, `b` or `rc`, and a number
+abbrev pub prerelease_of : List ℕ → Option Prerelease
+prerelease_of text = option_or (of_kind Alpha (codes "a") text) (option_or (of_kind Beta (codes "b") text) (of_kind Rc (codes "rc") text))
+
+-- nothing for none, or a value
+abbrev pub or_none : {A : Type 0} → (List ℕ → Option A) → List ℕ → Option (Option A)
+or_none read text = if length text == 0 then Some None else option_map Some (read text)
+
+-- all of them, if each is one
+abbrev pub all_of : {X A : Type 0} → (X → Option A) → List X → Option (List A)
+all_of read [] = Some []
+all_of read (x ∷ rest) = option_and_then (λ a. option_map (λ others. a ∷ others) (all_of read rest)) (read x)
+
+-- the pieces between the dots; nothing has none
+abbrev pub pieces_of : List ℕ → List (List ℕ)
+pieces_of text = if length text == 0 then [] else slice_split (λ b. b == 46) text
+
+-- nothing, or items joined by `.`
+abbrev pub dotted_of : {A : Type 0} → (List ℕ → Option A) → List ℕ → Option (List A)
+dotted_of read text = all_of read (pieces_of text)
+
+-- the change of a field to the value that the text writes
+abbrev pub field_change : List ℕ → List ℕ → Option Edit
+field_change field value =
+    if bytes_eq field (codes "release") then option_map Release (dotted_of number_of value)
+    else if bytes_eq field (codes "epoch") then option_map Epoch (number_of value)
+    else if bytes_eq field (codes "pre") then option_map Pre (or_none prerelease_of value)
+    else if bytes_eq field (codes "post") then option_map Post (or_none number_of value)
+    else if bytes_eq field (codes "dev") then option_map Dev (or_none number_of value)
+    else if bytes_eq field (codes "local") then option_map Local (dotted_of local_segment_of value)
+    else if bytes_eq field (codes "min") then option_map Min (or_none number_of value)
+    else if bytes_eq field (codes "max") then option_map Max (or_none number_of value)
+    else None
+
+-- a word with no `=`
+abbrev pub bare_change : List ℕ → Option Edit
+bare_change word =
+    if bytes_eq word (codes "only-release") then Some OnlyRelease
+    else if bytes_eq word (codes "without-local") then Some WithoutLocal
+    else None
+
+abbrev pub is_equals : ℕ → Bool
+is_equals b = b == 61
+
+-- the change that a word asks for, cut at its first `=` if it has one
+abbrev pub change_of : List ℕ → Option Edit
+change_of word = if nat_lt (position_or_len is_equals word) (length word) then field_change (before_first is_equals word) (after_first is_equals word) else bare_change word

@@ -1,0 +1,3 @@
+pub mod ChangeWords
+pub mod Reads
+pub mod Sentinels

@@ -1,0 +1,201 @@
+//! Change words: a field, `=` and its new value, or one of two words that stand alone.
+ghost use Rattle.std.specs.Prelude.{◌≡◌, ◌==◌, map, IfOk};
+ghost use Rattle.pep440_change_words.specs.Reads.{ReadsAs};
+ghost use Rattle.std.specs.List.{slice_split};
+ghost use Rattle.std.specs.Char.{is_ascii_digit, is_ascii_alphanumeric};
+ghost use Rattle.std.specs.Option.{option_map, option_copied};
+ghost use Rattle.pep440_change_words.specs.ChangeWords.{is_run, number_of, after, of_kind, prerelease_of, local_segment_of, or_none, pieces_of, all_of, dotted_of, field_change, bare_change, change_of};
+ghost use Rattle.pep440_version.specs.Changes.{edit};
+ghost use Rattle.pep440_version.specs.Segments.{segment};
+
+use crate::error::ChangeWordError;
+use pep440_version::{Change, LocalSegment, Prerelease, PrereleaseKind};
+use std::alloc::{AllocError, Global};
+
+fn is_digits(text: &str) -> bool
+    ensures { result ≡ is_run is_ascii_digit text.now }
+{
+    let bytes = text.as_bytes();
+    !bytes.is_empty() && bytes.iter().all(|byte| byte.is_ascii_digit())
+}
+
+fn is_alphanumeric(text: &str) -> bool
+    ensures { result ≡ is_run is_ascii_alphanumeric text.now }
+{
+    let bytes = text.as_bytes();
+    !bytes.is_empty() && bytes.iter().all(|byte| byte.is_ascii_alphanumeric())
+}
+
+/// One or more digits, zeros may lead, whose value fits.
+fn number(text: &str) -> Option<u64>
+    ensures { result ≡ number_of text.now }
+{
+    if !is_digits(text) {
+        return None;
+    }
+    text.parse::<u64>().ok()
+}
+
+/// What follows the spelling, where the text begins with it.
+fn after<'a>(spelling: &str, text: &'a str) -> Option<&'a str>
+    ensures { option_copied result ≡ after spelling.now text.now }
+{
+    text.strip_prefix(spelling)
+}
+
+/// The spelling of a kind, and a number.
+fn of_kind(kind: PrereleaseKind, spelling: &str, text: &str) -> Option<Prerelease>
+    ensures { result ≡ of_kind kind spelling.now text.now }
+{
+    let number = number(after(spelling, text)?)?;
+    Some(Prerelease { kind, number })
+}
+
+/// `a`, `b` or `rc`, and a number.
+fn prerelease(text: &str) -> Option<Prerelease>
+    ensures { result ≡ prerelease_of text.now }
+{
+    of_kind(PrereleaseKind::Alpha, "a", text)
+        .or(of_kind(PrereleaseKind::Beta, "b", text))
+        .or(of_kind(PrereleaseKind::Rc, "rc", text))
+}
+
+/// A number or nothing, which stands for none.
+fn optional_number(text: &str) -> Option<Option<u64>>
+    ensures { result ≡ or_none number_of text.now }
+{
+    if text.is_empty() {
+        return Some(None);
+    }
+    Some(Some(number(text)?))
+}
+
+/// A pre-release or nothing, which stands for none.
+fn optional_prerelease(text: &str) -> Option<Option<Prerelease>>
+    ensures { result ≡ or_none prerelease_of text.now }
+{
+    if text.is_empty() {
+        return Some(None);
+    }
+    Some(Some(prerelease(text)?))
+}
+
+fn split_at_dots<'a>(alloc: Global, text: &'a str) -> Result<Vec<&'a str>, AllocError>
+    ensures { IfOk result (λ v. map (λ p. p.now) v.items ≡ slice_split (λ b. b == 46) text.now) }
+{
+    text.split('.').collect(alloc)
+}
+
+/// The pieces of a text between its dots; an empty text has none.
+fn pieces<'a>(alloc: Global, text: &'a str) -> Result<Vec<&'a str>, AllocError>
+    ensures { IfOk result (λ v. map (λ p. p.now) v.items ≡ pieces_of text.now) }
+{
+    if text.is_empty() {
+        return Ok(Vec::new(alloc));
+    }
+    split_at_dots(alloc, text)
+}
+
+/// The numbers that the pieces write, if each writes one.
+fn all_numbers(alloc: Global, pieces: &[&str]) -> Result<Vec<u64>, ChangeWordError>
+    ensures { ReadsAs (λ v. v.items) result (all_of number_of (map (λ p. p.now) pieces.now)) }
+{
+    let mut numbers = Vec::new(alloc);
+    for i in 0..pieces.len() {
+        let Some(number) = number(pieces[i]) else {
+            return Err(ChangeWordError::NotAChange);
+        };
+        numbers.push(number)?;
+    }
+    Ok(numbers)
+}
+
+/// Numbers joined by `.`, or nothing.
+fn numbers(alloc: Global, text: &str) -> Result<Vec<u64>, ChangeWordError>
+    ensures { ReadsAs (λ v. v.items) result (dotted_of number_of text.now) }
+{
+    let pieces = pieces(alloc, text)?;
+    all_numbers(alloc, pieces.as_slice())
+}
+
+/// One or more ASCII letters and digits: digits that fit are a number, all else is a text in lower case.
+fn segment(alloc: Global, text: &str) -> Result<LocalSegment, ChangeWordError>
+    ensures { ReadsAs segment result (local_segment_of text.now) }
+{
+    if !is_alphanumeric(text) {
+        return Err(ChangeWordError::NotAChange);
+    }
+    match number(text) {
+        Some(number) => Ok(LocalSegment::Number(number)),
+        None => Ok(LocalSegment::String(text.to_ascii_lowercase(alloc)?)),
+    }
+}
+
+/// The segments that the pieces write, if each writes one.
+fn all_segments(alloc: Global, pieces: &[&str]) -> Result<Vec<LocalSegment>, ChangeWordError>
+    ensures { ReadsAs (λ v. map segment v.items) result (all_of local_segment_of (map (λ p. p.now) pieces.now)) }
+{
+    let mut segments = Vec::new(alloc);
+    for i in 0..pieces.len() {
+        let segment = segment(alloc, pieces[i])?;
+        segments.push(segment)?;
+    }
+    Ok(segments)
+}
+
+/// Segments joined by `.`, or nothing.
+fn segments(alloc: Global, text: &str) -> Result<Vec<LocalSegment>, ChangeWordError>
+    ensures { ReadsAs (λ v. map segment v.items) result (dotted_of local_segment_of text.now) }
+{
+    let pieces = pieces(alloc, text)?;
+    all_segments(alloc, pieces.as_slice())
+}
+
+/// The change, if there is one.
+fn or_refused(change: Option<Change>) -> Result<Change, ChangeWordError>
+    ensures { ReadsAs edit result (option_map edit change) }
+{
+    change.ok_or(ChangeWordError::NotAChange)
+}
+
+/// The change of a field to the value that the text writes.
+fn field_change(alloc: Global, field: &str, value: &str) -> Result<Change, ChangeWordError>
+    ensures { ReadsAs edit result (field_change field.now value.now) }
+{
+    match field {
+        "release" => Ok(Change::Release(numbers(alloc, value)?)),
+        "epoch" => or_refused(number(value).map(Change::Epoch)),
+        "pre" => or_refused(optional_prerelease(value).map(Change::Pre)),
+        "post" => or_refused(optional_number(value).map(Change::Post)),
+        "dev" => or_refused(optional_number(value).map(Change::Dev)),
+        "local" => Ok(Change::Local(segments(alloc, value)?)),
+        "min" => or_refused(optional_number(value).map(Change::Min)),
+        "max" => or_refused(optional_number(value).map(Change::Max)),
+        _ => Err(ChangeWordError::NotAChange),
+    }
+}
+
+/// A word with no `=`.
+fn bare_change(word: &str) -> Option<Change>
+    ensures { option_map edit result ≡ bare_change word.now }
+{
+    match word {
+        "only-release" => Some(Change::OnlyRelease),
+        "without-local" => Some(Change::WithoutLocal),
+        _ => None,
+    }
+}
+
+/// The change that the word asks for: `release=` and numbers with dots between them; `epoch=` and a number; `pre=` and `a`, `b` or
+/// `rc` with a number; `post=`, `dev=`, `min=` or `max=` and a number; `local=` and segments with dots between them;
+/// `only-release`; `without-local`. After `=` nothing stands for none, but for the epoch. Numbers are ASCII digits that fit 64 bits.
+///
+/// Returns `NotAChange` for any other word, and allocates; `OutOfMemory` only where that failed.
+pub fn parse_change(alloc: Global, word: &str) -> Result<Change, ChangeWordError>
+    ensures { ReadsAs edit result (change_of word.now) }
+{
+    match word.split_once('=') {
+        Some((field, value)) => field_change(alloc, field, value),
+        None => or_refused(bare_change(word)),
+    }
+}

@@ -1,0 +1,109 @@
+-- Texts with their numbers that are read one after another: what was found in those before, and those that are left.
+use Rattle.std.proofs.Common.{◌≡◌, ◌+◌, ◌<◌, ◌≤◌, ◌∙◌, ℕ, List, [], ◌∷◌, ◌++◌, length, get_or, Option, Some, true, inl, inr, drop, map, refl, sym, ap, subst, arith, append_assoc, append-nil}
+use Rattle.std.proofs.lemmas.List.{drop_all, length-map}
+use Rattle.std.proofs.lemmas.List.{map-append}
+use Rattle.std.proofs.lemmas.List.Elements.{filter-append}
+use Rattle.std.proofs.lemmas.List.Folds.{flat_map-map}
+use Rattle.std.proofs.lemmas.Option.{slice_get_read}
+use Rattle.std.specs.List.{AllZip, enumerate_from, filter, flat_map}
+use Rattle.std.specs.List.Sorted.{IsPermutation, IsSorted, IsStable}
+use Rattle.std.specs.Option.{option_map_or}
+use Rattle.std.specs.Prelude.{codes, slice_get}
+use Rattle.pep440_pick.specs.Allowed.{lists_of}
+use Rattle.pep440_pick.specs.Names.{is_name, same_name}
+use Rattle.pep440_pick.specs.Newest.{Newest}
+use Rattle.pep440_pick.specs.RequirementGrammar.{DerivesRequirement, Needed}
+use Rattle.pep440_rs.specs.Matching.{list_matches}
+use Rattle.pep440_rs.specs.Specifiers.{Spec}
+use Rattle.pep440_version.specs.Key.{record_cmp}
+use Rattle.pep440_version.specs.Print.{print}
+use Rattle.pep440_version.specs.Record.{Record}
+use Rattle.pep440_tool.specs.Lines.{LineMeans, ShowsContained, numbered_lines}
+use Rattle.pep440_tool.specs.Picks.{CandidateMeans, PickAnswer}
+use Rattle.pep440_tool.specs.Texts.{line}
+use Rattle.pep440_change_words.proofs.Items.{rest_is}
+use Rattle.pep440_tool.specs.Answers.{RejectsFirst, ToolAnswer, shown}
+
+all_more : {A B : Type 0} (R : A → B → Type 0) (xs : List A) (ys : List B) (x : A) (y : B) → AllZip R xs ys → R x y → AllZip R (xs ++ x ∷ []) (ys ++ y ∷ [])
+all_more R [] [] x y h r = (r, tt)
+all_more R [] (z ∷ ys) x y h r = absurd h
+all_more R (z ∷ xs) [] x y h r = absurd h
+all_more R (z ∷ xs) (u ∷ ys) x y h r = (h.0, all_more R xs ys x y h.1 r)
+
+-- what was found, of which this holds, and the texts that are left
+pub record Found {A : Type 0} (Means : ℕ × List ℕ → A → Type 0) (texts left : List (ℕ × List ℕ)) (P : List A → Type 0) : Type 0 where
+  pub found : List A
+  pub before : List (ℕ × List ℕ)
+  pub split : texts ≡ before ++ left
+  pub means : AllZip Means before found
+  pub holds : P found
+
+pub found_none : {A : Type 0} (Means : ℕ × List ℕ → A → Type 0) (texts : List (ℕ × List ℕ)) (P : List A → Type 0) → P [] → Found Means texts texts P
+found_none Means texts P h = record { found = []; before = []; split = refl; means = tt; holds = h }
+
+-- one text more
+pub found_more : {A : Type 0} (Means : ℕ × List ℕ → A → Type 0) (texts left later : List (ℕ × List ℕ)) (P Q : List A → Type 0) (text : ℕ × List ℕ) (x : A)
+    → left ≡ text ∷ later → Means text x → ((xs : List A) → P xs → Q (xs ++ x ∷ [])) → Found Means texts left P → Found Means texts later Q
+found_more Means texts left later P Q text x cut means next k = record {
+  found = k.found ++ x ∷ [];
+  before = k.before ++ text ∷ [];
+  split = k.split ∙ ap (λ (ts : List (ℕ × List ℕ)). k.before ++ ts) cut ∙ sym (append_assoc k.before (text ∷ []) later);
+  means = all_more Means k.before k.found text x k.means means;
+  holds = next k.found k.holds;
+}
+
+-- a text is rejected
+pub found_rejected : {A : Type 0} (Means : ℕ × List ℕ → A → Type 0) (RejectsText : ℕ × List ℕ → ToolAnswer → Type 0) (texts left later : List (ℕ × List ℕ)) (P : List A → Type 0) (text : ℕ × List ℕ)
+    (a : ToolAnswer) → left ≡ text ∷ later → RejectsText text a → Found Means texts left P → RejectsFirst Means RejectsText texts a
+found_rejected Means RejectsText texts left later P text a cut why k = record {
+  before = k.before;
+  text = text;
+  after = later;
+  split = k.split ∙ ap (λ (ts : List (ℕ × List ℕ)). k.before ++ ts) cut;
+  found = k.found;
+  means = k.means;
+  why = why;
+}
+
+-- no text is left
+pub found_all : {A : Type 0} (Means : ℕ × List ℕ → A → Type 0) (texts left : List (ℕ × List ℕ)) (P : List A → Type 0) → left ≡ [] → Found Means texts left P → (found : List A) × AllZip Means texts found × P found
+found_all Means texts left P none k =
+    (k.found, subst (λ (ts : List (ℕ × List ℕ)). AllZip Means ts k.found) (sym (k.split ∙ ap (λ (ts : List (ℕ × List ℕ)). k.before ++ ts) none ∙ append-nil k.before)) k.means, k.holds)
+
+-- ---- words, by a loop over their indices
+
+abbrev pub words_left : {Y : Type 0} → (Y → List ℕ) → List Y → ℕ → List (ℕ × List ℕ)
+words_left view ys i = enumerate_from (i + 1) (drop i (map view ys))
+
+pub word_left : {Y : Type 0} (view : Y → List ℕ) (ys : List Y) (i : ℕ) (y : Y) → i < length ys → y ≡ get_or ys i y → words_left view ys i ≡ (i + 1, view y) ∷ words_left view ys (i + 1)
+word_left view ys i y inside is = ap (enumerate_from (i + 1)) (rest_is view ys i y y inside is)
+
+pub no_word_left : {Y : Type 0} (view : Y → List ℕ) (ys : List Y) (i : ℕ) → length ys ≤ i → words_left view ys i ≡ []
+no_word_left view ys i end = ap (enumerate_from (i + 1)) (drop_all i (map view ys) (omega (arith, length-map ys view)))
+
+-- ---- what is shown
+
+-- the contained versions in order
+pub shows_contained : (list : List Spec) (found : List Record) (a : ToolAnswer) (versions shown : List Record) (text : List ℕ) → versions ≡ filter (list_matches list) found → IsPermutation versions shown
+    → IsSorted record_cmp shown → IsStable record_cmp versions shown → text ≡ flat_map (λ v. line (print v)) shown → a ≡ record { output = text; status = 0 } → ShowsContained list found a
+shows_contained list found a versions shown text are same rises stable lines said = (
+  shown,
+  record { same = rw are at same; rises = rises; stable = rw are at stable },
+  said ∙ ap (λ (t : List ℕ). record { output = t; status = 0 }) (lines ∙ sym (flat_map-map line print shown)),
+)
+
+-- one requirement more
+pub lists_append : (name : List ℕ) (xs : List Needed) (x : Needed) → lists_of name (xs ++ x ∷ []) ≡ lists_of name xs ++ lists_of name (x ∷ [])
+lists_append name xs x = ap (map (λ (n : Needed). n.specifiers)) (filter-append (λ (n : Needed). same_name n.name name) xs (x ∷ []))
+    ∙ map-append (λ (n : Needed). n.specifiers) (filter (λ (n : Needed). same_name n.name name) xs) (filter (λ (n : Needed). same_name n.name name) (x ∷ []))
+
+-- the newest is shown by its place
+pub picked : (name : List ℕ) (texts : List (List ℕ)) (input : List ℕ) (versions given : List Record) (lists held : List (List Spec)) (place : ℕ) (v : Record) (t : List ℕ) (a : ToolAnswer)
+    → is_name name ≡ true → AllZip CandidateMeans (enumerate_from 1 texts) versions → (found : List Needed) × AllZip (LineMeans DerivesRequirement) (numbered_lines input) found × (lists ≡ lists_of name found)
+    → held ≡ lists → given ≡ versions → Newest held given (Some place) → place < length given → v ≡ get_or versions place v → t ≡ print v → a ≡ shown t → PickAnswer name texts input a
+picked name texts input versions given lists held place v t a named means k held_is given_is newest inside is text said =
+    let within : place < length versions = subst (λ (g : List Record). place < length g) given_is inside in
+    let by_name : Newest (lists_of name k.0) versions (Some place) =
+    subst (λ (l : List (List Spec)). Newest l versions (Some place)) (held_is ∙ k.2) (subst (λ (g : List Record). Newest held g (Some place)) given_is newest) in
+    let shows : slice_get versions place ≡ Some v = slice_get_read versions (length versions) place v refl within is in
+    inr (named, inl (versions, means, inl (k.0, k.1, (Some place, by_name, said ∙ ap shown (text ∙ ap (λ (o : Option Record). option_map_or print o (codes "none")) (sym shows))))))

@@ -1,8 +1,0 @@
-use Rattle.std.proofs.Common.{◌≡◌, drop, map}
-use Rattle.pep440_tool.proofs.Items.{before}
-use Rattle.pep440_tool.specs.ChangeWords.{all_of, number_of}
-use Rattle.pep440_tool.proofs.change_word.all_numbers.Given as goal
-
-abbrev pub invariant-loop-i : goal.invariant-loop-i
-invariant-loop-i l =
-    all_of number_of (map (λ p. p.now) l.pieces) ≡ before l.numbers.items (all_of number_of (drop l.i (map (λ p. p.now) l.pieces)))
