@@ -92,7 +92,7 @@ sorts texts pairs places (versions, all, placed) arranged = (versions, all, rw p
 -- the places of what a sort made, where memory was found for them
 pub arranged_if : {V E : Type 0} (view : V → List ℕ) (given sorted : List (ℕ × Record)) (result : Result V E) → IsPermutation given sorted → IsSorted placed_cmp sorted → IsStable placed_cmp given sorted
     → (seen : List (ℕ × Record)) → seen ≡ sorted → IfOk result (λ found. view found ≡ map (λ (p : ℕ × Record). p.0) seen) → IfOk result (λ found. ArrangesPlaces given (view found))
-arranged_if view given sorted (Ok found) same rises stable seen is told = record { sorted = sorted; same = same; rises = rises; stable = stable; told = rw is at told }
+arranged_if view given sorted (Ok found) same rises stable seen is told = (sorted, record { same = same; rises = rises; stable = stable }, rw is at told)
 arranged_if view given sorted (Err e) same rises stable seen is told = tt
 
 -- ---- sort keys

@@ -1,9 +1,9 @@
 -- What each call on many texts answers. Places count from 0.
 use Rattle.std.specs.Prelude.{◌≡◌, ◌⊎◌, ◌+◌, ℕ, List, [], ◌∷◌, ◌++◌, length, map, if◌then◌else◌, Result, Ok, Err}
 use Rattle.std.specs.List.{AllZip, enumerate_from, flat_map}
-use Rattle.std.specs.List.Sorted.{IsPermutation, IsSorted, IsStable}
 use Rattle.std.specs.Ordering.{on}
 use Rattle.std.specs.declared.cmp.Ordering.{Ordering}
+use Rattle.pep440_rs.specs.Arrangement.{ArrangesBy}
 use Rattle.pep440_rs.specs.Matching.{list_matches}
 use Rattle.pep440_rs.specs.Specifiers.{Spec}
 use Rattle.pep440_sort_key.specs.Keys.{key_bytes}
@@ -54,12 +54,8 @@ abbrev pub placed_cmp : ℕ × Record → ℕ × Record → Ordering
 placed_cmp = on (λ (p : ℕ × Record). p.1) record_cmp
 
 -- the places of the versions in order: nothing is lost or made, versions never fall, and equal ones stay in the order given
-pub record ArrangesPlaces (given : List (ℕ × Record)) (places : List ℕ) : Type 0 where
-  pub sorted : List (ℕ × Record)
-  pub same : IsPermutation given sorted
-  pub rises : IsSorted placed_cmp sorted
-  pub stable : IsStable placed_cmp given sorted
-  pub told : places ≡ map (λ (p : ℕ × Record). p.0) sorted
+abbrev pub ArrangesPlaces : List (ℕ × Record) → List ℕ → Type 0
+ArrangesPlaces given places = (sorted : List (ℕ × Record)) × ArrangesBy placed_cmp given sorted × (places ≡ map (λ (p : ℕ × Record). p.0) sorted)
 
 -- each text means a version, and these are their places in order
 abbrev pub Sorts : List (List ℕ) → List ℕ → Type 0

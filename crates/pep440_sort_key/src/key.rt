@@ -2,23 +2,11 @@
 ghost use Rattle.std.specs.Prelude.{◌≡◌, ◌++◌, IfOk, OnOk, map};
 ghost use Rattle.pep440_sort_key.specs.Keys.{key_bytes, local_bytes, place_bytes, release_bytes, segment_bytes};
 ghost use Rattle.pep440_version.specs.Segments.{segment};
-ghost use Rattle.pep440_version.specs.Trim.{trim};
 
 use crate::number::push_number;
-use crate::place::Place;
+use pep440_version::key::{Place, trimmed};
 use pep440_version::{LocalSegment, Version};
 use std::alloc::{AllocError, Global};
-
-// The numbers without the zeros at their end.
-fn trimmed(numbers: &[u64]) -> &[u64]
-    ensures { result.now ≡ trim numbers.now }
-{
-    let mut end = numbers.len();
-    while end > 0 && numbers[end - 1] == 0 {
-        end -= 1;
-    }
-    &numbers[..end]
-}
 
 fn push_release(key: &mut Vec<u8>, release: &[u64]) -> Result<(), AllocError>
     ensures { OnOk result (key.new.items ≡ key.old.items ++ release_bytes release.now) }

@@ -12,7 +12,6 @@
 mod key;
 pub mod laws;
 mod number;
-mod place;
 #[cfg(test)]
 mod tests;
 

@@ -3,3 +3,4 @@ pub mod Suffixes
 pub mod Packed
 pub mod Order
 pub mod Shown
+pub mod Replaced

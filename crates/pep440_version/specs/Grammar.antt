@@ -1,7 +1,7 @@
 -- The texts of versions (PEP 440, "Public version identifiers", "Normalization" and Appendix B): a text means a
 -- record if it can be cut into w1 v e n p q d l w2, each the text of its part.
 use Rattle.std.specs.Prelude.{◌≡◌, ℕ, ◌<◌, ◌==◌, ◌||◌, ◌⊎◌, Bool, true, List, [], ◌∷◌, ◌++◌, codes, length, ◌^◌, ◌&&◌, false, map, Option, Some, None, nat_lt, if◌then◌else◌}
-use Rattle.std.specs.Char.{is_ascii_digit, is_ascii_alphanumeric, to_ascii_lowercase}
+use Rattle.std.specs.Char.{is_ascii_digit, is_ascii_alphanumeric, to_ascii_lowercase, is_ascii_whitespace}
 use Rattle.std.specs.List.{list_all}
 use Rattle.std.specs.Str.Parse.{digits_value}
 use Rattle.pep440_version.specs.Record.{Fits, Record, Segment, Text, Number}
@@ -14,14 +14,10 @@ abbrev pub starts : (ℕ → Bool) → List ℕ → Bool
 starts test [] = false
 starts test (b ∷ rest) = test b
 
--- tab, line feed, form feed, carriage return and space: the bytes 9, 10, 12, 13 and 32 (PEP 440, "Leading and
--- Trailing Whitespace", without the vertical tab)
-abbrev pub is_blank : ℕ → Bool
-is_blank b = (b == 9) || (b == 10) || (b == 12) || (b == 13) || (b == 32)
-
--- any number of blanks
+-- any number of blanks: tab, line feed, form feed, carriage return and space, the bytes 9, 10, 12, 13 and 32 (PEP 440,
+-- "Leading and Trailing Whitespace", without the vertical tab)
 abbrev pub AreBlanks : List ℕ → Type 0
-AreBlanks text = list_all is_blank text ≡ true
+AreBlanks text = list_all is_ascii_whitespace text ≡ true
 
 -- the letter v, in either case
 abbrev pub is_v : ℕ → Bool

@@ -1,6 +1,5 @@
 pub mod Record
 pub mod Key
-pub mod KeyParts
 pub mod Trim
 pub mod KeyLaws
 pub mod Segments

@@ -1,10 +1,10 @@
 -- Why a version text is refused, told by its fronts. Exactly one line holds of a text that the grammar does
 -- not derive, and none of one that it derives.
 use Rattle.std.specs.Prelude.{◌≡◌, ℕ, ◌<◌, ◌≤◌, ◌^◌, ◌==◌, ◌⊎◌, Bool, true, false, List, [], ◌∷◌, ◌++◌, codes, length}
-use Rattle.std.specs.Char.{is_ascii_digit, is_ascii_alphanumeric}
+use Rattle.std.specs.Char.{is_ascii_digit, is_ascii_alphanumeric, is_ascii_whitespace}
 use Rattle.std.specs.List.{list_all, list_any}
 use Rattle.std.specs.Str.Parse.{digits_value}
-use Rattle.pep440_version.specs.Grammar.{AreBlanks, IsLeadingV, IsNumber, IsEpoch, IsRelease, is_blank, Derives, is_separator, starts, is_v}
+use Rattle.pep440_version.specs.Grammar.{AreBlanks, IsLeadingV, IsNumber, IsEpoch, IsRelease, Derives, is_separator, starts, is_v}
 use Rattle.pep440_version.specs.Record.{Record}
 
 -- why a version text is refused
@@ -29,7 +29,7 @@ ends test (b ∷ c ∷ rest) = ends test (c ∷ rest)
 
 -- blanks and the letter v, each as long as can be, and then rest
 abbrev pub Opens : List ℕ → List ℕ → Type 0
-Opens text rest = (w1 v : List ℕ) × (text ≡ w1 ++ (v ++ rest)) × AreBlanks w1 × IsLeadingV v × (starts is_blank (v ++ rest) ≡ false) × (v ≡ [] → starts is_v rest ≡ false)
+Opens text rest = (w1 v : List ℕ) × (text ≡ w1 ++ (v ++ rest)) × AreBlanks w1 × IsLeadingV v × (starts is_ascii_whitespace (v ++ rest) ≡ false) × (v ≡ [] → starts is_v rest ≡ false)
 
 -- digits of a value above the limit, with no digit before or after them
 abbrev pub IsBigRun : List ℕ → List ℕ → List ℕ → Type 0

@@ -1,6 +1,7 @@
 -- How a whole text is read, from the left: as a pattern, and as a version.
+use Rattle.std.specs.Char.{is_ascii_whitespace}
 use Rattle.std.specs.Prelude.{ℕ, ◌-◌, ◌==◌, ◌&&◌, Bool, true, false, List, length, take, drop, Result, Ok, Err, None, if◌then◌else◌}
-use Rattle.pep440_version.specs.Grammar.{is_blank, starts}
+use Rattle.pep440_version.specs.Grammar.{starts}
 use Rattle.pep440_version.specs.Locals.{local_at}
 use Rattle.pep440_version.specs.Reading.{Read, ◌>>=◌, past, past_v, starts_number, number_at, release_at, release_from}
 use Rattle.pep440_version.specs.Record.{Record, epoch_and_release}
@@ -21,7 +22,7 @@ front_at text =
 
 -- blanks, the letter v, epoch and release
 abbrev pub opening : List ℕ → Read ((ℕ × List ℕ) × List ℕ)
-opening text = front_at (past_v (past is_blank text))
+opening text = front_at (past_v (past is_ascii_whitespace text))
 
 -- the parts after the release
 unfoldable pub parts_at : ℕ → List ℕ → List ℕ → Read (Record × List ℕ)
@@ -31,8 +32,8 @@ parts_at epoch release text = pre_at text >>= λ p. post_at p.1 >>= λ q. dev_at
 -- the blanks at the end of the text, after the parts
 abbrev pub end_at : List ℕ → Record × List ℕ → Read Record
 end_at text x =
-    if length (past is_blank x.1) == 0 then Ok x.0
-    else Err (UnexpectedEnd (take (length text - length (past is_blank x.1)) text) (past is_blank x.1))
+    if length (past is_ascii_whitespace x.1) == 0 then Ok x.0
+    else Err (UnexpectedEnd (take (length text - length (past is_ascii_whitespace x.1)) text) (past is_ascii_whitespace x.1))
 
 -- a release is read, and what follows it has no star
 abbrev pub closing : List ℕ → (ℕ × List ℕ) × List ℕ → Read Record

@@ -4,7 +4,7 @@ ghost use Rattle.pep440_version.specs.Errors.{kind_of, pattern_kind_of, refusal_
 ghost use Rattle.pep440_version.specs.declared.error.PatternErrorKind.TheVariants.{Version};
 ghost use Rattle.pep440_version.specs.declared.error.ErrorKind.TheVariants.{OutOfMemory};
 
-use std::alloc::{AllocError, AllocFailed};
+use std::alloc::AllocError;
 
 /// Why a text is no version (PEP 440, "Public version identifiers" and Appendix B).
 ///
@@ -65,14 +65,6 @@ impl From<AllocError> for ErrorKind {
     ghost from_gives = { λ _ kind. kind ≡ OutOfMemory };
 
     fn from(_refused: AllocError) -> ErrorKind {
-        ErrorKind::OutOfMemory
-    }
-}
-
-impl<T: Drop> From<AllocFailed<T>> for ErrorKind {
-    ghost from_gives = { λ _ kind. kind ≡ OutOfMemory };
-
-    fn from(_refused: AllocFailed<T>) -> ErrorKind {
         ErrorKind::OutOfMemory
     }
 }

@@ -6,9 +6,8 @@ ghost use Rattle.pep440_version.specs.Feed.{feed, feed_kind, feed_prerelease, fe
 ghost use Rattle.pep440_version.specs.Key.{key};
 ghost use Rattle.pep440_version.specs.Segments.{segment};
 ghost use Rattle.pep440_version.specs.Ties.{feeds_alike, segments_feed_alike, kinds_feed_alike, prereleases_feed_alike};
-ghost use Rattle.pep440_version.specs.Trim.{trim};
 
-use crate::key::{DevPlace, PostPlace, Stage};
+use crate::key::{Place, trimmed};
 use crate::prerelease::{Prerelease, PrereleaseKind};
 use crate::segment::LocalSegment;
 use crate::version::Version;
@@ -59,17 +58,6 @@ impl Hash for LocalSegment {
     }
 }
 
-// The numbers without the zeros at their end.
-fn trimmed(numbers: &[u64]) -> &[u64]
-    ensures { result.now ≡ trim numbers.now }
-{
-    let mut end = numbers.len();
-    while end > 0 && numbers[end - 1] == 0 {
-        end -= 1;
-    }
-    &numbers[..end]
-}
-
 fn hash_numbers<H: Hasher>(numbers: &[u64], state: &mut H)
     ensures { state.new ≡ fold H.write state.old (feed_numbers numbers.now) }
 {
@@ -80,10 +68,9 @@ fn hash_numbers<H: Hasher>(numbers: &[u64], state: &mut H)
 fn hash_stage<H: Hasher>(v: &Version, state: &mut H)
     ensures { state.new ≡ fold H.write state.old (feed_stage (key v.now).stage) }
 {
-    let stage = Stage::of(v);
-    let (rank, number) = stage.place();
-    state.write_u64(rank);
-    if let Stage::Pre(_) = stage {
+    let Place { rank, number, .. } = Place::of_stage(v);
+    state.write_u64(u64::from(rank));
+    if rank >= 2 && rank <= 4 {
         state.write_u64(number);
     }
 }
@@ -91,10 +78,9 @@ fn hash_stage<H: Hasher>(v: &Version, state: &mut H)
 fn hash_post<H: Hasher>(v: &Version, state: &mut H)
     ensures { state.new ≡ fold H.write state.old (feed_post (key v.now).post) }
 {
-    let post = PostPlace::of(v);
-    let (rank, number) = post.place();
-    state.write_u64(rank);
-    if !matches!(post, PostPlace::NoPost) {
+    let Place { rank, number, .. } = Place::of_post(v);
+    state.write_u64(u64::from(rank));
+    if rank > 0 {
         state.write_u64(number);
     }
 }
@@ -102,10 +88,9 @@ fn hash_post<H: Hasher>(v: &Version, state: &mut H)
 fn hash_dev<H: Hasher>(v: &Version, state: &mut H)
     ensures { state.new ≡ fold H.write state.old (feed_dev (key v.now).dev) }
 {
-    let dev = DevPlace::of(v);
-    let (rank, number) = dev.place();
-    state.write_u64(rank);
-    if let DevPlace::At(_) = dev {
+    let Place { rank, number, .. } = Place::of_dev(v);
+    state.write_u64(u64::from(rank));
+    if rank == 0 {
         state.write_u64(number);
     }
 }

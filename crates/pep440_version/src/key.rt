@@ -1,109 +1,84 @@
-//! What versions are compared by after the release, absence being a case of its own.
-ghost use Rattle.std.specs.Prelude.{◌≡◌};
+//! The key of a version, as its order, its hash and its sort key use it: the places of stage, post and dev, and the release
+//! without the zeros at its end.
+ghost use Rattle.std.specs.Prelude.{◌≡◌, ◌≤◌};
 ghost use Rattle.pep440_version.specs.Key.{dev_place, key, post_place, stage_place};
-ghost use Rattle.pep440_version.specs.KeyParts.{dev_meant, post_meant, stage_meant};
+ghost use Rattle.pep440_version.specs.Trim.{trim};
 
-use crate::prerelease::{Prerelease, PrereleaseKind};
+use crate::prerelease::PrereleaseKind;
 use crate::version::Version;
 
-#[derive(Clone, Copy)]
-pub(crate) enum Stage {
-    Min,
-    Dev,
-    Pre(Prerelease),
-    Final,
+/// Where a part stands among those of other versions: by rank, and then by number (PEP 440, "Summary of permitted suffixes
+/// and relative ordering").
+#[derive(Clone, Copy, PartialEq, Eq, PartialOrd, Ord)]
+pub struct Place {
+    /// At most 5.
+    pub rank: u8,
+    /// 0 where the rank has no numbers.
+    pub number: u64,
+    ghost few: { rank ≤ 5 },
 }
 
-#[derive(Clone, Copy)]
-pub(crate) enum PostPlace {
-    NoPost,
-    At(u64),
-    Top(u64),
-}
-
-#[derive(Clone, Copy)]
-pub(crate) enum DevPlace {
-    At(u64),
-    NoDev,
-}
-
-impl Stage {
-    pub(crate) fn of(version: &Version) -> Stage
-        ensures { stage_meant result ≡ (key version.now).stage }
+impl Place {
+    /// The stage: `min`, dev, the kinds of pre-releases, final.
+    pub fn of_stage(version: &Version) -> Place
+        ensures { (result.rank, result.number) ≡ stage_place (key version.now).stage }
     {
         if version.min().is_some() {
-            return Stage::Min;
+            return Place { rank: 0, number: 0 };
         }
         match version.pre() {
-            Some(pre) => Stage::Pre(pre),
-            None => {
-                if version.dev().is_some() && version.post().is_none() && version.max().is_none() {
-                    Stage::Dev
-                } else {
-                    Stage::Final
+            Some(pre) => {
+                let rank = match pre.kind {
+                    PrereleaseKind::Alpha => 2,
+                    PrereleaseKind::Beta => 3,
+                    PrereleaseKind::Rc => 4,
+                };
+                Place {
+                    rank,
+                    number: pre.number,
                 }
+            }
+            None => {
+                let alone = version.post().is_none() && version.max().is_none();
+                let rank = if alone && version.dev().is_some() {
+                    1
+                } else {
+                    5
+                };
+                Place { rank, number: 0 }
             }
         }
     }
 
-    // Its rank, then its number.
-    pub(crate) fn place(self) -> (u64, u64)
-        ensures { result ≡ stage_place (stage_meant self) }
-    {
-        match self {
-            Stage::Min => (0, 0),
-            Stage::Dev => (1, 0),
-            Stage::Pre(pre) => match pre.kind {
-                PrereleaseKind::Alpha => (2, pre.number),
-                PrereleaseKind::Beta => (3, pre.number),
-                PrereleaseKind::Rc => (4, pre.number),
-            },
-            Stage::Final => (5, 0),
-        }
-    }
-}
-
-impl PostPlace {
-    pub(crate) fn of(version: &Version) -> PostPlace
-        ensures { post_meant result ≡ (key version.now).post }
+    /// The post-release: none, one, the mark `max`.
+    pub fn of_post(version: &Version) -> Place
+        ensures { (result.rank, result.number) ≡ post_place (key version.now).post }
     {
         match (version.max(), version.post()) {
-            (Some(max), _) => PostPlace::Top(max),
-            (None, Some(post)) => PostPlace::At(post),
-            (None, None) => PostPlace::NoPost,
+            (Some(number), _) => Place { rank: 2, number },
+            (None, Some(number)) => Place { rank: 1, number },
+            (None, None) => Place { rank: 0, number: 0 },
         }
     }
 
-    // Its rank, then its number.
-    pub(crate) fn place(self) -> (u64, u64)
-        ensures { result ≡ post_place (post_meant self) }
+    /// The developmental release: the mark `min` or one, none.
+    pub fn of_dev(version: &Version) -> Place
+        ensures { (result.rank, result.number) ≡ dev_place (key version.now).dev }
     {
-        match self {
-            PostPlace::NoPost => (0, 0),
-            PostPlace::At(post) => (1, post),
-            PostPlace::Top(max) => (2, max),
+        match (version.min(), version.dev()) {
+            (Some(number), _) | (None, Some(number)) => Place { rank: 0, number },
+            (None, None) => Place { rank: 1, number: 0 },
         }
     }
 }
 
-impl DevPlace {
-    pub(crate) fn of(version: &Version) -> DevPlace
-        ensures { dev_meant result ≡ (key version.now).dev }
-    {
-        match (version.min(), version.dev()) {
-            (Some(min), _) => DevPlace::At(min),
-            (None, Some(dev)) => DevPlace::At(dev),
-            (None, None) => DevPlace::NoDev,
-        }
+/// The release without the zeros at its end.
+pub fn trimmed(numbers: &[u64]) -> &[u64]
+    ensures { result.now ≡ trim numbers.now }
+{
+    let mut end = numbers.len();
+    while end > 0 && numbers[end - 1] == 0 {
+        end -= 1;
     }
-
-    // Its rank, then its number.
-    pub(crate) fn place(self) -> (u64, u64)
-        ensures { result ≡ dev_place (dev_meant self) }
-    {
-        match self {
-            DevPlace::At(dev) => (0, dev),
-            DevPlace::NoDev => (1, 0),
-        }
-    }
+    &numbers[..end]
 }

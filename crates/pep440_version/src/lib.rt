@@ -10,7 +10,7 @@ mod error;
 mod error_text;
 mod full;
 mod hash;
-mod key;
+pub mod key;
 pub mod laws;
 mod numbers;
 mod order;

@@ -6,7 +6,7 @@ ghost use Rattle.pep440_version.specs.Segments.{segment};
 ghost use Rattle.std.specs.Cmp.{partial_equiv_from_equiv};
 ghost use Rattle.std.specs.Ordering.{as_partial_cmp, eq_by_cmp};
 
-use crate::key::{DevPlace, PostPlace, Stage};
+use crate::key::Place;
 use crate::segment::LocalSegment;
 use crate::version::Version;
 use std::cmp::Ordering;
@@ -43,9 +43,9 @@ fn cmp_bases(a: &Version, b: &Version) -> Ordering
 fn cmp_suffixes(a: &Version, b: &Version) -> Ordering
     ensures { result ≡ suffix_cmp a.now b.now }
 {
-    let stages = Stage::of(a).place().cmp(&Stage::of(b).place());
-    let posts = PostPlace::of(a).place().cmp(&PostPlace::of(b).place());
-    let devs = DevPlace::of(a).place().cmp(&DevPlace::of(b).place());
+    let stages = Place::of_stage(a).cmp(&Place::of_stage(b));
+    let posts = Place::of_post(a).cmp(&Place::of_post(b));
+    let devs = Place::of_dev(a).cmp(&Place::of_dev(b));
     stages.then(posts).then(devs)
 }
 

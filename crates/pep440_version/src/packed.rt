@@ -1,6 +1,6 @@
 //! A packed version: its release, and the word of the release and of the one suffix that there may be.
 ghost use Rattle.std.specs.Prelude.{◌≡◌, ◌+◌, ◌*◌, ◌^◌, ◌<◌, ◌≤◌, ◌&&◌, nat_le, true, false, None, length, slice_index, take, IfSome, IfNone, if◌then◌else◌};
-ghost use Rattle.pep440_version.specs.Form.{IsWord, class_in, dev_class, full_record, max_class, min_class, number_in, number_of_class, packed_record, post_class, pre_at, record_in};
+ghost use Rattle.pep440_version.specs.Form.{IsWord, class_in, class_of_field, dev_class, full_record, max_class, min_class, number_in, number_of_class, packed_record, post_class, pre_at, record_in, word_with, word_with_number};
 ghost use Rattle.pep440_version.specs.Normal.{IsPadded, IsKnown};
 ghost use Rattle.pep440_version.specs.Word.{is_packed, is_short, suffix};
 
@@ -31,6 +31,15 @@ const MAX_FIRST_NUMBER: u64 = 65535;
 const MAX_OTHER_NUMBER: u64 = 255;
 
 pub(crate) const MAX_SUFFIX_NUMBER: u64 = 2097151;
+
+// The fields that are a number, each with a class of its own.
+#[derive(Clone, Copy)]
+pub(crate) enum Field {
+    Min,
+    Dev,
+    Post,
+    Max,
+}
 
 // How many release numbers there are, the word, and the numbers that it stands for.
 pub(crate) struct Packed {
@@ -103,6 +112,50 @@ pub(crate) fn max_in(word: u64) -> Option<u64>
     number_of_class(MAX, word)
 }
 
+fn class_of_field(field: Field) -> u64
+    ensures { result ≡ class_of_field field }
+{
+    match field {
+        Field::Min => MIN,
+        Field::Dev => DEV,
+        Field::Post => POST,
+        Field::Max => MAX,
+    }
+}
+
+// The word with this suffix in place of its own.
+fn replace_suffix(word: u64, class: u64, number: u64) -> u64
+    requires class { class < 8 }
+    requires number { number ≤ 2097151 }
+    ensures { result ≡ word_with word class number }
+{
+    (word >> 24 << 3 | class) << 21 | number
+}
+
+// The word with this number in the field, where it has no suffix of another class.
+pub(crate) fn replace_number(word: u64, field: Field, number: Option<u64>) -> Option<u64>
+    ensures { result ≡ word_with_number word (class_of_field field) number }
+{
+    let class = class_of_field(field);
+    let own = class_in(word);
+    match number {
+        Some(number) => {
+            if number <= MAX_SUFFIX_NUMBER && (own == NONE || own == class) {
+                Some(replace_suffix(word, class, number))
+            } else {
+                None
+            }
+        }
+        None => {
+            if own == class {
+                Some(replace_suffix(word, NONE, 0))
+            } else {
+                Some(word)
+            }
+        }
+    }
+}
+
 // The class and the number of the one suffix that is there; None where there are more.
 fn suffix(full: &Full) -> Option<(u64, u64)>
     ensures { result ≡ suffix (full_record full.now) }
@@ -133,17 +186,16 @@ fn are_small(numbers: [u64; 4]) -> bool
         && fourth <= MAX_OTHER_NUMBER
 }
 
-fn is_short(release: &[u64]) -> bool
-    ensures { result ≡ is_short release.now }
-{
-    release.len() <= 4 && are_small(padded(release))
-}
-
-// The suffix of a version that a word can hold.
-fn packed_suffix(full: &Full) -> Option<(u64, u64)>
+// The suffix of a version that a word can hold; its release numbers are given, padded.
+fn packed_suffix(full: &Full, numbers: [u64; 4]) -> Option<(u64, u64)>
+    requires few { length full.now.release ≤ 4 }
+    requires first { slice_index numbers 0 ≡ slice_index full.now.release 0 }
+    requires second { slice_index numbers 1 ≡ slice_index full.now.release 1 }
+    requires third { slice_index numbers 2 ≡ slice_index full.now.release 2 }
+    requires fourth { slice_index numbers 3 ≡ slice_index full.now.release 3 }
     ensures { result ≡ (if is_packed (full_record full.now) then suffix (full_record full.now) else None) }
 {
-    if full.epoch != 0 || !full.local.is_empty() || !is_short(full.release.as_slice()) {
+    if full.epoch != 0 || !full.local.is_empty() || !are_small(numbers) {
         return None;
     }
     let (class, number) = suffix(full)?;
@@ -175,9 +227,12 @@ impl Packed {
         ensures none { IfNone result (is_packed (full_record full.now) ≡ false) }
         ensures some { IfSome result (λ p. IsWord p.count p.word p.numbers × (packed_record p.count p.word p.numbers ≡ full_record full.now)) }
     {
-        let (class, number) = packed_suffix(full)?;
         let release = full.release.as_slice();
+        if release.len() > 4 {
+            return None;
+        }
         let numbers = padded(release);
+        let (class, number) = packed_suffix(full, numbers)?;
         Some(Packed {
             count: release.len() as u8,
             word: word_of(numbers, class, number),

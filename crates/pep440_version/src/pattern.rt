@@ -86,10 +86,8 @@ impl VersionPattern {
         if let Some(version) = read::normal_version(text) {
             return Ok(VersionPattern::verbatim(version));
         }
-        match read::pattern(alloc, text) {
-            Ok((version, wildcard)) => Ok(VersionPattern { version, wildcard }),
-            Err(kind) => Err(VersionPatternParseError::from(kind)),
-        }
+        let (version, wildcard) = read::pattern(alloc, text)?;
+        Ok(VersionPattern { version, wildcard })
     }
 
     /// The pattern that the text means: a version, or epoch and release followed by `.*` and the end

@@ -1,7 +1,7 @@
 //! The reading of versions and patterns, part by part from the left, and the public reader of versions.
 ghost use Rattle.std.specs.Prelude.{◌≡◌, ◌<◌, ◌≤◌, ◌==◌, ℕ, Bool, List, true, length, Ok, Err, Some, IfOk, IfErr, IfSome, IsOk};
 ghost use Rattle.pep440_version.specs.ErrorTexts.{error_text, refusal_text};
-ghost use Rattle.pep440_version.specs.Errors.{Answers, Gives, error_refusal, pattern_refusal_of};
+ghost use Rattle.pep440_version.specs.Errors.{Answers, Gives, error_refusal, pattern_error_refusal};
 ghost use Rattle.pep440_version.specs.Grammar.{Derives, starts, is_v};
 ghost use Rattle.pep440_version.specs.Print.{print};
 ghost use Rattle.pep440_version.specs.Reading.{EndsWith, past_v, starts_number};
@@ -21,7 +21,7 @@ use self::local::local_at;
 pub(crate) use self::normal::normal_version;
 use self::number::{number_at, release_from, starts_number};
 use self::suffix::{dev_at, post_at, pre_at};
-use crate::error::{ErrorKind, PatternErrorKind, VersionParseError};
+use crate::error::{ErrorKind, PatternErrorKind, VersionParseError, VersionPatternParseError};
 use crate::numbers::Release;
 use crate::version::Version;
 use std::alloc::Global;
@@ -143,19 +143,30 @@ fn before_star(alloc: Global, epoch: u64, release: Release) -> Result<Version, E
     Ok(Version::of_parts(alloc, epoch, release, None, None, None, no_local)?)
 }
 
+// Blanks, the letter v, epoch and release.
+fn opening(alloc: Global, text: &str) -> Result<(u64, Release, &str), ErrorKind>
+    ensures reads { Gives (λ x. ((x.0, x.1), x.2.now)) result (opening text.now) }
+    ensures memory { (x : (ℕ × List ℕ) × List ℕ) → opening text.now ≡ Ok x → length x.0.1 ≤ 4 → IsOk result }
+{
+    front_at(alloc, past_v(scan::past_blanks(text)))
+}
+
 // What the text reads as, and whether a star follows.
-pub(crate) fn pattern(alloc: Global, text: &str) -> Result<(Version, bool), PatternErrorKind>
-    ensures reads { Answers pattern_refusal_of result (read_pattern text.now) }
+pub(crate) fn pattern(
+    alloc: Global,
+    text: &str,
+) -> Result<(Version, bool), VersionPatternParseError>
+    ensures reads { Answers pattern_error_refusal result (read_pattern text.now) }
     ensures memory { (x : Record × Bool) → read_pattern text.now ≡ Ok x → is_packed x.0 ≡ true → IsOk result }
 {
-    let (epoch, release, rest) = front_at(alloc, past_v(scan::past_blanks(text)))?;
+    let (epoch, release, rest) = opening(alloc, text)?;
     if !is_star(rest) {
         return Ok((closing(alloc, text, epoch, release, rest)?, false));
     }
     if rest.len() == 2 {
         Ok((before_star(alloc, epoch, release)?, true))
     } else {
-        Err(PatternErrorKind::WildcardNotTrailing)
+        Err(VersionPatternParseError::from(PatternErrorKind::WildcardNotTrailing))
     }
 }
 
@@ -178,14 +189,11 @@ impl Version {
         ensures reads { Answers error_refusal result (read_version text.now) }
         ensures memory { (r : Record) → read_version text.now ≡ Ok r → is_packed r ≡ true → IsOk result }
     {
-        match pattern(alloc, text) {
-            Ok((version, false)) => Ok(version),
-            Ok((_, true)) => Err(VersionParseError::from(ErrorKind::Wildcard)),
-            Err(PatternErrorKind::Version(error)) => Err(error),
-            Err(PatternErrorKind::WildcardNotTrailing) => {
-                Err(VersionParseError::from(ErrorKind::Wildcard))
-            }
+        let (epoch, release, rest) = opening(alloc, text)?;
+        if is_star(rest) {
+            return Err(VersionParseError::from(ErrorKind::Wildcard));
         }
+        Ok(closing(alloc, text, epoch, release, rest)?)
     }
 
     /// The version that the text means (PEP 440, "Public version identifiers", "Local version identifiers",

@@ -9,6 +9,7 @@ ghost use Rattle.pep440_version.specs.Word.{is_packed};
 ghost use Rattle.std.specs.declared.cmp.Ordering.TheVariants.{Equal};
 
 use crate::numbers::Release;
+use crate::packed::Field;
 use crate::prerelease::Prerelease;
 use crate::segment::LocalSegment;
 use crate::version::{Version, known_segments};
@@ -62,6 +63,9 @@ impl Version {
         ensures value { IfOk result (λ v. v ≡ record self { post = post }) }
         ensures memory { is_packed (record self { post = post }) ≡ true → IsOk result }
     {
+        if let Some(version) = self.with_number(Field::Post, post) {
+            return Ok(version);
+        }
         let mut full = self.into_full(alloc);
         full.post = post;
         Version::from_full(alloc, full)
@@ -74,6 +78,9 @@ impl Version {
         ensures value { IfOk result (λ v. v ≡ record self { dev = dev }) }
         ensures memory { is_packed (record self { dev = dev }) ≡ true → IsOk result }
     {
+        if let Some(version) = self.with_number(Field::Dev, dev) {
+            return Ok(version);
+        }
         let mut full = self.into_full(alloc);
         full.dev = dev;
         Version::from_full(alloc, full)
@@ -134,6 +141,9 @@ impl Version {
         ensures value { IfOk result (λ v. v ≡ record self { min = min }) }
         ensures memory { is_packed (record self { min = min }) ≡ true → IsOk result }
     {
+        if let Some(version) = self.with_number(Field::Min, min) {
+            return Ok(version);
+        }
         let mut full = self.into_full(alloc);
         full.min = min;
         Version::from_full(alloc, full)
@@ -149,6 +159,9 @@ impl Version {
         ensures value { IfOk result (λ v. v ≡ record self { max = max }) }
         ensures memory { is_packed (record self { max = max }) ≡ true → IsOk result }
     {
+        if let Some(version) = self.with_number(Field::Max, max) {
+            return Ok(version);
+        }
         let mut full = self.into_full(alloc);
         full.max = max;
         Version::from_full(alloc, full)

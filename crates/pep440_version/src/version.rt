@@ -1,7 +1,7 @@
 //! The type `Version`: how one is made, and its parts.
 ghost use Rattle.std.specs.Prelude.{◌≡◌, ◌<◌, ◌||◌, ◌↔◌, [], ◌∷◌, length, Some, None, IfOk, IfSome, IsOk, IsTrue, map, is_some, is_none, if◌then◌else◌, true, false};
 ghost use Rattle.std.specs.List.{All};
-ghost use Rattle.pep440_version.specs.Form.{IsWord, full_record, packed_record};
+ghost use Rattle.pep440_version.specs.Form.{IsWord, full_record, packed_record, with_field};
 ghost use Rattle.pep440_version.specs.Record.{of_parts, of_release, zero_alpha_dev, IsRecord, SegmentFits};
 ghost use Rattle.pep440_version.specs.Segments.{segment};
 ghost use Rattle.pep440_version.specs.Word.{is_packed, word};
@@ -9,7 +9,7 @@ ghost use Rattle.std.specs.Option.{option_copied};
 
 use crate::full::Full;
 use crate::numbers::{Release, known_numbers};
-use crate::packed::{Packed, dev_in, max_in, min_in, post_in, pre_in};
+use crate::packed::{Field, Packed, dev_in, max_in, min_in, post_in, pre_in, replace_number};
 use crate::prerelease::{Prerelease, PrereleaseKind};
 use crate::segment::LocalSegment;
 use std::alloc::{AllocError, Global};
@@ -117,6 +117,28 @@ impl Version {
         }
     }
 
+    // The version with this number in the field, where both are packed.
+    #[inline(always)]
+    pub(crate) fn with_number(&self, field: Field, number: Option<u64>) -> Option<Version>
+        ensures { IfSome result (λ v. v ≡ with_field field number self.now) }
+    {
+        match &self.form {
+            Form::InFull(_) => None,
+            Form::InWord {
+                count,
+                word,
+                numbers,
+            } => {
+                let word = replace_number(*word, field, number)?;
+                Some(Version::of_packed(Packed {
+                    count: *count,
+                    word,
+                    numbers: *numbers,
+                }))
+            }
+        }
+    }
+
     // Each part, to be changed.
     pub(crate) fn into_full(self, alloc: Global) -> Full
         ensures value { full_record result ≡ self }
@@ -152,12 +174,12 @@ impl Version {
         dev: Option<u64>,
         local: Vec<LocalSegment>,
     ) -> Result<Version, AllocError>
-        requires { 0 < length release }
+        requires some { 0 < length release }
+        requires fits { All SegmentFits (map segment local.items) }
         ensures value { IfOk result (λ v. v ≡ of_parts epoch release pre post dev (map segment local.items)) }
         ensures memory { is_packed (of_parts epoch release pre post dev (map segment local.items)) ≡ true → IsOk result }
     {
         known_numbers(release.as_slice());
-        known_segments(&local);
         let full = Full {
             epoch,
             release,

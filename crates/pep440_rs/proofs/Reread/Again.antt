@@ -3,10 +3,10 @@ use Rattle.std.proofs.Common.{◌≡◌, ◌&&◌, ◌∙◌, ℕ, List, [], ◌
 use Rattle.std.proofs.lemmas.List.{append-nil}
 use Rattle.std.proofs.lemmas.Str.Ascii.{encodes-IsAscii}
 use Rattle.std.proofs.lemmas.Str.{chars-IsAscii}
-use Rattle.std.specs.Char.{is_ascii_digit, is_whitespace, is_not_whitespace}
+use Rattle.std.specs.Char.{is_ascii_digit, is_whitespace, is_not_whitespace, is_ascii_whitespace}
 use Rattle.std.specs.List.{list_all}
 use Rattle.std.specs.Str.{encode_utf8_all}
-use Rattle.pep440_version.specs.Grammar.{AreBlanks, Derives, is_blank, starts}
+use Rattle.pep440_version.specs.Grammar.{AreBlanks, Derives, starts}
 use Rattle.pep440_version.specs.Patterns.{DerivesPattern, DerivesStar}
 use Rattle.pep440_version.specs.Print.{print}
 use Rattle.pep440_version.specs.Record.{Record}
@@ -33,7 +33,7 @@ unstar text r h = h.1
 blanks_shown : (t : List ℕ) → AreBlanks t → list_all is_shown t ≡ true → t ≡ []
 blanks_shown [] h g = refl
 blanks_shown (b ∷ t) h g =
-    let blank = both_first (is_blank b) (list_all is_blank t) h in
+    let blank = both_first (is_ascii_whitespace b) (list_all is_ascii_whitespace t) h in
     let shown = both_first (is_shown b) (list_all is_shown t) g in
     let none = blank_not_shown b blank in
     cc (shown, none)

@@ -3,10 +3,10 @@ use Rattle.std.proofs.Common.{◌≡◌, ◌<◌, ◌==◌, ℕ, suc, zero, List
 use Rattle.std.proofs.lemmas.Bool.{cases_Bool}
 use Rattle.std.proofs.lemmas.Bool.Decides.{nat_tests}
 use Rattle.std.proofs.lemmas.Fmt.{decimal_nonempty, digits_decimal}
-use Rattle.std.specs.Char.{is_ascii_digit, is_whitespace, is_not_whitespace}
+use Rattle.std.specs.Char.{is_ascii_digit, is_whitespace, is_not_whitespace, is_ascii_whitespace}
 use Rattle.std.specs.Fmt.{decimal}
 use Rattle.std.specs.List.{All, flat_map, list_all}
-use Rattle.pep440_version.specs.Grammar.{is_blank, starts}
+use Rattle.pep440_version.specs.Grammar.{starts}
 use Rattle.pep440_version.specs.Print.{dotted, epoch_text, prerelease_kind_text, local_text, labelled, pre_text, print, segment_print}
 use Rattle.pep440_version.specs.Record.{Fits, IsRecord, Number, Record, Segment, SegmentFits, Text}
 use Rattle.pep440_version.specs.Reread.{Rereads, SegmentRereads, is_lower}
@@ -43,7 +43,7 @@ operator_not_white b h = grind (arith, nat_tests)
 pub digit_not_operator : (b : ℕ) → is_ascii_digit b ≡ true → is_operator_char b ≡ false
 digit_not_operator b h = grind (arith, nat_tests)
 
-pub blank_not_shown : (b : ℕ) → is_blank b ≡ true → is_shown b ≡ false
+pub blank_not_shown : (b : ℕ) → is_ascii_whitespace b ≡ true → is_shown b ≡ false
 blank_not_shown b h = grind (arith, nat_tests)
 
 decimal_shown : (n : ℕ) → Fits n → list_all is_shown (decimal n) ≡ true

@@ -1,10 +1,10 @@
 -- What may follow a release.
 use Rattle.std.proofs.Common.{◌≡◌, ◌≤◌, ◌<◌, ◌==◌, ℕ, true, false, List, [], ◌∷◌, ◌++◌, refl, sym, ap, arith, inl, inr, Option, Some, None, get_or}
 use Rattle.std.proofs.lemmas.Bool.Decides.{nat_tests}
-use Rattle.std.specs.Char.{is_ascii_digit, to_ascii_lowercase}
+use Rattle.std.specs.Char.{is_ascii_digit, to_ascii_lowercase, is_ascii_whitespace}
 use Rattle.std.specs.List.{list_all}
 use Rattle.pep440_version.specs.declared.prerelease.Prerelease.{Prerelease}
-use Rattle.pep440_version.specs.Grammar.{AreBlanks, is_blank, Spellings, IsSpelling, IsSpelled, IsSeparator, is_separator, pre_spellings, post_spellings, dev_spellings, IsPre, IsPost, IsDev, IsLocal, starts}
+use Rattle.pep440_version.specs.Grammar.{AreBlanks, Spellings, IsSpelling, IsSpelled, IsSeparator, is_separator, pre_spellings, post_spellings, dev_spellings, IsPre, IsPost, IsDev, IsLocal, starts}
 use Rattle.pep440_version.specs.Reading.{goes_on}
 use Rattle.pep440_version.specs.Record.{Segment}
 use Rattle.pep440_version.specs.Whole.{is_star}
@@ -65,26 +65,26 @@ follows_spelled table part after a n l h =
     let rest : List ℕ = h.between ++ (h.digits ++ after) in
     rw (regroup table part after a n h) (follows_before h.before (h.word ++ rest) h.first (word_letter table h.word rest a l h.spelling))
 
-blank_not_letter : (b : ℕ) → is_blank b ≡ true → is_letter b ≡ false
+blank_not_letter : (b : ℕ) → is_ascii_whitespace b ≡ true → is_letter b ≡ false
 unfolding is_letter
 blank_not_letter b h = grind (arith, nat_tests)
 
-blank_not_extension : (b : ℕ) → is_blank b ≡ true → is_extension b ≡ false
+blank_not_extension : (b : ℕ) → is_ascii_whitespace b ≡ true → is_extension b ≡ false
 blank_not_extension b h = grind (arith, nat_tests)
 
-blank_not_dash : (b : ℕ) → is_blank b ≡ true → (b == 45) ≡ false
+blank_not_dash : (b : ℕ) → is_ascii_whitespace b ≡ true → (b == 45) ≡ false
 blank_not_dash b h = grind (arith, nat_tests)
 
 follows_blanks : (w : List ℕ) → AreBlanks w → Follows w
 follows_blanks [] h = record { digit = refl; goes = refl; star = refl; bang = refl }
 follows_blanks (b ∷ w) h =
-    let f = both_first (is_blank b) (list_all is_blank w) h in
+    let f = both_first (is_ascii_whitespace b) (list_all is_ascii_whitespace w) h in
     record { digit = blank_not_digit b f; goes = rw (blank_not_dot b f) refl; star = rw (blank_not_dot b f) refl; bang = blank_not_bang b f }
 
 quiet_blanks : (w : List ℕ) → AreBlanks w → IsQuiet w
 quiet_blanks [] h = record { separator = refl; letter = refl; digit = refl; extension = refl; bare = refl }
 quiet_blanks (b ∷ w) h =
-    let f = both_first (is_blank b) (list_all is_blank w) h in
+    let f = both_first (is_ascii_whitespace b) (list_all is_ascii_whitespace w) h in
     record { separator = blank_not_separator b f; letter = blank_not_letter b f; digit = blank_not_digit b f; extension = blank_not_extension b f; bare = rw (blank_not_dash b f) refl }
 
 pub plus_no_letter : is_letter 43 ≡ false

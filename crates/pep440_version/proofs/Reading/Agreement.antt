@@ -1,8 +1,8 @@
 -- What is read of a text is what the text means, and what it means is read.
 use Rattle.std.proofs.Common.{◌≡◌, ◌<◌, ◌==◌, ℕ, Bool, true, false, List, [], ◌∷◌, ◌++◌, refl, sym, ap, ◌∙◌, arith, drop, length, inl, inr, Ok, Err, Result, subst, eqb-true}
 use Rattle.std.proofs.lemmas.List.{append_assoc, append-nil, length-append, nil_from_length}
-use Rattle.std.specs.Char.{is_ascii_digit}
-use Rattle.pep440_version.specs.Grammar.{IsNumber, IsRelease, IsEpoch, IsLeadingV, IsPre, IsPost, IsDev, IsLocal, AreBlanks, is_blank, Derives, starts}
+use Rattle.std.specs.Char.{is_ascii_digit, is_ascii_whitespace}
+use Rattle.pep440_version.specs.Grammar.{IsNumber, IsRelease, IsEpoch, IsLeadingV, IsPre, IsPost, IsDev, IsLocal, AreBlanks, Derives, starts}
 use Rattle.pep440_version.specs.Patterns.{DerivesStar, DerivesPattern}
 use Rattle.pep440_version.specs.Reading.{EndsWith, Read, lead, past, starts_number, past_v, number_at, goes_on, release_at}
 use Rattle.pep440_version.specs.Record.{Record, epoch_and_release}
@@ -63,22 +63,22 @@ pub record Opened (text rest : List ℕ) (epoch : ℕ) (release : List ℕ) : Ty
 
 pub opening_takes : (text : List ℕ) (x : (ℕ × List ℕ) × List ℕ) → opening text ≡ Ok x → Opened text x.1 x.0.0 x.0.1
 opening_takes text x e =
-    let letter = v_takes (past is_blank text) in
-    let f = front_takes (past_v (past is_blank text)) x e in
+    let letter = v_takes (past is_ascii_whitespace text) in
+    let f = front_takes (past_v (past is_ascii_whitespace text)) x e in
     record {
-      w1 = lead is_blank text;
+      w1 = lead is_ascii_whitespace text;
       v = letter.0;
       e = f.0;
       n = f.1;
-      cut = split is_blank text ∙ ap (λ t. lead is_blank text ++ t) (letter.2 ∙ ap (λ t. letter.0 ++ t) f.4);
-      blanks = lead-all is_blank text;
+      cut = split is_ascii_whitespace text ∙ ap (λ t. lead is_ascii_whitespace text ++ t) (letter.2 ∙ ap (λ t. letter.0 ++ t) f.4);
+      blanks = lead-all is_ascii_whitespace text;
       letter = letter.1;
       is_epoch = f.2;
       is_release = f.3;
     }
 
 pub end_takes : (text : List ℕ) (x : Record × List ℕ) (r : Record) → end_at text x ≡ Ok r → (x.0 ≡ r) × AreBlanks x.1
-end_takes text x r e = elim (chosen (length (past is_blank x.1) == 0) _ _ _ e) [ inl h ↦ (inside _ _ h.1, blank_end x.1 h.0) | inr h ↦ cc h.1 ]
+end_takes text x r e = elim (chosen (length (past is_ascii_whitespace x.1) == 0) _ _ _ e) [ inl h ↦ (inside _ _ h.1, blank_end x.1 h.0) | inr h ↦ cc h.1 ]
 
 unfoldable pub derived : (text after : List ℕ) (epoch : ℕ) (release rest : List ℕ) (r : Record) → Opened text rest epoch release → Parts rest after epoch release r → AreBlanks after → Derives text r
 derived text after epoch release rest r o p blanks =
@@ -217,7 +217,7 @@ front_again e n w epoch ns (inr h) hn digit goes bang =
 
 pub opening_again : (text w1 v t : List ℕ) → text ≡ w1 ++ (v ++ t) → AreBlanks w1 → IsLeadingV v → starts is_ascii_digit t ≡ true → opening text ≡ front_at t
 opening_again text w1 v t cut blanks letter first =
-    let rest : past is_blank text ≡ v ++ t = ap (past is_blank) cut ∙ past-run is_blank w1 (v ++ t) blanks (v_not_blank v t letter first) in
+    let rest : past is_ascii_whitespace text ≡ v ++ t = ap (past is_ascii_whitespace) cut ∙ past-run is_ascii_whitespace w1 (v ++ t) blanks (v_not_blank v t letter first) in
     ap (λ x. front_at (past_v x)) rest ∙ ap front_at (v_again v t letter first)
 
 end_again : (text : List ℕ) (r : Record) (w : List ℕ) → AreBlanks w → end_at text (r, w) ≡ Ok r

@@ -1,9 +1,9 @@
 -- What the grammar derives is read so: the record is the only one.
 use Rattle.std.proofs.Common.{◌≡◌, ◌≤◌, ◌^◌, ◌==◌, ℕ, suc, zero, true, false, List, [], ◌∷◌, ◌++◌, refl, sym, ap, ◌∙◌, arith, length, inl, inr, Ok, lt-ltb}
 use Rattle.std.proofs.lemmas.List.{append_assoc, append-nil, length-append}
-use Rattle.std.specs.Char.{is_ascii_digit}
+use Rattle.std.specs.Char.{is_ascii_digit, is_ascii_whitespace}
 use Rattle.std.specs.List.{list_all}
-use Rattle.pep440_version.specs.Grammar.{IsNumber, IsRelease, IsLeadingV, AreBlanks, is_blank, starts}
+use Rattle.pep440_version.specs.Grammar.{IsNumber, IsRelease, IsLeadingV, AreBlanks, starts}
 use Rattle.pep440_version.specs.Reading.{past, past_v, number_at, goes_on, release_at}
 use Rattle.pep440_version.proofs.Reading.Fronts.{both_first, lead-run, past-run, digit_not_blank, digit_not_v, blank_not_digit, blank_not_dot, blank_not_bang}
 
@@ -37,11 +37,11 @@ release_again (suc k) t rest (n ∷ m ∷ more) h room s g =
     rw (h.4, append_assoc h.0 (46 ∷ h.1) rest, number_again h.0 (46 ∷ h.1 ++ rest) n h.2 refl, first, later) refl
 
 -- what follows a release is blanks
-pub blanks_stop : (w : List ℕ) → AreBlanks w → (starts is_ascii_digit w ≡ false) × (goes_on w ≡ false) × (starts (λ b. b == 33) w ≡ false) × (past is_blank w ≡ [])
+pub blanks_stop : (w : List ℕ) → AreBlanks w → (starts is_ascii_digit w ≡ false) × (goes_on w ≡ false) × (starts (λ b. b == 33) w ≡ false) × (past is_ascii_whitespace w ≡ [])
 blanks_stop [] h = (refl, refl, refl, refl)
 blanks_stop (b ∷ rest) h =
-    let first = both_first (is_blank b) (list_all is_blank rest) h in
-    (blank_not_digit b first, rw (blank_not_dot b first) refl, blank_not_bang b first, ap (past is_blank) (sym (append-nil (b ∷ rest))) ∙ past-run is_blank (b ∷ rest) [] h refl)
+    let first = both_first (is_ascii_whitespace b) (list_all is_ascii_whitespace rest) h in
+    (blank_not_digit b first, rw (blank_not_dot b first) refl, blank_not_bang b first, ap (past is_ascii_whitespace) (sym (append-nil (b ∷ rest))) ∙ past-run is_ascii_whitespace (b ∷ rest) [] h refl)
 
 pub v_again : (v rest : List ℕ) → IsLeadingV v → starts is_ascii_digit rest ≡ true → past_v (v ++ rest) ≡ rest
 v_again v [] h s = cc s
@@ -49,7 +49,7 @@ v_again v (d ∷ rest) (inl e) s = rw (e, digit_not_v d s) refl
 v_again v (d ∷ rest) (inr (inl e)) s = rw e refl
 v_again v (d ∷ rest) (inr (inr e)) s = rw e refl
 
-pub v_not_blank : (v rest : List ℕ) → IsLeadingV v → starts is_ascii_digit rest ≡ true → starts is_blank (v ++ rest) ≡ false
+pub v_not_blank : (v rest : List ℕ) → IsLeadingV v → starts is_ascii_digit rest ≡ true → starts is_ascii_whitespace (v ++ rest) ≡ false
 v_not_blank v [] h s = cc s
 v_not_blank v (d ∷ rest) (inl e) s = rw e (digit_not_blank d s)
 v_not_blank v (d ∷ rest) (inr (inl e)) s = rw e refl

@@ -3,9 +3,9 @@ use Rattle.std.proofs.Common.{◌≡◌, ◌<◌, ◌+◌, ◌-◌, ◌==◌, �
 use Rattle.std.proofs.lemmas.Bool.{cases_Bool}
 use Rattle.std.proofs.lemmas.Bool.Decides.{nat_tests}
 use Rattle.std.proofs.Math.Seq.{drop-append_seam, take-append_seam}
-use Rattle.std.specs.Char.{is_ascii_digit, is_ascii_alphanumeric}
+use Rattle.std.specs.Char.{is_ascii_digit, is_ascii_alphanumeric, is_ascii_whitespace}
 use Rattle.std.specs.List.{prefix_len, list_all}
-use Rattle.pep440_version.specs.Grammar.{is_blank, starts, is_v}
+use Rattle.pep440_version.specs.Grammar.{starts, is_v}
 use Rattle.pep440_version.specs.Reading.{lead, past}
 
 pub both_first : (a b : Bool) → (a && b) ≡ true → a ≡ true
@@ -46,19 +46,19 @@ past-stops p (x ∷ xs) = elim (cases_Bool (p x)) [
   | inr e ↦ rw (e, e) refl
 ]
 
-pub digit_not_blank : (b : ℕ) → is_ascii_digit b ≡ true → is_blank b ≡ false
+pub digit_not_blank : (b : ℕ) → is_ascii_digit b ≡ true → is_ascii_whitespace b ≡ false
 digit_not_blank b d = grind (arith, nat_tests)
 
 pub digit_not_v : (b : ℕ) → is_ascii_digit b ≡ true → is_v b ≡ false
 digit_not_v b d = grind (arith, nat_tests)
 
-pub blank_not_digit : (b : ℕ) → is_blank b ≡ true → is_ascii_digit b ≡ false
+pub blank_not_digit : (b : ℕ) → is_ascii_whitespace b ≡ true → is_ascii_digit b ≡ false
 blank_not_digit b d = grind (arith, nat_tests)
 
-pub blank_not_dot : (b : ℕ) → is_blank b ≡ true → (b == 46) ≡ false
+pub blank_not_dot : (b : ℕ) → is_ascii_whitespace b ≡ true → (b == 46) ≡ false
 blank_not_dot b d = grind (arith, nat_tests)
 
-pub blank_not_bang : (b : ℕ) → is_blank b ≡ true → (b == 33) ≡ false
+pub blank_not_bang : (b : ℕ) → is_ascii_whitespace b ≡ true → (b == 33) ≡ false
 blank_not_bang b d = grind (arith, nat_tests)
 
 pub front_passes : (p : ℕ → Bool) (t : List ℕ) (i : ℕ) → i < prefix_len p t → p (get_or t i 0) ≡ true
@@ -75,7 +75,7 @@ front_passes p (x ∷ xs) (suc j) lt = elim (cases_Bool (p x)) [
 pub front_ascii : (p : ℕ → Bool) → ((b : ℕ) → p b ≡ true → b < 128) → (t : List ℕ) → 0 < prefix_len p t → get_or t (prefix_len p t - 1) 0 < 128
 front_ascii p ascii t some = ascii _ (front_passes p t (prefix_len p t - 1) (omega (arith, some)))
 
-pub blank_ascii : (b : ℕ) → is_blank b ≡ true → b < 128
+pub blank_ascii : (b : ℕ) → is_ascii_whitespace b ≡ true → b < 128
 blank_ascii b e = grind (arith, nat_tests)
 
 pub digit_ascii : (b : ℕ) → is_ascii_digit b ≡ true → b < 128

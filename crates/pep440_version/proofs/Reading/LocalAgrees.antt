@@ -2,9 +2,9 @@
 use Rattle.std.proofs.Common.{◌≡◌, ◌≤◌, ◌==◌, ℕ, suc, zero, true, false, List, [], ◌∷◌, ◌++◌, refl, sym, ap, ◌∙◌, arith, drop, length, inl, inr, Ok, subst}
 use Rattle.std.proofs.lemmas.Bool.Decides.{nat_tests}
 use Rattle.std.proofs.lemmas.List.{append_assoc, length-append}
-use Rattle.std.specs.Char.{is_ascii_alphanumeric}
+use Rattle.std.specs.Char.{is_ascii_alphanumeric, is_ascii_whitespace}
 use Rattle.std.specs.List.{list_all}
-use Rattle.pep440_version.specs.Grammar.{AreBlanks, is_blank, is_separator, segment_of, IsSegment, AreSegments, IsLocal, starts}
+use Rattle.pep440_version.specs.Grammar.{AreBlanks, is_separator, segment_of, IsSegment, AreSegments, IsLocal, starts}
 use Rattle.pep440_version.specs.Locals.{first_byte, segments_at, local_at}
 use Rattle.pep440_version.specs.Reading.{lead, past}
 use Rattle.pep440_version.specs.Record.{Segment}
@@ -89,18 +89,18 @@ segments_again (suc k) c t rest (s ∷ u ∷ more) h room a p =
     let later = segments_again k h.2 h.1 rest (u ∷ more) h.5 (omega (arith, long, h.3.0, room)) a p in
     rw (h.6, append_assoc h.0 (h.2 ∷ h.1) rest, segment_first h.0 after s h.3, lead-run is_ascii_alphanumeric h.0 after h.3.1 stop, past-run is_ascii_alphanumeric h.0 after h.3.1 stop, h.4, later, h.3.2) refl
 
-pub blank_not_separator : (b : ℕ) → is_blank b ≡ true → is_separator b ≡ false
+pub blank_not_separator : (b : ℕ) → is_ascii_whitespace b ≡ true → is_separator b ≡ false
 blank_not_separator b h = grind (arith, nat_tests)
 
-blank_not_alphanumeric : (b : ℕ) → is_blank b ≡ true → is_ascii_alphanumeric b ≡ false
+blank_not_alphanumeric : (b : ℕ) → is_ascii_whitespace b ≡ true → is_ascii_alphanumeric b ≡ false
 blank_not_alphanumeric b h = grind (arith, nat_tests)
 
-pub blank_not_plus : (b : ℕ) → is_blank b ≡ true → (b == 43) ≡ false
+pub blank_not_plus : (b : ℕ) → is_ascii_whitespace b ≡ true → (b == 43) ≡ false
 blank_not_plus b h = grind (arith, nat_tests)
 
 after_local : (w : List ℕ) → AreBlanks w → (starts is_ascii_alphanumeric w ≡ false) × (starts is_separator w ≡ false) × (starts (λ b. b == 43) w ≡ false)
 after_local [] h = (refl, refl, refl)
-after_local (b ∷ w) h = let first = both_first (is_blank b) (list_all is_blank w) h in (blank_not_alphanumeric b first, blank_not_separator b first, blank_not_plus b first)
+after_local (b ∷ w) h = let first = both_first (is_ascii_whitespace b) (list_all is_ascii_whitespace w) h in (blank_not_alphanumeric b first, blank_not_separator b first, blank_not_plus b first)
 
 pub local_again : (l w : List ℕ) (ss : List Segment) → IsLocal l ss → AreBlanks w → local_at (l ++ w) ≡ Ok (ss, w)
 local_again l w [] h blanks = rw (h, (after_local w blanks).2) refl

@@ -2,10 +2,10 @@
 use Rattle.std.proofs.Common.{◌≡◌, ◌≤◌, ◌<◌, ◌^◌, ◌+◌, ◌==◌, ◌⊎◌, ℕ, suc, zero, Bool, true, false, List, [], ◌∷◌, ◌++◌, refl, sym, ap, ◌∙◌, arith, drop, length, inl, inr, Ok, Err, Result, ltb-true, cond, nat_lt, eqb-true, subst}
 use Rattle.std.proofs.lemmas.Bool.{cases_Bool}
 use Rattle.std.proofs.lemmas.List.{append_assoc, append-nil, length-append, take-append-drop, nil_from_length}
-use Rattle.std.specs.Char.{is_ascii_digit}
+use Rattle.std.specs.Char.{is_ascii_digit, is_ascii_whitespace}
 use Rattle.std.specs.List.{list_all, prefix_len}
 use Rattle.std.specs.Str.Parse.{digits_value}
-use Rattle.pep440_version.specs.Grammar.{IsNumber, IsRelease, IsLeadingV, AreBlanks, is_blank, starts}
+use Rattle.pep440_version.specs.Grammar.{IsNumber, IsRelease, IsLeadingV, AreBlanks, starts}
 use Rattle.pep440_version.specs.Reading.{◌>>=◌, lead, past, past_v, number_at, goes_on, release_at}
 use Rattle.pep440_version.specs.Refusals.{Refusal}
 use Rattle.pep440_version.proofs.Reading.Fronts.{both_first, both_second, lead-all, past-stops}
@@ -77,11 +77,11 @@ release_takes (suc k) t x s room e =
           (front.0, subst (IsRelease front.0) numbers front.1, front.2 ∙ ap (λ r. front.0 ++ r) rest)
     ]
 
-pub blank_end : (t : List ℕ) → (length (past is_blank t) == 0) ≡ true → AreBlanks t
+pub blank_end : (t : List ℕ) → (length (past is_ascii_whitespace t) == 0) ≡ true → AreBlanks t
 blank_end t e =
-    let nothing : past is_blank t ≡ [] = nil_from_length (past is_blank t) (eqb-true _ _ e) in
-    let whole : t ≡ lead is_blank t = split is_blank t ∙ ap (λ r. lead is_blank t ++ r) nothing ∙ append-nil (lead is_blank t) in
-    ap (list_all is_blank) whole ∙ lead-all is_blank t
+    let nothing : past is_ascii_whitespace t ≡ [] = nil_from_length (past is_ascii_whitespace t) (eqb-true _ _ e) in
+    let whole : t ≡ lead is_ascii_whitespace t = split is_ascii_whitespace t ∙ ap (λ r. lead is_ascii_whitespace t ++ r) nothing ∙ append-nil (lead is_ascii_whitespace t) in
+    ap (list_all is_ascii_whitespace) whole ∙ lead-all is_ascii_whitespace t
 
 pub v_takes : (t : List ℕ) → (v : List ℕ) × IsLeadingV v × (t ≡ v ++ past_v t)
 v_takes [] = ([], inl refl, refl)

@@ -3,8 +3,8 @@ use Rattle.std.proofs.Common.{◌≡◌, ◌≤◌, ◌<◌, ◌-◌, ◌==◌, 
 use Rattle.std.proofs.lemmas.Bool.{cases_Bool}
 use Rattle.std.proofs.lemmas.Bool.Decides.{nat_tests}
 use Rattle.std.proofs.lemmas.List.{append_assoc, length-append, append_cancel_right}
-use Rattle.std.specs.Char.{is_ascii_digit}
-use Rattle.pep440_version.specs.Grammar.{IsLeadingV, IsNumber, is_blank, starts, is_v}
+use Rattle.std.specs.Char.{is_ascii_digit, is_ascii_whitespace}
+use Rattle.pep440_version.specs.Grammar.{IsLeadingV, IsNumber, starts, is_v}
 use Rattle.pep440_version.specs.Reading.{Read, ◌>>=◌, lead, past, starts_number, past_v, number_at, goes_on, release_at}
 use Rattle.pep440_version.specs.Record.{Record}
 use Rattle.pep440_version.specs.Refusals.{Refusal, Wildcard, NumberTooBig, NoLeadingNumber, NoLeadingReleaseNumber, LocalEmpty, UnexpectedEnd, OfVersion, ends, Opens, IsBigRun, HasStar, RefusesFirst, Refuses}
@@ -168,18 +168,18 @@ v_parts (b ∷ rest) = elim (cases_Bool (b == 118)) [
 ]
 
 abbrev opened : List ℕ → List ℕ
-opened text = past_v (past is_blank text)
+opened text = past_v (past is_ascii_whitespace text)
 
 opens : (text : List ℕ) → Opens text (opened text)
 opens text =
-    let m = v_parts (past is_blank text) in
-    (lead is_blank text, m.0, split is_blank text ∙ ap (λ l. lead is_blank text ++ l) m.2, lead-all is_blank text, m.1, ap (starts is_blank) (sym m.2) ∙ past-stops is_blank text, m.3)
+    let m = v_parts (past is_ascii_whitespace text) in
+    (lead is_ascii_whitespace text, m.0, split is_ascii_whitespace text ∙ ap (λ l. lead is_ascii_whitespace text ++ l) m.2, lead-all is_ascii_whitespace text, m.1, ap (starts is_ascii_whitespace) (sym m.2) ∙ past-stops is_ascii_whitespace text, m.3)
 
 opened_end : (text : List ℕ) → IsEnd text (opened text)
-opened_end text = let m = v_parts (past is_blank text) in end_of text (past is_blank text) (opened text) (lead is_blank text, split is_blank text) (m.0, m.2)
+opened_end text = let m = v_parts (past is_ascii_whitespace text) in end_of text (past is_ascii_whitespace text) (opened text) (lead is_ascii_whitespace text, split is_ascii_whitespace text) (m.0, m.2)
 
 opened_stays : (t z : List ℕ) → starts_number z ≡ true → opened (t ++ z) ≡ opened t ++ z
-opened_stays t z s = ap past_v (past_stays is_blank t z (starts_not is_ascii_digit is_blank digit_not_blank z s)) ∙ v_stays (past is_blank t) z (starts_not is_ascii_digit is_v digit_not_v z s)
+opened_stays t z s = ap past_v (past_stays is_ascii_whitespace t z (starts_not is_ascii_digit is_ascii_whitespace digit_not_blank z s)) ∙ v_stays (past is_ascii_whitespace t) z (starts_not is_ascii_digit is_v digit_not_v z s)
 
 opening_stop : (text : List ℕ) (e : Refusal) → Stop front_at (opened text) e → Stop opening text e
 opening_stop text e m =
@@ -306,14 +306,14 @@ sound text f e = by (fault text f e)
     by (AtParts x o s h) = refuses_of text f (told_parts text f x o h)
     by (AtEnd x z s n k) =
         let l = longest text x z s in
-        let rest : List ℕ = past is_blank z.1 in
+        let rest : List ℕ = past is_ascii_whitespace z.1 in
         subst (Refuses text) (sym k) (
           some_rest (length rest) n,
           l,
           λ g h. let other = first_decides text g h in let one : UnexpectedEnd (take (length text - length rest) text) rest ≡ g = fails {A = Record} _ _ (sym (e ∙ ap Err k) ∙ other) in none g one h,
         )
       where
-        none : (g : Refusal) → UnexpectedEnd (take (length text - length (past is_blank z.1)) text) (past is_blank z.1) ≡ g → RefusesFirst text g → ⊥
+        none : (g : Refusal) → UnexpectedEnd (take (length text - length (past is_ascii_whitespace z.1)) text) (past is_ascii_whitespace z.1) ≡ g → RefusesFirst text g → ⊥
         none (UnexpectedEnd v r) one h = h
         none Wildcard one h = cc one
         none (NumberTooBig d) one h = cc one
@@ -332,7 +332,7 @@ pub no_wildcard : (text : List ℕ) → read_pattern text ≡ Err (OfVersion Wil
 no_wildcard text e = by (opening text) refl e
   where
     parts : (x : (ℕ × List ℕ) × List ℕ) → (p : Read (Record × List ℕ)) → parts_at x.0.0 x.0.1 x.1 ≡ p → without_star (p >>= end_at text) ≡ Err (OfVersion Wildcard) → ⊥
-    parts x (Ok z) o e = elim (cases_Bool (length (past is_blank z.1) == 0)) [ inl h ↦ let no = rw h at e in cc no | inr h ↦ let no = rw h at e in cc no ]
+    parts x (Ok z) o e = elim (cases_Bool (length (past is_ascii_whitespace z.1) == 0)) [ inl h ↦ let no = rw h at e in cc no | inr h ↦ let no = rw h at e in cc no ]
     parts x (Err g) o e =
         let same : g ≡ Wildcard = fails {A = Record} g Wildcard (ap version_of e) in
         elim (parts_error x.0.0 x.0.1 x.1 Wildcard (o ∙ (λ i. Err (same i)))) [ inl s ↦ let k = s.0.0.kind in cc k | inr p ↦ let k = p.kind in cc k ]

@@ -2,9 +2,9 @@
 use Rattle.std.proofs.Common.{◌≡◌, ◌≤◌, ◌<◌, ◌==◌, ◌⊎◌, ℕ, suc, zero, Bool, true, false, List, [], ◌∷◌, ◌++◌, refl, sym, ap, ◌∙◌, arith, length, inl, inr, Ok, Err, Option, Some, None, codes, subst}
 use Rattle.std.proofs.lemmas.Bool.{cases_Bool}
 use Rattle.std.proofs.lemmas.List.{append_assoc, append-nil, length-append}
-use Rattle.std.specs.Char.{is_ascii_digit, is_ascii_alphanumeric}
+use Rattle.std.specs.Char.{is_ascii_digit, is_ascii_alphanumeric, is_ascii_whitespace}
 use Rattle.pep440_version.specs.declared.prerelease.Prerelease.{Prerelease}
-use Rattle.pep440_version.specs.Grammar.{AreBlanks, IsLeadingV, is_blank, Spellings, IsSpelled, is_separator, IsPre, IsPost, IsDev, IsLocal, AreSegments, starts}
+use Rattle.pep440_version.specs.Grammar.{AreBlanks, IsLeadingV, Spellings, IsSpelled, is_separator, IsPre, IsPost, IsDev, IsLocal, AreSegments, starts}
 use Rattle.pep440_version.specs.Locals.{segments_at, local_at}
 use Rattle.pep440_version.specs.Reading.{past, past_v}
 use Rattle.pep440_version.specs.Record.{Record, Segment}
@@ -23,7 +23,7 @@ use Rattle.pep440_version.proofs.Reading.LocalAgrees.{segment_first, separator_n
 
 pub opens_again : (text rest : List ℕ) → Opens text rest → opening text ≡ front_at rest
 opens_again text rest (w1, v, cut, blanks, letter, stop, first) =
-    let past : past is_blank text ≡ v ++ rest = ap (past is_blank) cut ∙ past-run is_blank w1 (v ++ rest) blanks stop in
+    let past : past is_ascii_whitespace text ≡ v ++ rest = ap (past is_ascii_whitespace) cut ∙ past-run is_ascii_whitespace w1 (v ++ rest) blanks stop in
     ap (λ l. front_at (past_v l)) past ∙ ap front_at (lettered letter)
   where
     lettered : IsLeadingV v → past_v (v ++ rest) ≡ rest
@@ -52,7 +52,7 @@ wildcard text (rest, (e, n, release, epoch, o, he, hn)) =
 
 no_blank_zero : (u : List ℕ) → AreBlanks (u ++ codes "0") → ⊥
 no_blank_zero [] h = cc h
-no_blank_zero (b ∷ u) h = no_blank_zero u (Rattle.pep440_version.proofs.Reading.Fronts.both_second (is_blank b) _ h)
+no_blank_zero (b ∷ u) h = no_blank_zero u (Rattle.pep440_version.proofs.Reading.Fronts.both_second (is_ascii_whitespace b) _ h)
 
 pub too_big : (text digits : List ℕ) → RefusesFirst text (NumberTooBig digits) → read_version text ≡ Err (NumberTooBig digits)
 too_big text d (front, rest, r, cut, big, lacks, derived) =

@@ -2,9 +2,9 @@
 use Rattle.std.proofs.Common.{◌≡◌, ◌≤◌, ◌<◌, ◌==◌, ◌⊎◌, ℕ, suc, zero, Bool, true, false, List, [], ◌∷◌, ◌++◌, refl, sym, ap, ◌∙◌, arith, drop, length, inl, inr, Ok, Option, None, subst, if◌then◌else◌}
 use Rattle.std.proofs.lemmas.Bool.{cases_Bool}
 use Rattle.std.proofs.lemmas.List.{length-append}
-use Rattle.std.specs.Char.{is_ascii_alphanumeric}
+use Rattle.std.specs.Char.{is_ascii_alphanumeric, is_ascii_whitespace}
 use Rattle.pep440_version.specs.declared.prerelease.Prerelease.{Prerelease}
-use Rattle.pep440_version.specs.Grammar.{is_blank, is_separator, segment_of, starts, is_v}
+use Rattle.pep440_version.specs.Grammar.{is_separator, segment_of, starts, is_v}
 use Rattle.pep440_version.specs.Locals.{first_byte, segments_at, starts_local, local_at}
 use Rattle.pep440_version.specs.Reading.{◌>>=◌, lead, past, starts_number, past_v, number_at, goes_on, release_at}
 use Rattle.pep440_version.specs.Record.{Record, Segment}
@@ -350,19 +350,19 @@ v_cut (b ∷ t) back = elim (cases_Bool (is_v b)) [
   | inr e ↦ inl (rw e refl)
 ]
 
-blanks_end : (t : List ℕ) → IsEnd t (past is_blank t)
-blanks_end t = (lead is_blank t, split is_blank t)
+blanks_end : (t : List ℕ) → IsEnd t (past is_ascii_whitespace t)
+blanks_end t = (lead is_ascii_whitespace t, split is_ascii_whitespace t)
 
 pub opening_end : Takes opening
-opening_end t y e = end_of t (past is_blank t) y.1 (blanks_end t) (end_of (past is_blank t) (past_v (past is_blank t)) y.1 (v_end (past is_blank t)) (front_end (past_v (past is_blank t)) y e))
+opening_end t y e = end_of t (past is_ascii_whitespace t) y.1 (blanks_end t) (end_of (past is_ascii_whitespace t) (past_v (past is_ascii_whitespace t)) y.1 (v_end (past is_ascii_whitespace t)) (front_end (past_v (past is_ascii_whitespace t)) y e))
 
 pub opening_cut : Cuts opening
-opening_cut t back y e = elim (past_cut is_blank t back) [
-  | inl h ↦ elim (v_cut (past is_blank t) back) [
-    | inl g ↦ front_cut (past_v (past is_blank t)) back y (ap front_at (sym g) ∙ ap (λ l. front_at (past_v l)) (sym h.0) ∙ e)
-    | inr g ↦ inr (later_end back (past_v (past is_blank t ++ back)) y.1 g (front_end _ y (ap (λ l. front_at (past_v l)) (sym h.0) ∙ e)))
+opening_cut t back y e = elim (past_cut is_ascii_whitespace t back) [
+  | inl h ↦ elim (v_cut (past is_ascii_whitespace t) back) [
+    | inl g ↦ front_cut (past_v (past is_ascii_whitespace t)) back y (ap front_at (sym g) ∙ ap (λ l. front_at (past_v l)) (sym h.0) ∙ e)
+    | inr g ↦ inr (later_end back (past_v (past is_ascii_whitespace t ++ back)) y.1 g (front_end _ y (ap (λ l. front_at (past_v l)) (sym h.0) ∙ e)))
   ]
-  | inr h ↦ inr (later_end back (past is_blank (t ++ back)) y.1 h (end_of _ (past_v (past is_blank (t ++ back))) y.1 (v_end _) (front_end _ y e)))
+  | inr h ↦ inr (later_end back (past is_ascii_whitespace (t ++ back)) y.1 h (end_of _ (past_v (past is_ascii_whitespace (t ++ back))) y.1 (v_end _) (front_end _ y e)))
 ]
 
 abbrev pub record_of : ℕ → List ℕ → Option Prerelease → Option ℕ → Option ℕ → List Segment → Record

@@ -1,10 +1,11 @@
 -- The front at which the reading stops is the longest that the grammar derives.
+use Rattle.std.specs.Char.{is_ascii_whitespace}
 use Rattle.std.proofs.Common.{◌≡◌, ◌<◌, ◌-◌, ◌==◌, ◌⊎◌, ℕ, suc, zero, Bool, true, false, List, [], ◌∷◌, ◌++◌, refl, sym, ap, ◌∙◌, arith, drop, take, length, inl, inr, Ok, Err, Result, subst}
 use Rattle.std.proofs.lemmas.Bool.{cases_Bool}
 use Rattle.std.proofs.lemmas.List.{length-append}
 use Rattle.std.proofs.Math.Seq.{take-append_seam}
 use Rattle.std.specs.List.{list_all}
-use Rattle.pep440_version.specs.Grammar.{AreBlanks, is_blank, Derives}
+use Rattle.pep440_version.specs.Grammar.{AreBlanks, Derives}
 use Rattle.pep440_version.specs.Reading.{Read, ◌>>=◌, lead, past}
 use Rattle.pep440_version.specs.Record.{Record}
 use Rattle.pep440_version.specs.Refusals.{Refusal, Wildcard, UnexpectedEnd, IsLongest}
@@ -26,8 +27,8 @@ pub data Fault (text : List ℕ) (f : Refusal) : Type 0 where
   AtOpening : opening text ≡ Err f → Fault text f
   AtStar : (x : (ℕ × List ℕ) × List ℕ) → opening text ≡ Ok x → is_star x.1 ≡ true → f ≡ Wildcard → Fault text f
   AtParts : (x : (ℕ × List ℕ) × List ℕ) → opening text ≡ Ok x → is_star x.1 ≡ false → parts_at x.0.0 x.0.1 x.1 ≡ Err f → Fault text f
-  AtEnd : (x : (ℕ × List ℕ) × List ℕ) (z : Record × List ℕ) → Stopped text x z → (length (past is_blank z.1) == 0) ≡ false
-      → f ≡ UnexpectedEnd (take (length text - length (past is_blank z.1)) text) (past is_blank z.1) → Fault text f
+  AtEnd : (x : (ℕ × List ℕ) × List ℕ) (z : Record × List ℕ) → Stopped text x z → (length (past is_ascii_whitespace z.1) == 0) ≡ false
+      → f ≡ UnexpectedEnd (take (length text - length (past is_ascii_whitespace z.1)) text) (past is_ascii_whitespace z.1) → Fault text f
 
 pub fails : {A : Type 0} (x y : Refusal) → (let r : Result A Refusal = Err x in r) ≡ Err y → x ≡ y
 fails {A} x y e = ap (λ (r : Result A Refusal). elim r as (λ _. Refusal) [ Ok z ↦ x | Err f ↦ f ]) e
@@ -37,7 +38,7 @@ fault text f e = by (opening text) refl e
   where
     closed : (x : (ℕ × List ℕ) × List ℕ) → opening text ≡ Ok x → is_star x.1 ≡ false → (r : Read (Record × List ℕ)) → parts_at x.0.0 x.0.1 x.1 ≡ r → version_of (without_star (r >>= end_at text)) ≡ Err f → Fault text f
     closed x o s (Err g) p e = AtParts x o s (p ∙ (λ i. Err (fails {A = Record} g f e i)))
-    closed x o s (Ok z) p e = elim (cases_Bool (length (past is_blank z.1) == 0)) [
+    closed x o s (Ok z) p e = elim (cases_Bool (length (past is_ascii_whitespace z.1) == 0)) [
       | inl h ↦ let none = rw h at e in cc none
       | inr h ↦ let same = rw h at e in AtEnd x z (record { opened = o; star = s; parts = p }) h (sym (fails {A = Record} _ _ same))
     ]
@@ -64,7 +65,7 @@ whole text r e = by (opening text) refl (version_is (read_pattern text) r e)
   where
     closed : (x : (ℕ × List ℕ) × List ℕ) → opening text ≡ Ok x → is_star x.1 ≡ false → (p : Read (Record × List ℕ)) → parts_at x.0.0 x.0.1 x.1 ≡ p → without_star (p >>= end_at text) ≡ Ok (r, false) → Whole text r
     closed x o s (Err g) p e = cc e
-    closed x o s (Ok z) p e = elim (cases_Bool (length (past is_blank z.1) == 0)) [
+    closed x o s (Ok z) p e = elim (cases_Bool (length (past is_ascii_whitespace z.1) == 0)) [
       | inl h ↦
           let on = rw h at e in
           let same : z.0 ≡ r = ap (λ (p : Record × Bool). p.0) (sure (z.0, false) (r, false) on) in
@@ -99,10 +100,10 @@ nothing_more : (a b : List ℕ) → b ≡ a ++ b → length a ≡ 0
 nothing_more a b e = let long = ap length e ∙ length-append a b in omega (arith, long)
 
 -- blanks at the end of a front, when the rest begins with none
-blank_rest : (w rest : List ℕ) → past is_blank (w ++ rest) ≡ rest → AreBlanks w
-blank_rest w rest e = elim (past_cut is_blank w rest) [
+blank_rest : (w rest : List ℕ) → past is_ascii_whitespace (w ++ rest) ≡ rest → AreBlanks w
+blank_rest w rest e = elim (past_cut is_ascii_whitespace w rest) [
   | inl h ↦
-      let none : length (past is_blank w) ≡ 0 = nothing_more (past is_blank w) rest (sym e ∙ h.0) in
+      let none : length (past is_ascii_whitespace w) ≡ 0 = nothing_more (past is_ascii_whitespace w) rest (sym e ∙ h.0) in
       blank_end w (rw none refl)
   | inr h ↦ absurd (not_later rest (subst (IsLater rest) e h))
 ]
@@ -128,17 +129,17 @@ pub front_derived : (front w u : List ℕ) (x : (ℕ × List ℕ) × List ℕ) (
 unfolding derived
 front_derived front w u x r o p blanks = (derived front w x.0.0 x.0.1 u r (opening_takes front (x.0, u) o) (parts_take x.0.0 x.0.1 u (r, w) p) blanks, refl)
 
-front_means : (front : List ℕ) (x : (ℕ × List ℕ) × List ℕ) (z : Record × List ℕ) → Stopped (front ++ past is_blank z.1) x z → Derives front z.0
-front_means front x z s = elim (front_read front (past is_blank z.1) x z s) [
-  | inl h ↦ let d = front_derived front h.1 h.0 x z.0 h.2 h.4 (blank_rest h.1 (past is_blank z.1) (ap (past is_blank) (sym h.5))) in d.0
-  | inr h ↦ absurd (not_later (past is_blank z.1) (later_end (past is_blank z.1) z.1 (past is_blank z.1) h (lead is_blank z.1, split is_blank z.1)))
+front_means : (front : List ℕ) (x : (ℕ × List ℕ) × List ℕ) (z : Record × List ℕ) → Stopped (front ++ past is_ascii_whitespace z.1) x z → Derives front z.0
+front_means front x z s = elim (front_read front (past is_ascii_whitespace z.1) x z s) [
+  | inl h ↦ let d = front_derived front h.1 h.0 x z.0 h.2 h.4 (blank_rest h.1 (past is_ascii_whitespace z.1) (ap (past is_ascii_whitespace) (sym h.5))) in d.0
+  | inr h ↦ absurd (not_later (past is_ascii_whitespace z.1) (later_end (past is_ascii_whitespace z.1) z.1 (past is_ascii_whitespace z.1) h (lead is_ascii_whitespace z.1, split is_ascii_whitespace z.1)))
 ]
 
 second : (x y : (ℕ × List ℕ) × List ℕ) → (let r : Read ((ℕ × List ℕ) × List ℕ) = Ok x in r) ≡ Ok y → x ≡ y
 second x y e = inside x y e
 
 -- what is left of a text is at the end of what follows a front that is derived
-derived_end : (other after : List ℕ) (q : Record) (x : (ℕ × List ℕ) × List ℕ) (z : Record × List ℕ) → Derives other q → Stopped (other ++ after) x z → IsEnd after (past is_blank z.1)
+derived_end : (other after : List ℕ) (q : Record) (x : (ℕ × List ℕ) × List ℕ) (z : Record × List ℕ) → Derives other q → Stopped (other ++ after) x z → IsEnd after (past is_ascii_whitespace z.1)
 derived_end other after q x z d s =
     let o = whole other q (only other q d) in
     elim (front_read other after x z s) [
@@ -146,15 +147,15 @@ derived_end other after q x z d s =
           let same : o.x ≡ (x.0, h.0) = inside o.x (x.0, h.0) (sym o.stopped.opened ∙ h.2) in
           let read : parts_at x.0.0 x.0.1 h.0 ≡ Ok (q, o.rest) = subst (λ (y : (ℕ × List ℕ) × List ℕ). parts_at y.0.0 y.0.1 y.1 ≡ Ok (q, o.rest)) same o.stopped.parts in
           let rest : h.1 ≡ o.rest = ap (λ (p : Record × List ℕ). p.1) (inside (z.0, h.1) (q, o.rest) (sym h.4 ∙ read)) in
-          subst (λ l. IsEnd after (past is_blank l)) (sym h.5) (past_end is_blank h.1 after (subst AreBlanks (sym rest) o.blanks))
-      | inr h ↦ end_of after z.1 (past is_blank z.1) (h.0, h.2) (lead is_blank z.1, split is_blank z.1)
+          subst (λ l. IsEnd after (past is_ascii_whitespace l)) (sym h.5) (past_end is_ascii_whitespace h.1 after (subst AreBlanks (sym rest) o.blanks))
+      | inr h ↦ end_of after z.1 (past is_ascii_whitespace z.1) (h.0, h.2) (lead is_ascii_whitespace z.1, split is_ascii_whitespace z.1)
     ]
 
 pub longest : (text : List ℕ) (x : (ℕ × List ℕ) × List ℕ) (z : Record × List ℕ) → Stopped text x z
-    → let rest : List ℕ = past is_blank z.1 in IsLongest text (take (length text - length rest) text) rest
+    → let rest : List ℕ = past is_ascii_whitespace z.1 in IsLongest text (take (length text - length rest) text) rest
 longest text x z s =
-    let rest : List ℕ = past is_blank z.1 in
-    let cut : IsEnd text rest = end_of text z.1 rest (left text x z s) (lead is_blank z.1, split is_blank z.1) in
+    let rest : List ℕ = past is_ascii_whitespace z.1 in
+    let cut : IsEnd text rest = end_of text z.1 rest (left text x z s) (lead is_ascii_whitespace z.1, split is_ascii_whitespace z.1) in
     let long = ap length cut.1 ∙ length-append cut.0 rest in
     let at : length text - length rest ≡ length cut.0 = omega (arith, long) in
     let front : take (length text - length rest) text ≡ cut.0 = (λ i. take (at i) (cut.1 i)) ∙ take-append_seam cut.0 rest in

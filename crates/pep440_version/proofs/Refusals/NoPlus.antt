@@ -2,10 +2,10 @@
 use Rattle.std.proofs.Common.{◌≡◌, ◌==◌, ◌&&◌, ℕ, Bool, true, false, List, [], ◌∷◌, ◌++◌, refl, sym, ap, arith, drop, length, inl, inr, Option, Some, None, subst, nat_le, map, get_or}
 use Rattle.std.proofs.lemmas.Bool.{cases_Bool}
 use Rattle.std.proofs.lemmas.Bool.Decides.{nat_tests}
-use Rattle.std.specs.Char.{is_ascii_digit, to_ascii_lowercase}
+use Rattle.std.specs.Char.{is_ascii_digit, to_ascii_lowercase, is_ascii_whitespace}
 use Rattle.std.specs.List.{list_all}
 use Rattle.pep440_version.specs.declared.prerelease.Prerelease.{Prerelease}
-use Rattle.pep440_version.specs.Grammar.{IsLeadingV, IsNumber, IsEpoch, IsRelease, is_blank, Spellings, IsSpelled, IsSpelling, IsSeparator, IsCount, is_separator, Derives, IsPre, IsPost, IsDev, IsLocal}
+use Rattle.pep440_version.specs.Grammar.{IsLeadingV, IsNumber, IsEpoch, IsRelease, Spellings, IsSpelled, IsSpelling, IsSeparator, IsCount, is_separator, Derives, IsPre, IsPost, IsDev, IsLocal}
 use Rattle.pep440_version.specs.Record.{Record, Segment}
 use Rattle.pep440_version.proofs.Reading.Fronts.{both_first, both_second}
 use Rattle.pep440_version.proofs.Refusals.ZeroForDigits.{AllLetters, all_letters, letters_of_pre, letters_of_post, letters_of_dev}
@@ -95,9 +95,9 @@ no_local l (s ∷ ss) h e = absurd (omega (arith, e))
 
 pub lacks_derived : (t : List ℕ) (r : Record) → Derives t r → length r.local ≡ 0 → Lacks t
 lacks_derived t r h e = subst Lacks (sym h.cut)
-    (lacks_append h.w1 _ (lacks_of is_blank blank_not_plus h.w1 h.blanks) (lacks_append h.v _ (lacks_v h.v h.letter) (lacks_append h.e _ (lacks_epoch h.e r.epoch h.epoch)
+    (lacks_append h.w1 _ (lacks_of is_ascii_whitespace blank_not_plus h.w1 h.blanks) (lacks_append h.v _ (lacks_v h.v h.letter) (lacks_append h.e _ (lacks_epoch h.e r.epoch h.epoch)
     (lacks_append h.n _ (lacks_release h.n r.release h.release) (lacks_append h.p _ (lacks_pre h.p _ r.pre h.pre) (lacks_append h.q _ (lacks_post h.q _ r.post h.post)
-    (lacks_append h.d _ (lacks_dev h.d _ r.dev h.dev) (lacks_append h.l h.w2 (subst Lacks (sym (no_local h.l r.local h.local e)) refl) (lacks_of is_blank blank_not_plus h.w2 h.end)))))))))
+    (lacks_append h.d _ (lacks_dev h.d _ r.dev h.dev) (lacks_append h.l h.w2 (subst Lacks (sym (no_local h.l r.local h.local e)) refl) (lacks_of is_ascii_whitespace blank_not_plus h.w2 h.end)))))))))
 
 pub lacks_front : (a b : List ℕ) → Lacks (a ++ b) → Lacks a
 lacks_front [] b h = refl

@@ -2,9 +2,9 @@
 use Rattle.std.proofs.Common.{◌≡◌, ◌≤◌, ◌==◌, ◌&&◌, ◌||◌, ◌⊎◌, ℕ, suc, zero, Bool, true, false, List, [], ◌∷◌, ◌++◌, refl, sym, ap, ◌∙◌, arith, drop, length, inl, inr, Ok, Err, None, codes, eqb-true}
 use Rattle.std.proofs.lemmas.Bool.{cases_Bool}
 use Rattle.std.proofs.lemmas.List.{append_assoc, append-nil, length-append, append_cancel_right}
-use Rattle.std.specs.Char.{is_ascii_digit, to_ascii_lowercase}
+use Rattle.std.specs.Char.{is_ascii_digit, to_ascii_lowercase, is_ascii_whitespace}
 use Rattle.std.specs.List.{list_all, prefix_len}
-use Rattle.pep440_version.specs.Grammar.{is_blank, starts, is_v}
+use Rattle.pep440_version.specs.Grammar.{starts, is_v}
 use Rattle.pep440_version.specs.Locals.{starts_local, local_at}
 use Rattle.pep440_version.specs.Reading.{Read, ◌>>=◌, lead, past, starts_number, past_v, number_at, goes_on, release_at}
 use Rattle.pep440_version.specs.Refusals.{Refusal, NumberTooBig, NoLeadingNumber, NoLeadingReleaseNumber, ends}
@@ -155,10 +155,10 @@ v_stays (b ∷ t) z s = elim (cases_Bool (is_v b)) [ inl h ↦ rw h refl | inr h
 
 pub opening_twins : Twins opening
 opening_twins front d after r e =
-    let later : List ℕ = past_v (past is_blank front) in
-    let end : IsEnd front later = end_of front (past is_blank front) later (lead is_blank front, split is_blank front) (v_end (past is_blank front)) in
+    let later : List ℕ = past_v (past is_ascii_whitespace front) in
+    let end : IsEnd front later = end_of front (past is_ascii_whitespace front) later (lead is_ascii_whitespace front, split is_ascii_whitespace front) (v_end (past is_ascii_whitespace front)) in
     twin_after opening front_at front later d after r end
-    (λ z s. ap (λ l. front_at (past_v l)) (past_stays is_blank front z (starts_not is_ascii_digit is_blank digit_not_blank z s)) ∙ ap front_at (v_stays (past is_blank front) z (starts_not is_ascii_digit is_v digit_not_v z s)))
+    (λ z s. ap (λ l. front_at (past_v l)) (past_stays is_ascii_whitespace front z (starts_not is_ascii_digit is_ascii_whitespace digit_not_blank z s)) ∙ ap front_at (v_stays (past is_ascii_whitespace front) z (starts_not is_ascii_digit is_v digit_not_v z s)))
     (front_twins later d after r (ends_end is_ascii_digit front later end e))
 
 pub star_stays : (u z : List ℕ) → starts_number z ≡ true → is_star (u ++ z) ≡ is_star u

@@ -210,7 +210,7 @@ all_more : {A : Type 0} (P : A → Type 0) (x : A) (xs : List A) → P x → All
 all_more P x xs one more zero d lt = one
 all_more P x xs one more (suc k) d lt = more k d (omega (arith, lt))
 
-none_all : {A : Type 0} (P : A → Type 0) → All P []
+pub none_all : {A : Type 0} (P : A → Type 0) → All P []
 none_all P k d lt = absurd (omega (arith, lt))
 
 segments_are : (text : List ℕ) (local : List Segment) → AreSegments text local → All SegmentFits local × All SegmentRereads local
@@ -223,7 +223,7 @@ segments_are text (s ∷ t ∷ rest) (first, after, b, h, sep, more, cut) =
     let others = segments_are after (t ∷ rest) more in
     (all_more SegmentFits s (t ∷ rest) one.0 others.0, all_more SegmentRereads s (t ∷ rest) one.1 others.1)
 
-local_is : (part : List ℕ) (local : List Segment) → IsLocal part local → All SegmentFits local × All SegmentRereads local
+pub local_is : (part : List ℕ) (local : List Segment) → IsLocal part local → All SegmentFits local × All SegmentRereads local
 local_is part [] h = (none_all SegmentFits, none_all SegmentRereads)
 local_is part (s ∷ rest) (text, h, cut) = segments_are text (s ∷ rest) h
 

@@ -8,14 +8,14 @@ use Rattle.pep440_version.specs.Record.{Record, Segment}
 use Rattle.pep440_version.specs.Word.{is_short, is_small, is_packed, suffix, suffix_of}
 use Rattle.pep440_version.proofs.Word.Suffixes.{Suffix, Min, Dev, Alpha, Beta, Rc, Plain, Post, Max, class_of, number_of, record_of}
 
-both : (a b : Bool) → (a && b) ≡ true → (a ≡ true) × (b ≡ true)
+pub both : (a b : Bool) → (a && b) ≡ true → (a ≡ true) × (b ≡ true)
 both true b e = (refl, e)
 both false b e = cc e
 
-below : (a b : ℕ) → nat_le a b ≡ true → a ≤ b
+pub below : (a b : ℕ) → nat_le a b ≡ true → a ≤ b
 below a b e = grind (arith, nat_tests)
 
-same : (a b : ℕ) → (a == b) ≡ true → a ≡ b
+pub same : (a b : ℕ) → (a == b) ≡ true → a ≡ b
 same a b e = grind (arith, nat_tests)
 
 pub record IsShort (release : List ℕ) : Type 0 where

@@ -20,7 +20,7 @@ unfolding front
 as_fields xs s = omega arith
 
 -- the class and the number of a suffix, in its word
-in_word : (xs : List ℕ) (s : Suffix) → number_of s ≤ 2097151 → (class_in (word_at xs s) ≡ class_of s) × (number_in (word_at xs s) ≡ number_of s)
+pub in_word : (xs : List ℕ) (s : Suffix) → number_of s ≤ 2097151 → (class_in (word_at xs s) ≡ class_of s) × (number_in (word_at xs s) ≡ number_of s)
 in_word xs s low =
     let f = fields (front xs) (class_of s) (number_of s) (class_lt s) (omega arith) in
     (ap class_in (as_fields xs s) ∙ f.0, ap number_in (as_fields xs s) ∙ f.1)

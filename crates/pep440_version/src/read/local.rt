@@ -1,5 +1,5 @@
 //! The reader of local parts.
-ghost use Rattle.std.specs.Prelude.{◌≡◌, ◌<◌, ℕ, List, [], Ok, IsOk, true, length, map, IfOk, Some};
+ghost use Rattle.std.specs.Prelude.{◌≡◌, ◌<◌, ◌++◌, ◌∷◌, ℕ, List, [], Ok, IsOk, OnOk, true, length, map, IfOk, Some};
 ghost use Rattle.std.specs.Char.{is_ascii_alphanumeric};
 ghost use Rattle.std.specs.List.{list_all};
 ghost use Rattle.pep440_version.specs.Errors.{Gives, refusal_of};
@@ -35,6 +35,12 @@ fn local_empty(precursor: u8) -> ErrorKind
     }
 }
 
+fn push_segment(segments: &mut Vec<LocalSegment>, part: LocalSegment) -> Result<(), AllocError>
+    ensures { OnOk result (segments.new.items ≡ segments.old.items ++ part ∷ []) }
+{
+    Ok(segments.push(part)?)
+}
+
 // The segments at the front, and what follows them.
 fn segments_at(alloc: Global, text: &str) -> Result<(Vec<LocalSegment>, &str), ErrorKind>
     ensures { Gives (λ x. (map segment x.0.items, x.1.now)) result (segments_at (length text.now) 43 text.now) }
@@ -47,7 +53,7 @@ fn segments_at(alloc: Global, text: &str) -> Result<(Vec<LocalSegment>, &str), E
         if front.is_empty() {
             return Err(local_empty(precursor));
         }
-        segments.push(segment_of(alloc, front)?)?;
+        push_segment(&mut segments, segment_of(alloc, front)?)?;
         match scan::separator_at(after) {
             None => return Ok((segments, after)),
             Some(separator) => precursor = separator,

@@ -1,42 +1,18 @@
 //! Runs of bytes, and cuts of a text.
 ghost use Rattle.std.specs.Prelude.{◌≡◌, ◌<◌, ◌≤◌, ◌-◌, ◌^◌, ◌==◌, true, Some, None, length, option_map, nat_lt, take, drop, slice_index, if◌then◌else◌};
-ghost use Rattle.std.specs.Char.{is_ascii_digit, is_ascii_alphanumeric};
+ghost use Rattle.std.specs.Char.{is_ascii_digit, is_ascii_alphanumeric, is_ascii_whitespace};
 ghost use Rattle.std.specs.List.{list_all, prefix_len};
 ghost use Rattle.std.specs.Str.Parse.{digits_value};
-ghost use Rattle.pep440_version.specs.Grammar.{is_blank, starts, is_separator, is_v};
+ghost use Rattle.pep440_version.specs.Grammar.{starts, is_separator, is_v};
 ghost use Rattle.pep440_version.specs.Locals.{first_byte};
 ghost use Rattle.pep440_version.specs.Reading.{lead, past, past_v, EndsWith};
 ghost use Rattle.pep440_version.specs.Suffixes.{begins, past_separator};
-
-// A byte that may stand before and after a version.
-fn is_blank(byte: u8) -> bool
-    ensures { result ≡ is_blank byte }
-{
-    matches!(byte, 9 | 10 | 12 | 13 | 32)
-}
-
-fn blanks_len(text: &[u8]) -> usize
-    ensures count { result ≡ prefix_len is_blank text.now }
-    ensures inside { result ≤ length text.now }
-{
-    for i in 0..text.len() {
-        if !is_blank(text[i]) {
-            return i;
-        }
-    }
-    text.len()
-}
 
 fn digits_len(text: &[u8]) -> usize
     ensures count { result ≡ prefix_len is_ascii_digit text.now }
     ensures inside { result ≤ length text.now }
 {
-    for i in 0..text.len() {
-        if !text[i].is_ascii_digit() {
-            return i;
-        }
-    }
-    text.len()
+    text.iter().take_while(|byte| byte.is_ascii_digit()).count()
 }
 
 // The text in two, after an ASCII byte.
@@ -50,9 +26,9 @@ fn cut(text: &str, at: usize) -> (&str, &str)
 }
 
 pub(crate) fn past_blanks(text: &str) -> &str
-    ensures { result.now ≡ past is_blank text.now }
+    ensures { result.now ≡ past is_ascii_whitespace text.now }
 {
-    cut(text, blanks_len(text.as_bytes())).1
+    text.trim_ascii_start()
 }
 
 pub(crate) fn split_digits(text: &str) -> (&str, &str)
@@ -135,12 +111,9 @@ fn alphanumerics_len(text: &[u8]) -> usize
     ensures count { result ≡ prefix_len is_ascii_alphanumeric text.now }
     ensures inside { result ≤ length text.now }
 {
-    for i in 0..text.len() {
-        if !text[i].is_ascii_alphanumeric() {
-            return i;
-        }
-    }
-    text.len()
+    text.iter()
+        .take_while(|byte| byte.is_ascii_alphanumeric())
+        .count()
 }
 
 pub(crate) fn split_alphanumerics(text: &str) -> (&str, &str)

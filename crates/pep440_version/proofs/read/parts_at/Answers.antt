@@ -1,3 +1,7 @@
+use Rattle.std.proofs.Common.{map}
+use Rattle.pep440_version.specs.Segments.{segment}
+use Rattle.pep440_version.proofs.Reading.LocalAgrees.{local_takes}
+use Rattle.pep440_version.proofs.Reread.PrintIsRead.{local_is}
 use Rattle.pep440_version.proofs.Reading.WithoutMemory.{pre_too, post_too, local_too, no_local}
 use Rattle.pep440_version.proofs.read.parts_at.Goals as goal
 
@@ -16,3 +20,8 @@ returns-in_err-local-clause-memory c = λ x e fits.
     let l = local_too c.args.epoch c.args.release c.args.text.now c.in_ok-pre.after_pre.now c.in_ok-post.after_post.now c.in_ok-dev.after_dev.now c.in_ok-pre.pre c.in_ok-post.post c.in_ok-dev.dev x
     c.in_ok-pre.ensures.reads c.in_ok-post.ensures.reads c.in_ok-dev.ensures.reads e in
     cc (c.in_err-local.ensures.memory l.0 l.1 (no_local x.0 l.0.0 l.2 fits))
+
+pub of_parts-requires-clause-fits : goal.of_parts-requires-clause-fits
+of_parts-requires-clause-fits c =
+    let l = local_takes c.in_ok-dev.after_dev.now (map segment c.in_ok-local.local.items, c.in_ok-local.rest.now) c.in_ok-local.ensures.reads in
+    (local_is l.0 (map segment c.in_ok-local.local.items) l.1).0

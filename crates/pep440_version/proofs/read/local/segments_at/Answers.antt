@@ -18,7 +18,7 @@ returns-in-None c =
     let left : ℕ = length c.args.text.now - (c.loop-round.round + 1) in
     let fuel : length c.args.text.now - c.loop-round.round ≡ suc left = omega arith in
     let some = sym c.is_empty.ensures ∙ c.if-is_empty.false in
-    sym c.loop-round.invariant.1 ∙ rw (fuel, c.in_ok-push.ensures.items)
+    sym c.loop-round.invariant.1 ∙ rw (fuel, c.in_ok-push_segment.ensures)
     (segments_end segment c.loop-round.segments.items c.in_ok-segment_of.field-0 left c.loop-round.precursor c.loop-round.rest.now c.split_alphanumerics.result.0.now c.split_alphanumerics.result.1.now
     c.split_alphanumerics.ensures.front c.split_alphanumerics.ensures.back some c.in-None.ensures c.in_ok-segment_of.ensures)
 
@@ -28,7 +28,7 @@ loop-round-preserved c =
     let fuel : length c.args.text.now - c.loop-round.round ≡ suc left = omega arith in
     let some = sym c.is_empty.ensures ∙ c.if-is_empty.false in (
       c.past_ascii-rest.utf8,
-      rw (c.in_ok-push.ensures.items, c.past_ascii-rest.ensures)
+      rw (c.in_ok-push_segment.ensures, c.past_ascii-rest.ensures)
           (sym (segments_on segment c.loop-round.segments.items c.in_ok-segment_of.field-0 left c.loop-round.precursor c.in-Some.separator c.loop-round.rest.now c.split_alphanumerics.result.0.now c.split_alphanumerics.result.1.now
           c.split_alphanumerics.ensures.front c.split_alphanumerics.ensures.back some c.in-Some.ensures c.in_ok-segment_of.ensures) ∙ rw (sym fuel) c.loop-round.invariant.1),
     )

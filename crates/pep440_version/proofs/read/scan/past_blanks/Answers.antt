@@ -1,6 +1,5 @@
-use Rattle.pep440_version.specs.Grammar.{is_blank}
-use Rattle.pep440_version.proofs.Reading.Fronts.{front_ascii, blank_ascii}
+use Rattle.std.proofs.lemmas.Str.Ascii.{trim_ascii_start_is}
 use Rattle.pep440_version.proofs.read.scan.past_blanks.Goals as goal
 
-pub cut-requires-clause-ascii : goal.cut-requires-clause-ascii
-cut-requires-clause-ascii c = rw (c.blanks_len.ensures.count, c.as_bytes.ensures.value) (front_ascii is_blank blank_ascii c.args.text.now)
+pub returns : goal.returns
+returns c = trim_ascii_start_is c.args.text.now c.trim_ascii_start.result.now c.trim_ascii_start.ensures.value

@@ -1,7 +1,16 @@
 use Rattle.std.proofs.Common.{false}
 use Rattle.pep440_version.specs.Whole.{read_pattern}
-use Rattle.pep440_version.proofs.Reading.Agreement.{version_is}
+use Rattle.pep440_version.proofs.Reading.Agreement.{opening_ends, opening_some, version_is}
+use Rattle.pep440_version.proofs.Reading.WithoutMemory.{opened_too}
 use Rattle.pep440_version.proofs.version.Version.read_whole.Goals as goal
 
-pub returns-in-Err-Version-clause-memory : goal.returns-in-Err-Version-clause-memory
-returns-in-Err-Version-clause-memory c = λ r e fits. cc (c.in-Err-Version.ensures.memory (r, false) (version_is (read_pattern c.args.text.now) r e) fits)
+pub closing-requires-clause-some : goal.closing-requires-clause-some
+closing-requires-clause-some c = opening_some c.args.text.now _ c.in_ok-epoch.ensures.reads
+
+pub closing-requires-clause-at_end : goal.closing-requires-clause-at_end
+closing-requires-clause-at_end c = opening_ends c.args.text.now _ c.in_ok-epoch.ensures.reads
+
+pub returns-in_err-epoch-clause-memory : goal.returns-in_err-epoch-clause-memory
+returns-in_err-epoch-clause-memory c = λ r e fits.
+    let o = opened_too c.args.text.now (r, false) (version_is (read_pattern c.args.text.now) r e) fits in
+    cc (c.in_err-epoch.ensures.memory o.0 o.1 o.2)
