@@ -18,5 +18,5 @@ pub mod SegmentsInTurn
 pub mod AfterSpelling
 pub mod PublicAnswers
 pub mod AfterFirstNumber
-pub mod ShortReleases
+pub mod NormalVersions
 pub mod WithoutMemory

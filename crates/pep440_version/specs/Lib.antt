@@ -9,6 +9,7 @@ pub mod Form
 pub mod WordParts
 pub mod Print
 pub mod Grammar
+pub mod Normal
 pub mod Reading
 pub mod Errors
 pub mod Suffixes

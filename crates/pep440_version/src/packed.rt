@@ -1,7 +1,7 @@
 //! A packed version: its release, and the word of the release and of the one suffix that there may be.
-ghost use Rattle.std.specs.Prelude.{◌≡◌, ◌+◌, ◌*◌, ◌^◌, ◌<◌, ◌≤◌, ◌&&◌, nat_le, true, false, None, length, slice_index, IfSome, IfNone, if◌then◌else◌};
-ghost use Rattle.pep440_version.specs.Form.{IsWord, class_in, class_of_field, dev_class, full_record, max_class, min_class, number_in, number_of_class, packed_record, post_class, pre_at, word_with, word_with_number};
-ghost use Rattle.pep440_version.specs.Record.{of_release};
+ghost use Rattle.std.specs.Prelude.{◌≡◌, ◌+◌, ◌*◌, ◌^◌, ◌<◌, ◌≤◌, ◌&&◌, nat_le, true, false, None, length, slice_index, take, IfSome, IfNone, if◌then◌else◌};
+ghost use Rattle.pep440_version.specs.Form.{IsWord, class_in, class_of_field, dev_class, full_record, max_class, min_class, number_in, number_of_class, packed_record, post_class, pre_at, record_in, word_with, word_with_number};
+ghost use Rattle.pep440_version.specs.Normal.{IsPadded, IsKnown};
 ghost use Rattle.pep440_version.specs.Word.{is_packed, is_short, suffix};
 
 use crate::full::Full;
@@ -11,26 +11,26 @@ use crate::prerelease::{Prerelease, PrereleaseKind};
 // The classes of a suffix; a higher one stands above a lower one.
 const MIN: u64 = 0;
 
-const DEV: u64 = 1;
+pub(crate) const DEV: u64 = 1;
 
-const ALPHA: u64 = 2;
+pub(crate) const ALPHA: u64 = 2;
 
-const BETA: u64 = 3;
+pub(crate) const BETA: u64 = 3;
 
-const RC: u64 = 4;
+pub(crate) const RC: u64 = 4;
 
-const NONE: u64 = 5;
+pub(crate) const NONE: u64 = 5;
 
-const POST: u64 = 6;
+pub(crate) const POST: u64 = 6;
 
 const MAX: u64 = 7;
 
 // The greatest numbers that fit into their bits: the first of a release, each other one, and that of a suffix.
-pub(crate) const MAX_FIRST_NUMBER: u64 = 65535;
+const MAX_FIRST_NUMBER: u64 = 65535;
 
 const MAX_OTHER_NUMBER: u64 = 255;
 
-const MAX_SUFFIX_NUMBER: u64 = 2097151;
+pub(crate) const MAX_SUFFIX_NUMBER: u64 = 2097151;
 
 // The fields that are a number, each with a class of its own.
 #[derive(Clone, Copy)]
@@ -244,21 +244,26 @@ impl Packed {
         })
     }
 
-    // A release alone, packed where it can be.
-    pub(crate) fn of_release(release: &[u64]) -> Option<Packed>
-        ensures none { IfNone result (is_short release.now ≡ false) }
-        ensures some { IfSome result (λ p. IsWord p.count p.word p.numbers × (packed_record p.count p.word p.numbers ≡ of_release release.now)) }
+    // Up to four numbers and one suffix packed, where it can be.
+    #[inline(always)]
+    pub(crate) fn of_suffix(
+        numbers: [u64; 4],
+        count: usize,
+        class: u64,
+        number: u64,
+    ) -> Option<Packed>
+        requires padded { IsPadded count numbers }
+        requires known { IsKnown class number }
+        requires small { number ≤ 2097151 }
+        ensures none { IfNone result (is_short (take count numbers) ≡ false) }
+        ensures some { IfSome result (λ p. IsWord p.count p.word p.numbers × (packed_record p.count p.word p.numbers ≡ record_in (take count numbers) class number)) }
     {
-        if release.len() > 4 {
-            return None;
-        }
-        let numbers = padded(release);
         if !are_small(numbers) {
             return None;
         }
         Some(Packed {
-            count: release.len() as u8,
-            word: word_of(numbers, NONE, 0),
+            count: count as u8,
+            word: word_of(numbers, class, number),
             numbers,
         })
     }

@@ -12,14 +12,14 @@ ghost use Rattle.pep440_version.specs.Word.{is_packed};
 ghost use Rattle.pep440_version.specs.Whole.{release_after_first, front_at, opening, parts_at, end_at, closing, is_star, read_pattern, read_version};
 
 mod local;
+mod normal;
 mod number;
 mod scan;
-mod short;
 mod suffix;
 
 use self::local::local_at;
+pub(crate) use self::normal::normal_version;
 use self::number::{number_at, release_from, starts_number};
-pub(crate) use self::short::short_version;
 use self::suffix::{dev_at, post_at, pre_at};
 use crate::error::{ErrorKind, PatternErrorKind, VersionParseError, VersionPatternParseError};
 use crate::numbers::Release;
@@ -177,7 +177,7 @@ impl Version {
         ensures reads { Answers error_refusal result (read_version text.now) }
         ensures memory { (r : Record) → read_version text.now ≡ Ok r → is_packed r ≡ true → IsOk result }
     {
-        match short_version(text) {
+        match normal_version(text) {
             Some(version) => Ok(version),
             None => Version::read_whole(alloc, text),
         }

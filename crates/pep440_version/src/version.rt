@@ -1,10 +1,10 @@
 //! The type `Version`: how one is made, and its parts.
-ghost use Rattle.std.specs.Prelude.{◌≡◌, ◌<◌, ◌||◌, ◌↔◌, [], ◌∷◌, length, Some, None, IfNone, IfOk, IfSome, IsOk, IsTrue, map, is_some, is_none, if◌then◌else◌, true, false};
+ghost use Rattle.std.specs.Prelude.{◌≡◌, ◌<◌, ◌||◌, ◌↔◌, [], ◌∷◌, length, Some, None, IfOk, IfSome, IsOk, IsTrue, map, is_some, is_none, if◌then◌else◌, true, false};
 ghost use Rattle.std.specs.List.{All};
 ghost use Rattle.pep440_version.specs.Form.{IsWord, full_record, packed_record, with_field};
 ghost use Rattle.pep440_version.specs.Record.{of_parts, of_release, zero_alpha_dev, IsRecord, SegmentFits};
 ghost use Rattle.pep440_version.specs.Segments.{segment};
-ghost use Rattle.pep440_version.specs.Word.{is_packed, is_short, word};
+ghost use Rattle.pep440_version.specs.Word.{is_packed, word};
 ghost use Rattle.std.specs.Option.{option_copied};
 
 use crate::full::Full;
@@ -116,17 +116,6 @@ impl Version {
                 numbers,
             },
         }
-    }
-
-    // The version that is this release alone, where it can be packed.
-    pub(crate) fn of_short(release: &[u64]) -> Option<Version>
-        requires { 0 < length release.now }
-        ensures none { IfNone result (is_short release.now ≡ false) }
-        ensures some { IfSome result (λ v. v ≡ of_release release.now) }
-    {
-        known_numbers(release);
-        let packed = Packed::of_release(release)?;
-        Some(Version::of_packed(packed))
     }
 
     // The version with this number in the field, where both are packed.

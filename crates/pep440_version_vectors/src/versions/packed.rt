@@ -30,7 +30,7 @@ fn marked(
 }
 
 // A text, and the word of its version; none where it is held in full.
-const TEXTS: [(&str, Option<u64>); 19] = [
+const TEXTS: [(&str, Option<u64>); 30] = [
     ("0", Some(0x0000_0000_00a0_0000)),
     ("1.2.3", Some(0x0001_0203_00a0_0000)),
     ("2023.3", Some(0x07e7_0300_00a0_0000)),
@@ -50,6 +50,18 @@ const TEXTS: [(&str, Option<u64>); 19] = [
     ("1.0+x", None),
     ("1.0a1.dev0", None),
     ("1.0.post2097152", None),
+    // the fast path and, where the spelling is another one, the whole reader
+    ("v1.2.3", Some(0x0001_0203_00a0_0000)),
+    ("V65535.255.255.255.dev2097151", Some(0xffff_ffff_ff3f_ffff)),
+    ("1.0rc01", Some(0x0001_0000_0080_0001)),
+    ("1.0.rc1", Some(0x0001_0000_0080_0001)),
+    ("1.0c1", Some(0x0001_0000_0080_0001)),
+    ("1.0.post1", Some(0x0001_0000_00c0_0001)),
+    ("1.0-1", Some(0x0001_0000_00c0_0001)),
+    ("1.0.dev", Some(0x0001_0000_0020_0000)),
+    ("1.256rc1", None),
+    ("65536.post1", None),
+    ("1.0.post1.dev1", None),
 ];
 
 // Whether this is the word of the version and of its copy.

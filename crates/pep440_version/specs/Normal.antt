@@ -1,0 +1,26 @@
+-- Few release numbers and one suffix in its normal spelling (PEP 440, "Normalization").
+use Rattle.std.specs.Prelude.{◌≡◌, ℕ, ◌≤◌, ◌<◌, ◌⊎◌, ◌==◌, ◌++◌, List, [], codes, length, slice_index, if◌then◌else◌}
+use Rattle.pep440_version.specs.Grammar.{IsNumber}
+
+-- the first numbers of four, with zeros behind them
+pub record IsPadded (count : ℕ) (numbers : List ℕ) : Type 0 where
+  pub some : 0 < count
+  pub few : count ≤ 4
+  pub four : length numbers ≡ 4
+  pub zeros : (k : ℕ) → count ≤ k → slice_index numbers k ≡ 0
+
+-- the classes of a suffix that a text can have: dev, alpha, beta, rc and post
+abbrev pub IsClass : ℕ → Type 0
+IsClass class = (class ≡ 1) ⊎ (class ≡ 2) ⊎ (class ≡ 3) ⊎ (class ≡ 4) ⊎ (class ≡ 6)
+
+-- the normal spelling of a class, with the dot before it
+abbrev pub spelling : ℕ → List ℕ
+spelling class = if class == 1 then codes ".dev" else (if class == 2 then codes "a" else (if class == 3 then codes "b" else (if class == 4 then codes "rc" else codes ".post")))
+
+-- the text is a suffix of this class and number, or is empty, which is class 5
+abbrev pub IsSuffix : List ℕ → ℕ → ℕ → Type 0
+IsSuffix text class n = ((text ≡ []) × (class ≡ 5) × (n ≡ 0)) ⊎ (IsClass class × ((digits : List ℕ) × IsNumber digits n × (text ≡ spelling class ++ digits)))
+
+-- the same of a class and a number alone
+abbrev pub IsKnown : ℕ → ℕ → Type 0
+IsKnown class n = ((class ≡ 5) × (n ≡ 0)) ⊎ IsClass class

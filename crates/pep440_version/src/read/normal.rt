@@ -1,0 +1,102 @@
+//! The fast path: what indexes mostly have, the letter `v`, up to four small numbers and one suffix in its normal
+//! spelling, read byte by byte.
+ghost use Rattle.std.specs.Prelude.{◌≡◌, ◌≤◌, ◌++◌, ◌∷◌, ℕ, List, IfSome, take};
+ghost use Rattle.pep440_version.specs.Grammar.{Derives, IsNumber, IsRelease};
+ghost use Rattle.pep440_version.specs.Normal.{IsClass, IsPadded, IsSuffix, spelling};
+
+use super::past_v;
+use crate::packed::{ALPHA, BETA, DEV, MAX_SUFFIX_NUMBER, NONE, POST, Packed, RC};
+use crate::version::Version;
+
+// The number at the front, where it is small, and what follows it.
+#[inline(always)]
+fn small_number(text: &[u8]) -> Option<(u64, &[u8])>
+    ensures { IfSome result (λ x. (digits : List ℕ) × IsNumber digits x.0 × (x.0 ≤ 2097151) × (text.now ≡ digits ++ x.1.now)) }
+{
+    let (first, rest) = text.split_first()?;
+    if !first.is_ascii_digit() {
+        return None;
+    }
+    let mut number = u64::from(*first - b'0');
+    for i in 0..rest.len() {
+        if !rest[i].is_ascii_digit() {
+            return Some((number, &rest[i..]));
+        }
+        number = number * 10 + u64::from(rest[i] - b'0');
+        if number > MAX_SUFFIX_NUMBER {
+            return None;
+        }
+    }
+    Some((number, &[]))
+}
+
+// The small number after a dot, and what follows it.
+#[inline(always)]
+fn next_number(text: &[u8]) -> Option<(u64, &[u8])>
+    ensures { IfSome result (λ x. (digits : List ℕ) × IsNumber digits x.0 × (x.0 ≤ 2097151) × (text.now ≡ 46 ∷ (digits ++ x.1.now))) }
+{
+    match text {
+        [b'.', rest @ ..] => small_number(rest),
+        _ => None,
+    }
+}
+
+// Up to four small numbers with dots between them, how many there are, and what follows them.
+#[inline(always)]
+fn small_release(text: &[u8]) -> Option<([u64; 4], usize, &[u8])>
+    ensures { IfSome result (λ x. IsPadded x.1 x.0 × ((release : List ℕ) × IsRelease release (take x.1 x.0) × (text.now ≡ release ++ x.2.now))) }
+{
+    let (first, mut rest) = small_number(text)?;
+    let mut numbers = [first, 0, 0, 0];
+    for count in 1..4 {
+        let Some((number, after)) = next_number(rest) else {
+            return Some((numbers, count, rest));
+        };
+        numbers[count] = number;
+        rest = after;
+    }
+    Some((numbers, 4, rest))
+}
+
+// The class of the suffix whose normal spelling stands at the front, and what follows the spelling.
+#[inline(always)]
+fn spelled_class(text: &[u8]) -> Option<(u64, &[u8])>
+    ensures { IfSome result (λ x. IsClass x.0 × (text.now ≡ spelling x.0 ++ x.1.now)) }
+{
+    match text {
+        [b'a', rest @ ..] => Some((ALPHA, rest)),
+        [b'b', rest @ ..] => Some((BETA, rest)),
+        [b'r', b'c', rest @ ..] => Some((RC, rest)),
+        [b'.', b'p', b'o', b's', b't', rest @ ..] => Some((POST, rest)),
+        [b'.', b'd', b'e', b'v', rest @ ..] => Some((DEV, rest)),
+        _ => None,
+    }
+}
+
+// The class and the number of the one normal suffix that the text is.
+#[inline(always)]
+fn normal_suffix(text: &[u8]) -> Option<(u64, u64)>
+    ensures { IfSome result (λ s. IsSuffix text.now s.0 s.1 × (s.1 ≤ 2097151)) }
+{
+    if text.is_empty() {
+        return Some((NONE, 0));
+    }
+    let (class, digits) = spelled_class(text)?;
+    let (number, rest) = small_number(digits)?;
+    if rest.is_empty() {
+        Some((class, number))
+    } else {
+        None
+    }
+}
+
+// What the text parses to, where it is of this form; None says nothing.
+#[inline(always)]
+pub(crate) fn normal_version(text: &str) -> Option<Version>
+    ensures { IfSome result (λ v. Derives text.now v) }
+{
+    let (numbers, count, rest) = small_release(past_v(text).as_bytes())?;
+    let (class, number) = normal_suffix(rest)?;
+    let packed = Packed::of_suffix(numbers, count, class, number)?;
+    Some(Version::of_packed(packed))
+}
