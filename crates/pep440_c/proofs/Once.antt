@@ -15,7 +15,7 @@ use Rattle.pep440_version.specs.Grammar.{Derives}
 use Rattle.pep440_version.specs.Record.{Record}
 use Rattle.pep440_version.specs.Refusals.{Refusal, Refuses}
 use Rattle.pep440_c.proofs.Refused.{no_list_text, no_text}
-use Rattle.pep440_c.specs.Answers.{HasNoRange, IsRange}
+use Rattle.pep440_c.specs.Answers.{HasNoRange, IsRangeText}
 use Rattle.pep440_c.specs.Meaning.{MeansBytes, MeansListBytes, RefusesBytes, RefusesListBytes, TellsWhy, TellsWhyNoList}
 
 no_utf8 : (bytes : List ℕ) → is_utf8 bytes ≡ false → ¬ IsUtf8 bytes
@@ -83,29 +83,29 @@ text_of (Some range) = range_lines range
 same_range : (bytes : List ℕ) (l m : List Spec) (o p : Option Segments) → MeansListBytes bytes l → MeansListBytes bytes m → list_range range_of l ≡ o → list_range range_of m ≡ p → o ≡ p
 same_range bytes l m o p means other is also = sym is ∙ ap (λ (list : List Spec). list_range range_of list) (one_bytes_list bytes l m means other) ∙ also
 
-pub one_range : (bytes words others : List ℕ) → IsRange bytes words → IsRange bytes others → words ≡ others
+pub one_range : (bytes words others : List ℕ) → IsRangeText bytes words → IsRangeText bytes others → words ≡ others
 one_range bytes words others (l, s, means, is, w) (m, t, other, also, o) = w ∙ ap text_of (same_range bytes l m (Some s) (Some t) means other is also) ∙ sym o
 
-range_by_option : (bytes : List ℕ) (l : List Spec) (o : Option Segments) → MeansListBytes bytes l → list_range range_of l ≡ o → ((words : List ℕ) × IsRange bytes words) ⊎ HasNoRange bytes
+range_by_option : (bytes : List ℕ) (l : List Spec) (o : Option Segments) → MeansListBytes bytes l → list_range range_of l ≡ o → ((words : List ℕ) × IsRangeText bytes words) ⊎ HasNoRange bytes
 range_by_option bytes l None means is = inr (l, means, is)
 range_by_option bytes l (Some range) means is = inl (range_lines range, (l, range, means, is, refl))
 
-or_none : (bytes : List ℕ) → ((words : List ℕ) × IsRange bytes words) ⊎ HasNoRange bytes → ((words : List ℕ) × IsRange bytes words) ⊎ (RefusesListBytes bytes ⊎ HasNoRange bytes)
+or_none : (bytes : List ℕ) → ((words : List ℕ) × IsRangeText bytes words) ⊎ HasNoRange bytes → ((words : List ℕ) × IsRangeText bytes words) ⊎ (RefusesListBytes bytes ⊎ HasNoRange bytes)
 or_none bytes (inl found) = inl found
 or_none bytes (inr none) = inr (inr none)
 
-range_of_either : (bytes : List ℕ) → ((l : List Spec) × MeansListBytes bytes l) ⊎ RefusesListBytes bytes → ((words : List ℕ) × IsRange bytes words) ⊎ (RefusesListBytes bytes ⊎ HasNoRange bytes)
+range_of_either : (bytes : List ℕ) → ((l : List Spec) × MeansListBytes bytes l) ⊎ RefusesListBytes bytes → ((words : List ℕ) × IsRangeText bytes words) ⊎ (RefusesListBytes bytes ⊎ HasNoRange bytes)
 range_of_either bytes (inr why) = inr (inl why)
 range_of_either bytes (inl (l, means)) = or_none bytes (range_by_option bytes l (list_range range_of l) means refl)
 
-pub either_range : (bytes : List ℕ) → ((words : List ℕ) × IsRange bytes words) ⊎ (RefusesListBytes bytes ⊎ HasNoRange bytes)
+pub either_range : (bytes : List ℕ) → ((words : List ℕ) × IsRangeText bytes words) ⊎ (RefusesListBytes bytes ⊎ HasNoRange bytes)
 either_range bytes = range_of_either bytes (either_bytes_list bytes)
 
-pub range_of_list : (bytes words : List ℕ) → IsRange bytes words → RefusesListBytes bytes → ⊥
+pub range_of_list : (bytes words : List ℕ) → IsRangeText bytes words → RefusesListBytes bytes → ⊥
 range_of_list bytes words (l, s, means, is, w) why = never_both_lists bytes l means why
 
 pub no_range_of_list : (bytes : List ℕ) → HasNoRange bytes → RefusesListBytes bytes → ⊥
 no_range_of_list bytes (l, means, is) why = never_both_lists bytes l means why
 
-pub range_or_none : (bytes words : List ℕ) → IsRange bytes words → HasNoRange bytes → ⊥
+pub range_or_none : (bytes words : List ℕ) → IsRangeText bytes words → HasNoRange bytes → ⊥
 range_or_none bytes words (l, s, means, is, w) (m, other, none) = cc (same_range bytes l m (Some s) None means other is none)

@@ -8,11 +8,11 @@ use Rattle.std.specs.Prelude.{IfOk, Result, Ok, Err}
 use Rattle.pep440_rs.specs.Specifiers.{Spec}
 use Rattle.pep440_sort_key.specs.Keys.{key_bytes}
 use Rattle.pep440_version.specs.Record.{Record}
-use Rattle.pep440_c.specs.Batches.{ArrangesPlaces, IsMark, MeansKeys, MeansPlaced, RefusesFirst, Sorts, StopsAll, ends_from, placed_cmp, stop_at}
+use Rattle.pep440_c.specs.Batches.{ArrangesPlaces, IsMark, MeansKeys, MeansPlaced, FirstRefusedText, Sorts, StopsAll, ends_from, placed_cmp, stop_at}
 use Rattle.pep440_c.specs.Statuses.{Faults}
 use Rattle.pep440_c.specs.declared.texts.Fault.{Fault}
 use Rattle.pep440_c.specs.declared.texts.Fault.TheVariants.{InvalidVersion, InvalidList, NumberAtMax, OutOfMemory}
-use Rattle.pep440_c.specs.declared.batch.Stop.{Stop}
+use Rattle.pep440_c.specs.declared.batch.BatchError.{BatchError}
 use Rattle.pep440_c.specs.Meaning.{MeansBytes, RefusesBytes}
 
 -- one text more
@@ -32,7 +32,7 @@ each_more {A} Means texts i x found new a inside is means more all =
 
 -- the text at a place is refused, and those before it mean versions
 refused_first : (texts : List (Bor (List ℕ))) (i : ℕ) (x : Bor (List ℕ)) (versions : List Record) → i < length texts → x ≡ get_or texts i x → RefusesBytes x.now
-    → AllZip MeansBytes (map (λ t. t.now) (take i texts)) versions → RefusesFirst (map (λ t. t.now) texts) i
+    → AllZip MeansBytes (map (λ t. t.now) (take i texts)) versions → FirstRefusedText (map (λ t. t.now) texts) i
 refused_first texts i x versions inside is why all = record {
   before = map (λ t. t.now) (take i texts);
   text = x.now;
@@ -71,13 +71,13 @@ placed_more texts i x pairs new v inside means more (versions, all, placed) =
     )
 
 -- the text at a place that is refused is the first, where those before it mean versions
-pub stops_at : (texts : List (Bor (List ℕ))) (i : ℕ) (x : Bor (List ℕ)) (f : Fault) (s : Stop) (versions : List Record) → i < length texts → s ≡ stop_at i f
+pub stops_at : (texts : List (Bor (List ℕ))) (i : ℕ) (x : Bor (List ℕ)) (f : Fault) (s : BatchError) (versions : List Record) → i < length texts → s ≡ stop_at i f
     → Faults (RefusesBytes (get_or texts i x).now) ⊥ ⊥ f → AllZip MeansBytes (map (λ t. t.now) (take i texts)) versions → StopsAll (map (λ t. t.now) texts) s
-stops_at texts i x InvalidVersion s versions inside is why all = subst (λ (t : Stop). StopsAll (map (λ (y : Bor (List ℕ)). y.now) texts) t) (sym is)
+stops_at texts i x InvalidVersion s versions inside is why all = subst (λ (t : BatchError). StopsAll (map (λ (y : Bor (List ℕ)). y.now) texts) t) (sym is)
     (refused_first texts i (get_or texts i x) versions inside (get_or_default texts i x (get_or texts i x) inside) why all)
 stops_at texts i x InvalidList s versions inside is why all = absurd why
 stops_at texts i x NumberAtMax s versions inside is why all = absurd why
-stops_at texts i x OutOfMemory s versions inside is why all = subst (λ (t : Stop). StopsAll (map (λ (y : Bor (List ℕ)). y.now) texts) t) (sym is) tt
+stops_at texts i x OutOfMemory s versions inside is why all = subst (λ (t : BatchError). StopsAll (map (λ (y : Bor (List ℕ)). y.now) texts) t) (sym is) tt
 
 -- one more mark
 pub marked_more : (list : List Spec) (texts : List (Bor (List ℕ))) (i : ℕ) (x : Bor (List ℕ)) (marks new : List ℕ) (m : ℕ) → i < length texts → IsMark list (get_or texts i x).now m → new ≡ marks ++ m ∷ []
@@ -87,7 +87,7 @@ marked_more list texts i x marks new m inside is more all =
 
 -- the places of the versions that the texts mean
 pub sorts : (texts : List (List ℕ)) (pairs : List (ℕ × Record)) (places : List ℕ) → MeansPlaced texts pairs → ArrangesPlaces pairs places → Sorts texts places
-sorts texts pairs places (versions, all, placed) arranged = (versions, all, rw placed at arranged)
+sorts texts pairs places (versions, all, placed) sort_pairs = (versions, all, rw placed at sort_pairs)
 
 -- the places of what a sort made, where memory was found for them
 pub arranged_if : {V E : Type 0} (view : V → List ℕ) (given sorted : List (ℕ × Record)) (result : Result V E) → IsPermutation given sorted → IsSorted placed_cmp sorted → IsStable placed_cmp given sorted

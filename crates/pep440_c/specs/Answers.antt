@@ -43,8 +43,8 @@ abbrev pub IsKey : List ℕ → List ℕ → Type 0
 IsKey text bytes = (r : Record) × MeansBytes text r × (bytes ≡ key_bytes r)
 
 -- the range of a list
-abbrev pub IsRange : List ℕ → List ℕ → Type 0
-IsRange text bytes = (list : List Spec) × (range : Segments) × MeansListBytes text list × (list_range range_of list ≡ Some range) × (bytes ≡ range_lines range)
+abbrev pub IsRangeText : List ℕ → List ℕ → Type 0
+IsRangeText text bytes = (list : List Spec) × (range : Segments) × MeansListBytes text list × (list_range range_of list ≡ Some range) × (bytes ≡ range_lines range)
 
 -- the list has no range, since a number that can't be raised would have to be
 abbrev pub HasNoRange : List ℕ → Type 0

@@ -9,8 +9,8 @@ use Rattle.pep440_rs.specs.Specifiers.{Spec}
 use Rattle.pep440_sort_key.specs.Keys.{key_bytes}
 use Rattle.pep440_version.specs.Key.{record_cmp}
 use Rattle.pep440_version.specs.Record.{Record}
-use Rattle.pep440_c.specs.declared.batch.Stop.{Stop}
-use Rattle.pep440_c.specs.declared.batch.Stop.TheVariants as stop
+use Rattle.pep440_c.specs.declared.batch.BatchError.{BatchError}
+use Rattle.pep440_c.specs.declared.batch.BatchError.TheVariants as stop
 use Rattle.pep440_c.specs.declared.texts.Fault.{Fault}
 use Rattle.pep440_c.specs.declared.texts.Fault.TheVariants as fault
 use Rattle.pep440_c.specs.Meaning.{MeansBytes, MeansListBytes, RefusesBytes, RefusesListBytes}
@@ -27,15 +27,15 @@ abbrev pub Marks : List ℕ → List (List ℕ) → List ℕ → Type 0
 Marks list_text texts marks = (list : List Spec) × MeansListBytes list_text list × AllZip (IsMark list) texts marks
 
 -- the marks are put at the front of the caller's, or there are too few; or all stays
-abbrev pub FilterAnswer : List ℕ → List (List ℕ) → List ℕ → List ℕ → ℕ → Type 0
-FilterAnswer list_text texts old marks status =
+abbrev pub FilterMarks : List ℕ → List (List ℕ) → List ℕ → List ℕ → ℕ → Type 0
+FilterMarks list_text texts old marks status =
     ((found : List ℕ) × Marks list_text texts found × PutsFront found old marks status)
     ⊎ ((marks ≡ old) × Fails ⊥ (RefusesListBytes list_text) ⊥ status)
 
 -- ---- texts that are all to be versions
 
 -- the text at this place is the first that means no version
-pub record RefusesFirst (texts : List (List ℕ)) (place : ℕ) : Type 0 where
+pub record FirstRefusedText (texts : List (List ℕ)) (position : ℕ) : Type 0 where
   pub before : List (List ℕ)
   pub text : List ℕ
   pub after : List (List ℕ)
@@ -43,11 +43,11 @@ pub record RefusesFirst (texts : List (List ℕ)) (place : ℕ) : Type 0 where
   pub versions : List Record
   pub means : AllZip MeansBytes before versions
   pub refused : RefusesBytes text
-  pub at : place ≡ length before
+  pub at : position ≡ length before
 
 -- the place of the first that means no version is told; or memory ran out
 abbrev pub StopsAt : List (List ℕ) → ℕ → ℕ → ℕ → Type 0
-StopsAt texts old_at at status = ((status ≡ 1) × RefusesFirst texts at) ⊎ ((status ≡ 3) × (at ≡ old_at))
+StopsAt texts old_at at status = ((status ≡ 1) × FirstRefusedText texts at) ⊎ ((status ≡ 3) × (at ≡ old_at))
 
 -- by version alone
 abbrev pub placed_cmp : ℕ × Record → ℕ × Record → Ordering
@@ -83,27 +83,27 @@ KeysAnswer texts old bytes old_ends ends old_written written old_at at status =
     ⊎ ((bytes ≡ old) × (ends ≡ old_ends) × (written ≡ old_written) × StopsAt texts old_at at status)
 
 -- why nothing is given, where memory didn't run out
-abbrev pub StopsAll : List (List ℕ) → Stop → Type 0
-StopsAll texts (stop.InvalidAt place) = RefusesFirst texts place
+abbrev pub StopsAll : List (List ℕ) → BatchError → Type 0
+StopsAll texts (stop.InvalidAt position) = FirstRefusedText texts position
 StopsAll texts stop.OutOfMemory = Unit {0}
 
 -- what holds of what is given, or why nothing is
-abbrev pub GivesAll : {X : Type 0} → List (List ℕ) → (X → Type 0) → Result X Stop → Type 0
+abbrev pub GivesAll : {X : Type 0} → List (List ℕ) → (X → Type 0) → Result X BatchError → Type 0
 GivesAll texts P (Ok x) = P x
 GivesAll texts P (Err s) = StopsAll texts s
 
 -- why the texts are not read, where the one at this place is not
-abbrev pub stop_at : ℕ → Fault → Stop
-stop_at place fault.InvalidVersion = stop.InvalidAt place
-stop_at place fault.InvalidList = stop.InvalidAt place
-stop_at place fault.NumberAtMax = stop.InvalidAt place
-stop_at place fault.OutOfMemory = stop.OutOfMemory
+abbrev pub stop_at : ℕ → Fault → BatchError
+stop_at position fault.InvalidVersion = stop.InvalidAt position
+stop_at position fault.InvalidList = stop.InvalidAt position
+stop_at position fault.NumberAtMax = stop.InvalidAt position
+stop_at position fault.OutOfMemory = stop.OutOfMemory
 
 -- the versions that the texts mean, with their places
 abbrev pub MeansPlaced : List (List ℕ) → List (ℕ × Record) → Type 0
 MeansPlaced texts given = (versions : List Record) × AllZip MeansBytes texts versions × (given ≡ enumerate_from 0 versions)
 
 -- the place that was refused is told, and the status
-abbrev pub TellsStop : Stop → ℕ → ℕ → ℕ → Type 0
-TellsStop (stop.InvalidAt place) old new status = (new ≡ place) × (status ≡ 1)
+abbrev pub TellsStop : BatchError → ℕ → ℕ → ℕ → Type 0
+TellsStop (stop.InvalidAt position) old new status = (new ≡ position) × (status ≡ 1)
 TellsStop stop.OutOfMemory old new status = (new ≡ old) × (status ≡ 3)

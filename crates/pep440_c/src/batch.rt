@@ -5,7 +5,7 @@ ghost use Rattle.pep440_sort_key.specs.Keys.{key_bytes};
 ghost use Rattle.pep440_c.specs.Batches.{ArrangesPlaces, GivesAll, IsMark, Marks, MeansKeys, MeansPlaced, Sorts, TellsStop, placed_cmp, stop_at};
 ghost use Rattle.pep440_c.specs.Meaning.{RefusesListBytes};
 ghost use Rattle.pep440_c.specs.Statuses.{Gives};
-ghost use Rattle.pep440_c.specs.declared.batch.Stop.TheVariants.{OutOfMemory};
+ghost use Rattle.pep440_c.specs.declared.batch.BatchError.TheVariants.{OutOfMemory};
 
 use crate::texts::{Fault, read, read_list};
 use pep440_rs::{Version, VersionSpecifiers};
@@ -21,39 +21,39 @@ const NOT_A_VERSION: u8 = 2;
 
 /// Why many texts are not read.
 #[derive(Clone, Copy, Debug)]
-pub(crate) enum Stop {
+pub(crate) enum BatchError {
     /// The text at this place is the first that means no version.
     InvalidAt(usize),
     /// Memory ran out.
     OutOfMemory,
 }
 
-impl From<AllocError> for Stop {
+impl From<AllocError> for BatchError {
     ghost from_gives = { λ _ stop. stop ≡ OutOfMemory };
 
-    fn from(_refused: AllocError) -> Stop {
-        Stop::OutOfMemory
+    fn from(_refused: AllocError) -> BatchError {
+        BatchError::OutOfMemory
     }
 }
 
-impl<T: Drop> From<AllocFailed<T>> for Stop {
+impl<T: Drop> From<AllocFailed<T>> for BatchError {
     ghost from_gives = { λ _ stop. stop ≡ OutOfMemory };
 
-    fn from(_refused: AllocFailed<T>) -> Stop {
-        Stop::OutOfMemory
+    fn from(_refused: AllocFailed<T>) -> BatchError {
+        BatchError::OutOfMemory
     }
 }
 
-impl Stop {
+impl BatchError {
     // Why the texts are not read, where the one at this place is not.
-    fn at(place: usize, fault: Fault) -> Stop
-        ensures { result ≡ stop_at place fault }
+    fn at(position: usize, fault: Fault) -> BatchError
+        ensures { result ≡ stop_at position fault }
     {
         match fault {
             Fault::InvalidVersion | Fault::InvalidList | Fault::NumberAtMax => {
-                Stop::InvalidAt(place)
+                BatchError::InvalidAt(position)
             }
-            Fault::OutOfMemory => Stop::OutOfMemory,
+            Fault::OutOfMemory => BatchError::OutOfMemory,
         }
     }
 }
@@ -96,14 +96,14 @@ pub(crate) fn marks(alloc: Global, list: &[u8], texts: &[&[u8]]) -> Result<Vec<u
 }
 
 // The versions that the texts mean, with their places.
-fn read_all(alloc: Global, texts: &[&[u8]]) -> Result<Vec<(usize, Version)>, Stop>
+fn read_all(alloc: Global, texts: &[&[u8]]) -> Result<Vec<(usize, Version)>, BatchError>
     ensures { GivesAll (map (λ t. t.now) texts.now) (λ pairs. MeansPlaced (map (λ t. t.now) texts.now) pairs.items) result }
 {
     let mut pairs = Vec::with_capacity(alloc, texts.len())?;
-    for (place, text) in texts.iter().enumerate() {
+    for (position, text) in texts.iter().enumerate() {
         match read(alloc, text) {
-            Ok(version) => pairs.push((place, version))?,
-            Err(fault) => return Err(Stop::at(place, fault)),
+            Ok(version) => pairs.push((position, version))?,
+            Err(fault) => return Err(BatchError::at(position, fault)),
         }
     }
     Ok(pairs)
@@ -128,7 +128,7 @@ fn places(alloc: Global, pairs: &[(usize, Version)]) -> Result<Vec<usize>, Alloc
 }
 
 // The places of the versions in order, equal ones in the order given.
-fn arranged(alloc: Global, pairs: Vec<(usize, Version)>) -> Result<Vec<usize>, AllocError>
+fn sort_pairs(alloc: Global, pairs: Vec<(usize, Version)>) -> Result<Vec<usize>, AllocError>
     ensures { IfOk result (λ found. ArrangesPlaces pairs.items found.items) }
 {
     let mut sorted = pairs;
@@ -137,11 +137,11 @@ fn arranged(alloc: Global, pairs: Vec<(usize, Version)>) -> Result<Vec<usize>, A
 }
 
 /// The places of the texts in the order of their versions.
-pub(crate) fn sorted(alloc: Global, texts: &[&[u8]]) -> Result<Vec<usize>, Stop>
+pub(crate) fn sorted(alloc: Global, texts: &[&[u8]]) -> Result<Vec<usize>, BatchError>
     ensures { GivesAll (map (λ t. t.now) texts.now) (λ found. Sorts (map (λ t. t.now) texts.now) found.items) result }
 {
     let pairs = read_all(alloc, texts)?;
-    Ok(arranged(alloc, pairs)?)
+    Ok(sort_pairs(alloc, pairs)?)
 }
 
 /// Sort keys, one after the other, and where each of them ends.
@@ -165,31 +165,31 @@ impl Keys {
 }
 
 /// The sort keys of the texts.
-pub(crate) fn sort_keys(alloc: Global, texts: &[&[u8]]) -> Result<Keys, Stop>
+pub(crate) fn sort_keys(alloc: Global, texts: &[&[u8]]) -> Result<Keys, BatchError>
     ensures { GivesAll (map (λ t. t.now) texts.now) (λ keys. MeansKeys (map (λ t. t.now) texts.now) keys.bytes.items keys.ends.items) result }
 {
     let mut keys = Keys {
         bytes: Vec::new(alloc),
         ends: Vec::with_capacity(alloc, texts.len())?,
     };
-    for (place, text) in texts.iter().enumerate() {
+    for (position, text) in texts.iter().enumerate() {
         match read(alloc, text) {
             Ok(version) => keys.push(alloc, &version)?,
-            Err(fault) => return Err(Stop::at(place, fault)),
+            Err(fault) => return Err(BatchError::at(position, fault)),
         }
     }
     Ok(keys)
 }
 
 /// Tells the place of the text that is refused, and the status.
-pub(crate) fn tell(stop: Stop, at: &mut usize) -> u8
+pub(crate) fn report_batch_error(stop: BatchError, at: &mut usize) -> u8
     ensures { TellsStop stop at.old at.new result }
 {
     match stop {
-        Stop::InvalidAt(place) => {
-            *at = place;
+        BatchError::InvalidAt(position) => {
+            *at = position;
             1
         }
-        Stop::OutOfMemory => 3,
+        BatchError::OutOfMemory => 3,
     }
 }

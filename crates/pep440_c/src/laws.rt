@@ -2,7 +2,7 @@
 ghost use Rattle.std.specs.Prelude.{◌≡◌, ◌⊎◌, ℕ, List};
 ghost use Rattle.pep440_rs.specs.Specifiers.{Spec};
 ghost use Rattle.pep440_version.specs.Record.{Record};
-ghost use Rattle.pep440_c.specs.Answers.{HasNoRange, IsRange};
+ghost use Rattle.pep440_c.specs.Answers.{HasNoRange, IsRangeText};
 ghost use Rattle.pep440_c.specs.Meaning.{MeansBytes, MeansListBytes, RefusesBytes, RefusesListBytes, TellsWhy, TellsWhyNoList};
 
 /// Bytes mean one version, or are invalid with one error, and never both.
@@ -23,9 +23,9 @@ pub fn lists_once()
 
 /// Bytes have one range, or are no list, or are a list without a range, and never two of these: so of the statuses 0, 2 and 5 a call has one.
 pub fn ranges_once()
-    ensures one { (bytes words others : List ℕ) → IsRange bytes words → IsRange bytes others → words ≡ others }
-    ensures either { (bytes : List ℕ) → ((words : List ℕ) × IsRange bytes words) ⊎ (RefusesListBytes bytes ⊎ HasNoRange bytes) }
-    ensures never_both { (bytes words : List ℕ) → IsRange bytes words → RefusesListBytes bytes → ⊥ }
-    ensures never_at_max { (bytes words : List ℕ) → IsRange bytes words → HasNoRange bytes → ⊥ }
+    ensures one { (bytes words others : List ℕ) → IsRangeText bytes words → IsRangeText bytes others → words ≡ others }
+    ensures either { (bytes : List ℕ) → ((words : List ℕ) × IsRangeText bytes words) ⊎ (RefusesListBytes bytes ⊎ HasNoRange bytes) }
+    ensures never_both { (bytes words : List ℕ) → IsRangeText bytes words → RefusesListBytes bytes → ⊥ }
+    ensures never_at_max { (bytes words : List ℕ) → IsRangeText bytes words → HasNoRange bytes → ⊥ }
     ensures one_error { (bytes : List ℕ) → HasNoRange bytes → RefusesListBytes bytes → ⊥ }
 {}

@@ -9,21 +9,21 @@
 #![tactic(auto)]
 
 ghost use Rattle.std.specs.Prelude.{◌≡◌, ◌⊎◌, map};
-ghost use Rattle.pep440_c.specs.Answers.{Contains, HasNoRange, IsKey, IsListError, IsNormal, IsNormalList, IsOrder, IsRange, IsVersionError, NamesPrerelease, PartsAnswer, RefusesSecond, order_number};
-ghost use Rattle.pep440_c.specs.Batches.{FilterAnswer, KeysAnswer, SortAnswer};
+ghost use Rattle.pep440_c.specs.Answers.{Contains, HasNoRange, IsKey, IsListError, IsNormal, IsNormalList, IsOrder, IsRangeText, IsVersionError, NamesPrerelease, PartsAnswer, RefusesSecond, order_number};
+ghost use Rattle.pep440_c.specs.Batches.{FilterMarks, KeysAnswer, SortAnswer};
 ghost use Rattle.pep440_c.specs.Meaning.{RefusesBytes, RefusesListBytes};
 ghost use Rattle.pep440_c.specs.Statuses.{IsFlagOf, Puts, PutsBytes};
 
 mod batch;
+mod buffer;
 pub mod laws;
-mod room;
-mod telling;
 #[cfg(test)]
 mod tests;
 mod texts;
+mod version_parts;
 
-use crate::batch::Stop;
-use crate::room::{OK, flag, put, put_both, put_bytes, put_text};
+use crate::batch::BatchError;
+use crate::buffer::{OK, flag, put, put_both, put_bytes, put_text};
 use std::alloc::Global;
 use std::cmp::Ordering;
 
@@ -163,7 +163,7 @@ pub extern "C" fn pep440_parts_of(
 {
     match texts::read(alloc, text) {
         Ok(version) => {
-            *parts = telling::parts_of(&version);
+            *parts = version_parts::parts_of(&version);
             put(version.release(), release)
         }
         Err(fault) => fault.status(),
@@ -192,7 +192,7 @@ pub extern "C" fn pep440_ranges(
     out: &mut [u8],
     written: &mut usize,
 ) -> u8
-    ensures { PutsBytes ⊥ (RefusesListBytes list.now) (HasNoRange list.now) (IsRange list.now) out.old out.new written.old written.new result }
+    ensures { PutsBytes ⊥ (RefusesListBytes list.now) (HasNoRange list.now) (IsRangeText list.now) out.old out.new written.old written.new result }
 {
     put_text(texts::range(alloc, list), out, written)
 }
@@ -200,7 +200,7 @@ pub extern "C" fn pep440_ranges(
 /// Writes a mark for each string, in order: 1 the list contains its version, 0 it doesn't, 2 it is no version.
 #[unsafe(no_mangle)]
 pub extern "C" fn pep440_filter(alloc: Global, list: &[u8], texts: &[&[u8]], marks: &mut [u8]) -> u8
-    ensures { FilterAnswer list.now (map (λ t. t.now) texts.now) marks.old marks.new result }
+    ensures { FilterMarks list.now (map (λ t. t.now) texts.now) marks.old marks.new result }
 {
     match batch::marks(alloc, list, texts) {
         Ok(found) => put(found.as_slice(), marks),
@@ -221,7 +221,7 @@ pub extern "C" fn pep440_sort(
 {
     match batch::sorted(alloc, texts) {
         Ok(found) => put(found.as_slice(), places),
-        Err(stop) => batch::tell(stop, at),
+        Err(stop) => batch::report_batch_error(stop, at),
     }
 }
 
@@ -242,6 +242,6 @@ pub extern "C" fn pep440_sort_keys(
             *written = found.bytes.len();
             put_both(found.bytes.as_slice(), found.ends.as_slice(), out, ends)
         }
-        Err(stop) => batch::tell(stop, at),
+        Err(stop) => batch::report_batch_error(stop, at),
     }
 }

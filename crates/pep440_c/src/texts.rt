@@ -3,7 +3,7 @@ ghost use Rattle.std.specs.Prelude.{◌≡◌, ◌⊎◌, is_none, string_bytes}
 ghost use Rattle.std.specs.List.{list_any};
 ghost use Rattle.pep440_rs.specs.Matching.{any_prerelease};
 ghost use Rattle.pep440_rs.specs.Specifiers.{Spec};
-ghost use Rattle.pep440_c.specs.Answers.{Contains, HasNoRange, IsKey, IsListError, IsNormal, IsNormalList, IsRange, IsVersionError, NamesPrerelease, Orders, RefusesSecond};
+ghost use Rattle.pep440_c.specs.Answers.{Contains, HasNoRange, IsKey, IsListError, IsNormal, IsNormalList, IsRangeText, IsVersionError, NamesPrerelease, Orders, RefusesSecond};
 ghost use Rattle.pep440_c.specs.Meaning.{MeansBytes, MeansListBytes, RefusesBytes, RefusesListBytes};
 ghost use Rattle.pep440_c.specs.Statuses.{Gives, fault_status};
 ghost use Rattle.pep440_c.specs.declared.texts.Fault.TheVariants.{OutOfMemory};
@@ -200,7 +200,7 @@ pub(crate) fn key(alloc: Global, bytes: &[u8]) -> Result<Vec<u8>, Fault>
 
 /// The range of a list, a segment a line.
 pub(crate) fn range(alloc: Global, list: &[u8]) -> Result<String, Fault>
-    ensures { Gives ⊥ (RefusesListBytes list.now) (HasNoRange list.now) (λ text. IsRange list.now (string_bytes text)) result }
+    ensures { Gives ⊥ (RefusesListBytes list.now) (HasNoRange list.now) (λ text. IsRangeText list.now (string_bytes text)) result }
 {
     let specifiers = read_list(alloc, list)?;
     match specifiers_to_ranges(alloc, specifiers) {

@@ -9,8 +9,8 @@ use Rattle.pep440_version.specs.declared.prerelease.PrereleaseKind.{PrereleaseKi
 use Rattle.pep440_version.specs.declared.prerelease.PrereleaseKind.TheVariants.{Alpha, Beta, Rc}
 use Rattle.pep440_version.specs.declared.prerelease.Prerelease.{Prerelease}
 use Rattle.pep440_version.specs.Changes.{Edit, Release, Epoch, Pre, Post, Dev, Local, WithoutLocal, OnlyRelease, Min, Max}
-use Rattle.pep440_version.specs.Grammar.{segment_of}
-use Rattle.pep440_version.specs.Record.{Segment}
+use Rattle.pep440_version.specs.Grammar.{parse_segment}
+use Rattle.pep440_version.specs.Record.{LocalSegmentValue}
 
 -- one or more bytes that pass the test
 abbrev pub is_run : (ℕ → Bool) → List ℕ → Bool
@@ -21,20 +21,20 @@ abbrev pub number_of : List ℕ → Option ℕ
 number_of text = if is_run is_ascii_digit text && nat_lt (digits_value 10 text) (2 ^ 64) then Some (digits_value 10 text) else None
 
 -- one or more ASCII letters and digits: a number where they are digits whose value fits, else a text in lower case
-abbrev pub local_segment_of : List ℕ → Option Segment
-local_segment_of text = if is_run is_ascii_alphanumeric text then Some (segment_of text) else None
+abbrev pub local_segment_of : List ℕ → Option LocalSegmentValue
+local_segment_of text = if is_run is_ascii_alphanumeric text then Some (parse_segment text) else None
 
 -- what follows the spelling, where the text begins with it
 abbrev pub after : List ℕ → List ℕ → Option (List ℕ)
 after spelling text = if starts_with nat_eq text spelling then Some (drop (length spelling) text) else None
 
 -- the spelling of a kind, and a number
-abbrev pub of_kind : PrereleaseKind → List ℕ → List ℕ → Option Prerelease
-of_kind kind spelling text = option_map (λ n. record { kind = kind; number = n }) (option_and_then number_of (after spelling text))
+abbrev pub parse_prerelease_of_kind : PrereleaseKind → List ℕ → List ℕ → Option Prerelease
+parse_prerelease_of_kind kind spelling text = option_map (λ n. record { kind = kind; number = n }) (option_and_then number_of (after spelling text))
 
 -- `a`, `b` or `rc`, and a number
 abbrev pub prerelease_of : List ℕ → Option Prerelease
-prerelease_of text = option_or (of_kind Alpha (codes "a") text) (option_or (of_kind Beta (codes "b") text) (of_kind Rc (codes "rc") text))
+prerelease_of text = option_or (parse_prerelease_of_kind Alpha (codes "a") text) (option_or (parse_prerelease_of_kind Beta (codes "b") text) (parse_prerelease_of_kind Rc (codes "rc") text))
 
 -- nothing for none, or a value
 abbrev pub or_none : {A : Type 0} → (List ℕ → Option A) → List ℕ → Option (Option A)

@@ -4,7 +4,7 @@ ghost use Rattle.pep440_change_words.specs.Reads.{ReadsAs};
 ghost use Rattle.std.specs.List.{slice_split};
 ghost use Rattle.std.specs.Char.{is_ascii_digit, is_ascii_alphanumeric};
 ghost use Rattle.std.specs.Option.{option_map, option_copied};
-ghost use Rattle.pep440_change_words.specs.ChangeWords.{is_run, number_of, after, of_kind, prerelease_of, local_segment_of, or_none, pieces_of, all_of, dotted_of, field_change, bare_change, change_of};
+ghost use Rattle.pep440_change_words.specs.ChangeWords.{is_run, number_of, after, parse_prerelease_of_kind, prerelease_of, local_segment_of, or_none, pieces_of, all_of, dotted_of, field_change, bare_change, change_of};
 ghost use Rattle.pep440_version.specs.Changes.{edit};
 ghost use Rattle.pep440_version.specs.Segments.{segment};
 
@@ -44,8 +44,8 @@ fn after<'a>(spelling: &str, text: &'a str) -> Option<&'a str>
 }
 
 /// The spelling of a kind, and a number.
-fn of_kind(kind: PrereleaseKind, spelling: &str, text: &str) -> Option<Prerelease>
-    ensures { result ≡ of_kind kind spelling.now text.now }
+fn parse_prerelease_of_kind(kind: PrereleaseKind, spelling: &str, text: &str) -> Option<Prerelease>
+    ensures { result ≡ parse_prerelease_of_kind kind spelling.now text.now }
 {
     let number = number(after(spelling, text)?)?;
     Some(Prerelease { kind, number })
@@ -55,9 +55,9 @@ fn of_kind(kind: PrereleaseKind, spelling: &str, text: &str) -> Option<Prereleas
 fn prerelease(text: &str) -> Option<Prerelease>
     ensures { result ≡ prerelease_of text.now }
 {
-    of_kind(PrereleaseKind::Alpha, "a", text)
-        .or(of_kind(PrereleaseKind::Beta, "b", text))
-        .or(of_kind(PrereleaseKind::Rc, "rc", text))
+    parse_prerelease_of_kind(PrereleaseKind::Alpha, "a", text)
+        .or(parse_prerelease_of_kind(PrereleaseKind::Beta, "b", text))
+        .or(parse_prerelease_of_kind(PrereleaseKind::Rc, "rc", text))
 }
 
 /// A number or nothing, which stands for none.
@@ -152,7 +152,7 @@ fn segments(alloc: Global, text: &str) -> Result<Vec<LocalSegment>, ChangeWordEr
 }
 
 /// The change, if there is one.
-fn or_refused(change: Option<Change>) -> Result<Change, ChangeWordError>
+fn require_change(change: Option<Change>) -> Result<Change, ChangeWordError>
     ensures { ReadsAs edit result (option_map edit change) }
 {
     change.ok_or(ChangeWordError::NotAChange)
@@ -164,13 +164,13 @@ fn field_change(alloc: Global, field: &str, value: &str) -> Result<Change, Chang
 {
     match field {
         "release" => Ok(Change::Release(numbers(alloc, value)?)),
-        "epoch" => or_refused(number(value).map(Change::Epoch)),
-        "pre" => or_refused(optional_prerelease(value).map(Change::Pre)),
-        "post" => or_refused(optional_number(value).map(Change::Post)),
-        "dev" => or_refused(optional_number(value).map(Change::Dev)),
+        "epoch" => require_change(number(value).map(Change::Epoch)),
+        "pre" => require_change(optional_prerelease(value).map(Change::Pre)),
+        "post" => require_change(optional_number(value).map(Change::Post)),
+        "dev" => require_change(optional_number(value).map(Change::Dev)),
         "local" => Ok(Change::Local(segments(alloc, value)?)),
-        "min" => or_refused(optional_number(value).map(Change::Min)),
-        "max" => or_refused(optional_number(value).map(Change::Max)),
+        "min" => require_change(optional_number(value).map(Change::Min)),
+        "max" => require_change(optional_number(value).map(Change::Max)),
         _ => Err(ChangeWordError::NotAChange),
     }
 }
@@ -196,6 +196,6 @@ pub fn parse_change(alloc: Global, word: &str) -> Result<Change, ChangeWordError
 {
     match word.split_once('=') {
         Some((field, value)) => field_change(alloc, field, value),
-        None => or_refused(bare_change(word)),
+        None => require_change(bare_change(word)),
     }
 }

@@ -11,7 +11,7 @@ use std::fmt;
 #[derive(Clone, Copy)]
 pub struct WithSentinels<'a>(pub &'a Version);
 
-#[tactic(auto, using(pep440_version::proofs::Reread::Writing::two_writes))]
+#[tactic(auto, using(pep440_version::proofs::RoundTrip::Writing::two_writes))]
 fn write_sentinel<W: fmt::Write>(
     f: &mut fmt::Formatter<W>,
     label: &str,

@@ -8,7 +8,7 @@ use Rattle.std.specs.Char.{is_ascii_whitespace}
 use Rattle.std.specs.List.{list_all, prefix_len}
 use Rattle.std.specs.Str.{IsTrimAscii, IsTrimAsciiStart}
 use Rattle.pep440_version.specs.Reading.{past}
-use Rattle.pep440_pick.specs.RequirementGrammar.{trimmed, trimmed_end}
+use Rattle.pep440_pick.specs.RequirementGrammar.{trim_blanks, trimmed_end}
 
 -- the run of bytes that pass ends where one fails, or the text ends
 pub run_ends : (p : ℕ → Bool) (s : List ℕ) (n : ℕ) → n ≤ length s → ((i : ℕ) → i < n → p (get_or s i 0) ≡ true) → (n < length s → p (get_or s n 0) ≡ false) → prefix_len p s ≡ n
@@ -41,7 +41,7 @@ end_trimmed (b ∷ rest) (suc n) inside blanks last =
     before zero fails some = absurd (omega (arith, some))
     before (suc k) fails some = let at : suc k - 1 ≡ k = omega arith in rw at fails
 
-pub both_trimmed : (s r : List ℕ) → IsTrimAscii s r → r ≡ trimmed s
+pub both_trimmed : (s r : List ℕ) → IsTrimAscii s r → r ≡ trim_blanks s
 both_trimmed s r (m, is, below, stops, blanks, last) =
     let inside : m ≤ length s = elim (cases_lt (length s) m) [
       | inl past_end ↦
@@ -51,6 +51,6 @@ both_trimmed s r (m, is, below, stops, blanks, last) =
           absurd (cc never)
       | inr le ↦ le
     ] in
-    let front : drop m s ≡ past is_ascii_whitespace s = ap (λ k. drop k s) (sym (run_ends is_ascii_whitespace s m inside below stops)) in
+    let prefix : drop m s ≡ past is_ascii_whitespace s = ap (λ k. drop k s) (sym (run_ends is_ascii_whitespace s m inside below stops)) in
     let long = ap length is ∙ length-take (length r) (drop m s) in
-    is ∙ end_trimmed (drop m s) (length r) (omega (arith, long)) blanks last ∙ ap trimmed_end front
+    is ∙ end_trimmed (drop m s) (length r) (omega (arith, long)) blanks last ∙ ap trimmed_end prefix

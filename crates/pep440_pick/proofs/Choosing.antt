@@ -29,13 +29,13 @@ less_after {K} {R} o x y z le lt = go (R x y) refl le
     go Equal e h = ap is_lt (o.congr x y z e) ∙ lt
     go Greater e h = cc h
 
-turned : (r : Ordering) → is_lt r ≡ false → is_le (ordering_reverse r) ≡ true
-turned Less e = cc e
-turned Equal e = refl
-turned Greater e = refl
+flipped : (r : Ordering) → is_lt r ≡ false → is_le (ordering_reverse r) ≡ true
+flipped Less e = cc e
+flipped Equal e = refl
+flipped Greater e = refl
 
 not_below : (v w : Record) → is_lt (record_cmp w v) ≡ false → is_le (record_cmp v w) ≡ true
-not_below v w e = ap is_le (record_total.antisymm v w) ∙ turned (record_cmp w v) e
+not_below v w e = ap is_le (record_total.antisymm v w) ∙ flipped (record_cmp w v) e
 
 weak : (r : Ordering) → is_lt r ≡ true → is_le r ≡ true
 weak Less e = refl
@@ -70,8 +70,8 @@ module _ (lists : List (List Spec)) where
     greatest = All-nil (IsUpTo v);
   }
 
-  pub newer : (seen : List Record) (v : Record) (place : ℕ) → all_contain lists v ≡ true → (n : IsNewest lists seen place) → is_lt (record_cmp n.version v) ≡ true → Newest lists (seen ++ v ∷ []) (Some (length seen))
-  newer seen v place contained n lt = record {
+  pub newer : (seen : List Record) (v : Record) (position : ℕ) → all_contain lists v ≡ true → (n : IsNewest lists seen position) → is_lt (record_cmp n.version v) ≡ true → Newest lists (seen ++ v ∷ []) (Some (length seen))
+  newer seen v position contained n lt = record {
     before = seen;
     version = v;
     after = [];
@@ -86,8 +86,8 @@ module _ (lists : List (List Spec)) where
     greatest = All-nil (IsUpTo v);
   }
 
-  pub stays : (seen : List Record) (v : Record) (place : ℕ) → (n : IsNewest lists seen place) → (all_contain lists v ≡ true → is_le (record_cmp v n.version) ≡ true) → Newest lists (seen ++ v ∷ []) (Some place)
-  stays seen v place n upto = record {
+  pub stays : (seen : List Record) (v : Record) (position : ℕ) → (n : IsNewest lists seen position) → (all_contain lists v ≡ true → is_le (record_cmp v n.version) ≡ true) → Newest lists (seen ++ v ∷ []) (Some position)
+  stays seen v position n upto = record {
     before = n.before;
     version = n.version;
     after = n.after ++ v ∷ [];
@@ -99,43 +99,43 @@ module _ (lists : List (List Spec)) where
   }
 
   -- the newest of some stands at its place
-  pub stands : (seen : List Record) (place : ℕ) (d : Record) → (n : IsNewest lists seen place) → (place < length seen) × (get_or seen place d ≡ n.version)
-  stands seen place d n =
+  pub stands : (seen : List Record) (position : ℕ) (d : Record) → (n : IsNewest lists seen position) → (position < length seen) × (get_or seen position d ≡ n.version)
+  stands seen position d n =
       let long = ap length n.split ∙ length-append n.before (n.version ∷ n.after) in
       let at = n.at in
-      (omega (arith, long, at), ap (λ (l : List Record). get_or l place d) n.split ∙ get_or_at n.before n.version n.after d place n.at)
+      (omega (arith, long, at), ap (λ (l : List Record). get_or l position d) n.split ∙ get_or_at n.before n.version n.after d position n.at)
 
   -- ---- the same at a place of the candidates
 
   at_place : (candidates : List Record) (i : ℕ) (v : Record) → i < length candidates → v ≡ get_or candidates i v → take (i + 1) candidates ≡ take i candidates ++ v ∷ []
   at_place candidates i v inside is = take_more candidates i v inside ∙ ap (λ (x : Record). take i candidates ++ x ∷ []) (sym is)
 
-  so_far : (candidates : List Record) (i place : ℕ) (v : Record) → i < length candidates → (n : IsNewest lists (take i candidates) place) → n.version ≡ get_or candidates place v
-  so_far candidates i place v inside n =
-      let there = stands (take i candidates) place v n in
+  so_far : (candidates : List Record) (i position : ℕ) (v : Record) → i < length candidates → (n : IsNewest lists (take i candidates) position) → n.version ≡ get_or candidates position v
+  so_far candidates i position v inside n =
+      let there = stands (take i candidates) position v n in
       let long = length-take i candidates in
-      sym there.1 ∙ get_or-take i candidates place v (omega (arith, there.0, long))
+      sym there.1 ∙ get_or-take i candidates position v (omega (arith, there.0, long))
 
   pub found_more : (candidates : List Record) (i : ℕ) (v : Record) (newest : Option ℕ) → i < length candidates → v ≡ get_or candidates i v → Newest lists (take i candidates) newest
-      → option_map_or (λ place. is_lt (record_cmp (get_or candidates place v) v)) newest true ≡ true → all_contain lists v ≡ true → Newest lists (take (i + 1) candidates) (Some i)
+      → option_map_or (λ position. is_lt (record_cmp (get_or candidates position v) v)) newest true ≡ true → all_contain lists v ≡ true → Newest lists (take (i + 1) candidates) (Some i)
   found_more candidates i v None inside is n above contained =
       let long : length (take i candidates) ≡ i = length-take-le i candidates (omega (arith, inside)) in
       subst (λ (l : List Record). Newest lists l (Some i)) (sym (at_place candidates i v inside is)) (subst (λ k. Newest lists (take i candidates ++ v ∷ []) (Some k)) long (first_one (take i candidates) v contained n))
-  found_more candidates i v (Some place) inside is n above contained =
+  found_more candidates i v (Some position) inside is n above contained =
       let long : length (take i candidates) ≡ i = length-take-le i candidates (omega (arith, inside)) in
-      let lt : is_lt (record_cmp n.version v) ≡ true = ap (λ (r : Record). is_lt (record_cmp r v)) (so_far candidates i place v inside n) ∙ above in
+      let lt : is_lt (record_cmp n.version v) ≡ true = ap (λ (r : Record). is_lt (record_cmp r v)) (so_far candidates i position v inside n) ∙ above in
       subst (λ (l : List Record). Newest lists l (Some i)) (sym (at_place candidates i v inside is))
-      (subst (λ k. Newest lists (take i candidates ++ v ∷ []) (Some k)) long (newer (take i candidates) v place contained n lt))
+      (subst (λ k. Newest lists (take i candidates ++ v ∷ []) (Some k)) long (newer (take i candidates) v position contained n lt))
 
   pub out_more : (candidates : List Record) (i : ℕ) (v : Record) (newest : Option ℕ) → i < length candidates → v ≡ get_or candidates i v → Newest lists (take i candidates) newest
       → all_contain lists v ≡ false → Newest lists (take (i + 1) candidates) newest
   out_more candidates i v None inside is n out = subst (λ (l : List Record). Newest lists l None) (sym (at_place candidates i v inside is)) (still_none (take i candidates) v out n)
-  out_more candidates i v (Some place) inside is n out =
-      subst (λ (l : List Record). Newest lists l (Some place)) (sym (at_place candidates i v inside is)) (stays (take i candidates) v place n (λ h. absurd (both_ways (all_contain lists v) out h)))
+  out_more candidates i v (Some position) inside is n out =
+      subst (λ (l : List Record). Newest lists l (Some position)) (sym (at_place candidates i v inside is)) (stays (take i candidates) v position n (λ h. absurd (both_ways (all_contain lists v) out h)))
 
   pub below_more : (candidates : List Record) (i : ℕ) (v : Record) (newest : Option ℕ) → i < length candidates → v ≡ get_or candidates i v → Newest lists (take i candidates) newest
-      → option_map_or (λ place. is_lt (record_cmp (get_or candidates place v) v)) newest true ≡ false → Newest lists (take (i + 1) candidates) newest
+      → option_map_or (λ position. is_lt (record_cmp (get_or candidates position v) v)) newest true ≡ false → Newest lists (take (i + 1) candidates) newest
   below_more candidates i v None inside is n above = cc above
-  below_more candidates i v (Some place) inside is n above =
-      let lt : is_lt (record_cmp n.version v) ≡ false = ap (λ (r : Record). is_lt (record_cmp r v)) (so_far candidates i place v inside n) ∙ above in
-      subst (λ (l : List Record). Newest lists l (Some place)) (sym (at_place candidates i v inside is)) (stays (take i candidates) v place n (λ h. not_below v n.version lt))
+  below_more candidates i v (Some position) inside is n above =
+      let lt : is_lt (record_cmp n.version v) ≡ false = ap (λ (r : Record). is_lt (record_cmp r v)) (so_far candidates i position v inside n) ∙ above in
+      subst (λ (l : List Record). Newest lists l (Some position)) (sym (at_place candidates i v inside is)) (stays (take i candidates) v position n (λ h. not_below v n.version lt))

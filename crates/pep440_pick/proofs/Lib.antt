@@ -1,11 +1,11 @@
 pub mod Normal
 pub mod Blanks
-pub mod Cutting
+pub mod Splitting
 pub mod Choosing
 pub mod Extras
 pub mod Listing
 pub mod Copies
-pub mod Fronts
+pub mod Prefixes
 pub mod Parts
 pub mod Tells
 pub mod Whole

@@ -14,59 +14,59 @@ use Rattle.pep440_version.specs.KeyLaws.{record_total}
 use Rattle.pep440_version.specs.Record.{Record}
 use Rattle.pep440_pick.specs.Newest.{IsNewest, Newest, all_contain}
 use Rattle.pep440_pick.specs.RequirementGrammar.{DerivesRequirement, Front, HasFront, Needed, RefusesRequirement, RequirementRefusal, Specifiers}
-use Rattle.pep440_pick.specs.RequirementReading.{read_front}
-use Rattle.pep440_pick.proofs.Tells.{FrontTells, front_only, front_tells}
-use Rattle.pep440_pick.proofs.Whole.{front_err_decided, parts_of, refusal_of_list, told_front}
+use Rattle.pep440_pick.specs.RequirementReading.{read_prefix}
+use Rattle.pep440_pick.proofs.Tells.{FrontTells, prefix_only, prefix_tells}
+use Rattle.pep440_pick.proofs.Whole.{prefix_err_decided, parts_of, refusal_of_list, told_prefix}
 
 -- ---- requirements
 
 abbrev Outcome : List ℕ → Type 0
 Outcome text = ((n : Needed) × DerivesRequirement text n) ⊎ ((f : RequirementRefusal) × RefusesRequirement text f)
 
-with_front : (text : List ℕ) (front : Front) → HasFront text front → ((list : List Spec) × DerivesList front.list list) ⊎ ((p : PieceRefusal) × RefusesList front.list p) → Outcome text
-with_front text front has (inl (list, d)) = inl (record { name = front.name; extras = front.extras; specifiers = list }, (front, has, refl, refl, d))
-with_front text front has (inr (p, r)) = inr (Specifiers front.list p, (front, has, refl, r))
+with_prefix : (text : List ℕ) (prefix : Front) → HasFront text prefix → ((list : List Spec) × DerivesList prefix.list list) ⊎ ((p : PieceRefusal) × RefusesList prefix.list p) → Outcome text
+with_prefix text prefix has (inl (list, d)) = inl (record { name = prefix.name; extras = prefix.extras; specifiers = list }, (prefix, has, refl, refl, d))
+with_prefix text prefix has (inr (p, r)) = inr (Specifiers prefix.list p, (prefix, has, refl, r))
 
 pub either_requirement : (text : List ℕ) → Outcome text
-either_requirement text = go (read_front text) (front_tells text)
+either_requirement text = go (read_prefix text) (prefix_tells text)
   where
     go : (r : Result Front RequirementRefusal) → FrontTells text r → Outcome text
-    go (Ok front) h = with_front text front h (either_list front.list)
-    go (Err f) h = inr (f, told_front text f h)
+    go (Ok prefix) h = with_prefix text prefix h (either_list prefix.list)
+    go (Err f) h = inr (f, told_prefix text f h)
 
 pub one_requirement : (text : List ℕ) (n m : Needed) → DerivesRequirement text n → DerivesRequirement text m → n ≡ m
-one_requirement text n m (front, has, name, extras, list) d =
-    let parts = parts_of text front (front_only text front has) m d in
-    let same : n.specifiers ≡ m.specifiers = one_list front.list n.specifiers m.specifiers list parts.2 in
+one_requirement text n m (prefix, has, name, extras, list) d =
+    let parts = parts_of text prefix (prefix_only text prefix has) m d in
+    let same : n.specifiers ≡ m.specifiers = one_list prefix.list n.specifiers m.specifiers list parts.2 in
     λ i. record { name = (name ∙ sym parts.0) i; extras = (extras ∙ sym parts.1) i; specifiers = same i }
 
 pub not_both_requirement : (text : List ℕ) (n : Needed) (f : RequirementRefusal) → DerivesRequirement text n → RefusesRequirement text f → ⊥
-not_both_requirement text n f (front, has, name, extras, list) r =
-    let piece = refusal_of_list text front (front_only text front has) f r in
-    not_both_list front.list n.specifiers piece.0 list piece.2
+not_both_requirement text n f (prefix, has, name, extras, list) r =
+    let piece = refusal_of_list text prefix (prefix_only text prefix has) f r in
+    not_both_list prefix.list n.specifiers piece.0 list piece.2
 
 pub one_refusal : (text : List ℕ) (f g : RequirementRefusal) → RefusesRequirement text f → RefusesRequirement text g → f ≡ g
-one_refusal text f g r s = go (read_front text) refl
+one_refusal text f g r s = go (read_prefix text) refl
   where
     inside : (x y : RequirementRefusal) → (let e : Result Needed RequirementRefusal = Err x in e) ≡ Err y → x ≡ y
     inside x y e = cc
 
-    go : (out : Result Front RequirementRefusal) → read_front text ≡ out → f ≡ g
-    go (Ok front) e =
-        let p = refusal_of_list text front e f r in
-        let q = refusal_of_list text front e g s in
-        p.1 ∙ ap (λ x. Specifiers front.list x) (one_list_refusal front.list p.0 q.0 p.2 q.2) ∙ sym q.1
-    go (Err x) e = inside f x (front_err_decided text (Some x) e f r) ∙ sym (inside g x (front_err_decided text (Some x) e g s))
+    go : (out : Result Front RequirementRefusal) → read_prefix text ≡ out → f ≡ g
+    go (Ok prefix) e =
+        let p = refusal_of_list text prefix e f r in
+        let q = refusal_of_list text prefix e g s in
+        p.1 ∙ ap (λ x. Specifiers prefix.list x) (one_list_refusal prefix.list p.0 q.0 p.2 q.2) ∙ sym q.1
+    go (Err x) e = inside f x (prefix_err_decided text (Some x) e f r) ∙ sym (inside g x (prefix_err_decided text (Some x) e g s))
 
 -- ---- the newest
 
-turned : (r : Ordering) → is_lt r ≡ true → is_le (ordering_reverse r) ≡ true → ⊥
-turned Less e h = cc h
-turned Equal e h = cc e
-turned Greater e h = cc e
+flipped : (r : Ordering) → is_lt r ≡ true → is_le (ordering_reverse r) ≡ true → ⊥
+flipped Less e h = cc h
+flipped Equal e h = cc e
+flipped Greater e h = cc e
 
 apart : (v w : Record) → is_lt (record_cmp v w) ≡ true → is_le (record_cmp w v) ≡ true → ⊥
-apart v w lt le = turned (record_cmp v w) lt (ap is_le (sym (record_total.antisymm w v)) ∙ le)
+apart v w lt le = flipped (record_cmp v w) lt (ap is_le (sym (record_total.antisymm w v)) ∙ le)
 
 module _ (lists : List (List Spec)) (candidates : List Record) where
   inside_list : (i : ℕ) → (n : IsNewest lists candidates i) → i < length candidates

@@ -7,9 +7,9 @@ use Rattle.std.specs.List.{list_all, prefix_len}
 use Rattle.pep440_version.specs.Reading.{past}
 use Rattle.pep440_rs.specs.ListGrammar.{pieces}
 use Rattle.pep440_pick.specs.Names.{is_name}
-use Rattle.pep440_pick.specs.RequirementGrammar.{AreExtras, HasExtras, HasList, has_byte, opens, trimmed, trimmed_end}
-use Rattle.pep440_pick.specs.RequirementReading.{bracketed, cut_at, extras_at, extras_in, list_in, without_end}
-use Rattle.pep440_pick.proofs.Cutting.{cut_first, end_found}
+use Rattle.pep440_pick.specs.RequirementGrammar.{AreExtras, HasExtras, HasList, has_byte, opens, trim_blanks, trimmed_end}
+use Rattle.pep440_pick.specs.RequirementReading.{bracketed, split_at_byte, extras_at, extras_in, list_in, without_end}
+use Rattle.pep440_pick.proofs.Splitting.{split_first, end_found}
 use Rattle.pep440_pick.proofs.Extras.{in_bracket, no_bracket, no_extras, some_extras}
 
 -- ---- blanks alone
@@ -31,8 +31,8 @@ past_blanks_none (b ∷ t) e =
     ap (λ (x : Bool). drop (cond x (1 + prefix_len is_ascii_whitespace t) 0) (b ∷ t)) parts.0 ∙ ap (λ n. drop n (b ∷ t)) step ∙ past_blanks_none t parts.1
 
 -- blanks alone are no name
-blanks_unnamed : (t : List ℕ) → list_all is_ascii_whitespace t ≡ true → list_all is_name (map trimmed (pieces t)) ≡ false
-blanks_unnamed t e = ap (λ (ps : List (List ℕ)). list_all is_name (map trimmed ps)) (blank_piece t e) ∙ ap (λ (x : List ℕ). is_name (trimmed_end x) && true) (past_blanks_none t e)
+blanks_unnamed : (t : List ℕ) → list_all is_ascii_whitespace t ≡ true → list_all is_name (map trim_blanks (pieces t)) ≡ false
+blanks_unnamed t e = ap (λ (ps : List (List ℕ)). list_all is_name (map trim_blanks ps)) (blank_piece t e) ∙ ap (λ (x : List ℕ). is_name (trimmed_end x) && true) (past_blanks_none t e)
 
 -- ---- extras
 
@@ -50,7 +50,7 @@ pub extras_sound : (inside : List ℕ) (extras : List (List ℕ)) → extras_in 
 extras_sound inside extras e = elim (cases_Bool (list_all is_ascii_whitespace inside)) [
   | inl h ↦ inl (h, sym (inside_some [] extras (sym (no_extras inside h) ∙ e)))
   | inr h ↦
-      let found = chosen (list_all is_name (map trimmed (pieces inside))) (map trimmed (pieces inside)) extras (sym (some_extras inside h) ∙ e) in
+      let found = chosen (list_all is_name (map trim_blanks (pieces inside))) (map trim_blanks (pieces inside)) extras (sym (some_extras inside h) ∙ e) in
       inr (sym found.1, ap (list_all is_name) (sym found.1) ∙ found.0)
 ]
 
@@ -59,8 +59,8 @@ extras_complete inside extras (inl h) = no_extras inside h.0 ∙ ap (λ (x : Lis
 extras_complete inside extras (inr h) = elim (cases_Bool (list_all is_ascii_whitespace inside)) [
   | inl blank ↦ let never : true ≡ false = sym h.1 ∙ ap (list_all is_name) h.0 ∙ blanks_unnamed inside blank in cc never
   | inr some ↦
-      let valid : list_all is_name (map trimmed (pieces inside)) ≡ true = ap (list_all is_name) (sym h.0) ∙ h.1 in
-      some_extras inside some ∙ ap (λ (b : Bool). cond b (Some (map trimmed (pieces inside))) None) valid ∙ ap (λ (x : List (List ℕ)). Some x) (sym h.0)
+      let valid : list_all is_name (map trim_blanks (pieces inside)) ≡ true = ap (list_all is_name) (sym h.0) ∙ h.1 in
+      some_extras inside some ∙ ap (λ (b : Bool). cond b (Some (map trim_blanks (pieces inside))) None) valid ∙ ap (λ (x : List (List ℕ)). Some x) (sym h.0)
 ]
 
 -- ---- the first such byte
@@ -68,28 +68,28 @@ extras_complete inside extras (inr h) = elim (cases_Bool (list_all is_ascii_whit
 abbrev CutAt : ℕ → List ℕ → List ℕ × List ℕ → Type 0
 CutAt b t p = (t ≡ p.0 ++ (b ∷ p.1)) × (has_byte b p.0 ≡ false)
 
-cut_further : (b x : ℕ) (t : List ℕ) (p : List ℕ × List ℕ) → (x == b) ≡ false → (o : Option (List ℕ × List ℕ)) → ((q : List ℕ × List ℕ) → o ≡ Some q → CutAt b t q)
+split_further : (b x : ℕ) (t : List ℕ) (p : List ℕ × List ℕ) → (x == b) ≡ false → (o : Option (List ℕ × List ℕ)) → ((q : List ℕ × List ℕ) → o ≡ Some q → CutAt b t q)
     → option_map (λ (q : List ℕ × List ℕ). (x ∷ q.0, q.1)) o ≡ Some p → CutAt b (x ∷ t) p
-cut_further b x t p h None found g = none_some p g
-cut_further b x t p h (Some q) found g =
+split_further b x t p h None found g = none_some p g
+split_further b x t p h (Some q) found g =
     let there = found q refl in
     let same : (x ∷ q.0, q.1) ≡ p = inside_some (x ∷ q.0, q.1) p g in
-    let front : x ∷ q.0 ≡ p.0 = ap (λ (r : List ℕ × List ℕ). r.0) same in
+    let prefix : x ∷ q.0 ≡ p.0 = ap (λ (r : List ℕ × List ℕ). r.0) same in
     let back : q.1 ≡ p.1 = ap (λ (r : List ℕ × List ℕ). r.1) same in
-    (ap (λ (l : List ℕ). x ∷ l) there.0 ∙ (λ i. front i ++ (b ∷ back i)), ap (has_byte b) (sym front) ∙ rw (h, there.1) refl)
+    (ap (λ (l : List ℕ). x ∷ l) there.0 ∙ (λ i. prefix i ++ (b ∷ back i)), ap (has_byte b) (sym prefix) ∙ rw (h, there.1) refl)
 
-cut_found : (b : ℕ) (t : List ℕ) (p : List ℕ × List ℕ) → cut_at b t ≡ Some p → CutAt b t p
-unfolding cut_at
-cut_found b [] p e = none_some p e
-cut_found b (x ∷ t) p e = elim (cases_Bool (x == b)) [
+split_found : (b : ℕ) (t : List ℕ) (p : List ℕ × List ℕ) → split_at_byte b t ≡ Some p → CutAt b t p
+unfolding split_at_byte
+split_found b [] p e = none_some p e
+split_found b (x ∷ t) p e = elim (cases_Bool (x == b)) [
   | inl h ↦
-      let is : ([], t) ≡ p = inside_some ([], t) p (ap (λ (c : Bool). cond c (Some ([], t)) (option_map (λ (q : List ℕ × List ℕ). (x ∷ q.0, q.1)) (cut_at b t))) (sym h) ∙ e) in
-      let front : [] ≡ p.0 = ap (λ (q : List ℕ × List ℕ). q.0) is in
+      let is : ([], t) ≡ p = inside_some ([], t) p (ap (λ (c : Bool). cond c (Some ([], t)) (option_map (λ (q : List ℕ × List ℕ). (x ∷ q.0, q.1)) (split_at_byte b t))) (sym h) ∙ e) in
+      let prefix : [] ≡ p.0 = ap (λ (q : List ℕ × List ℕ). q.0) is in
       let back : t ≡ p.1 = ap (λ (q : List ℕ × List ℕ). q.1) is in
-      ((λ i. eqb-true x b h i ∷ back i) ∙ ap (λ (l : List ℕ). l ++ (b ∷ p.1)) front, ap (has_byte b) (sym front))
+      ((λ i. eqb-true x b h i ∷ back i) ∙ ap (λ (l : List ℕ). l ++ (b ∷ p.1)) prefix, ap (has_byte b) (sym prefix))
   | inr h ↦
-      cut_further b x t p h (cut_at b t) (λ q is. cut_found b t q is)
-      (ap (λ (c : Bool). cond c (Some ([], t)) (option_map (λ (q : List ℕ × List ℕ). (x ∷ q.0, q.1)) (cut_at b t))) (sym h) ∙ e)
+      split_further b x t p h (split_at_byte b t) (λ q is. split_found b t q is)
+      (ap (λ (c : Bool). cond c (Some ([], t)) (option_map (λ (q : List ℕ × List ℕ). (x ∷ q.0, q.1)) (split_at_byte b t))) (sym h) ∙ e)
 ]
 
 opened : (b : ℕ) (t : List ℕ) → opens b t ≡ true → t ≡ b ∷ drop 1 t
@@ -99,7 +99,7 @@ opened b (x ∷ t) e = ap (λ y. y ∷ t) (eqb-true x b e)
 opens_so : (b : ℕ) (t : List ℕ) → opens b (b ∷ t) ≡ true
 opens_so b t = grind (arith, nat_tests)
 
-bracketed_found : (text : List ℕ) (o : Option (List ℕ × List ℕ)) (p : List (List ℕ) × List ℕ) → opens 91 text ≡ true → cut_at 93 (drop 1 text) ≡ o → bracketed o ≡ Some p → HasExtras text p.0 p.1
+bracketed_found : (text : List ℕ) (o : Option (List ℕ × List ℕ)) (p : List (List ℕ) × List ℕ) → opens 91 text ≡ true → split_at_byte 93 (drop 1 text) ≡ o → bracketed o ≡ Some p → HasExtras text p.0 p.1
 bracketed_found text None p begins is e = none_some p e
 bracketed_found text (Some q) p begins is e = found (extras_in q.0) refl e
   where
@@ -107,13 +107,13 @@ bracketed_found text (Some q) p begins is e = found (extras_in q.0) refl e
     found None read g = none_some p g
     found (Some extras) read g =
         let same : (extras, q.1) ≡ p = inside_some (extras, q.1) p g in
-        let cut = cut_found 93 (drop 1 text) q is in
+        let decomposition = split_found 93 (drop 1 text) q is in
         subst (λ (r : List (List ℕ) × List ℕ). HasExtras text r.0 r.1) same
-        (inr (q.0, (opened 91 text begins ∙ ap (λ (l : List ℕ). 91 ∷ l) cut.0, cut.1), extras_sound q.0 extras read))
+        (inr (q.0, (opened 91 text begins ∙ ap (λ (l : List ℕ). 91 ∷ l) decomposition.0, decomposition.1), extras_sound q.0 extras read))
 
 pub brackets_sound : (text : List ℕ) (p : List (List ℕ) × List ℕ) → extras_at text ≡ Some p → HasExtras text p.0 p.1
 brackets_sound text p e = elim (cases_Bool (opens 91 text)) [
-  | inl h ↦ bracketed_found text (cut_at 93 (drop 1 text)) p h refl (sym (in_bracket text h) ∙ e)
+  | inl h ↦ bracketed_found text (split_at_byte 93 (drop 1 text)) p h refl (sym (in_bracket text h) ∙ e)
   | inr h ↦
       let same : ([], text) ≡ p = inside_some ([], text) p (sym (no_bracket text h) ∙ e) in
       inl (h, sym (ap (λ (r : List (List ℕ) × List ℕ). r.0) same), sym (ap (λ (r : List (List ℕ) × List ℕ). r.1) same))
@@ -121,42 +121,42 @@ brackets_sound text p e = elim (cases_Bool (opens 91 text)) [
 
 pub brackets_complete : (text : List ℕ) (extras : List (List ℕ)) (behind : List ℕ) → HasExtras text extras behind → extras_at text ≡ Some (extras, behind)
 brackets_complete text extras behind (inl (closed, none, same)) = no_bracket text closed ∙ (λ i. Some (sym none i, sym same i))
-brackets_complete text extras behind (inr (inside, (cut, whole), are)) =
-    let opens_here : opens 91 text ≡ true = ap (opens 91) cut ∙ opens_so 91 (inside ++ (93 ∷ behind)) in
-    in_bracket text opens_here ∙ ap (λ (t : List ℕ). bracketed (cut_at 93 (drop 1 t))) cut ∙ ap bracketed (cut_first 93 inside behind whole)
+brackets_complete text extras behind (inr (inside, (decomposition, whole), are)) =
+    let opens_here : opens 91 text ≡ true = ap (opens 91) decomposition ∙ opens_so 91 (inside ++ (93 ∷ behind)) in
+    in_bracket text opens_here ∙ ap (λ (t : List ℕ). bracketed (split_at_byte 93 (drop 1 t))) decomposition ∙ ap bracketed (split_first 93 inside behind whole)
     ∙ ap (option_map (λ (x : List (List ℕ)). (x, behind))) (extras_complete inside extras are)
 
 -- ---- the text of the list
 
-end_further : (b x : ℕ) (t front : List ℕ) (o : Option (List ℕ)) → ((f : List ℕ) → o ≡ Some f → t ≡ f ++ b ∷ []) → option_map (λ (l : List ℕ). x ∷ l) o ≡ Some front → x ∷ t ≡ front ++ b ∷ []
-end_further b x t front None found g = none_some front g
-end_further b x t front (Some f) found g = ap (λ (l : List ℕ). x ∷ l) (found f refl) ∙ ap (λ (l : List ℕ). l ++ b ∷ []) (inside_some (x ∷ f) front g)
+end_further : (b x : ℕ) (t prefix : List ℕ) (o : Option (List ℕ)) → ((f : List ℕ) → o ≡ Some f → t ≡ f ++ b ∷ []) → option_map (λ (l : List ℕ). x ∷ l) o ≡ Some prefix → x ∷ t ≡ prefix ++ b ∷ []
+end_further b x t prefix None found g = none_some prefix g
+end_further b x t prefix (Some f) found g = ap (λ (l : List ℕ). x ∷ l) (found f refl) ∙ ap (λ (l : List ℕ). l ++ b ∷ []) (inside_some (x ∷ f) prefix g)
 
-end_sound : (b : ℕ) (t front : List ℕ) → without_end b t ≡ Some front → t ≡ front ++ b ∷ []
+end_sound : (b : ℕ) (t prefix : List ℕ) → without_end b t ≡ Some prefix → t ≡ prefix ++ b ∷ []
 unfolding without_end
-end_sound b [] front e = none_some front e
-end_sound b (x ∷ []) front e =
-    let found = chosen (x == b) [] front e in
+end_sound b [] prefix e = none_some prefix e
+end_sound b (x ∷ []) prefix e =
+    let found = chosen (x == b) [] prefix e in
     (λ i. eqb-true x b found.0 i ∷ []) ∙ ap (λ (l : List ℕ). l ++ b ∷ []) found.1
-end_sound b (x ∷ y ∷ t) front e = end_further b x (y ∷ t) front (without_end b (y ∷ t)) (λ f is. end_sound b (y ∷ t) f is) e
+end_sound b (x ∷ y ∷ t) prefix e = end_further b x (y ∷ t) prefix (without_end b (y ∷ t)) (λ f is. end_sound b (y ∷ t) f is) e
 
-in_parentheses : (behind list : List ℕ) (o : Option (List ℕ)) → opens 40 (trimmed behind) ≡ true → without_end 41 (drop 1 (trimmed behind)) ≡ o → option_map trimmed o ≡ Some list → HasList behind list
+in_parentheses : (behind list : List ℕ) (o : Option (List ℕ)) → opens 40 (trim_blanks behind) ≡ true → without_end 41 (drop 1 (trim_blanks behind)) ≡ o → option_map trim_blanks o ≡ Some list → HasList behind list
 in_parentheses behind list None begins is e = none_some list e
 in_parentheses behind list (Some inner) begins is e =
-    inr (inner, opened 40 (trimmed behind) begins ∙ ap (λ (l : List ℕ). 40 ∷ l) (end_sound 41 (drop 1 (trimmed behind)) inner is), sym (inside_some (trimmed inner) list e))
+    inr (inner, opened 40 (trim_blanks behind) begins ∙ ap (λ (l : List ℕ). 40 ∷ l) (end_sound 41 (drop 1 (trim_blanks behind)) inner is), sym (inside_some (trim_blanks inner) list e))
 
-pub list_sound : (behind list : List ℕ) → list_in (trimmed behind) ≡ Some list → HasList behind list
-list_sound behind list e = elim (cases_Bool (opens 40 (trimmed behind))) [
-  | inl h ↦ in_parentheses behind list (without_end 41 (drop 1 (trimmed behind))) h refl (with_choice true h ∙ e)
-  | inr h ↦ inl (h, sym (inside_some (trimmed behind) list (with_choice false h ∙ e)))
+pub list_sound : (behind list : List ℕ) → list_in (trim_blanks behind) ≡ Some list → HasList behind list
+list_sound behind list e = elim (cases_Bool (opens 40 (trim_blanks behind))) [
+  | inl h ↦ in_parentheses behind list (without_end 41 (drop 1 (trim_blanks behind))) h refl (with_choice true h ∙ e)
+  | inr h ↦ inl (h, sym (inside_some (trim_blanks behind) list (with_choice false h ∙ e)))
 ]
   where
-    with_choice : (b : Bool) → opens 40 (trimmed behind) ≡ b → cond b (option_map trimmed (without_end 41 (drop 1 (trimmed behind)))) (Some (trimmed behind)) ≡ list_in (trimmed behind)
-    with_choice b h = ap (λ (c : Bool). cond c (option_map trimmed (without_end 41 (drop 1 (trimmed behind)))) (Some (trimmed behind))) (sym h)
+    with_choice : (b : Bool) → opens 40 (trim_blanks behind) ≡ b → cond b (option_map trim_blanks (without_end 41 (drop 1 (trim_blanks behind)))) (Some (trim_blanks behind)) ≡ list_in (trim_blanks behind)
+    with_choice b h = ap (λ (c : Bool). cond c (option_map trim_blanks (without_end 41 (drop 1 (trim_blanks behind)))) (Some (trim_blanks behind))) (sym h)
 
-pub list_complete : (behind list : List ℕ) → HasList behind list → list_in (trimmed behind) ≡ Some list
+pub list_complete : (behind list : List ℕ) → HasList behind list → list_in (trim_blanks behind) ≡ Some list
 list_complete behind list (inl (plain, is)) =
-    ap (λ (c : Bool). cond c (option_map trimmed (without_end 41 (drop 1 (trimmed behind)))) (Some (trimmed behind))) plain ∙ ap (λ (l : List ℕ). Some l) (sym is)
-list_complete behind list (inr (inner, cut, is)) =
-    ap list_in cut ∙ ap (λ (c : Bool). cond c (option_map trimmed (without_end 41 (inner ++ 41 ∷ []))) (Some (40 ∷ (inner ++ 41 ∷ [])))) (opens_so 40 (inner ++ 41 ∷ []))
-    ∙ ap (option_map trimmed) (end_found 41 inner) ∙ ap (λ (l : List ℕ). Some l) (sym is)
+    ap (λ (c : Bool). cond c (option_map trim_blanks (without_end 41 (drop 1 (trim_blanks behind)))) (Some (trim_blanks behind))) plain ∙ ap (λ (l : List ℕ). Some l) (sym is)
+list_complete behind list (inr (inner, decomposition, is)) =
+    ap list_in decomposition ∙ ap (λ (c : Bool). cond c (option_map trim_blanks (without_end 41 (inner ++ 41 ∷ []))) (Some (40 ∷ (inner ++ 41 ∷ [])))) (opens_so 40 (inner ++ 41 ∷ []))
+    ∙ ap (option_map trim_blanks) (end_found 41 inner) ∙ ap (λ (l : List ℕ). Some l) (sym is)

@@ -7,9 +7,9 @@ use Rattle.pep440_rs.specs.Specifiers.{Spec}
 use Rattle.pep440_pick.specs.Allowed.{lists_of}
 use Rattle.pep440_pick.specs.Names.{same_name}
 use Rattle.pep440_pick.specs.RequirementGrammar.{DerivesRequirement, Front, HasFront, Needed, RefusesRequirement, RequirementRefusal, InvalidExtras, InvalidName, Marker, Specifiers, Unclosed, Url}
-use Rattle.pep440_pick.specs.RequirementReading.{read_front}
+use Rattle.pep440_pick.specs.RequirementReading.{read_prefix}
 use Rattle.pep440_pick.specs.Requirements.{IsOfList}
-use Rattle.pep440_pick.proofs.Tells.{FrontTells, front_only, front_refused, front_tells}
+use Rattle.pep440_pick.proofs.Tells.{FrontTells, prefix_only, prefix_refused, prefix_tells}
 
 abbrev pub ok_of : Needed → Result Needed RequirementRefusal
 ok_of n = Ok n
@@ -25,13 +25,13 @@ list_err f = Err f
 
 -- ---- where the parts are refused
 
-pub told_front : (text : List ℕ) (f : RequirementRefusal) → FrontTells text (Err f) → RefusesRequirement text f
-told_front text Marker h = h
-told_front text Url h = h
-told_front text InvalidName h = h
-told_front text InvalidExtras h = h
-told_front text Unclosed h = h
-told_front text (Specifiers list f) h = elim h [ ]
+pub told_prefix : (text : List ℕ) (f : RequirementRefusal) → FrontTells text (Err f) → RefusesRequirement text f
+told_prefix text Marker h = h
+told_prefix text Url h = h
+told_prefix text InvalidName h = h
+told_prefix text InvalidExtras h = h
+told_prefix text Unclosed h = h
+told_prefix text (Specifiers list f) h = elim h [ ]
 
 never : {A B P : Type 0} (r : Result A B) (x : A) (y : B) → r ≡ Ok x → r ≡ Err y → P
 never r x y e h = absurd (apart e h)
@@ -39,73 +39,73 @@ never r x y e h = absurd (apart e h)
     apart : r ≡ Ok x → r ≡ Err y → ⊥
     apart e h = cc
 
-module _ (text : List ℕ) (o : Option RequirementRefusal) (given : IfSome o (λ f. read_front text ≡ Err f)) where
-  pub front_err_only : (n : Needed) → DerivesRequirement text n → IfSome o (λ f. ok_of n ≡ Err f)
-  front_err_only n (front, has, name, extras, list) = IfSome_then o given (λ f e. never (read_front text) front f (front_only text front has) e)
+module _ (text : List ℕ) (o : Option RequirementRefusal) (given : IfSome o (λ f. read_prefix text ≡ Err f)) where
+  pub prefix_err_only : (n : Needed) → DerivesRequirement text n → IfSome o (λ f. ok_of n ≡ Err f)
+  prefix_err_only n (prefix, has, name, extras, list) = IfSome_then o given (λ f e. never (read_prefix text) prefix f (prefix_only text prefix has) e)
 
-  pub front_err_refused : IfSome o (RefusesRequirement text)
-  front_err_refused = IfSome_then o given (λ f e. told_front text f (subst (FrontTells text) e (front_tells text)))
+  pub prefix_err_refused : IfSome o (RefusesRequirement text)
+  prefix_err_refused = IfSome_then o given (λ f e. told_prefix text f (subst (FrontTells text) e (prefix_tells text)))
 
-  same_err : (f g : RequirementRefusal) → read_front text ≡ Err f → read_front text ≡ Err g → err_of f ≡ Err g
+  same_err : (f g : RequirementRefusal) → read_prefix text ≡ Err f → read_prefix text ≡ Err g → err_of f ≡ Err g
   same_err f g e h = let same : f ≡ g = cc in ap err_of same
 
-  pub front_err_decided : (f : RequirementRefusal) → RefusesRequirement text f → IfSome o (λ g. err_of f ≡ Err g)
-  front_err_decided Marker h = IfSome_then o given (λ g e. same_err Marker g (front_refused text Marker tt h) e)
-  front_err_decided Url h = IfSome_then o given (λ g e. same_err Url g (front_refused text Url tt h) e)
-  front_err_decided InvalidName h = IfSome_then o given (λ g e. same_err InvalidName g (front_refused text InvalidName tt h) e)
-  front_err_decided InvalidExtras h = IfSome_then o given (λ g e. same_err InvalidExtras g (front_refused text InvalidExtras tt h) e)
-  front_err_decided Unclosed h = IfSome_then o given (λ g e. same_err Unclosed g (front_refused text Unclosed tt h) e)
-  front_err_decided (Specifiers list p) (front, has, same, refuses) = IfSome_then o given (λ g e. never (read_front text) front g (front_only text front has) e)
+  pub prefix_err_decided : (f : RequirementRefusal) → RefusesRequirement text f → IfSome o (λ g. err_of f ≡ Err g)
+  prefix_err_decided Marker h = IfSome_then o given (λ g e. same_err Marker g (prefix_refused text Marker tt h) e)
+  prefix_err_decided Url h = IfSome_then o given (λ g e. same_err Url g (prefix_refused text Url tt h) e)
+  prefix_err_decided InvalidName h = IfSome_then o given (λ g e. same_err InvalidName g (prefix_refused text InvalidName tt h) e)
+  prefix_err_decided InvalidExtras h = IfSome_then o given (λ g e. same_err InvalidExtras g (prefix_refused text InvalidExtras tt h) e)
+  prefix_err_decided Unclosed h = IfSome_then o given (λ g e. same_err Unclosed g (prefix_refused text Unclosed tt h) e)
+  prefix_err_decided (Specifiers list p) (prefix, has, same, refuses) = IfSome_then o given (λ g e. never (read_prefix text) prefix g (prefix_only text prefix has) e)
 
 -- ---- where the parts are read
 
-module _ (text : List ℕ) (front : Front) (is : read_front text ≡ Ok front) where
-  pub the_front : HasFront text front
-  the_front = subst (FrontTells text) is (front_tells text)
+module _ (text : List ℕ) (prefix : Front) (is : read_prefix text ≡ Ok prefix) where
+  pub the_prefix : HasFront text prefix
+  the_prefix = subst (FrontTells text) is (prefix_tells text)
 
-  same_front : (f : Front) → HasFront text f → f ≡ front
-  same_front f h = let other = front_only text f h in cc
+  same_prefix : (f : Front) → HasFront text f → f ≡ prefix
+  same_prefix f h = let other = prefix_only text f h in cc
 
-  pub parts_of : (n : Needed) → DerivesRequirement text n → (n.name ≡ front.name) × (n.extras ≡ front.extras) × DerivesList front.list n.specifiers
+  pub parts_of : (n : Needed) → DerivesRequirement text n → (n.name ≡ prefix.name) × (n.extras ≡ prefix.extras) × DerivesList prefix.list n.specifiers
   parts_of n (f, has, name, extras, list) =
-      let same = same_front f has in
+      let same = same_prefix f has in
       (name ∙ ap (λ (x : Front). x.name) same, extras ∙ ap (λ (x : Front). x.extras) same, subst (λ (x : Front). DerivesList x.list n.specifiers) same list)
 
-  pub refusal_of_list : (f : RequirementRefusal) → RefusesRequirement text f → (p : PieceRefusal) × (f ≡ Specifiers front.list p) × RefusesList front.list p
-  refusal_of_list Marker h = never (read_front text) front Marker is (front_refused text Marker tt h)
-  refusal_of_list Url h = never (read_front text) front Url is (front_refused text Url tt h)
-  refusal_of_list InvalidName h = never (read_front text) front InvalidName is (front_refused text InvalidName tt h)
-  refusal_of_list InvalidExtras h = never (read_front text) front InvalidExtras is (front_refused text InvalidExtras tt h)
-  refusal_of_list Unclosed h = never (read_front text) front Unclosed is (front_refused text Unclosed tt h)
+  pub refusal_of_list : (f : RequirementRefusal) → RefusesRequirement text f → (p : PieceRefusal) × (f ≡ Specifiers prefix.list p) × RefusesList prefix.list p
+  refusal_of_list Marker h = never (read_prefix text) prefix Marker is (prefix_refused text Marker tt h)
+  refusal_of_list Url h = never (read_prefix text) prefix Url is (prefix_refused text Url tt h)
+  refusal_of_list InvalidName h = never (read_prefix text) prefix InvalidName is (prefix_refused text InvalidName tt h)
+  refusal_of_list InvalidExtras h = never (read_prefix text) prefix InvalidExtras is (prefix_refused text InvalidExtras tt h)
+  refusal_of_list Unclosed h = never (read_prefix text) prefix Unclosed is (prefix_refused text Unclosed tt h)
   refusal_of_list (Specifiers list p) (f, has, same_list, refuses) =
-      let same = same_front f has in
+      let same = same_prefix f has in
       (p, ap (λ l. Specifiers l p) (same_list ∙ ap (λ (x : Front). x.list) same), subst (λ (x : Front). RefusesList x.list p) same refuses)
 
   -- the list is refused
 
-  pub list_err_only : (o : Option RequirementRefusal) → ((list : List Spec) → DerivesList front.list list → IfSome o (λ g. (x : PieceRefusal) × (list_ok list ≡ Err x) × (g ≡ Specifiers front.list x)))
+  pub list_err_only : (o : Option RequirementRefusal) → ((list : List Spec) → DerivesList prefix.list list → IfSome o (λ g. (x : PieceRefusal) × (list_ok list ≡ Err x) × (g ≡ Specifiers prefix.list x)))
       → (n : Needed) → DerivesRequirement text n → IfSome o (λ f. ok_of n ≡ Err f)
   list_err_only o only n d = let parts = parts_of n d in IfSome_then o (only n.specifiers parts.2) (λ f h. never (list_ok n.specifiers) n.specifiers h.0 refl h.1)
 
-  pub list_err_refused : (o : Option RequirementRefusal) → IfSome o (IsOfList front.list) → IfSome o (RefusesRequirement text)
-  list_err_refused o given = IfSome_then o given (λ g h. subst (RefusesRequirement text) (sym h.2) (front, the_front, refl, h.1))
+  pub list_err_refused : (o : Option RequirementRefusal) → IfSome o (IsOfList prefix.list) → IfSome o (RefusesRequirement text)
+  list_err_refused o given = IfSome_then o given (λ g h. subst (RefusesRequirement text) (sym h.2) (prefix, the_prefix, refl, h.1))
 
-  pub list_err_decided : (o : Option RequirementRefusal) → ((f : PieceRefusal) → RefusesList front.list f → IfSome o (λ g. (x : PieceRefusal) × (list_err f ≡ Err x) × (g ≡ Specifiers front.list x)))
+  pub list_err_decided : (o : Option RequirementRefusal) → ((f : PieceRefusal) → RefusesList prefix.list f → IfSome o (λ g. (x : PieceRefusal) × (list_err f ≡ Err x) × (g ≡ Specifiers prefix.list x)))
       → (f : RequirementRefusal) → RefusesRequirement text f → IfSome o (λ g. err_of f ≡ Err g)
   list_err_decided o decided f h =
       let piece = refusal_of_list f h in
-      IfSome_then o (decided piece.0 piece.2) (λ g k. ap err_of (piece.1 ∙ ap (λ q. Specifiers front.list q) (same_piece piece.0 k.0 k.1) ∙ sym k.2))
+      IfSome_then o (decided piece.0 piece.2) (λ g k. ap err_of (piece.1 ∙ ap (λ q. Specifiers prefix.list q) (same_piece piece.0 k.0 k.1) ∙ sym k.2))
     where
       same_piece : (p q : PieceRefusal) → list_err p ≡ Err q → p ≡ q
       same_piece p q e = cc
 
   -- the list is read
 
-  module _ (n : Needed) (name : n.name ≡ front.name) (extras : n.extras ≡ front.extras) where
-    pub list_ok_found : DerivesList front.list n.specifiers → DerivesRequirement text n
-    list_ok_found d = (front, the_front, name, extras, d)
+  module _ (n : Needed) (name : n.name ≡ prefix.name) (extras : n.extras ≡ prefix.extras) where
+    pub list_ok_found : DerivesList prefix.list n.specifiers → DerivesRequirement text n
+    list_ok_found d = (prefix, the_prefix, name, extras, d)
 
-    pub list_ok_only : ((list : List Spec) → DerivesList front.list list → list_ok list ≡ Ok n.specifiers) → (m : Needed) → DerivesRequirement text m → ok_of m ≡ Ok n
+    pub list_ok_only : ((list : List Spec) → DerivesList prefix.list list → list_ok list ≡ Ok n.specifiers) → (m : Needed) → DerivesRequirement text m → ok_of m ≡ Ok n
     list_ok_only only m d =
         let parts = parts_of m d in
         let same : m.specifiers ≡ n.specifiers = inside m.specifiers n.specifiers (only m.specifiers parts.2) in
@@ -114,7 +114,7 @@ module _ (text : List ℕ) (front : Front) (is : read_front text ≡ Ok front) w
         inside : (a b : List Spec) → list_ok a ≡ Ok b → a ≡ b
         inside a b e = cc
 
-    pub list_ok_decided : ((f : PieceRefusal) → RefusesList front.list f → list_err f ≡ Ok n.specifiers) → (f : RequirementRefusal) → RefusesRequirement text f → err_of f ≡ Ok n
+    pub list_ok_decided : ((f : PieceRefusal) → RefusesList prefix.list f → list_err f ≡ Ok n.specifiers) → (f : RequirementRefusal) → RefusesRequirement text f → err_of f ≡ Ok n
     list_ok_decided decided f h = let piece = refusal_of_list f h in never (list_err piece.0) n.specifiers piece.0 (decided piece.0 piece.2) refl
 
 -- the list of a requirement of this name, or none

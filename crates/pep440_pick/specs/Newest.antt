@@ -13,12 +13,12 @@ all_contain lists v = list_all (λ list. list_matches list v) lists
 
 -- the candidate at this place is contained, those before it that are contained are below it, and those behind it that are
 -- contained are not above it
-pub record IsNewest (lists : List (List Spec)) (candidates : List Record) (place : ℕ) : Type 0 where
+pub record IsNewest (lists : List (List Spec)) (candidates : List Record) (position : ℕ) : Type 0 where
   pub before : List Record
   pub version : Record
   pub after : List Record
   pub split : candidates ≡ before ++ (version ∷ after)
-  pub at : length before ≡ place
+  pub at : length before ≡ position
   pub contained : IsTrue (all_contain lists version)
   pub above : All (λ v. IsTrue (all_contain lists v) → IsTrue (is_lt (record_cmp v version))) before
   pub greatest : All (λ v. IsTrue (all_contain lists v) → IsTrue (is_le (record_cmp v version))) after
@@ -26,4 +26,4 @@ pub record IsNewest (lists : List (List Spec)) (candidates : List Record) (place
 -- the place of the newest, or none where no candidate is contained
 abbrev pub Newest : List (List Spec) → List Record → Option ℕ → Type 0
 Newest lists candidates None = All (λ v. IsTrue (not (all_contain lists v))) candidates
-Newest lists candidates (Some place) = IsNewest lists candidates place
+Newest lists candidates (Some position) = IsNewest lists candidates position

@@ -19,8 +19,8 @@ trimmed_end [] = []
 trimmed_end (b ∷ rest) = if list_all is_ascii_whitespace (b ∷ rest) then [] else b ∷ trimmed_end rest
 
 -- the text without the blanks at its ends
-abbrev pub trimmed : List ℕ → List ℕ
-trimmed text = trimmed_end (past is_ascii_whitespace text)
+abbrev pub trim_blanks : List ℕ → List ℕ
+trim_blanks text = trimmed_end (past is_ascii_whitespace text)
 
 -- ---- the parts of a text
 
@@ -33,12 +33,12 @@ abbrev pub opens : ℕ → List ℕ → Bool
 opens b text = starts (λ x. x == b) text
 
 -- a text in four parts, each but the last as long as can be: blanks, a name, blanks, and the rest
-pub record Cut (text : List ℕ) : Type 0 where
+pub record RequirementParts (text : List ℕ) : Type 0 where
   pub before : List ℕ
   pub name : List ℕ
   pub between : List ℕ
   pub rest : List ℕ
-  pub cut : text ≡ before ++ (name ++ (between ++ rest))
+  pub decomposition : text ≡ before ++ (name ++ (between ++ rest))
   pub before_run : IsRun is_ascii_whitespace before (name ++ (between ++ rest))
   pub name_run : IsRun is_name_byte name (between ++ rest)
   pub between_run : IsRun is_ascii_whitespace between rest
@@ -46,7 +46,7 @@ pub record Cut (text : List ℕ) : Type 0 where
 -- blanks alone are no extras, and else names stand between commas, with blanks around them
 abbrev pub AreExtras : List ℕ → List (List ℕ) → Type 0
 AreExtras inside extras = ((list_all is_ascii_whitespace inside ≡ true) × (extras ≡ []))
-    ⊎ ((extras ≡ map trimmed (pieces inside)) × (list_all is_name extras ≡ true))
+    ⊎ ((extras ≡ map trim_blanks (pieces inside)) × (list_all is_name extras ≡ true))
 
 -- the text is `[`, inside up to the first `]`, and behind
 abbrev pub IsBracketed : List ℕ → List ℕ → List ℕ → Type 0
@@ -59,8 +59,8 @@ HasExtras text extras behind = ((opens 91 text ≡ false) × (extras ≡ []) × 
 
 -- the text, without blanks at its ends, is the text of a list, or that in parentheses
 abbrev pub HasList : List ℕ → List ℕ → Type 0
-HasList text list = ((opens 40 (trimmed text) ≡ false) × (list ≡ trimmed text))
-    ⊎ ((inner : List ℕ) × (trimmed text ≡ 40 ∷ (inner ++ 41 ∷ [])) × (list ≡ trimmed inner))
+HasList text list = ((opens 40 (trim_blanks text) ≡ false) × (list ≡ trim_blanks text))
+    ⊎ ((inner : List ℕ) × (trim_blanks text ≡ 40 ∷ (inner ++ 41 ∷ [])) × (list ≡ trim_blanks inner))
 
 -- ---- what a text means
 
@@ -71,18 +71,18 @@ pub record Front : Type 0 where
   pub list : List ℕ
 
 -- there is no marker and no URL
-pub record IsPlain (text : List ℕ) : Type 0 where
+pub record HasNoMarkerOrUrl (text : List ℕ) : Type 0 where
   pub marker : has_byte 59 text ≡ false
   pub url : has_byte 64 text ≡ false
 
 -- the text has these parts
 pub record HasFront (text : List ℕ) (f : Front) : Type 0 where
-  pub plain : IsPlain text
-  pub cut : Cut text
-  pub name : f.name ≡ cut.name
-  pub named : is_name cut.name ≡ true
+  pub plain : HasNoMarkerOrUrl text
+  pub decomposition : RequirementParts text
+  pub name : f.name ≡ decomposition.name
+  pub prefix_after_name : is_name decomposition.name ≡ true
   pub behind : List ℕ
-  pub extras : HasExtras cut.rest f.extras behind
+  pub extras : HasExtras decomposition.rest f.extras behind
   pub list : HasList behind f.list
 
 -- a name, extras, and the members of a list
@@ -108,9 +108,9 @@ pub data RequirementRefusal : Type 0 where
 abbrev pub RefusesRequirement : List ℕ → RequirementRefusal → Type 0
 RefusesRequirement text Marker = has_byte 59 text ≡ true
 RefusesRequirement text Url = (has_byte 59 text ≡ false) × (has_byte 64 text ≡ true)
-RefusesRequirement text InvalidName = IsPlain text × ((c : Cut text) × (is_name c.name ≡ false))
-RefusesRequirement text InvalidExtras = IsPlain text × ((c : Cut text) × (is_name c.name ≡ true)
+RefusesRequirement text InvalidName = HasNoMarkerOrUrl text × ((c : RequirementParts text) × (is_name c.name ≡ false))
+RefusesRequirement text InvalidExtras = HasNoMarkerOrUrl text × ((c : RequirementParts text) × (is_name c.name ≡ true)
     × ((extras : List (List ℕ)) (behind : List ℕ) → HasExtras c.rest extras behind → ⊥))
-RefusesRequirement text Unclosed = IsPlain text × ((c : Cut text) × (is_name c.name ≡ true)
+RefusesRequirement text Unclosed = HasNoMarkerOrUrl text × ((c : RequirementParts text) × (is_name c.name ≡ true)
     × ((extras : List (List ℕ)) × (behind : List ℕ) × HasExtras c.rest extras behind × ((list : List ℕ) → HasList behind list → ⊥)))
-RefusesRequirement text (Specifiers list f) = (front : Front) × HasFront text front × (list ≡ front.list) × RefusesList front.list f
+RefusesRequirement text (Specifiers list f) = (prefix : Front) × HasFront text prefix × (list ≡ prefix.list) × RefusesList prefix.list f

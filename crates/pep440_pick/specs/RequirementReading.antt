@@ -5,12 +5,12 @@ use Rattle.std.specs.List.{list_all}
 use Rattle.pep440_version.specs.Reading.{lead, past}
 use Rattle.pep440_rs.specs.ListGrammar.{pieces}
 use Rattle.pep440_pick.specs.Names.{is_name, is_name_byte}
-use Rattle.pep440_pick.specs.RequirementGrammar.{Front, InvalidExtras, InvalidName, Marker, RequirementRefusal, Unclosed, Url, has_byte, opens, trimmed}
+use Rattle.pep440_pick.specs.RequirementGrammar.{Front, InvalidExtras, InvalidName, Marker, RequirementRefusal, Unclosed, Url, has_byte, opens, trim_blanks}
 
 -- what stands before the first such byte, and what behind it
-unfoldable pub cut_at : ℕ → List ℕ → Option (List ℕ × List ℕ)
-cut_at b [] = None
-cut_at b (x ∷ rest) = if x == b then Some ([], rest) else option_map (λ p. (x ∷ p.0, p.1)) (cut_at b rest)
+unfoldable pub split_at_byte : ℕ → List ℕ → Option (List ℕ × List ℕ)
+split_at_byte b [] = None
+split_at_byte b (x ∷ rest) = if x == b then Some ([], rest) else option_map (λ p. (x ∷ p.0, p.1)) (split_at_byte b rest)
 
 -- the text without this byte at its end, where it stands there
 unfoldable pub without_end : ℕ → List ℕ → Option (List ℕ)
@@ -20,7 +20,7 @@ without_end b (x ∷ y ∷ rest) = option_map (λ t. x ∷ t) (without_end b (y 
 
 -- the names between the commas, if each is one
 abbrev pub names_in : List (List ℕ) → Option (List (List ℕ))
-names_in parts = if list_all is_name (map trimmed parts) then Some (map trimmed parts) else None
+names_in parts = if list_all is_name (map trim_blanks parts) then Some (map trim_blanks parts) else None
 
 -- what stands in brackets
 unfoldable pub extras_in : List ℕ → Option (List (List ℕ))
@@ -32,11 +32,11 @@ bracketed (Some p) = option_map (λ e. (e, p.1)) (extras_in p.0)
 
 -- the extras at the front, and what follows
 unfoldable pub extras_at : List ℕ → Option (List (List ℕ) × List ℕ)
-extras_at text = if opens 91 text then bracketed (cut_at 93 (drop 1 text)) else Some ([], text)
+extras_at text = if opens 91 text then bracketed (split_at_byte 93 (drop 1 text)) else Some ([], text)
 
 -- the text of the list, of a text without blanks at its ends
 abbrev pub list_in : List ℕ → Option (List ℕ)
-list_in text = if opens 40 text then option_map trimmed (without_end 41 (drop 1 text)) else Some text
+list_in text = if opens 40 text then option_map trim_blanks (without_end 41 (drop 1 text)) else Some text
 
 abbrev pub with_list : List ℕ → List (List ℕ) → Option (List ℕ) → Result Front RequirementRefusal
 with_list name extras None = Err Unclosed
@@ -44,11 +44,11 @@ with_list name extras (Some list) = Ok (record { name = name; extras = extras; l
 
 abbrev pub with_extras : List ℕ → Option (List (List ℕ) × List ℕ) → Result Front RequirementRefusal
 with_extras name None = Err InvalidExtras
-with_extras name (Some p) = with_list name p.0 (list_in (trimmed p.1))
+with_extras name (Some p) = with_list name p.0 (list_in (trim_blanks p.1))
 
 -- the name, and what follows it behind blanks
-unfoldable pub named : List ℕ → List ℕ → Result Front RequirementRefusal
-named name rest = if is_name name then with_extras name (extras_at rest) else Err InvalidName
+unfoldable pub prefix_after_name : List ℕ → List ℕ → Result Front RequirementRefusal
+prefix_after_name name rest = if is_name name then with_extras name (extras_at rest) else Err InvalidName
 
 -- the name of a text, and what follows it behind blanks
 abbrev pub name_of : List ℕ → List ℕ
@@ -58,5 +58,5 @@ abbrev pub behind_name : List ℕ → List ℕ
 behind_name text = past is_ascii_whitespace (past is_name_byte (past is_ascii_whitespace text))
 
 -- the parts of the text
-abbrev pub read_front : List ℕ → Result Front RequirementRefusal
-read_front text = if has_byte 59 text then Err Marker else if has_byte 64 text then Err Url else named (name_of text) (behind_name text)
+abbrev pub read_prefix : List ℕ → Result Front RequirementRefusal
+read_prefix text = if has_byte 59 text then Err Marker else if has_byte 64 text then Err Url else prefix_after_name (name_of text) (behind_name text)

@@ -35,12 +35,12 @@ RequirementAnswers (Err e) outcome = IfSome (requirement_refusal_of e) (λ f. ou
 
 -- ---- what the readers of the parts answer
 
-abbrev pub front_of : Parts → Front
-front_of p = record { name = p.name.now; extras = map string_bytes p.extras.items; list = p.list.now }
+abbrev pub prefix_of : Parts → Front
+prefix_of p = record { name = p.name.now; extras = map string_bytes p.extras.items; list = p.list.now }
 
 -- the parts were read as reading gives them, unless memory ran out
 abbrev pub FrontGives : Result Parts RequirementError → Result Front RequirementRefusal → Type 0
-FrontGives (Ok p) read = read ≡ Ok (front_of p)
+FrontGives (Ok p) read = read ≡ Ok (prefix_of p)
 FrontGives (Err e) read = IfSome (requirement_refusal_of e) (λ f. read ≡ Err f)
 
 -- what was read, seen by view, is what reading gives, where `InvalidExtras` is the only refusal, unless memory ran out

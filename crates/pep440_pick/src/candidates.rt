@@ -29,12 +29,12 @@ fn all_contain(
 
 // The version is above the newest so far.
 fn is_above(candidates: &[Version], newest: Option<usize>, version: &Version) -> bool
-    requires { IfSome newest (λ place. place < length candidates.now) }
-    ensures { result ≡ option_map_or (λ place. is_lt (record_cmp (slice_index_or candidates.now place version.now) version.now)) newest true }
+    requires { IfSome newest (λ position. position < length candidates.now) }
+    ensures { result ≡ option_map_or (λ position. is_lt (record_cmp (slice_index_or candidates.now position version.now) version.now)) newest true }
 {
     match newest {
         None => true,
-        Some(place) => candidates[place] < *version,
+        Some(position) => candidates[position] < *version,
     }
 }
 
@@ -50,13 +50,13 @@ pub fn newest(
 ) -> Result<Option<usize>, AllocError>
     ensures newest { IfOk result (Newest lists.now candidates.now) }
     // It is the place of a candidate.
-    ensures inside { IfOk result (λ newest. IfSome newest (λ place. place < length candidates.now)) }
+    ensures inside { IfOk result (λ newest. IfSome newest (λ position. position < length candidates.now)) }
     ensures answered { All (λ list. All (λ m. m.operator ≢ ExactEqual) list) lists.now → IsOk result }
 {
     let mut newest: Option<usize> = None;
-    for (place, candidate) in candidates.iter().enumerate() {
+    for (position, candidate) in candidates.iter().enumerate() {
         if is_above(candidates, newest, candidate) && all_contain(alloc, lists, candidate)? {
-            newest = Some(place);
+            newest = Some(position);
         }
     }
     Ok(newest)

@@ -8,8 +8,8 @@ ghost use Rattle.pep440_rs.specs.ListErrorTexts.{list_text_of};
 ghost use Rattle.pep440_rs.specs.ListGrammar.{DerivesList, PieceRefusal, RefusesList};
 ghost use Rattle.pep440_rs.specs.Specifiers.{Spec};
 ghost use Rattle.pep440_pick.specs.Names.{is_name};
-ghost use Rattle.pep440_pick.specs.RequirementGrammar.{Specifiers, trimmed};
-ghost use Rattle.pep440_pick.specs.RequirementReading.{extras_at, extras_in, list_in, named, read_front};
+ghost use Rattle.pep440_pick.specs.RequirementGrammar.{Specifiers, trim_blanks};
+ghost use Rattle.pep440_pick.specs.RequirementReading.{extras_at, extras_in, list_in, prefix_after_name, read_prefix};
 ghost use Rattle.pep440_pick.specs.Requirements.{ExtrasGive, FrontGives, IsOfList, IsRequirementLifted, ListGives, requirement_refusal_of};
 ghost use Rattle.pep440_pick.specs.RequirementTexts.{requirement_refusal_text, requirement_text_of};
 ghost use Rattle.pep440_pick.specs.declared.error.RequirementError.TheVariants.{InvalidExtras, OutOfMemory};
@@ -17,7 +17,8 @@ ghost use Rattle.pep440_pick.specs.declared.error.RequirementError.TheVariants.{
 use crate::error::RequirementError;
 use crate::name::is_name;
 use crate::scan::{
-    are_blanks, cut_at, has_byte, past_blanks, split_name, trimmed, without_end, without_front,
+    are_blanks, has_byte, skip_blanks, split_at_byte, split_name, trim_blanks, without_end,
+    without_prefix,
 };
 use pep440_rs::{SpecifiersErrorKind, VersionSpecifiers, VersionSpecifiersParseError};
 use std::alloc::Global;
@@ -32,10 +33,10 @@ pub(crate) struct Parts<'a> {
 
 // One more name, where the part is one, but for blanks at its ends.
 fn add_name(alloc: Global, names: &mut Vec<String>, part: &str) -> Result<(), RequirementError>
-    ensures added { IfOk result (λ _. (is_name (trimmed part.now) ≡ true) × (map string_bytes names.new.items ≡ map string_bytes names.old.items ++ trimmed part.now ∷ [])) }
-    ensures refused { IfErr result (λ e. ((e ≡ InvalidExtras) × (is_name (trimmed part.now) ≡ false)) ⊎ (e ≡ OutOfMemory)) }
+    ensures added { IfOk result (λ _. (is_name (trim_blanks part.now) ≡ true) × (map string_bytes names.new.items ≡ map string_bytes names.old.items ++ trim_blanks part.now ∷ [])) }
+    ensures refused { IfErr result (λ e. ((e ≡ InvalidExtras) × (is_name (trim_blanks part.now) ≡ false)) ⊎ (e ≡ OutOfMemory)) }
 {
-    let name = trimmed(part);
+    let name = trim_blanks(part);
     if !is_name(name) {
         return Err(RequirementError::InvalidExtras);
     }
@@ -64,10 +65,10 @@ fn extras_in(alloc: Global, inside: &str) -> Result<Vec<String>, RequirementErro
 fn extras_at(alloc: Global, text: &str) -> Result<(Vec<String>, &str), RequirementError>
     ensures { ExtrasGive (λ x. (map string_bytes x.0.items, x.1.now)) result (extras_at text.now) }
 {
-    let Some(open) = without_front(text, '[') else {
+    let Some(open) = without_prefix(text, '[') else {
         return Ok((Vec::new(alloc), text));
     };
-    let Some((inside, behind)) = cut_at(open, ']') else {
+    let Some((inside, behind)) = split_at_byte(open, ']') else {
         return Err(RequirementError::InvalidExtras);
     };
     Ok((extras_in(alloc, inside)?, behind))
@@ -77,23 +78,27 @@ fn extras_at(alloc: Global, text: &str) -> Result<(Vec<String>, &str), Requireme
 fn list_in(text: &str) -> Option<&str>
     ensures { option_map (λ x. x.now) result ≡ list_in text.now }
 {
-    match without_front(text, '(') {
+    match without_prefix(text, '(') {
         None => Some(text),
-        Some(open) => Some(trimmed(without_end(open, ')')?)),
+        Some(open) => Some(trim_blanks(without_end(open, ')')?)),
     }
 }
 
 // The parts of a text, by the name and what follows it behind blanks.
-fn named<'a>(alloc: Global, name: &'a str, rest: &'a str) -> Result<Parts<'a>, RequirementError>
-    ensures value { FrontGives result (named name.now rest.now) }
+fn prefix_after_name<'a>(
+    alloc: Global,
+    name: &'a str,
+    rest: &'a str,
+) -> Result<Parts<'a>, RequirementError>
+    ensures value { FrontGives result (prefix_after_name name.now rest.now) }
     ensures lifted { IfErr result IsRequirementLifted }
-    ensures told { IfErr result (λ e. IfSome (requirement_refusal_of e) (λ f. requirement_text_of e ≡ Some (requirement_refusal_text f))) }
+    ensures message { IfErr result (λ e. IfSome (requirement_refusal_of e) (λ f. requirement_text_of e ≡ Some (requirement_refusal_text f))) }
 {
     if !is_name(name) {
         return Err(RequirementError::InvalidName);
     }
     let (extras, behind) = extras_at(alloc, rest)?;
-    match list_in(trimmed(behind)) {
+    match list_in(trim_blanks(behind)) {
         Some(list) => Ok(Parts { name, extras, list }),
         None => Err(RequirementError::Unclosed),
     }
@@ -101,9 +106,9 @@ fn named<'a>(alloc: Global, name: &'a str, rest: &'a str) -> Result<Parts<'a>, R
 
 // The parts of the text.
 pub(crate) fn read_parts(alloc: Global, text: &str) -> Result<Parts<'_>, RequirementError>
-    ensures value { FrontGives result (read_front text.now) }
+    ensures value { FrontGives result (read_prefix text.now) }
     ensures lifted { IfErr result IsRequirementLifted }
-    ensures told { IfErr result (λ e. IfSome (requirement_refusal_of e) (λ f. requirement_text_of e ≡ Some (requirement_refusal_text f))) }
+    ensures message { IfErr result (λ e. IfSome (requirement_refusal_of e) (λ f. requirement_text_of e ≡ Some (requirement_refusal_text f))) }
 {
     if has_byte(text, b';') {
         return Err(RequirementError::Marker);
@@ -111,15 +116,15 @@ pub(crate) fn read_parts(alloc: Global, text: &str) -> Result<Parts<'_>, Require
     if has_byte(text, b'@') {
         return Err(RequirementError::Url);
     }
-    let (name, rest) = split_name(past_blanks(text));
-    named(alloc, name, past_blanks(rest))
+    let (name, rest) = split_name(skip_blanks(text));
+    prefix_after_name(alloc, name, skip_blanks(rest))
 }
 
 // The error of a text whose list is refused with this one.
 fn of_list(error: VersionSpecifiersParseError) -> RequirementError
     requires { IsListLifted (list_kind_of error) }
     ensures refusal { requirement_refusal_of result ≡ option_map (λ f. Specifiers (line_of error) f) (list_refusal_of (list_kind_of error)) }
-    ensures told { requirement_text_of result ≡ list_text_of (list_kind_of error) (line_of error) }
+    ensures message { requirement_text_of result ≡ list_text_of (list_kind_of error) (line_of error) }
     ensures lifted { IsRequirementLifted result }
 {
     if let SpecifiersErrorKind::OutOfMemory = error.kind() {
@@ -135,7 +140,7 @@ pub(crate) fn list_of(alloc: Global, text: &str) -> Result<VersionSpecifiers, Re
     ensures only { (list : List Spec) → DerivesList text.now list → ListGives text.now result (Ok list) }
     ensures refused { IfErr result (λ e. IfSome (requirement_refusal_of e) (IsOfList text.now)) }
     ensures decided { (f : PieceRefusal) → RefusesList text.now f → ListGives text.now result (Err f) }
-    ensures told { IfErr result (λ e. IfSome (requirement_refusal_of e) (λ f. requirement_text_of e ≡ Some (requirement_refusal_text f))) }
+    ensures message { IfErr result (λ e. IfSome (requirement_refusal_of e) (λ f. requirement_text_of e ≡ Some (requirement_refusal_text f))) }
     ensures lifted { IfErr result IsRequirementLifted }
 {
     match VersionSpecifiers::from_str(alloc, text) {

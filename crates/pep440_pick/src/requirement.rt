@@ -41,7 +41,7 @@ impl Requirement {
         // The refusal of the text is answered, unless memory runs out.
         ensures decided { (f : RequirementRefusal) → RefusesRequirement text.now f → RequirementAnswers result (Err f) }
         // The error's text is the refusal's.
-        ensures told { IfErr result (λ e. IfSome (requirement_refusal_of e) (λ f. requirement_text_of e ≡ Some (requirement_refusal_text f))) }
+        ensures message { IfErr result (λ e. IfSome (requirement_refusal_of e) (λ f. requirement_text_of e ≡ Some (requirement_refusal_text f))) }
         // Out of memory is the last kind, and stands in no other.
         ensures lifted { IfErr result IsRequirementLifted }
         // The version of each member is one that a text can give beside the operator, as the agreement of ranges asks.
@@ -71,7 +71,7 @@ impl Requirement {
         // A refusal holds of the text.
         ensures refused { IfErr result (λ e. IfSome (requirement_refusal_of e) (RefusesRequirement text.now)) }
         // The error's text is the refusal's.
-        ensures told { IfErr result (λ e. IfSome (requirement_refusal_of e) (λ f. requirement_text_of e ≡ Some (requirement_refusal_text f))) }
+        ensures message { IfErr result (λ e. IfSome (requirement_refusal_of e) (λ f. requirement_text_of e ≡ Some (requirement_refusal_text f))) }
         // Out of memory is the last kind, and stands in no other.
         ensures lifted { IfErr result IsRequirementLifted }
     {

@@ -4,8 +4,8 @@ ghost use Rattle.std.specs.Char.{is_ascii_whitespace};
 ghost use Rattle.std.specs.List.{list_all, prefix_len};
 ghost use Rattle.pep440_version.specs.Reading.{lead, past};
 ghost use Rattle.pep440_pick.specs.Names.{is_name_byte};
-ghost use Rattle.pep440_pick.specs.RequirementGrammar.{has_byte, opens, trimmed};
-ghost use Rattle.pep440_pick.specs.RequirementReading.{cut_at, without_end};
+ghost use Rattle.pep440_pick.specs.RequirementGrammar.{has_byte, opens, trim_blanks};
+ghost use Rattle.pep440_pick.specs.RequirementReading.{split_at_byte, without_end};
 
 use crate::name::is_name_byte;
 
@@ -17,15 +17,15 @@ pub(crate) fn has_byte(text: &str, byte: u8) -> bool
 }
 
 // What follows the blanks at the front.
-pub(crate) fn past_blanks(text: &str) -> &str
+pub(crate) fn skip_blanks(text: &str) -> &str
     ensures { result.now ≡ past is_ascii_whitespace text.now }
 {
     text.trim_ascii_start()
 }
 
 // The text without the blanks at its ends.
-pub(crate) fn trimmed(text: &str) -> &str
-    ensures { result.now ≡ trimmed text.now }
+pub(crate) fn trim_blanks(text: &str) -> &str
+    ensures { result.now ≡ trim_blanks text.now }
 {
     text.trim_ascii()
 }
@@ -39,7 +39,7 @@ fn name_len(text: &[u8]) -> usize
 
 // The longest run of bytes of names at the front, and what follows it.
 pub(crate) fn split_name(text: &str) -> (&str, &str)
-    ensures front { result.0.now ≡ lead is_name_byte text.now }
+    ensures prefix { result.0.now ≡ lead is_name_byte text.now }
     ensures back { result.1.now ≡ past is_name_byte text.now }
 {
     text.split_at(name_len(text.as_bytes()))
@@ -55,15 +55,15 @@ pub(crate) fn are_blanks(text: &str) -> bool
 }
 
 // What stands before the first such character, and what behind it.
-pub(crate) fn cut_at(text: &str, character: char) -> Option<(&str, &str)>
+pub(crate) fn split_at_byte(text: &str, character: char) -> Option<(&str, &str)>
     requires { character < 128 }
-    ensures { option_map (λ x. (x.0.now, x.1.now)) result ≡ cut_at character text.now }
+    ensures { option_map (λ x. (x.0.now, x.1.now)) result ≡ split_at_byte character text.now }
 {
     text.split_once(character)
 }
 
 // The text without this character at its front, where it stands there.
-pub(crate) fn without_front(text: &str, character: char) -> Option<&str>
+pub(crate) fn without_prefix(text: &str, character: char) -> Option<&str>
     requires { character < 128 }
     ensures { option_map (λ x. x.now) result ≡ (if opens character text.now then Some (drop 1 text.now) else None) }
 {

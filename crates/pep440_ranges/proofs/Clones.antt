@@ -3,7 +3,7 @@ use Rattle.std.proofs.Common.{List, [], ◌∷◌, refl, inl, inr}
 use Rattle.std.specs.declared.ops.Bound.{Bound}
 use Rattle.std.specs.declared.ops.Bound.TheVariants.{Included, Excluded, Unbounded}
 use Rattle.pep440_ranges.specs.Segments.{Segment}
-use Rattle.pep440_ranges.specs.Clones.{IsValueOf, IsCloneSame, ClonesBound, ClonesHeld, ClonesEach}
+use Rattle.pep440_ranges.specs.Clones.{IsValueOf, IsCloneSame, ClonesBound, ClonesBoundValues, ClonesEach}
 
 module _ {V : Type 0} (is_clone : V → V → Type 0) where
   clones_bound : (b : Bound V) → ((x : V) → IsValueOf b x → IsCloneSame is_clone x) → ClonesBound is_clone b
@@ -11,6 +11,6 @@ module _ {V : Type 0} (is_clone : V → V → Type 0) where
   clones_bound (Excluded x) h = h x refl
   clones_bound Unbounded h = tt
 
-  pub clones_each : (ss : List (Segment V)) → ClonesHeld is_clone ss → ClonesEach is_clone ss
+  pub clones_each : (ss : List (Segment V)) → ClonesBoundValues is_clone ss → ClonesEach is_clone ss
   clones_each [] h = tt
   clones_each (s ∷ ss) h = (clones_bound s.0 (λ x e. h x (inl e)), clones_bound s.1 (λ x e. h x (inr (inl e))), clones_each ss (λ x held. h x (inr (inr held))))

@@ -8,7 +8,7 @@ use Rattle.std.specs.declared.ops.Bound.{Bound}
 use Rattle.std.specs.declared.ops.Bound.TheVariants.{Included, Excluded, Unbounded}
 use Rattle.std.specs.Cmp.{IsTotalOrder}
 use Rattle.std.specs.Ordering.{is_lt, is_le, ordering_reverse}
-use Rattle.pep440_ranges.specs.Bounds.{turned, is_valid, is_apart, is_from_start, is_up_to_end}
+use Rattle.pep440_ranges.specs.Bounds.{flipped_bound, is_valid, is_apart, is_from_start, is_up_to_end}
 use Rattle.pep440_ranges.specs.Segments.{Segment, lies_in, contains, IsRange, IsRangeAfter}
 use Rattle.pep440_ranges.specs.Complement.{gaps, gaps_after, gap_before}
 use Rattle.pep440_ranges.proofs.Places.{start_place, end_place, value_place, below, valid_is, apart_is, from_is, upto_is, lt_lt}
@@ -65,12 +65,12 @@ module _ {V : Type 0} {cmp : V → V → Ordering} (o : IsTotalOrder cmp) where
   IsBounded (Included x) = Unit {0}
   IsBounded (Excluded x) = Unit {0}
 
-  pub from_turned : (e : Bound V) (v : V) → IsBounded e → is_from_start cmp (turned e) v ≡ not (is_up_to_end cmp e v)
+  pub from_turned : (e : Bound V) (v : V) → IsBounded e → is_from_start cmp (flipped_bound e) v ≡ not (is_up_to_end cmp e v)
   from_turned Unbounded v b = absurd b
   from_turned (Included x) v b = ap is_lt (o.antisymm x v) ∙ back_lt (cmp v x)
   from_turned (Excluded x) v b = ap is_le (o.antisymm x v) ∙ back_le (cmp v x)
 
-  pub upto_turned : (s : Bound V) (v : V) → IsBounded s → is_up_to_end cmp (turned s) v ≡ not (is_from_start cmp s v)
+  pub upto_turned : (s : Bound V) (v : V) → IsBounded s → is_up_to_end cmp (flipped_bound s) v ≡ not (is_from_start cmp s v)
   upto_turned Unbounded v b = absurd b
   upto_turned (Included x) v b = ap is_lt (o.antisymm v x) ∙ back_lt (cmp x v)
   upto_turned (Excluded x) v b = ap is_le (o.antisymm v x) ∙ back_le (cmp x v)
@@ -107,7 +107,7 @@ module _ {V : Type 0} {cmp : V → V → Ordering} (o : IsTotalOrder cmp) where
 
   between : (e : Bound V) (s : Segment V) (ss : List (Segment V)) (v : V) → IsRangeAfter cmp e (s ∷ ss) →
       contains cmp (gaps_after s.1 ss) v ≡ not (is_up_to_end cmp s.1 v) && not (contains cmp ss v) →
-      contains cmp ((turned e, turned s.0) ∷ gaps_after s.1 ss) v ≡ not (is_up_to_end cmp e v) && not (contains cmp (s ∷ ss) v)
+      contains cmp ((flipped_bound e, flipped_bound s.0) ∷ gaps_after s.1 ss) v ≡ not (is_up_to_end cmp e v) && not (contains cmp (s ∷ ss) v)
   between e s ss v r later =
       both_of _ _ _ _ _ _ (from_turned e v (bounded_end e s.0 r.0)) (upto_turned s.0 v (bounded_start e s.0 r.0)) later
       ∙ one_gap (is_up_to_end cmp e v) (is_from_start cmp s.0 v) (is_up_to_end cmp s.1 v) (contains cmp ss v)
@@ -144,7 +144,7 @@ module _ {V : Type 0} {cmp : V → V → Ordering} (o : IsTotalOrder cmp) where
 
   -- ---- the gaps are a range
 
-  turned_valid : (e s : Bound V) → is_apart cmp e s ≡ true → is_valid cmp (turned e) (turned s) ≡ true
+  turned_valid : (e s : Bound V) → is_apart cmp e s ≡ true → is_valid cmp (flipped_bound e) (flipped_bound s) ≡ true
   turned_valid Unbounded s h = absurd (true≢false (sym h))
   turned_valid (Included x) Unbounded h = refl
   turned_valid (Included x) (Included y) h = h
@@ -159,7 +159,7 @@ module _ {V : Type 0} {cmp : V → V → Ordering} (o : IsTotalOrder cmp) where
   LeavesGap f (Included x) = IsTrue (is_apart cmp f (Excluded x))
   LeavesGap f (Excluded x) = IsTrue (is_apart cmp f (Included x))
 
-  turned_apart : (s e : Bound V) → IsBounded s → is_valid cmp s e ≡ true → LeavesGap (turned s) e
+  turned_apart : (s e : Bound V) → IsBounded s → is_valid cmp s e ≡ true → LeavesGap (flipped_bound s) e
   turned_apart Unbounded e b h = absurd b
   turned_apart (Included x) Unbounded b h = tt
   turned_apart (Included x) (Included y) b h = h
@@ -174,9 +174,9 @@ module _ {V : Type 0} {cmp : V → V → Ordering} (o : IsTotalOrder cmp) where
   gaps_after_range f (Excluded x) [] l r = (l, refl, tt)
   gaps_after_range f Unbounded (s ∷ ss) l r = absurd (true≢false (sym r.0))
   gaps_after_range f (Included x) (s ∷ ss) l r =
-      (l, turned_valid (Included x) s.0 r.0, gaps_after_range (turned s.0) s.1 ss (turned_apart s.0 s.1 (bounded_start (Included x) s.0 r.0) r.1) r.2)
+      (l, turned_valid (Included x) s.0 r.0, gaps_after_range (flipped_bound s.0) s.1 ss (turned_apart s.0 s.1 (bounded_start (Included x) s.0 r.0) r.1) r.2)
   gaps_after_range f (Excluded x) (s ∷ ss) l r =
-      (l, turned_valid (Excluded x) s.0 r.0, gaps_after_range (turned s.0) s.1 ss (turned_apart s.0 s.1 (bounded_start (Excluded x) s.0 r.0) r.1) r.2)
+      (l, turned_valid (Excluded x) s.0 r.0, gaps_after_range (flipped_bound s.0) s.1 ss (turned_apart s.0 s.1 (bounded_start (Excluded x) s.0 r.0) r.1) r.2)
 
   -- without a segment before
   gaps_after_first : (e : Bound V) (ss : List (Segment V)) → IsRangeAfter cmp e ss → IsRange cmp (gaps_after e ss)
@@ -185,9 +185,9 @@ module _ {V : Type 0} {cmp : V → V → Ordering} (o : IsTotalOrder cmp) where
   gaps_after_first (Excluded x) [] r = (refl, tt)
   gaps_after_first Unbounded (s ∷ ss) r = absurd (true≢false (sym r.0))
   gaps_after_first (Included x) (s ∷ ss) r =
-      (turned_valid (Included x) s.0 r.0, gaps_after_range (turned s.0) s.1 ss (turned_apart s.0 s.1 (bounded_start (Included x) s.0 r.0) r.1) r.2)
+      (turned_valid (Included x) s.0 r.0, gaps_after_range (flipped_bound s.0) s.1 ss (turned_apart s.0 s.1 (bounded_start (Included x) s.0 r.0) r.1) r.2)
   gaps_after_first (Excluded x) (s ∷ ss) r =
-      (turned_valid (Excluded x) s.0 r.0, gaps_after_range (turned s.0) s.1 ss (turned_apart s.0 s.1 (bounded_start (Excluded x) s.0 r.0) r.1) r.2)
+      (turned_valid (Excluded x) s.0 r.0, gaps_after_range (flipped_bound s.0) s.1 ss (turned_apart s.0 s.1 (bounded_start (Excluded x) s.0 r.0) r.1) r.2)
 
   pub gaps_range : (ss : List (Segment V)) → IsRange cmp ss → IsRange cmp (gaps ss)
   gaps_range [] r = (refl, tt)

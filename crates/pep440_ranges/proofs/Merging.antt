@@ -5,7 +5,7 @@ use Rattle.std.specs.declared.ops.Bound.{Bound}
 use Rattle.std.specs.Cmp.{IsTotalOrder}
 use Rattle.pep440_ranges.specs.Bounds.{ends_before}
 use Rattle.pep440_ranges.specs.Segments.{Segment, IsRange, IsRangeAfter, one_segment}
-use Rattle.pep440_ranges.specs.Intersection.{overlap, overlaps_of, overlaps}
+use Rattle.pep440_ranges.specs.Intersection.{overlap, overlaps_with, overlaps}
 use Rattle.pep440_ranges.specs.Clones.{ClonesEach}
 use Rattle.pep440_ranges.proofs.Steps.{step_left, step_right, overlaps_nil, taken, skipped}
 
@@ -31,7 +31,7 @@ module _ {V : Type 0} {cmp : V → V → Ordering} (o : IsTotalOrder cmp) where
       ap (λ l. l ++ rest) p ∙ append_assoc shared row rest ∙ ap (λ l. shared ++ l) (sym e) ∙ q
 
   -- what is appended between the greater start and the lesser end is the valid overlap of the two
-  appended : (s t : Segment V) (start end : Bound V) → start ≡ (overlap cmp s t).0 → end ≡ (overlap cmp s t).1 → one_segment cmp start end ≡ overlaps_of cmp s (t ∷ [])
+  appended : (s t : Segment V) (start end : Bound V) → start ≡ (overlap cmp s t).0 → end ≡ (overlap cmp s t).1 → one_segment cmp start end ≡ overlaps_with cmp s (t ∷ [])
   appended s t start end p q = ap (λ b. one_segment cmp b end) p ∙ ap (one_segment cmp (overlap cmp s t).0) q
 
   -- s ends first
@@ -39,8 +39,8 @@ module _ {V : Type 0} {cmp : V → V → Ordering} (o : IsTotalOrder cmp) where
       ends_before cmp t.1 s.1 ≡ false → start ≡ (overlap cmp s t).0 → IsRange cmp right → shared' ≡ shared ++ one_segment cmp start s.1 → shared ++ overlaps cmp left right ≡ whole →
       shared' ++ overlaps cmp ss right ≡ whole
   merge_left s t start ss ts left right shared shared' whole p q h g r e i =
-      moved shared shared' (overlaps_of cmp s (t ∷ [])) (overlaps cmp ss right) whole (overlaps cmp left right)
-      (same_overlaps cmp p q ∙ step_left o s t ss ts h (after_range t ts right q r) ∙ ap (λ l. overlaps_of cmp s (t ∷ []) ++ overlaps cmp ss l) (sym q))
+      moved shared shared' (overlaps_with cmp s (t ∷ [])) (overlaps cmp ss right) whole (overlaps cmp left right)
+      (same_overlaps cmp p q ∙ step_left o s t ss ts h (after_range t ts right q r) ∙ ap (λ l. overlaps_with cmp s (t ∷ []) ++ overlaps cmp ss l) (sym q))
       (e ∙ ap (λ l. shared ++ l) (appended s t start s.1 g (sym (skipped (ends_before cmp t.1 s.1) t.1 s.1 h)))) i
 
   -- t ends first
@@ -48,8 +48,8 @@ module _ {V : Type 0} {cmp : V → V → Ordering} (o : IsTotalOrder cmp) where
       ends_before cmp t.1 s.1 ≡ true → start ≡ (overlap cmp s t).0 → IsRange cmp left → shared' ≡ shared ++ one_segment cmp start t.1 → shared ++ overlaps cmp left right ≡ whole →
       shared' ++ overlaps cmp left ts ≡ whole
   merge_right s t start ss ts left right shared shared' whole p q h g r e i =
-      moved shared shared' (overlaps_of cmp s (t ∷ [])) (overlaps cmp left ts) whole (overlaps cmp left right)
-      (same_overlaps cmp p q ∙ step_right o s t ss ts h (after_range s ss left p r) ∙ ap (λ l. overlaps_of cmp s (t ∷ []) ++ overlaps cmp l ts) (sym p))
+      moved shared shared' (overlaps_with cmp s (t ∷ [])) (overlaps cmp left ts) whole (overlaps cmp left right)
+      (same_overlaps cmp p q ∙ step_right o s t ss ts h (after_range s ss left p r) ∙ ap (λ l. overlaps_with cmp s (t ∷ []) ++ overlaps cmp l ts) (sym p))
       (e ∙ ap (λ l. shared ++ l) (appended s t start t.1 g (sym (taken (ends_before cmp t.1 s.1) t.1 s.1 h)))) i
 
   length_none : (ss : List (Segment V)) → length ss ≡ 0 → ss ≡ []

@@ -9,13 +9,13 @@ use Rattle.std.specs.Ordering.{is_lt}
 use Rattle.std.proofs.lemmas.Cmp.{tied_itself}
 use Rattle.pep440_ranges.specs.Bounds.{is_from_start, is_up_to_end, starts_before, ends_before}
 use Rattle.pep440_ranges.specs.Segments.{Segment, lies_in, contains}
-use Rattle.pep440_ranges.specs.Intersection.{is_valid_segment, overlap, overlaps_of, overlaps}
-use Rattle.pep440_ranges.proofs.Places.{Place, start_place, end_place, value_place, below, valid_is, starts_is, ends_is, from_is, upto_is, place_total, asym, le_le, le_lt, lt_le}
+use Rattle.pep440_ranges.specs.Intersection.{is_valid_segment, overlap, overlaps_with, overlaps}
+use Rattle.pep440_ranges.proofs.Places.{Place, start_place, end_place, value_place, below, valid_is, starts_is, ends_is, from_is, upto_is, rank_total, asym, le_le, le_lt, lt_le}
 use Rattle.pep440_ranges.proofs.Complement.{contains-append, either}
 
 module _ {V : Type 0} {cmp : V → V → Ordering} (o : IsTotalOrder cmp) where
   pub irr : (p : Place V) → below cmp p p ≡ false
-  irr p = ap is_lt (tied_itself (place_total o) p)
+  irr p = ap is_lt (tied_itself (rank_total o) p)
 
   -- ---- the greater start and the lesser end
 
@@ -138,7 +138,7 @@ module _ {V : Type 0} {cmp : V → V → Ordering} (o : IsTotalOrder cmp) where
   pub overlaps_set : (ss ts : List (Segment V)) (v : V) → contains cmp (overlaps cmp ss ts) v ≡ contains cmp ss v && contains cmp ts v
   overlaps_set [] ts v = refl
   overlaps_set (s ∷ ss) ts v =
-      contains-append cmp (overlaps_of cmp s ts) (overlaps cmp ss ts) v
+      contains-append cmp (overlaps_with cmp s ts) (overlaps cmp ss ts) v
       ∙ either _ _ _ _ (valid_set (map (overlap cmp s) ts) v ∙ row_set s ts v) (overlaps_set ss ts v)
       ∙ spread (lies_in cmp s v) (contains cmp ss v) (contains cmp ts v)
     where

@@ -6,7 +6,7 @@ use Rattle.std.specs.declared.ops.Bound.TheVariants.{Included, Excluded, Unbound
 use Rattle.std.specs.Cmp.{IsTotalOrder}
 use Rattle.pep440_ranges.specs.Bounds.{is_valid, ends_before}
 use Rattle.pep440_ranges.specs.Segments.{Segment, IsRange, IsRangeAfter}
-use Rattle.pep440_ranges.specs.Intersection.{is_valid_segment, overlap, overlaps_of, overlaps}
+use Rattle.pep440_ranges.specs.Intersection.{is_valid_segment, overlap, overlaps_with, overlaps}
 use Rattle.pep440_ranges.proofs.Places.{Place, start_place, end_place, below, valid_is, apart_is, asym, le_lt, lt_le, lt_lt}
 use Rattle.pep440_ranges.proofs.Overlap.{greater_left, greater_right, lesser_left, lesser_right}
 use Rattle.pep440_ranges.proofs.Steps.{step_left, step_right, overlaps_nil}
@@ -77,7 +77,7 @@ module _ {V : Type 0} {cmp : V → V → Ordering} (o : IsTotalOrder cmp) where
   BothAfter ss ts = (p q : Place V) → After p ss → After q ts → After p (overlaps cmp ss ts) × After q (overlaps cmp ss ts)
 
   joined : (s t : Segment V) (ss ts : List (Segment V)) (p q : Place V) → After p (s ∷ ss) → After q (t ∷ ts) → (rest : List (Segment V)) →
-      After p rest × After q rest → After (end_place (overlap cmp s t).1) rest → After p (overlaps_of cmp s (t ∷ []) ++ rest) × After q (overlaps_of cmp s (t ∷ []) ++ rest)
+      After p rest × After q rest → After (end_place (overlap cmp s t).1) rest → After p (overlaps_with cmp s (t ∷ []) ++ rest) × After q (overlaps_with cmp s (t ∷ []) ++ rest)
   joined s t ss ts p q a b rest r c =
       let m = overlap cmp s t in (
         prepend p m rest (is_valid_segment cmp m) refl (lt_le o p (start_place s.0) (start_place m.0) a.0 (greater_left o s.0 t.0)) r.0 c,
@@ -111,7 +111,7 @@ module _ {V : Type 0} {cmp : V → V → Ordering} (o : IsTotalOrder cmp) where
   abbrev Few : List (Segment V) → List (Segment V) → Type 0
   Few ss ts = (p q : Place V) → After p ss → After q ts → length (overlaps cmp ss ts) ≤ length ss + length ts - 1
 
-  one_more : (s t : Segment V) (rest : List (Segment V)) → length (overlaps_of cmp s (t ∷ []) ++ rest) ≤ length rest + 1
+  one_more : (s t : Segment V) (rest : List (Segment V)) → length (overlaps_with cmp s (t ∷ []) ++ rest) ≤ length rest + 1
   one_more s t rest = go (is_valid_segment cmp (overlap cmp s t))
     where
       go : (b : Bool) → length (cond b (overlap cmp s t ∷ []) [] ++ rest) ≤ length rest + 1

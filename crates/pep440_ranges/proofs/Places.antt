@@ -28,12 +28,12 @@ end_place Unbounded = (3, None, 0)
 abbrev pub value_place : {V : Type 0} → V → Place V
 value_place v = (2, Some v, 0)
 
-abbrev pub place_cmp : {V : Type 0} → (V → V → Ordering) → Place V → Place V → Ordering
-place_cmp cmp = then_cmp (on (λ p. p.0) nat_cmp) (then_cmp (on (λ p. p.1) (option_cmp cmp)) (on (λ p. p.2) nat_cmp))
+abbrev pub rank_cmp : {V : Type 0} → (V → V → Ordering) → Place V → Place V → Ordering
+rank_cmp cmp = then_cmp (on (λ p. p.0) nat_cmp) (then_cmp (on (λ p. p.1) (option_cmp cmp)) (on (λ p. p.2) nat_cmp))
 
 -- p is below q
 abbrev pub below : {V : Type 0} → (V → V → Ordering) → Place V → Place V → Bool
-below cmp p q = is_lt (place_cmp cmp p q)
+below cmp p q = is_lt (rank_cmp cmp p q)
 
 -- ---- how a second comparison decides where the first answers Equal
 
@@ -130,18 +130,18 @@ module _ {V : Type 0} {cmp : V → V → Ordering} (o : IsTotalOrder cmp) where
 
   -- ---- the places are in one order
 
-  pub place_total : IsTotalOrder (place_cmp cmp)
-  place_total = then_total (on_total (λ p. p.0) nat_cmp_total) (then_total (on_total (λ p. p.1) (options_total o)) (on_total (λ p. p.2) nat_cmp_total))
+  pub rank_total : IsTotalOrder (rank_cmp cmp)
+  rank_total = then_total (on_total (λ p. p.0) nat_cmp_total) (then_total (on_total (λ p. p.1) (options_total o)) (on_total (λ p. p.2) nat_cmp_total))
 
-  below_gt : (p q : Place V) → below cmp p q ≡ is_gt (place_cmp cmp q p)
-  below_gt p q = ap is_lt (place_total.antisymm p q) ∙ lt_gt (place_cmp cmp q p)
+  below_gt : (p q : Place V) → below cmp p q ≡ is_gt (rank_cmp cmp q p)
+  below_gt p q = ap is_lt (rank_total.antisymm p q) ∙ lt_gt (rank_cmp cmp q p)
 
   pub asym : (p q : Place V) → below cmp p q ≡ true → below cmp q p ≡ false
-  asym p q h = below_gt q p ∙ lt_not_gt (place_cmp cmp p q) h
+  asym p q h = below_gt q p ∙ lt_not_gt (rank_cmp cmp p q) h
 
   -- p ≤ q and q ≤ r
   pub le_le : (p q r : Place V) → below cmp q p ≡ false → below cmp r q ≡ false → below cmp r p ≡ false
-  le_le p q r h k = below_gt r p ∙ upto place_total p q r (sym (below_gt q p) ∙ h) (sym (below_gt r q) ∙ k)
+  le_le p q r h k = below_gt r p ∙ upto rank_total p q r (sym (below_gt q p) ∙ h) (sym (below_gt r q) ∙ k)
 
   by_test : (b : Bool) → (b ≡ false → true ≡ false) → b ≡ true
   by_test true h = refl

@@ -6,7 +6,7 @@ use Rattle.std.specs.declared.ops.Bound.{Bound}
 use Rattle.std.specs.Cmp.{IsTotalOrder}
 use Rattle.pep440_ranges.specs.Bounds.{is_valid, is_apart, ends_before}
 use Rattle.pep440_ranges.specs.Segments.{Segment, IsRangeAfter}
-use Rattle.pep440_ranges.specs.Intersection.{is_valid_segment, overlap, overlaps_of, overlaps}
+use Rattle.pep440_ranges.specs.Intersection.{is_valid_segment, overlap, overlaps_with, overlaps}
 use Rattle.pep440_ranges.proofs.Places.{Place, start_place, end_place, below, valid_is, apart_is, ends_is, asym, le_le, le_lt, lt_lt}
 use Rattle.pep440_ranges.proofs.Overlap.{greater_left, greater_right, lesser_left, lesser_right}
 
@@ -46,7 +46,7 @@ module _ {V : Type 0} {cmp : V → V → Ordering} (o : IsTotalOrder cmp) where
   after_end u e s h a ok =
       asym o u (end_place s.1) (lt_lt o u (start_place s.0) (end_place s.1) (le_lt o u (end_place e) (start_place s.0) h (sym (apart_is cmp e s.0) ∙ a)) (sym (valid_is cmp s.0 s.1) ∙ ok))
 
-  row_none : (s : Segment V) (e : Bound V) (ts : List (Segment V)) → below cmp (end_place e) (end_place s.1) ≡ false → IsRangeAfter cmp e ts → overlaps_of cmp s ts ≡ []
+  row_none : (s : Segment V) (e : Bound V) (ts : List (Segment V)) → below cmp (end_place e) (end_place s.1) ≡ false → IsRangeAfter cmp e ts → overlaps_with cmp s ts ≡ []
   row_none s e [] h r = refl
   row_none s e (t ∷ ts) h r =
       skipped _ _ _ (past_left s t (after_start (end_place s.1) e t h r.0)) ∙ row_none s t.1 ts (after_end (end_place s.1) e t h r.0 r.1) r.2
@@ -55,22 +55,22 @@ module _ {V : Type 0} {cmp : V → V → Ordering} (o : IsTotalOrder cmp) where
   column_none t e [] ts h r = refl
   column_none t e (s ∷ ss) ts h r =
       ap (λ row. row ++ overlaps cmp ss (t ∷ ts)) (skipped _ _ _ (past_right s t (after_start (end_place t.1) e s h r.0)))
-      ∙ ap (λ rest. overlaps_of cmp s ts ++ rest) (column_none t s.1 ss ts (after_end (end_place t.1) e s h r.0 r.1) r.2)
+      ∙ ap (λ rest. overlaps_with cmp s ts ++ rest) (column_none t s.1 ss ts (after_end (end_place t.1) e s h r.0 r.1) r.2)
 
   -- ---- the steps of a merge
 
   -- s ends first, so it overlaps no later one
   pub step_left : (s t : Segment V) (ss ts : List (Segment V)) → ends_before cmp t.1 s.1 ≡ false → IsRangeAfter cmp t.1 ts →
-      overlaps cmp (s ∷ ss) (t ∷ ts) ≡ overlaps_of cmp s (t ∷ []) ++ overlaps cmp ss (t ∷ ts)
+      overlaps cmp (s ∷ ss) (t ∷ ts) ≡ overlaps_with cmp s (t ∷ []) ++ overlaps cmp ss (t ∷ ts)
   step_left s t ss ts h r =
       ap (λ row. cond (is_valid_segment cmp (overlap cmp s t)) (overlap cmp s t ∷ row) row ++ overlaps cmp ss (t ∷ ts)) (row_none s t.1 ts (sym (ends_is cmp t.1 s.1) ∙ h) r)
 
   -- t does
   pub step_right : (s t : Segment V) (ss ts : List (Segment V)) → ends_before cmp t.1 s.1 ≡ true → IsRangeAfter cmp s.1 ss →
-      overlaps cmp (s ∷ ss) (t ∷ ts) ≡ overlaps_of cmp s (t ∷ []) ++ overlaps cmp (s ∷ ss) ts
+      overlaps cmp (s ∷ ss) (t ∷ ts) ≡ overlaps_with cmp s (t ∷ []) ++ overlaps cmp (s ∷ ss) ts
   step_right s t ss ts h r =
-      ap (λ rest. overlaps_of cmp s (t ∷ ts) ++ rest) (column_none t s.1 ss ts (asym o (end_place t.1) (end_place s.1) (sym (ends_is cmp t.1 s.1) ∙ h)) r)
-      ∙ split (is_valid_segment cmp (overlap cmp s t)) (overlap cmp s t) (overlaps_of cmp s ts) (overlaps cmp ss ts)
+      ap (λ rest. overlaps_with cmp s (t ∷ ts) ++ rest) (column_none t s.1 ss ts (asym o (end_place t.1) (end_place s.1) (sym (ends_is cmp t.1 s.1) ∙ h)) r)
+      ∙ split (is_valid_segment cmp (overlap cmp s t)) (overlap cmp s t) (overlaps_with cmp s ts) (overlaps cmp ss ts)
     where
       split : (b : Bool) (x : Segment V) (xs ys : List (Segment V)) → cond b (x ∷ xs) xs ++ ys ≡ cond b (x ∷ []) [] ++ (xs ++ ys)
       split true x xs ys = refl

@@ -7,10 +7,10 @@ use Rattle.std.specs.declared.ops.Bound.{Bound}
 use Rattle.std.specs.declared.ops.Bound.TheVariants.{Included, Excluded, Unbounded}
 
 -- a bound turned from included to excluded and back
-abbrev pub turned : {V : Type 0} → Bound V → Bound V
-turned (Included x) = Excluded x
-turned (Excluded x) = Included x
-turned Unbounded = Unbounded
+abbrev pub flipped_bound : {V : Type 0} → Bound V → Bound V
+flipped_bound (Included x) = Excluded x
+flipped_bound (Excluded x) = Included x
+flipped_bound Unbounded = Unbounded
 
 module _ {V : Type 0} (cmp : V → V → Ordering) where
   -- v isn't before the start

@@ -12,9 +12,9 @@ module _ {V : Type 0} where
   IsValueOf Unbounded x = ⊥
 
   -- x is the value of a bound of some segment
-  abbrev pub IsHeld : List (Segment V) → V → Type 0
-  IsHeld [] x = ⊥
-  IsHeld (s ∷ ss) x = IsValueOf s.0 x ⊎ IsValueOf s.1 x ⊎ IsHeld ss x
+  abbrev pub IsBoundValue : List (Segment V) → V → Type 0
+  IsBoundValue [] x = ⊥
+  IsBoundValue (s ∷ ss) x = IsValueOf s.0 x ⊎ IsValueOf s.1 x ⊎ IsBoundValue ss x
 
 module _ {V : Type 0} (is_clone : V → V → Type 0) where
   -- a clone of x is x
@@ -22,8 +22,8 @@ module _ {V : Type 0} (is_clone : V → V → Type 0) where
   IsCloneSame x = (copy : V) → is_clone x copy → copy ≡ x
 
   -- a clone of each held value is that same value
-  abbrev pub ClonesHeld : List (Segment V) → Type 0
-  ClonesHeld ss = (x : V) → IsHeld ss x → IsCloneSame x
+  abbrev pub ClonesBoundValues : List (Segment V) → Type 0
+  ClonesBoundValues ss = (x : V) → IsBoundValue ss x → IsCloneSame x
 
   -- the same of one bound
   abbrev pub ClonesBound : Bound V → Type 0
@@ -37,5 +37,5 @@ module _ {V : Type 0} (is_clone : V → V → Type 0) where
   ClonesEach (s ∷ ss) = ClonesBound s.0 × ClonesBound s.1 × ClonesEach ss
 
 -- where a clone is always the same value, a clone of each held value is: of every range at once
-pub clones_held : {V : Type 0} (is_clone : V → V → Type 0) → ((x : V) → IsCloneSame is_clone x) → (ss : List (Segment V)) → ClonesHeld is_clone ss
-clones_held is_clone same ss x held = same x
+pub clones_bound_values : {V : Type 0} (is_clone : V → V → Type 0) → ((x : V) → IsCloneSame is_clone x) → (ss : List (Segment V)) → ClonesBoundValues is_clone ss
+clones_bound_values is_clone same ss x held = same x

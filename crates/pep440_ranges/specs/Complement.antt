@@ -2,7 +2,7 @@
 use Rattle.std.specs.Prelude.{List, [], ◌∷◌, ◌++◌}
 use Rattle.std.specs.declared.ops.Bound.{Bound}
 use Rattle.std.specs.declared.ops.Bound.TheVariants.{Included, Excluded, Unbounded}
-use Rattle.pep440_ranges.specs.Bounds.{turned}
+use Rattle.pep440_ranges.specs.Bounds.{flipped_bound}
 use Rattle.pep440_ranges.specs.Segments.{Segment}
 
 module _ {V : Type 0} where
@@ -21,7 +21,7 @@ module _ {V : Type 0} where
   -- the gaps from an end on, between the segments and after them
   abbrev pub gaps_after : Bound V → List (Segment V) → List (Segment V)
   gaps_after end [] = gap_after end
-  gaps_after end (s ∷ ss) = (turned end, turned s.0) ∷ gaps_after s.1 ss
+  gaps_after end (s ∷ ss) = (flipped_bound end, flipped_bound s.0) ∷ gaps_after s.1 ss
 
   -- the gaps before, between and after the segments, and all where there is no segment
   abbrev pub gaps : List (Segment V) → List (Segment V)

@@ -14,9 +14,9 @@ module _ {V : Type 0} (cmp : V → V → Ordering) where
   is_valid_segment s = is_valid cmp s.0 s.1
 
   -- the valid overlaps of one segment with each of ts
-  abbrev pub overlaps_of : Segment V → List (Segment V) → List (Segment V)
-  overlaps_of s ts = filter is_valid_segment (map (overlap s) ts)
+  abbrev pub overlaps_with : Segment V → List (Segment V) → List (Segment V)
+  overlaps_with s ts = filter is_valid_segment (map (overlap s) ts)
 
   -- the valid overlaps of each of ss with each of ts
   abbrev pub overlaps : List (Segment V) → List (Segment V) → List (Segment V)
-  overlaps ss ts = flat_map (λ s. overlaps_of s ts) ss
+  overlaps ss ts = flat_map (λ s. overlaps_with s ts) ss

@@ -1,13 +1,13 @@
 //! Tests of one or two bounds, and clones of one.
 
 ghost use Rattle.std.specs.Prelude.{◌≡◌, IfOk, if◌then◌else◌};
-ghost use Rattle.pep440_ranges.specs.Bounds.{turned, is_from_start, is_up_to_end, is_valid, starts_before, ends_before};
+ghost use Rattle.pep440_ranges.specs.Bounds.{flipped_bound, is_from_start, is_up_to_end, is_valid, starts_before, ends_before};
 ghost use Rattle.pep440_ranges.specs.Clones.{ClonesBound};
 
 use std::alloc::AllocError;
 use std::ops::Bound;
 
-/// The value isn't before the start.
+/// Whether the value is not before the start.
 pub(crate) fn is_from_start<V: Ord>(start: &Bound<V>, value: &V) -> bool
     ensures { result ≡ is_from_start V.cmp start.now value.now }
 {
@@ -18,7 +18,7 @@ pub(crate) fn is_from_start<V: Ord>(start: &Bound<V>, value: &V) -> bool
     }
 }
 
-/// The value isn't past the end.
+/// Whether the value is not after the end.
 pub(crate) fn is_up_to_end<V: Ord>(end: &Bound<V>, value: &V) -> bool
     ensures { result ≡ is_up_to_end V.cmp end.now value.now }
 {
@@ -29,7 +29,7 @@ pub(crate) fn is_up_to_end<V: Ord>(end: &Bound<V>, value: &V) -> bool
     }
 }
 
-/// The two are the bounds of a segment.
+/// Whether the two bounds make a valid segment.
 pub(crate) fn is_valid<V: Ord>(start: &Bound<V>, end: &Bound<V>) -> bool
     ensures { result ≡ is_valid V.cmp start.now end.now }
 {
@@ -42,7 +42,7 @@ pub(crate) fn is_valid<V: Ord>(start: &Bound<V>, end: &Bound<V>) -> bool
     }
 }
 
-/// Of two starts, the second is the greater.
+/// Whether the second of two starts is greater.
 fn starts_before<V: Ord>(a: &Bound<V>, b: &Bound<V>) -> bool
     ensures { result ≡ starts_before V.cmp a.now b.now }
 {
@@ -56,14 +56,14 @@ fn starts_before<V: Ord>(a: &Bound<V>, b: &Bound<V>) -> bool
     }
 }
 
-/// The greater of two starts, and of two alike the first.
+/// The greater of two starts; the first if they are equal.
 pub(crate) fn greater_start<'a, V: Ord>(a: &'a Bound<V>, b: &'a Bound<V>) -> &'a Bound<V>
     ensures { result.now ≡ (if starts_before V.cmp a.now b.now then b.now else a.now) }
 {
     if starts_before(a, b) { b } else { a }
 }
 
-/// Of two ends, the first is the lesser.
+/// Whether the first of two ends is less.
 pub(crate) fn ends_before<V: Ord>(a: &Bound<V>, b: &Bound<V>) -> bool
     ensures { result ≡ ends_before V.cmp a.now b.now }
 {
@@ -77,8 +77,8 @@ pub(crate) fn ends_before<V: Ord>(a: &Bound<V>, b: &Bound<V>) -> bool
     }
 }
 
-/// The same bound, of a clone of its value.
-pub(crate) fn clone_of<V: Clone>(bound: &Bound<V>) -> Result<Bound<V>, AllocError>
+/// A copy of the bound, with a clone of its value.
+pub(crate) fn clone_bound<V: Clone>(bound: &Bound<V>) -> Result<Bound<V>, AllocError>
     requires { ClonesBound V.is_clone bound.now }
     ensures { IfOk result (λ b. b ≡ bound.now) }
 {
@@ -89,10 +89,10 @@ pub(crate) fn clone_of<V: Clone>(bound: &Bound<V>) -> Result<Bound<V>, AllocErro
     })
 }
 
-/// The bound turned from included to excluded and back, of a clone of its value.
-pub(crate) fn turned<V: Clone>(bound: &Bound<V>) -> Result<Bound<V>, AllocError>
+/// The bound with included and excluded swapped, with a clone of its value.
+pub(crate) fn flipped_bound<V: Clone>(bound: &Bound<V>) -> Result<Bound<V>, AllocError>
     requires { ClonesBound V.is_clone bound.now }
-    ensures { IfOk result (λ b. b ≡ turned bound.now) }
+    ensures { IfOk result (λ b. b ≡ flipped_bound bound.now) }
 {
     Ok(match bound {
         Bound::Included(x) => Bound::Excluded(x.clone()?),

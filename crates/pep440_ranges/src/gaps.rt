@@ -4,13 +4,13 @@ ghost use Rattle.std.specs.Prelude.{◌≡◌, IfOk};
 ghost use Rattle.pep440_ranges.specs.Complement.{gaps};
 ghost use Rattle.pep440_ranges.specs.Clones.{ClonesEach};
 
-use crate::bounds::turned;
+use crate::bounds::flipped_bound;
 use crate::segments::Segment;
 use std::alloc::{AllocError, Global};
 use std::ops::Bound;
 
 /// The gaps, in order: one pass, one clone for each bound of a gap.
-pub(crate) fn gaps_of<V: Clone>(
+pub(crate) fn find_gaps<V: Clone>(
     alloc: Global,
     segments: &[Segment<V>],
 ) -> Result<Vec<Segment<V>>, AllocError>
@@ -23,17 +23,17 @@ pub(crate) fn gaps_of<V: Clone>(
         return Ok(found);
     };
     if !matches!(first.0, Bound::Unbounded) {
-        found.push((Bound::Unbounded, turned(&first.0)?))?;
+        found.push((Bound::Unbounded, flipped_bound(&first.0)?))?;
     }
     let mut end = &first.1;
     let mut rest = others;
     while let Some((segment, others)) = rest.split_first() {
-        found.push((turned(end)?, turned(&segment.0)?))?;
+        found.push((flipped_bound(end)?, flipped_bound(&segment.0)?))?;
         end = &segment.1;
         rest = others;
     }
     if !matches!(end, Bound::Unbounded) {
-        found.push((turned(end)?, Bound::Unbounded))?;
+        found.push((flipped_bound(end)?, Bound::Unbounded))?;
     }
     Ok(found)
 }

@@ -1,13 +1,14 @@
-//! Sets of values of an ordered type, each held as a list of segments.
+//! Sets of values of an ordered type, each stored as a list of segments.
 //!
-//! A segment is a pair of bounds, a start and an end, each of them included, excluded or unbounded. Each segment of a range
-//! is valid: its start is below its end, or both are the same included value. And it lies apart from the next: its end is
-//! below the next start, or both are the same excluded value. A value is in the range where it lies in one of the segments.
+//! A segment is a pair of bounds, a start and an end, each of them included, excluded or unbounded. Each segment of a
+//! range is valid: its start is below its end, or both are the same included value. It is apart from the next: its
+//! end is below the next start, or both are the same excluded value. A value is in the range if it lies in one of the
+//! segments.
 //!
-//! Of the values nothing is asked but `Ord` and `Clone`. So a range cannot tell whether any value lies between two bounds:
-//! no whole number is above 1 and below 2, and that segment is kept all the same.
+//! Values need only `Ord` and `Clone`. So a range cannot know whether any value lies between two bounds: no whole
+//! number is above 1 and below 2, and that segment is kept all the same.
 //!
-//! A call fails only where memory is refused.
+//! A call fails only if an allocation fails.
 #![tactic(auto)]
 
 mod bounds;

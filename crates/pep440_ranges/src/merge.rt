@@ -1,11 +1,11 @@
-//! The merge of two lists of segments into what both share.
+//! The merge of two lists of segments into their overlaps.
 
 ghost use Rattle.std.specs.Prelude.{◌≡◌, ◌++◌, IfOk, OnOk};
 ghost use Rattle.pep440_ranges.specs.Segments.{IsRange, one_segment};
 ghost use Rattle.pep440_ranges.specs.Intersection.{overlaps};
 ghost use Rattle.pep440_ranges.specs.Clones.{ClonesBound, ClonesEach};
 
-use crate::bounds::{clone_of, ends_before, greater_start, is_valid};
+use crate::bounds::{clone_bound, ends_before, greater_start, is_valid};
 use crate::segments::Segment;
 use std::alloc::{AllocError, Global};
 use std::ops::Bound;
@@ -21,13 +21,13 @@ fn push_valid<V: Ord + Clone>(
     ensures { OnOk result (shared.new.items ≡ shared.old.items ++ one_segment V.cmp start.now end.now) }
 {
     if is_valid(start, end) {
-        shared.push((clone_of(start)?, clone_of(end)?))?;
+        shared.push((clone_bound(start)?, clone_bound(end)?))?;
     }
     Ok(())
 }
 
 /// The valid overlaps, in order: one pass over both lists, one clone for each bound that is kept.
-pub(crate) fn overlaps_of<V: Ord + Clone>(
+pub(crate) fn find_overlaps<V: Ord + Clone>(
     alloc: Global,
     left: &[Segment<V>],
     right: &[Segment<V>],
@@ -38,7 +38,7 @@ pub(crate) fn overlaps_of<V: Ord + Clone>(
     requires clones_right { ClonesEach V.is_clone right.now }
     ensures { IfOk result (λ v. v.items ≡ overlaps V.cmp left.now right.now) }
 {
-    // Of n and m segments there are at most n + m - 1 overlaps, so memory is asked for once.
+    // Of n and m segments there are at most n + m - 1 overlaps, so one allocation is enough.
     let most = if left.is_empty() || right.is_empty() {
         0
     } else {

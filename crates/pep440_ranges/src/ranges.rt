@@ -6,20 +6,20 @@ ghost use Rattle.std.specs.declared.ops.Bound.TheVariants.{Included, Excluded, U
 ghost use Rattle.pep440_ranges.specs.Segments.{lies_in, contains, IsRange, one_segment};
 ghost use Rattle.pep440_ranges.specs.Complement.{gaps};
 ghost use Rattle.pep440_ranges.specs.Intersection.{overlaps};
-ghost use Rattle.pep440_ranges.specs.Clones.{IsCloneSame, ClonesHeld};
+ghost use Rattle.pep440_ranges.specs.Clones.{IsCloneSame, ClonesBoundValues};
 
 use crate::bounds::{is_from_start, is_up_to_end, is_valid};
-use crate::gaps::gaps_of;
-use crate::merge::overlaps_of;
-use crate::segments::{Segment, Segments, copy_of};
+use crate::gaps::find_gaps;
+use crate::merge::find_overlaps;
+use crate::segments::{Segment, Segments, clone_segments};
 use std::alloc::{AllocError, Global};
 use std::marker::Model;
 use std::ops::Bound;
 
 /// The values that lie in one of a list of segments, in order and apart from each other.
 ///
-/// A clause sees a range as that list. Calls that clone values ask that a clone of each held
-/// value is that same value.
+/// Contracts see a range as that list. Calls that clone values require that a clone of each stored value is that same
+/// value.
 #[derive(Drop)]
 pub struct Ranges<V: Ord + Clone> {
     segments: Vec<Segment<V>>,
@@ -37,7 +37,7 @@ impl<V: Ord + Clone> Model for Ranges<V> {
 }
 
 impl<V: Ord + Clone> Ranges<V> {
-    /// No value: the range of no segment. Allocates nothing.
+    /// The empty range, which has no segment. Allocates nothing.
     pub fn empty(alloc: Global) -> Self
         ensures segments { result ≡ [] }
         ensures set { (v : V) → contains V.cmp result v ≡ false }
@@ -47,9 +47,9 @@ impl<V: Ord + Clone> Ranges<V> {
         }
     }
 
-    /// Every value: the one segment that is unbounded on both sides.
+    /// The range of all values: the one segment that is unbounded on both sides.
     ///
-    /// Takes memory, and answers `AllocError` where that is refused.
+    /// Allocates; returns `AllocError` if that fails.
     pub fn full(alloc: Global) -> Result<Self, AllocError>
         ensures segments { IfOk result (λ r. r ≡ (Unbounded, Unbounded) ∷ []) }
         ensures set { IfOk result (λ r. (v : V) → contains V.cmp r v ≡ true) }
@@ -57,9 +57,9 @@ impl<V: Ord + Clone> Ranges<V> {
         Self::from_range_bounds(alloc, Bound::Unbounded, Bound::Unbounded)
     }
 
-    /// The value alone: the one segment from it to it, both included. The value is cloned.
+    /// The range of this value alone: the segment from it to it, both included. The value is cloned.
     ///
-    /// Takes memory, and answers `AllocError` where that is refused.
+    /// Allocates; returns `AllocError` if that fails.
     pub fn singleton(alloc: Global, value: V) -> Result<Self, AllocError>
         requires { IsCloneSame V.is_clone value }
         ensures segments { IfOk result (λ r. r ≡ (Included value, Included value) ∷ []) }
@@ -69,9 +69,9 @@ impl<V: Ord + Clone> Ranges<V> {
         Self::from_range_bounds(alloc, Bound::Included(start), Bound::Included(value))
     }
 
-    /// The values from this one on, it included.
+    /// The range of this value and all greater ones.
     ///
-    /// Takes memory, and answers `AllocError` where that is refused.
+    /// Allocates; returns `AllocError` if that fails.
     pub fn higher_than(alloc: Global, value: V) -> Result<Self, AllocError>
         ensures segments { IfOk result (λ r. r ≡ (Included value, Unbounded) ∷ []) }
         ensures set { IfOk result (λ r. (v : V) → contains V.cmp r v ≡ is_le (V.cmp value v)) }
@@ -79,9 +79,9 @@ impl<V: Ord + Clone> Ranges<V> {
         Self::from_range_bounds(alloc, Bound::Included(value), Bound::Unbounded)
     }
 
-    /// The values above this one.
+    /// The range of all greater values.
     ///
-    /// Takes memory, and answers `AllocError` where that is refused.
+    /// Allocates; returns `AllocError` if that fails.
     pub fn strictly_higher_than(alloc: Global, value: V) -> Result<Self, AllocError>
         ensures segments { IfOk result (λ r. r ≡ (Excluded value, Unbounded) ∷ []) }
         ensures set { IfOk result (λ r. (v : V) → contains V.cmp r v ≡ is_lt (V.cmp value v)) }
@@ -89,9 +89,9 @@ impl<V: Ord + Clone> Ranges<V> {
         Self::from_range_bounds(alloc, Bound::Excluded(value), Bound::Unbounded)
     }
 
-    /// The values up to this one, it included.
+    /// The range of this value and all smaller ones.
     ///
-    /// Takes memory, and answers `AllocError` where that is refused.
+    /// Allocates; returns `AllocError` if that fails.
     pub fn lower_than(alloc: Global, value: V) -> Result<Self, AllocError>
         ensures segments { IfOk result (λ r. r ≡ (Unbounded, Included value) ∷ []) }
         ensures set { IfOk result (λ r. (v : V) → contains V.cmp r v ≡ is_le (V.cmp v value)) }
@@ -99,9 +99,9 @@ impl<V: Ord + Clone> Ranges<V> {
         Self::from_range_bounds(alloc, Bound::Unbounded, Bound::Included(value))
     }
 
-    /// The values below this one.
+    /// The range of all smaller values.
     ///
-    /// Takes memory, and answers `AllocError` where that is refused.
+    /// Allocates; returns `AllocError` if that fails.
     pub fn strictly_lower_than(alloc: Global, value: V) -> Result<Self, AllocError>
         ensures segments { IfOk result (λ r. r ≡ (Unbounded, Excluded value) ∷ []) }
         ensures set { IfOk result (λ r. (v : V) → contains V.cmp r v ≡ is_lt (V.cmp v value)) }
@@ -109,11 +109,10 @@ impl<V: Ord + Clone> Ranges<V> {
         Self::from_range_bounds(alloc, Bound::Unbounded, Bound::Excluded(value))
     }
 
-    /// The values between two bounds: the one segment from start to end if it is valid, and else
-    /// no segment. It is valid if one side is unbounded, the start is below the end, or both are
-    /// included and equal.
+    /// The range between two bounds: the segment from start to end if it is valid, else no segment. It is valid if
+    /// one side is unbounded, the start is below the end, or both are included and equal.
     ///
-    /// Takes memory, and answers `AllocError` where that is refused.
+    /// Allocates; returns `AllocError` if that fails.
     pub fn from_range_bounds(
         alloc: Global,
         start: Bound<V>,
@@ -129,31 +128,29 @@ impl<V: Ord + Clone> Ranges<V> {
         Ok(Ranges { segments })
     }
 
-    /// What the range doesn't contain: every value where it has no segment, and else the gaps
-    /// before, between and after the segments, each bound turned from included to excluded and
-    /// back. Of n segments there are at most n + 1 gaps.
+    /// The values that the range does not contain: all values if it has no segment, else the gaps before, between and
+    /// after the segments, each bound with included and excluded swapped. n segments have at most n + 1 gaps.
     ///
-    /// Takes memory, and answers `AllocError` where that is refused.
+    /// Allocates; returns `AllocError` if that fails.
     pub fn complement(&self, alloc: Global) -> Result<Self, AllocError>
-        requires { ClonesHeld V.is_clone self.now }
+        requires { ClonesBoundValues V.is_clone self.now }
         ensures segments { IfOk result (λ r. r ≡ gaps self.now) }
         ensures set { IfOk result (λ r. (v : V) → contains V.cmp r v ≡ not (contains V.cmp self.now v)) }
         ensures count { IfOk result (λ r. length r ≤ length self.now + 1) }
     {
         Ok(Ranges {
-            segments: gaps_of(alloc, &self.segments)?,
+            segments: find_gaps(alloc, &self.segments)?,
         })
     }
 
-    /// What both ranges contain: the valid overlaps of a segment of self with one of other,
-    /// ascending. An overlap has the greater start and the lesser end; of equal values an
-    /// excluded one wins, and of two alike that of self is taken. Of n and m segments there are
-    /// at most n + m - 1 overlaps, and none where n or m is 0.
+    /// The values that both ranges contain: the valid overlaps of a segment of self with one of other, ascending. An
+    /// overlap has the greater start and the lesser end; at equal values an excluded bound wins, and of two equal
+    /// bounds that of self is cloned. n and m segments have at most n + m - 1 overlaps, and none if n or m is 0.
     ///
-    /// One pass over both. Takes memory, and answers `AllocError` where that is refused.
+    /// One pass over both lists. Allocates; returns `AllocError` if that fails.
     pub fn intersection(&self, alloc: Global, other: &Self) -> Result<Self, AllocError>
-        requires here { ClonesHeld V.is_clone self.now }
-        requires there { ClonesHeld V.is_clone other.now }
+        requires here { ClonesBoundValues V.is_clone self.now }
+        requires there { ClonesBoundValues V.is_clone other.now }
         ensures segments { IfOk result (λ r. r ≡ overlaps V.cmp self.now other.now) }
         ensures set { IfOk result (λ r. (v : V) → contains V.cmp r v ≡ contains V.cmp self.now v && contains V.cmp other.now v) }
         ensures count { IfOk result (λ r. length r ≤ length self.now + length other.now - 1) }
@@ -161,20 +158,20 @@ impl<V: Ord + Clone> Ranges<V> {
         ensures none_there { IfOk result (λ r. other.now ≡ [] → r ≡ []) }
     {
         Ok(Ranges {
-            segments: overlaps_of(alloc, &self.segments, &other.segments)?,
+            segments: find_overlaps(alloc, &self.segments, &other.segments)?,
         })
     }
 
-    /// The value lies in a segment. Takes no memory.
+    /// Whether the value lies in a segment. Never allocates.
     pub fn contains(&self, value: &V) -> bool
         ensures set { result ≡ contains V.cmp self.now value.now }
     {
         self.segments.iter().any(|s| is_from_start(&s.0, value) && is_up_to_end(&s.1, value))
     }
 
-    /// There is no segment, so that no value is contained. Takes no memory.
+    /// Whether there is no segment, so that no value is contained. Never allocates.
     ///
-    /// A range with a segment may still contain no value, where none lies between its bounds.
+    /// A range with a segment may still contain no value, if none lies between its bounds.
     pub fn is_empty(&self) -> bool
         ensures segments { IsTrue result ↔ (self.now ≡ []) }
         ensures set { IsTrue result → (v : V) → contains V.cmp self.now v ≡ false }
@@ -184,17 +181,17 @@ impl<V: Ord + Clone> Ranges<V> {
 
     /// The same segments.
     ///
-    /// Takes memory, and answers `AllocError` where that is refused.
+    /// Allocates; returns `AllocError` if that fails.
     pub fn clone(&self, alloc: Global) -> Result<Self, AllocError>
-        requires { ClonesHeld V.is_clone self.now }
+        requires { ClonesBoundValues V.is_clone self.now }
         ensures segments { IfOk result (λ r. r ≡ self.now) }
     {
         Ok(Ranges {
-            segments: copy_of(alloc, &self.segments)?,
+            segments: clone_segments(alloc, &self.segments)?,
         })
     }
 
-    /// The segments in order, as pairs of a start and an end. Takes no memory.
+    /// The segments in order, as pairs of a start and an end. Never allocates.
     ///
     /// Each segment is valid, and apart from the next: its end is below the next one's start, or
     /// both are excluded and equal.

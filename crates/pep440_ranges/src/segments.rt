@@ -4,7 +4,7 @@ ghost use Rattle.std.specs.Prelude.{◌≡◌, IfOk};
 ghost use Rattle.std.specs.Iterator.{YieldsFirstBy, item_count};
 ghost use Rattle.pep440_ranges.specs.Clones.{ClonesEach};
 
-use crate::bounds::clone_of;
+use crate::bounds::clone_bound;
 use std::alloc::{AllocError, Global};
 use std::marker::Model;
 use std::ops::Bound;
@@ -14,7 +14,7 @@ pub(crate) type Segment<V> = (Bound<V>, Bound<V>);
 
 /// The segments of a range in order, as pairs of a start and an end; made by `Ranges::iter`.
 ///
-/// It takes no memory. A clause sees it as the list of the segments that are left.
+/// It never allocates. Contracts see it as the list of the segments that are left.
 #[derive(Drop)]
 pub struct Segments<'a, V> {
     rest: &'a [Segment<V>],
@@ -45,7 +45,7 @@ impl<'a, V> Iterator for Segments<'a, V> {
 
     ghost remaining = { item_count (λ s. s) };
 
-    /// The next segment, and `None` once all were given.
+    /// The next segment, or `None` after the last.
     fn next(&mut self) -> Option<(&'a Bound<V>, &'a Bound<V>)> {
         let (first, others) = self.rest.split_first()?;
         self.rest = others;
@@ -53,8 +53,8 @@ impl<'a, V> Iterator for Segments<'a, V> {
     }
 }
 
-/// The same segments, of clones of their values.
-pub(crate) fn copy_of<V: Clone>(
+/// A copy of the segments, with clones of their values.
+pub(crate) fn clone_segments<V: Clone>(
     alloc: Global,
     segments: &[Segment<V>],
 ) -> Result<Vec<Segment<V>>, AllocError>
@@ -64,7 +64,7 @@ pub(crate) fn copy_of<V: Clone>(
     let mut copy = Vec::new(alloc);
     let mut rest = segments;
     while let Some((segment, others)) = rest.split_first() {
-        copy.push((clone_of(&segment.0)?, clone_of(&segment.1)?))?;
+        copy.push((clone_bound(&segment.0)?, clone_bound(&segment.1)?))?;
         rest = others;
     }
     Ok(copy)

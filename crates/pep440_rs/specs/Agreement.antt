@@ -10,12 +10,12 @@ use Rattle.pep440_rs.specs.declared.specifier.operator.Operator.{Operator}
 use Rattle.pep440_rs.specs.declared.specifier.operator.Operator.TheVariants.{Equal, EqualStar, ExactEqual, NotEqual, NotEqualStar, LessThan, GreaterThan}
 use Rattle.pep440_ranges.specs.Segments.{contains, IsRange}
 use Rattle.pep440_version.specs.Key.{record_cmp}
-use Rattle.pep440_version.specs.Record.{Record, of_release, epoch_and_release}
+use Rattle.pep440_version.specs.Record.{Record, from_release, epoch_and_release}
 
 -- ---- what is presupposed of the versions
 
 -- a version without local part and without marks
-pub record IsPlain (v : Record) : Type 0 where
+pub record HasNoLocalOrSentinel (v : Record) : Type 0 where
   pub local : v.local ≡ []
   pub min : v.min ≡ None
   pub max : v.max ≡ None
@@ -28,7 +28,7 @@ IsOperand NotEqual s = Unit {0}
 IsOperand ExactEqual s = ⊥
 IsOperand EqualStar s = s ≡ epoch_and_release s.epoch s.release
 IsOperand NotEqualStar s = s ≡ epoch_and_release s.epoch s.release
-IsOperand _ s = IsPlain s
+IsOperand _ s = HasNoLocalOrSentinel s
 
 -- the version of a specifier, unless it is `===`, is one that a text can give beside its operator
 abbrev pub HasOperand : Spec → Type 0
@@ -45,12 +45,12 @@ IsSuffixComparable _ s v = Unit {0}
 -- range and matching of the specifier can be compared at v
 pub record IsCandidate (s : Spec) (v : Record) : Type 0 where
   pub operator : s.operator ≢ ExactEqual
-  pub plain : IsPlain v
+  pub plain : HasNoLocalOrSentinel v
   pub suffixes : IsSuffixComparable s.operator s.version v
 
 -- a release with epoch 0 and nothing else
 abbrev pub IsReleaseOnly : Record → Type 0
-IsReleaseOnly v = v ≡ of_release v.release
+IsReleaseOnly v = v ≡ from_release v.release
 
 -- specifier and candidate are releases alone, and the operator isn't `===`
 pub record IsReleaseComparable (s : Spec) (v : Record) : Type 0 where
@@ -74,11 +74,11 @@ module _ (IsComparable : Spec → Record → Type 0) where
 
 -- whatever the suffixes, the range of `<` holds only what matches
 abbrev pub HoldsOnlyMatches : Spec → Segments → Type 0
-HoldsOnlyMatches s range = s.operator ≡ LessThan → (v : Record) → IsPlain v → IsTrue (contains record_cmp range v) → IsTrue (matches s.operator s.version v)
+HoldsOnlyMatches s range = s.operator ≡ LessThan → (v : Record) → HasNoLocalOrSentinel v → IsTrue (contains record_cmp range v) → IsTrue (matches s.operator s.version v)
 
 -- and the range of `>` holds all that matches
 abbrev pub HoldsAllMatches : Spec → Segments → Type 0
-HoldsAllMatches s range = s.operator ≡ GreaterThan → (v : Record) → IsPlain v → IsTrue (matches s.operator s.version v) → IsTrue (contains record_cmp range v)
+HoldsAllMatches s range = s.operator ≡ GreaterThan → (v : Record) → HasNoLocalOrSentinel v → IsTrue (matches s.operator s.version v) → IsTrue (contains record_cmp range v)
 
 -- ---- lists, by either conversion
 

@@ -11,7 +11,7 @@ use Rattle.pep440_ranges.specs.Complement.{gaps}
 use Rattle.pep440_ranges.specs.Intersection.{overlaps}
 use Rattle.pep440_ranges.specs.Segments.{Segment, one_segment}
 use Rattle.pep440_version.specs.Key.{record_cmp}
-use Rattle.pep440_version.specs.Record.{Record, of_release, epoch_and_release}
+use Rattle.pep440_version.specs.Record.{Record, from_release, epoch_and_release}
 use Rattle.pep440_version.specs.declared.prerelease.Prerelease.{Prerelease}
 
 abbrev pub Segments : Type 0
@@ -24,10 +24,10 @@ abbrev pub next_number : ℕ → Option ℕ
 next_number n = if n == 18446744073709551615 then None else Some (n + 1)
 
 -- the release with its last number raised
-abbrev pub raised : List ℕ → Option (List ℕ)
-raised [] = None
-raised (x ∷ []) = option_map (λ n. n ∷ []) (next_number x)
-raised (x ∷ y ∷ ys) = option_map (λ rest. x ∷ rest) (raised (y ∷ ys))
+abbrev pub raise_last : List ℕ → Option (List ℕ)
+raise_last [] = None
+raise_last (x ∷ []) = option_map (λ n. n ∷ []) (next_number x)
+raise_last (x ∷ y ∷ ys) = option_map (λ rest. x ∷ rest) (raise_last (y ∷ ys))
 
 -- ---- one segment
 
@@ -69,14 +69,14 @@ greater s None None = Some ((Excluded (record s { max = Some 0 }), Unbounded) �
 
 -- the end of `~=`: the first developmental release of the next release one number shorter
 abbrev pub compatible_end : Record → Option Record
-compatible_end s = option_map (λ release. record (epoch_and_release s.epoch release) { dev = Some 0 }) (raised (without_last s.release))
+compatible_end s = option_map (λ release. record (epoch_and_release s.epoch release) { dev = Some 0 }) (raise_last (without_last s.release))
 
 -- the end of a star, by the post and pre of s: the first developmental release of the next version that s
 -- isn't the beginning of
 abbrev pub star_end : Record → Option ℕ → Option Prerelease → Option Record
 star_end s (Some post) pre = option_map (λ n. record s { post = Some n; dev = Some 0 }) (next_number post)
 star_end s None (Some p) = option_map (λ n. record s { pre = Some (record p { number = n }); dev = Some 0 }) (next_number p.number)
-star_end s None None = option_map (λ release. record s { release = release; dev = Some 0 }) (raised s.release)
+star_end s None None = option_map (λ release. record s { release = release; dev = Some 0 }) (raise_last s.release)
 
 abbrev pub star : Record → Option Segments
 star s = option_map (λ end. from_to (record s { dev = Some 0 }) end) (star_end s s.post s.pre)
@@ -89,11 +89,11 @@ range_of op s = range_by (less s) (greater s s.dev s.post) (option_map (λ end. 
 
 -- up to the release with the last number of these raised, which is excluded
 abbrev pub release_up_to : List ℕ → List ℕ → Option Segments
-release_up_to release numbers = option_map (λ next. from_to (of_release release) (of_release next)) (raised numbers)
+release_up_to release numbers = option_map (λ next. from_to (from_release release) (from_release next)) (raise_last numbers)
 
 -- the release-only range of a specifier: of its release, whatever its other parts
 abbrev pub release_range_of : Operator → Record → Option Segments
-release_range_of op s = let only = of_release s.release in
+release_range_of op s = let only = from_release s.release in
     range_by ((Unbounded, Excluded only) ∷ []) (Some ((Excluded only, Unbounded) ∷ [])) (release_up_to s.release (without_last s.release)) (release_up_to s.release s.release) op only
 
 -- ---- lists, by either conversion

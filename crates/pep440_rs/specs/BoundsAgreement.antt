@@ -6,7 +6,7 @@ use Rattle.pep440_rs.specs.Agreement.{IsReleaseOnly}
 use Rattle.pep440_rs.specs.Matching.{list_matches}
 use Rattle.pep440_rs.specs.Specifiers.{Spec}
 use Rattle.pep440_rs.specs.Members.{gap_members}
-use Rattle.pep440_ranges.specs.Bounds.{is_valid, turned}
+use Rattle.pep440_ranges.specs.Bounds.{is_valid, flipped_bound}
 use Rattle.pep440_ranges.specs.Segments.{Segment, lies_in, contains}
 use Rattle.pep440_version.specs.Key.{record_cmp}
 use Rattle.pep440_version.specs.Record.{Record}
@@ -39,7 +39,7 @@ IsOrdered (p ∷ pairs) = IsTrue (is_valid record_cmp p.0 p.1) × IsOrderedAfter
 
 -- the gap between an end and a start has nothing in it, or gives a member
 abbrev pub is_known_gap : Bound Record → Bound Record → Bool
-is_known_gap end start = not (is_valid record_cmp (turned end) (turned start)) || not (length (gap_members end start) == 0)
+is_known_gap end start = not (is_valid record_cmp (flipped_bound end) (flipped_bound start)) || not (length (gap_members end start) == 0)
 
 abbrev pub KnowsGapsAfter : Bound Record → List (Segment Record) → Type 0
 KnowsGapsAfter end [] = Unit {0}

@@ -8,7 +8,7 @@ use Rattle.std.specs.List.{flat_map}
 use Rattle.std.specs.Ordering.{as_partial_cmp, eq_by_cmp, is_eq}
 use Rattle.std.specs.declared.cmp.Ordering.TheVariants.{Equal}
 use Rattle.pep440_rs.specs.Lists.{feed_list, list_cmp}
-use Rattle.pep440_rs.specs.SpecifierLaws.{first, second, spec_total, specs_feed_alike}
+use Rattle.pep440_rs.specs.SpecifierLaws.{ties_first, ties_second, spec_total, specs_feed_alike}
 use Rattle.pep440_rs.specs.Specifiers.{Spec, feed_spec, spec_cmp}
 
 pub list_total : IsTotalOrder list_cmp
@@ -26,8 +26,8 @@ members_alike [] [] e = (refl, refl)
 members_alike [] (y ∷ ys) e = absurd (true≢false (sym (ap is_eq e)))
 members_alike (x ∷ xs) [] e = absurd (true≢false (sym (ap is_eq e)))
 members_alike (x ∷ xs) (y ∷ ys) e =
-    let here = specs_feed_alike x y ((Equal-is (spec_cmp x y)).1 (first _ _ e)) in
-    let rest = members_alike xs ys (second _ _ e) in
+    let here = specs_feed_alike x y ((Equal-is (spec_cmp x y)).1 (ties_first _ _ e)) in
+    let rest = members_alike xs ys (ties_second _ _ e) in
     (ap (λ n. suc n) rest.0, λ i. here i ++ rest.1 i)
 
 pub lists_feed_alike : (x y : List Spec) → eq_by_cmp list_cmp x y ≡ true → feed_list x ≡ feed_list y

@@ -9,7 +9,7 @@ use Rattle.pep440_rs.specs.declared.specifier.operator.Operator.{Operator}
 use Rattle.pep440_rs.specs.declared.specifier.operator.Operator.TheVariants.{EqualStar, NotEqualStar, TildeEqual, GreaterThan}
 use Rattle.pep440_rs.specs.declared.range.error.RangeError.{RangeError}
 use Rattle.pep440_rs.specs.declared.range.error.RangeError.TheVariants.{NumberAtMax, OutOfMemory}
-use Rattle.pep440_version.specs.Record.{Record, of_release}
+use Rattle.pep440_version.specs.Record.{Record, from_release}
 
 -- a star: the post if there is one, else the pre's number if there is one, else the last number of the release
 abbrev pub raised_by_star : Record → Option ℕ
@@ -26,7 +26,7 @@ raised_number _ s = None
 
 -- by releases alone
 abbrev pub raised_release_number : Operator → Record → Option ℕ
-raised_release_number op s = raised_number op (of_release s.release)
+raised_release_number op s = raised_number op (from_release s.release)
 
 -- enough release numbers: one, and two for `~=`
 abbrev pub HasNumbers : Operator → Record → Type 0

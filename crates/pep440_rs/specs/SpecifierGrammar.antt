@@ -24,14 +24,14 @@ IsRun test part rest = (list_all test part ≡ true) × (starts test rest ≡ fa
 
 -- the characters of a text in six parts, each but the last as long as can be: blanks, an operator, blanks, a
 -- version, blanks, and the rest
-pub record Cut (text : List ℕ) : Type 0 where
+pub record SpecifierParts (text : List ℕ) : Type 0 where
   pub before : List ℕ
   pub operator : List ℕ
   pub between : List ℕ
   pub version : List ℕ
   pub after : List ℕ
   pub rest : List ℕ
-  pub cut : chars text ≡ before ++ (operator ++ (between ++ (version ++ (after ++ rest))))
+  pub decomposition : chars text ≡ before ++ (operator ++ (between ++ (version ++ (after ++ rest))))
   pub before_run : IsRun is_whitespace before (operator ++ (between ++ (version ++ (after ++ rest))))
   pub operator_run : IsRun is_operator_char operator (between ++ (version ++ (after ++ rest)))
   pub between_run : IsRun is_whitespace between (version ++ (after ++ rest))
@@ -39,13 +39,13 @@ pub record Cut (text : List ℕ) : Type 0 where
   pub after_run : IsRun is_whitespace after rest
 
 -- the operator and the version of a cut: the operator is one, and the version means a record, with a star or without
-pub record Reads {text : List ℕ} (c : Cut text) (o : Operator) (r : Record) (star : Bool) : Type 0 where
+pub record ReadsParts {text : List ℕ} (c : SpecifierParts text) (o : Operator) (r : Record) (star : Bool) : Type 0 where
   pub operator : Spells (encode_utf8_all c.operator) o
   pub version : DerivesPattern (encode_utf8_all c.version) r star
 
 -- the text means the specifier
 abbrev pub DerivesSpecifier : List ℕ → Spec → Type 0
-DerivesSpecifier text s = (c : Cut text) × (o : Operator) × (r : Record) × (star : Bool) × Reads c o r star
+DerivesSpecifier text s = (c : SpecifierParts text) × (o : Operator) × (r : Record) × (star : Bool) × ReadsParts c o r star
     × (built_pattern o r star ≡ Ok s) × (c.rest ≡ [])
 
 -- some text means the specifier
@@ -63,10 +63,10 @@ pub data SpecifierRefusal : Type 0 where
 
 -- asked in this order: each speaks of a text of which none before it holds
 abbrev pub RefusesSpecifier : List ℕ → SpecifierRefusal → Type 0
-RefusesSpecifier text MissingOperator = (c : Cut text) × (c.operator ≡ [])
-RefusesSpecifier text (InvalidOperator got) = (c : Cut text) × (0 < length c.operator) × (got ≡ encode_utf8_all c.operator) × ((o : Operator) → Spells got o → ⊥)
-RefusesSpecifier text MissingVersion = (c : Cut text) × (o : Operator) × Spells (encode_utf8_all c.operator) o × (c.version ≡ [])
-RefusesSpecifier text (InvalidVersion f) = (c : Cut text) × (o : Operator) × Spells (encode_utf8_all c.operator) o × (0 < length c.version) × RefusesPattern (encode_utf8_all c.version) f
-RefusesSpecifier text (InvalidSpecifier b) = (c : Cut text) × (o : Operator) × (r : Record) × (star : Bool) × Reads c o r star × (built_pattern o r star ≡ Err b)
-RefusesSpecifier text (InvalidTrailing rest) = (c : Cut text) × (o : Operator) × (r : Record) × (star : Bool) × (s : Spec) × Reads c o r star
+RefusesSpecifier text MissingOperator = (c : SpecifierParts text) × (c.operator ≡ [])
+RefusesSpecifier text (InvalidOperator got) = (c : SpecifierParts text) × (0 < length c.operator) × (got ≡ encode_utf8_all c.operator) × ((o : Operator) → Spells got o → ⊥)
+RefusesSpecifier text MissingVersion = (c : SpecifierParts text) × (o : Operator) × Spells (encode_utf8_all c.operator) o × (c.version ≡ [])
+RefusesSpecifier text (InvalidVersion f) = (c : SpecifierParts text) × (o : Operator) × Spells (encode_utf8_all c.operator) o × (0 < length c.version) × RefusesPattern (encode_utf8_all c.version) f
+RefusesSpecifier text (InvalidSpecifier b) = (c : SpecifierParts text) × (o : Operator) × (r : Record) × (star : Bool) × ReadsParts c o r star × (built_pattern o r star ≡ Err b)
+RefusesSpecifier text (InvalidTrailing rest) = (c : SpecifierParts text) × (o : Operator) × (r : Record) × (star : Bool) × (s : Spec) × ReadsParts c o r star
     × (built_pattern o r star ≡ Ok s) × (0 < length c.rest) × (rest ≡ encode_utf8_all c.rest)

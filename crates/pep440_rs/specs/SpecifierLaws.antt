@@ -22,19 +22,19 @@ pub spec_po : IsPartialOrder (eq_by_cmp spec_cmp) (as_partial_cmp spec_cmp)
 spec_po = po spec_total (λ x y. refl)
 
 -- both parts of a comparison that ties tie
-pub first : (r s : Ordering) → ordering_then r s ≡ Equal → r ≡ Equal
-first Less s e = absurd (true≢false (sym (ap is_eq e)))
-first Equal s e = refl
-first Greater s e = absurd (true≢false (sym (ap is_eq e)))
+pub ties_first : (r s : Ordering) → ordering_then r s ≡ Equal → r ≡ Equal
+ties_first Less s e = absurd (true≢false (sym (ap is_eq e)))
+ties_first Equal s e = refl
+ties_first Greater s e = absurd (true≢false (sym (ap is_eq e)))
 
-pub second : (r s : Ordering) → ordering_then r s ≡ Equal → s ≡ Equal
-second Less s e = absurd (true≢false (sym (ap is_eq e)))
-second Equal s e = e
-second Greater s e = absurd (true≢false (sym (ap is_eq e)))
+pub ties_second : (r s : Ordering) → ordering_then r s ≡ Equal → s ≡ Equal
+ties_second Less s e = absurd (true≢false (sym (ap is_eq e)))
+ties_second Equal s e = e
+ties_second Greater s e = absurd (true≢false (sym (ap is_eq e)))
 
 pub specs_feed_alike : (x y : Spec) → eq_by_cmp spec_cmp x y ≡ true → feed_spec x ≡ feed_spec y
 specs_feed_alike x y e =
     let same = (Equal-is (spec_cmp x y)).0 e in
-    let operator = same_operator x.operator y.operator (first _ _ same) in
-    let version = feeds_alike x.version y.version ((Equal-is (record_cmp x.version y.version)).1 (second _ _ same)) in
+    let operator = same_operator x.operator y.operator (ties_first _ _ same) in
+    let version = feeds_alike x.version y.version ((Equal-is (record_cmp x.version y.version)).1 (ties_second _ _ same)) in
     λ i. feed_operator (operator i) ++ version i

@@ -17,7 +17,7 @@ ghost use Rattle.pep440_version.specs.Grammar.{Derives};
 ghost use Rattle.pep440_version.specs.Print.{print};
 ghost use Rattle.pep440_version.specs.Record.{Record, IsRecord};
 ghost use Rattle.pep440_version.specs.Refusals.{Refusal, Refuses};
-ghost use Rattle.pep440_version.specs.Reread.{Rereads};
+ghost use Rattle.pep440_version.specs.RoundTrip.{RoundTrips};
 
 pub(crate) mod error;
 
@@ -38,7 +38,7 @@ fn string<E>(value: &Value) -> Result<&str, JsonError<E>>
 }
 
 // The refusal of a text, or out of memory.
-fn of_version(error: VersionParseError) -> JsonError<VersionParseError>
+fn from_version_error(error: VersionParseError) -> JsonError<VersionParseError>
     ensures { MatchOption (refusal_of (kind_of error)) (result ≡ OutOfMemory) (λ _. result ≡ Text error) }
 {
     match error.kind() {
@@ -96,16 +96,16 @@ pub fn version_from_json(
     // A refusal of the text is one that its fronts tell, and not out of memory.
     ensures refused { IfErr result (λ e. IfText e (λ inner. IsSomeAnd (refusal_of (kind_of inner)) (λ f. (t : List ℕ) × IsString value.now t × Refuses t f))) }
     // The error's text is the refusal's.
-    ensures told { IfErr result (λ e. IfText e (λ inner. IfSome (refusal_of (kind_of inner)) (λ f. error_text (refusal_of (kind_of inner)) ≡ Some (refusal_text f)))) }
+    ensures message { IfErr result (λ e. IfText e (λ inner. IfSome (refusal_of (kind_of inner)) (λ f. error_text (refusal_of (kind_of inner)) ≡ Some (refusal_text f)))) }
     // A refusal that the fronts of the text tell is answered, unless memory runs out.
     ensures decided { (t : List ℕ) (f : Refusal) → IsString value.now t → Refuses t f → JsonAnswers (λ e. refusal_of (kind_of e)) result (Err f) }
     // The JSON form of a record is answered with that record, unless memory runs out.
-    ensures reread { (r : Record) → IsRecord r → Rereads r → IsString value.now (print r) → JsonAnswers (λ e. refusal_of (kind_of e)) result (Ok r) }
+    ensures round_trips { (r : Record) → IsRecord r → RoundTrips r → IsString value.now (print r) → JsonAnswers (λ e. refusal_of (kind_of e)) result (Ok r) }
     // So is that of what some text means.
     ensures again { (t : List ℕ) (r : Record) → Derives t r → IsString value.now (print r) → JsonAnswers (λ e. refusal_of (kind_of e)) result (Ok r) }
 {
     let text = string::<VersionParseError>(value)?;
-    Version::from_str(alloc, text).map_err(of_version)
+    Version::from_str(alloc, text).map_err(from_version_error)
 }
 
 // The members with commas between them.
@@ -150,7 +150,7 @@ impl VersionSpecifier {
         // A refusal of the text is the one of the text, and not out of memory.
         ensures refused { IfErr result (λ e. IfText e (λ inner. IsSomeAnd (specifier_refusal_of (parse_kind_of inner)) (λ f. (t : List ℕ) × IsString value.now t × RefusesSpecifier t f))) }
         // The error's text is the refusal's.
-        ensures told { IfErr result (λ e. IfText e (λ inner. IfSome (specifier_refusal_of (parse_kind_of inner)) (λ f. specifier_text_of (parse_kind_of inner) ≡ Some (specifier_refusal_text f)))) }
+        ensures message { IfErr result (λ e. IfText e (λ inner. IfSome (specifier_refusal_of (parse_kind_of inner)) (λ f. specifier_text_of (parse_kind_of inner) ≡ Some (specifier_refusal_text f)))) }
         // The refusal of the text is answered, unless memory runs out.
         ensures decided { (t : List ℕ) (f : SpecifierRefusal) → IsString value.now t → RefusesSpecifier t f → JsonAnswers (λ e. specifier_refusal_of (parse_kind_of e)) result (Err f) }
         // The JSON form of what some text means is answered with that, unless memory runs out.
@@ -189,7 +189,7 @@ impl VersionSpecifiers {
         // A refusal of the text is that of its first refused piece, and not out of memory.
         ensures refused { IfErr result (λ e. IfText e (λ inner. IsSomeAnd (list_refusal_of (list_kind_of inner)) (λ f. (t : List ℕ) × IsString value.now t × RefusesList t f))) }
         // The error's text is the refusal's, with the whole text and a line that marks the piece.
-        ensures told { IfErr result (λ e. IfText e (λ inner. IfSome (list_refusal_of (list_kind_of inner)) (λ f. list_text_of (list_kind_of inner) (line_of inner) ≡ Some (list_refusal_text f (line_of inner))))) }
+        ensures message { IfErr result (λ e. IfText e (λ inner. IfSome (list_refusal_of (list_kind_of inner)) (λ f. list_text_of (list_kind_of inner) (line_of inner) ≡ Some (list_refusal_text f (line_of inner))))) }
         // The error of the text holds the whole text.
         ensures line { IfErr result (λ e. IfText e (λ inner. IsString value.now (line_of inner))) }
         // The refusal of the text is answered, unless memory runs out.

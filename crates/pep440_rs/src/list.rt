@@ -103,7 +103,7 @@ impl VersionSpecifiers {
         ensures line { IfErr result (λ e. line_of e ≡ line_for text.now (list_kind_of e)) }
     {
         let members = read::members(alloc, text).map_err(
-            |kind| VersionSpecifiersParseError::of_text(alloc, text, kind),
+            |kind| VersionSpecifiersParseError::from_text(alloc, text, kind),
         )?;
         VersionSpecifiers::from_specifiers(alloc, members).map_err(
             |_| VersionSpecifiersParseError::out_of_memory(alloc),
@@ -131,7 +131,7 @@ impl VersionSpecifiers {
         // The refusal of the text is answered, unless memory runs out.
         ensures decided { (f : PieceRefusal) → RefusesList text.now f → ListAnswers result (Err f) }
         // The error's text is the refusal's, with the whole text and a line that marks the piece.
-        ensures told { IfErr result (λ e. IfSome (list_refusal_of (list_kind_of e)) (λ f. list_text_of (list_kind_of e) (line_of e) ≡ Some (list_refusal_text f text.now))) }
+        ensures message { IfErr result (λ e. IfSome (list_refusal_of (list_kind_of e)) (λ f. list_text_of (list_kind_of e) (line_of e) ≡ Some (list_refusal_text f text.now))) }
         // The error holds the whole text, and none where memory ran out.
         ensures line { IfErr result (λ e. line_of e ≡ line_for text.now (list_kind_of e)) }
         // Out of memory is the last kind, and stands in no other.

@@ -3,6 +3,6 @@ pub(crate) mod error;
 pub(crate) mod intersection;
 pub(crate) mod lines;
 pub(crate) mod list;
-pub(crate) mod raised;
+pub(crate) mod next_release;
 pub(crate) mod release_only;
 pub(crate) mod whole_order;

@@ -52,7 +52,7 @@ impl Model for VersionSpecifier {
 
 impl VersionSpecifier {
     // What was read or built: every specifier is made here.
-    fn of_parts(operator: Operator, version: Version) -> VersionSpecifier
+    fn from_parts(operator: Operator, version: Version) -> VersionSpecifier
         requires { operator ≡ TildeEqual → 1 < length version.release }
         ensures { result ≡ record { operator = operator; version = version } }
     {
@@ -106,63 +106,63 @@ impl VersionSpecifier {
         if operator == Operator::TildeEqual && version.release().len() < 2 {
             return Err(VersionSpecifierBuildError::from(BuildErrorKind::CompatibleRelease));
         }
-        Ok(VersionSpecifier::of_parts(operator, version))
+        Ok(VersionSpecifier::from_parts(operator, version))
     }
 
     /// `==version`. Unchecked, as the seven calls below: a local part and the marks `min` and `max` may be there.
     pub fn equals_version(version: Version) -> VersionSpecifier
         ensures { result ≡ record { operator = Equal; version = version } }
     {
-        VersionSpecifier::of_parts(Operator::Equal, version)
+        VersionSpecifier::from_parts(Operator::Equal, version)
     }
 
     /// `==version.*`
     pub fn equals_star_version(version: Version) -> VersionSpecifier
         ensures { result ≡ record { operator = EqualStar; version = version } }
     {
-        VersionSpecifier::of_parts(Operator::EqualStar, version)
+        VersionSpecifier::from_parts(Operator::EqualStar, version)
     }
 
     /// `!=version`
     pub fn not_equals_version(version: Version) -> VersionSpecifier
         ensures { result ≡ record { operator = NotEqual; version = version } }
     {
-        VersionSpecifier::of_parts(Operator::NotEqual, version)
+        VersionSpecifier::from_parts(Operator::NotEqual, version)
     }
 
     /// `!=version.*`
     pub fn not_equals_star_version(version: Version) -> VersionSpecifier
         ensures { result ≡ record { operator = NotEqualStar; version = version } }
     {
-        VersionSpecifier::of_parts(Operator::NotEqualStar, version)
+        VersionSpecifier::from_parts(Operator::NotEqualStar, version)
     }
 
     /// `>=version`
     pub fn greater_than_equal_version(version: Version) -> VersionSpecifier
         ensures { result ≡ record { operator = GreaterThanEqual; version = version } }
     {
-        VersionSpecifier::of_parts(Operator::GreaterThanEqual, version)
+        VersionSpecifier::from_parts(Operator::GreaterThanEqual, version)
     }
 
     /// `>version`
     pub fn greater_than_version(version: Version) -> VersionSpecifier
         ensures { result ≡ record { operator = GreaterThan; version = version } }
     {
-        VersionSpecifier::of_parts(Operator::GreaterThan, version)
+        VersionSpecifier::from_parts(Operator::GreaterThan, version)
     }
 
     /// `<=version`
     pub fn less_than_equal_version(version: Version) -> VersionSpecifier
         ensures { result ≡ record { operator = LessThanEqual; version = version } }
     {
-        VersionSpecifier::of_parts(Operator::LessThanEqual, version)
+        VersionSpecifier::from_parts(Operator::LessThanEqual, version)
     }
 
     /// `<version`
     pub fn less_than_version(version: Version) -> VersionSpecifier
         ensures { result ≡ record { operator = LessThan; version = version } }
     {
-        VersionSpecifier::of_parts(Operator::LessThan, version)
+        VersionSpecifier::from_parts(Operator::LessThan, version)
     }
 
     /// The operator.
@@ -235,7 +235,7 @@ impl VersionSpecifier {
         // The refusal of the text is answered, unless memory runs out.
         ensures decided { (f : SpecifierRefusal) → RefusesSpecifier text.now f → SpecifierAnswers result (Err f) }
         // The error's text is the refusal's.
-        ensures told { IfErr result (λ e. IfSome (specifier_refusal_of (parse_kind_of e)) (λ f. specifier_text_of (parse_kind_of e) ≡ Some (specifier_refusal_text f))) }
+        ensures message { IfErr result (λ e. IfSome (specifier_refusal_of (parse_kind_of e)) (λ f. specifier_text_of (parse_kind_of e) ≡ Some (specifier_refusal_text f))) }
         // Out of memory is the last kind, and stands in no other.
         ensures lifted { IfErr result (λ e. IsLifted (parse_kind_of e)) }
         // The print of what some text means is answered with that, unless memory runs out.

@@ -11,14 +11,14 @@ use Rattle.std.specs.declared.cmp.Ordering.{Ordering}
 use Rattle.pep440_version.proofs.Ordering.Comparisons.{then_assoc}
 use Rattle.pep440_version.proofs.Word.Blocks.{is_above, is_below, is_same, nat_cmp_block}
 use Rattle.pep440_version.specs.Record.{Fits}
-use Rattle.pep440_sort_key.specs.Keys.{needed_bytes, unpadded}
+use Rattle.pep440_sort_key.specs.Keys.{needed_bytes, trim_leading_zeros}
 
 -- ---- bytes without the zeros in front
 
-unpadded_suc : (b : ℕ) (rest : List ℕ) → unpadded (suc b ∷ rest) ≡ suc b ∷ rest
-unpadded_suc b rest = ap (λ t. if t then unpadded rest else suc b ∷ rest) (eqb-suc-zero b)
+unpadded_suc : (b : ℕ) (rest : List ℕ) → trim_leading_zeros (suc b ∷ rest) ≡ suc b ∷ rest
+unpadded_suc b rest = ap (λ t. if t then trim_leading_zeros rest else suc b ∷ rest) (eqb-suc-zero b)
 
-pub unpadded_le : (bytes : List ℕ) → length (unpadded bytes) ≤ length bytes
+pub unpadded_le : (bytes : List ℕ) → length (trim_leading_zeros bytes) ≤ length bytes
 unpadded_le [] = omega arith
 unpadded_le (zero ∷ rest) = omega (arith, unpadded_le rest)
 unpadded_le (suc b ∷ rest) = omega (arith, ap length (unpadded_suc b rest))
@@ -36,20 +36,20 @@ as_long (x ∷ xs) (y ∷ ys) e u v =
 abbrev pub counted_cmp : List ℕ → List ℕ → List ℕ → List ℕ → Ordering
 counted_cmp xs ys u v = ordering_then (nat_cmp (length xs) (length ys)) (slice_cmp nat_cmp (xs ++ u) (ys ++ v))
 
-pub unpadded_cmp : (xs ys : List ℕ) → length xs ≡ length ys → (u v : List ℕ) → counted_cmp (unpadded xs) (unpadded ys) u v ≡ ordering_then (slice_cmp nat_cmp xs ys) (slice_cmp nat_cmp u v)
+pub unpadded_cmp : (xs ys : List ℕ) → length xs ≡ length ys → (u v : List ℕ) → counted_cmp (trim_leading_zeros xs) (trim_leading_zeros ys) u v ≡ ordering_then (slice_cmp nat_cmp xs ys) (slice_cmp nat_cmp u v)
 unpadded_cmp [] [] e u v = refl
 unpadded_cmp [] (y ∷ ys) e u v = absurd (omega arith)
 unpadded_cmp (x ∷ xs) [] e u v = absurd (omega arith)
 unpadded_cmp (zero ∷ xs) (zero ∷ ys) e u v = unpadded_cmp xs ys (omega arith) u v
 unpadded_cmp (zero ∷ xs) (suc y ∷ ys) e u v =
-    let fewer : length (unpadded xs) < length (suc y ∷ ys) = omega (arith, unpadded_le xs) in
-    ap (λ l. counted_cmp (unpadded xs) l u v) (unpadded_suc y ys)
-    ∙ ap (λ o. ordering_then o (slice_cmp nat_cmp (unpadded xs ++ u) ((suc y ∷ ys) ++ v))) (is_below _ _ fewer)
+    let fewer : length (trim_leading_zeros xs) < length (suc y ∷ ys) = omega (arith, unpadded_le xs) in
+    ap (λ l. counted_cmp (trim_leading_zeros xs) l u v) (unpadded_suc y ys)
+    ∙ ap (λ o. ordering_then o (slice_cmp nat_cmp (trim_leading_zeros xs ++ u) ((suc y ∷ ys) ++ v))) (is_below _ _ fewer)
     ∙ sym (ap (λ o. ordering_then (ordering_then o (slice_cmp nat_cmp xs ys)) (slice_cmp nat_cmp u v)) (is_below 0 (suc y) (zero-lt-suc y)))
 unpadded_cmp (suc x ∷ xs) (zero ∷ ys) e u v =
-    let fewer : length (unpadded ys) < length (suc x ∷ xs) = omega (arith, unpadded_le ys) in
-    ap (λ l. counted_cmp l (unpadded ys) u v) (unpadded_suc x xs)
-    ∙ ap (λ o. ordering_then o (slice_cmp nat_cmp ((suc x ∷ xs) ++ u) (unpadded ys ++ v))) (is_above _ _ fewer)
+    let fewer : length (trim_leading_zeros ys) < length (suc x ∷ xs) = omega (arith, unpadded_le ys) in
+    ap (λ l. counted_cmp l (trim_leading_zeros ys) u v) (unpadded_suc x xs)
+    ∙ ap (λ o. ordering_then o (slice_cmp nat_cmp ((suc x ∷ xs) ++ u) (trim_leading_zeros ys ++ v))) (is_above _ _ fewer)
     ∙ sym (ap (λ o. ordering_then (ordering_then o (slice_cmp nat_cmp xs ys)) (slice_cmp nat_cmp u v)) (is_above (suc x) 0 (zero-lt-suc x)))
 unpadded_cmp (suc x ∷ xs) (suc y ∷ ys) e u v =
     (λ i. counted_cmp (unpadded_suc x xs i) (unpadded_suc y ys i) u v)
@@ -81,9 +81,9 @@ bytes_cmp (suc k) m n =
 
 -- ---- the bytes that a number needs
 
-pub needed_is : (n : ℕ) (bytes : List ℕ) → bytes ≡ to_be_bytes w64 n → unpadded bytes ≡ needed_bytes n
+pub needed_is : (n : ℕ) (bytes : List ℕ) → bytes ≡ to_be_bytes w64 n → trim_leading_zeros bytes ≡ needed_bytes n
 unfolding needed_bytes
-needed_is n bytes e = ap unpadded e
+needed_is n bytes e = ap trim_leading_zeros e
 
 pub needed_le : (n : ℕ) → length (needed_bytes n) ≤ 8
 unfolding needed_bytes

@@ -9,12 +9,12 @@ use Rattle.std.specs.declared.cmp.Ordering.{Ordering}
 use Rattle.std.specs.declared.cmp.Ordering.TheVariants.{Less, Greater}
 use Rattle.pep440_version.proofs.Ordering.Comparisons.{then_assoc}
 use Rattle.pep440_version.proofs.Word.Blocks.{is_above, is_below, nat_cmp_block, nat_cmp_shift}
-use Rattle.pep440_version.specs.Key.{local_cmp, place_cmp, release_cmp, segment_cmp}
+use Rattle.pep440_version.specs.Key.{local_cmp, rank_cmp, release_cmp, segment_cmp}
 use Rattle.pep440_version.specs.KeyLaws.{release_cmp-trim}
-use Rattle.pep440_version.specs.Record.{Fits, Segment, SegmentFits, Text, Number}
+use Rattle.pep440_version.specs.Record.{Fits, LocalSegmentValue, SegmentFits, Text, Number}
 use Rattle.pep440_version.specs.Trim.{trim}
 use Rattle.pep440_sort_key.proofs.Bytes.{needed_cmp, needed_le}
-use Rattle.pep440_sort_key.specs.Keys.{HasNoZero, local_bytes, needed_bytes, number_bytes, place_bytes, release_bytes, segment_bytes}
+use Rattle.pep440_sort_key.specs.Keys.{HasNoZero, local_bytes, needed_bytes, number_bytes, rank_bytes, release_bytes, segment_bytes}
 
 pub record IsCode {A : Type 0} (P : A → Type 0) (cmp : A → A → Ordering) (code : A → List ℕ) : Type 0 where
   pub splits : (a b : A) → P a → P b → (u v : List ℕ) → slice_cmp nat_cmp (code a ++ u) (code b ++ v) ≡ ordering_then (cmp a b) (slice_cmp nat_cmp u v)
@@ -34,7 +34,7 @@ rank_first r s m n =
     (λ i. nat_cmp (mul_comm 16 r i + length (needed_bytes m)) (mul_comm 16 s i + length (needed_bytes n)))
     ∙ nat_cmp_block r (length (needed_bytes m)) s (length (needed_bytes n)) 16 (omega (arith, needed_le m)) (omega (arith, needed_le n))
 
-pub place_is_code : IsCode (λ (p : ℕ × ℕ). Fits p.1) place_cmp place_bytes
+pub place_is_code : IsCode (λ (p : ℕ × ℕ). Fits p.1) rank_cmp rank_bytes
 place_is_code = record {
   splits = λ a b p q u v.
       let rest = slice_cmp nat_cmp (needed_bytes a.1 ++ u) (needed_bytes b.1 ++ v) in
@@ -106,10 +106,10 @@ texts (a ∷ s) [] p q u v = above_zero a p.0 ((s ++ 0 ∷ []) ++ u) v
 texts (a ∷ s) (b ∷ t) p q u v = ap (ordering_then (nat_cmp a b)) (texts s t p.1 q.1 u v) ∙ sym (then_assoc (nat_cmp a b) (slice_cmp nat_cmp s t) (slice_cmp nat_cmp u v))
 
 -- a segment that fits and has no zero byte
-abbrev pub IsPlain : Segment → Type 0
+abbrev pub IsPlain : LocalSegmentValue → Type 0
 IsPlain s = SegmentFits s × HasNoZero s
 
-segments : (s t : Segment) → IsPlain s → IsPlain t → (u v : List ℕ) → slice_cmp nat_cmp (segment_bytes s ++ u) (segment_bytes t ++ v) ≡ ordering_then (segment_cmp s t) (slice_cmp nat_cmp u v)
+segments : (s t : LocalSegmentValue) → IsPlain s → IsPlain t → (u v : List ℕ) → slice_cmp nat_cmp (segment_bytes s ++ u) (segment_bytes t ++ v) ≡ ordering_then (segment_cmp s t) (slice_cmp nat_cmp u v)
 segments (Text s) (Text t) p q u v = texts s t (recursion_from_All _ s p.1) (recursion_from_All _ t q.1) u v
 segments (Text s) (Number n) p q u v =
     ap (λ o. ordering_then o (slice_cmp nat_cmp ((s ++ 0 ∷ []) ++ u) (needed_bytes n ++ v))) (is_below 1 (2 + length (needed_bytes n)) (omega arith))
@@ -117,7 +117,7 @@ segments (Number m) (Text t) p q u v =
     ap (λ o. ordering_then o (slice_cmp nat_cmp (needed_bytes m ++ u) ((t ++ 0 ∷ []) ++ v))) (is_above (2 + length (needed_bytes m)) 1 (omega arith))
 segments (Number m) (Number n) p q u v = (number_is_code 2).splits m n p.0 q.0 u v
 
-segment_opens : (s : Segment) → Opens (segment_bytes s)
+segment_opens : (s : LocalSegmentValue) → Opens (segment_bytes s)
 segment_opens (Text t) = record { first = 1; rest = t ++ 0 ∷ []; above = omega arith; is = refl }
 segment_opens (Number n) = record { first = 2 + length (needed_bytes n); rest = needed_bytes n; above = omega arith; is = refl }
 

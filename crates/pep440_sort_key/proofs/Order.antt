@@ -14,23 +14,23 @@ use Rattle.std.specs.Prelude.{◌==◌}
 use Rattle.std.specs.declared.cmp.Ordering.{Ordering}
 use Rattle.std.specs.declared.cmp.Ordering.TheVariants.{Equal}
 use Rattle.pep440_version.proofs.Ordering.Comparisons.{then_assoc, then_none}
-use Rattle.pep440_version.proofs.Reread.PrintIsRead.{derived_record, derived_rereads}
+use Rattle.pep440_version.proofs.RoundTrip.PrintIsRead.{derived_record, derived_rereads}
 use Rattle.pep440_version.specs.declared.prerelease.Prerelease.{Prerelease}
 use Rattle.pep440_version.specs.Grammar.{Derives}
-use Rattle.pep440_version.specs.Key.{dev_of, dev_place, key, local_cmp, place_cmp, post_of, post_place, record_cmp, release_cmp, stage_of, stage_place}
+use Rattle.pep440_version.specs.Key.{dev_of, dev_rank, key, local_cmp, rank_cmp, post_of, post_rank, record_cmp, release_cmp, stage_of, stage_rank}
 use Rattle.pep440_version.specs.Patterns.{DerivesPattern}
-use Rattle.pep440_version.specs.Record.{Fits, Record, Segment, Text, Number}
-use Rattle.pep440_version.specs.Reread.{is_lower, SegmentRereads}
-use Rattle.pep440_version.specs.Trim.{trim, before_trimmed}
+use Rattle.pep440_version.specs.Record.{Fits, Record, LocalSegmentValue, Text, Number}
+use Rattle.pep440_version.specs.RoundTrip.{is_lower, SegmentRereads}
+use Rattle.pep440_version.specs.Trim.{trim, prepend_trimmed}
 use Rattle.pep440_sort_key.proofs.Codes.{IsPlain, local_is_code, number_is_code, place_is_code, release_is_code}
-use Rattle.pep440_sort_key.specs.Keys.{HasNoZero, IsKeyed, key_bytes, local_bytes, number_bytes, place_bytes, release_bytes}
+use Rattle.pep440_sort_key.specs.Keys.{HasNoZero, IsKeyed, key_bytes, local_bytes, number_bytes, rank_bytes, release_bytes}
 
 -- ---- what is coded fits
 
 zero_fits : Fits 0
 zero_fits = lit< tt
 
-stage_fits : (min : Option ℕ) (pre : Option Prerelease) (dev post max : Option ℕ) → IfSome pre (λ p. Fits p.number) → Fits (stage_place (stage_of min pre dev post max)).1
+stage_fits : (min : Option ℕ) (pre : Option Prerelease) (dev post max : Option ℕ) → IfSome pre (λ p. Fits p.number) → Fits (stage_rank (stage_of min pre dev post max)).1
 stage_fits (Some n) pre dev post max h = zero_fits
 stage_fits None (Some p) dev post max h = h
 stage_fits None None None post max h = zero_fits
@@ -38,12 +38,12 @@ stage_fits None None (Some d) None None h = zero_fits
 stage_fits None None (Some d) None (Some m) h = zero_fits
 stage_fits None None (Some d) (Some p) max h = zero_fits
 
-post_fits : (max post : Option ℕ) → IfSome max Fits → IfSome post Fits → Fits (post_place (post_of max post)).1
+post_fits : (max post : Option ℕ) → IfSome max Fits → IfSome post Fits → Fits (post_rank (post_of max post)).1
 post_fits (Some m) post h k = h
 post_fits None (Some p) h k = k
 post_fits None None h k = zero_fits
 
-dev_fits : (min dev : Option ℕ) → IfSome min Fits → IfSome dev Fits → Fits (dev_place (dev_of min dev)).1
+dev_fits : (min dev : Option ℕ) → IfSome min Fits → IfSome dev Fits → Fits (dev_rank (dev_of min dev)).1
 dev_fits (Some n) dev h k = h
 dev_fits None (Some d) h k = k
 dev_fits None None h k = zero_fits
@@ -52,7 +52,7 @@ before_fits : (b : Bool) (x : ℕ) → Fits x → AllByRecursion Fits (if b then
 before_fits true x h = tt
 before_fits false x h = (h, tt)
 
-step_fits : (x : ℕ) (rest : List ℕ) → Fits x → AllByRecursion Fits rest → AllByRecursion Fits (before_trimmed x rest)
+step_fits : (x : ℕ) (rest : List ℕ) → Fits x → AllByRecursion Fits rest → AllByRecursion Fits (prepend_trimmed x rest)
 step_fits x [] h k = before_fits (x == 0) x h
 step_fits x (y ∷ rest) h k = (h, k)
 
@@ -82,22 +82,22 @@ pub followed_in_order : (r q : Record) → IsKeyed r → IsKeyed q → (u v : Li
 followed_in_order r q h k u v =
     let E : Record → List ℕ = λ x. number_bytes 0 x.epoch in
     let R : Record → List ℕ = λ x. release_bytes x.release in
-    let S : Record → List ℕ = λ x. place_bytes (stage_place (key x).stage) in
-    let P : Record → List ℕ = λ x. place_bytes (post_place (key x).post) in
-    let D : Record → List ℕ = λ x. place_bytes (dev_place (key x).dev) in
+    let S : Record → List ℕ = λ x. rank_bytes (stage_rank (key x).stage) in
+    let P : Record → List ℕ = λ x. rank_bytes (post_rank (key x).post) in
+    let D : Record → List ℕ = λ x. rank_bytes (dev_rank (key x).dev) in
     let L : Record → List ℕ = λ x. local_bytes x.local in
     let epoch = nat_cmp r.epoch q.epoch in
     let release = release_cmp r.release q.release in
-    let stage = place_cmp (stage_place (key r).stage) (stage_place (key q).stage) in
-    let post = place_cmp (post_place (key r).post) (post_place (key q).post) in
-    let dev = place_cmp (dev_place (key r).dev) (dev_place (key q).dev) in
+    let stage = rank_cmp (stage_rank (key r).stage) (stage_rank (key q).stage) in
+    let post = rank_cmp (post_rank (key r).post) (post_rank (key q).post) in
+    let dev = rank_cmp (dev_rank (key r).dev) (dev_rank (key q).dev) in
     let local = local_cmp r.local q.local in
     (λ i. slice_cmp nat_cmp (parts_in_turn (E r) (R r) (S r) (P r) (D r) (L r) u i) (parts_in_turn (E q) (R q) (S q) (P q) (D q) (L q) v i))
     ∙ (number_is_code 0).splits r.epoch q.epoch h.valid.epoch k.valid.epoch _ _
     ∙ ap (ordering_then epoch) (release_is_code.splits r.release q.release (release_fits r h) (release_fits q k) _ _
-    ∙ ap (ordering_then release) (place_is_code.splits (stage_place (key r).stage) (stage_place (key q).stage) (stage_fits _ _ _ _ _ h.valid.pre) (stage_fits _ _ _ _ _ k.valid.pre) _ _
-    ∙ ap (ordering_then stage) (place_is_code.splits (post_place (key r).post) (post_place (key q).post) (post_fits _ _ h.valid.max h.valid.post) (post_fits _ _ k.valid.max k.valid.post) _ _
-    ∙ ap (ordering_then post) (place_is_code.splits (dev_place (key r).dev) (dev_place (key q).dev) (dev_fits _ _ h.valid.min h.valid.dev) (dev_fits _ _ k.valid.min k.valid.dev) _ _
+    ∙ ap (ordering_then release) (place_is_code.splits (stage_rank (key r).stage) (stage_rank (key q).stage) (stage_fits _ _ _ _ _ h.valid.pre) (stage_fits _ _ _ _ _ k.valid.pre) _ _
+    ∙ ap (ordering_then stage) (place_is_code.splits (post_rank (key r).post) (post_rank (key q).post) (post_fits _ _ h.valid.max h.valid.post) (post_fits _ _ k.valid.max k.valid.post) _ _
+    ∙ ap (ordering_then post) (place_is_code.splits (dev_rank (key r).dev) (dev_rank (key q).dev) (dev_fits _ _ h.valid.min h.valid.dev) (dev_fits _ _ k.valid.min k.valid.dev) _ _
     ∙ ap (ordering_then dev) (local_is_code.splits r.local q.local (local_plain r h) (local_plain q k) u v)))))
     ∙ six_in_turn epoch release stage post dev local (slice_cmp nat_cmp u v)
 
@@ -120,7 +120,7 @@ lower_above [] h = tt
 lower_above (zero ∷ t) h = absurd (true≢false (sym h))
 lower_above (suc b ∷ t) h = (zero-lt-suc b, lower_above t (second_so (is_lower (suc b)) (list_all is_lower t) h))
 
-no_zero : (s : Segment) → SegmentRereads s → HasNoZero s
+no_zero : (s : LocalSegmentValue) → SegmentRereads s → HasNoZero s
 no_zero (Text t) h = All-from_recursion (λ b. 0 < b) t (lower_above t h.1)
 no_zero (Number n) h = tt
 

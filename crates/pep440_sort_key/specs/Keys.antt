@@ -3,18 +3,18 @@
 use Rattle.std.specs.Prelude.{ℕ, ◌+◌, ◌*◌, ◌<◌, ◌==◌, List, [], ◌∷◌, ◌++◌, length, if◌then◌else◌}
 use Rattle.std.specs.Int.{w64, to_be_bytes}
 use Rattle.std.specs.List.{All, flat_map}
-use Rattle.pep440_version.specs.Key.{key, stage_place, post_place, dev_place}
-use Rattle.pep440_version.specs.Record.{Record, IsRecord, Segment, Text, Number}
+use Rattle.pep440_version.specs.Key.{key, stage_rank, post_rank, dev_rank}
+use Rattle.pep440_version.specs.Record.{Record, IsRecord, LocalSegmentValue, Text, Number}
 use Rattle.pep440_version.specs.Trim.{trim}
 
 -- bytes without the zeros in front
-abbrev pub unpadded : List ℕ → List ℕ
-unpadded [] = []
-unpadded (b ∷ rest) = if b == 0 then unpadded rest else b ∷ rest
+abbrev pub trim_leading_zeros : List ℕ → List ℕ
+trim_leading_zeros [] = []
+trim_leading_zeros (b ∷ rest) = if b == 0 then trim_leading_zeros rest else b ∷ rest
 
 -- the bytes that a number below 2^64 needs, the greatest first; none for 0
 unfoldable pub needed_bytes : ℕ → List ℕ
-needed_bytes n = unpadded (to_be_bytes w64 n)
+needed_bytes n = trim_leading_zeros (to_be_bytes w64 n)
 
 -- a number: a base and how many bytes it needs, as one byte, and then these bytes
 abbrev pub number_bytes : ℕ → ℕ → List ℕ
@@ -25,26 +25,26 @@ abbrev pub release_bytes : List ℕ → List ℕ
 release_bytes numbers = flat_map (number_bytes 1) (trim numbers) ++ 0 ∷ []
 
 -- the place of a stage, a post or a dev: its number, on a base of 16 for each rank
-abbrev pub place_bytes : ℕ × ℕ → List ℕ
-place_bytes p = number_bytes (16 * p.0) p.1
+abbrev pub rank_bytes : ℕ × ℕ → List ℕ
+rank_bytes p = number_bytes (16 * p.0) p.1
 
 -- a segment: 1, a text and 0; or a number on the base 2
-abbrev pub segment_bytes : Segment → List ℕ
+abbrev pub segment_bytes : LocalSegmentValue → List ℕ
 segment_bytes (Text t) = 1 ∷ t ++ 0 ∷ []
 segment_bytes (Number n) = number_bytes 2 n
 
 -- a local part: its segments, and then 0
-abbrev pub local_bytes : List Segment → List ℕ
+abbrev pub local_bytes : List LocalSegmentValue → List ℕ
 local_bytes segments = flat_map segment_bytes segments ++ 0 ∷ []
 
 -- the sort key of a version: the parts of its key
 abbrev pub key_bytes : Record → List ℕ
 key_bytes r =
-    number_bytes 0 (key r).epoch ++ release_bytes (key r).release ++ place_bytes (stage_place (key r).stage)
-    ++ place_bytes (post_place (key r).post) ++ place_bytes (dev_place (key r).dev) ++ local_bytes (key r).local
+    number_bytes 0 (key r).epoch ++ release_bytes (key r).release ++ rank_bytes (stage_rank (key r).stage)
+    ++ rank_bytes (post_rank (key r).post) ++ rank_bytes (dev_rank (key r).dev) ++ local_bytes (key r).local
 
 -- a text without a zero byte, or a number
-abbrev pub HasNoZero : Segment → Type 0
+abbrev pub HasNoZero : LocalSegmentValue → Type 0
 HasNoZero (Text t) = All (λ b. 0 < b) t
 HasNoZero (Number n) = Unit {0}
 

@@ -1,4 +1,4 @@
-//! What holds of sort keys, as contracts of functions that do nothing.
+//! Laws of sort keys, as contracts of functions that do nothing.
 ghost use Rattle.std.specs.Prelude.{◌≡◌, ◌↔◌, ◌++◌, ℕ, List, Bool};
 ghost use Rattle.std.specs.Cmp.Lexicographic.{slice_cmp};
 ghost use Rattle.std.specs.Ordering.{nat_cmp, ordering_then};
@@ -9,17 +9,17 @@ ghost use Rattle.pep440_version.specs.Patterns.{DerivesPattern};
 ghost use Rattle.pep440_version.specs.Record.{Record};
 ghost use Rattle.pep440_sort_key.specs.Keys.{IsKeyed, key_bytes};
 
-/// Sort keys, compared byte by byte, are in the order of the versions, whose local texts must have no zero byte; and
-/// they are the same bytes exactly where the versions are equal. Bytes that follow the keys count only where the keys
-/// are the same: so a key may be the front of a longer one.
+/// Sort keys, compared byte by byte, are in the order of the versions, whose local segments must have no zero byte;
+/// and they are the same bytes exactly if the versions are equal. Bytes that follow the keys count only if the keys
+/// are the same: so a key may be the prefix of a longer one.
 pub fn keys_are_ordered()
     ensures ordered { (r q : Record) → IsKeyed r → IsKeyed q → slice_cmp nat_cmp (key_bytes r) (key_bytes q) ≡ record_cmp r q }
     ensures same { (r q : Record) → IsKeyed r → IsKeyed q → (key_bytes r ≡ key_bytes q) ↔ (record_cmp r q ≡ Equal) }
     ensures followed { (r q : Record) → IsKeyed r → IsKeyed q → (u v : List ℕ) → slice_cmp nat_cmp (key_bytes r ++ u) (key_bytes q ++ v) ≡ ordering_then (record_cmp r q) (slice_cmp nat_cmp u v) }
 {}
 
-/// Each version that a text or a pattern text gives has local texts without a zero byte: so of all texts the sort keys
-/// are in the order of the versions.
+/// Each version that a string parses to, as a version or as a pattern, has local segments without a zero byte: so the
+/// sort keys of all parsed versions are in the order of the versions.
 pub fn texts_are_ordered()
     ensures keyed { (text : List ℕ) (r : Record) → Derives text r → IsKeyed r }
     ensures keyed_pattern { (text : List ℕ) (r : Record) (star : Bool) → DerivesPattern text r star → IsKeyed r }

@@ -8,11 +8,11 @@ use Rattle.pep440_tool.specs.Runs.{WroteFront}
 
 -- what was written is the first n bytes
 pub WroteFront-take : (a b : Option (List ℕ)) (n : ℕ) (all : List ℕ) → Appends a b (take n all) → WroteFront a b all
-WroteFront-take a b n all wrote = record { front = take n all; rest = drop n all; wrote = wrote; whole = sym (take-append-drop n all) }
+WroteFront-take a b n all wrote = record { prefix = take n all; rest = drop n all; wrote = wrote; whole = sym (take-append-drop n all) }
 
 -- nothing was written
 pub WroteFront-none : (a : Option (List ℕ)) (all : List ℕ) → WroteFront a a all
-WroteFront-none a all = record { front = []; rest = all; wrote = Appends-nil a; whole = refl }
+WroteFront-none a all = record { prefix = []; rest = all; wrote = Appends-nil a; whole = refl }
 
 -- the rest of a slice from `at` on
 pub rest_is : (bs : List ℕ) (at : ℕ) → take (length bs - at) (drop at bs) ≡ drop at bs

@@ -44,10 +44,10 @@ found_none Means texts P h = record { found = []; before = []; split = refl; mea
 -- one text more
 pub found_more : {A : Type 0} (Means : ℕ × List ℕ → A → Type 0) (texts left later : List (ℕ × List ℕ)) (P Q : List A → Type 0) (text : ℕ × List ℕ) (x : A)
     → left ≡ text ∷ later → Means text x → ((xs : List A) → P xs → Q (xs ++ x ∷ [])) → Found Means texts left P → Found Means texts later Q
-found_more Means texts left later P Q text x cut means next k = record {
+found_more Means texts left later P Q text x decomposition means next k = record {
   found = k.found ++ x ∷ [];
   before = k.before ++ text ∷ [];
-  split = k.split ∙ ap (λ (ts : List (ℕ × List ℕ)). k.before ++ ts) cut ∙ sym (append_assoc k.before (text ∷ []) later);
+  split = k.split ∙ ap (λ (ts : List (ℕ × List ℕ)). k.before ++ ts) decomposition ∙ sym (append_assoc k.before (text ∷ []) later);
   means = all_more Means k.before k.found text x k.means means;
   holds = next k.found k.holds;
 }
@@ -55,11 +55,11 @@ found_more Means texts left later P Q text x cut means next k = record {
 -- a text is rejected
 pub found_rejected : {A : Type 0} (Means : ℕ × List ℕ → A → Type 0) (RejectsText : ℕ × List ℕ → ToolAnswer → Type 0) (texts left later : List (ℕ × List ℕ)) (P : List A → Type 0) (text : ℕ × List ℕ)
     (a : ToolAnswer) → left ≡ text ∷ later → RejectsText text a → Found Means texts left P → RejectsFirst Means RejectsText texts a
-found_rejected Means RejectsText texts left later P text a cut why k = record {
+found_rejected Means RejectsText texts left later P text a decomposition why k = record {
   before = k.before;
   text = text;
   after = later;
-  split = k.split ∙ ap (λ (ts : List (ℕ × List ℕ)). k.before ++ ts) cut;
+  split = k.split ∙ ap (λ (ts : List (ℕ × List ℕ)). k.before ++ ts) decomposition;
   found = k.found;
   means = k.means;
   why = why;
@@ -86,10 +86,10 @@ no_word_left view ys i end = ap (enumerate_from (i + 1)) (drop_all i (map view y
 -- the contained versions in order
 pub shows_contained : (list : List Spec) (found : List Record) (a : ToolAnswer) (versions shown : List Record) (text : List ℕ) → versions ≡ filter (list_matches list) found → IsPermutation versions shown
     → IsSorted record_cmp shown → IsStable record_cmp versions shown → text ≡ flat_map (λ v. line (print v)) shown → a ≡ record { output = text; status = 0 } → ShowsContained list found a
-shows_contained list found a versions shown text are same rises stable lines said = (
+shows_contained list found a versions shown text are same rises stable lines answer_value = (
   shown,
   record { same = rw are at same; rises = rises; stable = rw are at stable },
-  said ∙ ap (λ (t : List ℕ). record { output = t; status = 0 }) (lines ∙ sym (flat_map-map line print shown)),
+  answer_value ∙ ap (λ (t : List ℕ). record { output = t; status = 0 }) (lines ∙ sym (flat_map-map line print shown)),
 )
 
 -- one requirement more
@@ -98,12 +98,12 @@ lists_append name xs x = ap (map (λ (n : Needed). n.specifiers)) (filter-append
     ∙ map-append (λ (n : Needed). n.specifiers) (filter (λ (n : Needed). same_name n.name name) xs) (filter (λ (n : Needed). same_name n.name name) (x ∷ []))
 
 -- the newest is shown by its place
-pub picked : (name : List ℕ) (texts : List (List ℕ)) (input : List ℕ) (versions given : List Record) (lists held : List (List Spec)) (place : ℕ) (v : Record) (t : List ℕ) (a : ToolAnswer)
+pub picked : (name : List ℕ) (texts : List (List ℕ)) (input : List ℕ) (versions given : List Record) (lists held : List (List Spec)) (position : ℕ) (v : Record) (t : List ℕ) (a : ToolAnswer)
     → is_name name ≡ true → AllZip CandidateMeans (enumerate_from 1 texts) versions → (found : List Needed) × AllZip (LineMeans DerivesRequirement) (numbered_lines input) found × (lists ≡ lists_of name found)
-    → held ≡ lists → given ≡ versions → Newest held given (Some place) → place < length given → v ≡ get_or versions place v → t ≡ print v → a ≡ shown t → PickAnswer name texts input a
-picked name texts input versions given lists held place v t a named means k held_is given_is newest inside is text said =
-    let within : place < length versions = subst (λ (g : List Record). place < length g) given_is inside in
-    let by_name : Newest (lists_of name k.0) versions (Some place) =
-    subst (λ (l : List (List Spec)). Newest l versions (Some place)) (held_is ∙ k.2) (subst (λ (g : List Record). Newest held g (Some place)) given_is newest) in
-    let shows : slice_get versions place ≡ Some v = slice_get_read versions (length versions) place v refl within is in
-    inr (named, inl (versions, means, inl (k.0, k.1, (Some place, by_name, said ∙ ap shown (text ∙ ap (λ (o : Option Record). option_map_or print o (codes "none")) (sym shows))))))
+    → held ≡ lists → given ≡ versions → Newest held given (Some position) → position < length given → v ≡ get_or versions position v → t ≡ print v → a ≡ shown t → PickAnswer name texts input a
+picked name texts input versions given lists held position v t a command_from_name means k held_is given_is newest inside is text answer_value =
+    let within : position < length versions = subst (λ (g : List Record). position < length g) given_is inside in
+    let by_name : Newest (lists_of name k.0) versions (Some position) =
+    subst (λ (l : List (List Spec)). Newest l versions (Some position)) (held_is ∙ k.2) (subst (λ (g : List Record). Newest held g (Some position)) given_is newest) in
+    let shows : slice_get versions position ≡ Some v = slice_get_read versions (length versions) position v refl within is in
+    inr (command_from_name, inl (versions, means, inl (k.0, k.1, (Some position, by_name, answer_value ∙ ap shown (text ∙ ap (λ (o : Option Record). option_map_or print o (codes "none")) (sym shows))))))

@@ -15,20 +15,20 @@ line_read input i inside newline before =
 
 -- one line more was read, of what was left
 one_line : (read : ℕ) (rest : Option (Bor (List ℕ))) (text : Bor (List ℕ)) (line : List ℕ) (later : List (List ℕ)) → rest ≡ Some text → lines text.now ≡ line ∷ later → left_of read rest ≡ numbered_from (read + 1) (line ∷ later)
-one_line read rest text line later is cut = ap (left_of read) is ∙ ap (numbered_from (read + 1)) cut
+one_line read rest text line later is decomposition = ap (left_of read) is ∙ ap (numbered_from (read + 1)) decomposition
 
 choice : (b : Bool) (x : ℕ × List ℕ) (xs : List (ℕ × List ℕ)) (c : Bool) → b ≡ c → cond (not b) (x ∷ xs) xs ≡ cond (not c) (x ∷ xs) xs
 choice b x xs c e = ap (λ (d : Bool). cond (not d) (x ∷ xs) xs) e
 
 pub line_left : (read : ℕ) (rest : Option (Bor (List ℕ))) (text : Bor (List ℕ)) (line : List ℕ) (later : Option (Bor (List ℕ))) → rest ≡ Some text → lines text.now ≡ line ∷ option_map_or (λ r. lines r.now) later [] → is_skipped line ≡ false
     → left_of read rest ≡ (read + 1, line) ∷ left_of (read + 1) later
-line_left read rest text line later is cut full =
-    one_line read rest text line (option_map_or (λ r. lines r.now) later []) is cut ∙ choice (is_skipped line) (read + 1, line) (left_of (read + 1) later) false full
+line_left read rest text line later is decomposition full =
+    one_line read rest text line (option_map_or (λ r. lines r.now) later []) is decomposition ∙ choice (is_skipped line) (read + 1, line) (left_of (read + 1) later) false full
 
 pub line_skipped : (read : ℕ) (rest : Option (Bor (List ℕ))) (text : Bor (List ℕ)) (line : List ℕ) (later : Option (Bor (List ℕ))) → rest ≡ Some text → lines text.now ≡ line ∷ option_map_or (λ r. lines r.now) later [] → is_skipped line ≡ true
     → left_of read rest ≡ left_of (read + 1) later
-line_skipped read rest text line later is cut blank =
-    one_line read rest text line (option_map_or (λ r. lines r.now) later []) is cut ∙ choice (is_skipped line) (read + 1, line) (left_of (read + 1) later) true blank
+line_skipped read rest text line later is decomposition blank =
+    one_line read rest text line (option_map_or (λ r. lines r.now) later []) is decomposition ∙ choice (is_skipped line) (read + 1, line) (left_of (read + 1) later) true blank
 
 -- fewer lines were read than there are bytes
 abbrev pub HasRoom : ℕ → Option (Bor (List ℕ)) → Type 0

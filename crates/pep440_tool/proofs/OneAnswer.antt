@@ -22,13 +22,13 @@ use Rattle.pep440_version.specs.Record.{Record}
 use Rattle.pep440_version.specs.Refusals.{Refusal, Refuses}
 use Rattle.pep440_version.proofs.Reading.Agreement.{one_record}
 use Rattle.pep440_version.proofs.Refusals.ExactlyOne.{not_both, one_refusal}
-use Rattle.pep440_tool.specs.Answers.{AsksChange, Reads, ReadsEach, ReadsList, RejectsChange, ToolAnswer, candidate_fault_text, refused, refused_list, shown, shown_lines}
+use Rattle.pep440_tool.specs.Answers.{AsksChange, ReadsVersion, ReadsEach, ReadsList, RejectsChange, ToolAnswer, candidate_fault_text, refused, refused_list, shown, shown_lines}
 use Rattle.pep440_tool.specs.Commands.{Show, Compare, Match, Edit as AskEdit, Range, Filter, Pick, Usage}
 use Rattle.pep440_tool.specs.Lines.{LineMeans, RejectsLine, ShowsContained, numbered_lines, refused_version}
 use Rattle.pep440_tool.specs.OneAnswer.{AnswersOnce}
 use Rattle.pep440_tool.specs.Picks.{CandidateMeans, PickAnswer, RejectsCandidate, ShowsNewest, newest_text, refused_requirement}
 
-reads_once : (word : List ℕ) (P Q : Record → Type 0) (a b : ToolAnswer) → ((r : Record) → P r → Q r → a ≡ b) → Reads word P a → Reads word Q b → a ≡ b
+reads_once : (word : List ℕ) (P Q : Record → Type 0) (a b : ToolAnswer) → ((r : Record) → P r → Q r → a ≡ b) → ReadsVersion word P a → ReadsVersion word Q b → a ≡ b
 reads_once word P Q a b same (inl (r, d, p)) (inl (q, e, u)) = same r p (subst Q (one_record word q r e d) u)
 reads_once word P Q a b same (inl (r, d, p)) (inr (f, e, is)) = absurd (not_both word r f d e)
 reads_once word P Q a b same (inr (f, d, is)) (inl (r, e, p)) = absurd (not_both word r f e d)

@@ -24,13 +24,13 @@ use Rattle.pep440_version.specs.declared.change.ChangeError.{ChangeError}
 use Rattle.pep440_version.specs.declared.change.ChangeError.TheVariants as change
 use Rattle.pep440_version.specs.Refusals.{Refusal, Refuses}
 use Rattle.pep440_tool.specs.Answers.{RangeAnswer, ToolAnswer, edited_answer, line_fault_text, range_answer}
-use Rattle.pep440_tool.specs.CommandErrors.{Gives, Rejects, ends_lines, error_answer, is_change_memory, is_list_error, is_list_memory, is_requirement_memory}
+use Rattle.pep440_tool.specs.CommandErrors.{HoldsOrStops, Rejects, ends_lines, error_answer, is_change_memory, is_list_error, is_list_memory, is_requirement_memory}
 use Rattle.pep440_tool.specs.Lines.{RejectsLine}
 use Rattle.pep440_tool.specs.Picks.{is_of_list, refused_requirement}
 use Rattle.pep440_tool.specs.declared.error.CommandError.{CommandError}
 use Rattle.pep440_tool.specs.declared.error.CommandError.TheVariants.{Change, NotUtf8, Range}
 use Rattle.pep440_tool.specs.declared.output.Answer.{Answer}
-use Rattle.pep440_tool.specs.Said.{Answered, said}
+use Rattle.pep440_tool.specs.AnswerValues.{Answered, answer_value}
 
 -- ---- errors that say why
 
@@ -98,10 +98,10 @@ pub rejects_weaker : (Q R : ToolAnswer → Type 0) → ((a : ToolAnswer) → Q a
 rejects_weaker Q R all e h = λ lacks. let p = h lacks in (p.0, p.1, all (error_answer (ends_lines e) p.0) p.2)
 
 pub answered_weaker : (Q R : ToolAnswer → Type 0) → ((a : ToolAnswer) → Q a → R a) → (result : Result Answer CommandError) → Answered Q result → Answered R result
-answered_weaker Q R all (Ok a) h = all (said a) h
+answered_weaker Q R all (Ok a) h = all (answer_value a) h
 answered_weaker Q R all (Err e) h = rejects_weaker Q R all e h
 
 -- what ended a call ends its caller
-pub stopped : {X : Type 0} (P : X → Type 0) (Q R : ToolAnswer → Type 0) → ((a : ToolAnswer) → Q a → R a) → (e : CommandError) → Rejects Q e → (result : Result X CommandError) → IsErrAnd result (λ x. x ≡ e) → Gives P R result
+pub stopped : {X : Type 0} (P : X → Type 0) (Q R : ToolAnswer → Type 0) → ((a : ToolAnswer) → Q a → R a) → (e : CommandError) → Rejects Q e → (result : Result X CommandError) → IsErrAnd result (λ x. x ≡ e) → HoldsOrStops P R result
 stopped P Q R all e h (Ok x) none = absurd none
 stopped P Q R all e h (Err x) same = subst (Rejects R) (sym same) (rejects_weaker Q R all e h)

@@ -14,7 +14,7 @@ use Rattle.pep440_rs.specs.Matching.{list_matches}
 use Rattle.pep440_rs.specs.RangeLines.{range_lines}
 use Rattle.pep440_rs.specs.Specifiers.{Spec}
 use Rattle.pep440_rs.specs.declared.range.error.RangeError.TheVariants.{NumberAtMax}
-use Rattle.pep440_version.specs.Changes.{Edit, changed_all}
+use Rattle.pep440_version.specs.Changes.{Edit, apply_edits}
 use Rattle.pep440_version.specs.ErrorTexts.{refusal_text, change_error_text}
 use Rattle.pep440_version.specs.Grammar.{Derives}
 use Rattle.pep440_version.specs.Key.{record_cmp}
@@ -56,8 +56,8 @@ abbrev pub RefusesWord : List ℕ → ToolAnswer → Type 0
 RefusesWord word a = (f : Refusal) × Refuses word f × (a ≡ refused (refusal_text f))
 
 -- the word means a version of which this holds, or the answer says why it means none
-abbrev pub Reads : List ℕ → (Record → Type 0) → ToolAnswer → Type 0
-Reads word Then a = ((r : Record) × Derives word r × Then r) ⊎ RefusesWord word a
+abbrev pub ReadsVersion : List ℕ → (Record → Type 0) → ToolAnswer → Type 0
+ReadsVersion word Then a = ((r : Record) × Derives word r × Then r) ⊎ RefusesWord word a
 
 -- the answer says why the word means no list
 abbrev pub RefusesListWord : List ℕ → ToolAnswer → Type 0
@@ -88,7 +88,7 @@ module _ {A : Type 0} (Means : ℕ × List ℕ → A → Type 0) (RejectsText : 
 
 -- `show V`: the print of V
 abbrev pub ShowAnswer : List ℕ → ToolAnswer → Type 0
-ShowAnswer text a = Reads text (λ r. a ≡ shown (print r)) a
+ShowAnswer text a = ReadsVersion text (λ r. a ≡ shown (print r)) a
 
 abbrev pub sign_of : Ordering → List ℕ
 sign_of Less = codes "<"
@@ -97,7 +97,7 @@ sign_of Greater = codes ">"
 
 -- `compare A B`: how A stands to B; A is read first
 abbrev pub CompareAnswer : List ℕ → List ℕ → ToolAnswer → Type 0
-CompareAnswer left right a = Reads left (λ r. Reads right (λ q. a ≡ shown (sign_of (record_cmp r q))) a) a
+CompareAnswer left right a = ReadsVersion left (λ r. ReadsVersion right (λ q. a ≡ shown (sign_of (record_cmp r q))) a) a
 
 -- the version that was reached, or the change that can't be made
 abbrev pub edited_answer : Result Record ChangeError → ToolAnswer
@@ -113,7 +113,7 @@ abbrev pub line_fault_text : ℕ → List ℕ → List ℕ
 line_fault_text number fault = codes "line " ++ (decimal number ++ (codes ": " ++ fault))
 
 abbrev pub not_a_change_text : ℕ → List ℕ
-not_a_change_text place = codes "change " ++ (decimal place ++ codes ": not a change")
+not_a_change_text position = codes "change " ++ (decimal position ++ codes ": not a change")
 
 -- a word asks for a change
 abbrev pub AsksChange : ℕ × List ℕ → Edit → Type 0
@@ -125,7 +125,7 @@ RejectsChange word a = (change_of word.1 ≡ None) × (a ≡ refused (not_a_chan
 
 -- `edit V CHANGE..`: V is read, then all the words, and then the changes are made
 abbrev pub EditAnswer : List ℕ → List (List ℕ) → ToolAnswer → Type 0
-EditAnswer text words a = Reads text (λ r. ReadsEach AsksChange RejectsChange (enumerate_from 1 words) (λ edits. a ≡ edited_answer (changed_all 1 r edits)) a) a
+EditAnswer text words a = ReadsVersion text (λ r. ReadsEach AsksChange RejectsChange (enumerate_from 1 words) (λ edits. a ≡ edited_answer (apply_edits 1 r edits)) a) a
 
 -- ---- lists of specifiers
 
@@ -135,7 +135,7 @@ yes_or_no false = codes "no"
 
 -- `match SPECS V`: whether the list contains the version; SPECS is read first
 abbrev pub MatchAnswer : List ℕ → List ℕ → ToolAnswer → Type 0
-MatchAnswer specifiers text a = ReadsList specifiers (λ list. Reads text (λ r. a ≡ shown (yes_or_no (list_matches list r))) a) a
+MatchAnswer specifiers text a = ReadsList specifiers (λ list. ReadsVersion text (λ r. a ≡ shown (yes_or_no (list_matches list r))) a) a
 
 -- the range's lines, or that a number would have to be raised that can't be
 abbrev pub range_answer : Option Segments → ToolAnswer

@@ -81,6 +81,6 @@ abbrev pub Rejects : (ToolAnswer → Type 0) → CommandError → Type 0
 Rejects Q e = lacks_memory e ≡ false → (text : List ℕ) × (error_text_of e ≡ Some text) × Q (error_answer (ends_lines e) text)
 
 -- what holds of what is given, or of the answer that the error prints
-abbrev pub Gives : {X : Type 0} → (X → Type 0) → (ToolAnswer → Type 0) → Result X CommandError → Type 0
-Gives P Q (Ok x) = P x
-Gives P Q (Err e) = Rejects Q e
+abbrev pub HoldsOrStops : {X : Type 0} → (X → Type 0) → (ToolAnswer → Type 0) → Result X CommandError → Type 0
+HoldsOrStops P Q (Ok x) = P x
+HoldsOrStops P Q (Err e) = Rejects Q e

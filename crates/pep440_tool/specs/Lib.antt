@@ -7,4 +7,4 @@ pub mod OneAnswer
 pub mod Runs
 pub mod CommandErrors
 pub mod LinesLeft
-pub mod Said
+pub mod AnswerValues

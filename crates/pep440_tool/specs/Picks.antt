@@ -38,11 +38,11 @@ refused_requirement number f = let text = line_fault_text number (requirement_re
 
 -- the print of the version at the place, or `none`
 abbrev pub newest_text : List Record → Option ℕ → List ℕ
-newest_text candidates place = option_map_or print (option_and_then (slice_get candidates) place) (codes "none")
+newest_text candidates position = option_map_or print (option_and_then (slice_get candidates) position) (codes "none")
 
 -- the newest by the lists of the lines of that name
 abbrev pub ShowsNewest : List ℕ → List Record → List Needed → ToolAnswer → Type 0
-ShowsNewest name candidates found a = (place : Option ℕ) × Newest (lists_of name found) candidates place × (a ≡ shown (newest_text candidates place))
+ShowsNewest name candidates found a = (position : Option ℕ) × Newest (lists_of name found) candidates position × (a ≡ shown (newest_text candidates position))
 
 -- `pick NAME V..`: NAME is a name, then the candidates are read, and then the lines of the input
 abbrev pub PickAnswer : List ℕ → List (List ℕ) → List ℕ → ToolAnswer → Type 0

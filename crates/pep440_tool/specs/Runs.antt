@@ -7,10 +7,10 @@ use Rattle.pep440_tool.specs.Texts.{memory_text}
 
 -- a beginning of `all` was written, which may be nothing or the whole
 pub record WroteFront (old new : Option (List ℕ)) (all : List ℕ) : Type 0 where
-  pub front : List ℕ
+  pub prefix : List ℕ
   pub rest : List ℕ
-  pub wrote : Appends old new front
-  pub whole : all ≡ front ++ rest
+  pub wrote : Appends old new prefix
+  pub whole : all ≡ prefix ++ rest
 
 -- What a run does with its reader and its writer. `remaining` and `contents` are the bytes that a reader has left and that a writer holds.
 module _ {R W : Type 0} (remaining : R → Option (List ℕ)) (contents : W → Option (List ℕ)) where

@@ -1,7 +1,7 @@
 // The command that words ask for, and what it prints.
 ghost use Rattle.std.specs.Prelude.{◌≡◌, ◌≤◌, ◌==◌, map, string_bytes, IfOk};
 ghost use Rattle.pep440_tool.specs.Commands.{IsAnswer, asked, asked_by, reads_input};
-ghost use Rattle.pep440_tool.specs.Said.{Answered, request, said};
+ghost use Rattle.pep440_tool.specs.AnswerValues.{Answered, request, answer_value};
 
 use crate::editing::edit;
 use crate::error::CommandError;
@@ -101,7 +101,7 @@ impl<'a> Command<'a> {
 
     /// What it prints for its input: a result, or the error's text.
     pub(crate) fn answer(self, alloc: Global, input: &[u8]) -> Result<Answer, AllocError>
-        ensures answer { IfOk result (λ a. IsAnswer (request self.entry) input.now (said a)) }
+        ensures answer { IfOk result (λ a. IsAnswer (request self.entry) input.now (answer_value a)) }
         ensures known { IfOk result (λ a. a.status ≤ 2) }
     {
         match self.run(alloc, input) {
@@ -117,7 +117,7 @@ impl<'a> Command<'a> {
 ///
 /// Takes memory; `AllocError` only where it ran out.
 pub fn answer(alloc: Global, words: &[String], input: &[u8]) -> Result<Answer, AllocError>
-    ensures answer { IfOk result (λ a. IsAnswer (asked (map string_bytes words.now)) input.now (said a)) }
+    ensures answer { IfOk result (λ a. IsAnswer (asked (map string_bytes words.now)) input.now (answer_value a)) }
     ensures known { IfOk result (λ a. a.status ≤ 2) }
 {
     Command::parse(words).answer(alloc, input)

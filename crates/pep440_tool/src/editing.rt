@@ -2,9 +2,9 @@
 ghost use Rattle.std.specs.Prelude.{◌≡◌, map, string_bytes};
 ghost use Rattle.std.specs.List.{AllZip, enumerate_from};
 ghost use Rattle.pep440_tool.specs.Answers.{AsksChange, EditAnswer, RejectsChange, RejectsFirst, edited_answer};
-ghost use Rattle.pep440_tool.specs.CommandErrors.{Gives};
-ghost use Rattle.pep440_tool.specs.Said.{Answered};
-ghost use Rattle.pep440_version.specs.Changes.{changed_all, edit};
+ghost use Rattle.pep440_tool.specs.CommandErrors.{HoldsOrStops};
+ghost use Rattle.pep440_tool.specs.AnswerValues.{Answered};
+ghost use Rattle.pep440_version.specs.Changes.{apply_edits, edit};
 
 use crate::error::CommandError;
 use crate::output::Answer;
@@ -15,7 +15,7 @@ use std::alloc::Global;
 
 /// The changes that the words ask for.
 fn read_changes(alloc: Global, words: &[String]) -> Result<Vec<Change>, CommandError>
-    ensures { Gives (λ v. AllZip AsksChange (enumerate_from 1 (map string_bytes words.now)) (map edit v.items)) (RejectsFirst AsksChange RejectsChange (enumerate_from 1 (map string_bytes words.now))) result }
+    ensures { HoldsOrStops (λ v. AllZip AsksChange (enumerate_from 1 (map string_bytes words.now)) (map edit v.items)) (RejectsFirst AsksChange RejectsChange (enumerate_from 1 (map string_bytes words.now))) result }
 {
     let mut changes = Vec::new(alloc);
     for (at, word) in words.iter().enumerate() {
@@ -34,7 +34,7 @@ fn apply_changes(
     version: Version,
     changes: &[Change],
 ) -> Result<Answer, CommandError>
-    ensures { Answered (λ a. a ≡ edited_answer (changed_all 1 version (map edit changes.now))) result }
+    ensures { Answered (λ a. a ≡ edited_answer (apply_edits 1 version (map edit changes.now))) result }
 {
     match version.with_changes(alloc, changes) {
         Ok(version) => {

@@ -4,9 +4,9 @@ ghost use Rattle.std.specs.Fmt.{WritesStyledOnOk};
 ghost use Rattle.std.specs.List.{AllZip, filter, flat_map};
 ghost use Rattle.pep440_rs.specs.Matching.{list_matches};
 ghost use Rattle.pep440_tool.specs.Answers.{RejectsFirst};
-ghost use Rattle.pep440_tool.specs.CommandErrors.{Gives};
+ghost use Rattle.pep440_tool.specs.CommandErrors.{HoldsOrStops};
 ghost use Rattle.pep440_tool.specs.Lines.{FilterAnswer, LineMeans, RejectsLine, numbered_lines, refused_version};
-ghost use Rattle.pep440_tool.specs.Said.{Answered};
+ghost use Rattle.pep440_tool.specs.AnswerValues.{Answered};
 ghost use Rattle.pep440_tool.specs.Texts.{line};
 ghost use Rattle.pep440_version.specs.Grammar.{Derives};
 ghost use Rattle.pep440_version.specs.Print.{print};
@@ -23,7 +23,7 @@ use std::fmt;
 
 /// The version that the line means.
 fn read_line(alloc: Global, line: Line<'_>) -> Result<Version, CommandError>
-    ensures { Gives (LineMeans Derives (line.entry.number, line.entry.bytes.now)) (RejectsLine Refuses refused_version (line.entry.number, line.entry.bytes.now)) result }
+    ensures { HoldsOrStops (LineMeans Derives (line.entry.number, line.entry.bytes.now)) (RejectsLine Refuses refused_version (line.entry.number, line.entry.bytes.now)) result }
 {
     match Version::from_str(alloc, line.text()?) {
         Ok(version) => Ok(version),
@@ -52,7 +52,7 @@ fn read_contained(
     list: &VersionSpecifiers,
     input: &[u8],
 ) -> Result<Vec<Version>, CommandError>
-    ensures { Gives (λ versions. (found : List Record) × AllZip (LineMeans Derives) (numbered_lines input.now) found × (versions.items ≡ filter (list_matches list.now) found)) (RejectsFirst (LineMeans Derives) (RejectsLine Refuses refused_version) (numbered_lines input.now)) result }
+    ensures { HoldsOrStops (λ versions. (found : List Record) × AllZip (LineMeans Derives) (numbered_lines input.now) found × (versions.items ≡ filter (list_matches list.now) found)) (RejectsFirst (LineMeans Derives) (RejectsLine Refuses refused_version) (numbered_lines input.now)) result }
 {
     let mut versions = Vec::new(alloc);
     let mut lines = Lines::new(input);
@@ -70,7 +70,7 @@ struct VersionLines<'a> {
     versions: &'a [Version],
 }
 
-#[tactic(auto, using(pep440_version::proofs::Reread::Writing::two_writes))]
+#[tactic(auto, using(pep440_version::proofs::RoundTrip::Writing::two_writes))]
 fn write_line<W: fmt::Write>(f: &mut fmt::Formatter<W>, version: &Version) -> fmt::Result
     ensures { WritesStyledOnOk W.write_str_gives f.old result (line (print version.now)) f.new }
 {

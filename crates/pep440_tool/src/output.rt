@@ -2,7 +2,7 @@
 ghost use Rattle.std.specs.Prelude.{◌≡◌, IfOk, IfSome, false, string_bytes};
 ghost use Rattle.pep440_tool.specs.Answers.{shown, usage_answer};
 ghost use Rattle.pep440_tool.specs.CommandErrors.{ends_lines, error_answer, error_text_of, lacks_memory};
-ghost use Rattle.pep440_tool.specs.Said.{said};
+ghost use Rattle.pep440_tool.specs.AnswerValues.{answer_value};
 
 use crate::error::CommandError;
 use std::alloc::{AllocError, Global};
@@ -20,7 +20,7 @@ const USAGE: &str =
 impl Answer {
     /// The text as a line, with status 0.
     pub(crate) fn shown(alloc: Global, text: &str) -> Result<Answer, AllocError>
-        ensures { IfOk result (λ a. said a ≡ shown text.now) }
+        ensures { IfOk result (λ a. answer_value a ≡ shown text.now) }
     {
         let mut output = Vec::from_slice(alloc, text.as_bytes())?;
         output.push(b'\n')?;
@@ -29,7 +29,7 @@ impl Answer {
 
     /// The text, which is made of whole lines, with status 0.
     pub(crate) fn shown_lines(text: String) -> Answer
-        ensures { said result ≡ record { output = string_bytes text; status = 0 } }
+        ensures { answer_value result ≡ record { output = string_bytes text; status = 0 } }
     {
         Answer {
             output: text.into_bytes(),
@@ -41,7 +41,7 @@ impl Answer {
     pub(crate) fn error(alloc: Global, error: &CommandError) -> Result<Answer, AllocError>
         ensures memory { IfOk result (λ _. lacks_memory error.now ≡ false) }
         ensures status { IfOk result (λ a. a.status ≡ 1) }
-        ensures printed { IfOk result (λ a. IfSome (error_text_of error.now) (λ text. said a ≡ error_answer (ends_lines error.now) text)) }
+        ensures printed { IfOk result (λ a. IfSome (error_text_of error.now) (λ text. answer_value a ≡ error_answer (ends_lines error.now) text)) }
     {
         if error.is_out_of_memory() {
             return Err(AllocError);
@@ -56,7 +56,7 @@ impl Answer {
 
     /// The usage line, with status 2.
     pub(crate) fn usage(alloc: Global) -> Result<Answer, AllocError>
-        ensures { IfOk result (λ a. said a ≡ usage_answer) }
+        ensures { IfOk result (λ a. answer_value a ≡ usage_answer) }
     {
         Ok(Answer {
             output: Vec::from_slice(alloc, USAGE.as_bytes())?,

@@ -4,10 +4,10 @@ ghost use Rattle.std.specs.List.{AllZip, enumerate_from};
 ghost use Rattle.pep440_pick.specs.Allowed.{lists_of};
 ghost use Rattle.pep440_pick.specs.RequirementGrammar.{DerivesRequirement, Needed, RefusesRequirement};
 ghost use Rattle.pep440_tool.specs.Answers.{RejectsFirst};
-ghost use Rattle.pep440_tool.specs.CommandErrors.{Gives};
+ghost use Rattle.pep440_tool.specs.CommandErrors.{HoldsOrStops};
 ghost use Rattle.pep440_tool.specs.Lines.{LineMeans, RejectsLine, numbered_lines};
 ghost use Rattle.pep440_tool.specs.Picks.{CandidateMeans, PickAnswer, RejectsCandidate, refused_requirement};
-ghost use Rattle.pep440_tool.specs.Said.{Answered};
+ghost use Rattle.pep440_tool.specs.AnswerValues.{Answered};
 
 use crate::error::CommandError;
 use crate::lines::{Line, Lines};
@@ -18,7 +18,7 @@ use std::alloc::{AllocError, Global};
 
 /// The version that the candidate with this number means.
 fn read_candidate(alloc: Global, number: usize, word: &str) -> Result<Version, CommandError>
-    ensures { Gives (CandidateMeans (number, word.now)) (RejectsCandidate (number, word.now)) result }
+    ensures { HoldsOrStops (CandidateMeans (number, word.now)) (RejectsCandidate (number, word.now)) result }
 {
     match Version::from_str(alloc, word) {
         Ok(version) => Ok(version),
@@ -28,7 +28,7 @@ fn read_candidate(alloc: Global, number: usize, word: &str) -> Result<Version, C
 
 /// The versions that the candidates mean.
 fn read_candidates(alloc: Global, words: &[String]) -> Result<Vec<Version>, CommandError>
-    ensures { Gives (λ v. AllZip CandidateMeans (enumerate_from 1 (map string_bytes words.now)) v.items) (RejectsFirst CandidateMeans RejectsCandidate (enumerate_from 1 (map string_bytes words.now))) result }
+    ensures { HoldsOrStops (λ v. AllZip CandidateMeans (enumerate_from 1 (map string_bytes words.now)) v.items) (RejectsFirst CandidateMeans RejectsCandidate (enumerate_from 1 (map string_bytes words.now))) result }
 {
     let mut versions = Vec::new(alloc);
     for (at, word) in words.iter().enumerate() {
@@ -44,7 +44,7 @@ fn read_specifiers(
     name: &str,
     line: Line<'_>,
 ) -> Result<Option<VersionSpecifiers>, CommandError>
-    ensures { Gives (λ o. (n : Needed) × LineMeans DerivesRequirement (line.entry.number, line.entry.bytes.now) n × (option_to_list o ≡ lists_of name.now (n ∷ []))) (RejectsLine RefusesRequirement refused_requirement (line.entry.number, line.entry.bytes.now)) result }
+    ensures { HoldsOrStops (λ o. (n : Needed) × LineMeans DerivesRequirement (line.entry.number, line.entry.bytes.now) n × (option_to_list o ≡ lists_of name.now (n ∷ []))) (RejectsLine RefusesRequirement refused_requirement (line.entry.number, line.entry.bytes.now)) result }
 {
     match Requirement::specifiers_for(alloc, name, line.text()?) {
         Ok(specifiers) => Ok(specifiers),
@@ -71,7 +71,7 @@ fn read_lists(
     name: &str,
     input: &[u8],
 ) -> Result<Vec<VersionSpecifiers>, CommandError>
-    ensures { Gives (λ lists. (found : List Needed) × AllZip (LineMeans DerivesRequirement) (numbered_lines input.now) found × (lists.items ≡ lists_of name.now found)) (RejectsFirst (LineMeans DerivesRequirement) (RejectsLine RefusesRequirement refused_requirement) (numbered_lines input.now)) result }
+    ensures { HoldsOrStops (λ lists. (found : List Needed) × AllZip (LineMeans DerivesRequirement) (numbered_lines input.now) found × (lists.items ≡ lists_of name.now found)) (RejectsFirst (LineMeans DerivesRequirement) (RejectsLine RefusesRequirement refused_requirement) (numbered_lines input.now)) result }
 {
     let mut lists = Vec::new(alloc);
     let mut lines = Lines::new(input);
@@ -98,8 +98,8 @@ pub(crate) fn pick(
     let versions = read_candidates(alloc, candidates)?;
     let lists = read_lists(alloc, name, input)?;
     match newest(alloc, lists.as_slice(), versions.as_slice())? {
-        Some(place) => {
-            let print = versions[place].to_string(alloc)?;
+        Some(position) => {
+            let print = versions[position].to_string(alloc)?;
             Ok(Answer::shown(alloc, print.as_str())?)
         }
         None => Ok(Answer::shown(alloc, "none")?),

@@ -24,11 +24,11 @@ pub fn run<R: Read, W: Write>(alloc: Global, words: &[String], reader: &mut R, w
             Err(ReadFailure::OutOfMemory) => return refuse(writer),
         }
     }
-    let Ok(said) = command.answer(alloc, input.as_slice()) else {
+    let Ok(answer_value) = command.answer(alloc, input.as_slice()) else {
         return refuse(writer);
     };
-    if write_whole(writer, said.output.as_slice()) {
-        said.status
+    if write_whole(writer, answer_value.output.as_slice()) {
+        answer_value.status
     } else {
         4
     }
@@ -39,7 +39,7 @@ pub fn run<R: Read, W: Write>(alloc: Global, words: &[String], reader: &mut R, w
 pub fn refuse<W: Write>(writer: &mut W) -> u8
     ensures status { (result ≡ 3) ⊎ (result ≡ 4) }
     ensures whole { result ≡ 3 → Appends (W.contents writer.old) (W.contents writer.new) memory_text }
-    ensures cut { WroteFront (W.contents writer.old) (W.contents writer.new) memory_text }
+    ensures decomposition { WroteFront (W.contents writer.old) (W.contents writer.new) memory_text }
 {
     if write_whole(writer, MEMORY.as_bytes()) {
         3

@@ -1,6 +1,6 @@
 // The command `range`.
 ghost use Rattle.pep440_tool.specs.Answers.{RangeAnswer};
-ghost use Rattle.pep440_tool.specs.Said.{Answered};
+ghost use Rattle.pep440_tool.specs.AnswerValues.{Answered};
 
 use crate::error::CommandError;
 use crate::output::Answer;

@@ -2,8 +2,8 @@
 ghost use Rattle.std.specs.Prelude.{◌≡◌};
 ghost use Rattle.pep440_rs.specs.ListGrammar.{DerivesList};
 ghost use Rattle.pep440_tool.specs.Answers.{CompareAnswer, MatchAnswer, RefusesListWord, RefusesWord, ShowAnswer, sign_of, yes_or_no};
-ghost use Rattle.pep440_tool.specs.CommandErrors.{Gives};
-ghost use Rattle.pep440_tool.specs.Said.{Answered};
+ghost use Rattle.pep440_tool.specs.CommandErrors.{HoldsOrStops};
+ghost use Rattle.pep440_tool.specs.AnswerValues.{Answered};
 ghost use Rattle.pep440_version.specs.Grammar.{Derives};
 
 use crate::error::CommandError;
@@ -14,7 +14,7 @@ use std::cmp::Ordering;
 
 /// The version that the word means.
 pub(crate) fn read(alloc: Global, word: &str) -> Result<Version, CommandError>
-    ensures { Gives (Derives word.now) (RefusesWord word.now) result }
+    ensures { HoldsOrStops (Derives word.now) (RefusesWord word.now) result }
 {
     match Version::from_str(alloc, word) {
         Ok(version) => Ok(version),
@@ -24,7 +24,7 @@ pub(crate) fn read(alloc: Global, word: &str) -> Result<Version, CommandError>
 
 /// The list that the word means.
 pub(crate) fn read_list(alloc: Global, word: &str) -> Result<VersionSpecifiers, CommandError>
-    ensures { Gives (DerivesList word.now) (RefusesListWord word.now) result }
+    ensures { HoldsOrStops (DerivesList word.now) (RefusesListWord word.now) result }
 {
     match VersionSpecifiers::from_str(alloc, word) {
         Ok(list) => Ok(list),

@@ -42,7 +42,7 @@ pub fn read_whole<R: Read>(alloc: Global, reader: &mut R) -> Result<Vec<u8>, Rea
 /// Writes all of it and flushes. `false` where a call failed or took no byte: then a beginning went out.
 pub fn write_whole<W: Write>(writer: &mut W, bytes: &[u8]) -> bool
     ensures whole { OnTrue result (Appends (W.contents writer.old) (W.contents writer.new) bytes.now) }
-    ensures cut { WroteFront (W.contents writer.old) (W.contents writer.new) bytes.now }
+    ensures decomposition { WroteFront (W.contents writer.old) (W.contents writer.new) bytes.now }
 {
     let mut at = 0;
     while at < bytes.len() {

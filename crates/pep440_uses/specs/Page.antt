@@ -8,8 +8,8 @@ use Rattle.pep440_version.specs.Key.{record_cmp}
 use Rattle.pep440_version.specs.Record.{Record}
 
 -- the versions that the list contains
-abbrev pub contained : List Spec → List Record → List Record
-contained list versions = filter (list_matches list) versions
+abbrev pub collect_contained : List Spec → List Record → List Record
+collect_contained list versions = filter (list_matches list) versions
 
 -- one of them: those before it are not above it, and those behind it are below it; so of equal ones it is the last
 pub record IsLastGreatest (versions : List Record) (v : Record) : Type 0 where

@@ -1,17 +1,17 @@
 //! The newest candidate of an index page.
 ghost use Rattle.std.specs.Prelude.{◌≡◌, IfOk};
-ghost use Rattle.pep440_uses.specs.Page.{LastGreatest, contained};
+ghost use Rattle.pep440_uses.specs.Page.{LastGreatest, collect_contained};
 
 use pep440_rs::{Version, VersionSpecifiers};
 use std::alloc::{AllocError, Global};
 
 // The versions that the list contains.
-fn contained(
+fn collect_contained(
     alloc: Global,
     wanted: &VersionSpecifiers,
     page: Vec<Version>,
 ) -> Result<Vec<Version>, AllocError>
-    ensures { IfOk result (λ versions. versions.items ≡ contained wanted.now page.items) }
+    ensures { IfOk result (λ versions. versions.items ≡ collect_contained wanted.now page.items) }
 {
     let mut versions = Vec::new(alloc);
     for version in page {
@@ -31,9 +31,9 @@ pub fn newest(
     wanted: &VersionSpecifiers,
     page: Vec<Version>,
 ) -> Result<Option<Version>, AllocError>
-    ensures { IfOk result (LastGreatest (contained wanted.now page.items)) }
+    ensures { IfOk result (LastGreatest (collect_contained wanted.now page.items)) }
 {
-    let versions = contained(alloc, wanted, page)?;
+    let versions = collect_contained(alloc, wanted, page)?;
     Ok(versions.into_iter().max())
 }
 

@@ -1,6 +1,6 @@
 pub mod Ordering
 pub mod Meaning
-pub mod Reread
+pub mod RoundTrip
 pub mod Reading
 pub mod Rows
 pub mod Refusals

@@ -1,5 +1,5 @@
 -- What is read of a text is what the grammar derives.
-pub mod Fronts
+pub mod Prefixes
 pub mod DerivedIsRead
 pub mod ReadIsDerived
 pub mod Boundaries
@@ -13,7 +13,7 @@ pub mod LocalAgrees
 pub mod AfterRelease
 pub mod PartsAgree
 pub mod Agreement
-pub mod WordInFront
+pub mod WordAsPrefix
 pub mod SegmentsInTurn
 pub mod AfterSpelling
 pub mod PublicAnswers

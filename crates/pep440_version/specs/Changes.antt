@@ -6,7 +6,7 @@ use Rattle.pep440_version.specs.declared.change.Change.TheVariants as change
 use Rattle.pep440_version.specs.declared.change.ChangeError.{ChangeError}
 use Rattle.pep440_version.specs.declared.change.ChangeError.TheVariants as error
 use Rattle.pep440_version.specs.declared.prerelease.Prerelease.{Prerelease}
-use Rattle.pep440_version.specs.Record.{Record, Segment, of_release}
+use Rattle.pep440_version.specs.Record.{Record, LocalSegmentValue, from_release}
 use Rattle.pep440_version.specs.Segments.{segment}
 
 -- what a change means
@@ -16,7 +16,7 @@ pub data Edit : Type 0 where
   Pre : Option Prerelease → Edit
   Post : Option ℕ → Edit
   Dev : Option ℕ → Edit
-  Local : List Segment → Edit
+  Local : List LocalSegmentValue → Edit
   WithoutLocal : Edit
   OnlyRelease : Edit
   Min : Option ℕ → Edit
@@ -35,24 +35,24 @@ edit (change.Min n) = Min n
 edit (change.Max n) = Max n
 
 -- one change, at its place
-abbrev pub changed : ℕ → Record → Edit → Result Record ChangeError
-changed place r (Release numbers) = if length numbers == 0 then Err (error.EmptyRelease place) else Ok (record r { release = numbers })
-changed place r (Epoch n) = Ok (record r { epoch = n })
-changed place r (Pre p) = Ok (record r { pre = p })
-changed place r (Post n) = Ok (record r { post = n })
-changed place r (Dev n) = Ok (record r { dev = n })
-changed place r (Local segments) = Ok (record r { local = segments })
-changed place r WithoutLocal = Ok (record r { local = [] })
-changed place r OnlyRelease = Ok (of_release r.release)
-changed place r (Min n) = if is_some r.pre || is_some r.dev then Err (error.MinNotAllowed place) else Ok (record r { min = n })
-changed place r (Max n) = if is_some r.post || is_some r.dev then Err (error.MaxNotAllowed place) else Ok (record r { max = n })
+abbrev pub apply_edit : ℕ → Record → Edit → Result Record ChangeError
+apply_edit position r (Release numbers) = if length numbers == 0 then Err (error.EmptyRelease position) else Ok (record r { release = numbers })
+apply_edit position r (Epoch n) = Ok (record r { epoch = n })
+apply_edit position r (Pre p) = Ok (record r { pre = p })
+apply_edit position r (Post n) = Ok (record r { post = n })
+apply_edit position r (Dev n) = Ok (record r { dev = n })
+apply_edit position r (Local segments) = Ok (record r { local = segments })
+apply_edit position r WithoutLocal = Ok (record r { local = [] })
+apply_edit position r OnlyRelease = Ok (from_release r.release)
+apply_edit position r (Min n) = if is_some r.pre || is_some r.dev then Err (error.MinNotAllowed position) else Ok (record r { min = n })
+apply_edit position r (Max n) = if is_some r.post || is_some r.dev then Err (error.MaxNotAllowed position) else Ok (record r { max = n })
 
 -- what follows a change that could be made
-abbrev pub then_changed : Result Record ChangeError → (Record → Result Record ChangeError) → Result Record ChangeError
-then_changed (Ok r) next = next r
-then_changed (Err e) next = Err e
+abbrev pub then_edit : Result Record ChangeError → (Record → Result Record ChangeError) → Result Record ChangeError
+then_edit (Ok r) next = next r
+then_edit (Err e) next = Err e
 
 -- the changes in order, the first at this place
-abbrev pub changed_all : ℕ → Record → List Edit → Result Record ChangeError
-changed_all place r [] = Ok r
-changed_all place r (c ∷ rest) = then_changed (changed place r c) (λ q. changed_all (place + 1) q rest)
+abbrev pub apply_edits : ℕ → Record → List Edit → Result Record ChangeError
+apply_edits position r [] = Ok r
+apply_edits position r (c ∷ rest) = then_edit (apply_edit position r c) (λ q. apply_edits (position + 1) q rest)

@@ -34,7 +34,7 @@ pattern_error_text (Some WildcardNotTrailing) = Some (pattern_refusal_text Wildc
 
 -- the place of a change, and why it can't be made
 abbrev pub change_error_text : ChangeError → List ℕ
-change_error_text (change.EmptyRelease place) = codes "change " ++ (decimal place ++ codes ": a release needs at least one number")
-change_error_text (change.MinNotAllowed place) = codes "change " ++ (decimal place ++ codes ": min is not allowed on pre-release or dev versions")
-change_error_text (change.MaxNotAllowed place) = codes "change " ++ (decimal place ++ codes ": max is not allowed on post-release or dev versions")
+change_error_text (change.EmptyRelease position) = codes "change " ++ (decimal position ++ codes ": a release needs at least one number")
+change_error_text (change.MinNotAllowed position) = codes "change " ++ (decimal position ++ codes ": min is not allowed on pre-release or dev versions")
+change_error_text (change.MaxNotAllowed position) = codes "change " ++ (decimal position ++ codes ": max is not allowed on post-release or dev versions")
 change_error_text change.OutOfMemory = codes "out of memory"

@@ -51,5 +51,5 @@ Answers refusal (Ok x) read = read ≡ Ok x
 Answers refusal (Err e) read = IfSome (refusal e) (λ f. read ≡ Err f)
 
 -- the same of an inner reader, whose answer is seen by view
-abbrev pub Gives : {X Y : Type 0} → (X → Y) → Result X ErrorKind → Read Y → Type 0
-Gives view result read = Answers refusal_of (result_map_both view (λ e. e) result) read
+abbrev pub AnswersBy : {X Y : Type 0} → (X → Y) → Result X ErrorKind → Read Y → Type 0
+AnswersBy view result read = Answers refusal_of (result_map_both view (λ e. e) result) read

@@ -4,28 +4,28 @@ use Rattle.std.specs.Hash.{HashWrites, u64}
 use Rattle.std.specs.List.{flat_map}
 use Rattle.pep440_version.specs.declared.prerelease.PrereleaseKind.{PrereleaseKind}
 use Rattle.pep440_version.specs.declared.prerelease.Prerelease.{Prerelease}
-use Rattle.pep440_version.specs.Key.{Key, key, Stage, Pre, stage_place, kind_rank, PostPlace, NoPost, PostAt, PostTop, DevPlace, DevAt, NoDev}
-use Rattle.pep440_version.specs.Record.{Record, Segment, Text, Number}
+use Rattle.pep440_version.specs.Key.{Key, key, Stage, Pre, stage_rank, kind_rank, PostPart, NoPost, PostAt, PostTop, DevPart, DevAt, NoDev}
+use Rattle.pep440_version.specs.Record.{Record, LocalSegmentValue, Text, Number}
 use Rattle.pep440_version.specs.Trim.{trim}
 
 -- its rank: Min 0, Dev 1, Alpha 2, Beta 3, Rc 4, Final 5; a pre-release is followed by its number
 abbrev pub feed_stage : Stage → HashWrites
 feed_stage (Pre k n) = u64 (2 + kind_rank k) ++ u64 n
-feed_stage s = u64 (stage_place s).0
+feed_stage s = u64 (stage_rank s).0
 
 -- 0, or 1 and the number, or 2 and the number of the mark
-abbrev pub feed_post : PostPlace → HashWrites
+abbrev pub feed_post : PostPart → HashWrites
 feed_post NoPost = u64 0
 feed_post (PostAt p) = u64 1 ++ u64 p
 feed_post (PostTop m) = u64 2 ++ u64 m
 
 -- 0 and the number, or 1
-abbrev pub feed_dev : DevPlace → HashWrites
+abbrev pub feed_dev : DevPart → HashWrites
 feed_dev (DevAt d) = u64 0 ++ u64 d
 feed_dev NoDev = u64 1
 
 -- a text is its length and its bytes
-abbrev pub feed_segment : Segment → HashWrites
+abbrev pub feed_segment : LocalSegmentValue → HashWrites
 feed_segment (Text t) = u64 0 ++ u64 (length t) ++ (t ∷ [])
 feed_segment (Number n) = u64 1 ++ u64 n
 
@@ -34,7 +34,7 @@ abbrev pub feed_numbers : List ℕ → HashWrites
 feed_numbers numbers = u64 (length numbers) ++ flat_map u64 numbers
 
 -- how many segments, and each of them
-abbrev pub feed_local : List Segment → HashWrites
+abbrev pub feed_local : List LocalSegmentValue → HashWrites
 feed_local segments = u64 (length segments) ++ flat_map feed_segment segments
 
 -- part after part, the release without the zeros at its end

@@ -4,7 +4,7 @@ use Rattle.std.specs.Prelude.{◌≡◌, ℕ, ◌<◌, ◌==◌, ◌||◌, ◌�
 use Rattle.std.specs.Char.{is_ascii_digit, is_ascii_alphanumeric, to_ascii_lowercase, is_ascii_whitespace}
 use Rattle.std.specs.List.{list_all}
 use Rattle.std.specs.Str.Parse.{digits_value}
-use Rattle.pep440_version.specs.Record.{Fits, Record, Segment, Text, Number}
+use Rattle.pep440_version.specs.Record.{Fits, Record, LocalSegmentValue, Text, Number}
 use Rattle.pep440_version.specs.declared.prerelease.PrereleaseKind.{PrereleaseKind}
 use Rattle.pep440_version.specs.declared.prerelease.PrereleaseKind.TheVariants.{Alpha, Beta, Rc}
 use Rattle.pep440_version.specs.declared.prerelease.Prerelease.{Prerelease}
@@ -83,7 +83,7 @@ pub record IsSpelled {A : Type 0} (table : Spellings A) (part after : List ℕ) 
   pub word : List ℕ
   pub between : List ℕ
   pub digits : List ℕ
-  pub cut : part ≡ before ++ (word ++ (between ++ digits))
+  pub decomposition : part ≡ before ++ (word ++ (between ++ digits))
   pub first : IsSeparator before
   pub spelling : IsSpelling table word a
   pub second : IsSeparator between
@@ -112,21 +112,21 @@ is_numeral text = list_all is_ascii_digit text && nat_lt (digits_value 10 text) 
 
 -- a numeral is a number, and every other segment is its lower-cased text (PEP 440, "Local version
 -- identifiers", "Case sensitivity")
-abbrev pub segment_of : List ℕ → Segment
-segment_of text = if is_numeral text then Number (digits_value 10 text) else Text (map to_ascii_lowercase text)
+abbrev pub parse_segment : List ℕ → LocalSegmentValue
+parse_segment text = if is_numeral text then Number (digits_value 10 text) else Text (map to_ascii_lowercase text)
 
 -- one or more ASCII letters and digits
-abbrev pub IsSegment : List ℕ → Segment → Type 0
-IsSegment text s = (0 < length text) × (list_all is_ascii_alphanumeric text ≡ true) × (s ≡ segment_of text)
+abbrev pub IsSegment : List ℕ → LocalSegmentValue → Type 0
+IsSegment text s = (0 < length text) × (list_all is_ascii_alphanumeric text ≡ true) × (s ≡ parse_segment text)
 
 -- segments joined by separators (PEP 440, "Local version segments")
-abbrev pub AreSegments : List ℕ → List Segment → Type 0
+abbrev pub AreSegments : List ℕ → List LocalSegmentValue → Type 0
 AreSegments text [] = ⊥
 AreSegments text (s ∷ []) = IsSegment text s
 AreSegments text (s ∷ t ∷ rest) = (first after : List ℕ) × (b : ℕ) × IsSegment first s × (is_separator b ≡ true) × AreSegments after (t ∷ rest) × (text ≡ first ++ (b ∷ after))
 
 -- nothing, or `+` and segments
-abbrev pub IsLocal : List ℕ → List Segment → Type 0
+abbrev pub IsLocal : List ℕ → List LocalSegmentValue → Type 0
 IsLocal part [] = part ≡ []
 IsLocal part (s ∷ rest) = (text : List ℕ) × AreSegments text (s ∷ rest) × (part ≡ codes "+" ++ text)
 
@@ -142,7 +142,7 @@ pub record Derives (text : List ℕ) (r : Record) : Type 0 where
   pub d : List ℕ
   pub l : List ℕ
   pub w2 : List ℕ
-  pub cut : text ≡ w1 ++ (v ++ (e ++ (n ++ (p ++ (q ++ (d ++ (l ++ w2)))))))
+  pub decomposition : text ≡ w1 ++ (v ++ (e ++ (n ++ (p ++ (q ++ (d ++ (l ++ w2)))))))
   pub blanks : AreBlanks w1
   pub letter : IsLeadingV v
   pub epoch : IsEpoch e r.epoch

@@ -1,14 +1,14 @@
 -- How release numbers are held: up to four without memory of their own.
 use Rattle.std.specs.Prelude.{ℕ, ◌<◌, ◌≤◌, List, length, take}
-use Rattle.pep440_version.specs.declared.numbers.Held.{Held}
-use Rattle.pep440_version.specs.declared.numbers.Held.TheVariants.{Few, Many}
+use Rattle.pep440_version.specs.declared.release.Storage.{Storage}
+use Rattle.pep440_version.specs.declared.release.Storage.TheVariants.{Few, Many}
 
 -- the numbers
-abbrev pub held_numbers : Held → List ℕ
-held_numbers (Few few) = take few.count few.numbers
-held_numbers (Many numbers) = numbers.items
+abbrev pub storage_numbers : Storage → List ℕ
+storage_numbers (Few few) = take few.count few.numbers
+storage_numbers (Many numbers) = numbers.items
 
 -- up to four in the array, and more than four in the vector
-abbrev pub AreHeld : Held → Type 0
-AreHeld (Few few) = few.count ≤ 4
-AreHeld (Many numbers) = 4 < length numbers.items
+abbrev pub IsStorage : Storage → Type 0
+IsStorage (Few few) = few.count ≤ 4
+IsStorage (Many numbers) = 4 < length numbers.items

@@ -8,7 +8,7 @@ use Rattle.std.specs.Cmp.Lexicographic.{slice_cmp}
 use Rattle.pep440_version.specs.declared.prerelease.PrereleaseKind.{PrereleaseKind}
 use Rattle.pep440_version.specs.declared.prerelease.PrereleaseKind.TheVariants.{Alpha, Beta, Rc}
 use Rattle.pep440_version.specs.declared.prerelease.Prerelease.{Prerelease}
-use Rattle.pep440_version.specs.Record.{Record, Segment, Text, Number}
+use Rattle.pep440_version.specs.Record.{Record, LocalSegmentValue, Text, Number}
 
 -- which of the stages of a release a version stands in; pre-releases by kind, then by number
 pub data Stage : Type 0 where
@@ -18,24 +18,24 @@ pub data Stage : Type 0 where
   Final : Stage
 
 -- no post-release, the post-release of a number, or the mark above all of them
-pub data PostPlace : Type 0 where
-  NoPost : PostPlace
-  PostAt : ℕ → PostPlace
-  PostTop : ℕ → PostPlace
+pub data PostPart : Type 0 where
+  NoPost : PostPart
+  PostAt : ℕ → PostPart
+  PostTop : ℕ → PostPart
 
 -- the developmental release of a number, or none, which is above all of them
-pub data DevPlace : Type 0 where
-  DevAt : ℕ → DevPlace
-  NoDev : DevPlace
+pub data DevPart : Type 0 where
+  DevAt : ℕ → DevPart
+  NoDev : DevPart
 
 -- what versions are compared by
 pub record Key : Type 0 where
   pub epoch : ℕ
   pub release : List ℕ
   pub stage : Stage
-  pub post : PostPlace
-  pub dev : DevPlace
-  pub local : List Segment
+  pub post : PostPart
+  pub dev : DevPart
+  pub local : List LocalSegmentValue
 
 -- ---- the key of a record
 
@@ -47,13 +47,13 @@ stage_of None None (Some d) None None = Dev
 stage_of None None dev post max = Final
 
 -- max and post
-abbrev pub post_of : Option ℕ → Option ℕ → PostPlace
+abbrev pub post_of : Option ℕ → Option ℕ → PostPart
 post_of (Some m) post = PostTop m
 post_of None (Some p) = PostAt p
 post_of None None = NoPost
 
 -- min and dev
-abbrev pub dev_of : Option ℕ → Option ℕ → DevPlace
+abbrev pub dev_of : Option ℕ → Option ℕ → DevPart
 dev_of (Some n) dev = DevAt n
 dev_of None (Some d) = DevAt d
 dev_of None None = NoDev
@@ -85,43 +85,43 @@ kind_rank Beta = 1
 kind_rank Rc = 2
 
 -- Min < Dev < Pre Alpha < Pre Beta < Pre Rc < Final; pre-releases of one kind by number
-abbrev pub stage_place : Stage → ℕ × ℕ
-stage_place Min = (0, 0)
-stage_place Dev = (1, 0)
-stage_place (Pre k n) = (2 + kind_rank k, n)
-stage_place Final = (5, 0)
+abbrev pub stage_rank : Stage → ℕ × ℕ
+stage_rank Min = (0, 0)
+stage_rank Dev = (1, 0)
+stage_rank (Pre k n) = (2 + kind_rank k, n)
+stage_rank Final = (5, 0)
 
 -- NoPost < PostAt < PostTop; two of one case by number
-abbrev pub post_place : PostPlace → ℕ × ℕ
-post_place NoPost = (0, 0)
-post_place (PostAt p) = (1, p)
-post_place (PostTop m) = (2, m)
+abbrev pub post_rank : PostPart → ℕ × ℕ
+post_rank NoPost = (0, 0)
+post_rank (PostAt p) = (1, p)
+post_rank (PostTop m) = (2, m)
 
 -- DevAt < NoDev; developmental releases by number
-abbrev pub dev_place : DevPlace → ℕ × ℕ
-dev_place (DevAt d) = (0, d)
-dev_place NoDev = (1, 0)
+abbrev pub dev_rank : DevPart → ℕ × ℕ
+dev_rank (DevAt d) = (0, d)
+dev_rank NoDev = (1, 0)
 
 -- by rank, then by number
-abbrev pub place_cmp : ℕ × ℕ → ℕ × ℕ → Ordering
-place_cmp = then_cmp (on (λ p. p.0) nat_cmp) (on (λ p. p.1) nat_cmp)
+abbrev pub rank_cmp : ℕ × ℕ → ℕ × ℕ → Ordering
+rank_cmp = then_cmp (on (λ p. p.0) nat_cmp) (on (λ p. p.1) nat_cmp)
 
 -- a text is below every number; texts by their bytes, numbers by their value
-abbrev pub segment_cmp : Segment → Segment → Ordering
+abbrev pub segment_cmp : LocalSegmentValue → LocalSegmentValue → Ordering
 segment_cmp (Text s) (Text t) = slice_cmp nat_cmp s t
 segment_cmp (Text s) (Number n) = Less
 segment_cmp (Number m) (Text t) = Greater
 segment_cmp (Number m) (Number n) = nat_cmp m n
 
 -- a beginning of a longer local is less
-abbrev pub local_cmp : List Segment → List Segment → Ordering
+abbrev pub local_cmp : List LocalSegmentValue → List LocalSegmentValue → Ordering
 local_cmp = slice_cmp segment_cmp
 
 -- part by part
 abbrev pub key_cmp : Key → Key → Ordering
 key_cmp = then_cmp (on (λ (k : Key). k.epoch) nat_cmp) (then_cmp (on (λ (k : Key). k.release) release_cmp)
-    (then_cmp (on (λ (k : Key). stage_place k.stage) place_cmp) (then_cmp (on (λ (k : Key). post_place k.post) place_cmp)
-    (then_cmp (on (λ (k : Key). dev_place k.dev) place_cmp) (on (λ (k : Key). k.local) local_cmp)))))
+    (then_cmp (on (λ (k : Key). stage_rank k.stage) rank_cmp) (then_cmp (on (λ (k : Key). post_rank k.post) rank_cmp)
+    (then_cmp (on (λ (k : Key). dev_rank k.dev) rank_cmp) (on (λ (k : Key). k.local) local_cmp)))))
 
 -- the order of records
 abbrev pub record_cmp : Record → Record → Ordering
@@ -129,13 +129,13 @@ record_cmp = on key key_cmp
 
 -- stages, posts and devs by their places
 abbrev pub stage_cmp : Stage → Stage → Ordering
-stage_cmp = on stage_place place_cmp
+stage_cmp = on stage_rank rank_cmp
 
-abbrev pub post_cmp : PostPlace → PostPlace → Ordering
-post_cmp = on post_place place_cmp
+abbrev pub post_cmp : PostPart → PostPart → Ordering
+post_cmp = on post_rank rank_cmp
 
-abbrev pub dev_cmp : DevPlace → DevPlace → Ordering
-dev_cmp = on dev_place place_cmp
+abbrev pub dev_cmp : DevPart → DevPart → Ordering
+dev_cmp = on dev_rank rank_cmp
 
 -- by epoch, then by release
 abbrev pub base_cmp : Record → Record → Ordering

@@ -7,9 +7,9 @@ use Rattle.std.specs.declared.cmp.Ordering.TheVariants.{Less, Equal, Greater}
 use Rattle.std.specs.Ordering.{nat_cmp, on, ordering_then, then_cmp, eq_by_cmp, as_partial_cmp}
 use Rattle.std.specs.Cmp.{IsPartialOrder, po, IsTotalOrder, IsEquivalence, eq_by_cmp_equiv, nat_cmp_total, nat_cmp_is, on_total, then_total}
 use Rattle.std.specs.Cmp.Lexicographic.{lists_total, nat_list_cmp_total, slice_cmp}
-use Rattle.pep440_version.specs.Key.{Key, key, key_cmp, record_cmp, release_cmp, stage_place, post_place, dev_place, place_cmp, segment_cmp}
-use Rattle.pep440_version.specs.Record.{Segment, Text, Number}
-use Rattle.pep440_version.specs.Trim.{trim, before_trimmed}
+use Rattle.pep440_version.specs.Key.{Key, key, key_cmp, record_cmp, release_cmp, stage_rank, post_rank, dev_rank, rank_cmp, segment_cmp}
+use Rattle.pep440_version.specs.Record.{LocalSegmentValue, Text, Number}
+use Rattle.pep440_version.specs.Trim.{trim, prepend_trimmed}
 
 below_suc : (y : ℕ) → nat_cmp 0 (suc y) ≡ Less
 below_suc y = sym (nat_cmp_is 0 (suc y) Less (zero-lt-suc y))
@@ -18,10 +18,10 @@ above_zero : (x : ℕ) → nat_cmp (suc x) 0 ≡ Greater
 above_zero x = sym (nat_cmp_is (suc x) 0 Greater (zero-lt-suc x))
 
 -- a number that is not zero stays at the end
-before_suc : (x : ℕ) → before_trimmed (suc x) [] ≡ suc x ∷ []
+before_suc : (x : ℕ) → prepend_trimmed (suc x) [] ≡ suc x ∷ []
 before_suc x = ap (λ b. if b then [] else suc x ∷ []) (eqb-suc-zero x)
 
-trimmed_step : (x y : ℕ) (a b : List ℕ) → ordering_then (nat_cmp x y) (slice_cmp nat_cmp a b) ≡ slice_cmp nat_cmp (before_trimmed x a) (before_trimmed y b)
+trimmed_step : (x y : ℕ) (a b : List ℕ) → ordering_then (nat_cmp x y) (slice_cmp nat_cmp a b) ≡ slice_cmp nat_cmp (prepend_trimmed x a) (prepend_trimmed y b)
 trimmed_step zero zero [] [] = refl
 trimmed_step zero (suc y) [] [] = ap (λ o. ordering_then o Equal) (below_suc y) ∙ sym (ap (slice_cmp nat_cmp []) (before_suc y))
 trimmed_step (suc x) zero [] [] = ap (λ o. ordering_then o Equal) (above_zero x) ∙ sym (ap (λ l. slice_cmp nat_cmp l []) (before_suc x))
@@ -44,45 +44,45 @@ pub release_total : IsTotalOrder release_cmp
 release_total = subst IsTotalOrder (λ i xs ys. sym (release_cmp-trim xs ys) i) (on_total trim nat_list_cmp_total)
 
 -- a segment as a rank, a text and a number, which are compared in turn
-abbrev pub segment_rank : Segment → ℕ
+abbrev pub segment_rank : LocalSegmentValue → ℕ
 segment_rank (Text t) = 0
 segment_rank (Number n) = 1
 
-abbrev pub segment_text : Segment → List ℕ
-segment_text (Text t) = t
-segment_text (Number n) = []
+abbrev pub segment_string : LocalSegmentValue → List ℕ
+segment_string (Text t) = t
+segment_string (Number n) = []
 
-abbrev pub segment_number : Segment → ℕ
+abbrev pub segment_number : LocalSegmentValue → ℕ
 segment_number (Text t) = 0
 segment_number (Number n) = n
 
-abbrev pub by_places : Segment → Segment → Ordering
-by_places = then_cmp (on segment_rank nat_cmp) (then_cmp (on segment_text (slice_cmp nat_cmp)) (on segment_number nat_cmp))
+abbrev pub by_ranks : LocalSegmentValue → LocalSegmentValue → Ordering
+by_ranks = then_cmp (on segment_rank nat_cmp) (then_cmp (on segment_string (slice_cmp nat_cmp)) (on segment_number nat_cmp))
 
 none_behind : (a : Ordering) → ordering_then a Equal ≡ a
 none_behind Less = refl
 none_behind Equal = refl
 none_behind Greater = refl
 
-pub segment_cmp-places : (s t : Segment) → segment_cmp s t ≡ by_places s t
-segment_cmp-places (Text s) (Text t) = sym (none_behind (slice_cmp nat_cmp s t))
-segment_cmp-places (Text s) (Number n) = refl
-segment_cmp-places (Number m) (Text t) = refl
-segment_cmp-places (Number m) (Number n) = refl
+pub segment_cmp-ranks : (s t : LocalSegmentValue) → segment_cmp s t ≡ by_ranks s t
+segment_cmp-ranks (Text s) (Text t) = sym (none_behind (slice_cmp nat_cmp s t))
+segment_cmp-ranks (Text s) (Number n) = refl
+segment_cmp-ranks (Number m) (Text t) = refl
+segment_cmp-ranks (Number m) (Number n) = refl
 
 pub segment_total : IsTotalOrder segment_cmp
 segment_total =
-    subst IsTotalOrder (λ i s t. sym (segment_cmp-places s t) i)
-    (then_total (on_total segment_rank nat_cmp_total) (then_total (on_total segment_text nat_list_cmp_total) (on_total segment_number nat_cmp_total)))
+    subst IsTotalOrder (λ i s t. sym (segment_cmp-ranks s t) i)
+    (then_total (on_total segment_rank nat_cmp_total) (then_total (on_total segment_string nat_list_cmp_total) (on_total segment_number nat_cmp_total)))
 
-place_total : IsTotalOrder place_cmp
-place_total = then_total (on_total (λ (p : ℕ × ℕ). p.0) nat_cmp_total) (on_total (λ (p : ℕ × ℕ). p.1) nat_cmp_total)
+rank_total : IsTotalOrder rank_cmp
+rank_total = then_total (on_total (λ (p : ℕ × ℕ). p.0) nat_cmp_total) (on_total (λ (p : ℕ × ℕ). p.1) nat_cmp_total)
 
 pub key_total : IsTotalOrder key_cmp
 key_total = then_total (on_total (λ (k : Key). k.epoch) nat_cmp_total) (then_total (on_total (λ (k : Key). k.release) release_total)
-    (then_total (on_total (λ (k : Key). k.stage) (on_total stage_place place_total))
-    (then_total (on_total (λ (k : Key). k.post) (on_total post_place place_total))
-    (then_total (on_total (λ (k : Key). k.dev) (on_total dev_place place_total))
+    (then_total (on_total (λ (k : Key). k.stage) (on_total stage_rank rank_total))
+    (then_total (on_total (λ (k : Key). k.post) (on_total post_rank rank_total))
+    (then_total (on_total (λ (k : Key). k.dev) (on_total dev_rank rank_total))
     (on_total (λ (k : Key). k.local) (lists_total segment_total))))))
 
 pub record_total : IsTotalOrder record_cmp

@@ -22,4 +22,4 @@ pub mod Ties
 pub mod PatternLaws
 pub mod Refusals
 pub mod ErrorTexts
-pub mod Reread
+pub mod RoundTrip

@@ -1,9 +1,9 @@
 -- How a local version is read, from the left.
 use Rattle.std.specs.Prelude.{ℕ, zero, suc, ◌==◌, Bool, List, [], ◌∷◌, length, drop, Ok, Err, if◌then◌else◌}
 use Rattle.std.specs.Char.{is_ascii_alphanumeric}
-use Rattle.pep440_version.specs.Grammar.{is_separator, segment_of, starts}
+use Rattle.pep440_version.specs.Grammar.{is_separator, parse_segment, starts}
 use Rattle.pep440_version.specs.Reading.{Read, ◌>>=◌, lead, past}
-use Rattle.pep440_version.specs.Record.{Segment}
+use Rattle.pep440_version.specs.Record.{LocalSegmentValue}
 use Rattle.pep440_version.specs.Refusals.{LocalEmpty}
 
 -- the byte in front
@@ -12,19 +12,19 @@ first_byte [] = 0
 first_byte (b ∷ rest) = b
 
 -- the segments at the front, at most as many as the first argument; c is the byte that they follow
-unfoldable pub segments_at : ℕ → ℕ → List ℕ → Read (List Segment × List ℕ)
-segments_at zero c text = Err (LocalEmpty c)
-segments_at (suc more) c text =
+unfoldable pub parse_segments : ℕ → ℕ → List ℕ → Read (List LocalSegmentValue × List ℕ)
+parse_segments zero c text = Err (LocalEmpty c)
+parse_segments (suc more) c text =
     if starts is_ascii_alphanumeric text then
     (if starts is_separator (past is_ascii_alphanumeric text) then
-    (segments_at more (first_byte (past is_ascii_alphanumeric text)) (drop 1 (past is_ascii_alphanumeric text))
-    >>= λ rest. Ok (segment_of (lead is_ascii_alphanumeric text) ∷ rest.0, rest.1))
-    else Ok (segment_of (lead is_ascii_alphanumeric text) ∷ [], past is_ascii_alphanumeric text))
+    (parse_segments more (first_byte (past is_ascii_alphanumeric text)) (drop 1 (past is_ascii_alphanumeric text))
+    >>= λ rest. Ok (parse_segment (lead is_ascii_alphanumeric text) ∷ rest.0, rest.1))
+    else Ok (parse_segment (lead is_ascii_alphanumeric text) ∷ [], past is_ascii_alphanumeric text))
     else Err (LocalEmpty c)
 
 abbrev pub starts_local : List ℕ → Bool
 starts_local text = starts (λ b. b == 43) text
 
 -- `+` and segments, or nothing
-abbrev pub local_at : List ℕ → Read (List Segment × List ℕ)
-local_at text = if starts_local text then segments_at (length (drop 1 text)) 43 (drop 1 text) else Ok ([], text)
+abbrev pub parse_local : List ℕ → Read (List LocalSegmentValue × List ℕ)
+parse_local text = if starts_local text then parse_segments (length (drop 1 text)) 43 (drop 1 text) else Ok ([], text)

@@ -15,16 +15,16 @@ pub pattern_equiv : IsEquivalence pattern_eq
 pattern_equiv = and_equiv (on_equiv (λ (p : Record × Bool). p.0) record_equiv) (on_equiv (λ (p : Record × Bool). p.1) bool_eq_equiv)
 
 -- both parts of a test that holds hold
-first : (a b : Bool) → (a && b) ≡ true → a ≡ true
-first true b e = refl
-first false b e = cc e
+and_first : (a b : Bool) → (a && b) ≡ true → a ≡ true
+and_first true b e = refl
+and_first false b e = cc e
 
-second : (a b : Bool) → (a && b) ≡ true → b ≡ true
-second true b e = e
-second false b e = cc e
+and_second : (a b : Bool) → (a && b) ≡ true → b ≡ true
+and_second true b e = e
+and_second false b e = cc e
 
 pub patterns_feed_alike : (p q : Record × Bool) → pattern_eq p q ≡ true → feed_pattern p ≡ feed_pattern q
 patterns_feed_alike p q e =
-    let version : feed p.0 ≡ feed q.0 = feeds_alike p.0 q.0 (first (eq_by_cmp record_cmp p.0 q.0) (beq p.1 q.1) e) in
-    let star : p.1 ≡ q.1 = (booleans_Decides p.1 q.1).0 (second (eq_by_cmp record_cmp p.0 q.0) (beq p.1 q.1) e) in
+    let version : feed p.0 ≡ feed q.0 = feeds_alike p.0 q.0 (and_first (eq_by_cmp record_cmp p.0 q.0) (beq p.1 q.1) e) in
+    let star : p.1 ≡ q.1 = (booleans_Decides p.1 q.1).0 (and_second (eq_by_cmp record_cmp p.0 q.0) (beq p.1 q.1) e) in
     λ i. version i ++ u64 (if star i then 1 else 0)

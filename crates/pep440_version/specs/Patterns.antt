@@ -11,7 +11,7 @@ use Rattle.pep440_version.specs.Record.{Record, epoch_and_release}
 -- the text means the record with a star: `.*` follows a front that means it, has epoch and release alone, and ends
 -- without blanks
 abbrev pub DerivesStar : List ℕ → Record → Type 0
-DerivesStar text r = (front : List ℕ) × (h : Derives front r) × (text ≡ front ++ codes ".*") × (h.w2 ≡ []) × (r ≡ epoch_and_release r.epoch r.release)
+DerivesStar text r = (prefix : List ℕ) × (h : Derives prefix r) × (text ≡ prefix ++ codes ".*") × (h.w2 ≡ []) × (r ≡ epoch_and_release r.epoch r.release)
 
 -- the text means the record, with a star or without
 abbrev pub DerivesPattern : List ℕ → Record → Bool → Type 0

@@ -25,39 +25,39 @@ abbrev pub past : (ℕ → Bool) → List ℕ → List ℕ
 past test text = drop (prefix_len test text) text
 
 -- the text after the letter v, where it stands in front
-abbrev pub past_v : List ℕ → List ℕ
-past_v text = if starts is_v text then drop 1 text else text
+abbrev pub skip_v : List ℕ → List ℕ
+skip_v text = if starts is_v text then drop 1 text else text
 
 -- a digit stands in front
-abbrev pub starts_number : List ℕ → Bool
-starts_number text = starts is_ascii_digit text
+abbrev pub starts_with_number : List ℕ → Bool
+starts_with_number text = starts is_ascii_digit text
 
 -- the number at the front, where a digit is
-unfoldable pub number_at : List ℕ → Read (ℕ × List ℕ)
-number_at text = if nat_lt (digits_value 10 (lead is_ascii_digit text)) (2 ^ 64)
+unfoldable pub parse_number : List ℕ → Read (ℕ × List ℕ)
+parse_number text = if nat_lt (digits_value 10 (lead is_ascii_digit text)) (2 ^ 64)
     then Ok (digits_value 10 (lead is_ascii_digit text), past is_ascii_digit text)
     else Err (NumberTooBig (lead is_ascii_digit text))
 
 -- a dot and a digit
-abbrev pub goes_on : List ℕ → Bool
-goes_on text = starts (λ b. b == 46) text && starts_number (drop 1 text)
+abbrev pub has_next_number : List ℕ → Bool
+has_next_number text = starts (λ b. b == 46) text && starts_with_number (drop 1 text)
 
 -- the numbers at the front, at most as many as the first argument
-unfoldable pub release_at : ℕ → List ℕ → Read (List ℕ × List ℕ)
-release_at zero text = Ok ([], text)
-release_at (suc more) text = number_at text >>= λ n.
-    if goes_on n.1 then (release_at more (drop 1 n.1) >>= λ rest. Ok (n.0 ∷ rest.0, rest.1)) else Ok (n.0 ∷ [], n.1)
+unfoldable pub parse_release : ℕ → List ℕ → Read (List ℕ × List ℕ)
+parse_release zero text = Ok ([], text)
+parse_release (suc more) text = parse_number text >>= λ n.
+    if has_next_number n.1 then (parse_release more (drop 1 n.1) >>= λ rest. Ok (n.0 ∷ rest.0, rest.1)) else Ok (n.0 ∷ [], n.1)
 
 -- a text and what stands at its end
 abbrev pub EndsWith : List ℕ → List ℕ → Type 0
-EndsWith text rest = (front : List ℕ) × (text ≡ front ++ rest)
+EndsWith text rest = (prefix : List ℕ) × (text ≡ prefix ++ rest)
 
 -- ---- a release in turn, as the code reads it: after its first number
 
 -- the numbers that go on a release
-abbrev pub more_at : ℕ → List ℕ → Read (List ℕ × List ℕ)
-more_at k text = if goes_on text then release_at k (drop 1 text) else Ok ([], text)
+abbrev pub parse_more_numbers : ℕ → List ℕ → Read (List ℕ × List ℕ)
+parse_more_numbers k text = if has_next_number text then parse_release k (drop 1 text) else Ok ([], text)
 
 -- a release, after its first number
-abbrev pub release_from : ℕ → List ℕ → Read (List ℕ × List ℕ)
-release_from first text = more_at (length text) text >>= λ x. Ok (first ∷ x.0, x.1)
+abbrev pub parse_release_from : ℕ → List ℕ → Read (List ℕ × List ℕ)
+parse_release_from first text = parse_more_numbers (length text) text >>= λ x. Ok (first ∷ x.0, x.1)

@@ -6,9 +6,9 @@ use Rattle.pep440_version.specs.declared.prerelease.Prerelease.{Prerelease}
 use Rattle.pep440_version.specs.declared.prerelease.PrereleaseKind.TheVariants.{Alpha}
 
 -- a segment of a local version: a text, by its bytes, or a number
-pub data Segment : Type 0 where
-  Text : List ℕ → Segment
-  Number : ℕ → Segment
+pub data LocalSegmentValue : Type 0 where
+  Text : List ℕ → LocalSegmentValue
+  Number : ℕ → LocalSegmentValue
 
 pub record Record : Type 0 where
   pub epoch : ℕ
@@ -16,7 +16,7 @@ pub record Record : Type 0 where
   pub pre : Option Prerelease
   pub post : Option ℕ
   pub dev : Option ℕ
-  pub local : List Segment
+  pub local : List LocalSegmentValue
   pub min : Option ℕ
   pub max : Option ℕ
 
@@ -24,7 +24,7 @@ pub record Record : Type 0 where
 abbrev pub Fits : ℕ → Type 0
 Fits n = n < 2 ^ 64
 
-abbrev pub SegmentFits : Segment → Type 0
+abbrev pub SegmentFits : LocalSegmentValue → Type 0
 SegmentFits (Text t) = Unit {0}
 SegmentFits (Number n) = Fits n
 
@@ -41,17 +41,17 @@ pub record IsRecord (r : Record) : Type 0 where
   pub max : IfSome r.max Fits
 
 -- a release alone
-abbrev pub of_release : List ℕ → Record
-of_release numbers = record { epoch = 0; release = numbers; pre = None; post = None; dev = None; local = []; min = None; max = None }
+abbrev pub from_release : List ℕ → Record
+from_release numbers = record { epoch = 0; release = numbers; pre = None; post = None; dev = None; local = []; min = None; max = None }
 
 -- a record of epoch and release alone
 abbrev pub epoch_and_release : ℕ → List ℕ → Record
-epoch_and_release epoch release = record (of_release release) { epoch = epoch }
+epoch_and_release epoch release = record (from_release release) { epoch = epoch }
 
 -- a record of its parts, without marks
-abbrev pub of_parts : ℕ → List ℕ → Option Prerelease → Option ℕ → Option ℕ → List Segment → Record
-of_parts epoch release pre post dev local = record { epoch = epoch; release = release; pre = pre; post = post; dev = dev; local = local; min = None; max = None }
+abbrev pub from_parts : ℕ → List ℕ → Option Prerelease → Option ℕ → Option ℕ → List LocalSegmentValue → Record
+from_parts epoch release pre post dev local = record { epoch = epoch; release = release; pre = pre; post = post; dev = dev; local = local; min = None; max = None }
 
 -- `0a0.dev0`
 abbrev pub zero_alpha_dev : Record
-zero_alpha_dev = record (of_release (0 ∷ [])) { pre = Some (record { kind = Alpha; number = 0 }); dev = Some 0 }
+zero_alpha_dev = record (from_release (0 ∷ [])) { pre = Some (record { kind = Alpha; number = 0 }); dev = Some 0 }

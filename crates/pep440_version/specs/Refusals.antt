@@ -33,39 +33,39 @@ Opens text rest = (w1 v : List ℕ) × (text ≡ w1 ++ (v ++ rest)) × AreBlanks
 
 -- digits of a value above the limit, with no digit before or after them
 abbrev pub IsBigRun : List ℕ → List ℕ → List ℕ → Type 0
-IsBigRun front digits rest = (list_all is_ascii_digit digits ≡ true) × (2 ^ 64 ≤ digits_value 10 digits)
-    × (ends is_ascii_digit front ≡ false) × (starts is_ascii_digit rest ≡ false)
+IsBigRun prefix digits rest = (list_all is_ascii_digit digits ≡ true) × (2 ^ 64 ≤ digits_value 10 digits)
+    × (ends is_ascii_digit prefix ≡ false) × (starts is_ascii_digit rest ≡ false)
 
 -- epoch, release and a star, and then rest
 abbrev pub HasStar : List ℕ → List ℕ → Type 0
 HasStar text rest = (e n release : List ℕ) × (epoch : ℕ) × Opens text (e ++ (n ++ (codes ".*" ++ rest))) × IsEpoch e epoch × IsRelease n release
 
 -- the text is cut after the longest front that the grammar derives
-pub record IsLongest (text front rest : List ℕ) : Type 0 where
-  pub cut : text ≡ front ++ rest
+pub record IsLongest (text prefix rest : List ℕ) : Type 0 where
+  pub decomposition : text ≡ prefix ++ rest
   pub means : Record
-  pub derived : Derives front means
-  pub longest : (other after : List ℕ) (q : Record) → text ≡ other ++ after → Derives other q → length other ≤ length front
+  pub derived : Derives prefix means
+  pub longest : (other after : List ℕ) (q : Record) → text ≡ other ++ after → Derives other q → length other ≤ length prefix
 
 -- a byte after which a segment must stand: `+`, or a separator in a local part
 abbrev pub IsPrecursor : Record → ℕ → Type 0
 IsPrecursor r c = ((c ≡ 43) × (length r.local ≡ 0)) ⊎ ((is_separator c ≡ true) × (0 < length r.local))
 
 -- every kind but the last
-abbrev pub RefusesFirst : List ℕ → Refusal → Type 0
-RefusesFirst text Wildcard = (rest : List ℕ) × HasStar text rest
-RefusesFirst text (NumberTooBig digits) = (front rest : List ℕ) × (r : Record) × (text ≡ front ++ (digits ++ rest)) × IsBigRun front digits rest
-    × (list_any (λ b. b == 43) front ≡ false) × Derives (front ++ codes "0") r
-RefusesFirst text NoLeadingNumber = (rest : List ℕ) × Opens text rest × (starts is_ascii_digit rest ≡ false)
-RefusesFirst text NoLeadingReleaseNumber = (digits rest : List ℕ) × (n : ℕ) × Opens text (digits ++ (codes "!" ++ rest)) × IsNumber digits n × (starts is_ascii_digit rest ≡ false)
-RefusesFirst text (LocalEmpty c) = (front rest : List ℕ) × (r : Record) × (h : Derives front r) × (h.w2 ≡ []) × (text ≡ front ++ (c ∷ rest))
+abbrev pub RefusesEarlier : List ℕ → Refusal → Type 0
+RefusesEarlier text Wildcard = (rest : List ℕ) × HasStar text rest
+RefusesEarlier text (NumberTooBig digits) = (prefix rest : List ℕ) × (r : Record) × (text ≡ prefix ++ (digits ++ rest)) × IsBigRun prefix digits rest
+    × (list_any (λ b. b == 43) prefix ≡ false) × Derives (prefix ++ codes "0") r
+RefusesEarlier text NoLeadingNumber = (rest : List ℕ) × Opens text rest × (starts is_ascii_digit rest ≡ false)
+RefusesEarlier text NoLeadingReleaseNumber = (digits rest : List ℕ) × (n : ℕ) × Opens text (digits ++ (codes "!" ++ rest)) × IsNumber digits n × (starts is_ascii_digit rest ≡ false)
+RefusesEarlier text (LocalEmpty c) = (prefix rest : List ℕ) × (r : Record) × (h : Derives prefix r) × (h.w2 ≡ []) × (text ≡ prefix ++ (c ∷ rest))
     × IsPrecursor r c × (starts is_ascii_alphanumeric rest ≡ false)
-RefusesFirst text (UnexpectedEnd version remaining) = ⊥
+RefusesEarlier text (UnexpectedEnd version remaining) = ⊥
 
 -- the last kind where no other holds
 abbrev pub Refuses : List ℕ → Refusal → Type 0
-Refuses text (UnexpectedEnd version remaining) = (0 < length remaining) × IsLongest text version remaining × ((f : Refusal) → RefusesFirst text f → ⊥)
-Refuses text f = RefusesFirst text f
+Refuses text (UnexpectedEnd version remaining) = (0 < length remaining) × IsLongest text version remaining × ((f : Refusal) → RefusesEarlier text f → ⊥)
+Refuses text f = RefusesEarlier text f
 
 -- why a pattern text is refused: a star at the end is none
 abbrev pub RefusesPattern : List ℕ → PatternRefusal → Type 0

@@ -2,11 +2,11 @@
 use Rattle.std.specs.Prelude.{ℕ, ◌==◌, List, [], ◌∷◌, if◌then◌else◌}
 
 -- x before a release that has no zeros at its end
-abbrev pub before_trimmed : ℕ → List ℕ → List ℕ
-before_trimmed x [] = if x == 0 then [] else x ∷ []
-before_trimmed x (y ∷ ys) = x ∷ y ∷ ys
+abbrev pub prepend_trimmed : ℕ → List ℕ → List ℕ
+prepend_trimmed x [] = if x == 0 then [] else x ∷ []
+prepend_trimmed x (y ∷ ys) = x ∷ y ∷ ys
 
 -- a release without the zeros at its end
 abbrev pub trim : List ℕ → List ℕ
 trim [] = []
-trim (x ∷ xs) = before_trimmed x (trim xs)
+trim (x ∷ xs) = prepend_trimmed x (trim xs)

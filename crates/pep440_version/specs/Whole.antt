@@ -2,46 +2,46 @@
 use Rattle.std.specs.Char.{is_ascii_whitespace}
 use Rattle.std.specs.Prelude.{ℕ, ◌-◌, ◌==◌, ◌&&◌, Bool, true, false, List, length, take, drop, Result, Ok, Err, None, if◌then◌else◌}
 use Rattle.pep440_version.specs.Grammar.{starts}
-use Rattle.pep440_version.specs.Locals.{local_at}
-use Rattle.pep440_version.specs.Reading.{Read, ◌>>=◌, past, past_v, starts_number, number_at, release_at, release_from}
+use Rattle.pep440_version.specs.Locals.{parse_local}
+use Rattle.pep440_version.specs.Reading.{Read, ◌>>=◌, past, skip_v, starts_with_number, parse_number, parse_release, parse_release_from}
 use Rattle.pep440_version.specs.Record.{Record, epoch_and_release}
 use Rattle.pep440_version.specs.Refusals.{Wildcard, NoLeadingNumber, NoLeadingReleaseNumber, UnexpectedEnd, WildcardNotTrailing, OfVersion, PatternRefusal}
-use Rattle.pep440_version.specs.Suffixes.{pre_at, post_at, dev_at}
+use Rattle.pep440_version.specs.Suffixes.{parse_pre, parse_post, parse_dev}
 
 -- the release at the front, after an epoch
-abbrev pub release_after : ℕ → List ℕ → Read ((ℕ × List ℕ) × List ℕ)
-release_after epoch text = release_at (length text) text >>= λ x. Ok ((epoch, x.0), x.1)
+abbrev pub parse_release_after_epoch : ℕ → List ℕ → Read ((ℕ × List ℕ) × List ℕ)
+parse_release_after_epoch epoch text = parse_release (length text) text >>= λ x. Ok ((epoch, x.0), x.1)
 
 -- epoch and release at the front
-unfoldable pub front_at : List ℕ → Read ((ℕ × List ℕ) × List ℕ)
-front_at text =
-    if starts_number text then (number_at text >>= λ n.
-    if starts (λ b. b == 33) n.1 then (if starts_number (drop 1 n.1) then release_after n.0 (drop 1 n.1) else Err NoLeadingReleaseNumber)
-    else release_after 0 text)
+unfoldable pub parse_epoch_and_release : List ℕ → Read ((ℕ × List ℕ) × List ℕ)
+parse_epoch_and_release text =
+    if starts_with_number text then (parse_number text >>= λ n.
+    if starts (λ b. b == 33) n.1 then (if starts_with_number (drop 1 n.1) then parse_release_after_epoch n.0 (drop 1 n.1) else Err NoLeadingReleaseNumber)
+    else parse_release_after_epoch 0 text)
     else Err NoLeadingNumber
 
 -- blanks, the letter v, epoch and release
-abbrev pub opening : List ℕ → Read ((ℕ × List ℕ) × List ℕ)
-opening text = front_at (past_v (past is_ascii_whitespace text))
+abbrev pub parse_through_release : List ℕ → Read ((ℕ × List ℕ) × List ℕ)
+parse_through_release text = parse_epoch_and_release (skip_v (past is_ascii_whitespace text))
 
 -- the parts after the release
-unfoldable pub parts_at : ℕ → List ℕ → List ℕ → Read (Record × List ℕ)
-parts_at epoch release text = pre_at text >>= λ p. post_at p.1 >>= λ q. dev_at q.1 >>= λ d. local_at d.1 >>= λ l.
+unfoldable pub parse_parts : ℕ → List ℕ → List ℕ → Read (Record × List ℕ)
+parse_parts epoch release text = parse_pre text >>= λ p. parse_post p.1 >>= λ q. parse_dev q.1 >>= λ d. parse_local d.1 >>= λ l.
     Ok (record { epoch = epoch; release = release; pre = p.0; post = q.0; dev = d.0; local = l.0; min = None; max = None }, l.1)
 
 -- the blanks at the end of the text, after the parts
-abbrev pub end_at : List ℕ → Record × List ℕ → Read Record
-end_at text x =
+abbrev pub parse_end : List ℕ → Record × List ℕ → Read Record
+parse_end text x =
     if length (past is_ascii_whitespace x.1) == 0 then Ok x.0
     else Err (UnexpectedEnd (take (length text - length (past is_ascii_whitespace x.1)) text) (past is_ascii_whitespace x.1))
 
 -- a release is read, and what follows it has no star
-abbrev pub closing : List ℕ → (ℕ × List ℕ) × List ℕ → Read Record
-closing text x = parts_at x.0.0 x.0.1 x.1 >>= end_at text
+abbrev pub parse_after_release : List ℕ → (ℕ × List ℕ) × List ℕ → Read Record
+parse_after_release text x = parse_parts x.0.0 x.0.1 x.1 >>= parse_end text
 
 -- `.*` stands in front
-abbrev pub is_star : List ℕ → Bool
-is_star text = starts (λ b. b == 46) text && starts (λ b. b == 42) (drop 1 text)
+abbrev pub starts_with_star : List ℕ → Bool
+starts_with_star text = starts (λ b. b == 46) text && starts (λ b. b == 42) (drop 1 text)
 
 -- a version, as a pattern
 abbrev pub without_star : Read Record → Result (Record × Bool) PatternRefusal
@@ -52,12 +52,12 @@ without_star (Err f) = Err (OfVersion f)
 abbrev pub pattern_from : List ℕ → Read ((ℕ × List ℕ) × List ℕ) → Result (Record × Bool) PatternRefusal
 pattern_from text (Err f) = Err (OfVersion f)
 pattern_from text (Ok x) =
-    if is_star x.1 then (if length (drop 2 x.1) == 0 then Ok (epoch_and_release x.0.0 x.0.1, true) else Err WildcardNotTrailing)
-    else without_star (closing text x)
+    if starts_with_star x.1 then (if length (drop 2 x.1) == 0 then Ok (epoch_and_release x.0.0 x.0.1, true) else Err WildcardNotTrailing)
+    else without_star (parse_after_release text x)
 
 -- what the text reads as: a record, and whether a star follows
 abbrev pub read_pattern : List ℕ → Result (Record × Bool) PatternRefusal
-read_pattern text = pattern_from text (opening text)
+read_pattern text = pattern_from text (parse_through_release text)
 
 -- the version that a pattern is; a star is refused
 abbrev pub version_of : Result (Record × Bool) PatternRefusal → Read Record
@@ -72,5 +72,5 @@ read_version text = version_of (read_pattern text)
 -- ---- a release in turn, as the code reads it
 
 -- epoch and release, after the first number
-abbrev pub release_after_first : ℕ → ℕ → List ℕ → Read ((ℕ × List ℕ) × List ℕ)
-release_after_first epoch first text = release_from first text >>= λ x. Ok ((epoch, x.0), x.1)
+abbrev pub parse_release_after_first : ℕ → ℕ → List ℕ → Read ((ℕ × List ℕ) × List ℕ)
+parse_release_after_first epoch first text = parse_release_from first text >>= λ x. Ok ((epoch, x.0), x.1)

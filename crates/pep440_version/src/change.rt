@@ -1,6 +1,6 @@
 //! Lists of changes.
 ghost use Rattle.std.specs.Prelude.{◌≡◌, ◌⊎◌, ◌+◌, ◌<◌, Ok, Err, IfOk, IfErr, length, map};
-ghost use Rattle.pep440_version.specs.Changes.{changed, changed_all, edit};
+ghost use Rattle.pep440_version.specs.Changes.{apply_edit, apply_edits, edit};
 ghost use Rattle.pep440_version.specs.declared.change.ChangeError.TheVariants.{OutOfMemory};
 
 use crate::prerelease::Prerelease;
@@ -8,7 +8,7 @@ use crate::segment::LocalSegment;
 use crate::version::Version;
 use std::alloc::{AllocError, Global};
 
-/// One change of a version, as the setter of its name makes it.
+/// One change of a version, by the setter of its name.
 #[derive(Debug, Drop)]
 pub enum Change {
     /// `with_release`.
@@ -52,17 +52,17 @@ impl Clone for Change {
     }
 }
 
-/// Why a list of changes can't be made: the place of the first that can't be made, counted from 1, on the
-/// version that those before it gave.
+/// Why a list of changes cannot be applied: the number, counted from 1, of the first change that cannot be applied to
+/// the version that those before it made.
 #[derive(Debug, Clone, Copy, PartialEq, Eq)]
 pub enum ChangeError {
     /// A release of no numbers.
     EmptyRelease(usize),
-    /// `min` on a version with a pre-release or developmental part.
+    /// `min` on a version with a pre-release or dev part.
     MinNotAllowed(usize),
-    /// `max` on a version with a post-release or developmental part.
+    /// `max` on a version with a post-release or dev part.
     MaxNotAllowed(usize),
-    /// Memory ran out, which says nothing of the changes.
+    /// Out of memory; the changes may be valid or not.
     OutOfMemory,
 }
 
@@ -75,20 +75,20 @@ impl From<AllocError> for ChangeError {
 }
 
 impl Version {
-    // One change, at its place.
+    // One change, with its number in the list.
     fn with_change(
         self,
         alloc: Global,
         change: &Change,
-        place: usize,
+        position: usize,
     ) -> Result<Version, ChangeError>
-        ensures ok { IfOk result (λ v. changed place self (edit change.now) ≡ Ok v) }
-        ensures err { IfErr result (λ e. (e ≡ OutOfMemory) ⊎ (changed place self (edit change.now) ≡ Err e)) }
+        ensures ok { IfOk result (λ v. apply_edit position self (edit change.now) ≡ Ok v) }
+        ensures err { IfErr result (λ e. (e ≡ OutOfMemory) ⊎ (apply_edit position self (edit change.now) ≡ Err e)) }
     {
         match change {
             Change::Release(numbers) => {
                 if numbers.is_empty() {
-                    return Err(ChangeError::EmptyRelease(place));
+                    return Err(ChangeError::EmptyRelease(position));
                 }
                 Ok(self.with_release(alloc, numbers.as_slice())?)
             }
@@ -101,28 +101,28 @@ impl Version {
             Change::OnlyRelease => Ok(self.only_release(alloc)?),
             Change::Min(min) => {
                 if self.pre().is_some() || self.dev().is_some() {
-                    return Err(ChangeError::MinNotAllowed(place));
+                    return Err(ChangeError::MinNotAllowed(position));
                 }
                 Ok(self.with_min(alloc, *min)?)
             }
             Change::Max(max) => {
                 if self.post().is_some() || self.dev().is_some() {
-                    return Err(ChangeError::MaxNotAllowed(place));
+                    return Err(ChangeError::MaxNotAllowed(position));
                 }
                 Ok(self.with_max(alloc, *max)?)
             }
         }
     }
 
-    /// The version after the changes, one after the other: what the setters give in the same order.
+    /// The version after the changes, applied in order by their setters.
     ///
-    /// Every release must have a number, `min` goes with neither pre nor dev, `max` with neither post nor dev:
-    /// the first change that can't be made on the version reached by then is refused, with its place.
+    /// Every release must have a number, `min` goes with neither pre nor dev, `max` with neither post nor dev: the
+    /// error names the first change that cannot be applied to the version reached by then.
     ///
-    /// May take memory.
+    /// May allocate.
     pub fn with_changes(self, alloc: Global, changes: &[Change]) -> Result<Version, ChangeError>
-        ensures ok { IfOk result (λ v. changed_all 1 self (map edit changes.now) ≡ Ok v) }
-        ensures err { IfErr result (λ e. (e ≡ OutOfMemory) ⊎ (changed_all 1 self (map edit changes.now) ≡ Err e)) }
+        ensures ok { IfOk result (λ v. apply_edits 1 self (map edit changes.now) ≡ Ok v) }
+        ensures err { IfErr result (λ e. (e ≡ OutOfMemory) ⊎ (apply_edits 1 self (map edit changes.now) ≡ Err e)) }
     {
         let mut version = self;
         for i in 0..changes.len() {

@@ -1,4 +1,4 @@
-//! Why a text is no version or no pattern: kinds, errors and the conversions between them.
+//! Why a string is not a version or not a pattern: kinds, errors and the conversions between them.
 ghost use Rattle.std.specs.Prelude.{◌≡◌, Some};
 ghost use Rattle.pep440_version.specs.Errors.{kind_of, pattern_kind_of, refusal_of, error_refusal, pattern_refusal_of, pattern_error_refusal, inner_kind};
 ghost use Rattle.pep440_version.specs.declared.error.PatternErrorKind.TheVariants.{Version};
@@ -6,35 +6,35 @@ ghost use Rattle.pep440_version.specs.declared.error.ErrorKind.TheVariants.{OutO
 
 use std::alloc::AllocError;
 
-/// Why a text is no version (PEP 440, "Public version identifiers" and Appendix B).
+/// Why a string is not a version (PEP 440, "Public version identifiers" and Appendix B).
 ///
-/// Of a text that is no version exactly one kind but the last holds.
+/// A string that is not a version has exactly one kind, apart from the last.
 #[derive(Debug, PartialEq, Eq, Drop)]
 pub enum ErrorKind {
-    /// The text begins as epoch and release followed by `.*`, which only a pattern may have.
+    /// The string begins with epoch and release followed by `.*`, which only a pattern may have.
     Wildcard,
     /// A number is above 18446744073709551615.
     NumberTooBig {
         /// The whole run of ASCII digits.
         bytes: Vec<u8>,
     },
-    /// After blanks and the letter `v` there is no digit.
+    /// There is no digit after white space and the letter `v`.
     NoLeadingNumber,
-    /// After an epoch there is no digit.
+    /// There is no digit after an epoch.
     NoLeadingReleaseNumber,
-    /// After the start of a local part or of one of its segments there is no ASCII letter or digit.
+    /// There is no ASCII letter or digit after the start of a local part or of one of its segments.
     LocalEmpty {
         /// The `+`, `.`, `-` or `_` after which the segment is missing.
         precursor: char,
     },
-    /// The text goes on after a version.
+    /// The string goes on after a version.
     UnexpectedEnd {
-        /// The longest front that is a version, with the blanks at its end.
+        /// The longest prefix that is a version, with the white space at its end.
         version: String,
-        /// The rest of the text.
+        /// The rest of the string.
         remaining: String,
     },
-    /// Memory ran out, which says nothing of the text.
+    /// Out of memory; the string may be valid or not.
     OutOfMemory,
 }
 
@@ -69,7 +69,7 @@ impl From<AllocError> for ErrorKind {
     }
 }
 
-/// A text is no version, or memory ran out. Two are equal exactly if they say the same.
+/// A string is not a version, or the call is out of memory. Two errors are equal exactly if their kinds are.
 #[derive(Debug, PartialEq, Eq, Drop)]
 pub struct VersionParseError {
     kind: ErrorKind,
@@ -102,10 +102,10 @@ impl From<ErrorKind> for VersionParseError {
     }
 }
 
-/// Why a text is no version pattern (PEP 440, "Version matching").
+/// Why a string is not a version pattern (PEP 440, "Version matching").
 #[derive(Debug, PartialEq, Eq, Drop)]
 pub enum PatternErrorKind {
-    /// The text is no version either, or memory ran out.
+    /// The string is not a version either, or the call is out of memory.
     Version(VersionParseError),
     /// Something follows the `.*` after a release.
     WildcardNotTrailing,
@@ -138,7 +138,7 @@ impl From<ErrorKind> for PatternErrorKind {
     }
 }
 
-/// A text is no version pattern, or memory ran out. Two are equal exactly if they say the same.
+/// A string is not a version pattern, or the call is out of memory. Two errors are equal exactly if their kinds are.
 #[derive(Debug, PartialEq, Eq, Drop)]
 pub struct VersionPatternParseError {
     kind: PatternErrorKind,

@@ -1,4 +1,4 @@
-//! The texts of the errors, the same whatever width and fill are asked for.
+//! `Display` of the errors, which ignores width and fill.
 ghost use Rattle.std.specs.Prelude.{◌≡◌, ◌++◌, true, Some, codes};
 ghost use Rattle.std.specs.Char.{is_ascii_digit};
 ghost use Rattle.std.specs.List.{list_all};
@@ -13,7 +13,7 @@ use crate::print::write_number;
 use std::error::Error;
 use std::fmt;
 
-#[tactic(auto, using(crate::proofs::Reread::Writing::two_writes))]
+#[tactic(auto, using(crate::proofs::RoundTrip::Writing::two_writes))]
 fn write_three<W: fmt::Write>(f: &mut fmt::Formatter<W>, a: &str, b: &str, c: &str) -> fmt::Result
     ensures { WritesStyledOnOk W.write_str_gives f.old result (a.now ++ (b.now ++ c.now)) f.new }
 {
@@ -22,7 +22,7 @@ fn write_three<W: fmt::Write>(f: &mut fmt::Formatter<W>, a: &str, b: &str, c: &s
     f.write_str(c)
 }
 
-#[tactic(auto, using(crate::proofs::Reread::Writing::two_writes))]
+#[tactic(auto, using(crate::proofs::RoundTrip::Writing::two_writes))]
 fn write_five<W: fmt::Write>(
     f: &mut fmt::Formatter<W>,
     a: &str,
@@ -38,7 +38,7 @@ fn write_five<W: fmt::Write>(
     write_three(f, c, d, e)
 }
 
-// The digits as a text; other bytes may give another text.
+// The digits as a string; other bytes may give another string.
 fn digits_text(bytes: &[u8]) -> &str
     ensures { list_all is_ascii_digit bytes.now ≡ true → result.now ≡ bytes.now }
 {
@@ -91,7 +91,7 @@ fn write_end<W: fmt::Write>(
     )
 }
 
-// The text of a kind of error.
+// The message of a kind of error.
 fn write_error_kind<W: fmt::Write>(f: &mut fmt::Formatter<W>, kind: &ErrorKind) -> fmt::Result
     ensures { DisplaysStyledOnOk W.write_str_gives f.old result (error_text (refusal_of kind.now)) f.new }
 {
@@ -152,13 +152,13 @@ impl fmt::Display for VersionPatternParseError {
 
 impl Error for VersionPatternParseError {}
 
-// The place of a change, and why it can't be made.
-#[tactic(auto, using(crate::proofs::Reread::Writing::two_writes))]
-fn write_change<W: fmt::Write>(f: &mut fmt::Formatter<W>, place: usize, why: &str) -> fmt::Result
-    ensures { WritesStyledOnOk W.write_str_gives f.old result (codes "change " ++ (decimal place ++ why.now)) f.new }
+// The number of a change, and why it cannot be applied.
+#[tactic(auto, using(crate::proofs::RoundTrip::Writing::two_writes))]
+fn write_change<W: fmt::Write>(f: &mut fmt::Formatter<W>, position: usize, why: &str) -> fmt::Result
+    ensures { WritesStyledOnOk W.write_str_gives f.old result (codes "change " ++ (decimal position ++ why.now)) f.new }
 {
     f.write_str("change ")?;
-    write_number(f, place as u64)?;
+    write_number(f, position as u64)?;
     f.write_str(why)
 }
 
@@ -166,19 +166,19 @@ fn write_change_error<W: fmt::Write>(f: &mut fmt::Formatter<W>, error: ChangeErr
     ensures { WritesStyledOnOk W.write_str_gives f.old result (change_error_text error) f.new }
 {
     match error {
-        ChangeError::EmptyRelease(place) => write_change(
+        ChangeError::EmptyRelease(position) => write_change(
             f,
-            place,
+            position,
             ": a release needs at least one number",
         ),
-        ChangeError::MinNotAllowed(place) => write_change(
+        ChangeError::MinNotAllowed(position) => write_change(
             f,
-            place,
+            position,
             ": min is not allowed on pre-release or dev versions",
         ),
-        ChangeError::MaxNotAllowed(place) => write_change(
+        ChangeError::MaxNotAllowed(position) => write_change(
             f,
-            place,
+            position,
             ": max is not allowed on post-release or dev versions",
         ),
         ChangeError::OutOfMemory => f.write_str("out of memory"),

@@ -1,4 +1,4 @@
-//! What is given to a hasher: the key, so that equal values are hashed alike.
+//! `Hash`: a version feeds its key to the hasher, so that equal versions hash alike.
 ghost use Rattle.std.specs.Prelude.{◌≡◌, length, take, map};
 ghost use Rattle.std.specs.Hash as fed;
 ghost use Rattle.std.specs.List.{flat_map, fold};
@@ -7,7 +7,7 @@ ghost use Rattle.pep440_version.specs.Key.{key};
 ghost use Rattle.pep440_version.specs.Segments.{segment};
 ghost use Rattle.pep440_version.specs.Ties.{feeds_alike, segments_feed_alike, kinds_feed_alike, prereleases_feed_alike};
 
-use crate::key::{Place, trimmed};
+use crate::key::{RankedNumber, trim_trailing_zeros};
 use crate::prerelease::{Prerelease, PrereleaseKind};
 use crate::segment::LocalSegment;
 use crate::version::Version;
@@ -68,7 +68,7 @@ fn hash_numbers<H: Hasher>(numbers: &[u64], state: &mut H)
 fn hash_stage<H: Hasher>(v: &Version, state: &mut H)
     ensures { state.new ≡ fold H.write state.old (feed_stage (key v.now).stage) }
 {
-    let Place { rank, number, .. } = Place::of_stage(v);
+    let RankedNumber { rank, number, .. } = RankedNumber::from_stage(v);
     state.write_u64(u64::from(rank));
     if rank >= 2 && rank <= 4 {
         state.write_u64(number);
@@ -78,7 +78,7 @@ fn hash_stage<H: Hasher>(v: &Version, state: &mut H)
 fn hash_post<H: Hasher>(v: &Version, state: &mut H)
     ensures { state.new ≡ fold H.write state.old (feed_post (key v.now).post) }
 {
-    let Place { rank, number, .. } = Place::of_post(v);
+    let RankedNumber { rank, number, .. } = RankedNumber::from_post(v);
     state.write_u64(u64::from(rank));
     if rank > 0 {
         state.write_u64(number);
@@ -88,7 +88,7 @@ fn hash_post<H: Hasher>(v: &Version, state: &mut H)
 fn hash_dev<H: Hasher>(v: &Version, state: &mut H)
     ensures { state.new ≡ fold H.write state.old (feed_dev (key v.now).dev) }
 {
-    let Place { rank, number, .. } = Place::of_dev(v);
+    let RankedNumber { rank, number, .. } = RankedNumber::from_dev(v);
     state.write_u64(u64::from(rank));
     if rank == 0 {
         state.write_u64(number);
@@ -111,7 +111,7 @@ impl Hash for Version {
 
     fn hash<H: Hasher>(&self, state: &mut H) {
         state.write_u64(self.epoch());
-        hash_numbers(trimmed(self.release()), state);
+        hash_numbers(trim_trailing_zeros(self.release()), state);
         hash_stage(self, state);
         hash_post(self, state);
         hash_dev(self, state);

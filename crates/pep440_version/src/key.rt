@@ -1,7 +1,7 @@
 //! The key of a version, as its order, its hash and its sort key use it: the places of stage, post and dev, and the release
 //! without the zeros at its end.
 ghost use Rattle.std.specs.Prelude.{◌≡◌, ◌≤◌};
-ghost use Rattle.pep440_version.specs.Key.{dev_place, key, post_place, stage_place};
+ghost use Rattle.pep440_version.specs.Key.{dev_rank, key, post_rank, stage_rank};
 ghost use Rattle.pep440_version.specs.Trim.{trim};
 
 use crate::prerelease::PrereleaseKind;
@@ -10,7 +10,7 @@ use crate::version::Version;
 /// Where a part stands among those of other versions: by rank, and then by number (PEP 440, "Summary of permitted suffixes
 /// and relative ordering").
 #[derive(Clone, Copy, PartialEq, Eq, PartialOrd, Ord)]
-pub struct Place {
+pub struct RankedNumber {
     /// At most 5.
     pub rank: u8,
     /// 0 where the rank has no numbers.
@@ -18,13 +18,13 @@ pub struct Place {
     ghost few: { rank ≤ 5 },
 }
 
-impl Place {
+impl RankedNumber {
     /// The stage: `min`, dev, the kinds of pre-releases, final.
-    pub fn of_stage(version: &Version) -> Place
-        ensures { (result.rank, result.number) ≡ stage_place (key version.now).stage }
+    pub fn from_stage(version: &Version) -> RankedNumber
+        ensures { (result.rank, result.number) ≡ stage_rank (key version.now).stage }
     {
         if version.min().is_some() {
-            return Place { rank: 0, number: 0 };
+            return RankedNumber { rank: 0, number: 0 };
         }
         match version.pre() {
             Some(pre) => {
@@ -33,7 +33,7 @@ impl Place {
                     PrereleaseKind::Beta => 3,
                     PrereleaseKind::Rc => 4,
                 };
-                Place {
+                RankedNumber {
                     rank,
                     number: pre.number,
                 }
@@ -45,35 +45,35 @@ impl Place {
                 } else {
                     5
                 };
-                Place { rank, number: 0 }
+                RankedNumber { rank, number: 0 }
             }
         }
     }
 
     /// The post-release: none, one, the mark `max`.
-    pub fn of_post(version: &Version) -> Place
-        ensures { (result.rank, result.number) ≡ post_place (key version.now).post }
+    pub fn from_post(version: &Version) -> RankedNumber
+        ensures { (result.rank, result.number) ≡ post_rank (key version.now).post }
     {
         match (version.max(), version.post()) {
-            (Some(number), _) => Place { rank: 2, number },
-            (None, Some(number)) => Place { rank: 1, number },
-            (None, None) => Place { rank: 0, number: 0 },
+            (Some(number), _) => RankedNumber { rank: 2, number },
+            (None, Some(number)) => RankedNumber { rank: 1, number },
+            (None, None) => RankedNumber { rank: 0, number: 0 },
         }
     }
 
     /// The developmental release: the mark `min` or one, none.
-    pub fn of_dev(version: &Version) -> Place
-        ensures { (result.rank, result.number) ≡ dev_place (key version.now).dev }
+    pub fn from_dev(version: &Version) -> RankedNumber
+        ensures { (result.rank, result.number) ≡ dev_rank (key version.now).dev }
     {
         match (version.min(), version.dev()) {
-            (Some(number), _) | (None, Some(number)) => Place { rank: 0, number },
-            (None, None) => Place { rank: 1, number: 0 },
+            (Some(number), _) | (None, Some(number)) => RankedNumber { rank: 0, number },
+            (None, None) => RankedNumber { rank: 1, number: 0 },
         }
     }
 }
 
 /// The release without the zeros at its end.
-pub fn trimmed(numbers: &[u64]) -> &[u64]
+pub fn trim_trailing_zeros(numbers: &[u64]) -> &[u64]
     ensures { result.now ≡ trim numbers.now }
 {
     let mut end = numbers.len();

@@ -6,7 +6,7 @@ ghost use Rattle.pep440_version.specs.Patterns.{DerivesPattern};
 ghost use Rattle.pep440_version.specs.Print.{print};
 ghost use Rattle.pep440_version.specs.Record.{Record, IsRecord};
 ghost use Rattle.pep440_version.specs.Refusals.{PatternRefusal, Refusal, Refuses, RefusesPattern};
-ghost use Rattle.pep440_version.specs.Reread.{Rereads};
+ghost use Rattle.pep440_version.specs.RoundTrip.{RoundTrips};
 ghost use Rattle.pep440_version.specs.Key.{kind_cmp, prerelease_cmp, record_cmp, segment_cmp};
 ghost use Rattle.pep440_version.specs.Segments.{segment};
 ghost use Rattle.pep440_version.specs.contracts.prerelease.PrereleaseKindOrd.TheImpl.{cmp-value as cmp_kinds};
@@ -22,28 +22,27 @@ ghost use Rattle.std.specs.Ordering.{nat_cmp};
 
 use crate::version::Version;
 
-/// The word of the version, where its record is packed. It is lent out of the version, which keeps it. Of any other
-/// version None.
+/// The word of a packed version, borrowed from it; `None` for any other version.
 ///
-/// Takes no memory.
+/// Never allocates.
 pub fn word(version: &Version) -> Option<&u64>
     ensures { option_copied result ≡ (if is_packed version.now then Some (word version.now) else None) }
 {
     version.word()
 }
 
-/// Of packed records the words are in the order of the keys, and equal exactly where the keys are.
+/// The words of packed records are in the order of the keys, and equal exactly if the keys are.
 pub fn words_are_ordered()
     ensures { (r q : Record) → is_packed r ≡ true → is_packed q ≡ true → nat_cmp (word r) (word q) ≡ record_cmp r q }
 {}
 
-/// A text means at most one record, and a pattern text at most one record, with a star or without.
+/// A string denotes at most one version, and at most one pattern.
 pub fn means_one()
     ensures version { (text : List ℕ) (r q : Record) → Derives text r → Derives text q → r ≡ q }
     ensures pattern { (text : List ℕ) (r q : Record) (s t : Bool) → DerivesPattern text r s → DerivesPattern text q t → (r ≡ q) × (s ≡ t) }
 {}
 
-/// A text either means a record or is refused for exactly one reason; so is a pattern text.
+/// A string either denotes a version or is rejected with exactly one error; so it is with patterns.
 pub fn refused_once()
     ensures version { (text : List ℕ) (f g : Refusal) → Refuses text f → Refuses text g → f ≡ g }
     ensures either { (text : List ℕ) → ((r : Record) × Derives text r) ⊎ ((f : Refusal) × Refuses text f) }
@@ -53,14 +52,14 @@ pub fn refused_once()
     ensures derived_pattern { (text : List ℕ) (r : Record) (s : Bool) (f : PatternRefusal) → DerivesPattern text r s → RefusesPattern text f → ⊥ }
 {}
 
-/// What a text means is a record of the crate, and its print means it again.
+/// The version that a string denotes is a record of the crate, and its normalized form parses back to it.
 pub fn meaning_is_printed()
     ensures bounded { (text : List ℕ) (r : Record) → Derives text r → IsRecord r }
-    ensures rereads { (text : List ℕ) (r : Record) → Derives text r → Rereads r }
-    ensures again { (r : Record) → IsRecord r → Rereads r → Derives (print r) r }
+    ensures rereads { (text : List ℕ) (r : Record) → Derives text r → RoundTrips r }
+    ensures again { (r : Record) → IsRecord r → RoundTrips r → Derives (print r) r }
 {}
 
-/// The reading from the left, which computes, gives what a text means and why it is refused.
+/// Parsing from left to right, which computes, returns the version that a string denotes, or why it is rejected.
 pub fn reading_agrees()
     ensures version { (text : List ℕ) (r : Record) → Derives text r → read_version text ≡ Ok r }
     ensures refused { (text : List ℕ) (f : Refusal) → Refuses text f → read_version text ≡ Err f }

@@ -1,26 +1,26 @@
-//! Versions of PEP 440: their texts, prints, order, hash and changes; and version patterns, as `1.2.*`.
+//! Versions of PEP 440: parsing, normalized forms, order, hash and changes; and version patterns, as `1.2.*`.
 //!
-//! A call whose documentation does not speak of memory takes none, and always answers. `clone` takes memory, unless the
-//! version is packed (see `Version`). Where a request for memory is refused, a call answers `AllocError`, or the
-//! `OutOfMemory` of its own error, and what it borrowed is unchanged.
+//! A call whose documentation does not mention allocation never allocates and always succeeds. `clone` allocates,
+//! unless the version is packed (see `Version`). If an allocation fails, a call returns `AllocError`, or the
+//! `OutOfMemory` of its own error, and its arguments are unchanged.
 #![tactic(auto)]
 
 mod change;
 mod error;
 mod error_text;
-mod full;
 mod hash;
 pub mod key;
 pub mod laws;
-mod numbers;
 mod order;
 mod packed;
 mod pattern;
 mod prerelease;
 mod print;
 mod read;
+mod release;
 mod segment;
 mod setters;
+mod unpacked;
 mod version;
 pub mod words;
 

@@ -6,14 +6,14 @@ ghost use Rattle.pep440_version.specs.Segments.{segment};
 ghost use Rattle.std.specs.Cmp.{partial_equiv_from_equiv};
 ghost use Rattle.std.specs.Ordering.{as_partial_cmp, eq_by_cmp};
 
-use crate::key::Place;
+use crate::key::RankedNumber;
 use crate::segment::LocalSegment;
 use crate::version::Version;
 use std::cmp::Ordering;
 
 /// The order of two releases as if the shorter were padded with zeros (PEP 440, "Public version identifiers").
 ///
-/// Takes no memory.
+/// Never allocates.
 pub fn cmp_releases(a: &[u64], b: &[u64]) -> Ordering
     ensures { result ≡ release_cmp a.now b.now }
 {
@@ -43,15 +43,15 @@ fn cmp_bases(a: &Version, b: &Version) -> Ordering
 fn cmp_suffixes(a: &Version, b: &Version) -> Ordering
     ensures { result ≡ suffix_cmp a.now b.now }
 {
-    let stages = Place::of_stage(a).cmp(&Place::of_stage(b));
-    let posts = Place::of_post(a).cmp(&Place::of_post(b));
-    let devs = Place::of_dev(a).cmp(&Place::of_dev(b));
+    let stages = RankedNumber::from_stage(a).cmp(&RankedNumber::from_stage(b));
+    let posts = RankedNumber::from_post(a).cmp(&RankedNumber::from_post(b));
+    let devs = RankedNumber::from_dev(a).cmp(&RankedNumber::from_dev(b));
     stages.then(posts).then(devs)
 }
 
 /// The order of two versions as if neither had a local part (PEP 440, "Version matching").
 ///
-/// Takes no memory.
+/// Never allocates.
 #[inline(always)]
 pub fn cmp_without_local(a: &Version, b: &Version) -> Ordering
     ensures { result ≡ record_cmp (record a.now { local = [] }) (record b.now { local = [] }) }

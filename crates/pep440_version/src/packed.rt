@@ -1,14 +1,14 @@
-//! A packed version: its release, and the word of the release and of the one suffix that there may be.
+//! A packed version: its release, and one word for the release and the one suffix that it may have.
 ghost use Rattle.std.specs.Prelude.{◌≡◌, ◌+◌, ◌*◌, ◌^◌, ◌<◌, ◌≤◌, ◌&&◌, nat_le, true, false, None, length, slice_index, take, IfSome, IfNone, if◌then◌else◌};
-ghost use Rattle.pep440_version.specs.Form.{IsWord, class_in, class_of_field, dev_class, full_record, max_class, min_class, number_in, number_of_class, packed_record, post_class, pre_at, record_in, word_with, word_with_number};
+ghost use Rattle.pep440_version.specs.Form.{IsWord, class_in, class_of_field, dev_class, unpacked_record, max_class, min_class, number_in, number_of_class, packed_record, post_class, prerelease_of_class, record_in, word_with, word_with_number};
 ghost use Rattle.pep440_version.specs.Normal.{IsPadded, IsKnown};
 ghost use Rattle.pep440_version.specs.Word.{is_packed, is_short, suffix};
 
-use crate::full::Full;
-use crate::numbers::padded;
 use crate::prerelease::{Prerelease, PrereleaseKind};
+use crate::release::pad_with_zeros;
+use crate::unpacked::Unpacked;
 
-// The classes of a suffix; a higher one stands above a lower one.
+// The classes of a suffix, in their order.
 const MIN: u64 = 0;
 
 pub(crate) const DEV: u64 = 1;
@@ -41,7 +41,7 @@ pub(crate) enum Field {
     Max,
 }
 
-// How many release numbers there are, the word, and the numbers that it stands for.
+// The count of release numbers, the word, and the numbers in it.
 pub(crate) struct Packed {
     pub(crate) count: u8,
     pub(crate) word: u64,
@@ -61,7 +61,7 @@ pub(crate) fn number_in(word: u64) -> u64
     word & MAX_SUFFIX_NUMBER
 }
 
-// The number, where the word's suffix is of this class.
+// The number, if the word's suffix is of this class.
 fn number_of_class(asked: u64, word: u64) -> Option<u64>
     ensures { result ≡ number_of_class asked (class_in word) (number_in word) }
 {
@@ -73,7 +73,7 @@ fn number_of_class(asked: u64, word: u64) -> Option<u64>
 }
 
 pub(crate) fn pre_in(word: u64) -> Option<Prerelease>
-    ensures { result ≡ pre_at (class_in word) (number_in word) }
+    ensures { result ≡ prerelease_of_class (class_in word) (number_in word) }
 {
     let class = class_in(word);
     let kind = if class == ALPHA {
@@ -160,11 +160,17 @@ pub(crate) fn replace_number(word: u64, field: Field, number: Option<u64>) -> Op
     }
 }
 
-// The class and the number of the one suffix that is there; None where there are more.
-fn suffix(full: &Full) -> Option<(u64, u64)>
-    ensures { result ≡ suffix (full_record full.now) }
+// The class and the number of the one suffix; `None` if there are more.
+fn suffix(unpacked: &Unpacked) -> Option<(u64, u64)>
+    ensures { result ≡ suffix (unpacked_record unpacked.now) }
 {
-    match (full.min, full.dev, full.pre, full.post, full.max) {
+    match (
+        unpacked.min,
+        unpacked.dev,
+        unpacked.pre,
+        unpacked.post,
+        unpacked.max,
+    ) {
         (None, None, None, None, None) => Some((NONE, 0)),
         (Some(min), None, None, None, None) => Some((MIN, min)),
         (None, Some(dev), None, None, None) => Some((DEV, dev)),
@@ -179,7 +185,7 @@ fn suffix(full: &Full) -> Option<(u64, u64)>
     }
 }
 
-// The numbers have room in their places.
+// Whether the numbers fit into their bits.
 fn are_small(numbers: [u64; 4]) -> bool
     ensures { result ≡ (nat_le (slice_index numbers 0) 65535 && (nat_le (slice_index numbers 1) 255 && (nat_le (slice_index numbers 2) 255 && nat_le (slice_index numbers 3) 255))) }
 {
@@ -191,18 +197,18 @@ fn are_small(numbers: [u64; 4]) -> bool
 }
 
 // The suffix of a version that a word can hold; its release numbers are given, padded.
-fn packed_suffix(full: &Full, numbers: [u64; 4]) -> Option<(u64, u64)>
-    requires few { length full.now.release ≤ 4 }
-    requires first { slice_index numbers 0 ≡ slice_index full.now.release 0 }
-    requires second { slice_index numbers 1 ≡ slice_index full.now.release 1 }
-    requires third { slice_index numbers 2 ≡ slice_index full.now.release 2 }
-    requires fourth { slice_index numbers 3 ≡ slice_index full.now.release 3 }
-    ensures { result ≡ (if is_packed (full_record full.now) then suffix (full_record full.now) else None) }
+fn packed_suffix(unpacked: &Unpacked, numbers: [u64; 4]) -> Option<(u64, u64)>
+    requires few { length unpacked.now.release ≤ 4 }
+    requires first { slice_index numbers 0 ≡ slice_index unpacked.now.release 0 }
+    requires second { slice_index numbers 1 ≡ slice_index unpacked.now.release 1 }
+    requires third { slice_index numbers 2 ≡ slice_index unpacked.now.release 2 }
+    requires fourth { slice_index numbers 3 ≡ slice_index unpacked.now.release 3 }
+    ensures { result ≡ (if is_packed (unpacked_record unpacked.now) then suffix (unpacked_record unpacked.now) else None) }
 {
-    if full.epoch != 0 || !full.local.is_empty() || !are_small(numbers) {
+    if unpacked.epoch != 0 || !unpacked.local.is_empty() || !are_small(numbers) {
         return None;
     }
-    let (class, number) = suffix(full)?;
+    let (class, number) = suffix(unpacked)?;
     if number > MAX_SUFFIX_NUMBER {
         None
     } else {
@@ -226,17 +232,17 @@ fn word_of(numbers: [u64; 4], class: u64, number: u64) -> u64
 }
 
 impl Packed {
-    // The same packed, where it can be.
-    pub(crate) fn pack(full: &Full) -> Option<Packed>
-        ensures none { IfNone result (is_packed (full_record full.now) ≡ false) }
-        ensures some { IfSome result (λ p. IsWord p.count p.word p.numbers × (packed_record p.count p.word p.numbers ≡ full_record full.now)) }
+    // The version packed, if it can be.
+    pub(crate) fn pack(unpacked: &Unpacked) -> Option<Packed>
+        ensures none { IfNone result (is_packed (unpacked_record unpacked.now) ≡ false) }
+        ensures some { IfSome result (λ p. IsWord p.count p.word p.numbers × (packed_record p.count p.word p.numbers ≡ unpacked_record unpacked.now)) }
     {
-        let release = full.release.as_slice();
+        let release = unpacked.release.as_slice();
         if release.len() > 4 {
             return None;
         }
-        let numbers = padded(release);
-        let (class, number) = packed_suffix(full, numbers)?;
+        let numbers = pad_with_zeros(release);
+        let (class, number) = packed_suffix(unpacked, numbers)?;
         Some(Packed {
             count: release.len() as u8,
             word: word_of(numbers, class, number),
@@ -252,7 +258,7 @@ impl Packed {
         class: u64,
         number: u64,
     ) -> Option<Packed>
-        requires padded { IsPadded count numbers }
+        requires pad_with_zeros { IsPadded count numbers }
         requires known { IsKnown class number }
         requires small { number ≤ 2097151 }
         ensures none { IfNone result (is_short (take count numbers) ≡ false) }

@@ -1,4 +1,4 @@
-//! Version patterns, and their public reader.
+//! Version patterns and their parser.
 ghost use Rattle.std.specs.Prelude.{◌≡◌, Bool, true, false, Ok, Err, Some, IfOk, IfErr, IfSome, IsOk};
 ghost use Rattle.std.specs.Cmp.{partial_equiv_from_equiv};
 ghost use Rattle.pep440_version.specs.ErrorTexts.{pattern_error_text, pattern_refusal_text};
@@ -19,7 +19,7 @@ use std::marker::Model;
 
 /// A version, and whether `.*` follows it, as `1.2.*` (PEP 440, "Version matching").
 ///
-/// Patterns are equal where their versions are equal and both have a star or neither has.
+/// Patterns are equal if their versions are equal and both have a star or neither has.
 #[derive(Debug, Drop)]
 pub struct VersionPattern {
     version: Version,
@@ -78,7 +78,7 @@ impl VersionPattern {
         self.wildcard
     }
 
-    // What the reading from the left gives.
+    // The result of parsing from left to right.
     fn read(alloc: Global, text: &str) -> Result<VersionPattern, VersionPatternParseError>
         ensures reads { Answers pattern_error_refusal result (read_pattern text.now) }
         ensures memory { (x : Record × Bool) → read_pattern text.now ≡ Ok x → is_packed x.0 ≡ true → IsOk result }
@@ -86,28 +86,28 @@ impl VersionPattern {
         if let Some(version) = read::normal_version(text) {
             return Ok(VersionPattern::verbatim(version));
         }
-        let (version, wildcard) = read::pattern(alloc, text)?;
+        let (version, wildcard) = read::parse_pattern(alloc, text)?;
         Ok(VersionPattern { version, wildcard })
     }
 
-    /// The pattern that the text means: a version, or epoch and release followed by `.*` and the end
-    /// (PEP 440, "Version matching" and Appendix B).
+    /// Parses a pattern: a version, or epoch and release followed by `.*` and the end (PEP 440, "Version matching"
+    /// and Appendix B).
     ///
-    /// Takes memory only where the version is not packed, or for what a refusal holds. Every text that means no
-    /// pattern is refused with its one `PatternErrorKind`; only where a request for memory was refused the kind may
-    /// be `OutOfMemory` of `Version` instead.
+    /// Allocates only if the version is not packed, or for the strings in an error. Every other string is rejected
+    /// with exactly one `PatternErrorKind`; only if an allocation failed the kind may be `OutOfMemory` of `Version`
+    /// instead.
     pub fn from_str(alloc: Global, text: &str) -> Result<VersionPattern, VersionPatternParseError>
-        // What is answered is what the text means.
+        // Ok has what the string denotes.
         ensures found { IfOk result (λ p. DerivesPattern text.now p.0 p.1) }
-        // What the text means is answered, unless memory runs out.
+        // A string that denotes a value parses to it, unless out of memory.
         ensures only { (r : Record) (star : Bool) → DerivesPattern text.now r star → Answers pattern_error_refusal result (Ok (r, star)) }
-        // A refusal is one that the fronts of the text tell.
+        // Err has an error that the prefixes of the string determine.
         ensures refused { IfErr result (λ e. IfSome (pattern_error_refusal e) (RefusesPattern text.now)) }
-        // A refusal that the fronts of the text tell is answered, unless memory runs out.
+        // The error that the prefixes of the string determine is returned, unless out of memory.
         ensures decided { (f : PatternRefusal) → RefusesPattern text.now f → Answers pattern_error_refusal result (Err f) }
-        // The error's text is the refusal's.
-        ensures told { IfErr result (λ e. IfSome (pattern_error_refusal e) (λ f. pattern_error_text (pattern_error_refusal e) ≡ Some (pattern_refusal_text f))) }
-        // A text that means a packed record is read without memory, with a star or without.
+        // The error's message is that of the refusal.
+        ensures message { IfErr result (λ e. IfSome (pattern_error_refusal e) (λ f. pattern_error_text (pattern_error_refusal e) ≡ Some (pattern_refusal_text f))) }
+        // A string that denotes a packed record is parsed without allocating, with a star or without.
         ensures memory { (r : Record) (star : Bool) → DerivesPattern text.now r star → is_packed r ≡ true → IsOk result }
     {
         VersionPattern::read(alloc, text)

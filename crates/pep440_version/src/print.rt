@@ -1,4 +1,4 @@
-//! Prints in normal form (PEP 440, "Normalization"), the same whatever width and fill are asked for.
+//! `Display` in normalized form (PEP 440, "Normalization"), which ignores width and fill.
 ghost use Rattle.std.specs.Prelude.{Some, map, ◌++◌, ◌<◌, ◌+◌, ◌∷◌, [], codes};
 ghost use Rattle.std.specs.List.{flat_map};
 ghost use Rattle.std.specs.Fmt.{WritesStyledOnOk, DisplaysOnOk, decimal};
@@ -40,7 +40,7 @@ fn write_digit<W: fmt::Write>(f: &mut fmt::Formatter<W>, n: u64) -> fmt::Result
 }
 
 // A label and a number.
-#[tactic(auto, using(crate::proofs::Reread::Writing::two_writes))]
+#[tactic(auto, using(crate::proofs::RoundTrip::Writing::two_writes))]
 fn write_after_label<W: fmt::Write>(f: &mut fmt::Formatter<W>, label: &str, n: u64) -> fmt::Result
     ensures { WritesStyledOnOk W.write_str_gives f.old result (label.now ++ decimal n) f.new }
 {
@@ -71,7 +71,7 @@ fn write_release<W: fmt::Write>(f: &mut fmt::Formatter<W>, release: &[u64]) -> f
     }
 }
 
-#[tactic(auto, using(crate::proofs::Reread::Writing::two_writes))]
+#[tactic(auto, using(crate::proofs::RoundTrip::Writing::two_writes))]
 fn write_epoch<W: fmt::Write>(f: &mut fmt::Formatter<W>, epoch: u64) -> fmt::Result
     ensures { WritesStyledOnOk W.write_str_gives f.old result (epoch_text epoch) f.new }
 {
@@ -95,7 +95,7 @@ fn write_prerelease_kind<W: fmt::Write>(
     })
 }
 
-#[tactic(auto, using(crate::proofs::Reread::Writing::two_writes))]
+#[tactic(auto, using(crate::proofs::RoundTrip::Writing::two_writes))]
 fn write_prerelease<W: fmt::Write>(f: &mut fmt::Formatter<W>, pre: Prerelease) -> fmt::Result
     ensures { WritesStyledOnOk W.write_str_gives f.old result (prerelease_text pre) f.new }
 {
@@ -125,10 +125,13 @@ fn write_labelled<W: fmt::Write>(
     }
 }
 
-fn write_segment<W: fmt::Write>(f: &mut fmt::Formatter<W>, held: &LocalSegment) -> fmt::Result
-    ensures { WritesStyledOnOk W.write_str_gives f.old result (segment_print (segment held.now)) f.new }
+fn write_segment<W: fmt::Write>(
+    f: &mut fmt::Formatter<W>,
+    local_segment: &LocalSegment,
+) -> fmt::Result
+    ensures { WritesStyledOnOk W.write_str_gives f.old result (segment_print (segment local_segment.now)) f.new }
 {
-    match held {
+    match local_segment {
         LocalSegment::String(text) => f.write_str(text.as_str()),
         LocalSegment::Number(number) => write_number(f, *number),
     }
@@ -136,12 +139,12 @@ fn write_segment<W: fmt::Write>(f: &mut fmt::Formatter<W>, held: &LocalSegment) 
 
 fn write_dotted_segment<W: fmt::Write>(
     f: &mut fmt::Formatter<W>,
-    held: &LocalSegment,
+    local_segment: &LocalSegment,
 ) -> fmt::Result
-    ensures { WritesStyledOnOk W.write_str_gives f.old result (codes "." ++ segment_print (segment held.now)) f.new }
+    ensures { WritesStyledOnOk W.write_str_gives f.old result (codes "." ++ segment_print (segment local_segment.now)) f.new }
 {
     f.write_str(".")?;
-    write_segment(f, held)
+    write_segment(f, local_segment)
 }
 
 // Each segment after a dot.
@@ -151,16 +154,16 @@ fn write_segments<W: fmt::Write>(
 ) -> fmt::Result
     ensures { WritesStyledOnOk W.write_str_gives f.old result (flat_map (λ s. codes "." ++ segment_print (segment s)) segments.now) f.new }
 {
-    for held in segments {
-        write_dotted_segment(f, held)?;
+    for local_segment in segments {
+        write_dotted_segment(f, local_segment)?;
     }
     Ok(())
 }
 
-/// Writes local segments with dots between them, as a version's print has them after its `+`, whatever width and fill `f`
-/// has; no segments are no text (PEP 440, "Local version identifiers").
+/// Writes local segments with dots between them, as the normalized form has them after its `+`; no segments write
+/// nothing. Width and fill of `f` are ignored (PEP 440, "Local version identifiers").
 ///
-/// An error is that of the writer.
+/// The only error is that of the writer.
 pub fn write_local_segments<W: fmt::Write>(
     f: &mut fmt::Formatter<W>,
     local: &[LocalSegment],
@@ -186,7 +189,7 @@ fn write_local<W: fmt::Write>(f: &mut fmt::Formatter<W>, local: &[LocalSegment])
     write_local_segments(f, local)
 }
 
-// The print of a version.
+// The normalized form of a version.
 fn write_version<W: fmt::Write>(f: &mut fmt::Formatter<W>, v: &Version) -> fmt::Result
     ensures { WritesStyledOnOk W.write_str_gives f.old result (print v.now) f.new }
 {
@@ -238,8 +241,8 @@ impl fmt::Display for Version {
     }
 }
 
-// The print and a quote.
-#[tactic(auto, using(crate::proofs::Reread::Writing::two_writes))]
+// The normalized form and a quote.
+#[tactic(auto, using(crate::proofs::RoundTrip::Writing::two_writes))]
 fn write_closed<W: fmt::Write>(f: &mut fmt::Formatter<W>, v: &Version) -> fmt::Result
     ensures { WritesStyledOnOk W.write_str_gives f.old result (print v.now ++ codes "\"") f.new }
 {
@@ -247,8 +250,8 @@ fn write_closed<W: fmt::Write>(f: &mut fmt::Formatter<W>, v: &Version) -> fmt::R
     f.write_str("\"")
 }
 
-// The print in double quotes.
-#[tactic(auto, using(crate::proofs::Reread::Writing::two_writes))]
+// The normalized form in double quotes.
+#[tactic(auto, using(crate::proofs::RoundTrip::Writing::two_writes))]
 fn write_quoted<W: fmt::Write>(f: &mut fmt::Formatter<W>, v: &Version) -> fmt::Result
     ensures { WritesStyledOnOk W.write_str_gives f.old result (quoted v.now) f.new }
 {

@@ -2,63 +2,63 @@
 ghost use Rattle.std.specs.Prelude.{◌≡◌, ◌<◌, [], length, None, IfOk, IsOk, map, true};
 ghost use Rattle.pep440_version.specs.Feed.{feed};
 ghost use Rattle.pep440_version.specs.Key.{record_cmp};
-ghost use Rattle.pep440_version.specs.Record.{of_release};
+ghost use Rattle.pep440_version.specs.Record.{from_release};
 ghost use Rattle.pep440_version.specs.Segments.{segment};
 ghost use Rattle.pep440_version.specs.Trim.{trim};
 ghost use Rattle.pep440_version.specs.Word.{is_packed};
 ghost use Rattle.std.specs.declared.cmp.Ordering.TheVariants.{Equal};
 
-use crate::numbers::Release;
 use crate::packed::Field;
 use crate::prerelease::Prerelease;
+use crate::release::Release;
 use crate::segment::LocalSegment;
-use crate::version::{Version, known_segments};
+use crate::version::{Version, prove_segments_fit};
 use std::alloc::{AllocError, Global};
 
 impl Version {
     /// The version with this release. The release must not be empty; `is_empty` is its test.
     ///
-    /// Takes memory only where the answer is not packed.
+    /// Allocates only if the result is not packed.
     pub fn with_release(self, alloc: Global, release: &[u64]) -> Result<Version, AllocError>
         requires { 0 < length release.now }
         ensures value { IfOk result (λ v. v ≡ record self { release = release.now }) }
         ensures memory { is_packed (record self { release = release.now }) ≡ true → IsOk result }
-        // Zeros at the end of the release make no difference to the order and to a hasher.
+        // Trailing zeros of the release make no difference to order and hash.
         ensures zeros { trim release.now ≡ trim self.release → IfOk result (λ v. (record_cmp v self ≡ Equal) × (feed v ≡ feed self)) }
     {
         let numbers = Release::from_slice(alloc, release)?;
-        let mut full = self.into_full(alloc);
-        full.release = numbers;
-        Version::from_full(alloc, full)
+        let mut unpacked = self.into_unpacked(alloc);
+        unpacked.release = numbers;
+        Version::from_unpacked(alloc, unpacked)
     }
 
     /// The version with this epoch.
     ///
-    /// Takes memory only where the answer is not packed.
+    /// Allocates only if the result is not packed.
     pub fn with_epoch(self, alloc: Global, epoch: u64) -> Result<Version, AllocError>
         ensures value { IfOk result (λ v. v ≡ record self { epoch = epoch }) }
         ensures memory { is_packed (record self { epoch = epoch }) ≡ true → IsOk result }
     {
-        let mut full = self.into_full(alloc);
-        full.epoch = epoch;
-        Version::from_full(alloc, full)
+        let mut unpacked = self.into_unpacked(alloc);
+        unpacked.epoch = epoch;
+        Version::from_unpacked(alloc, unpacked)
     }
 
     /// The version with this pre-release part, or without one.
     ///
-    /// Takes memory only where the answer is not packed.
+    /// Allocates only if the result is not packed.
     pub fn with_pre(self, alloc: Global, pre: Option<Prerelease>) -> Result<Version, AllocError>
         ensures value { IfOk result (λ v. v ≡ record self { pre = pre }) }
         ensures memory { is_packed (record self { pre = pre }) ≡ true → IsOk result }
     {
-        let mut full = self.into_full(alloc);
-        full.pre = pre;
-        Version::from_full(alloc, full)
+        let mut unpacked = self.into_unpacked(alloc);
+        unpacked.pre = pre;
+        Version::from_unpacked(alloc, unpacked)
     }
 
     /// The version with this post-release number, or without one.
     ///
-    /// Takes memory only where the answer is not packed.
+    /// Allocates only if the result is not packed.
     #[inline(always)]
     pub fn with_post(self, alloc: Global, post: Option<u64>) -> Result<Version, AllocError>
         ensures value { IfOk result (λ v. v ≡ record self { post = post }) }
@@ -67,14 +67,14 @@ impl Version {
         if let Some(version) = self.with_number(Field::Post, post) {
             return Ok(version);
         }
-        let mut full = self.into_full(alloc);
-        full.post = post;
-        Version::from_full(alloc, full)
+        let mut unpacked = self.into_unpacked(alloc);
+        unpacked.post = post;
+        Version::from_unpacked(alloc, unpacked)
     }
 
-    /// The version with this developmental number, or without one.
+    /// The version with this dev number, or without one.
     ///
-    /// Takes memory only where the answer is not packed.
+    /// Allocates only if the result is not packed.
     #[inline(always)]
     pub fn with_dev(self, alloc: Global, dev: Option<u64>) -> Result<Version, AllocError>
         ensures value { IfOk result (λ v. v ≡ record self { dev = dev }) }
@@ -83,22 +83,22 @@ impl Version {
         if let Some(version) = self.with_number(Field::Dev, dev) {
             return Ok(version);
         }
-        let mut full = self.into_full(alloc);
-        full.dev = dev;
-        Version::from_full(alloc, full)
+        let mut unpacked = self.into_unpacked(alloc);
+        unpacked.dev = dev;
+        Version::from_unpacked(alloc, unpacked)
     }
 
     /// The version with these local segments; an empty vector is no local part.
     ///
-    /// Takes memory only where the answer is not packed.
+    /// Allocates only if the result is not packed.
     pub fn with_local(self, alloc: Global, local: Vec<LocalSegment>) -> Result<Version, AllocError>
         ensures value { IfOk result (λ v. v ≡ record self { local = map segment local.items }) }
         ensures memory { is_packed (record self { local = map segment local.items }) ≡ true → IsOk result }
     {
-        known_segments(&local);
-        let mut full = self.into_full(alloc);
-        full.local = local;
-        Version::from_full(alloc, full)
+        prove_segments_fit(&local);
+        let mut unpacked = self.into_unpacked(alloc);
+        unpacked.local = local;
+        Version::from_unpacked(alloc, unpacked)
     }
 
     // The version with a copy of these local segments.
@@ -115,7 +115,7 @@ impl Version {
 
     /// The version without its local part.
     ///
-    /// Takes memory only where the answer is not packed.
+    /// Allocates only if the result is not packed.
     pub fn without_local(self, alloc: Global) -> Result<Version, AllocError>
         ensures value { IfOk result (λ v. v ≡ record self { local = [] }) }
         ensures memory { is_packed (record self { local = [] }) ≡ true → IsOk result }
@@ -125,18 +125,18 @@ impl Version {
 
     /// The version that is the release alone, with epoch 0.
     ///
-    /// Takes memory only where the answer is not packed.
+    /// Allocates only if the result is not packed.
     pub fn only_release(&self, alloc: Global) -> Result<Version, AllocError>
-        ensures value { IfOk result (λ v. v ≡ of_release self.now.release) }
-        ensures memory { is_packed (of_release self.now.release) ≡ true → IsOk result }
+        ensures value { IfOk result (λ v. v ≡ from_release self.now.release) }
+        ensures memory { is_packed (from_release self.now.release) ≡ true → IsOk result }
     {
         Version::new(alloc, self.release())
     }
 
-    /// The version with this `min` mark, or without one. The version must have neither a pre-release nor a
-    /// developmental part, also where the mark is taken away; `any_prerelease` is the test.
+    /// The version with the sentinel `min`, or without it. The version must have neither a pre-release nor a dev
+    /// part, also to remove the sentinel; `any_prerelease` is the test.
     ///
-    /// Takes memory only where the answer is not packed.
+    /// Allocates only if the result is not packed.
     #[inline(always)]
     pub fn with_min(self, alloc: Global, min: Option<u64>) -> Result<Version, AllocError>
         requires no_pre { self.pre ≡ None }
@@ -147,15 +147,15 @@ impl Version {
         if let Some(version) = self.with_number(Field::Min, min) {
             return Ok(version);
         }
-        let mut full = self.into_full(alloc);
-        full.min = min;
-        Version::from_full(alloc, full)
+        let mut unpacked = self.into_unpacked(alloc);
+        unpacked.min = min;
+        Version::from_unpacked(alloc, unpacked)
     }
 
-    /// The version with this `max` mark, or without one. The version must have neither a post-release nor a
-    /// developmental part, also where the mark is taken away; `is_post` and `is_dev` are the tests.
+    /// The version with the sentinel `max`, or without it. The version must have neither a post-release nor a dev
+    /// part, also to remove the sentinel; `is_post` and `is_dev` are the tests.
     ///
-    /// Takes memory only where the answer is not packed.
+    /// Allocates only if the result is not packed.
     #[inline(always)]
     pub fn with_max(self, alloc: Global, max: Option<u64>) -> Result<Version, AllocError>
         requires no_post { self.post ≡ None }
@@ -166,8 +166,8 @@ impl Version {
         if let Some(version) = self.with_number(Field::Max, max) {
             return Ok(version);
         }
-        let mut full = self.into_full(alloc);
-        full.max = max;
-        Version::from_full(alloc, full)
+        let mut unpacked = self.into_unpacked(alloc);
+        unpacked.max = max;
+        Version::from_unpacked(alloc, unpacked)
     }
 }

@@ -1,42 +1,42 @@
 //! The type `Version`: how one is made, and its parts.
 ghost use Rattle.std.specs.Prelude.{◌≡◌, ◌<◌, ◌||◌, ◌↔◌, [], ◌∷◌, length, Some, None, IfOk, IfSome, IsOk, IsTrue, map, is_some, is_none, if◌then◌else◌, true, false};
 ghost use Rattle.std.specs.List.{All};
-ghost use Rattle.pep440_version.specs.Form.{IsWord, full_record, packed_record, with_field};
-ghost use Rattle.pep440_version.specs.Record.{of_parts, of_release, zero_alpha_dev, IsRecord, SegmentFits};
+ghost use Rattle.pep440_version.specs.Form.{IsWord, unpacked_record, packed_record, with_field};
+ghost use Rattle.pep440_version.specs.Record.{from_parts, from_release, zero_alpha_dev, IsRecord, SegmentFits};
 ghost use Rattle.pep440_version.specs.Segments.{segment};
 ghost use Rattle.pep440_version.specs.Word.{is_packed, word};
 ghost use Rattle.std.specs.Option.{option_copied};
 
-use crate::full::Full;
-use crate::numbers::{Release, known_numbers};
 use crate::packed::{Field, Packed, dev_in, max_in, min_in, post_in, pre_in, replace_number};
 use crate::prerelease::{Prerelease, PrereleaseKind};
+use crate::release::{Release, prove_numbers_fit};
 use crate::segment::LocalSegment;
+use crate::unpacked::Unpacked;
 use std::alloc::{AllocError, Global};
 use std::marker::Model;
 
-/// A version (PEP 440, "Public version identifiers" and "Local version identifiers"): epoch, release, and
-/// where they are there pre, post, dev, local, and the marks `min` and `max`.
+/// A version (PEP 440, "Public version identifiers" and "Local version identifiers"): epoch, release, optional pre,
+/// post, dev and local parts, and the sentinels `min` and `max`.
 ///
-/// Versions are ordered by their key, so that `1.0` equals `1.0.0`; `release` and the print tell them apart.
+/// Versions are ordered by their key, so that `1.0` equals `1.0.0`; `release` and `Display` distinguish them.
 ///
-/// A version is packed where its epoch is 0, it has no local part, at most four release numbers, the first at most
-/// 65535 and the others at most 255, and at most one of pre, post, dev, `min` and `max`, whose number is at most
-/// 2097151. It then holds its release numbers, their count and one word (`laws::word`) in place, without a box.
+/// A version is packed if its epoch is 0, it has no local part, at most four release numbers, the first at most 65535
+/// and the others at most 255, and at most one of pre, post, dev, `min` and `max`, whose number is at most 2097151.
+/// It then stores its release numbers, their count and one word (`laws::word`) inline, without a box.
 #[derive(Drop)]
 pub struct Version {
     form: Form,
 }
 
-// Packed, with its word, exactly where the record is: so the record tells the form.
+// Packed, with its word, exactly if the record is: so the record determines the form.
 #[derive(Drop)]
 enum Form {
-    InWord {
+    PackedWord {
         count: u8,
         word: u64,
         numbers: [u64; 4],
     },
-    InFull(Box<Full>),
+    UnpackedFields(Box<Unpacked>),
 }
 
 impl Model for Version {
@@ -44,33 +44,33 @@ impl Model for Version {
 
     ghost Value = { Record };
 
-    ghost use Rattle.pep440_version.specs.Form.{form_record, IsHeld};
+    ghost use Rattle.pep440_version.specs.Form.{form_record, IsVersionForm};
 
     ghost view = { λ v. form_record v.form };
 
-    ghost invariant = { λ v. IsHeld v.form };
+    ghost invariant = { λ v. IsVersionForm v.form };
 }
 
 // A number fits, since it is a `u64`.
-fn known_segment(held: &LocalSegment)
-    ensures { SegmentFits (segment held.now) }
+fn prove_segment_fits(local_segment: &LocalSegment)
+    ensures { SegmentFits (segment local_segment.now) }
 {
-    if let LocalSegment::Number(number) = held {
+    if let LocalSegment::Number(number) = local_segment {
         let _fits = *number;
     }
 }
 
-pub(crate) fn known_segments(segments: &[LocalSegment])
+pub(crate) fn prove_segments_fit(segments: &[LocalSegment])
     ensures { All SegmentFits (map segment segments.now) }
 {
     for segment in segments {
-        known_segment(segment);
+        prove_segment_fits(segment);
     }
 }
 
 /// The version `0a0.dev0`. It is not the least one: `0.dev0` is below it.
 ///
-/// Takes memory.
+/// Allocates.
 pub fn min_version(alloc: Global) -> Result<Version, AllocError>
     ensures { IfOk result (λ v. v ≡ zero_alpha_dev) }
 {
@@ -78,28 +78,28 @@ pub fn min_version(alloc: Global) -> Result<Version, AllocError>
         kind: PrereleaseKind::Alpha,
         number: 0,
     };
-    let release = Release::one(0);
-    Version::of_parts(alloc, 0, release, Some(pre), None, Some(0), Vec::new(alloc))
+    let release = Release::from_number(0);
+    Version::from_parts(alloc, 0, release, Some(pre), None, Some(0), Vec::new(alloc))
 }
 
 impl Version {
-    // The form that holds the record: every version but a clone is made here or by `of_packed`.
-    pub(crate) fn from_full(alloc: Global, full: Full) -> Result<Version, AllocError>
-        requires { IsRecord (full_record full) }
-        ensures value { IfOk result (λ v. v ≡ full_record full) }
-        ensures memory { is_packed (full_record full) ≡ true → IsOk result }
+    // Every version but a clone is made here or by `from_packed`.
+    pub(crate) fn from_unpacked(alloc: Global, unpacked: Unpacked) -> Result<Version, AllocError>
+        requires { IsRecord (unpacked_record unpacked) }
+        ensures value { IfOk result (λ v. v ≡ unpacked_record unpacked) }
+        ensures memory { is_packed (unpacked_record unpacked) ≡ true → IsOk result }
     {
-        match Packed::pack(&full) {
-            Some(packed) => Ok(Version::of_packed(packed)),
+        match Packed::pack(&unpacked) {
+            Some(packed) => Ok(Version::from_packed(packed)),
             None => Ok(Version {
-                form: Form::InFull(Box::new(alloc, full)?),
+                form: Form::UnpackedFields(Box::new(alloc, unpacked)?),
             }),
         }
     }
 
-    // The version that is packed so.
+    // The version with these packed parts.
     #[inline(always)]
-    pub(crate) fn of_packed(packed: Packed) -> Version
+    pub(crate) fn from_packed(packed: Packed) -> Version
         requires valid { IsRecord (packed_record packed.count packed.word packed.numbers) }
         requires word { IsWord packed.count packed.word packed.numbers }
         ensures { result ≡ packed_record packed.count packed.word packed.numbers }
@@ -110,7 +110,7 @@ impl Version {
             numbers,
         } = packed;
         Version {
-            form: Form::InWord {
+            form: Form::PackedWord {
                 count,
                 word,
                 numbers,
@@ -124,14 +124,14 @@ impl Version {
         ensures { IfSome result (λ v. v ≡ with_field field number self.now) }
     {
         match &self.form {
-            Form::InFull(_) => None,
-            Form::InWord {
+            Form::UnpackedFields(_) => None,
+            Form::PackedWord {
                 count,
                 word,
                 numbers,
             } => {
                 let word = replace_number(*word, field, number)?;
-                Some(Version::of_packed(Packed {
+                Some(Version::from_packed(Packed {
                     count: *count,
                     word,
                     numbers: *numbers,
@@ -140,21 +140,21 @@ impl Version {
         }
     }
 
-    // Each part, to be changed.
-    pub(crate) fn into_full(self, alloc: Global) -> Full
-        ensures value { full_record result ≡ self }
+    // All parts, unpacked.
+    pub(crate) fn into_unpacked(self, alloc: Global) -> Unpacked
+        ensures value { unpacked_record result ≡ self }
         ensures valid { IsRecord self }
     {
         let Version { form } = self;
         match form {
-            Form::InFull(full) => Box::into_inner(full),
-            Form::InWord {
+            Form::UnpackedFields(unpacked) => Box::into_inner(unpacked),
+            Form::PackedWord {
                 count,
                 word,
                 numbers,
-            } => Full {
+            } => Unpacked {
                 epoch: 0,
-                release: Release::few(numbers, usize::from(count)),
+                release: Release::from_array(numbers, usize::from(count)),
                 pre: pre_in(word),
                 post: post_in(word),
                 dev: dev_in(word),
@@ -165,8 +165,8 @@ impl Version {
         }
     }
 
-    // The version of these parts, without marks.
-    pub(crate) fn of_parts(
+    // The version of these parts, without sentinels.
+    pub(crate) fn from_parts(
         alloc: Global,
         epoch: u64,
         release: Release,
@@ -177,11 +177,11 @@ impl Version {
     ) -> Result<Version, AllocError>
         requires some { 0 < length release }
         requires fits { All SegmentFits (map segment local.items) }
-        ensures value { IfOk result (λ v. v ≡ of_parts epoch release pre post dev (map segment local.items)) }
-        ensures memory { is_packed (of_parts epoch release pre post dev (map segment local.items)) ≡ true → IsOk result }
+        ensures value { IfOk result (λ v. v ≡ from_parts epoch release pre post dev (map segment local.items)) }
+        ensures memory { is_packed (from_parts epoch release pre post dev (map segment local.items)) ≡ true → IsOk result }
     {
-        known_numbers(release.as_slice());
-        let full = Full {
+        prove_numbers_fit(release.as_slice());
+        let unpacked = Unpacked {
             epoch,
             release,
             pre,
@@ -191,29 +191,29 @@ impl Version {
             min: None,
             max: None,
         };
-        Version::from_full(alloc, full)
+        Version::from_unpacked(alloc, unpacked)
     }
 
     /// The version that is this release alone, as `1.2.3` of 1, 2 and 3 (PEP 440, "Final releases").
     /// The release must not be empty; `is_empty` is its test.
     ///
-    /// Takes memory only where the version is not packed.
+    /// Allocates only if the version is not packed.
     pub fn new(alloc: Global, release: &[u64]) -> Result<Version, AllocError>
         requires { 0 < length release.now }
-        ensures value { IfOk result (λ v. v ≡ of_release release.now) }
-        ensures memory { is_packed (of_release release.now) ≡ true → IsOk result }
+        ensures value { IfOk result (λ v. v ≡ from_release release.now) }
+        ensures memory { is_packed (from_release release.now) ≡ true → IsOk result }
     {
-        Version::from_full(alloc, Full::new(alloc, release)?)
+        Version::from_unpacked(alloc, Unpacked::new(alloc, release)?)
     }
 
-    // The word that is kept, where the version is packed.
+    // The word, if the version is packed.
     #[inline(always)]
     pub(crate) fn word(&self) -> Option<&u64>
         ensures { option_copied result ≡ (if is_packed self.now then Some (word self.now) else None) }
     {
         match &self.form {
-            Form::InWord { word, .. } => Some(word),
-            Form::InFull(_) => None,
+            Form::PackedWord { word, .. } => Some(word),
+            Form::UnpackedFields(_) => None,
         }
     }
 
@@ -222,8 +222,8 @@ impl Version {
         ensures { result ≡ self.now.epoch }
     {
         match &self.form {
-            Form::InWord { .. } => 0,
-            Form::InFull(full) => full.epoch,
+            Form::PackedWord { .. } => 0,
+            Form::UnpackedFields(unpacked) => unpacked.epoch,
         }
     }
 
@@ -235,8 +235,8 @@ impl Version {
         ensures valid { IsRecord self.now }
     {
         match &self.form {
-            Form::InWord { count, numbers, .. } => &numbers[..usize::from(*count)],
-            Form::InFull(full) => full.release.as_slice(),
+            Form::PackedWord { count, numbers, .. } => &numbers[..usize::from(*count)],
+            Form::UnpackedFields(unpacked) => unpacked.release.as_slice(),
         }
     }
 
@@ -245,8 +245,8 @@ impl Version {
         ensures { result ≡ self.now.pre }
     {
         match &self.form {
-            Form::InWord { word, .. } => pre_in(*word),
-            Form::InFull(full) => full.pre,
+            Form::PackedWord { word, .. } => pre_in(*word),
+            Form::UnpackedFields(unpacked) => unpacked.pre,
         }
     }
 
@@ -255,18 +255,18 @@ impl Version {
         ensures { result ≡ self.now.post }
     {
         match &self.form {
-            Form::InWord { word, .. } => post_in(*word),
-            Form::InFull(full) => full.post,
+            Form::PackedWord { word, .. } => post_in(*word),
+            Form::UnpackedFields(unpacked) => unpacked.post,
         }
     }
 
-    /// The number of the developmental release (PEP 440, "Developmental releases").
+    /// The number of the dev release (PEP 440, "Developmental releases").
     pub fn dev(&self) -> Option<u64>
         ensures { result ≡ self.now.dev }
     {
         match &self.form {
-            Form::InWord { word, .. } => dev_in(*word),
-            Form::InFull(full) => full.dev,
+            Form::PackedWord { word, .. } => dev_in(*word),
+            Form::UnpackedFields(unpacked) => unpacked.dev,
         }
     }
 
@@ -276,30 +276,30 @@ impl Version {
         ensures { map segment result.now ≡ self.now.local }
     {
         match &self.form {
-            Form::InWord { .. } => &[],
-            Form::InFull(full) => full.local.as_slice(),
+            Form::PackedWord { .. } => &[],
+            Form::UnpackedFields(unpacked) => unpacked.local.as_slice(),
         }
     }
 
-    /// The number of the mark `min`, which stands below every version of the same epoch and release without it.
-    /// No text gives it. Of an owned version write `Version::min(&version)`, since `version.min()` is `Ord::min`.
+    /// The number of the sentinel `min`, which is below every version of the same epoch and release without it. No
+    /// string parses to it. Of an owned version write `Version::min(&version)`, since `version.min()` is `Ord::min`.
     pub fn min(&self) -> Option<u64>
         ensures { result ≡ self.now.min }
     {
         match &self.form {
-            Form::InWord { word, .. } => min_in(*word),
-            Form::InFull(full) => full.min,
+            Form::PackedWord { word, .. } => min_in(*word),
+            Form::UnpackedFields(unpacked) => unpacked.min,
         }
     }
 
-    /// The number of the mark `max`, which stands above every post-release of the same release and pre-release.
-    /// No text gives it. Of an owned version write `Version::max(&version)`, since `version.max()` is `Ord::max`.
+    /// The number of the sentinel `max`, which is above every post-release of the same release and pre-release. No
+    /// string parses to it. Of an owned version write `Version::max(&version)`, since `version.max()` is `Ord::max`.
     pub fn max(&self) -> Option<u64>
         ensures { result ≡ self.now.max }
     {
         match &self.form {
-            Form::InWord { word, .. } => max_in(*word),
-            Form::InFull(full) => full.max,
+            Form::PackedWord { word, .. } => max_in(*word),
+            Form::UnpackedFields(unpacked) => unpacked.max,
         }
     }
 
@@ -317,7 +317,7 @@ impl Version {
         self.post().is_some()
     }
 
-    /// Whether there is a developmental part.
+    /// Whether there is a dev part.
     pub fn is_dev(&self) -> bool
         ensures { result ≡ is_some self.now.dev }
     {
@@ -331,23 +331,23 @@ impl Version {
         !self.local().is_empty()
     }
 
-    /// Whether there is a pre-release or a developmental part.
+    /// Whether there is a pre-release or a dev part.
     pub fn any_prerelease(&self) -> bool
         ensures { result ≡ (is_some self.now.pre || is_some self.now.dev) }
     {
         self.is_pre() || self.is_dev()
     }
 
-    /// Whether there is neither a pre-release nor a developmental part.
+    /// Whether there is neither a pre-release nor a dev part.
     pub fn is_stable(&self) -> bool
         ensures { result ≡ (if is_some self.now.pre || is_some self.now.dev then false else true) }
     {
         !self.any_prerelease()
     }
 
-    /// Whether the version is a release with epoch 0 and has no other part and no mark.
+    /// Whether the version is a release with epoch 0 and has no other part and no sentinel.
     pub fn is_release_only(&self) -> bool
-        ensures { IsTrue result ↔ (self.now ≡ of_release self.now.release) }
+        ensures { IsTrue result ↔ (self.now ≡ from_release self.now.release) }
     {
         self.epoch() == 0
             && self.pre().is_none()
@@ -366,16 +366,16 @@ impl Clone for Version {
 
     fn clone(&self) -> Result<Version, AllocError> {
         let form = match &self.form {
-            Form::InWord {
+            Form::PackedWord {
                 count,
                 word,
                 numbers,
-            } => Form::InWord {
+            } => Form::PackedWord {
                 count: *count,
                 word: *word,
                 numbers: *numbers,
             },
-            Form::InFull(full) => Form::InFull(full.clone()?),
+            Form::UnpackedFields(unpacked) => Form::UnpackedFields(unpacked.clone()?),
         };
         Ok(Version { form })
     }

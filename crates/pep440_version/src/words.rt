@@ -63,7 +63,7 @@ pub fn from_word(count: u8, bits: u64) -> Option<Version>
     if !is_word(count, bits) {
         return None;
     }
-    Some(Version::of_packed(Packed {
+    Some(Version::from_packed(Packed {
         count,
         word: bits,
         numbers: numbers_in(bits),

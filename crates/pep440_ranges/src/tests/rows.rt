@@ -1,7 +1,7 @@
 //! The worked rows at `u64`.
 
 use crate::Ranges;
-use crate::tests::walk::{count_of, segments_of, turned, twice_turned};
+use crate::tests::walk::{count_of, flipped_bound, segments_of, twice_turned};
 use std::alloc::{AllocError, Global};
 use std::ops::Bound;
 use std::ops::Bound::{Excluded, Included, Unbounded};
@@ -259,7 +259,12 @@ fn clones_and_walks_the_segments(rt: HostRuntime) -> Result<(), Fail> {
     assert!(rt; segments_of(rt.alloc(), &hole)?.as_slice() == wanted.as_slice());
     assert!(rt; count_of(&hole) == 2 && count_of(&Ranges::<u64>::empty(rt.alloc())) == 0);
     assert!(rt; is(&twice_turned(rt.alloc(), &hole)?, &wanted));
-    assert!(rt; is(&turned(rt.alloc(), &hole)?, &[(Included(3), Included(3))]));
+    assert!(rt;
+        is(
+            &flipped_bound(rt.alloc(), &hole)?,
+            &[(Included(3), Included(3))]
+        )
+    );
     let mut walk = hole.iter();
     assert!(rt; walk.next().is_some() && walk.next().is_some());
     assert!(rt; walk.next().is_none() && walk.next().is_none());

@@ -38,7 +38,7 @@ pub(crate) fn twice_turned(alloc: Global, range: &Ranges<u64>) -> Result<Ranges<
 }
 
 /// The same at each type whose clone is always the same value.
-pub(crate) fn turned<V: Ord + Clone>(
+pub(crate) fn flipped_bound<V: Ord + Clone>(
     alloc: Global,
     range: &Ranges<V>,
 ) -> Result<Ranges<V>, AllocError>

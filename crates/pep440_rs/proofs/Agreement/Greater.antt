@@ -15,12 +15,12 @@ use Rattle.pep440_rs.specs.Matching.{any_prerelease, matches}
 use Rattle.pep440_rs.specs.declared.specifier.operator.Operator.TheVariants.{GreaterThan}
 use Rattle.pep440_ranges.specs.Segments.{contains}
 use Rattle.pep440_version.specs.Key.{base_cmp, suffix_cmp, record_cmp}
-use Rattle.pep440_version.specs.Record.{Record, of_parts}
+use Rattle.pep440_version.specs.Record.{Record, from_parts}
 use Rattle.pep440_version.specs.declared.prerelease.Prerelease.{Prerelease}
 
 -- a version by its parts
 abbrev pub parts : ℕ → List ℕ → Option Prerelease → Option ℕ → Option ℕ → Record
-parts epoch release pre post dev = of_parts epoch release pre post dev []
+parts epoch release pre post dev = from_parts epoch release pre post dev []
 
 -- ---- tables over the base B, the order X to the bound and the order Y to s
 
@@ -69,8 +69,8 @@ by_base s v =
     ∙ ap (λ b. is_gt (record_cmp (plain v) (plain s)) && not (b && late s.post v)) (sym (same_base (plain s) (plain v)))
 
 -- not below, and above, over the parts of the order
-from_parts : (a v : Record) → contains record_cmp (from (plain a)) (plain v) ≡ not (is_lt (ordering_then (base_cmp (plain v) (plain a)) (ordering_then (suffix_cmp (plain v) (plain a)) ord.Equal)))
-from_parts a v = only_start (is_le (record_cmp (plain a) (plain v))) ∙ turn_le (plain a) (plain v) ∙ ap (λ o. not (is_lt o)) (by_parts (plain v) (plain a))
+plain_from_parts : (a v : Record) → contains record_cmp (from (plain a)) (plain v) ≡ not (is_lt (ordering_then (base_cmp (plain v) (plain a)) (ordering_then (suffix_cmp (plain v) (plain a)) ord.Equal)))
+plain_from_parts a v = only_start (is_le (record_cmp (plain a) (plain v))) ∙ turn_le (plain a) (plain v) ∙ ap (λ o. not (is_lt o)) (by_parts (plain v) (plain a))
 
 above_parts : (a v : Record) →
     contains record_cmp ((Excluded (record (plain a) { max = Some 0 }), Unbounded) ∷ []) (plain v)
@@ -85,7 +85,7 @@ from_dev : (e : ℕ) (r : List ℕ) (pre : Option Prerelease) (post : Option ℕ
     next_number d ≡ Some n → (base_cmp (plain v) (parts e r pre post (Some d)) ≡ ord.Equal → late post v ≡ false) →
     contains record_cmp (from (parts e r pre post (Some n))) (plain v) ≡ matches GreaterThan (parts e r pre post (Some d)) (plain v)
 from_dev e r pre post d n v h q =
-    from_parts (parts e r pre post (Some n)) v
+    plain_from_parts (parts e r pre post (Some n)) v
     ∙ from_table (base_cmp (plain v) (parts e r pre post (Some d))) (suffix_cmp (plain v) (parts e r pre post (Some n))) (suffix_cmp (plain v) (parts e r pre post (Some d))) _
     q (λ _. above_dev (parts e r pre post None) v d n (next_is d n h))
     ∙ by_base (parts e r pre post (Some d)) v
@@ -101,7 +101,7 @@ never_and false = refl
 from_post : (e : ℕ) (r : List ℕ) (pre : Option Prerelease) (p n : ℕ) (v : Record) → next_number p ≡ Some n →
     contains record_cmp (from (parts e r pre (Some n) (Some 0))) (plain v) ≡ matches GreaterThan (parts e r pre (Some p) None) (plain v)
 from_post e r pre p n v h =
-    from_parts (parts e r pre (Some n) (Some 0)) v
+    plain_from_parts (parts e r pre (Some n) (Some 0)) v
     ∙ from_table (base_cmp (plain v) (parts e r pre (Some p) None)) (suffix_cmp (plain v) (parts e r pre (Some n) (Some 0))) (suffix_cmp (plain v) (parts e r pre (Some p) None)) _
     (λ _. never_and (is_some v.post)) (λ _. above_post (parts e r pre None None) v p n (next_is p n h))
     ∙ by_base (parts e r pre (Some p) None) v
@@ -168,7 +168,7 @@ greater_around e r pre (Some p) None v range h =
     rw m.2 (λ k. from_post e r pre p m.0 v m.1 ∙ k)
 greater_around e r pre None (Some d) v range h =
     let m = mapped _ (next_number d) range h in
-    rw m.2 (λ k. from_parts (parts e r pre None (Some m.0)) v
+    rw m.2 (λ k. plain_from_parts (parts e r pre None (Some m.0)) v
     ∙ around_table (base_cmp (plain v) (parts e r pre None (Some d))) (suffix_cmp (plain v) (parts e r pre None (Some m.0))) (suffix_cmp (plain v) (parts e r pre None (Some d))) _
     (above_dev (parts e r pre None None) v d m.0 (next_is d m.0 m.1)) (by_base (parts e r pre None (Some d)) v ∙ k))
 greater_around e r pre None None v range h = rw (some_is _ range h) (λ k. go (is_some v.post) refl (by_base (parts e r pre None None) v ∙ k) ∙ k)

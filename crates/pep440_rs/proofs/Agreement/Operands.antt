@@ -7,8 +7,8 @@ use Rattle.std.specs.Prelude.{IfOk}
 use Rattle.std.specs.Str.{encode_utf8_all}
 use Rattle.pep440_version.specs.Grammar.{Derives}
 use Rattle.pep440_version.specs.Patterns.{DerivesPattern}
-use Rattle.pep440_version.specs.Record.{Record, Segment}
-use Rattle.pep440_rs.specs.Agreement.{HasOperand, IsOperand, IsPlain}
+use Rattle.pep440_version.specs.Record.{Record, LocalSegmentValue}
+use Rattle.pep440_rs.specs.Agreement.{HasOperand, IsOperand, HasNoLocalOrSentinel}
 use Rattle.pep440_rs.specs.Build.{BuildRefusal, CompatibleRelease, OperatorLocalCombo, built, built_pattern, is_compatible}
 use Rattle.pep440_rs.specs.ListGrammar.{DerivesList, pieces}
 use Rattle.pep440_rs.specs.Matching.{has_local}
@@ -31,11 +31,11 @@ passed false allowed b x y v s e h = refl
 no_local : (o : Operator) (r : Record) (s : Spec) → allows_local o ≡ false → built o r ≡ Ok s → has_local r ≡ false
 no_local o r s none is = passed (has_local r) (allows_local o) (is_compatible o && nat_lt (length r.release) 2) (OperatorLocalCombo o r) CompatibleRelease _ s is none
 
-no_segment : (local : List Segment) → not (length local == 0) ≡ false → local ≡ []
+no_segment : (local : List LocalSegmentValue) → not (length local == 0) ≡ false → local ≡ []
 no_segment [] h = refl
 no_segment (x ∷ local) h = grind (arith, nat_tests)
 
-plain : (text : List ℕ) (r : Record) → Derives text r → has_local r ≡ false → IsPlain r
+plain : (text : List ℕ) (r : Record) → Derives text r → has_local r ≡ false → HasNoLocalOrSentinel r
 plain text r h none = record { local = no_segment r.local none; min = h.no_min; max = h.no_max }
 
 -- ---- of an operator and a pattern

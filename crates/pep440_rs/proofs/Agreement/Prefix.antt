@@ -5,7 +5,7 @@ use Rattle.std.proofs.lemmas.Bool.Decides.{nat_tests}
 use Rattle.std.specs.Ordering.{nat_cmp, ordering_then, is_lt}
 use Rattle.std.specs.declared.cmp.Ordering.{Ordering}
 use Rattle.std.specs.declared.cmp.Ordering.TheVariants as ord
-use Rattle.pep440_rs.specs.Bounds.{raised, next_number}
+use Rattle.pep440_rs.specs.Bounds.{raise_last, next_number}
 use Rattle.pep440_rs.specs.Matching.{begins_with, without_last}
 use Rattle.pep440_version.specs.Key.{release_cmp}
 
@@ -27,14 +27,14 @@ next_is n m e = go (n == 18446744073709551615) e
 
 -- raised is the release with its last number raised
 abbrev pub IsRaised : List ℕ → List ℕ → Type 0
-IsRaised [] raised = ⊥
-IsRaised (x ∷ []) raised = raised ≡ (x + 1) ∷ []
-IsRaised (x ∷ y ∷ ys) raised = (rest : List ℕ) × IsRaised (y ∷ ys) rest × (raised ≡ x ∷ rest)
+IsRaised [] raise_last = ⊥
+IsRaised (x ∷ []) raise_last = raise_last ≡ (x + 1) ∷ []
+IsRaised (x ∷ y ∷ ys) raise_last = (rest : List ℕ) × IsRaised (y ∷ ys) rest × (raise_last ≡ x ∷ rest)
 
-pub raised_is : (ps qs : List ℕ) → raised ps ≡ Some qs → IsRaised ps qs
+pub raised_is : (ps qs : List ℕ) → raise_last ps ≡ Some qs → IsRaised ps qs
 raised_is [] qs e = cc
 raised_is (x ∷ []) qs e = let m = mapped (λ n. n ∷ []) (next_number x) qs e in m.2 ∙ ap (λ n. n ∷ []) (next_is x m.0 m.1)
-raised_is (x ∷ y ∷ ys) qs e = let m = mapped (λ rest. x ∷ rest) (raised (y ∷ ys)) qs e in (m.0, raised_is (y ∷ ys) m.0 m.1, m.2)
+raised_is (x ∷ y ∷ ys) qs e = let m = mapped (λ rest. x ∷ rest) (raise_last (y ∷ ys)) qs e in (m.0, raised_is (y ∷ ys) m.0 m.1, m.2)
 
 -- ---- prefixes
 
@@ -66,14 +66,14 @@ prefix_bounds (x ∷ y ∷ ys) qs [] e =
 prefix_bounds (x ∷ y ∷ ys) qs (r ∷ rs) e =
     rw e.2 (step_more r x (release_cmp rs (y ∷ ys)) (release_cmp rs e.0) ∙ ap (λ b. (r == x) && b) (prefix_bounds (y ∷ ys) e.0 rs e.1))
 
-one_front : (o t u : Ordering) → (is_lt t ≡ true → is_lt u ≡ true) → is_lt (ordering_then o t) ≡ true → is_lt (ordering_then o u) ≡ true
-one_front ord.Less t u k h = refl
-one_front ord.Equal t u k h = k h
-one_front ord.Greater t u k h = h
+one_prefix : (o t u : Ordering) → (is_lt t ≡ true → is_lt u ≡ true) → is_lt (ordering_then o t) ≡ true → is_lt (ordering_then o u) ≡ true
+one_prefix ord.Less t u k h = refl
+one_prefix ord.Equal t u k h = k h
+one_prefix ord.Greater t u k h = h
 
 -- what is below a beginning is below the whole
-pub below_front : (xs ys : List ℕ) → is_lt (release_cmp xs (without_last ys)) ≡ true → is_lt (release_cmp xs ys) ≡ true
-below_front xs [] h = h
-below_front xs (y ∷ []) h = absurd (true≢false (sym h ∙ never_less xs))
-below_front [] (y ∷ z ∷ ys) h = one_front (nat_cmp 0 y) _ _ (below_front [] (z ∷ ys)) h
-below_front (x ∷ xs) (y ∷ z ∷ ys) h = one_front (nat_cmp x y) _ _ (below_front xs (z ∷ ys)) h
+pub below_prefix : (xs ys : List ℕ) → is_lt (release_cmp xs (without_last ys)) ≡ true → is_lt (release_cmp xs ys) ≡ true
+below_prefix xs [] h = h
+below_prefix xs (y ∷ []) h = absurd (true≢false (sym h ∙ never_less xs))
+below_prefix [] (y ∷ z ∷ ys) h = one_prefix (nat_cmp 0 y) _ _ (below_prefix [] (z ∷ ys)) h
+below_prefix (x ∷ xs) (y ∷ z ∷ ys) h = one_prefix (nat_cmp x y) _ _ (below_prefix xs (z ∷ ys)) h

@@ -8,7 +8,7 @@ use Rattle.pep440_rs.proofs.Agreement.Less.{less_agrees, less_within}
 use Rattle.pep440_rs.proofs.Agreement.VersionOrder.{plain, is_plain, turn_le, ge_not_lt, only_start, only_end}
 use Rattle.pep440_rs.proofs.Agreement.Prefix.{some_is}
 use Rattle.pep440_rs.proofs.Agreement.Star.{star_agrees, not_star_agrees, tilde_agrees}
-use Rattle.pep440_rs.specs.Agreement.{HasOperand, IsCandidate, IsPlain, IsOperand, IsSuffixComparable, Agrees, HoldsOnlyMatches, HoldsAllMatches}
+use Rattle.pep440_rs.specs.Agreement.{HasOperand, IsCandidate, HasNoLocalOrSentinel, IsOperand, IsSuffixComparable, Agrees, HoldsOnlyMatches, HoldsAllMatches}
 use Rattle.pep440_rs.specs.Bounds.{Segments, range_of, alone, greater}
 use Rattle.pep440_rs.specs.Matching.{matches, candidate, has_local}
 use Rattle.pep440_rs.specs.Specifiers.{Spec}
@@ -53,10 +53,10 @@ abbrev For : Operator → Record → Record → Type 0
 For op s v = IsSuffixComparable op s v → (range : Segments) → range_of op s ≡ Some range → contains record_cmp range v ≡ matches op s v
 
 -- it is enough to show it of versions by their parts
-taken : (op : Operator) (s s' v : Record) → s ≡ s' → IsPlain v → For op s' (plain v) → For op s v
+taken : (op : Operator) (s s' v : Record) → s ≡ s' → HasNoLocalOrSentinel v → For op s' (plain v) → For op s v
 taken op s s' v p q h = subst (λ t. For op t v) (sym p) (subst (For op s') (sym (is_plain v q)) h)
 
-each : (op : Operator) (s v : Record) → IsOperand op s → IsPlain v → For op s v
+each : (op : Operator) (s v : Record) → IsOperand op s → HasNoLocalOrSentinel v → For op s v
 each Equal s v p q = taken Equal s s v refl q (λ c range h. rw (some_is _ range h) (alone_holds s (plain v) ∙ ap (λ w. is_eq (record_cmp w s)) (sym (own s v))))
 each ExactEqual s v p q = absurd p
 each NotEqual s v p q = taken NotEqual s s v refl q (λ c range h. rw (some_is _ range h) (others_hold s (plain v) ∙ ap (λ w. not (is_eq (record_cmp w s))) (sym (own s v))))
@@ -80,20 +80,20 @@ Within op s v = (range : Segments) → range_of op s ≡ Some range → IsTrue (
 abbrev Around : Operator → Record → Record → Type 0
 Around op s v = (range : Segments) → range_of op s ≡ Some range → IsTrue (matches op s v) → IsTrue (contains record_cmp range v)
 
-less_only : (s v : Record) → IsPlain s → IsPlain v → Within LessThan s v
+less_only : (s v : Record) → HasNoLocalOrSentinel s → HasNoLocalOrSentinel v → Within LessThan s v
 less_only s v p q =
     subst (λ t. Within LessThan t v) (sym (is_plain s p)) (subst (Within LessThan (plain s)) (sym (is_plain v q)) (λ range h. rw (some_is _ range h) (less_within s v)))
 
-greater_all : (s v : Record) → IsPlain s → IsPlain v → Around GreaterThan s v
+greater_all : (s v : Record) → HasNoLocalOrSentinel s → HasNoLocalOrSentinel v → Around GreaterThan s v
 greater_all s v p q =
     subst (λ t. Around GreaterThan t v) (sym (is_plain s p)) (subst (Around GreaterThan (plain s)) (sym (is_plain v q)) (greater_around s.epoch s.release s.pre s.post s.dev v))
 
 -- the version of a `<` and of a `>` is plain
-less_plain : (op : Operator) (s : Record) → op ≡ LessThan → (op ≢ ExactEqual → IsOperand op s) → IsPlain s
-less_plain op s less = subst (λ o. (o ≢ ExactEqual → IsOperand o s) → IsPlain s) (sym less) (λ given. given (λ e. cc e))
+less_plain : (op : Operator) (s : Record) → op ≡ LessThan → (op ≢ ExactEqual → IsOperand op s) → HasNoLocalOrSentinel s
+less_plain op s less = subst (λ o. (o ≢ ExactEqual → IsOperand o s) → HasNoLocalOrSentinel s) (sym less) (λ given. given (λ e. cc e))
 
-greater_plain : (op : Operator) (s : Record) → op ≡ GreaterThan → (op ≢ ExactEqual → IsOperand op s) → IsPlain s
-greater_plain op s greater = subst (λ o. (o ≢ ExactEqual → IsOperand o s) → IsPlain s) (sym greater) (λ given. given (λ e. cc e))
+greater_plain : (op : Operator) (s : Record) → op ≡ GreaterThan → (op ≢ ExactEqual → IsOperand op s) → HasNoLocalOrSentinel s
+greater_plain op s greater = subst (λ o. (o ≢ ExactEqual → IsOperand o s) → HasNoLocalOrSentinel s) (sym greater) (λ given. given (λ e. cc e))
 
 pub holds_only_matches : (s : Spec) (range : Segments) → range_of s.operator s.version ≡ Some range → HasOperand s → HoldsOnlyMatches s range
 holds_only_matches s range h given less v q = subst (λ o. Within o s.version v) (sym less) (less_only s.version v (less_plain s.operator s.version less given) q) range h

@@ -4,11 +4,11 @@ use Rattle.std.proofs.lemmas.Bool.Decides.{nat_tests}
 use Rattle.std.specs.Ordering.{nat_cmp, ordering_then, ordering_reverse, is_lt, is_le, is_gt, is_ge, is_eq}
 use Rattle.std.specs.declared.cmp.Ordering.{Ordering}
 use Rattle.std.specs.declared.cmp.Ordering.TheVariants as ord
-use Rattle.pep440_rs.specs.Agreement.{IsPlain}
+use Rattle.pep440_rs.specs.Agreement.{HasNoLocalOrSentinel}
 use Rattle.pep440_rs.specs.Matching.{same_release}
 use Rattle.pep440_version.specs.Key.{base_cmp, suffix_cmp, key, record_cmp, release_cmp, stage_cmp, post_cmp, dev_cmp, local_cmp}
 use Rattle.pep440_version.specs.KeyLaws.{record_total}
-use Rattle.pep440_version.specs.Record.{Record, of_parts}
+use Rattle.pep440_version.specs.Record.{Record, from_parts}
 
 -- ---- by parts
 
@@ -36,9 +36,9 @@ same_base s v = go v.epoch s.epoch (release_cmp v.release s.release)
 -- ---- versions without local part and marks
 
 abbrev pub plain : Record → Record
-plain v = of_parts v.epoch v.release v.pre v.post v.dev []
+plain v = from_parts v.epoch v.release v.pre v.post v.dev []
 
-pub is_plain : (v : Record) → IsPlain v → v ≡ plain v
+pub is_plain : (v : Record) → HasNoLocalOrSentinel v → v ≡ plain v
 is_plain v p i = record v { local = p.local i; min = p.min i; max = p.max i }
 
 -- ---- turned comparisons

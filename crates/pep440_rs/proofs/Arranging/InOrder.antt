@@ -33,22 +33,22 @@ told_first LessThanEqual s v rest h = λ e. cc e
 told_first GreaterThan s v rest h = λ e. cc e
 told_first GreaterThanEqual s v rest h = λ e. cc e
 
-cut : (items : List Spec) (i : ℕ) (m : Spec) → i < length items → m ≡ get_or items i m → drop i items ≡ m ∷ drop (i + 1) items
-cut items i m inside is =
+decomposition : (items : List Spec) (i : ℕ) (m : Spec) → i < length items → m ≡ get_or items i m → drop i items ≡ m ∷ drop (i + 1) items
+decomposition items i m inside is =
     let at : suc i ≡ i + 1 = omega arith in
     drop-cons items i m inside ∙ ap (λ n. get_or items i m ∷ drop n items) at ∙ ap (λ x. x ∷ drop (i + 1) items) (sym is)
 
 -- the same at a place of the list
 pub told_step : (items : List Spec) (i : ℕ) (m : Spec) (v : Record) → i < length items → m ≡ get_or items i m → matches m.operator m.version v ≡ true →
     IsTrue (is_told_before_exact (drop i items) v) → IsTrue (is_told_before_exact (drop (i + 1) items) v)
-told_step items i m v inside is e h = told_later m (drop (i + 1) items) v e (subst (λ l. IsTrue (is_told_before_exact l v)) (cut items i m inside is) h)
+told_step items i m v inside is e h = told_later m (drop (i + 1) items) v e (subst (λ l. IsTrue (is_told_before_exact l v)) (decomposition items i m inside is) h)
 
 pub told_open : (items : List Spec) (i : ℕ) (m : Spec) (v : Record) → i < length items → m ≡ get_or items i m → IsTrue (is_told_before_exact (drop i items) v) → m.operator ≢ ExactEqual
-told_open items i m v inside is h = told_first m.operator m.version v (drop (i + 1) items) (subst (λ l. IsTrue (is_told_before_exact l v)) (cut items i m inside is) h)
+told_open items i m v inside is h = told_first m.operator m.version v (drop (i + 1) items) (subst (λ l. IsTrue (is_told_before_exact l v)) (decomposition items i m inside is) h)
 
 -- the other members decide where this one contains v
 pub same_step : (items : List Spec) (i : ℕ) (m : Spec) (v : Record) → i < length items → m ≡ get_or items i m → matches m.operator m.version v ≡ true → list_matches (drop i items) v ≡ list_matches (drop (i + 1) items) v
-same_step items i m v inside is e = ap (λ l. list_matches l v) (cut items i m inside is) ∙ ap (λ b. b && list_matches (drop (i + 1) items) v) e
+same_step items i m v inside is e = ap (λ l. list_matches l v) (decomposition items i m inside is) ∙ ap (λ b. b && list_matches (drop (i + 1) items) v) e
 
 pub un_not : (b : Bool) → not b ≡ false → b ≡ true
 un_not true h = refl

@@ -11,7 +11,7 @@ use Rattle.std.specs.declared.ops.Bound.{Bound}
 use Rattle.std.specs.Cmp.{IsTotalOrder}
 use Rattle.pep440_ranges.specs.Bounds.{starts_before, ends_before}
 use Rattle.pep440_ranges.specs.Segments.{Segment}
-use Rattle.pep440_ranges.specs.Intersection.{is_valid_segment, overlap, overlaps_of, overlaps}
+use Rattle.pep440_ranges.specs.Intersection.{is_valid_segment, overlap, overlaps_with, overlaps}
 use Rattle.pep440_ranges.proofs.Places.{start_place, end_place, valid_is, starts_is, ends_is, le_le, le_lt, lt_le, lt_lt}
 use Rattle.pep440_ranges.proofs.Overlap.{greater_left, greater_right, lesser_left, lesser_right}
 
@@ -76,7 +76,7 @@ module _ {V : Type 0} {cmp : V → V → Ordering} (o : IsTotalOrder cmp) where
 
   -- the overlaps of s and t with each of us, where s and t overlap
   abbrev shared : Segment V → Segment V → List (Segment V) → List (Segment V)
-  shared s t us = cond (is_valid_segment cmp (overlap cmp s t)) (overlaps_of cmp (overlap cmp s t) us) []
+  shared s t us = cond (is_valid_segment cmp (overlap cmp s t)) (overlaps_with cmp (overlap cmp s t) us) []
 
   -- one more of us
   one_more : (b c d : Bool) (x y : Segment V) (xs ys : List (Segment V)) → x ≡ y → (d ≡ true → b ≡ true) → (d ≡ true → c ≡ true) → cond b xs [] ≡ ys →
@@ -93,41 +93,41 @@ module _ {V : Type 0} {cmp : V → V → Ordering} (o : IsTotalOrder cmp) where
   either_way true xs = refl
   either_way false xs = refl
 
-  row_of : (s : Segment V) (b : Bool) (t : Segment V) (ts : List (Segment V)) → overlaps_of cmp s (cond b (t ∷ ts) ts) ≡ cond b (cond (is_valid_segment cmp (overlap cmp s t)) (overlap cmp s t ∷ overlaps_of cmp s ts) (overlaps_of cmp s ts)) (overlaps_of cmp s ts)
+  row_of : (s : Segment V) (b : Bool) (t : Segment V) (ts : List (Segment V)) → overlaps_with cmp s (cond b (t ∷ ts) ts) ≡ cond b (cond (is_valid_segment cmp (overlap cmp s t)) (overlap cmp s t ∷ overlaps_with cmp s ts) (overlaps_with cmp s ts)) (overlaps_with cmp s ts)
   row_of s true t ts = refl
   row_of s false t ts = refl
 
-  row : (s t : Segment V) (us : List (Segment V)) → shared s t us ≡ overlaps_of cmp s (overlaps_of cmp t us)
+  row : (s t : Segment V) (us : List (Segment V)) → shared s t us ≡ overlaps_with cmp s (overlaps_with cmp t us)
   row s t [] = either_way (is_valid_segment cmp (overlap cmp s t)) []
   row s t (u ∷ us) =
       let same = overlap_assoc s t u in
       let valid : is_valid_segment cmp (overlap cmp (overlap cmp s t) u) ≡ is_valid_segment cmp (overlap cmp s (overlap cmp t u)) = ap (is_valid_segment cmp) same in
       one_more (is_valid_segment cmp (overlap cmp s t)) (is_valid_segment cmp (overlap cmp t u)) (is_valid_segment cmp (overlap cmp (overlap cmp s t) u))
-      (overlap cmp (overlap cmp s t) u) (overlap cmp s (overlap cmp t u)) (overlaps_of cmp (overlap cmp s t) us) (overlaps_of cmp s (overlaps_of cmp t us))
+      (overlap cmp (overlap cmp s t) u) (overlap cmp s (overlap cmp t u)) (overlaps_with cmp (overlap cmp s t) us) (overlaps_with cmp s (overlaps_with cmp t us))
       same (valid_left (overlap cmp s t) u) (λ h. valid_right s (overlap cmp t u) (sym valid ∙ h)) (row s t us)
-      ∙ ap (λ d. cond (is_valid_segment cmp (overlap cmp t u)) (cond d (overlap cmp s (overlap cmp t u) ∷ overlaps_of cmp s (overlaps_of cmp t us)) (overlaps_of cmp s (overlaps_of cmp t us))) (overlaps_of cmp s (overlaps_of cmp t us))) valid
-      ∙ sym (row_of s (is_valid_segment cmp (overlap cmp t u)) (overlap cmp t u) (overlaps_of cmp t us))
+      ∙ ap (λ d. cond (is_valid_segment cmp (overlap cmp t u)) (cond d (overlap cmp s (overlap cmp t u) ∷ overlaps_with cmp s (overlaps_with cmp t us)) (overlaps_with cmp s (overlaps_with cmp t us))) (overlaps_with cmp s (overlaps_with cmp t us))) valid
+      ∙ sym (row_of s (is_valid_segment cmp (overlap cmp t u)) (overlap cmp t u) (overlaps_with cmp t us))
 
   -- ---- lists
 
-  overlaps_of-append : (s : Segment V) (ts us : List (Segment V)) → overlaps_of cmp s (ts ++ us) ≡ overlaps_of cmp s ts ++ overlaps_of cmp s us
+  overlaps_of-append : (s : Segment V) (ts us : List (Segment V)) → overlaps_with cmp s (ts ++ us) ≡ overlaps_with cmp s ts ++ overlaps_with cmp s us
   overlaps_of-append s ts us = ap (filter (is_valid_segment cmp)) (map-append (overlap cmp s) ts us) ∙ filter-append (is_valid_segment cmp) (map (overlap cmp s) ts) (map (overlap cmp s) us)
 
-  one_row : (b : Bool) (m : Segment V) (ms us : List (Segment V)) → overlaps cmp (cond b (m ∷ ms) ms) us ≡ cond b (overlaps_of cmp m us) [] ++ overlaps cmp ms us
+  one_row : (b : Bool) (m : Segment V) (ms us : List (Segment V)) → overlaps cmp (cond b (m ∷ ms) ms) us ≡ cond b (overlaps_with cmp m us) [] ++ overlaps cmp ms us
   one_row true m ms us = refl
   one_row false m ms us = refl
 
-  rows : (s : Segment V) (ts us : List (Segment V)) → overlaps cmp (overlaps_of cmp s ts) us ≡ overlaps_of cmp s (overlaps cmp ts us)
+  rows : (s : Segment V) (ts us : List (Segment V)) → overlaps cmp (overlaps_with cmp s ts) us ≡ overlaps_with cmp s (overlaps cmp ts us)
   rows s [] us = refl
   rows s (t ∷ ts) us =
-      one_row (is_valid_segment cmp (overlap cmp s t)) (overlap cmp s t) (overlaps_of cmp s ts) us
-      ∙ ap (λ x. x ++ overlaps cmp (overlaps_of cmp s ts) us) (row s t us)
-      ∙ ap (λ x. overlaps_of cmp s (overlaps_of cmp t us) ++ x) (rows s ts us)
-      ∙ sym (overlaps_of-append s (overlaps_of cmp t us) (overlaps cmp ts us))
+      one_row (is_valid_segment cmp (overlap cmp s t)) (overlap cmp s t) (overlaps_with cmp s ts) us
+      ∙ ap (λ x. x ++ overlaps cmp (overlaps_with cmp s ts) us) (row s t us)
+      ∙ ap (λ x. overlaps_with cmp s (overlaps_with cmp t us) ++ x) (rows s ts us)
+      ∙ sym (overlaps_of-append s (overlaps_with cmp t us) (overlaps cmp ts us))
 
   pub overlaps_assoc : (ss ts us : List (Segment V)) → overlaps cmp (overlaps cmp ss ts) us ≡ overlaps cmp ss (overlaps cmp ts us)
   overlaps_assoc [] ts us = refl
   overlaps_assoc (s ∷ ss) ts us =
-      flat_map-append (λ m. overlaps_of cmp m us) (overlaps_of cmp s ts) (overlaps cmp ss ts)
+      flat_map-append (λ m. overlaps_with cmp m us) (overlaps_with cmp s ts) (overlaps cmp ss ts)
       ∙ ap (λ x. x ++ overlaps cmp (overlaps cmp ss ts) us) (rows s ts us)
-      ∙ ap (λ x. overlaps_of cmp s (overlaps cmp ts us) ++ x) (overlaps_assoc ss ts us)
+      ∙ ap (λ x. overlaps_with cmp s (overlaps cmp ts us) ++ x) (overlaps_assoc ss ts us)

@@ -6,7 +6,7 @@ use Rattle.std.specs.declared.ops.Bound.{Bound}
 use Rattle.std.specs.declared.ops.Bound.TheVariants.{Included, Excluded, Unbounded}
 use Rattle.pep440_rs.proofs.Agreement.Prefix.{mapped, some_is}
 use Rattle.pep440_rs.specs.Agreement.{GivesRanges, GivesFew, is_exclusion}
-use Rattle.pep440_rs.specs.Bounds.{Segments, range_of, release_range_of, release_up_to, alone, less, greater, compatible_end, star, star_end, next_number, raised, from_to}
+use Rattle.pep440_rs.specs.Bounds.{Segments, range_of, release_range_of, release_up_to, alone, less, greater, compatible_end, star, star_end, next_number, raise_last, from_to}
 use Rattle.pep440_rs.specs.Matching.{any_prerelease, without_last}
 use Rattle.pep440_rs.specs.declared.specifier.operator.Operator.{Operator}
 use Rattle.pep440_rs.specs.declared.specifier.operator.Operator.TheVariants.{Equal, EqualStar, ExactEqual, NotEqual, NotEqualStar, TildeEqual, LessThan, LessThanEqual, GreaterThan, GreaterThanEqual}
@@ -16,7 +16,7 @@ use Rattle.pep440_ranges.specs.Complement.{gaps}
 use Rattle.pep440_ranges.specs.Segments.{Segment, IsRange, one_segment}
 use Rattle.pep440_version.specs.Key.{record_cmp}
 use Rattle.pep440_version.specs.KeyLaws.{record_total}
-use Rattle.pep440_version.specs.Record.{Record, of_release}
+use Rattle.pep440_version.specs.Record.{Record, from_release}
 
 -- a range of at most n segments
 pub record IsRangeOf (n : ℕ) (range : Segments) : Type 0 where
@@ -55,7 +55,7 @@ star_one : (s : Record) (range : Segments) → star s ≡ Some range → IsRange
 star_one s range h = let m = mapped _ (star_end s s.post s.pre) range h in rw m.2 (between (record s { dev = Some 0 }) m.0)
 
 release_one : (release numbers : List ℕ) (range : Segments) → release_up_to release numbers ≡ Some range → IsRangeOf 1 range
-release_one release numbers range h = let m = mapped _ (raised numbers) range h in rw m.2 (between (of_release release) (of_release m.0))
+release_one release numbers range h = let m = mapped _ (raise_last numbers) range h in rw m.2 (between (from_release release) (from_release m.0))
 
 abbrev limit : Operator → ℕ
 limit NotEqual = 2
@@ -75,9 +75,9 @@ whole EqualStar s range h = star_one s range h
 whole NotEqualStar s range h = let m = mapped gaps (star s) range h in rw m.2 (others m.0 (star_one s m.0 m.1))
 
 by_release : (op : Operator) (s : Record) (range : Segments) → release_range_of op s ≡ Some range → IsRangeOf (limit op) range
-by_release Equal s range h = rw (some_is _ range h) (alone_one (of_release s.release))
-by_release ExactEqual s range h = rw (some_is _ range h) (alone_one (of_release s.release))
-by_release NotEqual s range h = rw (some_is _ range h) (others (alone (of_release s.release)) (alone_one (of_release s.release)))
+by_release Equal s range h = rw (some_is _ range h) (alone_one (from_release s.release))
+by_release ExactEqual s range h = rw (some_is _ range h) (alone_one (from_release s.release))
+by_release NotEqual s range h = rw (some_is _ range h) (others (alone (from_release s.release)) (alone_one (from_release s.release)))
 by_release GreaterThanEqual s range h = rw (some_is _ range h) (record { apart = (refl, tt); few = omega arith })
 by_release LessThanEqual s range h = rw (some_is _ range h) (record { apart = (refl, tt); few = omega arith })
 by_release TildeEqual s range h = release_one s.release (without_last s.release) range h

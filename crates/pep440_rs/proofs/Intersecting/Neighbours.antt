@@ -26,8 +26,8 @@ met_pair now x y both pairs rest e =
 -- two ranges of those that are left make one pair
 pub fewer : {X : Type 0} (pairs new rest later others : List X) (x first second : X) (all : ℕ) → rest ≡ first ∷ later → later ≡ second ∷ others → new ≡ pairs ++ x ∷ []
     → length pairs + length pairs + length rest ≤ all + (1 - length rest) → length new + length new + length others ≤ all + (1 - length others)
-fewer pairs new rest later others x first second all cut again is few =
-    let left : length rest ≡ length others + 1 + 1 = ap length (cut ∙ ap (λ l. first ∷ l) again) ∙ count (length others) in
+fewer pairs new rest later others x first second all decomposition again is few =
+    let left : length rest ≡ length others + 1 + 1 = ap length (decomposition ∙ ap (λ l. first ∷ l) again) ∙ count (length others) in
     let made : length new ≡ length pairs + 1 = ap length is ∙ length_push pairs x in
     omega (arith, left, made, few)
   where
@@ -37,8 +37,8 @@ fewer pairs new rest later others x first second all cut again is few =
 -- the last range makes one by itself
 pub last_alone : {X : Type 0} (pairs new rest later : List X) (x first : X) (all : ℕ) → rest ≡ first ∷ later → length later ≡ 0 → new ≡ pairs ++ x ∷ []
     → length pairs + length pairs + length rest ≤ all + (1 - length rest) → length new + length new + length later ≤ all + (1 - length later)
-last_alone pairs new rest later x first all cut none is few =
-    let left : length rest ≡ length later + 1 = ap length cut ∙ count (length later) in
+last_alone pairs new rest later x first all decomposition none is few =
+    let left : length rest ≡ length later + 1 = ap length decomposition ∙ count (length later) in
     let made : length new ≡ length pairs + 1 = ap length is ∙ length_push pairs x in
     omega (arith, left, none, made, few)
   where

@@ -4,7 +4,7 @@ use Rattle.std.proofs.lemmas.List.{append-nil}
 use Rattle.std.specs.declared.ops.Bound.{Bound}
 use Rattle.std.specs.declared.ops.Bound.TheVariants.{Included, Excluded, Unbounded}
 use Rattle.pep440_ranges.specs.Bounds.{is_valid, starts_before, ends_before}
-use Rattle.pep440_ranges.specs.Intersection.{overlap, overlaps, overlaps_of, is_valid_segment}
+use Rattle.pep440_ranges.specs.Intersection.{overlap, overlaps, overlaps_with, is_valid_segment}
 use Rattle.pep440_ranges.specs.Segments.{Segment, IsRange, IsRangeAfter}
 use Rattle.pep440_rs.specs.Agreement.{GivesRanges}
 use Rattle.pep440_rs.specs.Bounds.{Segments, full}
@@ -33,10 +33,10 @@ line = (Unbounded, Unbounded)
 same : (s : Segment Record) → overlap record_cmp line s ≡ s
 same s = λ i. (starts s.0 i, ends s.1 i)
 
-one : (s : Segment Record) (ss : Segments) → IsTrue (is_valid record_cmp s.0 s.1) → overlaps_of record_cmp line ss ≡ ss → overlaps_of record_cmp line (s ∷ ss) ≡ s ∷ ss
+one : (s : Segment Record) (ss : Segments) → IsTrue (is_valid record_cmp s.0 s.1) → overlaps_with record_cmp line ss ≡ ss → overlaps_with record_cmp line (s ∷ ss) ≡ s ∷ ss
 one s ss valid rest = (λ i. cond (is_valid_segment record_cmp (same s i)) (same s i ∷ rest i) (rest i)) ∙ ap (λ b. cond b (s ∷ ss) ss) valid
 
-each : (end : Bound Record) (ss : Segments) → IsRangeAfter record_cmp end ss → overlaps_of record_cmp line ss ≡ ss
+each : (end : Bound Record) (ss : Segments) → IsRangeAfter record_cmp end ss → overlaps_with record_cmp line ss ≡ ss
 each end [] h = refl
 each end (s ∷ ss) h = one s ss h.1 (each s.1 ss h.2)
 

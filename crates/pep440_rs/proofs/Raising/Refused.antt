@@ -3,7 +3,7 @@ use Rattle.std.proofs.Common.{◌≡◌, ◌↔◌, ℕ, ◌+◌, ◌≤◌, ◌
 use Rattle.std.proofs.lemmas.Bool.Decides.{nat_tests}
 use Rattle.std.specs.List.{last_or}
 use Rattle.std.specs.Option.{option_or}
-use Rattle.pep440_rs.specs.Bounds.{range_of, release_range_of, release_up_to, greater, star, star_end, next_number, raised}
+use Rattle.pep440_rs.specs.Bounds.{range_of, release_range_of, release_up_to, greater, star, star_end, next_number, raise_last}
 use Rattle.pep440_rs.specs.Matching.{without_last}
 use Rattle.pep440_rs.specs.Refused.{raised_number, raised_release_number, RefusedAtMax}
 use Rattle.pep440_rs.specs.declared.specifier.operator.Operator.TheVariants.{Equal, EqualStar, ExactEqual, NotEqual, NotEqualStar, TildeEqual, LessThan, LessThanEqual, GreaterThan, GreaterThanEqual}
@@ -49,10 +49,10 @@ next_refused n = go (n == 18446744073709551615) refl
     go true e = (λ h. ap Some (is_max n e), λ h. refl)
     go false e = (λ h. absurd (some_none (n + 1) h), λ h. absurd (not_max n e (inside 18446744073709551615 h)))
 
-raised_refused : (xs : List ℕ) → 1 ≤ length xs → IsNone (raised xs) ↔ IsMax (last_or None xs)
+raised_refused : (xs : List ℕ) → 1 ≤ length xs → IsNone (raise_last xs) ↔ IsMax (last_or None xs)
 raised_refused [] p = absurd (omega (arith, p))
 raised_refused (x ∷ []) p = chain (through (λ n. n ∷ []) (next_number x)) (next_refused x)
-raised_refused (x ∷ y ∷ ys) p = chain (through (λ rest. x ∷ rest) (raised (y ∷ ys))) (raised_refused (y ∷ ys) (omega arith))
+raised_refused (x ∷ y ∷ ys) p = chain (through (λ rest. x ∷ rest) (raise_last (y ∷ ys))) (raised_refused (y ∷ ys) (omega arith))
 
 some_left : (xs : List ℕ) → 2 ≤ length xs → 1 ≤ length (without_last xs)
 some_left [] p = absurd (omega (arith, p))
@@ -70,7 +70,7 @@ raised_by post pre release = option_or post (option_or (option_map (λ p. p.numb
 end_refused : (s : Record) (post : Option ℕ) (pre : Option Prerelease) → 1 ≤ length s.release → IsNone (star_end s post pre) ↔ IsMax (raised_by post pre s.release)
 end_refused s (Some p) pre h = chain (through _ (next_number p)) (next_refused p)
 end_refused s None (Some k) h = chain (through _ (next_number k.number)) (next_refused k.number)
-end_refused s None None h = chain (through _ (raised s.release)) (raised_refused s.release h)
+end_refused s None None h = chain (through _ (raise_last s.release)) (raised_refused s.release h)
 
 star_refused : (s : Record) → 1 ≤ length s.release → IsNone (star s) ↔ IsMax (raised_by s.post s.pre s.release)
 star_refused s h = chain (through _ (star_end s s.post s.pre)) (end_refused s s.post s.pre h)
@@ -81,14 +81,14 @@ refused_at_max ExactEqual s h = never _
 refused_at_max NotEqual s h = never _
 refused_at_max GreaterThanEqual s h = never _
 refused_at_max LessThanEqual s h = never _
-refused_at_max TildeEqual s h = chain (chain (through _ _) (through _ (raised (without_last s.release)))) (raised_refused (without_last s.release) (some_left s.release h))
+refused_at_max TildeEqual s h = chain (chain (through _ _) (through _ (raise_last (without_last s.release)))) (raised_refused (without_last s.release) (some_left s.release h))
 refused_at_max LessThan s h = never _
 refused_at_max GreaterThan s h = greater_refused s s.dev s.post
 refused_at_max EqualStar s h = star_refused s h
 refused_at_max NotEqualStar s h = chain (through _ (star s)) (star_refused s h)
 
 up_to_refused : (release numbers : List ℕ) → 1 ≤ length numbers → IsNone (release_up_to release numbers) ↔ IsMax (last_or None numbers)
-up_to_refused release numbers h = chain (through _ (raised numbers)) (raised_refused numbers h)
+up_to_refused release numbers h = chain (through _ (raise_last numbers)) (raised_refused numbers h)
 
 pub release_refused_at_max : RefusedAtMax release_range_of raised_release_number
 release_refused_at_max Equal s h = never _

@@ -5,8 +5,8 @@ use Rattle.std.specs.Str.{chars, encode_utf8_all}
 use Rattle.pep440_version.specs.Grammar.{starts}
 use Rattle.pep440_version.specs.Reading.{lead, past}
 use Rattle.pep440_version.proofs.Reading.ReadIsDerived.{split}
-use Rattle.pep440_version.proofs.Reading.Fronts.{lead-all, lead-run, past-run, past-stops}
-use Rattle.pep440_rs.specs.SpecifierGrammar.{Cut, IsRun, is_operator_char}
+use Rattle.pep440_version.proofs.Reading.Prefixes.{lead-all, lead-run, past-run, past-stops}
+use Rattle.pep440_rs.specs.SpecifierGrammar.{SpecifierParts, IsRun, is_operator_char}
 use Rattle.pep440_rs.specs.SpecifierReading.{from_operator, from_rest, from_version, meaning, read_specifier}
 
 -- the longest run at the front, where whole is what was left
@@ -16,8 +16,8 @@ longest test whole tail e = (lead-all test whole, subst (λ t. starts test t ≡
 joined_up : (test : ℕ → Bool) (whole tail : List ℕ) → tail ≡ past test whole → lead test whole ++ tail ≡ whole
 joined_up test whole tail e = ap (λ t. lead test whole ++ t) e ∙ sym (split test whole)
 
-pub the_cut : (text : List ℕ) → Cut text
-the_cut text =
+pub the_split : (text : List ℕ) → SpecifierParts text
+the_split text =
     let cs : List ℕ = chars text in
     let behind_operator : List ℕ = past is_operator_char (from_operator text) in
     let behind_version : List ℕ = past is_not_whitespace (from_version text) in
@@ -32,7 +32,7 @@ the_cut text =
       version = lead is_not_whitespace (from_version text);
       after = lead is_whitespace behind_version;
       rest = from_rest text;
-      cut = sym (joined_up is_whitespace cs _ t1);
+      decomposition = sym (joined_up is_whitespace cs _ t1);
       before_run = longest is_whitespace cs _ t1;
       operator_run = longest is_operator_char (from_operator text) _ t2;
       between_run = longest is_whitespace behind_operator _ t3;
@@ -47,9 +47,9 @@ run_tail : (test : ℕ → Bool) (whole part tail : List ℕ) → whole ≡ part
 run_tail test whole part tail e h = ap (past test) e ∙ past-run test part tail h.0 h.1
 
 -- reading a text is reading the parts of any cut of it
-pub read_by_cut : (text : List ℕ) (c : Cut text) → read_specifier text ≡ meaning (encode_utf8_all c.operator) (encode_utf8_all c.version) (encode_utf8_all c.rest)
-read_by_cut text c =
-    let t1 = run_tail is_whitespace (chars text) c.before _ c.cut c.before_run in
+pub read_by_split : (text : List ℕ) (c : SpecifierParts text) → read_specifier text ≡ meaning (encode_utf8_all c.operator) (encode_utf8_all c.version) (encode_utf8_all c.rest)
+read_by_split text c =
+    let t1 = run_tail is_whitespace (chars text) c.before _ c.decomposition c.before_run in
     let operator = run_part is_operator_char (from_operator text) c.operator _ t1 c.operator_run in
     let t2 = run_tail is_operator_char (from_operator text) c.operator _ t1 c.operator_run in
     let t3 = run_tail is_whitespace (past is_operator_char (from_operator text)) c.between _ t2 c.between_run in

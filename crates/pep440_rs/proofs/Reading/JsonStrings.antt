@@ -11,8 +11,8 @@ pub one_text : {A : Type 0} (a b : A) (o : Option A) → o ≡ Some a → o ≡ 
 one_text a b o first second = cc
 
 -- a fact of the value's text is a fact of the text that was read
-pub of_text : {A X : Type 0} (P : A → X → Type 0) (a b : A) (o : Option A) (x : X) → o ≡ Some a → o ≡ Some b → P b x → P a x
-of_text P a b o x first second fact = rw (one_text a b o first second) fact
+pub from_text : {A X : Type 0} (P : A → X → Type 0) (a b : A) (o : Option A) (x : X) → o ≡ Some a → o ≡ Some b → P b x → P a x
+from_text P a b o x first second fact = rw (one_text a b o first second) fact
 
 module _ {E F : Type 0} (refusal : E → Option F) where
   -- the error of a text, or out of memory

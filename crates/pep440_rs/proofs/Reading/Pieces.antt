@@ -36,18 +36,18 @@ pieces_whole [] none = refl
 pieces_whole (b ∷ t) none = rw (first_byte b t none, pieces_whole t (later_bytes b t none)) refl
 
 -- up to the first comma is a piece
-pub pieces_cut : (p q : List ℕ) → HasNoComma p → pieces (p ++ (44 ∷ q)) ≡ p ∷ pieces q
-pieces_cut [] q none = refl
-pieces_cut (b ∷ p) q none = rw (first_byte b p none, pieces_cut p q (later_bytes b p none)) refl
+pub pieces_split : (p q : List ℕ) → HasNoComma p → pieces (p ++ (44 ∷ q)) ≡ p ∷ pieces q
+pieces_split [] q none = refl
+pieces_split (b ∷ p) q none = rw (first_byte b p none, pieces_split p q (later_bytes b p none)) refl
 
 -- members that were read before what is still to be read
 abbrev pub with_members : List Spec → Result (List Spec) PieceRefusal → Result (List Spec) PieceRefusal
-with_members front (Ok rest) = Ok (front ++ rest)
-with_members front (Err f) = Err f
+with_members prefix (Ok rest) = Ok (prefix ++ rest)
+with_members prefix (Err f) = Err f
 
-one_more : (front : List Spec) (s : Spec) (k : ℕ) (p : List ℕ) (later : Result (List Spec) PieceRefusal) → with_members front (after_piece k p (Ok s) later) ≡ with_members (front ++ s ∷ []) later
-one_more front s k p (Ok rest) = ap Ok (sym (append_assoc front (s ∷ []) rest))
-one_more front s k p (Err f) = refl
+one_more : (prefix : List Spec) (s : Spec) (k : ℕ) (p : List ℕ) (later : Result (List Spec) PieceRefusal) → with_members prefix (after_piece k p (Ok s) later) ≡ with_members (prefix ++ s ∷ []) later
+one_more prefix s k p (Ok rest) = ap Ok (sym (append_assoc prefix (s ∷ []) rest))
+one_more prefix s k p (Err f) = refl
 
 -- ---- a piece before a comma
 
@@ -59,19 +59,19 @@ steps text rest piece later h e =
 
 here : (k : ℕ) (rest piece later : List ℕ) → rest ≡ piece ++ (44 ∷ later) → HasNoComma piece → read_pieces k (pieces rest) ≡ after_piece k piece (read_specifier piece) (read_pieces (k + length piece + 1) (pieces later))
 unfolding read_pieces
-here k rest piece later e none = ap (λ t. read_pieces k (pieces t)) e ∙ ap (read_pieces k) (pieces_cut piece later none)
+here k rest piece later e none = ap (λ t. read_pieces k (pieces t)) e ∙ ap (read_pieces k) (pieces_split piece later none)
 
-pub goes_on : (front : List Spec) (s : Spec) (out : Result (List Spec) PieceRefusal) (text rest piece later : List ℕ) → EndsWith text rest → rest ≡ piece ++ (44 ∷ later) → HasNoComma piece → read_specifier piece ≡ Ok s
-    → out ≡ with_members front (read_pieces (length text - length rest) (pieces rest)) → out ≡ with_members (front ++ s ∷ []) (read_pieces (length text - length later) (pieces later))
-goes_on front s out text rest piece later h e none read is =
-    is ∙ ap (with_members front) (here (length text - length rest) rest piece later e none
+pub goes_on : (prefix : List Spec) (s : Spec) (out : Result (List Spec) PieceRefusal) (text rest piece later : List ℕ) → EndsWith text rest → rest ≡ piece ++ (44 ∷ later) → HasNoComma piece → read_specifier piece ≡ Ok s
+    → out ≡ with_members prefix (read_pieces (length text - length rest) (pieces rest)) → out ≡ with_members (prefix ++ s ∷ []) (read_pieces (length text - length later) (pieces later))
+goes_on prefix s out text rest piece later h e none read is =
+    is ∙ ap (with_members prefix) (here (length text - length rest) rest piece later e none
     ∙ ap (λ x. after_piece (length text - length rest) piece x (read_pieces (length text - length rest + length piece + 1) (pieces later))) read)
-    ∙ one_more front s (length text - length rest) piece (read_pieces (length text - length rest + length piece + 1) (pieces later)) ∙ ap (λ k. with_members (front ++ s ∷ []) (read_pieces k (pieces later))) (sym (steps text rest piece later h e))
+    ∙ one_more prefix s (length text - length rest) piece (read_pieces (length text - length rest + length piece + 1) (pieces later)) ∙ ap (λ k. with_members (prefix ++ s ∷ []) (read_pieces k (pieces later))) (sym (steps text rest piece later h e))
 
-pub stops_here : (front : List Spec) (f : SpecifierRefusal) (out : Result (List Spec) PieceRefusal) (k : ℕ) (rest piece later : List ℕ) → rest ≡ piece ++ (44 ∷ later) → HasNoComma piece → read_specifier piece ≡ Err f
-    → out ≡ with_members front (read_pieces k (pieces rest)) → out ≡ Err (record { error = f; start = k; stop = k + length piece })
-stops_here front f out k rest piece later e none read is =
-    is ∙ ap (with_members front) (here k rest piece later e none ∙ ap (λ x. after_piece k piece x (read_pieces (k + length piece + 1) (pieces later))) read)
+pub stops_here : (prefix : List Spec) (f : SpecifierRefusal) (out : Result (List Spec) PieceRefusal) (k : ℕ) (rest piece later : List ℕ) → rest ≡ piece ++ (44 ∷ later) → HasNoComma piece → read_specifier piece ≡ Err f
+    → out ≡ with_members prefix (read_pieces k (pieces rest)) → out ≡ Err (record { error = f; start = k; stop = k + length piece })
+stops_here prefix f out k rest piece later e none read is =
+    is ∙ ap (with_members prefix) (here k rest piece later e none ∙ ap (λ x. after_piece k piece x (read_pieces (k + length piece + 1) (pieces later))) read)
 
 -- ---- the last piece
 
@@ -79,13 +79,13 @@ last : (k : ℕ) (rest : List ℕ) → HasNoComma rest → read_pieces k (pieces
 unfolding read_pieces
 last k rest none = ap (read_pieces k) (pieces_whole rest none)
 
-pub ends_here : (front : List Spec) (s : Spec) (out : Result (List Spec) PieceRefusal) (k : ℕ) (rest : List ℕ) → HasNoComma rest → read_specifier rest ≡ Ok s
-    → out ≡ with_members front (read_pieces k (pieces rest)) → out ≡ Ok (front ++ s ∷ [])
-ends_here front s out k rest none read is = is ∙ ap (with_members front) (last k rest none ∙ ap (λ x. after_piece k rest x (Ok [])) read)
+pub ends_here : (prefix : List Spec) (s : Spec) (out : Result (List Spec) PieceRefusal) (k : ℕ) (rest : List ℕ) → HasNoComma rest → read_specifier rest ≡ Ok s
+    → out ≡ with_members prefix (read_pieces k (pieces rest)) → out ≡ Ok (prefix ++ s ∷ [])
+ends_here prefix s out k rest none read is = is ∙ ap (with_members prefix) (last k rest none ∙ ap (λ x. after_piece k rest x (Ok [])) read)
 
-pub last_stops : (front : List Spec) (f : SpecifierRefusal) (out : Result (List Spec) PieceRefusal) (k : ℕ) (rest : List ℕ) → HasNoComma rest → read_specifier rest ≡ Err f
-    → out ≡ with_members front (read_pieces k (pieces rest)) → out ≡ Err (record { error = f; start = k; stop = k + length rest })
-last_stops front f out k rest none read is = is ∙ ap (with_members front) (last k rest none ∙ ap (λ x. after_piece k rest x (Ok [])) read)
+pub last_stops : (prefix : List Spec) (f : SpecifierRefusal) (out : Result (List Spec) PieceRefusal) (k : ℕ) (rest : List ℕ) → HasNoComma rest → read_specifier rest ≡ Err f
+    → out ≡ with_members prefix (read_pieces k (pieces rest)) → out ≡ Err (record { error = f; start = k; stop = k + length rest })
+last_stops prefix f out k rest none read is = is ∙ ap (with_members prefix) (last k rest none ∙ ap (λ x. after_piece k rest x (Ok [])) read)
 
 -- ---- the error of a piece
 
@@ -115,20 +115,20 @@ piece_span (Piece error begin end) text rest piece tail read u v w h e (told, b,
 pub comma_utf8 : (later : List ℕ) → IsUtf8 later → IsUtf8 (44 ∷ later)
 comma_utf8 later u = IsUtf8-append (44 ∷ []) later (IsUtf8-from_ascii (44 ∷ []) (IsAscii-cons 44 [] (omega arith) IsAscii-nil)) u
 
-at_seam : (front : List ℕ) (b : ℕ) (later : List ℕ) → get_or (front ++ (b ∷ later)) (length front) 0 ≡ b
+at_seam : (prefix : List ℕ) (b : ℕ) (later : List ℕ) → get_or (prefix ++ (b ∷ later)) (length prefix) 0 ≡ b
 at_seam [] b later = refl
-at_seam (x ∷ front) b later = at_seam front b later
+at_seam (x ∷ prefix) b later = at_seam prefix b later
 
 -- what follows a comma is text
-pub after_comma : (text front later : List ℕ) → IsUtf8 text → text ≡ front ++ (44 ∷ later) → IsUtf8 later
-after_comma text front later u e =
-    let whole : IsUtf8 (front ++ (44 ∷ later)) = subst IsUtf8 e u in
-    let long = length-append front (44 ∷ later) in
-    let seam_byte = at_seam front 44 later in
-    let boundary = IsCharBoundary-after_ascii (front ++ (44 ∷ later)) (length front) whole (omega (arith, long)) (omega (arith, seam_byte)) in
-    let one_long = length-append front (44 ∷ []) in
-    subst IsUtf8 (ap (drop (length front + 1)) (sym (append_assoc front (44 ∷ []) later)) ∙ drop_at (front ++ (44 ∷ [])) later (length front + 1) (omega (arith, one_long)))
-    (IsUtf8-drop (front ++ (44 ∷ later)) (length front + 1) whole boundary)
+pub after_comma : (text prefix later : List ℕ) → IsUtf8 text → text ≡ prefix ++ (44 ∷ later) → IsUtf8 later
+after_comma text prefix later u e =
+    let whole : IsUtf8 (prefix ++ (44 ∷ later)) = subst IsUtf8 e u in
+    let long = length-append prefix (44 ∷ later) in
+    let seam_byte = at_seam prefix 44 later in
+    let boundary = IsCharBoundary-after_ascii (prefix ++ (44 ∷ later)) (length prefix) whole (omega (arith, long)) (omega (arith, seam_byte)) in
+    let one_long = length-append prefix (44 ∷ []) in
+    subst IsUtf8 (ap (drop (length prefix + 1)) (sym (append_assoc prefix (44 ∷ []) later)) ∙ drop_at (prefix ++ (44 ∷ [])) later (length prefix + 1) (omega (arith, one_long)))
+    (IsUtf8-drop (prefix ++ (44 ∷ later)) (length prefix + 1) whole boundary)
 
 pub members_from : (text : List ℕ) → (length text == 0) ≡ false → read_members text ≡ read_pieces 0 (pieces text)
 members_from text some = rw some refl

@@ -29,8 +29,8 @@ run_ends test text rest none before =
     let empty = ap chars (nil_from_length rest none) ∙ chars-nil in
     empty ∙ sym (ap (past test) empty) ∙ sym before
 
-pub ends_further : (text rest next front : List ℕ) → EndsWith text rest → rest ≡ front ++ next → EndsWith text next
-ends_further text rest next front h step = ends_then text rest next h (front, step)
+pub ends_further : (text rest next prefix : List ℕ) → EndsWith text rest → rest ≡ prefix ++ next → EndsWith text next
+ends_further text rest next prefix h step = ends_then text rest next h (prefix, step)
 
 -- the bytes of the run and those of what follows it
 pub run_bytes : (test : ℕ → Bool) (text rest : List ℕ) → IsUtf8 text → IsUtf8 rest → EndsWith text rest → chars rest ≡ past test (chars text)
@@ -42,8 +42,8 @@ run_bytes test text rest utf8 utf8_rest h e =
     let whole : text ≡ encode_utf8_all (lead test (chars text)) ++ rest =
     sym (encodes-chars text utf8) ∙ ap encode_utf8_all (split test (chars text)) ∙ encodes-append (lead test (chars text)) (past test (chars text))
     ∙ ap (λ t. encode_utf8_all (lead test (chars text)) ++ t) behind in
-    let front = append_cancel_right h.0 (encode_utf8_all (lead test (chars text))) rest (sym h.1 ∙ whole) in
-    (ap (take (length text - length rest)) h.1 ∙ take_at h.0 rest _ at ∙ front, ap (drop (length text - length rest)) h.1 ∙ drop_at h.0 rest _ at)
+    let prefix = append_cancel_right h.0 (encode_utf8_all (lead test (chars text))) rest (sym h.1 ∙ whole) in
+    (ap (take (length text - length rest)) h.1 ∙ take_at h.0 rest _ at ∙ prefix, ap (drop (length text - length rest)) h.1 ∙ drop_at h.0 rest _ at)
 
 pub rest_bytes : (test : ℕ → Bool) (text rest : List ℕ) → IsUtf8 rest → chars rest ≡ past test (chars text) → rest ≡ encode_utf8_all (past test (chars text))
 rest_bytes test text rest utf8 e = sym (encodes-chars rest utf8) ∙ ap encode_utf8_all e

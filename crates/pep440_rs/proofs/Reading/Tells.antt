@@ -7,16 +7,16 @@ use Rattle.std.specs.Str.{encode_utf8_all}
 use Rattle.pep440_version.specs.Patterns.{DerivesPattern}
 use Rattle.pep440_version.specs.Record.{Record}
 use Rattle.pep440_version.specs.Refusals.{PatternRefusal}
-use Rattle.pep440_version.specs.Whole.{front_at, read_pattern}
+use Rattle.pep440_version.specs.Whole.{parse_epoch_and_release, read_pattern}
 use Rattle.pep440_version.proofs.Reading.Agreement.{found_pattern, only_pattern}
 use Rattle.pep440_version.proofs.Refusals.ExactlyOne.{decides_pattern, sound_pattern}
 use Rattle.pep440_rs.specs.Build.{BuildRefusal, built_pattern}
 use Rattle.pep440_rs.specs.Operators.{Spells}
-use Rattle.pep440_rs.specs.SpecifierGrammar.{Cut, DerivesSpecifier, Reads, RefusesSpecifier, SpecifierRefusal, MissingOperator, InvalidOperator, MissingVersion, InvalidVersion, InvalidSpecifier, InvalidTrailing}
+use Rattle.pep440_rs.specs.SpecifierGrammar.{SpecifierParts, DerivesSpecifier, ReadsParts, RefusesSpecifier, SpecifierRefusal, MissingOperator, InvalidOperator, MissingVersion, InvalidVersion, InvalidSpecifier, InvalidTrailing}
 use Rattle.pep440_rs.specs.SpecifierReading.{ended, meaning, read_operator, read_specifier, with_operator, with_pattern}
 use Rattle.pep440_rs.specs.Specifiers.{Spec}
 use Rattle.pep440_rs.specs.declared.specifier.operator.Operator.{Operator}
-use Rattle.pep440_rs.proofs.Reading.Cuts.{read_by_cut, the_cut}
+use Rattle.pep440_rs.proofs.Reading.Cuts.{read_by_split, the_split}
 use Rattle.pep440_rs.proofs.Reading.Spelled.{none_spelled, read_spelled, spelled_none, spelled_read, spelled_some}
 
 -- what the grammar says of a text
@@ -39,13 +39,13 @@ bytes_of_none cs e = rw e refl
 
 -- ---- reading says what the grammar says
 
-module _ {text : List ℕ} (c : Cut text) where
-  at_end : (o : Operator) (r : Record) (star : Bool) (s : Spec) → Reads c o r star → built_pattern o r star ≡ Ok s
+module _ {text : List ℕ} (c : SpecifierParts text) where
+  at_end : (o : Operator) (r : Record) (star : Bool) (s : Spec) → ReadsParts c o r star → built_pattern o r star ≡ Ok s
       → (b : Bool) → (length (encode_utf8_all c.rest) == 0) ≡ b → Tells text (if b then Ok s else Err (InvalidTrailing (encode_utf8_all c.rest)))
   at_end o r star s reads built true e = (c, o, r, star, reads, built, no_bytes c.rest e)
   at_end o r star s reads built false e = (c, o, r, star, s, reads, built, some_bytes c.rest e, refl)
 
-  at_build : (o : Operator) (r : Record) (star : Bool) → Reads c o r star → (x : Result Spec BuildRefusal) → built_pattern o r star ≡ x → Tells text (ended x (encode_utf8_all c.rest))
+  at_build : (o : Operator) (r : Record) (star : Bool) → ReadsParts c o r star → (x : Result Spec BuildRefusal) → built_pattern o r star ≡ x → Tells text (ended x (encode_utf8_all c.rest))
   at_build o r star reads (Ok s) e = at_end o r star s reads e _ refl
   at_build o r star reads (Err b) e = (c, o, r, star, reads, e)
 
@@ -69,18 +69,18 @@ module _ {text : List ℕ} (c : Cut text) where
   at_start true e = (c, no_bytes c.operator e)
   at_start false e = at_operator (some_bytes c.operator e) _ refl
 
-  told_by_cut : Tells text (meaning (encode_utf8_all c.operator) (encode_utf8_all c.version) (encode_utf8_all c.rest))
+  told_by_split : Tells text (meaning (encode_utf8_all c.operator) (encode_utf8_all c.version) (encode_utf8_all c.rest))
   unfolding meaning
-  told_by_cut = at_start _ refl
+  told_by_split = at_start _ refl
 
 pub tells : (text : List ℕ) → Tells text (read_specifier text)
-tells text = subst (Tells text) (sym (read_by_cut text (the_cut text))) (told_by_cut (the_cut text))
+tells text = subst (Tells text) (sym (read_by_split text (the_split text))) (told_by_split (the_split text))
 
 -- ---- what the grammar says is what reading gives
 
 -- the empty text means no version
 derived_some : (version : List ℕ) (r : Record) (star : Bool) → DerivesPattern version r star → (length version == 0) ≡ false
-unfolding front_at
+unfolding parse_epoch_and_release
 derived_some [] r star h = let e = only_pattern [] r star h in cc
 derived_some (b ∷ rest) r star h = grind (arith, nat_tests)
 
@@ -108,14 +108,14 @@ means_built operator version rest o r star x spells derives e =
 
 pub decides : (text : List ℕ) (x : Result Spec SpecifierRefusal) → Tells text x → read_specifier text ≡ x
 decides text (Ok s) (c, o, r, star, reads, built, end) =
-    read_by_cut text c ∙ means_built _ _ _ o r star (Ok s) reads.operator reads.version built ∙ rw (bytes_of_none c.rest end) refl
-decides text (Err MissingOperator) (c, none) = read_by_cut text c ∙ means_none _ _ _ (bytes_of_none c.operator none)
+    read_by_split text c ∙ means_built _ _ _ o r star (Ok s) reads.operator reads.version built ∙ rw (bytes_of_none c.rest end) refl
+decides text (Err MissingOperator) (c, none) = read_by_split text c ∙ means_none _ _ _ (bytes_of_none c.operator none)
 decides text (Err (InvalidOperator got)) (c, some, is, none) =
-    read_by_cut text c ∙ means_unknown _ _ _ (bytes_of_some c.operator some) (ap read_operator (sym is) ∙ spelled_none got none)
+    read_by_split text c ∙ means_unknown _ _ _ (bytes_of_some c.operator some) (ap read_operator (sym is) ∙ spelled_none got none)
     ∙ ap (λ t. Err (InvalidOperator t)) (sym is)
-decides text (Err MissingVersion) (c, o, spells, none) = read_by_cut text c ∙ means_missing _ _ _ o spells (bytes_of_none c.version none)
+decides text (Err MissingVersion) (c, o, spells, none) = read_by_split text c ∙ means_missing _ _ _ o spells (bytes_of_none c.version none)
 decides text (Err (InvalidVersion f)) (c, o, spells, some, refuses) =
-    read_by_cut text c ∙ means_pattern _ _ _ o (Err f) spells (bytes_of_some c.version some) (decides_pattern (encode_utf8_all c.version) f refuses)
-decides text (Err (InvalidSpecifier b)) (c, o, r, star, reads, built) = read_by_cut text c ∙ means_built _ _ _ o r star (Err b) reads.operator reads.version built
+    read_by_split text c ∙ means_pattern _ _ _ o (Err f) spells (bytes_of_some c.version some) (decides_pattern (encode_utf8_all c.version) f refuses)
+decides text (Err (InvalidSpecifier b)) (c, o, r, star, reads, built) = read_by_split text c ∙ means_built _ _ _ o r star (Err b) reads.operator reads.version built
 decides text (Err (InvalidTrailing rest)) (c, o, r, star, s, reads, built, some, is) =
-    read_by_cut text c ∙ means_built _ _ _ o r star (Ok s) reads.operator reads.version built ∙ rw (bytes_of_some c.rest some) (ap (λ t. Err (InvalidTrailing t)) (sym is))
+    read_by_split text c ∙ means_built _ _ _ o r star (Ok s) reads.operator reads.version built ∙ rw (bytes_of_some c.rest some) (ap (λ t. Err (InvalidTrailing t)) (sym is))

@@ -21,7 +21,7 @@ use Rattle.pep440_rs.proofs.Reread.Plain.{operator_plain}
 pattern_told : (text : List ℕ) (f : PatternRefusal) → RefusesPattern text f → pattern_error_text (Some f) ≡ Some (pattern_refusal_text f)
 pattern_told text WildcardNotTrailing h = refl
 pattern_told text (OfVersion Wildcard) h = refl
-pattern_told text (OfVersion (NumberTooBig digits)) (front, rest, r, cut, run, zero, more) = rw (run.0) refl
+pattern_told text (OfVersion (NumberTooBig digits)) (prefix, rest, r, decomposition, run, zero, more) = rw (run.0) refl
 pattern_told text (OfVersion NoLeadingNumber) h = refl
 pattern_told text (OfVersion NoLeadingReleaseNumber) h = refl
 pattern_told text (OfVersion (LocalEmpty c)) h = refl

@@ -10,13 +10,13 @@ use Rattle.pep440_version.specs.Grammar.{AreBlanks, Derives, starts}
 use Rattle.pep440_version.specs.Patterns.{DerivesPattern, DerivesStar}
 use Rattle.pep440_version.specs.Print.{print}
 use Rattle.pep440_version.specs.Record.{Record}
-use Rattle.pep440_version.proofs.Reread.PrintIsRead.{derived_again, derived_record, derived_rereads}
+use Rattle.pep440_version.proofs.RoundTrip.PrintIsRead.{derived_again, derived_record, derived_rereads}
 use Rattle.pep440_version.proofs.Refusals.ZeroForDigits.{starts_not}
-use Rattle.pep440_version.proofs.Reading.Fronts.{both_first}
+use Rattle.pep440_version.proofs.Reading.Prefixes.{both_first}
 use Rattle.pep440_rs.specs.Build.{BuildRefusal, CompatibleRelease, OperatorLocalCombo, built, built_pattern, is_compatible}
 use Rattle.pep440_rs.specs.Matching.{has_local}
 use Rattle.pep440_rs.specs.Operators.{allows_local, is_star, operator_text}
-use Rattle.pep440_rs.specs.SpecifierGrammar.{Cut, DerivesSpecifier, is_operator_char}
+use Rattle.pep440_rs.specs.SpecifierGrammar.{SpecifierParts, DerivesSpecifier, is_operator_char}
 use Rattle.pep440_rs.specs.Specifiers.{Spec, spec_print}
 use Rattle.pep440_rs.specs.declared.specifier.operator.Operator.{Operator}
 use Rattle.pep440_rs.specs.declared.specifier.operator.Operator.TheVariants.{Equal, EqualStar, ExactEqual, NotEqual, NotEqualStar, TildeEqual, LessThan, LessThanEqual, GreaterThan, GreaterThanEqual}
@@ -45,7 +45,7 @@ star_print text r h =
     let shown : list_all is_shown (print r) ≡ true = print_shown r (derived_record _ r before) (derived_rereads _ r before) in
     let last : list_all is_shown d.w2 ≡ true =
     all_later is_shown d.l d.w2 (all_later is_shown d.d _ (all_later is_shown d.q _ (all_later is_shown d.p _ (all_later is_shown d.n _
-    (all_later is_shown d.e _ (all_later is_shown d.v _ (all_later is_shown d.w1 _ (ap (list_all is_shown) (sym d.cut) ∙ shown)))))))) in
+    (all_later is_shown d.e _ (all_later is_shown d.v _ (all_later is_shown d.w1 _ (ap (list_all is_shown) (sym d.decomposition) ∙ shown)))))))) in
     (print r, d, refl, blanks_shown d.w2 d.end last, h.4)
 
 -- ---- an operator and a version, with nothing around them
@@ -80,14 +80,14 @@ bare v o r star s plain shown begins h is =
     let a : List ℕ = operator_text o in
     let a_shown : list_all is_shown a ≡ true = all_weaker is_operator_char is_shown operator_shown a (operator_chars o) in
     let v_begins : starts is_ascii_digit (v ++ []) ≡ true = begins_still is_ascii_digit v [] begins in
-    let c : Cut (operator_text o ++ v) = record {
+    let c : SpecifierParts (operator_text o ++ v) = record {
       before = [];
       operator = operator_text o;
       between = [];
       version = v;
       after = [];
       rest = [];
-      cut = chars-IsAscii (a ++ v) (all_ascii is_shown shown_low (a ++ v) (all_joined is_shown a v a_shown shown)) ∙ ap (λ t. a ++ t) (sym (append-nil v));
+      decomposition = chars-IsAscii (a ++ v) (all_ascii is_shown shown_low (a ++ v) (all_joined is_shown a v a_shown shown)) ∙ ap (λ t. a ++ t) (sym (append-nil v));
       before_run = (refl, starts_not is_operator_char is_whitespace operator_not_white (a ++ (v ++ [])) (begins_still is_operator_char a (v ++ []) (operator_begins o)));
       operator_run = (operator_chars o, starts_not is_ascii_digit is_operator_char digit_not_operator (v ++ []) v_begins);
       between_run = (refl, starts_not is_ascii_digit is_whitespace digit_not_white (v ++ []) v_begins);

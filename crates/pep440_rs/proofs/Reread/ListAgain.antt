@@ -10,8 +10,8 @@ use Rattle.std.specs.Str.{chars}
 use Rattle.pep440_version.specs.Patterns.{DerivesPattern}
 use Rattle.pep440_version.specs.Print.{print}
 use Rattle.pep440_version.specs.Record.{Record}
-use Rattle.pep440_version.proofs.Reread.PrintIsRead.{derived_record, derived_rereads}
-use Rattle.pep440_version.proofs.Reading.Fronts.{both_first, both_second}
+use Rattle.pep440_version.proofs.RoundTrip.PrintIsRead.{derived_record, derived_rereads}
+use Rattle.pep440_version.proofs.Reading.Prefixes.{both_first, both_second}
 use Rattle.pep440_rs.specs.Arrangement.{Arranges}
 use Rattle.pep440_rs.specs.Build.{built_pattern}
 use Rattle.pep440_rs.specs.ListAnswers.{ListAnswers, ListReads}
@@ -19,7 +19,7 @@ use Rattle.pep440_rs.specs.ListGrammar.{DerivesList, pieces}
 use Rattle.pep440_rs.specs.ListReading.{read_members}
 use Rattle.pep440_rs.specs.Lists.{joined}
 use Rattle.pep440_rs.specs.Operators.{is_star, operator_text}
-use Rattle.pep440_rs.specs.SpecifierGrammar.{Cut, DerivesSpecifier, is_operator_char}
+use Rattle.pep440_rs.specs.SpecifierGrammar.{SpecifierParts, DerivesSpecifier, is_operator_char}
 use Rattle.pep440_rs.specs.Specifiers.{Spec, spec_print}
 use Rattle.pep440_rs.specs.declared.list.error.VersionSpecifiersParseError.{VersionSpecifiersParseError}
 use Rattle.pep440_rs.specs.declared.specifier.operator.Operator.{Operator}
@@ -27,7 +27,7 @@ use Rattle.pep440_rs.specs.declared.specifier.operator.Operator.TheVariants.{Equ
 use Rattle.pep440_rs.proofs.Reread.Again.{built_is, operator_chars, printed_again, unstar}
 use Rattle.pep440_rs.proofs.Arranging.Arranged.{arranged_again}
 use Rattle.pep440_rs.proofs.Reading.ListTells.{DerivesEach, is_list_only}
-use Rattle.pep440_rs.proofs.Reading.Pieces.{HasNoComma, pieces_cut, pieces_whole}
+use Rattle.pep440_rs.proofs.Reading.Pieces.{HasNoComma, pieces_split, pieces_whole}
 use Rattle.pep440_rs.proofs.Reread.Plain.{all_joined, all_weaker, is_shown}
 use Rattle.pep440_rs.proofs.Reread.Shown.{operator_shown, print_shown}
 
@@ -92,14 +92,14 @@ pub after_blank : (u : List ℕ) (s : Spec) → DerivesSpecifier u s → Derives
 after_blank u s (c, o, r, star, reads, is, end) =
     let blank = IsAscii-cons 32 [] (omega arith) IsAscii-nil in
     let whole : chars (32 ∷ u) ≡ 32 ∷ chars u = chars-append (32 ∷ []) u (IsUtf8-from_ascii (32 ∷ []) blank) ∙ ap (λ t. t ++ chars u) (chars-IsAscii (32 ∷ []) blank) in
-    let d : Cut (32 ∷ u) = record {
+    let d : SpecifierParts (32 ∷ u) = record {
       before = 32 ∷ c.before;
       operator = c.operator;
       between = c.between;
       version = c.version;
       after = c.after;
       rest = c.rest;
-      cut = whole ∙ ap (λ t. 32 ∷ t) c.cut;
+      decomposition = whole ∙ ap (λ t. 32 ∷ t) c.decomposition;
       before_run = c.before_run;
       operator_run = c.operator_run;
       between_run = c.between_run;
@@ -129,7 +129,7 @@ pieces_of gap h first plain (s ∷ rest) meant =
     let one = meant 0 s (omega arith) in
     let shown = all_joined is_not_comma gap (spec_print s) h.0 (all_weaker is_shown is_not_comma shown_not_comma (spec_print s) (member_shown one.0 s one.1)) in
     let later = pieces_of gap h (gap ++ spec_print s) shown rest (λ k d lt. meant (suc k) d (omega (arith, lt))) in
-    pieces_cut first ((gap ++ spec_print s) ++ flat_map (λ t. 44 ∷ (gap ++ spec_print t)) rest) (no_comma first plain) ∙ ap (λ l. first ∷ l) later
+    pieces_split first ((gap ++ spec_print s) ++ flat_map (λ t. 44 ∷ (gap ++ spec_print t)) rest) (no_comma first plain) ∙ ap (λ l. first ∷ l) later
 
 each_after : (gap : List ℕ) → IsGap gap → (rest : List Spec) → All IsMeant rest → DerivesEach (map (λ t. gap ++ spec_print t) rest) rest
 each_after gap h [] meant = tt

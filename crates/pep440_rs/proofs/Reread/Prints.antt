@@ -11,17 +11,17 @@ use Rattle.pep440_rs.specs.Lists.{list_print}
 pub unstarred : (s : Spec) (o v : List ℕ) → o ≡ operator_text s.operator → v ≡ print s.version → is_star s.operator ≡ false → o ++ v ≡ spec_print s
 unstarred s o v eo ev e = rw (eo, ev, e, append-nil (print s.version)) refl
 
-list_front_text : (xs : List Spec) (d : Spec) → 1 ≤ length xs
+list_prefix_text : (xs : List Spec) (d : Spec) → 1 ≤ length xs
     → spec_print (get_or xs 0 d) ++ flat_map (λ s. codes ", " ++ spec_print s) (take (length xs - 1) (drop 1 xs)) ≡ list_print xs
-list_front_text [] d some = absurd (omega arith)
-list_front_text (x ∷ xs) d some =
+list_prefix_text [] d some = absurd (omega arith)
+list_prefix_text (x ∷ xs) d some =
     let count : length (x ∷ xs) - 1 ≡ length xs = omega arith in
     rw (count, take_all (length xs) xs (omega arith)) refl
 
 -- the first member and, after commas, the others
-pub list_front : (xs : List Spec) (x : Spec) → x ≡ get_or xs 0 x → 1 ≤ length xs
+pub list_prefix : (xs : List Spec) (x : Spec) → x ≡ get_or xs 0 x → 1 ≤ length xs
     → spec_print x ++ flat_map (λ s. codes ", " ++ spec_print s) (take (length xs - 1) (drop 1 xs)) ≡ list_print xs
-list_front xs x is some = ap (λ y. spec_print y ++ flat_map (λ s. codes ", " ++ spec_print s) (take (length xs - 1) (drop 1 xs))) is ∙ list_front_text xs x some
+list_prefix xs x is some = ap (λ y. spec_print y ++ flat_map (λ s. codes ", " ++ spec_print s) (take (length xs - 1) (drop 1 xs))) is ∙ list_prefix_text xs x some
 
 replicate_suc : (n x : ℕ) → replicate n x ++ x ∷ [] ≡ replicate (suc n) x
 replicate_suc zero x = refl

@@ -15,9 +15,9 @@ pub record Wrote (P : List ℕ → Type 0) (range left : Segments) : Type 0 wher
   pub wrote : P (flat_map segment_line before)
 
 pub wrote_more : (P Q : List ℕ → Type 0) (range left later : Segments) (s : Segment Record) → left ≡ s ∷ later → ((text : List ℕ) → P text → Q (text ++ segment_line s)) → Wrote P range left → Wrote Q range later
-wrote_more P Q range left later s cut next w = record {
+wrote_more P Q range left later s decomposition next w = record {
   before = w.before ++ s ∷ [];
-  split = append_assoc w.before (s ∷ []) later ∙ ap (λ (ss : Segments). w.before ++ ss) (sym cut) ∙ w.split;
+  split = append_assoc w.before (s ∷ []) later ∙ ap (λ (ss : Segments). w.before ++ ss) (sym decomposition) ∙ w.split;
   wrote = subst Q (flat_map_more segment_line [] w.before s) (next (flat_map segment_line w.before) w.wrote);
 }
 

@@ -1,19 +1,19 @@
 -- Versions of the examples.
 use Rattle.std.proofs.Common.{ℕ, [], ◌∷◌, Some}
-use Rattle.pep440_version.specs.Record.{Record, Text, of_release}
+use Rattle.pep440_version.specs.Record.{Record, Text, from_release}
 use Rattle.pep440_version.specs.declared.prerelease.PrereleaseKind.{PrereleaseKind}
 
 abbrev pub greatest : ℕ
 greatest = 18446744073709551615
 
 abbrev pub one : ℕ → Record
-one a = of_release (a ∷ [])
+one a = from_release (a ∷ [])
 
 abbrev pub two : ℕ → ℕ → Record
-two a b = of_release (a ∷ b ∷ [])
+two a b = from_release (a ∷ b ∷ [])
 
 abbrev pub three : ℕ → ℕ → ℕ → Record
-three a b c = of_release (a ∷ b ∷ c ∷ [])
+three a b c = from_release (a ∷ b ∷ c ∷ [])
 
 -- `1.0`
 abbrev pub v : Record

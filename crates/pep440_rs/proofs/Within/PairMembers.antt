@@ -21,7 +21,7 @@ use Rattle.pep440_ranges.specs.Bounds.{is_valid, is_from_start, is_up_to_end}
 use Rattle.pep440_ranges.specs.Segments.{Segment, lies_in}
 use Rattle.pep440_version.specs.Key.{record_cmp}
 use Rattle.pep440_version.specs.KeyLaws.{record_total}
-use Rattle.pep440_version.specs.Record.{Record, of_release}
+use Rattle.pep440_version.specs.Record.{Record, from_release}
 
 and_true : (b : Bool) → b && true ≡ b
 and_true true = refl
@@ -101,17 +101,17 @@ next_of (a ∷ b ∷ []) (d ∷ c ∷ []) h = (a, b, refl, λ i. first d a c b h
     second d a c b h = grind (arith, nat_tests)
 
 -- what holds of a star of two numbers holds of x, which y is next to
-star_of : (P : Record → Record → Type 0) → ((a b : ℕ) → P (of_release (a ∷ b ∷ [])) (of_release (a ∷ (b + 1) ∷ []))) →
+star_of : (P : Record → Record → Type 0) → ((a b : ℕ) → P (from_release (a ∷ b ∷ [])) (from_release (a ∷ (b + 1) ∷ []))) →
     (x y : Record) → IsReleaseOnly x → IsReleaseOnly y → is_next x.release y.release ≡ true → P x y
 star_of P h x y p q e =
     let n = next_of x.release y.release e in
-    subst (λ t. P t y) (sym (p ∙ ap of_release n.2)) (subst (P (of_release (n.0 ∷ n.1 ∷ []))) (sym (q ∙ ap of_release n.3)) (h n.0 n.1))
+    subst (λ t. P t y) (sym (p ∙ ap from_release n.2)) (subst (P (from_release (n.0 ∷ n.1 ∷ []))) (sym (q ∙ ap from_release n.3)) (h n.0 n.1))
 
 next_holds : (x y u : Record) → IsReleaseOnly x → IsReleaseOnly y → IsReleaseOnly u → is_next x.release y.release ≡ true →
     list_matches (spec EqualStar x ∷ []) u ≡ lies_in record_cmp (Included x, Excluded y) u
 next_holds x y u p q r e =
     star_of (λ x y. list_matches (spec EqualStar x ∷ []) u ≡ lies_in record_cmp (Included x, Excluded y) u)
-    (λ a b. and_true (matches EqualStar (of_release (a ∷ b ∷ [])) u) ∙ star_matches a b u r) x y p q e
+    (λ a b. and_true (matches EqualStar (from_release (a ∷ b ∷ [])) u) ∙ star_matches a b u r) x y p q e
 
 next_table : (a b : Bool) → not (not a && b) ≡ a || not b
 next_table true b = refl
@@ -122,8 +122,8 @@ next_gap : (x y u : Record) → IsReleaseOnly x → IsReleaseOnly y → IsReleas
 next_gap x y u p q r e =
     star_of (λ x y. list_matches (spec NotEqualStar x ∷ []) u ≡ is_up_to_end record_cmp (Excluded x) u || is_from_start record_cmp (Included y) u)
     (λ a b.
-    let x = of_release (a ∷ b ∷ []) in
-    let y = of_release (a ∷ (b + 1) ∷ []) in
+    let x = from_release (a ∷ b ∷ []) in
+    let y = from_release (a ∷ (b + 1) ∷ []) in
     and_true (not (matches EqualStar x u)) ∙ ap not (star_matches a b u r)
     ∙ ap (λ c. not (c && is_lt (record_cmp u y))) (turn_le x u)
     ∙ next_table (is_lt (record_cmp u x)) (is_lt (record_cmp u y))

@@ -92,7 +92,7 @@ impl VersionSpecifiersParseError {
     }
 
     // This kind of the text, or out of memory.
-    pub(crate) fn of_text(
+    pub(crate) fn from_text(
         alloc: Global,
         text: &str,
         kind: SpecifiersErrorKind,

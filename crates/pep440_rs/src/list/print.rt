@@ -10,10 +10,7 @@ use crate::specifier::VersionSpecifier;
 use crate::specifier::print::write_specifier;
 use std::fmt;
 
-fn write_later<W: fmt::Write>(
-    f: &mut fmt::Formatter<W>,
-    specifier: &VersionSpecifier,
-) -> fmt::Result
+fn write_rest<W: fmt::Write>(f: &mut fmt::Formatter<W>, specifier: &VersionSpecifier) -> fmt::Result
     ensures { WritesStyledOnOk W.write_str_gives f.old result (codes ", " ++ spec_print specifier.now) f.new }
 {
     f.write_str(", ")?;
@@ -28,7 +25,7 @@ fn write_members<W: fmt::Write>(
     ensures { WritesStyledOnOk W.write_str_gives f.old result (flat_map (λ s. codes ", " ++ spec_print s) members.now) f.new }
 {
     for member in members {
-        write_later(f, member)?;
+        write_rest(f, member)?;
     }
     Ok(())
 }

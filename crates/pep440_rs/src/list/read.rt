@@ -59,8 +59,8 @@ pub(crate) fn members(
         return Ok(members);
     }
     let mut rest = text;
-    while let Some((front, later)) = rest.split_once(',') {
-        add_piece(alloc, &mut members, text.len() - rest.len(), front)?;
+    while let Some((prefix, later)) = rest.split_once(',') {
+        add_piece(alloc, &mut members, text.len() - rest.len(), prefix)?;
         rest = later;
     }
     add_piece(alloc, &mut members, text.len() - rest.len(), rest)?;

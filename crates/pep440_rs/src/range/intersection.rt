@@ -11,7 +11,10 @@ use pep440_version::Version;
 use std::alloc::{AllocError, Global};
 
 // Each two neighbours intersected, and the last range itself where their count is odd.
-fn paired(alloc: Global, ranges: &[Ranges<Version>]) -> Result<Vec<Ranges<Version>>, AllocError>
+fn intersect_pairs(
+    alloc: Global,
+    ranges: &[Ranges<Version>],
+) -> Result<Vec<Ranges<Version>>, AllocError>
     ensures same { IfOk result (λ v. (now : Segments) → fold (overlaps record_cmp) now v.items ≡ fold (overlaps record_cmp) now ranges.now) }
     ensures fewer { 1 < length ranges.now → IfOk result (λ v. length v.items < length ranges.now) }
     ensures kept { All IsKept ranges.now → IfOk result (λ v. All IsKept v.items) }
@@ -35,7 +38,7 @@ fn paired(alloc: Global, ranges: &[Ranges<Version>]) -> Result<Vec<Ranges<Versio
 
 // The intersection of all the ranges in their order, as if taken one after the other. Each pass halves how many
 // there are.
-pub(crate) fn meet(
+pub(crate) fn intersect_all(
     alloc: Global,
     ranges: Vec<Ranges<Version>>,
 ) -> Result<Ranges<Version>, AllocError>
@@ -44,7 +47,7 @@ pub(crate) fn meet(
 {
     let mut level = ranges;
     while level.len() > 1 {
-        level = paired(alloc, &level)?;
+        level = intersect_pairs(alloc, &level)?;
     }
     match level.pop() {
         Some(range) => Ok(range),

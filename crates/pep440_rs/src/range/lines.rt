@@ -15,7 +15,7 @@ use std::ops::Bound;
 #[derive(Clone, Copy)]
 pub struct RangeLines<'a>(pub &'a Ranges<Version>);
 
-#[tactic(auto, using(pep440_version::proofs::Reread::Writing::two_writes))]
+#[tactic(auto, using(pep440_version::proofs::RoundTrip::Writing::two_writes))]
 fn write_start<W: fmt::Write>(f: &mut fmt::Formatter<W>, start: &Bound<Version>) -> fmt::Result
     ensures { WritesStyledOnOk W.write_str_gives f.old result (start_text start.now) f.new }
 {
@@ -32,7 +32,7 @@ fn write_start<W: fmt::Write>(f: &mut fmt::Formatter<W>, start: &Bound<Version>)
     }
 }
 
-#[tactic(auto, using(pep440_version::proofs::Reread::Writing::two_writes))]
+#[tactic(auto, using(pep440_version::proofs::RoundTrip::Writing::two_writes))]
 fn write_end<W: fmt::Write>(f: &mut fmt::Formatter<W>, end: &Bound<Version>) -> fmt::Result
     ensures { WritesStyledOnOk W.write_str_gives f.old result (end_text end.now) f.new }
 {

@@ -8,7 +8,7 @@ ghost use Rattle.pep440_rs.specs.Refused.{TellsMax, raised_number, raised_releas
 
 use crate::list::VersionSpecifiers;
 use crate::range::error::RangeError;
-use crate::range::intersection::meet;
+use crate::range::intersection::intersect_all;
 use crate::range::release_only::release_specifier_to_range;
 use crate::range::whole_order::specifier_to_range;
 use crate::specifier::VersionSpecifier;
@@ -56,7 +56,7 @@ fn list_range(
         let next = conversion.range(alloc, member)?;
         ranges.push(next)?;
     }
-    Ok(meet(alloc, ranges)?)
+    Ok(intersect_all(alloc, ranges)?)
 }
 
 /// The range of a list: all versions, intersected with each member's range in the list's order (PEP 440, "Version

@@ -3,10 +3,10 @@ ghost use Rattle.std.specs.Prelude.{◌≡◌, ◌≤◌, ◌<◌, length, IfOk,
 ghost use Rattle.pep440_rs.specs.Agreement.{Agrees, IsReleaseComparable};
 ghost use Rattle.pep440_rs.specs.Bounds.{release_range_of, release_up_to};
 ghost use Rattle.pep440_rs.specs.Refused.{TellsMax, raised_release_number, raises_max};
-ghost use Rattle.pep440_version.specs.Record.{Record, of_release};
+ghost use Rattle.pep440_version.specs.Record.{Record, from_release};
 
 use crate::range::error::RangeError;
-use crate::range::raised::raised;
+use crate::range::next_release::raise_last;
 use crate::specifier::VersionSpecifier;
 use crate::specifier::contains::without_last;
 use crate::specifier::operator::Operator;
@@ -26,7 +26,7 @@ fn release_up_to(
     ensures range { IfOk result (λ r. release_up_to release.now numbers.now ≡ Some r) }
     ensures refused { IsErrOf result RangeError.NumberAtMax → release_up_to release.now numbers.now ≡ None }
 {
-    let next = raised(alloc, numbers)?;
+    let next = raise_last(alloc, numbers)?;
     let start = Version::new(alloc, release)?;
     let end = Version::new(alloc, &next)?;
     Ok(Ranges::from_range_bounds(alloc, Bound::Included(start), Bound::Excluded(end))?)
@@ -34,7 +34,7 @@ fn release_up_to(
 
 // `!=`: all but the release.
 fn other_than(alloc: Global, release: Version) -> Result<Ranges<Version>, AllocError>
-    requires { release ≡ of_release release.release }
+    requires { release ≡ from_release release.release }
     ensures { IfOk result (λ r. release_range_of Operator.NotEqual release ≡ Some r) }
 {
     let one = Ranges::singleton(alloc, release)?;

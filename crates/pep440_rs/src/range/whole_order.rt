@@ -6,7 +6,7 @@ ghost use Rattle.pep440_rs.specs.Refused.{TellsMax, raised_number, raises_max};
 ghost use Rattle.pep440_version.specs.Record.{Record};
 
 use crate::range::error::RangeError;
-use crate::range::raised::{next_number, raised};
+use crate::range::next_release::{next_number, raise_last};
 use crate::specifier::VersionSpecifier;
 use crate::specifier::contains::without_last;
 use crate::specifier::operator::Operator;
@@ -56,7 +56,7 @@ fn compatible_end(alloc: Global, version: &Version) -> Result<Version, RangeErro
     ensures end { IfOk result (λ v. compatible_end version.now ≡ Some v) }
     ensures refused { IsErrOf result RangeError.NumberAtMax → compatible_end version.now ≡ None }
 {
-    let numbers = raised(alloc, without_last(version.release()))?;
+    let numbers = raise_last(alloc, without_last(version.release()))?;
     let end = Version::new(alloc, &numbers)?.with_epoch(alloc, version.epoch())?;
     Ok(end.with_dev(alloc, Some(0))?)
 }
@@ -71,7 +71,7 @@ fn compatible(alloc: Global, version: Version) -> Result<Ranges<Version>, RangeE
 }
 
 // The version of a star with its last part raised: post, pre or release.
-fn star_raised(alloc: Global, version: Version) -> Result<Version, RangeError>
+fn raise_star(alloc: Global, version: Version) -> Result<Version, RangeError>
     ensures end { IfOk result (λ v. star_end version version.post version.pre ≡ Some (record v { dev = Some 0 })) }
     ensures refused { IsErrOf result RangeError.NumberAtMax → star_end version version.post version.pre ≡ None }
 {
@@ -80,13 +80,13 @@ fn star_raised(alloc: Global, version: Version) -> Result<Version, RangeError>
         Ok(version.with_post(alloc, Some(next))?)
     } else if let Some(pre) = version.pre() {
         let next = next_number(pre.number)?;
-        let raised = Prerelease {
+        let raise_last = Prerelease {
             kind: pre.kind,
             number: next,
         };
-        Ok(version.with_pre(alloc, Some(raised))?)
+        Ok(version.with_pre(alloc, Some(raise_last))?)
     } else {
-        let numbers = raised(alloc, version.release())?;
+        let numbers = raise_last(alloc, version.release())?;
         Ok(version.with_release(alloc, &numbers)?)
     }
 }
@@ -95,8 +95,8 @@ fn star(alloc: Global, version: Version) -> Result<Ranges<Version>, RangeError>
     ensures range { IfOk result (λ r. star version ≡ Some r) }
     ensures refused { IsErrOf result RangeError.NumberAtMax → star version ≡ None }
 {
-    let raised = star_raised(alloc, version.clone()?)?;
-    let end = raised.with_dev(alloc, Some(0))?;
+    let raise_last = raise_star(alloc, version.clone()?)?;
+    let end = raise_last.with_dev(alloc, Some(0))?;
     let start = version.with_dev(alloc, Some(0))?;
     Ok(Ranges::from_range_bounds(alloc, Bound::Included(start), Bound::Excluded(end))?)
 }

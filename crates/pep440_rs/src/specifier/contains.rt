@@ -34,8 +34,8 @@ pub(crate) fn without_last(release: &[u64]) -> &[u64]
 fn begins_with(numbers: &[u64], prefix: &[u64]) -> bool
     ensures { result ≡ begins_with numbers.now prefix.now }
 {
-    let (front, beyond) = prefix.split_at(prefix.len().min(numbers.len()));
-    numbers.starts_with(front) && beyond.iter().all(|number| *number == 0)
+    let (shared, beyond) = prefix.split_at(prefix.len().min(numbers.len()));
+    numbers.starts_with(shared) && beyond.iter().all(|number| *number == 0)
 }
 
 fn has_prefix(specifier: &Version, prefix: &[u64], version: &Version) -> bool

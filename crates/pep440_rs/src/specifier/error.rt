@@ -199,7 +199,7 @@ impl From<VersionSpecifierBuildError> for ParseErrorKind {
 
 impl ParseErrorKind {
     // The refusal of an operator, or out of memory.
-    pub(crate) fn of_operator(error: OperatorParseError) -> ParseErrorKind
+    pub(crate) fn from_operator_error(error: OperatorParseError) -> ParseErrorKind
         ensures refusal { specifier_refusal_of result ≡ option_map InvalidOperator (unknown_of (operator_kind_of error)) }
         ensures lifted { IsLifted result }
     {
@@ -210,7 +210,7 @@ impl ParseErrorKind {
     }
 
     // The refusal of a version, or out of memory.
-    pub(crate) fn of_version(error: VersionPatternParseError) -> ParseErrorKind
+    pub(crate) fn from_version_error(error: VersionPatternParseError) -> ParseErrorKind
         ensures refusal { specifier_refusal_of result ≡ option_map InvalidVersion (pattern_refusal_of (pattern_kind_of error)) }
         ensures lifted { IsLifted result }
     {

@@ -18,7 +18,7 @@ use pep440_version::{LocalSegment, write_local_segments};
 use std::error::Error;
 use std::fmt::{self, Write};
 
-#[tactic(auto, using(pep440_version::proofs::Reread::Writing::two_writes))]
+#[tactic(auto, using(pep440_version::proofs::RoundTrip::Writing::two_writes))]
 fn write_three<W: fmt::Write>(f: &mut fmt::Formatter<W>, a: &str, b: &str, c: &str) -> fmt::Result
     ensures { WritesStyledOnOk W.write_str_gives f.old result (a.now ++ (b.now ++ c.now)) f.new }
 {
@@ -76,7 +76,7 @@ impl fmt::Display for OperatorParseError {
 
 impl Error for OperatorParseError {}
 
-#[tactic(auto, using(pep440_version::proofs::Reread::Writing::two_writes))]
+#[tactic(auto, using(pep440_version::proofs::RoundTrip::Writing::two_writes))]
 fn write_incompatible<W: fmt::Write>(
     f: &mut fmt::Formatter<W>,
     local: &[LocalSegment],
@@ -89,7 +89,7 @@ fn write_incompatible<W: fmt::Write>(
 }
 
 // The refusal of a local part.
-#[tactic(auto, using(pep440_version::proofs::Reread::Writing::two_writes))]
+#[tactic(auto, using(pep440_version::proofs::RoundTrip::Writing::two_writes))]
 fn write_local_combo<W: fmt::Write>(
     f: &mut fmt::Formatter<W>,
     operator: Operator,

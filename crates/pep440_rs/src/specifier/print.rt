@@ -19,7 +19,7 @@ impl fmt::Display for Operator {
 }
 
 // The print of a specifier.
-#[tactic(auto, using(pep440_version::proofs::Reread::Writing::two_writes))]
+#[tactic(auto, using(pep440_version::proofs::RoundTrip::Writing::two_writes))]
 pub(crate) fn write_specifier<W: fmt::Write>(
     f: &mut fmt::Formatter<W>,
     specifier: &VersionSpecifier,

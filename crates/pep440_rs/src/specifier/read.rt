@@ -10,7 +10,7 @@ ghost use Rattle.pep440_rs.specs.SpecifierReading.{ended, read_specifier, with_p
 use crate::specifier::VersionSpecifier;
 use crate::specifier::error::ParseErrorKind;
 use crate::specifier::operator::Operator;
-use crate::specifier::scan::{Run, past_blanks, split_run};
+use crate::specifier::scan::{Run, skip_blanks, split_run};
 use pep440_version::{VersionPattern, VersionPatternParseError};
 use std::alloc::Global;
 
@@ -49,7 +49,7 @@ fn with_version(
     if version.is_empty() {
         return Err(ParseErrorKind::MissingVersion);
     }
-    let pattern = pattern(alloc, version).map_err(ParseErrorKind::of_version)?;
+    let pattern = pattern(alloc, version).map_err(ParseErrorKind::from_version_error)?;
     with_pattern(alloc, operator, pattern, rest)
 }
 
@@ -57,11 +57,11 @@ fn with_version(
 pub(crate) fn specifier(alloc: Global, text: &str) -> Result<VersionSpecifier, ParseErrorKind>
     ensures { SpecifierGives result (read_specifier text.now) }
 {
-    let (spelled, behind) = split_run(past_blanks(text), Run::Operator);
+    let (spelled, behind) = split_run(skip_blanks(text), Run::Operator);
     if spelled.is_empty() {
         return Err(ParseErrorKind::MissingOperator);
     }
-    let operator = Operator::from_str(alloc, spelled).map_err(ParseErrorKind::of_operator)?;
-    let (version, behind) = split_run(past_blanks(behind), Run::Word);
-    with_version(alloc, operator, version, past_blanks(behind))
+    let operator = Operator::from_str(alloc, spelled).map_err(ParseErrorKind::from_operator_error)?;
+    let (version, behind) = split_run(skip_blanks(behind), Run::Word);
+    with_version(alloc, operator, version, skip_blanks(behind))
 }

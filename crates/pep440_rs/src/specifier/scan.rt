@@ -26,7 +26,7 @@ impl Run {
 }
 
 // What follows the longest run at the front.
-fn past_run(text: &str, run: Run) -> &str
+fn skip_run(text: &str, run: Run) -> &str
     ensures back { chars result.now ≡ past (passes run) (chars text.now) }
     ensures ends { EndsWith text.now result.now }
 {
@@ -43,15 +43,15 @@ fn past_run(text: &str, run: Run) -> &str
 
 // The longest run at the front, and what follows it.
 pub(crate) fn split_run(text: &str, run: Run) -> (&str, &str)
-    ensures front { result.0.now ≡ encode_utf8_all (lead (passes run) (chars text.now)) }
+    ensures prefix { result.0.now ≡ encode_utf8_all (lead (passes run) (chars text.now)) }
     ensures back { chars result.1.now ≡ past (passes run) (chars text.now) }
     ensures bytes { result.1.now ≡ encode_utf8_all (past (passes run) (chars text.now)) }
 {
-    let rest = past_run(text, run);
+    let rest = skip_run(text, run);
     text.split_at(text.len() - rest.len())
 }
 
-pub(crate) fn past_blanks(text: &str) -> &str
+pub(crate) fn skip_blanks(text: &str) -> &str
     ensures back { chars result.now ≡ past is_whitespace (chars text.now) }
     ensures bytes { result.now ≡ encode_utf8_all (past is_whitespace (chars text.now)) }
 {

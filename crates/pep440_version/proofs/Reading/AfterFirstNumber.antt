@@ -4,38 +4,38 @@ use Rattle.std.proofs.lemmas.Bool.{cases_Bool}
 use Rattle.std.proofs.lemmas.List.{append_assoc, append-nil, length-append}
 use Rattle.std.specs.Char.{is_ascii_digit}
 use Rattle.pep440_version.specs.Grammar.{starts}
-use Rattle.pep440_version.specs.Reading.{Read, ◌>>=◌, starts_number, number_at, goes_on, release_at, more_at, release_from}
+use Rattle.pep440_version.specs.Reading.{Read, ◌>>=◌, starts_with_number, parse_number, has_next_number, parse_release, parse_more_numbers, parse_release_from}
 use Rattle.pep440_version.specs.Refusals.{Refusal}
-use Rattle.pep440_version.specs.Whole.{release_after_first, front_at}
-use Rattle.pep440_version.proofs.Reading.Fronts.{both_first, both_second}
+use Rattle.pep440_version.specs.Whole.{parse_release_after_first, parse_epoch_and_release}
+use Rattle.pep440_version.proofs.Reading.Prefixes.{both_first, both_second}
 use Rattle.pep440_version.proofs.Reading.ReadIsDerived.{drop_one, number_takes}
-use Rattle.pep440_version.proofs.Reading.NumbersInTurn.{with_front}
+use Rattle.pep440_version.proofs.Reading.NumbersInTurn.{with_prefix}
 
 -- what follows a dot is shorter
-shorter : (t after : List ℕ) (n : ℕ) → starts is_ascii_digit t ≡ true → number_at t ≡ Ok (n, after) → length after < length t
+shorter : (t after : List ℕ) (n : ℕ) → starts is_ascii_digit t ≡ true → parse_number t ≡ Ok (n, after) → length after < length t
 shorter t after n s e =
     let x = number_takes t (n, after) s e in
     let long = ap length x.2 ∙ length-append x.0 after in
     omega (arith, long, x.1.0)
 
-past_dot : (t : List ℕ) → goes_on t ≡ true → suc (length (drop 1 t)) ≡ length t
-past_dot t g = sym (ap length (drop_one 46 t (both_first _ (starts_number (drop 1 t)) g)))
+past_dot : (t : List ℕ) → has_next_number t ≡ true → suc (length (drop 1 t)) ≡ length t
+past_dot t g = sym (ap length (drop_one 46 t (both_first _ (starts_with_number (drop 1 t)) g)))
 
 -- the numbers from a first one on
 abbrev numbers : ℕ → Read (ℕ × List ℕ) → Read (List ℕ × List ℕ)
-numbers k r = r >>= λ n. if goes_on n.1 then (release_at k (drop 1 n.1) >>= λ rest. Ok (n.0 ∷ rest.0, rest.1)) else Ok (n.0 ∷ [], n.1)
+numbers k r = r >>= λ n. if has_next_number n.1 then (parse_release k (drop 1 n.1) >>= λ rest. Ok (n.0 ∷ rest.0, rest.1)) else Ok (n.0 ∷ [], n.1)
 
 -- more rounds than bytes change nothing
-pub release_fuel : (k j : ℕ) (t : List ℕ) → starts is_ascii_digit t ≡ true → length t ≤ k → length t ≤ j → release_at k t ≡ release_at j t
-unfolding release_at
+pub release_fuel : (k j : ℕ) (t : List ℕ) → starts is_ascii_digit t ≡ true → length t ≤ k → length t ≤ j → parse_release k t ≡ parse_release j t
+unfolding parse_release
 release_fuel k j [] s less more = cc s
 release_fuel zero j (b ∷ t) s less more = absurd (omega (arith, less))
 release_fuel k zero (b ∷ t) s less more = absurd (omega (arith, more))
-release_fuel (suc k) (suc j) (b ∷ t) s less more = by (λ u. release_fuel k j u) (number_at (b ∷ t)) refl
+release_fuel (suc k) (suc j) (b ∷ t) s less more = by (λ u. release_fuel k j u) (parse_number (b ∷ t)) refl
   where
-    by : ((u : List ℕ) → starts is_ascii_digit u ≡ true → length u ≤ k → length u ≤ j → release_at k u ≡ release_at j u) → (r : Read (ℕ × List ℕ)) → number_at (b ∷ t) ≡ r → numbers k r ≡ numbers j r
+    by : ((u : List ℕ) → starts is_ascii_digit u ≡ true → length u ≤ k → length u ≤ j → parse_release k u ≡ parse_release j u) → (r : Read (ℕ × List ℕ)) → parse_number (b ∷ t) ≡ r → numbers k r ≡ numbers j r
     by again (Err f) e = refl
-    by again (Ok n) e = elim (cases_Bool (goes_on n.1)) [
+    by again (Ok n) e = elim (cases_Bool (has_next_number n.1)) [
       | inl g ↦
           let down = shorter (b ∷ t) n.1 n.0 s e in
           let dot = past_dot n.1 g in
@@ -44,10 +44,10 @@ release_fuel (suc k) (suc j) (b ∷ t) s less more = by (λ u. release_fuel k j 
     ]
 
 -- a release is its first number and what follows it
-pub release_split : (t after : List ℕ) (n : ℕ) → starts is_ascii_digit t ≡ true → number_at t ≡ Ok (n, after) → release_at (length t) t ≡ release_from n after
-unfolding release_at
+pub release_split : (t after : List ℕ) (n : ℕ) → starts is_ascii_digit t ≡ true → parse_number t ≡ Ok (n, after) → parse_release (length t) t ≡ parse_release_from n after
+unfolding parse_release
 release_split [] after n s e = cc s
-release_split (b ∷ t) after n s e = rw e (elim (cases_Bool (goes_on after)) [
+release_split (b ∷ t) after n s e = rw e (elim (cases_Bool (has_next_number after)) [
   | inl g ↦
       let down = shorter (b ∷ t) after n s e in
       let dot = past_dot after g in
@@ -56,50 +56,50 @@ release_split (b ∷ t) after n s e = rw e (elim (cases_Bool (goes_on after)) [
 ])
 
 -- one more number
-pub more_on : (k : ℕ) (rest after front : List ℕ) (n : ℕ) → goes_on rest ≡ true → number_at (drop 1 rest) ≡ Ok (n, after) → with_front front (more_at (suc k) rest) ≡ with_front (front ++ n ∷ []) (more_at k after)
-unfolding release_at
-more_on k rest after front n g e = rw (g, e) (elim (cases_Bool (goes_on after)) [
-  | inl h ↦ rw h (again (release_at k (drop 1 after)))
-  | inr h ↦ rw h (ap (λ l. Ok (l, after)) (sym (append-nil (front ++ n ∷ []))))
+pub more_on : (k : ℕ) (rest after prefix : List ℕ) (n : ℕ) → has_next_number rest ≡ true → parse_number (drop 1 rest) ≡ Ok (n, after) → with_prefix prefix (parse_more_numbers (suc k) rest) ≡ with_prefix (prefix ++ n ∷ []) (parse_more_numbers k after)
+unfolding parse_release
+more_on k rest after prefix n g e = rw (g, e) (elim (cases_Bool (has_next_number after)) [
+  | inl h ↦ rw h (again (parse_release k (drop 1 after)))
+  | inr h ↦ rw h (ap (λ l. Ok (l, after)) (sym (append-nil (prefix ++ n ∷ []))))
 ])
   where
-    again : (r : Read (List ℕ × List ℕ)) → with_front front (with_front (n ∷ []) r) ≡ with_front (front ++ n ∷ []) r
-    again (Ok x) = ap (λ l. Ok (l, x.1)) (sym (append_assoc front (n ∷ []) x.0))
+    again : (r : Read (List ℕ × List ℕ)) → with_prefix prefix (with_prefix (n ∷ []) r) ≡ with_prefix (prefix ++ n ∷ []) r
+    again (Ok x) = ap (λ l. Ok (l, x.1)) (sym (append_assoc prefix (n ∷ []) x.0))
     again (Err f) = refl
 
-pub more_end : (k : ℕ) (rest front : List ℕ) → goes_on rest ≡ false → with_front front (more_at k rest) ≡ Ok (front, rest)
-more_end k rest front g = rw g (ap (λ l. Ok (l, rest)) (append-nil front))
+pub more_end : (k : ℕ) (rest prefix : List ℕ) → has_next_number rest ≡ false → with_prefix prefix (parse_more_numbers k rest) ≡ Ok (prefix, rest)
+more_end k rest prefix g = rw g (ap (λ l. Ok (l, rest)) (append-nil prefix))
 
-pub more_err : (k : ℕ) (rest front : List ℕ) (f : Refusal) → goes_on rest ≡ true → number_at (drop 1 rest) ≡ Err f → with_front front (more_at (suc k) rest) ≡ Err f
-unfolding release_at
-more_err k rest front f g e = rw (g, e) refl
+pub more_err : (k : ℕ) (rest prefix : List ℕ) (f : Refusal) → has_next_number rest ≡ true → parse_number (drop 1 rest) ≡ Err f → with_prefix prefix (parse_more_numbers (suc k) rest) ≡ Err f
+unfolding parse_release
+more_err k rest prefix f g e = rw (g, e) refl
 
-pub nothing_left : (rest : List ℕ) → length rest ≤ 0 → goes_on rest ≡ false
+pub nothing_left : (rest : List ℕ) → length rest ≤ 0 → has_next_number rest ≡ false
 nothing_left [] h = refl
 nothing_left (b ∷ t) h = absurd (omega (arith, h))
 
-pub more_shorter : (k : ℕ) (rest after : List ℕ) (n : ℕ) → goes_on rest ≡ true → number_at (drop 1 rest) ≡ Ok (n, after) → length rest ≤ suc k → length after ≤ k
+pub more_shorter : (k : ℕ) (rest after : List ℕ) (n : ℕ) → has_next_number rest ≡ true → parse_number (drop 1 rest) ≡ Ok (n, after) → length rest ≤ suc k → length after ≤ k
 more_shorter k rest after n g e h =
     let down = shorter (drop 1 rest) after n (both_second (starts (λ c. c == 46) rest) _ g) e in
     let dot = past_dot rest g in
     omega (arith, down, dot, h)
 
-release_err : (t : List ℕ) (f : Refusal) → starts is_ascii_digit t ≡ true → number_at t ≡ Err f → release_at (length t) t ≡ Err f
-unfolding release_at
+release_err : (t : List ℕ) (f : Refusal) → starts is_ascii_digit t ≡ true → parse_number t ≡ Err f → parse_release (length t) t ≡ Err f
+unfolding parse_release
 release_err [] f s e = cc s
 release_err (b ∷ t) f s e = rw e refl
 
 -- ---- epoch and release, number by number
 
-pub front_plain : (t after : List ℕ) (n : ℕ) → starts_number t ≡ true → number_at t ≡ Ok (n, after) → starts (λ b. b == 33) after ≡ false → front_at t ≡ release_after_first 0 n after
-unfolding front_at
-front_plain t after n s e none = rw (s, e, none) (ap (λ (r : Read (List ℕ × List ℕ)). r >>= λ x. Ok ((0, x.0), x.1)) (release_split t after n s e))
+pub prefix_plain : (t after : List ℕ) (n : ℕ) → starts_with_number t ≡ true → parse_number t ≡ Ok (n, after) → starts (λ b. b == 33) after ≡ false → parse_epoch_and_release t ≡ parse_release_after_first 0 n after
+unfolding parse_epoch_and_release
+prefix_plain t after n s e none = rw (s, e, none) (ap (λ (r : Read (List ℕ × List ℕ)). r >>= λ x. Ok ((0, x.0), x.1)) (release_split t after n s e))
 
-pub front_epoch : (t after behind : List ℕ) (n first : ℕ) → starts_number t ≡ true → number_at t ≡ Ok (n, after) → starts (λ b. b == 33) after ≡ true → starts_number (drop 1 after) ≡ true → number_at (drop 1 after) ≡ Ok (first, behind)
-    → front_at t ≡ release_after_first n first behind
-unfolding front_at
-front_epoch t after behind n first s e bang d g = rw (s, e, bang, d) (ap (λ (r : Read (List ℕ × List ℕ)). r >>= λ x. Ok ((n, x.0), x.1)) (release_split (drop 1 after) behind first d g))
+pub prefix_epoch : (t after behind : List ℕ) (n first : ℕ) → starts_with_number t ≡ true → parse_number t ≡ Ok (n, after) → starts (λ b. b == 33) after ≡ true → starts_with_number (drop 1 after) ≡ true → parse_number (drop 1 after) ≡ Ok (first, behind)
+    → parse_epoch_and_release t ≡ parse_release_after_first n first behind
+unfolding parse_epoch_and_release
+prefix_epoch t after behind n first s e bang d g = rw (s, e, bang, d) (ap (λ (r : Read (List ℕ × List ℕ)). r >>= λ x. Ok ((n, x.0), x.1)) (release_split (drop 1 after) behind first d g))
 
-pub front_err : (t after : List ℕ) (n : ℕ) (f : Refusal) → starts_number t ≡ true → number_at t ≡ Ok (n, after) → starts (λ b. b == 33) after ≡ true → starts_number (drop 1 after) ≡ true → number_at (drop 1 after) ≡ Err f → front_at t ≡ Err f
-unfolding front_at
-front_err t after n f s e bang d g = rw (s, e, bang, d) (ap (λ (r : Read (List ℕ × List ℕ)). r >>= λ x. Ok ((n, x.0), x.1)) (release_err (drop 1 after) f d g))
+pub prefix_err : (t after : List ℕ) (n : ℕ) (f : Refusal) → starts_with_number t ≡ true → parse_number t ≡ Ok (n, after) → starts (λ b. b == 33) after ≡ true → starts_with_number (drop 1 after) ≡ true → parse_number (drop 1 after) ≡ Err f → parse_epoch_and_release t ≡ Err f
+unfolding parse_epoch_and_release
+prefix_err t after n f s e bang d g = rw (s, e, bang, d) (ap (λ (r : Read (List ℕ × List ℕ)). r >>= λ x. Ok ((n, x.0), x.1)) (release_err (drop 1 after) f d g))

@@ -5,10 +5,10 @@ use Rattle.std.specs.Char.{is_ascii_digit, to_ascii_lowercase, is_ascii_whitespa
 use Rattle.std.specs.List.{list_all}
 use Rattle.pep440_version.specs.declared.prerelease.Prerelease.{Prerelease}
 use Rattle.pep440_version.specs.Grammar.{AreBlanks, Spellings, IsSpelling, IsSpelled, IsSeparator, is_separator, pre_spellings, post_spellings, dev_spellings, IsPre, IsPost, IsDev, IsLocal, starts}
-use Rattle.pep440_version.specs.Reading.{goes_on}
-use Rattle.pep440_version.specs.Record.{Segment}
-use Rattle.pep440_version.specs.Whole.{is_star}
-use Rattle.pep440_version.proofs.Reading.Fronts.{both_first, blank_not_digit, blank_not_dot, blank_not_bang}
+use Rattle.pep440_version.specs.Reading.{has_next_number}
+use Rattle.pep440_version.specs.Record.{LocalSegmentValue}
+use Rattle.pep440_version.specs.Whole.{starts_with_star}
+use Rattle.pep440_version.proofs.Reading.Prefixes.{both_first, blank_not_digit, blank_not_dot, blank_not_bang}
 use Rattle.pep440_version.proofs.Reading.SpelledIsRead.{is_letter, is_extension, BeginWithLetters, letters_pre, letters_post, letters_dev, regroup, separator_no_digit, and_false}
 use Rattle.pep440_version.proofs.Reading.SuffixesAreRead.{IsQuiet}
 use Rattle.pep440_version.proofs.Reading.LocalAgrees.{blank_not_separator}
@@ -16,8 +16,8 @@ use Rattle.pep440_version.proofs.Reading.LocalAgrees.{blank_not_separator}
 -- no digit, no dot before a digit or a star, no `!`
 pub record Follows (t : List ℕ) : Type 0 where
   pub digit : starts is_ascii_digit t ≡ false
-  pub goes : goes_on t ≡ false
-  pub star : is_star t ≡ false
+  pub goes : has_next_number t ≡ false
+  pub star : starts_with_star t ≡ false
   pub bang : starts (λ b. b == 33) t ≡ false
 
 letter_is : (b c : ℕ) → to_ascii_lowercase b ≡ c → 97 ≤ c → c ≤ 122 → is_letter b ≡ true
@@ -91,11 +91,11 @@ pub plus_no_letter : is_letter 43 ≡ false
 unfolding is_letter
 plus_no_letter = refl
 
-pub quiet_local : (l w : List ℕ) (ss : List Segment) → IsLocal l ss → AreBlanks w → IsQuiet (l ++ w)
+pub quiet_local : (l w : List ℕ) (ss : List LocalSegmentValue) → IsLocal l ss → AreBlanks w → IsQuiet (l ++ w)
 quiet_local l w [] h blanks = rw h (quiet_blanks w blanks)
 quiet_local l w (s ∷ rest) h blanks = rw h.2 (record { separator = refl; letter = plus_no_letter; digit = refl; extension = refl; bare = refl })
 
-pub follows_local : (l w : List ℕ) (ss : List Segment) → IsLocal l ss → AreBlanks w → Follows (l ++ w)
+pub follows_local : (l w : List ℕ) (ss : List LocalSegmentValue) → IsLocal l ss → AreBlanks w → Follows (l ++ w)
 follows_local l w [] h blanks = rw h (follows_blanks w blanks)
 follows_local l w (s ∷ rest) h blanks = rw h.2 (record { digit = refl; goes = refl; star = refl; bang = refl })
 

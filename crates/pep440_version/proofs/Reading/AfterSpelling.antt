@@ -4,26 +4,26 @@ use Rattle.pep440_version.specs.declared.prerelease.PrereleaseKind.{PrereleaseKi
 use Rattle.pep440_version.specs.Grammar.{Spellings, pre_spellings, post_spellings}
 use Rattle.pep440_version.specs.Reading.{◌>>=◌}
 use Rattle.pep440_version.specs.Refusals.{Refusal}
-use Rattle.pep440_version.specs.Suffixes.{spelled, past_separator, count_at, after_spelling, suffix_at, pre_at, prerelease_of, number_of, spelled_post_at}
+use Rattle.pep440_version.specs.Suffixes.{spelled, skip_separator, parse_count, after_spelling, parse_suffix, parse_pre, suffix_prerelease, suffix_number, parse_spelled_post}
 use Rattle.pep440_version.proofs.Reading.ReadIsSpelled.{some}
 
-suffix_ok : {A : Type 0} (table : Spellings A) (t after rest : List ℕ) (a : A) (n : ℕ) → option_map {U = A × List ℕ} (λ x. (x.0, drop x.1 (past_separator t))) (spelled table (past_separator t)) ≡ Some (a, after)
-    → count_at (past_separator after) ≡ Ok (n, rest) → suffix_at table t ≡ Ok (Some (a, n), rest)
-suffix_ok {A} table t after rest a n h e = by (spelled table (past_separator t)) h
+suffix_ok : {A : Type 0} (table : Spellings A) (t after rest : List ℕ) (a : A) (n : ℕ) → option_map {U = A × List ℕ} (λ x. (x.0, drop x.1 (skip_separator t))) (spelled table (skip_separator t)) ≡ Some (a, after)
+    → parse_count (skip_separator after) ≡ Ok (n, rest) → parse_suffix table t ≡ Ok (Some (a, n), rest)
+suffix_ok {A} table t after rest a n h e = by (spelled table (skip_separator t)) h
   where
-    by : (o : Option (A × ℕ)) → option_map {U = A × List ℕ} (λ x. (x.0, drop x.1 (past_separator t))) o ≡ Some (a, after) → after_spelling t (past_separator t) o ≡ Ok (Some (a, n), rest)
+    by : (o : Option (A × ℕ)) → option_map {U = A × List ℕ} (λ x. (x.0, drop x.1 (skip_separator t))) o ≡ Some (a, after) → after_spelling t (skip_separator t) o ≡ Ok (Some (a, n), rest)
     by None h = cc h
     by (Some x) h =
         let same = some _ _ h in
         let which : x.0 ≡ a = ap (λ (p : A × List ℕ). p.0) same in
-        let left : drop x.1 (past_separator t) ≡ after = ap (λ (p : A × List ℕ). p.1) same in
+        let left : drop x.1 (skip_separator t) ≡ after = ap (λ (p : A × List ℕ). p.1) same in
         rw (left, e, which) refl
 
-suffix_err : {A : Type 0} (table : Spellings A) (t after : List ℕ) (f : Refusal) → option_map (λ x. drop x.1 (past_separator t)) (spelled table (past_separator t)) ≡ Some after
-    → count_at (past_separator after) ≡ Err f → suffix_at table t ≡ Err f
-suffix_err {A} table t after f h e = by (spelled table (past_separator t)) h
+suffix_err : {A : Type 0} (table : Spellings A) (t after : List ℕ) (f : Refusal) → option_map (λ x. drop x.1 (skip_separator t)) (spelled table (skip_separator t)) ≡ Some after
+    → parse_count (skip_separator after) ≡ Err f → parse_suffix table t ≡ Err f
+suffix_err {A} table t after f h e = by (spelled table (skip_separator t)) h
   where
-    by : (o : Option (A × ℕ)) → option_map (λ x. drop x.1 (past_separator t)) o ≡ Some after → after_spelling t (past_separator t) o ≡ Err f
+    by : (o : Option (A × ℕ)) → option_map (λ x. drop x.1 (skip_separator t)) o ≡ Some after → after_spelling t (skip_separator t) o ≡ Err f
     by None h = cc h
     by (Some x) h = rw (some _ _ h, e) refl
 
@@ -31,14 +31,14 @@ forget : {A : Type 0} (w after : List ℕ) (a : A) (o : Option (A × ℕ)) → o
 forget w after a None h = cc h
 forget {A} w after a (Some x) h = ap Some (ap (λ (p : A × List ℕ). p.1) (some _ _ h))
 
-pub pre_ok : (t after rest : List ℕ) (k : PrereleaseKind) (n : ℕ) → option_map {U = PrereleaseKind × List ℕ} (λ x. (x.0, drop x.1 (past_separator t))) (spelled pre_spellings (past_separator t)) ≡ Some (k, after)
-    → count_at (past_separator after) ≡ Ok (n, rest) → pre_at t ≡ Ok (Some (record { kind = k; number = n }), rest)
-pre_ok t after rest k n h e = ap (λ r. r >>= λ x. Ok (prerelease_of x.0, x.1)) (suffix_ok pre_spellings t after rest k n h e)
+pub pre_ok : (t after rest : List ℕ) (k : PrereleaseKind) (n : ℕ) → option_map {U = PrereleaseKind × List ℕ} (λ x. (x.0, drop x.1 (skip_separator t))) (spelled pre_spellings (skip_separator t)) ≡ Some (k, after)
+    → parse_count (skip_separator after) ≡ Ok (n, rest) → parse_pre t ≡ Ok (Some (record { kind = k; number = n }), rest)
+pre_ok t after rest k n h e = ap (λ r. r >>= λ x. Ok (suffix_prerelease x.0, x.1)) (suffix_ok pre_spellings t after rest k n h e)
 
-pub pre_err : (t after : List ℕ) (k : PrereleaseKind) (f : Refusal) → option_map {U = PrereleaseKind × List ℕ} (λ x. (x.0, drop x.1 (past_separator t))) (spelled pre_spellings (past_separator t)) ≡ Some (k, after)
-    → count_at (past_separator after) ≡ Err f → pre_at t ≡ Err f
-pre_err t after k f h e = ap (λ r. r >>= λ x. Ok (prerelease_of x.0, x.1)) (suffix_err pre_spellings t after f (forget (past_separator t) after k (spelled pre_spellings (past_separator t)) h) e)
+pub pre_err : (t after : List ℕ) (k : PrereleaseKind) (f : Refusal) → option_map {U = PrereleaseKind × List ℕ} (λ x. (x.0, drop x.1 (skip_separator t))) (spelled pre_spellings (skip_separator t)) ≡ Some (k, after)
+    → parse_count (skip_separator after) ≡ Err f → parse_pre t ≡ Err f
+pre_err t after k f h e = ap (λ r. r >>= λ x. Ok (suffix_prerelease x.0, x.1)) (suffix_err pre_spellings t after f (forget (skip_separator t) after k (spelled pre_spellings (skip_separator t)) h) e)
 
-pub post_err : (t after : List ℕ) (a : Unit {0}) (f : Refusal) → option_map {U = Unit {0} × List ℕ} (λ x. (x.0, drop x.1 (past_separator t))) (spelled post_spellings (past_separator t)) ≡ Some (a, after)
-    → count_at (past_separator after) ≡ Err f → spelled_post_at t ≡ Err f
-post_err t after a f h e = ap (λ r. r >>= λ x. Ok (number_of x.0, x.1)) (suffix_err post_spellings t after f (forget (past_separator t) after a (spelled post_spellings (past_separator t)) h) e)
+pub post_err : (t after : List ℕ) (a : Unit {0}) (f : Refusal) → option_map {U = Unit {0} × List ℕ} (λ x. (x.0, drop x.1 (skip_separator t))) (spelled post_spellings (skip_separator t)) ≡ Some (a, after)
+    → parse_count (skip_separator after) ≡ Err f → parse_spelled_post t ≡ Err f
+post_err t after a f h e = ap (λ r. r >>= λ x. Ok (suffix_number x.0, x.1)) (suffix_err post_spellings t after f (forget (skip_separator t) after a (spelled post_spellings (skip_separator t)) h) e)

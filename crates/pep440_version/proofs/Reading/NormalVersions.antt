@@ -17,7 +17,7 @@ use Rattle.pep440_version.specs.declared.prerelease.PrereleaseKind.TheVariants.{
 use Rattle.pep440_version.specs.Form.{IsWord, packed_record, record_in}
 use Rattle.pep440_version.specs.Grammar.{Derives, IsLeadingV, IsNumber, IsRelease, IsSpelled, IsSpelling, IsPre, IsPost, IsDev, Spellings, IsSeparator, pre_spellings, post_spellings, dev_spellings}
 use Rattle.pep440_version.specs.Normal.{IsClass, IsKnown, IsPadded, IsSuffix, spelling}
-use Rattle.pep440_version.specs.Record.{of_parts}
+use Rattle.pep440_version.specs.Record.{from_parts}
 use Rattle.pep440_version.specs.Word.{is_short, word_of}
 use Rattle.pep440_version.proofs.Word.Shown.{Given, shown}
 
@@ -85,10 +85,10 @@ release_more a ds (x ∷ m ∷ more) n h d = (
 
 -- numbers that are padded, a release that they are, and the rest of the text
 pub record Released (text rest : List ℕ) (count : ℕ) (numbers : List ℕ) : Type 0 where
-  pub padded : IsPadded count numbers
+  pub pad_with_zeros : IsPadded count numbers
   pub release : List ℕ
   pub is : IsRelease release (take count numbers)
-  pub cut : text ≡ release ++ rest
+  pub decomposition : text ≡ release ++ rest
 
 zeros_from : (n : ℕ) (k : ℕ) → 1 ≤ k → get_or (n ∷ 0 ∷ 0 ∷ 0 ∷ []) k 0 ≡ 0
 zeros_from n zero h = absurd (omega (arith, h))
@@ -99,26 +99,26 @@ zeros_from n (suc (suc (suc (suc k)))) h = refl
 
 pub one_number : (text rest : List ℕ) (n : ℕ) → ((digits : List ℕ) × IsNumber digits n × (n ≤ 2097151) × (text ≡ digits ++ rest)) → Released text rest 1 (n ∷ 0 ∷ 0 ∷ 0 ∷ [])
 one_number text rest n h = record {
-  padded = record { some = omega arith; few = omega arith; four = refl; zeros = zeros_from n };
+  pad_with_zeros = record { some = omega arith; few = omega arith; four = refl; zeros = zeros_from n };
   release = h.0;
   is = h.1;
-  cut = h.3;
+  decomposition = h.3;
 }
 
 pub number_more : (text rest after numbers : List ℕ) (count n : ℕ) → count < 4 → Released text rest count numbers
     → ((digits : List ℕ) × IsNumber digits n × (n ≤ 2097151) × (rest ≡ 46 ∷ (digits ++ after))) → Released text after (count + 1) (set numbers count n)
 number_more text rest after numbers count n room r h =
-    let inside : count < length numbers = omega (arith, r.padded.four) in
+    let inside : count < length numbers = omega (arith, r.pad_with_zeros.four) in
     record {
-      padded = record {
+      pad_with_zeros = record {
         some = omega arith;
         few = omega arith;
-        four = length-set numbers count n ∙ r.padded.four;
-        zeros = λ k past. get_or-set_other numbers count k n 0 (λ e. omega (arith, e, past)) ∙ r.padded.zeros k (omega (arith, past));
+        four = length-set numbers count n ∙ r.pad_with_zeros.four;
+        zeros = λ k past. get_or-set_other numbers count k n 0 (λ e. omega (arith, e, past)) ∙ r.pad_with_zeros.zeros k (omega (arith, past));
       };
       release = r.release ++ (46 ∷ h.0);
       is = subst (IsRelease (r.release ++ (46 ∷ h.0))) (sym (take_more_set numbers count n inside)) (release_more r.release h.0 (take count numbers) n r.is h.1);
-      cut = r.cut ∙ ap (λ t. r.release ++ t) h.3 ∙ sym (append_assoc r.release (46 ∷ h.0) after);
+      decomposition = r.decomposition ∙ ap (λ t. r.release ++ t) h.3 ∙ sym (append_assoc r.release (46 ∷ h.0) after);
     }
 
 -- ---- a word
@@ -171,8 +171,8 @@ packs numbers count class n w p k small short sum =
 -- ---- a version
 
 parted : (text v release p q d ns : List ℕ) (pre : Option Prerelease) (post dev : Option ℕ) → text ≡ v ++ (release ++ (p ++ (q ++ (d ++ [])))) → IsLeadingV v
-    → IsRelease release ns → IsPre p (q ++ (d ++ [])) pre → IsPost q (d ++ []) post → IsDev d [] dev → Derives text (of_parts 0 ns pre post dev [])
-parted text v release p q d ns pre post dev cut hv hr hp hq hd = record {
+    → IsRelease release ns → IsPre p (q ++ (d ++ [])) pre → IsPost q (d ++ []) post → IsDev d [] dev → Derives text (from_parts 0 ns pre post dev [])
+parted text v release p q d ns pre post dev decomposition hv hr hp hq hd = record {
   w1 = [];
   v = v;
   e = [];
@@ -182,7 +182,7 @@ parted text v release p q d ns pre post dev cut hv hr hp hq hd = record {
   d = d;
   l = [];
   w2 = [];
-  cut = cut;
+  decomposition = decomposition;
   blanks = refl;
   letter = hv;
   epoch = inl (refl, refl);
@@ -203,7 +203,7 @@ spelled_so table before word digits a n hb hw hn = record {
   word = word;
   between = [];
   digits = digits;
-  cut = refl;
+  decomposition = refl;
   first = hb;
   spelling = hw;
   second = inl refl;
@@ -212,34 +212,34 @@ spelled_so table before word digits a n hb hw hn = record {
   keeps_digits = refl;
 }
 
-cut_of : (text v release rest part : List ℕ) → text ≡ v ++ (release ++ rest) → rest ≡ part → text ≡ v ++ (release ++ (part ++ []))
-cut_of text v release rest part cut is = cut ∙ ap (λ t. v ++ (release ++ t)) (is ∙ sym (append-nil part))
+split_of : (text v release rest part : List ℕ) → text ≡ v ++ (release ++ rest) → rest ≡ part → text ≡ v ++ (release ++ (part ++ []))
+split_of text v release rest part decomposition is = decomposition ∙ ap (λ t. v ++ (release ++ t)) (is ∙ sym (append-nil part))
 
 of_class : (text v release rest digits ns : List ℕ) (class n : ℕ) → text ≡ v ++ (release ++ rest) → IsLeadingV v → IsRelease release ns → IsClass class → IsNumber digits n
     → rest ≡ spelling class ++ digits → Derives text (record_in ns class n)
-of_class text v release rest digits ns class n cut hv hr k hn is = elim k [
+of_class text v release rest digits ns class n decomposition hv hr k hn is = elim k [
   | inl e ↦
       subst (λ c. Derives text (record_in ns c n)) (sym e)
-      (parted text v release [] [] (codes ".dev" ++ digits) ns None None (Some n) (cut_of text v release rest (codes ".dev" ++ digits) cut (is ∙ ap (λ c. spelling c ++ digits) e)) hv hr refl refl
+      (parted text v release [] [] (codes ".dev" ++ digits) ns None None (Some n) (split_of text v release rest (codes ".dev" ++ digits) decomposition (is ∙ ap (λ c. spelling c ++ digits) e)) hv hr refl refl
       (spelled_so dev_spellings (codes ".") (codes "dev") digits tt n (inr (46, refl, refl)) (inl (refl, refl)) hn))
   | inr k ↦ elim k [
     | inl e ↦
         subst (λ c. Derives text (record_in ns c n)) (sym e)
-        (parted text v release (codes "a" ++ digits) [] [] ns (Some (record { kind = Alpha; number = n })) None None (cut_of text v release rest (codes "a" ++ digits) cut (is ∙ ap (λ c. spelling c ++ digits) e)) hv hr
+        (parted text v release (codes "a" ++ digits) [] [] ns (Some (record { kind = Alpha; number = n })) None None (split_of text v release rest (codes "a" ++ digits) decomposition (is ∙ ap (λ c. spelling c ++ digits) e)) hv hr
         (spelled_so pre_spellings [] (codes "a") digits Alpha n (inl refl) (inr (inl (refl, refl))) hn) refl refl)
     | inr k ↦ elim k [
       | inl e ↦
           subst (λ c. Derives text (record_in ns c n)) (sym e)
-          (parted text v release (codes "b" ++ digits) [] [] ns (Some (record { kind = Beta; number = n })) None None (cut_of text v release rest (codes "b" ++ digits) cut (is ∙ ap (λ c. spelling c ++ digits) e)) hv hr
+          (parted text v release (codes "b" ++ digits) [] [] ns (Some (record { kind = Beta; number = n })) None None (split_of text v release rest (codes "b" ++ digits) decomposition (is ∙ ap (λ c. spelling c ++ digits) e)) hv hr
           (spelled_so pre_spellings [] (codes "b") digits Beta n (inl refl) (inr (inr (inr (inl (refl, refl))))) hn) refl refl)
       | inr k ↦ elim k [
         | inl e ↦
             subst (λ c. Derives text (record_in ns c n)) (sym e)
-            (parted text v release (codes "rc" ++ digits) [] [] ns (Some (record { kind = Rc; number = n })) None None (cut_of text v release rest (codes "rc" ++ digits) cut (is ∙ ap (λ c. spelling c ++ digits) e)) hv hr
+            (parted text v release (codes "rc" ++ digits) [] [] ns (Some (record { kind = Rc; number = n })) None None (split_of text v release rest (codes "rc" ++ digits) decomposition (is ∙ ap (λ c. spelling c ++ digits) e)) hv hr
             (spelled_so pre_spellings [] (codes "rc") digits Rc n (inl refl) (inr (inr (inr (inr (inl (refl, refl)))))) hn) refl refl)
         | inr e ↦
             subst (λ c. Derives text (record_in ns c n)) (sym e)
-            (parted text v release [] (codes ".post" ++ digits) [] ns None (Some n) None (cut_of text v release rest (codes ".post" ++ digits) cut (is ∙ ap (λ c. spelling c ++ digits) e)) hv hr refl
+            (parted text v release [] (codes ".post" ++ digits) [] ns None (Some n) None (split_of text v release rest (codes ".post" ++ digits) decomposition (is ∙ ap (λ c. spelling c ++ digits) e)) hv hr refl
             (inr (spelled_so post_spellings (codes ".") (codes "post") digits tt n (inr (46, refl, refl)) (inl (refl, refl)) hn)) refl)
       ]
     ]
@@ -249,8 +249,8 @@ of_class text v release rest digits ns class n cut hv hr k hn is = elim k [
 -- a letter v, a release and a suffix are a version
 pub normal : (text v after release rest ns : List ℕ) (class n : ℕ) → text ≡ v ++ after → IsLeadingV v → after ≡ release ++ rest → IsRelease release ns → IsSuffix rest class n
     → Derives text (record_in ns class n)
-normal text v after release rest ns class n cut hv after_is hr s =
-    let whole : text ≡ v ++ (release ++ rest) = cut ∙ ap (λ t. v ++ t) after_is in
+normal text v after release rest ns class n decomposition hv after_is hr s =
+    let whole : text ≡ v ++ (release ++ rest) = decomposition ∙ ap (λ t. v ++ t) after_is in
     elim s [
       | inl h ↦
           subst (λ c. Derives text (record_in ns c n)) (sym h.1)

@@ -5,8 +5,8 @@ use Rattle.pep440_version.specs.Reading.{Read, ◌>>=◌}
 use Rattle.pep440_version.specs.Refusals.{Refusal}
 
 -- what is read, after numbers that were read before
-abbrev pub with_front : List ℕ → Read (List ℕ × List ℕ) → Read (List ℕ × List ℕ)
-with_front front read = read >>= λ x. Ok (front ++ x.0, x.1)
+abbrev pub with_prefix : List ℕ → Read (List ℕ × List ℕ) → Read (List ℕ × List ℕ)
+with_prefix prefix read = read >>= λ x. Ok (prefix ++ x.0, x.1)
 
 -- a fault of one reading is a fault of another
 pub fault_on : (o : Option Refusal) {X Y : Type 0} (read : Read X) (out : Read Y) → ((f : Refusal) → read ≡ Err f → out ≡ Err f) → IfSome o (λ f. read ≡ Err f) → IfSome o (λ f. out ≡ Err f)

@@ -11,12 +11,12 @@ use Rattle.pep440_version.specs.Print.{print}
 use Rattle.pep440_version.specs.Reading.{Read}
 use Rattle.pep440_version.specs.Record.{Record, IsRecord}
 use Rattle.pep440_version.specs.Refusals.{Refusal, Wildcard, NumberTooBig, NoLeadingNumber, NoLeadingReleaseNumber, LocalEmpty, UnexpectedEnd, PatternRefusal, OfVersion, WildcardNotTrailing, Refuses, RefusesPattern}
-use Rattle.pep440_version.specs.Reread.{Rereads}
+use Rattle.pep440_version.specs.RoundTrip.{RoundTrips}
 use Rattle.pep440_version.specs.Whole.{read_version, read_pattern, version_of}
 use Rattle.pep440_version.proofs.Reading.Agreement.{found, only, found_pattern, only_pattern}
 use Rattle.pep440_version.proofs.Refusals.ExactlyOne.{decides, decides_pattern, sound_pattern}
-use Rattle.pep440_version.proofs.Reread.PrintIsRead.{reread, derived_again}
-use Rattle.pep440_version.proofs.Refusals.FaultsAreTold.{sound}
+use Rattle.pep440_version.proofs.RoundTrip.PrintIsRead.{reread, derived_again}
+use Rattle.pep440_version.proofs.Refusals.FaultsHaveErrors.{sound}
 
 -- an answer of one reading is an answer of what it is equal to
 pub answers_of : (result : Result Record VersionParseError) (read out : Read Record) → read ≡ out → Answers error_refusal result read → Answers error_refusal result out
@@ -34,7 +34,7 @@ told_by (Some f) read P all h = all f h
 -- the text of a refusal that is told by a text
 text_told : (text : List ℕ) (f : Refusal) → Refuses text f → error_text (Some f) ≡ Some (refusal_text f)
 text_told text Wildcard h = refl
-text_told text (NumberTooBig digits) (front, rest, r, cut, run, zero, more) = rw (run.0) refl
+text_told text (NumberTooBig digits) (prefix, rest, r, decomposition, run, zero, more) = rw (run.0) refl
 text_told text NoLeadingNumber h = refl
 text_told text NoLeadingReleaseNumber h = refl
 text_told text (LocalEmpty c) h = refl
@@ -43,7 +43,7 @@ text_told text (UnexpectedEnd version remaining) h = refl
 pattern_text_told : (text : List ℕ) (f : PatternRefusal) → RefusesPattern text f → pattern_error_text (Some f) ≡ Some (pattern_refusal_text f)
 pattern_text_told text WildcardNotTrailing h = refl
 pattern_text_told text (OfVersion Wildcard) h = refl
-pattern_text_told text (OfVersion (NumberTooBig digits)) (front, rest, r, cut, run, zero, more) = rw (run.0) refl
+pattern_text_told text (OfVersion (NumberTooBig digits)) (prefix, rest, r, decomposition, run, zero, more) = rw (run.0) refl
 pattern_text_told text (OfVersion NoLeadingNumber) h = refl
 pattern_text_told text (OfVersion NoLeadingReleaseNumber) h = refl
 pattern_text_told text (OfVersion (LocalEmpty c)) h = refl
@@ -75,7 +75,7 @@ pub is_told : (text : List ℕ) (result : Result Record VersionParseError) → A
 is_told text (Ok v) h = tt
 is_told text (Err e) h = refusal_told text (error_refusal e) (is_refused text (Err e) h)
 
-pub is_reread : (text : List ℕ) (result : Result Record VersionParseError) → Answers error_refusal result (read_version text) → (r : Record) → IsRecord r → Rereads r → text ≡ print r → Answers error_refusal result (Ok r)
+pub is_reread : (text : List ℕ) (result : Result Record VersionParseError) → Answers error_refusal result (read_version text) → (r : Record) → IsRecord r → RoundTrips r → text ≡ print r → Answers error_refusal result (Ok r)
 is_reread text result h r fits again printed = is_only text result h r (subst (λ t. Derives t r) (sym printed) (reread r fits again))
 
 pub is_again : (text : List ℕ) (result : Result Record VersionParseError) → Answers error_refusal result (read_version text) → (t : List ℕ) (r : Record) → Derives t r → text ≡ print r → Answers error_refusal result (Ok r)

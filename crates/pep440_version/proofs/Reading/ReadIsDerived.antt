@@ -6,9 +6,9 @@ use Rattle.std.specs.Char.{is_ascii_digit, is_ascii_whitespace}
 use Rattle.std.specs.List.{list_all, prefix_len}
 use Rattle.std.specs.Str.Parse.{digits_value}
 use Rattle.pep440_version.specs.Grammar.{IsNumber, IsRelease, IsLeadingV, AreBlanks, starts}
-use Rattle.pep440_version.specs.Reading.{◌>>=◌, lead, past, past_v, number_at, goes_on, release_at}
+use Rattle.pep440_version.specs.Reading.{◌>>=◌, lead, past, skip_v, parse_number, has_next_number, parse_release}
 use Rattle.pep440_version.specs.Refusals.{Refusal}
-use Rattle.pep440_version.proofs.Reading.Fronts.{both_first, both_second, lead-all, past-stops}
+use Rattle.pep440_version.proofs.Reading.Prefixes.{both_first, both_second, lead-all, past-stops}
 
 pub bind_ok : {A B : Type 0} (r : Result A Refusal) (f : A → Result B Refusal) (y : B) → (r >>= f) ≡ Ok y → (x : A) × (r ≡ Ok x) × (f x ≡ Ok y)
 bind_ok (Ok x) f y e = (x, refl, e)
@@ -30,8 +30,8 @@ lead-some p (b ∷ rest) s =
 pub split : (p : ℕ → Bool) (t : List ℕ) → t ≡ lead p t ++ past p t
 split p t = sym (take-append-drop (prefix_len p t) t)
 
-pub number_takes : (t : List ℕ) (x : ℕ × List ℕ) → starts is_ascii_digit t ≡ true → number_at t ≡ Ok x → (ds : List ℕ) × IsNumber ds x.0 × (t ≡ ds ++ x.1)
-unfolding number_at
+pub number_takes : (t : List ℕ) (x : ℕ × List ℕ) → starts is_ascii_digit t ≡ true → parse_number t ≡ Ok x → (ds : List ℕ) × IsNumber ds x.0 × (t ≡ ds ++ x.1)
+unfolding parse_number
 number_takes t x s e = elim (chosen (nat_lt (digits_value 10 (lead is_ascii_digit t)) (2 ^ 64)) _ _ _ e) [
   | inl h ↦
       let both = inside _ _ h.1 in
@@ -49,32 +49,32 @@ pub drop_one : (c : ℕ) (t : List ℕ) → starts (λ b. b == c) t ≡ true →
 drop_one c [] s = cc s
 drop_one c (b ∷ rest) s = ap (λ d. d ∷ rest) (eqb-true b c s)
 
-pub release_takes : (k : ℕ) (t : List ℕ) (x : List ℕ × List ℕ) → starts is_ascii_digit t ≡ true → length t ≤ k → release_at k t ≡ Ok x → (n : List ℕ) × IsRelease n x.0 × (t ≡ n ++ x.1)
-unfolding release_at
+pub release_takes : (k : ℕ) (t : List ℕ) (x : List ℕ × List ℕ) → starts is_ascii_digit t ≡ true → length t ≤ k → parse_release k t ≡ Ok x → (n : List ℕ) × IsRelease n x.0 × (t ≡ n ++ x.1)
+unfolding parse_release
 release_takes zero [] x s room e = cc s
 release_takes zero (b ∷ t) x s room e = absurd (omega (arith, room))
 release_takes (suc k) t x s room e =
-    let n = bind_ok (number_at t) _ x e in
-    let front = number_takes t n.0 s n.1 in
-    elim (chosen (goes_on n.0.1) _ _ _ n.2) [
+    let n = bind_ok (parse_number t) _ x e in
+    let prefix = number_takes t n.0 s n.1 in
+    elim (chosen (has_next_number n.0.1) _ _ _ n.2) [
       | inl h ↦
           let dot = drop_one 46 n.0.1 (both_first _ _ h.0) in
-          let more = bind_ok (release_at k (drop 1 n.0.1)) _ x h.1 in
-          let long = ap length front.2 ∙ length-append front.0 n.0.1 in
+          let more = bind_ok (parse_release k (drop 1 n.0.1)) _ x h.1 in
+          let long = ap length prefix.2 ∙ length-append prefix.0 n.0.1 in
           let shorter = ap length dot in
-          let later = release_takes k (drop 1 n.0.1) more.0 (both_second _ _ h.0) (omega (arith, long, shorter, front.1.0, room)) more.1 in
+          let later = release_takes k (drop 1 n.0.1) more.0 (both_second _ _ h.0) (omega (arith, long, shorter, prefix.1.0, room)) more.1 in
           let same = inside _ _ more.2 in
           let numbers : n.0.0 ∷ more.0.0 ≡ x.0 = ap (λ (p : List ℕ × List ℕ). p.0) same in
           let rest : more.0.1 ≡ x.1 = ap (λ (p : List ℕ × List ℕ). p.1) same in (
-            front.0 ++ (46 ∷ later.0),
-            subst (IsRelease (front.0 ++ (46 ∷ later.0))) numbers (release_cons front.0 later.0 n.0.0 more.0.0 front.1 later.1),
-            front.2 ∙ ap (λ r. front.0 ++ r) (dot ∙ ap (λ r. 46 ∷ r) (later.2 ∙ ap (λ r. later.0 ++ r) rest)) ∙ sym (append_assoc front.0 (46 ∷ later.0) x.1),
+            prefix.0 ++ (46 ∷ later.0),
+            subst (IsRelease (prefix.0 ++ (46 ∷ later.0))) numbers (release_cons prefix.0 later.0 n.0.0 more.0.0 prefix.1 later.1),
+            prefix.2 ∙ ap (λ r. prefix.0 ++ r) (dot ∙ ap (λ r. 46 ∷ r) (later.2 ∙ ap (λ r. later.0 ++ r) rest)) ∙ sym (append_assoc prefix.0 (46 ∷ later.0) x.1),
           )
       | inr h ↦
           let same = inside _ _ h.1 in
           let numbers : n.0.0 ∷ [] ≡ x.0 = ap (λ (p : List ℕ × List ℕ). p.0) same in
           let rest : n.0.1 ≡ x.1 = ap (λ (p : List ℕ × List ℕ). p.1) same in
-          (front.0, subst (IsRelease front.0) numbers front.1, front.2 ∙ ap (λ r. front.0 ++ r) rest)
+          (prefix.0, subst (IsRelease prefix.0) numbers prefix.1, prefix.2 ∙ ap (λ r. prefix.0 ++ r) rest)
     ]
 
 pub blank_end : (t : List ℕ) → (length (past is_ascii_whitespace t) == 0) ≡ true → AreBlanks t
@@ -83,7 +83,7 @@ blank_end t e =
     let whole : t ≡ lead is_ascii_whitespace t = split is_ascii_whitespace t ∙ ap (λ r. lead is_ascii_whitespace t ++ r) nothing ∙ append-nil (lead is_ascii_whitespace t) in
     ap (list_all is_ascii_whitespace) whole ∙ lead-all is_ascii_whitespace t
 
-pub v_takes : (t : List ℕ) → (v : List ℕ) × IsLeadingV v × (t ≡ v ++ past_v t)
+pub v_takes : (t : List ℕ) → (v : List ℕ) × IsLeadingV v × (t ≡ v ++ skip_v t)
 v_takes [] = ([], inl refl, refl)
 v_takes (b ∷ rest) = elim (cases_Bool (b == 118)) [
   | inl e ↦ (118 ∷ [], inr (inl refl), rw (eqb-true b 118 e) refl)
@@ -93,8 +93,8 @@ v_takes (b ∷ rest) = elim (cases_Bool (b == 118)) [
   ]
 ]
 
-pub number_stops : (t : List ℕ) (x : ℕ × List ℕ) → number_at t ≡ Ok x → starts is_ascii_digit x.1 ≡ false
-unfolding number_at
+pub number_stops : (t : List ℕ) (x : ℕ × List ℕ) → parse_number t ≡ Ok x → starts is_ascii_digit x.1 ≡ false
+unfolding parse_number
 number_stops t x e = elim (chosen (nat_lt (digits_value 10 (lead is_ascii_digit t)) (2 ^ 64)) _ _ _ e) [
   | inl h ↦ subst (λ l. starts is_ascii_digit l ≡ false) (ap (λ (p : ℕ × List ℕ). p.1) (inside _ _ h.1)) (past-stops is_ascii_digit t)
   | inr h ↦ cc h.1

@@ -6,11 +6,11 @@ use Rattle.std.proofs.Math.Seq.{drop-append_seam}
 use Rattle.std.specs.Char.{is_ascii_digit, to_ascii_lowercase}
 use Rattle.pep440_version.specs.declared.prerelease.PrereleaseKind.{PrereleaseKind}
 use Rattle.pep440_version.specs.Grammar.{IsNumber, Spellings, IsSpelling, IsSpelled, IsSeparator, IsCount, is_separator, pre_spellings, post_spellings, dev_spellings, starts}
-use Rattle.pep440_version.specs.Suffixes.{begins, spelled, past_separator, count_at, suffix_at, is_bare_post}
+use Rattle.pep440_version.specs.Suffixes.{starts_with_word, spelled, skip_separator, parse_count, parse_suffix, is_implicit_post}
 use Rattle.pep440_version.proofs.Reading.DerivedIsRead.{number_first, number_again}
 
 -- a word and its spelling look alike
-pub begins_lower : (v w u rest : List ℕ) → map to_ascii_lowercase w ≡ u → map to_ascii_lowercase u ≡ u → begins v (w ++ rest) ≡ begins v (u ++ rest)
+pub begins_lower : (v w u rest : List ℕ) → map to_ascii_lowercase w ≡ u → map to_ascii_lowercase u ≡ u → starts_with_word v (w ++ rest) ≡ starts_with_word v (u ++ rest)
 begins_lower [] w u rest e lower = refl
 begins_lower (c ∷ cs) [] [] rest e lower = refl
 begins_lower (c ∷ cs) [] (d ∷ u) rest e lower = cc e
@@ -30,10 +30,10 @@ spelled_lower (s ∷ more) w u rest e lower = rw (begins_lower s.0 w u rest e lo
 
 -- no longer spelling goes on there
 record Stops (rest : List ℕ) : Type 0 where
-  l : (cs : List ℕ) → begins (108 ∷ cs) rest ≡ false
-  e : (cs : List ℕ) → begins (101 ∷ cs) rest ≡ false
-  v : (cs : List ℕ) → begins (118 ∷ cs) rest ≡ false
-  c : (cs : List ℕ) → begins (99 ∷ cs) rest ≡ false
+  l : (cs : List ℕ) → starts_with_word (108 ∷ cs) rest ≡ false
+  e : (cs : List ℕ) → starts_with_word (101 ∷ cs) rest ≡ false
+  v : (cs : List ℕ) → starts_with_word (118 ∷ cs) rest ≡ false
+  c : (cs : List ℕ) → starts_with_word (99 ∷ cs) rest ≡ false
 
 four_false : (a b c d : Bool) → (a || b || c || d) ≡ false → (a ≡ false) × (b ≡ false) × (c ≡ false) × (d ≡ false)
 four_false false false false false e = (refl, refl, refl, refl)
@@ -107,7 +107,7 @@ no_separator (s ∷ more) [] rest a l (inl h) = let none : get_or s.0 0 0 ≡ 0 
 no_separator (s ∷ more) (b ∷ w) rest a l (inl h) = letter_no_separator b (get_or s.0 0 0) (ap (λ t. get_or t 0 0) h.0) l.0.0
 no_separator (s ∷ more) w rest a l (inr h) = no_separator more w rest a l.1 h
 
-separator_again : (before t : List ℕ) → IsSeparator before → starts is_separator t ≡ false → past_separator (before ++ t) ≡ t
+separator_again : (before t : List ℕ) → IsSeparator before → starts is_separator t ≡ false → skip_separator (before ++ t) ≡ t
 separator_again before t (inl e) s = rw (e, s) refl
 separator_again before t (inr h) s = rw (h.2, h.1) refl
 
@@ -120,7 +120,7 @@ starts_no_separator (b ∷ t) s = digit_no_separator b s
 
 -- the separator after a spelling is passed, and the count is read
 count_again : (between digits after : List ℕ) (n : ℕ) → IsSeparator between → IsCount digits n → (between ≡ [] → digits ≡ [] → starts is_separator after ≡ false) → starts is_ascii_digit after ≡ false
-    → count_at (past_separator (between ++ (digits ++ after))) ≡ Ok (n, after)
+    → parse_count (skip_separator (between ++ (digits ++ after))) ≡ Ok (n, after)
 count_again between digits after n (inl e) (inl h) keeps stop = rw (e, h.0, h.1, keeps e h.0, stop) refl
 count_again between digits after n (inl e) (inr h) keeps stop =
     let first = number_first digits after n h in
@@ -130,12 +130,12 @@ count_again between digits after n (inr s) (inr h) keeps stop =
     rw (s.2, s.1, number_first digits after n h) (number_again digits after n h stop)
 
 pub suffix_again : {A : Type 0} (table : Spellings A) (part after : List ℕ) (a : A) (n : ℕ) → BeginWithLetters table → (h : IsSpelled table part after a n)
-    → spelled table (h.word ++ (h.between ++ (h.digits ++ after))) ≡ Some (a, length h.word) → suffix_at table (part ++ after) ≡ Ok (Some (a, n), after)
+    → spelled table (h.word ++ (h.between ++ (h.digits ++ after))) ≡ Some (a, length h.word) → parse_suffix table (part ++ after) ≡ Ok (Some (a, n), after)
 suffix_again table part after a n letters h found =
     let rest : List ℕ = h.between ++ (h.digits ++ after) in
-    let cut : part ++ after ≡ h.before ++ (h.word ++ rest) = rw (h.cut, append_assoc h.before (h.word ++ (h.between ++ h.digits)) after, append_assoc h.word (h.between ++ h.digits) after, append_assoc h.between h.digits after) refl in
-    let past : past_separator (h.before ++ (h.word ++ rest)) ≡ h.word ++ rest = separator_again h.before (h.word ++ rest) h.first (no_separator table h.word rest a letters h.spelling) in
-    rw (cut, past, found, drop-append_seam h.word rest, count_again h.between h.digits after n h.second h.count h.keeps_separator h.keeps_digits) refl
+    let decomposition : part ++ after ≡ h.before ++ (h.word ++ rest) = rw (h.decomposition, append_assoc h.before (h.word ++ (h.between ++ h.digits)) after, append_assoc h.word (h.between ++ h.digits) after, append_assoc h.between h.digits after) refl in
+    let past : skip_separator (h.before ++ (h.word ++ rest)) ≡ h.word ++ rest = separator_again h.before (h.word ++ rest) h.first (no_separator table h.word rest a letters h.spelling) in
+    rw (decomposition, past, found, drop-append_seam h.word rest, count_again h.between h.digits after n h.second h.count h.keeps_separator h.keeps_digits) refl
 
 letter : {c : ℕ} → 97 ≤ c → c ≤ 122 → (97 ≤ c) × (c ≤ 122)
 letter low high = (low, high)
@@ -172,7 +172,7 @@ none_spelled : {A : Type 0} (table : Spellings A) (t : List ℕ) → BeginWithLe
 none_spelled [] t l n = refl
 none_spelled (s ∷ more) t l n = rw (at s.0 t l.0 n, none_spelled more t l.1 n) refl
   where
-    at : (u : List ℕ) (t : List ℕ) → (97 ≤ get_or u 0 0) × (get_or u 0 0 ≤ 122) → starts is_letter t ≡ false → begins u t ≡ false
+    at : (u : List ℕ) (t : List ℕ) → (97 ≤ get_or u 0 0) × (get_or u 0 0 ≤ 122) → starts is_letter t ≡ false → starts_with_word u t ≡ false
     at [] t l n = absurd (omega (arith, l.0))
     at (c ∷ cs) [] l n = refl
     at (c ∷ cs) (b ∷ t) l n = rw (no_letter b c n l.0 l.1) refl
@@ -182,16 +182,16 @@ unfolding is_letter
 digit_no_letter b d = grind (arith, nat_tests)
 
 -- neither a separator nor a letter stands there
-pub absent_before : {A : Type 0} (table : Spellings A) (t : List ℕ) → BeginWithLetters table → starts is_separator t ≡ false → starts is_letter t ≡ false → suffix_at table t ≡ Ok (None, t)
+pub absent_before : {A : Type 0} (table : Spellings A) (t : List ℕ) → BeginWithLetters table → starts is_separator t ≡ false → starts is_letter t ≡ false → parse_suffix table t ≡ Ok (None, t)
 absent_before table t l s n = rw (s, none_spelled table t l n) refl
 
 -- a part of another table stands there
 pub absent_spelled : {A B : Type 0} (table : Spellings A) (other : Spellings B) (part after : List ℕ) (a : B) (n : ℕ) → BeginWithLetters other → (h : IsSpelled other part after a n)
-    → spelled table (h.word ++ (h.between ++ (h.digits ++ after))) ≡ None → suffix_at table (part ++ after) ≡ Ok (None, part ++ after)
+    → spelled table (h.word ++ (h.between ++ (h.digits ++ after))) ≡ None → parse_suffix table (part ++ after) ≡ Ok (None, part ++ after)
 absent_spelled table other part after a n letters h none =
     let rest : List ℕ = h.between ++ (h.digits ++ after) in
-    let cut : part ++ after ≡ h.before ++ (h.word ++ rest) = rw (h.cut, append_assoc h.before (h.word ++ (h.between ++ h.digits)) after, append_assoc h.word (h.between ++ h.digits) after, append_assoc h.between h.digits after) refl in
-    let past : past_separator (part ++ after) ≡ h.word ++ rest = ap past_separator cut ∙ separator_again h.before (h.word ++ rest) h.first (no_separator other h.word rest a letters h.spelling) in
+    let decomposition : part ++ after ≡ h.before ++ (h.word ++ rest) = rw (h.decomposition, append_assoc h.before (h.word ++ (h.between ++ h.digits)) after, append_assoc h.word (h.between ++ h.digits) after, append_assoc h.between h.digits after) refl in
+    let past : skip_separator (part ++ after) ≡ h.word ++ rest = ap skip_separator decomposition ∙ separator_again h.before (h.word ++ rest) h.first (no_separator other h.word rest a letters h.spelling) in
     rw (past, none) refl
 
 pub letters_dev : BeginWithLetters dev_spellings
@@ -200,7 +200,7 @@ letters_dev = (letter (omega arith) (omega arith), tt)
 -- ---- how a part that is spelled begins
 
 pub regroup : {A : Type 0} (table : Spellings A) (part after : List ℕ) (a : A) (n : ℕ) → (h : IsSpelled table part after a n) → part ++ after ≡ h.before ++ (h.word ++ (h.between ++ (h.digits ++ after)))
-regroup table part after a n h = rw (h.cut, append_assoc h.before (h.word ++ (h.between ++ h.digits)) after, append_assoc h.word (h.between ++ h.digits) after, append_assoc h.between h.digits after) refl
+regroup table part after a n h = rw (h.decomposition, append_assoc h.before (h.word ++ (h.between ++ h.digits)) after, append_assoc h.word (h.between ++ h.digits) after, append_assoc h.between h.digits after) refl
 
 pub and_false : (a : Bool) → (a && false) ≡ false
 and_false true = refl
@@ -220,11 +220,11 @@ word_begins (s ∷ more) (b ∷ w) rest a l (inl h) =
     (letter_no_dash b (get_or s.0 0 0) e l.0.0 l.0.1, letter_no_digit b (get_or s.0 0 0) e l.0.0 l.0.1)
 word_begins (s ∷ more) w rest a l (inr h) = word_begins more w rest a l.1 h
 
-bare_before : (before t : List ℕ) → IsSeparator before → starts (λ b. b == 45) t ≡ false → starts is_ascii_digit t ≡ false → is_bare_post (before ++ t) ≡ false
+bare_before : (before t : List ℕ) → IsSeparator before → starts (λ b. b == 45) t ≡ false → starts is_ascii_digit t ≡ false → is_implicit_post (before ++ t) ≡ false
 bare_before before t (inl e) dash digit = rw (e, dash) refl
 bare_before before t (inr h) dash digit = rw (h.2, digit) (and_false (h.0 == 45))
 
-pub not_bare : {A : Type 0} (table : Spellings A) (part after : List ℕ) (a : A) (n : ℕ) → BeginWithLetters table → (h : IsSpelled table part after a n) → is_bare_post (part ++ after) ≡ false
+pub not_bare : {A : Type 0} (table : Spellings A) (part after : List ℕ) (a : A) (n : ℕ) → BeginWithLetters table → (h : IsSpelled table part after a n) → is_implicit_post (part ++ after) ≡ false
 not_bare table part after a n l h =
     let rest : List ℕ = h.between ++ (h.digits ++ after) in
     let w = word_begins table h.word rest a l h.spelling in
@@ -278,7 +278,7 @@ count_extension between digits after n s (inr h) x = extension_before between (d
     number (b ∷ t) d = digit_no_extension b d
 
 -- `-` and digits: no spelling stands there
-pub absent_digits : {A : Type 0} (table : Spellings A) (digits after : List ℕ) (n : ℕ) → BeginWithLetters table → IsNumber digits n → suffix_at table (45 ∷ (digits ++ after)) ≡ Ok (None, 45 ∷ (digits ++ after))
+pub absent_digits : {A : Type 0} (table : Spellings A) (digits after : List ℕ) (n : ℕ) → BeginWithLetters table → IsNumber digits n → parse_suffix table (45 ∷ (digits ++ after)) ≡ Ok (None, 45 ∷ (digits ++ after))
 absent_digits table digits after n l h = rw (none_spelled table (digits ++ after) l (number (digits ++ after) (number_first digits after n h))) refl
   where
     number : (t : List ℕ) → starts is_ascii_digit t ≡ true → starts is_letter t ≡ false

@@ -3,7 +3,7 @@ use Rattle.std.proofs.Common.{◌≡◌, ℕ, false, List, ◌++◌, refl, inl, 
 use Rattle.std.specs.Char.{is_ascii_digit}
 use Rattle.pep440_version.specs.declared.prerelease.Prerelease.{Prerelease}
 use Rattle.pep440_version.specs.Grammar.{is_separator, pre_spellings, post_spellings, dev_spellings, IsPre, IsPost, IsDev, starts}
-use Rattle.pep440_version.specs.Suffixes.{is_bare_post, pre_at, post_at, dev_at}
+use Rattle.pep440_version.specs.Suffixes.{is_implicit_post, parse_pre, parse_post, parse_dev}
 use Rattle.pep440_version.proofs.Reading.DerivedIsRead.{number_first, number_again}
 use Rattle.pep440_version.proofs.Reading.SpelledIsRead.{is_extension, is_letter, letters_pre, letters_post, letters_dev, suffix_again, absent_before, absent_spelled, spelled_pre, spelled_post, spelled_dev, post_no_pre, dev_no_pre, dev_no_post, not_bare, no_digit, post_extension, dev_extension, count_extension, absent_digits}
 
@@ -13,7 +13,7 @@ pub record IsQuiet (t : List ℕ) : Type 0 where
   pub letter : starts is_letter t ≡ false
   pub digit : starts is_ascii_digit t ≡ false
   pub extension : starts is_extension t ≡ false
-  pub bare : is_bare_post t ≡ false
+  pub bare : is_implicit_post t ≡ false
 
 -- what stands at a dev or a quiet end goes on no spelling
 ends_extension : (d rest : List ℕ) (dev : Option ℕ) → IsDev d rest dev → IsQuiet rest → starts is_extension (d ++ rest) ≡ false
@@ -29,11 +29,11 @@ tail_extension q d rest None dev h g quiet = rw h (ends_extension d rest dev g q
 tail_extension q d rest (Some n) dev (inl h) g quiet = rw h.2 refl
 tail_extension q d rest (Some n) dev (inr h) g quiet = post_extension q (d ++ rest) n h
 
-pub dev_again : (d rest : List ℕ) (dev : Option ℕ) → IsDev d rest dev → IsQuiet rest → dev_at (d ++ rest) ≡ Ok (dev, rest)
+pub dev_again : (d rest : List ℕ) (dev : Option ℕ) → IsDev d rest dev → IsQuiet rest → parse_dev (d ++ rest) ≡ Ok (dev, rest)
 dev_again d rest None h quiet = rw (h, absent_before dev_spellings rest letters_dev quiet.separator quiet.letter) refl
 dev_again d rest (Some n) h quiet = rw (suffix_again dev_spellings d rest tt n letters_dev h (spelled_dev h.word (h.between ++ (h.digits ++ rest)) h.spelling)) refl
 
-pub post_again : (q d rest : List ℕ) (post dev : Option ℕ) → IsPost q (d ++ rest) post → IsDev d rest dev → IsQuiet rest → post_at (q ++ (d ++ rest)) ≡ Ok (post, d ++ rest)
+pub post_again : (q d rest : List ℕ) (post dev : Option ℕ) → IsPost q (d ++ rest) post → IsDev d rest dev → IsQuiet rest → parse_post (q ++ (d ++ rest)) ≡ Ok (post, d ++ rest)
 post_again q d rest None None h g quiet = rw (h, g, quiet.bare, absent_before post_spellings rest letters_post quiet.separator quiet.letter) refl
 post_again q d rest None (Some n) h g quiet =
     rw (h, not_bare dev_spellings d rest tt n letters_dev g, absent_spelled post_spellings dev_spellings d rest tt n letters_dev g (dev_no_post g.word (g.between ++ (g.digits ++ rest)) g.spelling)) refl
@@ -47,7 +47,7 @@ post_again q d rest (Some m) dev (inr h) g quiet =
     ) refl
 
 pub pre_again : (p q d rest : List ℕ) (pre : Option Prerelease) (post dev : Option ℕ) → IsPre p (q ++ (d ++ rest)) pre → IsPost q (d ++ rest) post → IsDev d rest dev → IsQuiet rest
-    → pre_at (p ++ (q ++ (d ++ rest))) ≡ Ok (pre, q ++ (d ++ rest))
+    → parse_pre (p ++ (q ++ (d ++ rest))) ≡ Ok (pre, q ++ (d ++ rest))
 pre_again p q d rest (Some r) post dev h g k quiet =
     let after : List ℕ = q ++ (d ++ rest) in
     rw (suffix_again pre_spellings p after r.kind r.number letters_pre h (spelled_pre h.word (h.between ++ (h.digits ++ after)) r.kind h.spelling

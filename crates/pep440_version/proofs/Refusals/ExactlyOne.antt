@@ -8,11 +8,11 @@ use Rattle.pep440_version.specs.Patterns.{DerivesPattern}
 use Rattle.pep440_version.specs.Reading.{Read, ◌>>=◌}
 use Rattle.pep440_version.specs.Record.{Record}
 use Rattle.pep440_version.specs.Refusals.{Refusal, Wildcard, NumberTooBig, NoLeadingNumber, NoLeadingReleaseNumber, LocalEmpty, UnexpectedEnd, PatternRefusal, OfVersion, WildcardNotTrailing, HasStar, IsLongest, Refuses, RefusesPattern}
-use Rattle.pep440_version.specs.Whole.{opening, parts_at, end_at, is_star, without_star, pattern_from, read_pattern, version_of, read_version}
-use Rattle.pep440_version.proofs.Reading.Agreement.{only, found, front_again, only_pattern, found_pattern}
-use Rattle.pep440_version.proofs.Refusals.LongestFront.{fails, some_rest}
+use Rattle.pep440_version.specs.Whole.{parse_through_release, parse_parts, parse_end, starts_with_star, without_star, pattern_from, read_pattern, version_of, read_version}
+use Rattle.pep440_version.proofs.Reading.Agreement.{only, found, prefix_again, only_pattern, found_pattern}
+use Rattle.pep440_version.proofs.Refusals.LongestPrefix.{fails, some_rest}
 use Rattle.pep440_version.proofs.Refusals.LinesDecide.{first_decides, opens_again}
-use Rattle.pep440_version.proofs.Refusals.FaultsAreTold.{sound, told_star, no_wildcard}
+use Rattle.pep440_version.proofs.Refusals.FaultsHaveErrors.{sound, told_star, no_wildcard}
 
 same_length : (a b c d : List ℕ) → a ++ b ≡ c ++ d → length a ≡ length c → a ≡ c
 same_length [] b [] d e l = refl
@@ -24,12 +24,12 @@ same_length (x ∷ a) b (y ∷ c) d e l =
     λ i. first i ∷ more i
 
 -- two fronts that are the longest are one
-one_front : (text v r w s : List ℕ) → IsLongest text v r → IsLongest text w s → (v ≡ w) × (r ≡ s)
-one_front text v r w s h g =
-    let a = h.longest w s g.means g.cut g.derived in
-    let b = g.longest v r h.means h.cut h.derived in
-    let same : v ≡ w = same_length v r w s (sym h.cut ∙ g.cut) (omega (arith, a, b)) in
-    (same, append_cancel_left v r s (sym h.cut ∙ g.cut ∙ ap (λ l. l ++ s) (sym same)))
+one_prefix : (text v r w s : List ℕ) → IsLongest text v r → IsLongest text w s → (v ≡ w) × (r ≡ s)
+one_prefix text v r w s h g =
+    let a = h.longest w s g.means g.decomposition g.derived in
+    let b = g.longest v r h.means h.decomposition h.derived in
+    let same : v ≡ w = same_length v r w s (sym h.decomposition ∙ g.decomposition) (omega (arith, a, b)) in
+    (same, append_cancel_left v r s (sym h.decomposition ∙ g.decomposition ∙ ap (λ l. l ++ s) (sym same)))
 
 end_decides : (text v r : List ℕ) → Refuses text (UnexpectedEnd v r) → read_version text ≡ Err (UnexpectedEnd v r)
 end_decides text v r (more, h, none) = by (read_version text) refl
@@ -40,12 +40,12 @@ end_decides text v r (more, h, none) = by (read_version text) refl
     told NoLeadingNumber e k = absurd (none NoLeadingNumber k)
     told NoLeadingReleaseNumber e k = absurd (none NoLeadingReleaseNumber k)
     told (LocalEmpty c) e k = absurd (none (LocalEmpty c) k)
-    told (UnexpectedEnd w s) e k = let same = one_front text v r w s h k.1 in e ∙ (λ i. Err (UnexpectedEnd (sym same.0 i) (sym same.1 i)))
+    told (UnexpectedEnd w s) e k = let same = one_prefix text v r w s h k.1 in e ∙ (λ i. Err (UnexpectedEnd (sym same.0 i) (sym same.1 i)))
 
     by : (o : Read Record) → read_version text ≡ o → read_version text ≡ Err (UnexpectedEnd v r)
     by (Ok q) e =
         let long = h.longest text [] q (sym (append-nil text)) (found text q e) in
-        let whole = ap length h.cut ∙ length-append v r in
+        let whole = ap length h.decomposition ∙ length-append v r in
         absurd (omega (arith, long, whole, more))
     by (Err g) e = told g e (sound text g e)
 
@@ -97,25 +97,25 @@ no_rest n l = grind (arith, nat_tests)
 
 pub sound_pattern : (text : List ℕ) (f : PatternRefusal) → read_pattern text ≡ Err f → RefusesPattern text f
 sound_pattern text (OfVersion g) e = of_version text g e (sound text g (ap version_of e))
-sound_pattern text WildcardNotTrailing e = by (opening text) refl e
+sound_pattern text WildcardNotTrailing e = by (parse_through_release text) refl e
   where
     closed : (o : Read Record) → without_star o ≡ Err WildcardNotTrailing → ⊥
     closed (Ok r) e = cc e
     closed (Err g) e = cc e
 
-    by : (o : Read ((ℕ × List ℕ) × List ℕ)) → opening text ≡ o → pattern_from text o ≡ Err WildcardNotTrailing → (rest : List ℕ) × (0 < length rest) × HasStar text rest
+    by : (o : Read ((ℕ × List ℕ) × List ℕ)) → parse_through_release text ≡ o → pattern_from text o ≡ Err WildcardNotTrailing → (rest : List ℕ) × (0 < length rest) × HasStar text rest
     by (Err g) o e = cc e
-    by (Ok x) o e = elim (cases_Bool (is_star x.1)) [
+    by (Ok x) o e = elim (cases_Bool (starts_with_star x.1)) [
       | inl s ↦ elim (cases_Bool (length (drop 2 x.1) == 0)) [
         | inl n ↦ let no = rw (s, n) at e in cc no
         | inr n ↦ let t = told_star text x o s in (drop 2 x.1, some_rest (length (drop 2 x.1)) n, t)
       ]
-      | inr s ↦ let on = rw s at e in absurd (closed (parts_at x.0.0 x.0.1 x.1 >>= end_at text) on)
+      | inr s ↦ let on = rw s at e in absurd (closed (parse_parts x.0.0 x.0.1 x.1 >>= parse_end text) on)
     ]
 
 star_decides : (text rest : List ℕ) → 0 < length rest → HasStar text rest → read_pattern text ≡ Err WildcardNotTrailing
 star_decides text rest more (e, n, release, epoch, o, he, hn) =
-    let f = front_again e n (46 ∷ 42 ∷ rest) epoch release he hn refl refl refl in
+    let f = prefix_again e n (46 ∷ 42 ∷ rest) epoch release he hn refl refl refl in
     ap (pattern_from text) (opens_again text (e ++ (n ++ (46 ∷ 42 ∷ rest))) o ∙ f.1) ∙ rw (no_rest (length rest) more) refl
 
 version_err : (p : Result (Record × Bool) PatternRefusal) (g : Refusal) → ((g ≡ Wildcard) → ⊥) → version_of p ≡ Err g → p ≡ Err (OfVersion g)

@@ -6,8 +6,8 @@ use Rattle.std.specs.Char.{is_ascii_digit, to_ascii_lowercase, is_ascii_whitespa
 use Rattle.std.specs.List.{list_all}
 use Rattle.pep440_version.specs.declared.prerelease.Prerelease.{Prerelease}
 use Rattle.pep440_version.specs.Grammar.{IsLeadingV, IsNumber, IsEpoch, IsRelease, Spellings, IsSpelled, IsSpelling, IsSeparator, IsCount, is_separator, Derives, IsPre, IsPost, IsDev, IsLocal}
-use Rattle.pep440_version.specs.Record.{Record, Segment}
-use Rattle.pep440_version.proofs.Reading.Fronts.{both_first, both_second}
+use Rattle.pep440_version.specs.Record.{Record, LocalSegmentValue}
+use Rattle.pep440_version.proofs.Reading.Prefixes.{both_first, both_second}
 use Rattle.pep440_version.proofs.Refusals.ZeroForDigits.{AllLetters, all_letters, letters_of_pre, letters_of_post, letters_of_dev}
 use Rattle.pep440_version.proofs.Refusals.ZeroInParts.{Lacks}
 use Rattle.pep440_version.proofs.Reading.LocalAgrees.{blank_not_plus}
@@ -73,7 +73,7 @@ lacks_spelling (s ∷ more) w a l (inl h) = lacks_word w s.0 h.0 l.0
 lacks_spelling (s ∷ more) w a l (inr h) = lacks_spelling more w a l.1 h
 
 lacks_spelled : {A : Type 0} (table : Spellings A) (part after : List ℕ) (a : A) (n : ℕ) → AllLetters table → IsSpelled table part after a n → Lacks part
-lacks_spelled table part after a n l h = subst Lacks (sym h.cut) (lacks_append h.before _ (lacks_separator h.before h.first) (lacks_append h.word _ (lacks_spelling table h.word a l h.spelling)
+lacks_spelled table part after a n l h = subst Lacks (sym h.decomposition) (lacks_append h.before _ (lacks_separator h.before h.first) (lacks_append h.word _ (lacks_spelling table h.word a l h.spelling)
     (lacks_append h.between h.digits (lacks_separator h.between h.second) (lacks_count h.digits n h.count))))
 
 lacks_pre : (part after : List ℕ) (x : Option Prerelease) → IsPre part after x → Lacks part
@@ -89,19 +89,19 @@ lacks_dev : (part after : List ℕ) (x : Option ℕ) → IsDev part after x → 
 lacks_dev part after None h = rw h refl
 lacks_dev part after (Some n) h = lacks_spelled _ part after tt n letters_of_dev h
 
-no_local : (l : List ℕ) (ss : List Segment) → IsLocal l ss → length ss ≡ 0 → l ≡ []
+no_local : (l : List ℕ) (ss : List LocalSegmentValue) → IsLocal l ss → length ss ≡ 0 → l ≡ []
 no_local l [] h e = h
 no_local l (s ∷ ss) h e = absurd (omega (arith, e))
 
 pub lacks_derived : (t : List ℕ) (r : Record) → Derives t r → length r.local ≡ 0 → Lacks t
-lacks_derived t r h e = subst Lacks (sym h.cut)
+lacks_derived t r h e = subst Lacks (sym h.decomposition)
     (lacks_append h.w1 _ (lacks_of is_ascii_whitespace blank_not_plus h.w1 h.blanks) (lacks_append h.v _ (lacks_v h.v h.letter) (lacks_append h.e _ (lacks_epoch h.e r.epoch h.epoch)
     (lacks_append h.n _ (lacks_release h.n r.release h.release) (lacks_append h.p _ (lacks_pre h.p _ r.pre h.pre) (lacks_append h.q _ (lacks_post h.q _ r.post h.post)
     (lacks_append h.d _ (lacks_dev h.d _ r.dev h.dev) (lacks_append h.l h.w2 (subst Lacks (sym (no_local h.l r.local h.local e)) refl) (lacks_of is_ascii_whitespace blank_not_plus h.w2 h.end)))))))))
 
-pub lacks_front : (a b : List ℕ) → Lacks (a ++ b) → Lacks a
-lacks_front [] b h = refl
-lacks_front (x ∷ a) b h = elim (cases_Bool (x == 43)) [
+pub lacks_prefix : (a b : List ℕ) → Lacks (a ++ b) → Lacks a
+lacks_prefix [] b h = refl
+lacks_prefix (x ∷ a) b h = elim (cases_Bool (x == 43)) [
   | inl e ↦ let none = rw e at h in cc none
-  | inr e ↦ lacks_cons x a e (lacks_front a b (let on = rw e at h in on))
+  | inr e ↦ lacks_cons x a e (lacks_prefix a b (let on = rw e at h in on))
 ]

@@ -31,13 +31,13 @@ numbers_of_sum a b c d e f b8 c8 d8 e3 f21 =
     let fourth = digit (e * 2 ^ 21 + f) (2 ^ 24) d (a * 65536 + b * 256 + c) w (omega arith) d8 (omega arith) in
     (λ i. first i ∷ second i ∷ third i ∷ fourth i ∷ [])
 
-front_of_four : (xs : List ℕ) → length xs ≤ 4 → take (length xs) (four xs) ≡ xs
-front_of_four [] h = refl
-front_of_four (a ∷ []) h = refl
-front_of_four (a ∷ b ∷ []) h = refl
-front_of_four (a ∷ b ∷ c ∷ []) h = refl
-front_of_four (a ∷ b ∷ c ∷ d ∷ []) h = refl
-front_of_four (a ∷ b ∷ c ∷ d ∷ e ∷ xs) h = absurd (omega arith)
+prefix_of_four : (xs : List ℕ) → length xs ≤ 4 → take (length xs) (four xs) ≡ xs
+prefix_of_four [] h = refl
+prefix_of_four (a ∷ []) h = refl
+prefix_of_four (a ∷ b ∷ []) h = refl
+prefix_of_four (a ∷ b ∷ c ∷ []) h = refl
+prefix_of_four (a ∷ b ∷ c ∷ d ∷ []) h = refl
+prefix_of_four (a ∷ b ∷ c ∷ d ∷ e ∷ xs) h = absurd (omega arith)
 
 -- what the word of a packed record shows
 pub record Parts (r : Record) : Type 0 where
@@ -51,25 +51,25 @@ pub record Parts (r : Record) : Type 0 where
 parts : (r : Record) → is_packed r ≡ true → Parts r
 parts r h =
     let x = packed r h in
-    let s = x.held.only in
+    let s = x.local_segment.only in
     let xs = r.release in
-    let is : word r ≡ word_at xs s = ap (λ o. word_of xs (unwrap_or o (5, 0))) x.held.found in
-    let f = in_word xs s x.held.small in
+    let is : word r ≡ word_at xs s = ap (λ o. word_of xs (unwrap_or o (5, 0))) x.local_segment.found in
+    let f = in_word xs s x.local_segment.small in
     record {
       only = s;
-      numbers = ap numbers_in is ∙ numbers_of_sum (slice_index xs 0) (slice_index xs 1) (slice_index xs 2) (slice_index xs 3) (class_of s) (number_of s) (omega (arith, x.short.second)) (omega (arith, x.short.third)) (omega (arith, x.short.fourth)) (class_lt s) (omega (arith, x.held.small));
+      numbers = ap numbers_in is ∙ numbers_of_sum (slice_index xs 0) (slice_index xs 1) (slice_index xs 2) (slice_index xs 3) (class_of s) (number_of s) (omega (arith, x.short.second)) (omega (arith, x.short.third)) (omega (arith, x.short.fourth)) (class_lt s) (omega (arith, x.local_segment.small));
       class = ap class_in is ∙ f.0;
       number = ap number_in is ∙ f.1;
       few = x.short.few;
-      same = x.held.same;
+      same = x.local_segment.same;
     }
 
 -- a packed record is the one that its count and its word show
 pub shown_again : (r : Record) → is_packed r ≡ true → r ≡ packed_record (length r.release) (word r) (numbers_in (word r))
 shown_again r h =
     let p = parts r h in
-    let front = ap (take (length r.release)) p.numbers ∙ front_of_four r.release p.few in
-    p.same ∙ (λ i. record_in (sym front i) (sym p.class i) (sym p.number i))
+    let prefix = ap (take (length r.release)) p.numbers ∙ prefix_of_four r.release p.few in
+    p.same ∙ (λ i. record_in (sym prefix i) (sym p.class i) (sym p.number i))
 
 pub same_record : (r q : Record) → is_packed r ≡ true → is_packed q ≡ true → length r.release ≡ length q.release → word r ≡ word q → r ≡ q
 same_record r q h k e f = shown_again r h ∙ (λ i. packed_record (e i) (f i) (numbers_in (f i))) ∙ sym (shown_again q k)
@@ -77,9 +77,9 @@ same_record r q h k e f = shown_again r h ∙ (λ i. packed_record (e i) (f i) (
 pub word_fits : (r : Record) → is_packed r ≡ true → word r < 2 ^ 64
 word_fits r h =
     let x = packed r h in
-    let s = x.held.only in
-    let below : word_at r.release s < 2 ^ 64 = omega (arith, x.short.first, x.short.second, x.short.third, x.short.fourth, class_lt s, x.held.small) in
-    subst (λ w. w < 2 ^ 64) (sym (ap (λ o. word_of r.release (unwrap_or o (5, 0))) x.held.found)) below
+    let s = x.local_segment.only in
+    let below : word_at r.release s < 2 ^ 64 = omega (arith, x.short.first, x.short.second, x.short.third, x.short.fourth, class_lt s, x.local_segment.small) in
+    subst (λ w. w < 2 ^ 64) (sym (ap (λ o. word_of r.release (unwrap_or o (5, 0))) x.local_segment.found)) below
 
 -- ---- the test
 
@@ -110,9 +110,9 @@ passes r h some =
     let p = parts r h in
     let one = at_most 1 (length r.release) some in
     let few = at_most (length r.release) 4 p.few in
-    let padded = ap (is_padded (length r.release)) p.numbers ∙ padded_four r.release some p.few in
+    let pad_with_zeros = ap (is_padded (length r.release)) p.numbers ∙ padded_four r.release some p.few in
     let class = (λ i. is_suffix (p.class i) (p.number i)) ∙ suffix_passes p.only in
-    (λ i. (one i && few i) && (padded i && class i))
+    (λ i. (one i && few i) && (pad_with_zeros i && class i))
 
 -- ---- from a count and a word that pass to the record
 
@@ -127,34 +127,34 @@ same : (a b : ℕ) → (a == b) ≡ true → a ≡ b
 same a b e = grind (arith, nat_tests)
 
 -- the suffix of this class and number
-suffix_at : (xs : List ℕ) (class n : ℕ) → class < 8 → is_suffix class n ≡ true → suffix (record_in xs class n) ≡ Some (class, n)
-suffix_at xs zero n h e = refl
-suffix_at xs (suc zero) n h e = refl
-suffix_at xs (suc (suc zero)) n h e = refl
-suffix_at xs (suc (suc (suc zero))) n h e = refl
-suffix_at xs (suc (suc (suc (suc zero)))) n h e = refl
-suffix_at xs (suc (suc (suc (suc (suc zero))))) n h e = ap (λ m. Some (5, m)) (sym (same n 0 e))
-suffix_at xs (suc (suc (suc (suc (suc (suc zero)))))) n h e = refl
-suffix_at xs (suc (suc (suc (suc (suc (suc (suc zero))))))) n h e = refl
-suffix_at xs (suc (suc (suc (suc (suc (suc (suc (suc class)))))))) n h e = absurd (omega arith)
+parse_suffix : (xs : List ℕ) (class n : ℕ) → class < 8 → is_suffix class n ≡ true → suffix (record_in xs class n) ≡ Some (class, n)
+parse_suffix xs zero n h e = refl
+parse_suffix xs (suc zero) n h e = refl
+parse_suffix xs (suc (suc zero)) n h e = refl
+parse_suffix xs (suc (suc (suc zero))) n h e = refl
+parse_suffix xs (suc (suc (suc (suc zero)))) n h e = refl
+parse_suffix xs (suc (suc (suc (suc (suc zero))))) n h e = ap (λ m. Some (5, m)) (sym (same n 0 e))
+parse_suffix xs (suc (suc (suc (suc (suc (suc zero)))))) n h e = refl
+parse_suffix xs (suc (suc (suc (suc (suc (suc (suc zero))))))) n h e = refl
+parse_suffix xs (suc (suc (suc (suc (suc (suc (suc (suc class)))))))) n h e = absurd (omega arith)
 
 -- the first `count` of four numbers, the others being 0
 record Front (count a b c d : ℕ) : Type 0 where
   pub long : length (take count (a ∷ b ∷ c ∷ d ∷ [])) ≡ count
   pub four : four (take count (a ∷ b ∷ c ∷ d ∷ [])) ≡ a ∷ b ∷ c ∷ d ∷ []
 
-front : (count a b c d : ℕ) → 1 ≤ count → count ≤ 4 → is_padded count (a ∷ b ∷ c ∷ d ∷ []) ≡ true → Front count a b c d
-front zero a b c d one few e = absurd (omega arith)
-front (suc zero) a b c d one few e =
+prefix : (count a b c d : ℕ) → 1 ≤ count → count ≤ 4 → is_padded count (a ∷ b ∷ c ∷ d ∷ []) ≡ true → Front count a b c d
+prefix zero a b c d one few e = absurd (omega arith)
+prefix (suc zero) a b c d one few e =
     let s = both _ _ e in
     let t = both _ _ s.1 in
     record { long = refl; four = λ i. a ∷ sym (same b 0 s.0) i ∷ sym (same c 0 t.0) i ∷ sym (same d 0 t.1) i ∷ [] }
-front (suc (suc zero)) a b c d one few e =
+prefix (suc (suc zero)) a b c d one few e =
     let t = both _ _ e in
     record { long = refl; four = λ i. a ∷ b ∷ sym (same c 0 t.0) i ∷ sym (same d 0 t.1) i ∷ [] }
-front (suc (suc (suc zero))) a b c d one few e = record { long = refl; four = λ i. a ∷ b ∷ c ∷ sym (same d 0 e) i ∷ [] }
-front (suc (suc (suc (suc zero)))) a b c d one few e = record { long = refl; four = refl }
-front (suc (suc (suc (suc (suc count))))) a b c d one few e = absurd (omega arith)
+prefix (suc (suc (suc zero))) a b c d one few e = record { long = refl; four = λ i. a ∷ b ∷ c ∷ sym (same d 0 e) i ∷ [] }
+prefix (suc (suc (suc (suc zero)))) a b c d one few e = record { long = refl; four = refl }
+prefix (suc (suc (suc (suc (suc count))))) a b c d one few e = absurd (omega arith)
 
 -- four numbers with room in their places
 short_four : (xs : List ℕ) (a b c d : ℕ) → length xs ≤ 4 → four xs ≡ a ∷ b ∷ c ∷ d ∷ [] → a ≤ 65535 → b < 256 → c < 256 → d < 256 → is_short xs ≡ true
@@ -191,8 +191,8 @@ shown_word count w fits e =
     let d8 : d < 256 = mod-lt (w / 2 ^ 24) (omega arith) in
     let e3 : class < 8 = mod-lt (w / 2 ^ 21) (omega arith) in
     let f21 : n < 2 ^ 21 = mod-lt w (omega arith) in
-    let f : Front count a b c d = front count a b c d one few u.0 in
-    let found = suffix_at xs class n e3 u.1 in
+    let f : Front count a b c d = prefix count a b c d one few u.0 in
+    let found = parse_suffix xs class n e3 u.1 in
     let short = short_four xs a b c d (omega (arith, f.long)) f.four (omega arith) b8 c8 d8 in
     let small : is_small (suffix (record_in xs class n)) ≡ true = ap is_small found ∙ at_most n 2097151 (omega arith) in
     let sum : w ≡ a * 2 ^ 48 + b * 2 ^ 40 + c * 2 ^ 32 + d * 2 ^ 24 + class * 2 ^ 21 + n = omega arith in

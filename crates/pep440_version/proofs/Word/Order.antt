@@ -47,8 +47,8 @@ pub word_order : (r q : Record) → is_packed r ≡ true → is_packed q ≡ tru
 word_order r q h k =
     let x = packed r h in
     let y = packed q k in
-    let a = x.held in
-    let b = y.held in
+    let a = x.local_segment in
+    let b = y.local_segment in
     ap (λ o. nat_cmp (word_of r.release (unwrap_or o (5, 0))) (word q)) a.found
     ∙ ap (λ o. nat_cmp (word_at r.release a.only) (word_of q.release (unwrap_or o (5, 0)))) b.found
     ∙ words_in_order r.release q.release a.only b.only x.short y.short a.small b.small

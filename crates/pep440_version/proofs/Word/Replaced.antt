@@ -39,9 +39,9 @@ is_packed_record xs (Max n) e h = λ i. e i && small n h i
 above : (a b c d w rest : ℕ) → rest < 2 ^ 24 → w ≡ a * 2 ^ 48 + b * 2 ^ 40 + c * 2 ^ 32 + d * 2 ^ 24 + rest
     → w / 2 ^ 24 * 2 ^ 24 ≡ a * 2 ^ 48 + b * 2 ^ 40 + c * 2 ^ 32 + d * 2 ^ 24
 above a b c d w rest low is =
-    let front : ℕ = a * 2 ^ 24 + b * 2 ^ 16 + c * 2 ^ 8 + d in
-    let nested : w ≡ front * 2 ^ 24 + rest = omega arith in
-    let top : w / 2 ^ 24 ≡ front = ap (λ x. x / 2 ^ 24) nested ∙ div-mul-add front (2 ^ 24) rest low in
+    let prefix : ℕ = a * 2 ^ 24 + b * 2 ^ 16 + c * 2 ^ 8 + d in
+    let nested : w ≡ prefix * 2 ^ 24 + rest = omega arith in
+    let top : w / 2 ^ 24 ≡ prefix = ap (λ x. x / 2 ^ 24) nested ∙ div-mul-add prefix (2 ^ 24) rest low in
     ap (λ x. x * 2 ^ 24) top ∙ omega arith
 
 short_of : (r : Record) → is_packed r ≡ true → is_short r.release ≡ true
@@ -57,10 +57,10 @@ replaced count w numbers s h low =
     let xs : List ℕ = take count numbers in
     let new : ℕ = word_with w (class_of s) (number_of s) in
     let x = packed (packed_record count w numbers) h.packed in
-    let own : w ≡ word_at xs x.held.only = h.sum ∙ ap (λ (o : Option (ℕ × ℕ)). word_of xs (unwrap_or o (5, 0))) x.held.found in
+    let own : w ≡ word_at xs x.local_segment.only = h.sum ∙ ap (λ (o : Option (ℕ × ℕ)). word_of xs (unwrap_or o (5, 0))) x.local_segment.found in
     let top : w / 2 ^ 24 * 2 ^ 24 ≡ slice_index xs 0 * 2 ^ 48 + slice_index xs 1 * 2 ^ 40 + slice_index xs 2 * 2 ^ 32 + slice_index xs 3 * 2 ^ 24 =
-    let lt = class_lt x.held.only in let le = x.held.small in
-    above (slice_index xs 0) (slice_index xs 1) (slice_index xs 2) (slice_index xs 3) w (class_of x.held.only * 2 ^ 21 + number_of x.held.only) (omega arith) (omega arith) in
+    let lt = class_lt x.local_segment.only in let le = x.local_segment.small in
+    above (slice_index xs 0) (slice_index xs 1) (slice_index xs 2) (slice_index xs 3) w (class_of x.local_segment.only * 2 ^ 21 + number_of x.local_segment.only) (omega arith) (omega arith) in
     let sum : new ≡ word_at xs s = ap (λ t. t + class_of s * 2 ^ 21 + number_of s) top in
     let f = in_word xs s low in
     let is : packed_record count new numbers ≡ record_of xs s = λ i. record_in xs ((ap class_in sum ∙ f.0) i) ((ap number_in sum ∙ f.1) i) in

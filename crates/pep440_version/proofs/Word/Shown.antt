@@ -12,17 +12,17 @@ fields : (a c n : ℕ) → c < 8 → n < 2 ^ 21 → (class_in ((a * 8 + c) * 2 ^
 fields a c n small low =
     (ap (λ x. x % 8) (div-mul-add (a * 8 + c) (2 ^ 21) n low) ∙ mod-mul-add a 8 c small, mod-mul-add (a * 8 + c) (2 ^ 21) n low)
 
-front : List ℕ → ℕ
-front xs = slice_index xs 0 * 2 ^ 24 + slice_index xs 1 * 2 ^ 16 + slice_index xs 2 * 2 ^ 8 + slice_index xs 3
+prefix : List ℕ → ℕ
+prefix xs = slice_index xs 0 * 2 ^ 24 + slice_index xs 1 * 2 ^ 16 + slice_index xs 2 * 2 ^ 8 + slice_index xs 3
 
-as_fields : (xs : List ℕ) (s : Suffix) → word_at xs s ≡ (front xs * 8 + class_of s) * 2 ^ 21 + number_of s
-unfolding front
+as_fields : (xs : List ℕ) (s : Suffix) → word_at xs s ≡ (prefix xs * 8 + class_of s) * 2 ^ 21 + number_of s
+unfolding prefix
 as_fields xs s = omega arith
 
 -- the class and the number of a suffix, in its word
 pub in_word : (xs : List ℕ) (s : Suffix) → number_of s ≤ 2097151 → (class_in (word_at xs s) ≡ class_of s) × (number_in (word_at xs s) ≡ number_of s)
 in_word xs s low =
-    let f = fields (front xs) (class_of s) (number_of s) (class_lt s) (omega arith) in
+    let f = fields (prefix xs) (class_of s) (number_of s) (class_lt s) (omega arith) in
     (ap class_in (as_fields xs s) ∙ f.0, ap number_in (as_fields xs s) ∙ f.1)
 
 -- the suffix of a packed record
@@ -40,19 +40,19 @@ given r class n e = by (is_packed r) refl e
 -- what the word of a packed record holds
 pub shown : (count w class n : ℕ) (numbers : List ℕ) (r : Record) → take count numbers ≡ r.release → count ≡ length r.release → Given r class n
     → w ≡ word_of r.release (class, n) → IsWord count w numbers × (packed_record count w numbers ≡ r)
-shown count w class n numbers r front long g sum =
+shown count w class n numbers r prefix long g sum =
     let x = packed r g.packed in
-    let s = x.held.only in
-    let same : Some (class, n) ≡ Some (class_of s, number_of s) = sym g.found ∙ x.held.found in
+    let s = x.local_segment.only in
+    let same : Some (class, n) ≡ Some (class_of s, number_of s) = sym g.found ∙ x.local_segment.found in
     let is_class : class ≡ class_of s = ap (λ (o : Option (ℕ × ℕ)). (unwrap_or o (0, 0)).0) same in
     let is_number : n ≡ number_of s = ap (λ (o : Option (ℕ × ℕ)). (unwrap_or o (0, 0)).1) same in
     let is_word : w ≡ word_at r.release s = sum ∙ (λ i. word_of r.release (is_class i, is_number i)) in
-    let f = in_word r.release s x.held.small in
-    let is : packed_record count w numbers ≡ r = (λ i. record_in (front i) ((ap class_in is_word ∙ f.0) i) ((ap number_in is_word ∙ f.1) i)) ∙ sym x.held.same in (
+    let f = in_word r.release s x.local_segment.small in
+    let is : packed_record count w numbers ≡ r = (λ i. record_in (prefix i) ((ap class_in is_word ∙ f.0) i) ((ap number_in is_word ∙ f.1) i)) ∙ sym x.local_segment.same in (
       record {
         count = omega (arith, x.short.few);
         packed = ap is_packed is ∙ g.packed;
-        sum = is_word ∙ ap (λ o. word_of r.release (unwrap_or o (5, 0))) (sym x.held.found) ∙ ap word (sym is);
+        sum = is_word ∙ ap (λ o. word_of r.release (unwrap_or o (5, 0))) (sym x.local_segment.found) ∙ ap word (sym is);
       },
       is,
     )

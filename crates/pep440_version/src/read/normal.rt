@@ -4,7 +4,7 @@ ghost use Rattle.std.specs.Prelude.{◌≡◌, ◌≤◌, ◌++◌, ◌∷◌, �
 ghost use Rattle.pep440_version.specs.Grammar.{Derives, IsNumber, IsRelease};
 ghost use Rattle.pep440_version.specs.Normal.{IsClass, IsPadded, IsSuffix, spelling};
 
-use super::past_v;
+use super::skip_v;
 use crate::packed::{ALPHA, BETA, DEV, MAX_SUFFIX_NUMBER, NONE, POST, Packed, RC};
 use crate::version::Version;
 
@@ -95,8 +95,8 @@ fn normal_suffix(text: &[u8]) -> Option<(u64, u64)>
 pub(crate) fn normal_version(text: &str) -> Option<Version>
     ensures { IfSome result (λ v. Derives text.now v) }
 {
-    let (numbers, count, rest) = small_release(past_v(text).as_bytes())?;
+    let (numbers, count, rest) = small_release(skip_v(text).as_bytes())?;
     let (class, number) = normal_suffix(rest)?;
     let packed = Packed::of_suffix(numbers, count, class, number)?;
-    Some(Version::of_packed(packed))
+    Some(Version::from_packed(packed))
 }

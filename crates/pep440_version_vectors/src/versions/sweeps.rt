@@ -1,7 +1,7 @@
 //! Each call that takes memory, to be run with each request refused in turn: the call gives its row or is out of memory, and gives its row
 //! when it is made again. The versions are such as no word holds, since a packed one takes no memory.
 ghost use Rattle.std.specs.Prelude.{◌≡◌, ◌∷◌, [], IfOk};
-ghost use Rattle.pep440_version.specs.Record.{of_release};
+ghost use Rattle.pep440_version.specs.Record.{from_release};
 
 use super::again;
 use super::again::{TRIES, refused_each_time};
@@ -180,7 +180,7 @@ fn sweep_only_release(rt: HostRuntime) -> Result<(), Fail> {
 
 // `1.0`, which has neither a pre-release nor a post-release nor a developmental part.
 fn version_without_marks(rt: HostRuntime) -> Result<Version, Fail>
-    ensures { IfOk result (λ v. v ≡ of_release (1 ∷ 0 ∷ [])) }
+    ensures { IfOk result (λ v. v ≡ from_release (1 ∷ 0 ∷ [])) }
 {
     match Version::new(rt.alloc(), &[1, 0]) {
         Ok(version) => Ok(version),

@@ -2,8 +2,8 @@ use Rattle.pep440_c.proofs.Placed.{placed_more, stops_at}
 use Rattle.pep440_c.proofs.batch.read_all.Goals as goal
 
 pub returns-in-Err : goal.returns-in-Err
-returns-in-Err c = stops_at c.args.texts.now c.loop-place.place _ c.in-Err.fault c.at.result c.loop-place.invariant.0 c.loop-place-test.true c.at.ensures c.in-Err.ensures c.loop-place.invariant.1
+returns-in-Err c = stops_at c.args.texts.now c.loop-position.position _ c.in-Err.fault c.at.result c.loop-position.invariant.0 c.loop-position-test.true c.at.ensures c.in-Err.ensures c.loop-position.invariant.1
 
-pub loop-place-preserved : goal.loop-place-preserved
-loop-place-preserved c = placed_more c.args.texts.now c.loop-place.place _ c.loop-place.pairs.items c.push.new.self.items c.in-Ok.version c.loop-place-test.true
-    c.in-Ok.ensures c.in_ok-push-in-Ok.ensures.items c.loop-place.invariant
+pub loop-position-preserved : goal.loop-position-preserved
+loop-position-preserved c = placed_more c.args.texts.now c.loop-position.position _ c.loop-position.pairs.items c.push.new.self.items c.in-Ok.version c.loop-position-test.true
+    c.in-Ok.ensures c.in_ok-push-in-Ok.ensures.items c.loop-position.invariant

@@ -2,5 +2,5 @@ use Rattle.std.proofs.Common.{map, take}
 use Rattle.pep440_c.specs.Batches.{MeansPlaced}
 use Rattle.pep440_c.proofs.batch.read_all.Given as goal
 
-abbrev pub invariant-loop-place : goal.invariant-loop-place
-invariant-loop-place l = MeansPlaced (map (λ t. t.now) (take l.place l.texts)) l.pairs.items
+abbrev pub invariant-loop-position : goal.invariant-loop-position
+invariant-loop-position l = MeansPlaced (map (λ t. t.now) (take l.position l.texts)) l.pairs.items

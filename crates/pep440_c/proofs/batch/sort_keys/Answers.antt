@@ -2,8 +2,8 @@ use Rattle.pep440_c.proofs.Placed.{keys_more, stops_at}
 use Rattle.pep440_c.proofs.batch.sort_keys.Goals as goal
 
 pub returns-in-Err : goal.returns-in-Err
-returns-in-Err c = stops_at c.args.texts.now c.loop-place.place _ c.in-Err.fault c.at.result c.loop-place.invariant.0 c.loop-place-test.true c.at.ensures c.in-Err.ensures c.loop-place.invariant.1
+returns-in-Err c = stops_at c.args.texts.now c.loop-position.position _ c.in-Err.fault c.at.result c.loop-position.invariant.0 c.loop-position-test.true c.at.ensures c.in-Err.ensures c.loop-position.invariant.1
 
-pub loop-place-preserved : goal.loop-place-preserved
-loop-place-preserved c = keys_more c.args.texts.now c.loop-place.place _ c.loop-place.keys.bytes.items c.push.new.self.bytes.items c.loop-place.keys.ends.items c.push.new.self.ends.items
-    c.in-Ok.version c.loop-place-test.true c.in-Ok.ensures c.in_ok-push-in-Ok.ensures.bytes c.in_ok-push-in-Ok.ensures.ends c.loop-place.invariant
+pub loop-position-preserved : goal.loop-position-preserved
+loop-position-preserved c = keys_more c.args.texts.now c.loop-position.position _ c.loop-position.keys.bytes.items c.push.new.self.bytes.items c.loop-position.keys.ends.items c.push.new.self.ends.items
+    c.in-Ok.version c.loop-position-test.true c.in-Ok.ensures c.in_ok-push-in-Ok.ensures.bytes c.in_ok-push-in-Ok.ensures.ends c.loop-position.invariant

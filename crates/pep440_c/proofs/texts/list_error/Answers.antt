@@ -8,4 +8,4 @@ use Rattle.pep440_c.proofs.texts.list_error.Goals as goal
 pub returns : goal.returns
 returns c = inr (tells_list c.args.bytes.now c.in-Ok.text.now (string_bytes c.in_ok-to_string-in-Err.field-0) (list_refusal_of (list_kind_of c.in-Err.error))
     (list_text_of (list_kind_of c.in-Err.error) (line_of c.in-Err.error)) c.in-Ok.ensures.cases.0 c.in-Ok.ensures.cases.1
-    (λ none. c.in_default-kind.not-OutOfMemory (c.kind.ensures ∙ c.in-Err.ensures.lifted none)) c.in-Err.ensures.refused c.in-Err.ensures.told c.in_ok-to_string-in-Err.ensures.ok)
+    (λ none. c.in_default-kind.not-OutOfMemory (c.kind.ensures ∙ c.in-Err.ensures.lifted none)) c.in-Err.ensures.refused c.in-Err.ensures.message c.in_ok-to_string-in-Err.ensures.ok)

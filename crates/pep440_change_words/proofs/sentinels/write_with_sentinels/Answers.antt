@@ -4,7 +4,7 @@ use Rattle.pep440_change_words.proofs.sentinels.write_with_sentinels.Goals as go
 
 pub returns : goal.returns
 returns g c = λ flush ok.
-    let front = c.in_ok-fmt.ensures.styled flush refl in
-    let min = c.in_ok-write_sentinel.ensures front.flush refl in
+    let prefix = c.in_ok-fmt.ensures.styled flush refl in
+    let min = c.in_ok-write_sentinel.ensures prefix.flush refl in
     has_written_styled_of_eq _ _ _ _ _ (rw (c.min.ensures, c.max.ensures) refl)
-    (has_written_styled_append _ _ _ _ _ _ front (has_written_styled_append _ _ _ _ _ _ min (c.write_sentinel-2.ensures min.flush ok)))
+    (has_written_styled_append _ _ _ _ _ _ prefix (has_written_styled_append _ _ _ _ _ _ min (c.write_sentinel-2.ensures min.flush ok)))

@@ -1,10 +1,10 @@
-use Rattle.pep440_version.proofs.Reading.Boundaries.{cut_after_ascii}
-use Rattle.pep440_version.proofs.Reading.Fronts.{front_ascii}
+use Rattle.pep440_version.proofs.Reading.Boundaries.{split_after_ascii}
+use Rattle.pep440_version.proofs.Reading.Prefixes.{prefix_ascii}
 use Rattle.pep440_pick.specs.Names.{is_name_byte}
-use Rattle.pep440_pick.proofs.Cutting.{name_byte_ascii}
+use Rattle.pep440_pick.proofs.Splitting.{name_byte_ascii}
 use Rattle.pep440_pick.proofs.scan.split_name.Goals as goal
 
 pub split_at-requires : goal.split_at-requires
 split_at-requires c =
     rw (c.name_len.ensures.count, c.as_bytes.ensures.value)
-    (cut_after_ascii c.args.text.now _ c.utf8.text (rw (c.name_len.ensures.count, c.as_bytes.ensures.value) at c.name_len.ensures.inside) (front_ascii is_name_byte name_byte_ascii c.args.text.now))
+    (split_after_ascii c.args.text.now _ c.utf8.text (rw (c.name_len.ensures.count, c.as_bytes.ensures.value) at c.name_len.ensures.inside) (prefix_ascii is_name_byte name_byte_ascii c.args.text.now))

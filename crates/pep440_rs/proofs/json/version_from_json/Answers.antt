@@ -1,4 +1,4 @@
-use Rattle.pep440_rs.proofs.Reading.JsonStrings.{made_answers, made_refused, of_text, one_text, with_texts}
+use Rattle.pep440_rs.proofs.Reading.JsonStrings.{made_answers, made_refused, from_text, one_text, with_texts}
 use Rattle.pep440_rs.specs.Json.{text_of}
 use Rattle.pep440_version.specs.Errors.{kind_of, refusal_of}
 use Rattle.pep440_version.specs.Grammar.{Derives}
@@ -7,7 +7,7 @@ use Rattle.pep440_rs.proofs.json.version_from_json.Goals as goal
 
 pub returns-clause-only : goal.returns-clause-only
 returns-clause-only c = λ t s is means. made_answers (λ e. refusal_of (kind_of e)) c.from_str.result c.map_err.result _ c.map_err.ensures.cases
-    (c.from_str.ensures.only s (of_text Derives c.in_ok-text.text.now t (text_of c.args.value.now) s c.in_ok-text.ensures is means))
+    (c.from_str.ensures.only s (from_text Derives c.in_ok-text.text.now t (text_of c.args.value.now) s c.in_ok-text.ensures is means))
 
 pub returns-clause-again : goal.returns-clause-again
 returns-clause-again c = λ t s means is. made_answers (λ e. refusal_of (kind_of e)) c.from_str.result c.map_err.result _ c.map_err.ensures.cases
@@ -19,8 +19,8 @@ returns-clause-refused c = made_refused (λ e. refusal_of (kind_of e)) c.from_st
 
 pub returns-clause-decided : goal.returns-clause-decided
 returns-clause-decided c = λ t f is means. made_answers (λ e. refusal_of (kind_of e)) c.from_str.result c.map_err.result _ c.map_err.ensures.cases
-    (c.from_str.ensures.decided f (of_text Refuses c.in_ok-text.text.now t (text_of c.args.value.now) f c.in_ok-text.ensures is means))
+    (c.from_str.ensures.decided f (from_text Refuses c.in_ok-text.text.now t (text_of c.args.value.now) f c.in_ok-text.ensures is means))
 
-pub returns-clause-reread : goal.returns-clause-reread
-returns-clause-reread c = λ r fits same is. made_answers (λ e. refusal_of (kind_of e)) c.from_str.result c.map_err.result _ c.map_err.ensures.cases
-    (c.from_str.ensures.reread r fits same (one_text _ _ (text_of c.args.value.now) c.in_ok-text.ensures is))
+pub returns-clause-round_trips : goal.returns-clause-round_trips
+returns-clause-round_trips c = λ r fits same is. made_answers (λ e. refusal_of (kind_of e)) c.from_str.result c.map_err.result _ c.map_err.ensures.cases
+    (c.from_str.ensures.round_trips r fits same (one_text _ _ (text_of c.args.value.now) c.in_ok-text.ensures is))

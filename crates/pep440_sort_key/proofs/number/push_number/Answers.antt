@@ -6,5 +6,5 @@ use Rattle.pep440_sort_key.proofs.number.push_number.Goals as goal
 
 pub returns : goal.returns
 returns c =
-    let needed : c.without_padding-bytes.result.now ≡ needed_bytes c.args.number = c.without_padding-bytes.ensures.value ∙ needed_is c.args.number _ c.to_be_bytes-padded.ensures in
+    let needed : c.skip_leading_zeros-bytes.result.now ≡ needed_bytes c.args.number = c.skip_leading_zeros-bytes.ensures.value ∙ needed_is c.args.number _ c.to_be_bytes-padded.ensures in
     grind (arith, common_steps, append_assoc)

@@ -3,7 +3,7 @@ use Rattle.pep440_version.specs.Grammar.{Derives}
 use Rattle.pep440_version.specs.Refusals.{Refuses}
 use Rattle.pep440_tool.specs.Answers.{RejectsFirst}
 use Rattle.pep440_tool.specs.Lines.{FilterAnswer, LineMeans, RejectsLine, numbered_lines, refused_version}
-use Rattle.pep440_tool.specs.Said.{said}
+use Rattle.pep440_tool.specs.AnswerValues.{answer_value}
 use Rattle.pep440_tool.proofs.Each.{shows_contained}
 use Rattle.pep440_tool.proofs.Rejected.{stopped}
 use Rattle.pep440_tool.proofs.filtering.filter.Goals as goal
@@ -15,7 +15,7 @@ returns c = inl (
   inl (
     c.in_ok-versions.ensures.0,
     c.in_ok-versions.ensures.1,
-    shows_contained c.in_ok-list.list c.in_ok-versions.ensures.0 (said c.shown_lines.result) c.in_ok-versions.versions.items c.sort.new.self.items (string_bytes c.in_ok-to_string.field-0)
+    shows_contained c.in_ok-list.list c.in_ok-versions.ensures.0 (answer_value c.shown_lines.result) c.in_ok-versions.versions.items c.sort.new.self.items (string_bytes c.in_ok-to_string.field-0)
         c.in_ok-versions.ensures.2 c.in_ok-sort.ensures.permutation c.in_ok-sort.ensures.sorted c.in_ok-sort.ensures.stable
         (rw c.as_slice.ensures.value at c.in_ok-to_string.ensures.ok) c.shown_lines.ensures,
   ),

@@ -15,5 +15,5 @@ returns-in_err-text c =
 
 pub returns-in-Err : goal.returns-in-Err
 returns-in-Err c = λ lacks.
-    let f = told c.args.line.bytes.now _ _ lacks (rw c.in_ok-text.ensures.0 at c.in-Err.ensures.refused) c.in-Err.ensures.told in
+    let f = told c.args.line.bytes.now _ _ lacks (rw c.in_ok-text.ensures.0 at c.in-Err.ensures.refused) c.in-Err.ensures.message in
     (line_fault_text c.args.line.number (refusal_text f.0), ap (option_map (line_fault_text c.args.line.number)) f.2, inr (c.in_ok-text.ensures.1, (f.0, f.1, refl)))

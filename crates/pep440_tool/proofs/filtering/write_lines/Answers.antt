@@ -1,6 +1,6 @@
 use Rattle.std.proofs.Common.{refl}
 use Rattle.std.proofs.Output.{has_written_styled_append, has_written_styled_of_eq}
-use Rattle.pep440_version.proofs.Reread.Writing.{flat_map_item}
+use Rattle.pep440_version.proofs.RoundTrip.Writing.{flat_map_item}
 use Rattle.pep440_version.specs.Print.{print}
 use Rattle.pep440_tool.specs.Texts.{line}
 use Rattle.pep440_tool.proofs.filtering.write_lines.Goals as goal

@@ -7,5 +7,5 @@ use Rattle.pep440_tool.proofs.picking.read_candidate.Goals as goal
 
 pub returns-in-Err : goal.returns-in-Err
 returns-in-Err c = λ lacks.
-    let f = told c.args.word.now _ _ lacks c.in-Err.ensures.refused c.in-Err.ensures.told in
+    let f = told c.args.word.now _ _ lacks c.in-Err.ensures.refused c.in-Err.ensures.message in
     (candidate_fault_text c.args.number (refusal_text f.0), ap (option_map (candidate_fault_text c.args.number)) f.2, (f.0, f.1, refl))

@@ -16,7 +16,7 @@ returns-in_err-text c =
 
 pub returns-in-Err : goal.returns-in-Err
 returns-in-Err c = λ lacks.
-    let f = told_requirement c.args.line.bytes.now c.args.line.number c.in-Err.error _ lacks c.in-Err.ensures.lifted (rw c.in_ok-text.ensures.0 at c.in-Err.ensures.refused) c.in-Err.ensures.told in
+    let f = told_requirement c.args.line.bytes.now c.args.line.number c.in-Err.error _ lacks c.in-Err.ensures.lifted (rw c.in_ok-text.ensures.0 at c.in-Err.ensures.refused) c.in-Err.ensures.message in
     (line_fault_text c.args.line.number (requirement_refusal_text f.0), ap (option_map (line_fault_text c.args.line.number)) f.2, inr (c.in_ok-text.ensures.1, (f.0, f.1, f.3)))
 
 pub returns-in-Ok : goal.returns-in-Ok

@@ -13,4 +13,4 @@ told text reason (Some f) said some why is shown = (f, why, rw is at shown)
 pub returns-in_ok-reason-in-Err : goal.returns-in_ok-reason-in-Err
 returns-in_ok-reason-in-Err c =
     told c.args.text.now (string_bytes c.in_ok-reason-in-Err.reason) (error_refusal c.in-Err.error) (error_text (error_refusal c.in-Err.error))
-    (sym c.is_out_of_memory.ensures ∙ c.if-is_out_of_memory.false) c.in-Err.ensures.refused c.in-Err.ensures.told c.in_ok-reason-in-Err.ensures.ok
+    (sym c.is_out_of_memory.ensures ∙ c.if-is_out_of_memory.false) c.in-Err.ensures.refused c.in-Err.ensures.message c.in_ok-reason-in-Err.ensures.ok

@@ -7,4 +7,4 @@ pub returns : goal.returns
 returns g c = λ flush ok.
     let label = c.in_ok-write_str.ensures.styled flush refl in
     let number = c.in_ok-write_number.ensures label.flush refl in
-    has_written_styled_append _ _ (codes "change ") _ _ _ label (has_written_styled_append _ _ (decimal c.args.place) _ _ _ number (c.write_str-2.ensures.styled number.flush ok))
+    has_written_styled_append _ _ (codes "change ") _ _ _ label (has_written_styled_append _ _ (decimal c.args.position) _ _ _ number (c.write_str-2.ensures.styled number.flush ok))

@@ -1,4 +1,4 @@
-use Rattle.pep440_version.proofs.Reread.PrintIsRead.{derived_record, derived_rereads, reread}
+use Rattle.pep440_version.proofs.RoundTrip.PrintIsRead.{derived_record, derived_rereads, reread}
 use Rattle.pep440_version.proofs.laws.meaning_is_printed.Goals as goal
 
 pub returns-clause-bounded : goal.returns-clause-bounded

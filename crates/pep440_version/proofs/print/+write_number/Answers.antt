@@ -5,9 +5,9 @@ use Rattle.pep440_version.proofs.print.+write_number.Goals as goal
 
 pub returns : goal.returns
 returns g t c = λ flush ok.
-    let front = c.in_ok-write_number.ensures flush refl in
+    let prefix = c.in_ok-write_number.ensures flush refl in
     has_written_styled_of_eq _ _ _ _ _ (sym (decimal_step c.args.n c.if-n-lt10.false c.ranges.n.fits))
-    (has_written_styled_append _ _ _ _ _ _ front (c.write_digit-2.ensures front.flush ok))
+    (has_written_styled_append _ _ _ _ _ _ prefix (c.write_digit-2.ensures prefix.flush ok))
 
 pub returns-then-n-lt10 : goal.returns-then-n-lt10
 returns-then-n-lt10 g t c = λ flush ok. has_written_styled_of_eq _ _ _ _ _ (sym (decimal_digit c.args.n c.if-n-lt10.true)) (c.write_digit.ensures flush ok)

@@ -1,6 +1,6 @@
 use Rattle.std.proofs.Common.{refl, ◌++◌, ◌∷◌, []}
 use Rattle.std.specs.Fmt.{decimal}
-use Rattle.pep440_version.proofs.Reread.Writing.{flat_map_take}
+use Rattle.pep440_version.proofs.RoundTrip.Writing.{flat_map_take}
 use Rattle.std.proofs.Output.{has_written_styled_append, has_written_styled_of_eq}
 use Rattle.pep440_version.proofs.print.write_dotted.Goals as goal
 

@@ -1,5 +1,5 @@
 use Rattle.std.proofs.Common.{refl, sym, ◌∙◌}
-use Rattle.pep440_version.proofs.Reread.Writing.{with_plus}
+use Rattle.pep440_version.proofs.RoundTrip.Writing.{with_plus}
 use Rattle.std.proofs.Output.{has_written_styled_append, has_written_styled_of_eq}
 use Rattle.pep440_version.proofs.print.write_local.Goals as goal
 

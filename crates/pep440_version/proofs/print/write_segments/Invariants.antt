@@ -5,6 +5,6 @@ use Rattle.pep440_version.specs.Print.{segment_print}
 use Rattle.pep440_version.specs.Segments.{segment}
 use Rattle.pep440_version.proofs.print.write_segments.Given as goal
 
-abbrev pub invariant-loop-held : goal.invariant-loop-held
-invariant-loop-held g l =
-    IsFlush l.initial.f → HasWrittenStyled g.W.Write.write_str_gives l.initial.f (flat_map (λ s. 46 ∷ [] ++ segment_print (segment s)) (take l.held-index l.segments)) l.f
+abbrev pub invariant-loop-local_segment : goal.invariant-loop-local_segment
+invariant-loop-local_segment g l =
+    IsFlush l.initial.f → HasWrittenStyled g.W.Write.write_str_gives l.initial.f (flat_map (λ s. 46 ∷ [] ++ segment_print (segment s)) (take l.local_segment-index l.segments)) l.f

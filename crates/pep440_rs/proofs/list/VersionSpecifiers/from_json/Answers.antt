@@ -1,4 +1,4 @@
-use Rattle.pep440_rs.proofs.Reading.JsonStrings.{made_answers, made_error, made_refused, of_text, one_text, with_texts}
+use Rattle.pep440_rs.proofs.Reading.JsonStrings.{made_answers, made_error, made_refused, from_text, one_text, with_texts}
 use Rattle.pep440_rs.proofs.Reading.ListTold.{holds_line}
 use Rattle.pep440_rs.specs.Json.{text_of}
 use Rattle.pep440_rs.specs.ListAnswers.{list_kind_of}
@@ -8,7 +8,7 @@ use Rattle.pep440_rs.proofs.list.VersionSpecifiers.from_json.Goals as goal
 
 pub returns-clause-only : goal.returns-clause-only
 returns-clause-only c = λ t s is means. made_answers (λ e. list_refusal_of (list_kind_of e)) c.from_str.result c.map_err.result _ c.map_err.ensures.cases
-    (c.from_str.ensures.only s (of_text DerivesList c.in_ok-text.text.now t (text_of c.args.value.now) s c.in_ok-text.ensures is means))
+    (c.from_str.ensures.only s (from_text DerivesList c.in_ok-text.text.now t (text_of c.args.value.now) s c.in_ok-text.ensures is means))
 
 pub returns-clause-again : goal.returns-clause-again
 returns-clause-again c = λ t s means is. made_answers (λ e. list_refusal_of (list_kind_of e)) c.from_str.result c.map_err.result _ c.map_err.ensures.cases
@@ -20,7 +20,7 @@ returns-clause-refused c = made_refused (λ e. list_refusal_of (list_kind_of e))
 
 pub returns-clause-decided : goal.returns-clause-decided
 returns-clause-decided c = λ t f is means. made_answers (λ e. list_refusal_of (list_kind_of e)) c.from_str.result c.map_err.result _ c.map_err.ensures.cases
-    (c.from_str.ensures.decided f (of_text RefusesList c.in_ok-text.text.now t (text_of c.args.value.now) f c.in_ok-text.ensures is means))
+    (c.from_str.ensures.decided f (from_text RefusesList c.in_ok-text.text.now t (text_of c.args.value.now) f c.in_ok-text.ensures is means))
 
 pub returns-clause-line : goal.returns-clause-line
 returns-clause-line c = made_error (λ e. list_refusal_of (list_kind_of e)) c.from_str.result c.map_err.result _ c.map_err.ensures.cases

@@ -19,8 +19,8 @@ returns-clause-refused c = is_list_refused c.args.text.now _ c.read.ensures.valu
 pub returns-clause-decided : goal.returns-clause-decided
 returns-clause-decided c = is_list_decided c.args.text.now _ c.read.ensures.value
 
-pub returns-clause-told : goal.returns-clause-told
-returns-clause-told c = is_list_told c.args.text.now _ (is_list_refused c.args.text.now _ c.read.ensures.value) c.read.ensures.line
+pub returns-clause-message : goal.returns-clause-message
+returns-clause-message c = is_list_told c.args.text.now _ (is_list_refused c.args.text.now _ c.read.ensures.value) c.read.ensures.line
 
 pub returns-clause-again : goal.returns-clause-again
 returns-clause-again c = is_list_again c.args.text.now _ c.read.ensures.value

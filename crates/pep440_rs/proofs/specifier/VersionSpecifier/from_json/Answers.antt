@@ -1,4 +1,4 @@
-use Rattle.pep440_rs.proofs.Reading.JsonStrings.{made_answers, made_found, made_refused, of_text, one_text, with_texts}
+use Rattle.pep440_rs.proofs.Reading.JsonStrings.{made_answers, made_found, made_refused, from_text, one_text, with_texts}
 use Rattle.pep440_rs.specs.Errors.{parse_kind_of, specifier_refusal_of}
 use Rattle.pep440_rs.specs.Json.{text_of}
 use Rattle.pep440_rs.specs.SpecifierGrammar.{DerivesSpecifier, RefusesSpecifier}
@@ -6,7 +6,7 @@ use Rattle.pep440_rs.proofs.specifier.VersionSpecifier.from_json.Goals as goal
 
 pub returns-clause-only : goal.returns-clause-only
 returns-clause-only c = λ t s is means. made_answers (λ e. specifier_refusal_of (parse_kind_of e)) c.from_str.result c.map_err.result _ c.map_err.ensures.cases
-    (c.from_str.ensures.only s (of_text DerivesSpecifier c.in_ok-text.text.now t (text_of c.args.value.now) s c.in_ok-text.ensures is means))
+    (c.from_str.ensures.only s (from_text DerivesSpecifier c.in_ok-text.text.now t (text_of c.args.value.now) s c.in_ok-text.ensures is means))
 
 pub returns-clause-again : goal.returns-clause-again
 returns-clause-again c = λ t s means is. made_answers (λ e. specifier_refusal_of (parse_kind_of e)) c.from_str.result c.map_err.result _ c.map_err.ensures.cases
@@ -18,7 +18,7 @@ returns-clause-refused c = made_refused (λ e. specifier_refusal_of (parse_kind_
 
 pub returns-clause-decided : goal.returns-clause-decided
 returns-clause-decided c = λ t f is means. made_answers (λ e. specifier_refusal_of (parse_kind_of e)) c.from_str.result c.map_err.result _ c.map_err.ensures.cases
-    (c.from_str.ensures.decided f (of_text RefusesSpecifier c.in_ok-text.text.now t (text_of c.args.value.now) f c.in_ok-text.ensures is means))
+    (c.from_str.ensures.decided f (from_text RefusesSpecifier c.in_ok-text.text.now t (text_of c.args.value.now) f c.in_ok-text.ensures is means))
 
 pub returns-clause-found : goal.returns-clause-found
 returns-clause-found c = made_found (λ e. specifier_refusal_of (parse_kind_of e)) c.from_str.result c.map_err.result _ _ (λ s means. (c.in_ok-text.text.now, c.in_ok-text.ensures, means)) c.map_err.ensures.cases c.from_str.ensures.found

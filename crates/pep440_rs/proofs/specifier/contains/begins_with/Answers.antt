@@ -28,13 +28,13 @@ beyond numbers [] ends = refl
 beyond [] (p ∷ rest) ends = zeros (p ∷ rest)
 beyond (n ∷ numbers) (p ∷ rest) ends = let none = ends (omega arith) in absurd (omega arith)
 
-begins : (numbers front rest : List ℕ) → length front ≤ length numbers → (0 < length rest → length front ≡ length numbers)
-    → begins_with numbers (front ++ rest) ≡ pointwise nat_eq front (take (length front) numbers) && are_zeros rest
+begins : (numbers prefix rest : List ℕ) → length prefix ≤ length numbers → (0 < length rest → length prefix ≡ length numbers)
+    → begins_with numbers (prefix ++ rest) ≡ pointwise nat_eq prefix (take (length prefix) numbers) && are_zeros rest
 begins numbers [] rest inside ends = beyond numbers rest ends
-begins [] (x ∷ front) rest inside ends = absurd (omega arith)
-begins (n ∷ numbers) (x ∷ front) rest inside ends =
-    (λ i. flip n x i && begins numbers front rest (omega arith) (λ more. let all = ends more in omega arith) i)
-    ∙ regrouped (x == n) (pointwise nat_eq front (take (length front) numbers)) (are_zeros rest)
+begins [] (x ∷ prefix) rest inside ends = absurd (omega arith)
+begins (n ∷ numbers) (x ∷ prefix) rest inside ends =
+    (λ i. flip n x i && begins numbers prefix rest (omega arith) (λ more. let all = ends more in omega arith) i)
+    ∙ regrouped (x == n) (pointwise nat_eq prefix (take (length prefix) numbers)) (are_zeros rest)
 
 pub returns-then-starts_with : goal.returns-then-starts_with
 returns-then-starts_with c =

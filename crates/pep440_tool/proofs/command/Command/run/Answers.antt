@@ -2,7 +2,7 @@ use Rattle.std.proofs.Common.{map, string_bytes, subst, sym}
 use Rattle.pep440_tool.specs.Answers.{CompareAnswer, EditAnswer, MatchAnswer}
 use Rattle.pep440_tool.specs.Commands.{IsAnswer}
 use Rattle.pep440_tool.specs.Picks.{PickAnswer}
-use Rattle.pep440_tool.specs.Said.{request}
+use Rattle.pep440_tool.specs.AnswerValues.{request}
 use Rattle.pep440_tool.proofs.Rejected.{answered_weaker}
 use Rattle.pep440_tool.proofs.command.Command.run.Goals as goal
 

@@ -14,8 +14,8 @@ returns-clause-refused c = is_pattern_refused c.args.text.now _ c.read.ensures.r
 pub returns-clause-decided : goal.returns-clause-decided
 returns-clause-decided c = is_pattern_decided c.args.text.now _ c.read.ensures.reads
 
-pub returns-clause-told : goal.returns-clause-told
-returns-clause-told c = is_pattern_told c.args.text.now _ c.read.ensures.reads
+pub returns-clause-message : goal.returns-clause-message
+returns-clause-message c = is_pattern_told c.args.text.now _ c.read.ensures.reads
 
 pub returns-clause-memory : goal.returns-clause-memory
 returns-clause-memory c = λ r star d fits. c.read.ensures.memory (r, star) (only_pattern c.args.text.now r star d) fits

@@ -14,11 +14,11 @@ returns-clause-refused c = is_refused c.args.text.now _ c.read.ensures.reads
 pub returns-clause-decided : goal.returns-clause-decided
 returns-clause-decided c = is_decided c.args.text.now _ c.read.ensures.reads
 
-pub returns-clause-told : goal.returns-clause-told
-returns-clause-told c = is_told c.args.text.now _ c.read.ensures.reads
+pub returns-clause-message : goal.returns-clause-message
+returns-clause-message c = is_told c.args.text.now _ c.read.ensures.reads
 
-pub returns-clause-reread : goal.returns-clause-reread
-returns-clause-reread c = is_reread c.args.text.now _ c.read.ensures.reads
+pub returns-clause-round_trips : goal.returns-clause-round_trips
+returns-clause-round_trips c = is_reread c.args.text.now _ c.read.ensures.reads
 
 pub returns-clause-again : goal.returns-clause-again
 returns-clause-again c = is_again c.args.text.now _ c.read.ensures.reads

@@ -4,11 +4,11 @@ use Rattle.pep440_version.proofs.Reading.Agreement.{opening_ends, opening_some, 
 use Rattle.pep440_version.proofs.Reading.WithoutMemory.{opened_too}
 use Rattle.pep440_version.proofs.version.Version.read_whole.Goals as goal
 
-pub closing-requires-clause-some : goal.closing-requires-clause-some
-closing-requires-clause-some c = opening_some c.args.text.now _ c.in_ok-epoch.ensures.reads
+pub parse_after_release-requires-clause-some : goal.parse_after_release-requires-clause-some
+parse_after_release-requires-clause-some c = opening_some c.args.text.now _ c.in_ok-epoch.ensures.reads
 
-pub closing-requires-clause-at_end : goal.closing-requires-clause-at_end
-closing-requires-clause-at_end c = opening_ends c.args.text.now _ c.in_ok-epoch.ensures.reads
+pub parse_after_release-requires-clause-at_end : goal.parse_after_release-requires-clause-at_end
+parse_after_release-requires-clause-at_end c = opening_ends c.args.text.now _ c.in_ok-epoch.ensures.reads
 
 pub returns-in_err-epoch-clause-memory : goal.returns-in_err-epoch-clause-memory
 returns-in_err-epoch-clause-memory c = λ r e fits.

@@ -1,0 +1,69 @@
+// What is put into the caller's memory.
+ghost use Rattle.std.specs.Prelude.{◌≡◌, length, string_bytes};
+ghost use Rattle.pep440_c.specs.Statuses.{PutsBoth, PutsFront, flag};
+ghost use Rattle.pep440_c.specs.Room.{PutsGiven};
+
+use crate::texts::Fault;
+
+pub(crate) const OK: u8 = 0;
+
+pub(crate) const NO_ROOM: u8 = 4;
+
+/// The number that stands for a truth value.
+pub(crate) fn flag(truth: bool) -> u8
+    ensures { result ≡ flag truth }
+{
+    if truth { 1 } else { 0 }
+}
+
+/// Puts the items at the front of the caller's, where there are enough of these.
+pub(crate) fn put<T: Copy>(items: &[T], out: &mut [T]) -> u8
+    ensures { PutsFront items.now out.old out.new result }
+{
+    if out.len() < items.len() {
+        return NO_ROOM;
+    }
+    out[..items.len()].copy_from_slice(items);
+    OK
+}
+
+// The same of bytes, and tells how many they are.
+fn put_counted(bytes: &[u8], out: &mut [u8], written: &mut usize) -> u8
+    ensures counted { written.new ≡ length bytes.now }
+    ensures put { PutsFront bytes.now out.old out.new result }
+{
+    *written = bytes.len();
+    put(bytes, out)
+}
+
+/// Puts the text that a call gives at the front of the caller's bytes, where there are enough of these, and tells how many it takes.
+pub(crate) fn put_text(given: Result<String, Fault>, out: &mut [u8], written: &mut usize) -> u8
+    ensures { PutsGiven string_bytes given out.old out.new written.old written.new result }
+{
+    match given {
+        Ok(text) => put_counted(text.as_bytes(), out, written),
+        Err(fault) => fault.status(),
+    }
+}
+
+/// The same of bytes that a call gives.
+pub(crate) fn put_bytes(given: Result<Vec<u8>, Fault>, out: &mut [u8], written: &mut usize) -> u8
+    ensures { PutsGiven (λ bytes. bytes.items) given out.old out.new written.old written.new result }
+{
+    match given {
+        Ok(bytes) => put_counted(bytes.as_slice(), out, written),
+        Err(fault) => fault.status(),
+    }
+}
+
+/// Puts bytes and places at the front of the caller's, where there are enough of both.
+pub(crate) fn put_both(bytes: &[u8], places: &[usize], out: &mut [u8], ends: &mut [usize]) -> u8
+    ensures { PutsBoth bytes.now places.now out.old out.new ends.old ends.new result }
+{
+    if out.len() < bytes.len() || ends.len() < places.len() {
+        return NO_ROOM;
+    }
+    out[..bytes.len()].copy_from_slice(bytes);
+    ends[..places.len()].copy_from_slice(places);
+    OK
+}

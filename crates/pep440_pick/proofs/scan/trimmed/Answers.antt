@@ -1,5 +1,0 @@
-use Rattle.pep440_pick.proofs.Blanks.{both_trimmed}
-use Rattle.pep440_pick.proofs.scan.trimmed.Goals as goal
-
-pub returns : goal.returns
-returns c = both_trimmed c.args.text.now c.trim_ascii.result.now c.trim_ascii.ensures.value

@@ -1,0 +1,22 @@
+-- The records whose print reads as themselves: min and max are absent, and a text of the local is written
+-- as reading gives it (PEP 440, "Local version identifiers").
+use Rattle.std.specs.Prelude.{◌≡◌, ℕ, ◌<◌, ◌||◌, Bool, true, false, length, None}
+use Rattle.std.specs.Char.{is_ascii_digit, is_ascii_lowercase}
+use Rattle.std.specs.List.{All, list_all}
+use Rattle.pep440_version.specs.Grammar.{is_numeral}
+use Rattle.pep440_version.specs.Record.{Record, LocalSegmentValue, Text, Number}
+
+-- a digit or a lower-case letter
+abbrev pub is_lower : ℕ → Bool
+is_lower b = is_ascii_digit b || is_ascii_lowercase b
+
+-- a number, or a text of lower-case ASCII letters and digits that would not be read as a number
+abbrev pub SegmentRereads : LocalSegmentValue → Type 0
+SegmentRereads (Text t) = (0 < length t) × (list_all is_lower t ≡ true) × (is_numeral t ≡ false)
+SegmentRereads (Number n) = Unit {0}
+
+-- the print of the record means the record
+pub record RoundTrips (r : Record) : Type 0 where
+  pub no_min : r.min ≡ None
+  pub no_max : r.max ≡ None
+  pub local : All SegmentRereads r.local
