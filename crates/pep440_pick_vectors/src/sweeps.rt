@@ -27,6 +27,38 @@ fn sweep_requirement(rt: HostRuntime) -> Result<(), Fail> {
 }
 
 #[test]
+fn sweep_specifiers_for(rt: HostRuntime) -> Result<(), Fail> {
+    let mut refused: u32 = 0;
+    for _turn in 0..2 {
+        match Requirement::specifiers_for(rt.alloc(), "A", "a[x, y] (>=1, <2)") {
+            Ok(Some(list)) => assert!(rt; list.as_slice().len() == 2),
+            Ok(None) => assert!(rt; false),
+            Err(error) => {
+                assert!(rt; matches!(error, RequirementError::OutOfMemory));
+                refused = refused.saturating_add(1);
+            }
+        }
+    }
+    assert!(rt; refused <= 1);
+    Ok(())
+}
+
+// PEP 503, "Normalized Names": `-`, `_` and `.` are the same, and so are letters in either case.
+#[test]
+fn specifiers_of_one_name(rt: HostRuntime) -> Result<(), Fail> {
+    let other = Requirement::specifiers_for(rt.alloc(), "b", "a>=1")?;
+    assert!(rt; other.is_none(), "another name");
+    let same = Requirement::specifiers_for(rt.alloc(), "Demo.Pkg", "demo-pkg")?;
+    assert!(rt; same.is_some_and(|list| list.is_empty()), "the same name");
+    let refused = Requirement::specifiers_for(rt.alloc(), "b", "a>=1,y");
+    assert!(rt;
+        matches!(refused, Err(RequirementError::Specifiers(_))),
+        "an invalid list of another name"
+    );
+    Ok(())
+}
+
+#[test]
 fn sweep_refused_requirement(rt: HostRuntime) -> Result<(), Fail> {
     let mut refused: u32 = 0;
     for _turn in 0..2 {
