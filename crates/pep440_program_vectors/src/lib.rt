@@ -2,6 +2,8 @@
 #![tactic(auto)]
 
 #[cfg(test)]
+mod change_words;
+#[cfg(test)]
 mod lists;
 #[cfg(test)]
 mod long;
