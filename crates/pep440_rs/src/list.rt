@@ -1,5 +1,5 @@
 //! Lists of specifiers: how one is made, and its members.
-ghost use Rattle.std.specs.Prelude.{◌≡◌, ◌==◌, ◌<◌, ◌∷◌, [], ℕ, List, codes, length, IfOk, IfErr, IfSome, Some, Ok, Err};
+ghost use Rattle.std.specs.Prelude.{◌≡◌, ◌==◌, ◌<◌, ◌∷◌, [], ℕ, List, codes, length, IfOk, IfErr, IfSome, IsOk, IsTrue, Some, Ok, Err};
 ghost use Rattle.std.specs.List.{All};
 ghost use Rattle.std.specs.Slice.Iter.{iter_rest};
 ghost use Rattle.std.specs.Vec.Iter.{into_iter_items};
@@ -56,6 +56,19 @@ fn by_version(a: &VersionSpecifier, b: &VersionSpecifier) -> Ordering
     a.version().cmp(b.version())
 }
 
+// Whether no member's version is below that of the one before it.
+fn are_arranged(members: &[VersionSpecifier]) -> bool
+    ensures rise { IsTrue result → IsArranged members.now }
+    ensures fall { IsArranged members.now → IsTrue result }
+{
+    for i in 1..members.len() {
+        if by_version(&members[i], &members[i - 1]).is_lt() {
+            return false;
+        }
+    }
+    true
+}
+
 impl VersionSpecifiers {
     /// The list without members.
     ///
@@ -70,11 +83,24 @@ impl VersionSpecifiers {
 
     /// The list of these members: by version, and members with equal versions in the order given.
     ///
-    /// May take memory.
+    /// Allocates only where they are not in this order already.
     pub fn from_specifiers(
         alloc: Global,
         specifiers: Vec<VersionSpecifier>,
     ) -> Result<VersionSpecifiers, AllocError>
+        ensures value { IfOk result (λ list. Arranges specifiers.items list) }
+        ensures memory { IsArranged specifiers.items → IsOk result }
+    {
+        if are_arranged(&specifiers) {
+            return Ok(VersionSpecifiers {
+                members: specifiers,
+            });
+        }
+        VersionSpecifiers::arrange(specifiers)
+    }
+
+    // The same, in whatever order they are.
+    fn arrange(specifiers: Vec<VersionSpecifier>) -> Result<VersionSpecifiers, AllocError>
         ensures { IfOk result (λ list. Arranges specifiers.items list) }
     {
         let mut members = specifiers;

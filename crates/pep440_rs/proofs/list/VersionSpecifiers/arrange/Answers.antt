@@ -4,7 +4,7 @@ use Rattle.std.specs.Ordering.{is_lt}
 use Rattle.pep440_version.specs.KeyLaws.{record_total}
 use Rattle.pep440_rs.specs.Arrangement.{version_cmp}
 use Rattle.pep440_rs.specs.Specifiers.{Spec}
-use Rattle.pep440_rs.proofs.list.VersionSpecifiers.from_specifiers.Goals as goal
+use Rattle.pep440_rs.proofs.list.VersionSpecifiers.arrange.Goals as goal
 
 pub invariant_of-result : goal.invariant_of-result
 invariant_of-result c =
