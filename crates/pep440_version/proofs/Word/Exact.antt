@@ -1,5 +1,5 @@
 -- A packed record is the one that its count and its word show; and which counts and words show one.
-use Rattle.std.proofs.Common.{◌≡◌, ◌∙◌, ℕ, zero, suc, ◌+◌, ◌*◌, ◌/◌, ◌%◌, ◌^◌, ◌==◌, ◌&&◌, ◌<◌, ◌≤◌, refl, sym, ap, subst, arith, Bool, true, false, if◌then◌else◌, List, [], ◌∷◌, length, take, slice_index, Option, Some, None, unwrap_or, nat_le}
+use Rattle.std.proofs.Common.{◌≡◌, ◌∙◌, ℕ, zero, suc, ◌+◌, ◌*◌, ◌/◌, ◌%◌, ◌^◌, ◌==◌, ◌&&◌, ◌<◌, ◌≤◌, refl, sym, ap, subst, arith, Bool, true, false, List, [], ◌∷◌, length, take, slice_index, Some, unwrap_or, nat_le}
 use Rattle.std.proofs.Math.Nat.{mod-lt}
 use Rattle.std.proofs.lemmas.Bool.Decides.{nat_tests}
 use Rattle.std.proofs.lemmas.Nat.{div-mul-add, mod-mul-add}
@@ -8,7 +8,7 @@ use Rattle.pep440_version.specs.Record.{Record}
 use Rattle.pep440_version.specs.Word.{is_packed, is_short, is_small, suffix, word, word_of}
 use Rattle.pep440_version.specs.WordParts.{is_padded, is_suffix, is_word, numbers_in}
 use Rattle.pep440_version.proofs.Word.Order.{word_at}
-use Rattle.pep440_version.proofs.Word.Packed.{IsShort, packed}
+use Rattle.pep440_version.proofs.Word.Packed.{packed}
 use Rattle.pep440_version.proofs.Word.Shown.{in_word}
 use Rattle.pep440_version.proofs.Word.Suffixes.{Alpha, Beta, Dev, Max, Min, Plain, Post, Rc, Suffix, class_lt, class_of, number_of}
 

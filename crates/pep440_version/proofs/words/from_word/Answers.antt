@@ -1,4 +1,4 @@
-use Rattle.std.proofs.Common.{rules, ◌≡◌, ◌∙◌, sym, subst, true, length, arith}
+use Rattle.std.proofs.Common.{◌≡◌, ◌∙◌, sym, subst, true, length, arith}
 use Rattle.pep440_version.specs.Form.{IsWord, packed_record}
 use Rattle.pep440_version.specs.Record.{Record}
 use Rattle.pep440_version.specs.Word.{is_packed, word}
