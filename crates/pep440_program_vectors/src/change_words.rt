@@ -2,7 +2,6 @@
 use pep440_change_words::{ChangeWordError, parse_change};
 use pep440_version::Change;
 use std::alloc::Global;
-use std::test::Fail;
 
 // The change, asked for again where memory was refused.
 fn change(alloc: Global, word: &str) -> Result<Change, ChangeWordError> {
@@ -12,28 +11,31 @@ fn change(alloc: Global, word: &str) -> Result<Change, ChangeWordError> {
     }
 }
 
+// The word asks for a local part of so many segments.
+fn sets_local(alloc: Global, word: &str, count: usize) -> bool {
+    match change(alloc, word) {
+        Ok(Change::Local(segments)) => segments.len() == count,
+        _ => false,
+    }
+}
+
+// The word asks for a release of so many numbers.
+fn sets_release(alloc: Global, word: &str, count: usize) -> bool {
+    match change(alloc, word) {
+        Ok(Change::Release(numbers)) => numbers.len() == count,
+        _ => false,
+    }
+}
+
 #[test]
-fn sweep_parse_change(rt: HostRuntime) -> Result<(), Fail> {
-    let local = change(rt.alloc(), "local=AB.7");
-    assert!(rt;
-        matches!(local, Ok(Change::Local(segments)) if segments.len() == 2),
-        "local"
+fn sweep_parse_change(rt: HostRuntime) {
+    assert!(rt; sets_local(rt.alloc(), "local=AB.7", 2), "local");
+    assert!(rt; sets_release(rt.alloc(), "release=1.2.3", 3), "release");
+    let is_none = matches!(change(rt.alloc(), "post="), Ok(Change::Post(None)));
+    assert!(rt; is_none, "post");
+    let is_no_change = matches!(
+        change(rt.alloc(), "epoch="),
+        Err(ChangeWordError::NotAChange)
     );
-    let release = change(rt.alloc(), "release=1.2.3");
-    assert!(rt;
-        matches!(release, Ok(Change::Release(numbers)) if numbers.len() == 3),
-        "release"
-    );
-    assert!(rt;
-        matches!(change(rt.alloc(), "post="), Ok(Change::Post(None))),
-        "post"
-    );
-    assert!(rt;
-        matches!(
-            change(rt.alloc(), "epoch="),
-            Err(ChangeWordError::NotAChange)
-        ),
-        "epoch"
-    );
-    Ok(())
+    assert!(rt; is_no_change, "epoch");
 }
