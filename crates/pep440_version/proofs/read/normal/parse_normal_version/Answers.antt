@@ -6,7 +6,7 @@ use Rattle.pep440_version.specs.Record.{IsRecord}
 use Rattle.pep440_version.proofs.Reading.NormalVersions.{normal}
 use Rattle.pep440_version.proofs.Reading.ReadIsDerived.{v_takes}
 use Rattle.pep440_version.proofs.RoundTrip.PrintIsRead.{derived_record}
-use Rattle.pep440_version.proofs.read.normal.normal_version.Goals as goal
+use Rattle.pep440_version.proofs.read.normal.parse_normal_version.Goals as goal
 
 pub from_packed-requires-clause-valid : goal.from_packed-requires-clause-valid
 from_packed-requires-clause-valid c =
