@@ -1,8 +1,8 @@
 -- The text of a list's error: the refusal of the piece, the whole text, and a line that marks the piece.
 use Rattle.std.specs.Prelude.{ℕ, List, ◌++◌, Option, Some, option_map, codes, replicate, chars, false, slice_range}
 use Rattle.unicode_width.specs.Width.{str_width}
-use Rattle.pep440_rs.specs.ErrorTexts.{specifier_refusal_text, specifier_text_of}
-use Rattle.pep440_rs.specs.Errors.{parse_kind_of}
+use Rattle.pep440_rs.specs.ErrorTexts.{specifier_error_text, specifier_refusal_text}
+use Rattle.pep440_rs.specs.Errors.{parse_kind_of, specifier_refusal_of}
 use Rattle.pep440_rs.specs.ListGrammar.{PieceRefusal}
 use Rattle.pep440_rs.specs.declared.list.error.SpecifiersErrorKind.{SpecifiersErrorKind}
 use Rattle.pep440_rs.specs.declared.list.error.SpecifiersErrorKind.TheVariants.{Piece, OutOfMemory}
@@ -24,5 +24,5 @@ list_refusal_text f line = piece_text (specifier_refusal_text f.error) line f.st
 
 -- the text of an error
 abbrev pub list_text_of : SpecifiersErrorKind → List ℕ → Option (List ℕ)
-list_text_of (Piece error start stop) line = option_map (λ inner. piece_text inner line start stop) (specifier_text_of (parse_kind_of error))
+list_text_of (Piece error start stop) line = option_map (λ inner. piece_text inner line start stop) (specifier_error_text (specifier_refusal_of (parse_kind_of error)))
 list_text_of OutOfMemory line = Some (codes "out of memory")

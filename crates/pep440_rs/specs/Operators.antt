@@ -74,8 +74,3 @@ operator_cmp = on operator_rank nat_cmp
 -- what an operator gives a hasher
 abbrev pub feed_operator : Operator → HashWrites
 feed_operator o = u64 (operator_rank o)
-
--- what negating twice ends at: the operator itself, but `===` ends at `==`
-abbrev pub given_back : Operator → Operator
-given_back ExactEqual = Equal
-given_back o = o

@@ -1,9 +1,12 @@
 //! Specifiers from bounds on releases.
 ghost use Rattle.std.specs.Prelude.{◌≡◌, ◌++◌, IfOk, OnOk};
-ghost use Rattle.pep440_rs.specs.Members.{is_next, lower_member, upper_member, pair_members, gap_members, gaps_members, last_end, list_members};
+ghost use Rattle.pep440_rs.specs.Members.{is_next, lower_member, upper_member, pair_members, gap_members, list_members, without_locals};
+ghost use Rattle.pep440_rs.specs.BoundErrors.{BoundAnswers};
 
+use crate::bounds::error::BoundError;
 use crate::bounds::release_bounds::ReleaseBounds;
 use crate::specifier::VersionSpecifier;
+use crate::specifier::error::{BuildErrorKind, VersionSpecifierBuildError};
 use pep440_version::Version;
 use std::alloc::{AllocError, Global};
 use std::ops::Bound;
@@ -126,4 +129,24 @@ pub(crate) fn members_of(
         push_pair(&mut members, &first.0, end)?;
     }
     Ok(members)
+}
+
+// The member, refused where its version has a local part.
+pub(crate) fn without_locals(
+    member: Option<VersionSpecifier>,
+) -> Result<Option<VersionSpecifier>, BoundError>
+    ensures { BoundAnswers result (without_locals member) }
+{
+    match member {
+        Some(member) => {
+            if !member.version().is_local() {
+                return Ok(Some(member));
+            }
+            let (operator, version) = member.into_parts();
+            Err(BoundError::Build(VersionSpecifierBuildError::from(
+                BuildErrorKind::OperatorLocalCombo { operator, version },
+            )))
+        }
+        None => Ok(None),
+    }
 }

@@ -1,12 +1,10 @@
 //! The texts of the errors, the same whatever width and fill are asked for.
-ghost use Rattle.std.specs.Prelude.{◌≡◌, ◌++◌, Some, None, map, codes, if◌then◌else◌};
+ghost use Rattle.std.specs.Prelude.{◌≡◌, ◌++◌, Some, map, codes};
 ghost use Rattle.std.specs.Fmt.{DisplaysStyledOnOk, HasWrittenStyled, IsFlush, WritesStyledOnOk};
-ghost use Rattle.std.specs.Char.{is_ascii};
-ghost use Rattle.std.specs.List.{list_all};
 ghost use Rattle.pep440_version.specs.Print.{dotted, segment_print};
 ghost use Rattle.pep440_version.specs.Segments.{segment};
-ghost use Rattle.pep440_rs.specs.Errors.{build_kind_of, build_refusal_of, operator_kind_of, parse_kind_of};
-ghost use Rattle.pep440_rs.specs.ErrorTexts.{build_text, operator_text_of, specifier_text_of, unknown_text};
+ghost use Rattle.pep440_rs.specs.Errors.{build_kind_of, build_refusal_of, operator_kind_of, parse_kind_of, specifier_refusal_of, unknown_of};
+ghost use Rattle.pep440_rs.specs.ErrorTexts.{build_text, operator_error_text, specifier_error_text};
 ghost use Rattle.pep440_rs.specs.Operators.{operator_text};
 
 use crate::specifier::error::{
@@ -43,7 +41,7 @@ impl<W: fmt::Write> fmt::Write for Direct<'_, W> {
 
 // The refusal of a text that is no operator; the text stands in quotes, as in Rust's debug form.
 fn write_unknown<W: fmt::Write>(f: &mut fmt::Formatter<W>, got: &str) -> fmt::Result
-    ensures { DisplaysStyledOnOk W.write_str_gives f.old result (if list_all is_ascii got.now then Some (unknown_text got.now) else None) f.new }
+    ensures { DisplaysStyledOnOk W.write_str_gives f.old result (operator_error_text (Some got.now)) f.new }
 {
     let mut direct = Direct { f };
     write!(
@@ -56,7 +54,7 @@ fn write_operator_kind<W: fmt::Write>(
     f: &mut fmt::Formatter<W>,
     kind: &OperatorErrorKind,
 ) -> fmt::Result
-    ensures { DisplaysStyledOnOk W.write_str_gives f.old result (operator_text_of kind.now) f.new }
+    ensures { DisplaysStyledOnOk W.write_str_gives f.old result (operator_error_text (unknown_of kind.now)) f.new }
 {
     match kind {
         OperatorErrorKind::Unknown { got } => write_unknown(f, got.as_str()),
@@ -65,9 +63,9 @@ fn write_operator_kind<W: fmt::Write>(
 }
 
 impl fmt::Display for OperatorParseError {
-    ghost output = { λ e. operator_text_of (operator_kind_of e) };
+    ghost output = { λ e. operator_error_text (unknown_of (operator_kind_of e)) };
 
-    ghost styled_output = { λ e _. operator_text_of (operator_kind_of e) };
+    ghost styled_output = { λ e _. operator_error_text (unknown_of (operator_kind_of e)) };
 
     fn fmt<W: fmt::Write>(&self, f: &mut fmt::Formatter<W>) -> fmt::Result {
         write_operator_kind(f, self.kind())
@@ -141,7 +139,7 @@ pub(crate) fn write_parse_kind<W: fmt::Write>(
     f: &mut fmt::Formatter<W>,
     kind: &ParseErrorKind,
 ) -> fmt::Result
-    ensures { DisplaysStyledOnOk W.write_str_gives f.old result (specifier_text_of kind.now) f.new }
+    ensures { DisplaysStyledOnOk W.write_str_gives f.old result (specifier_error_text (specifier_refusal_of kind.now)) f.new }
 {
     match kind {
         ParseErrorKind::MissingOperator => f.write_str(
@@ -164,9 +162,9 @@ pub(crate) fn write_parse_kind<W: fmt::Write>(
 }
 
 impl fmt::Display for VersionSpecifierParseError {
-    ghost output = { λ e. specifier_text_of (parse_kind_of e) };
+    ghost output = { λ e. specifier_error_text (specifier_refusal_of (parse_kind_of e)) };
 
-    ghost styled_output = { λ e _. specifier_text_of (parse_kind_of e) };
+    ghost styled_output = { λ e _. specifier_error_text (specifier_refusal_of (parse_kind_of e)) };
 
     fn fmt<W: fmt::Write>(&self, f: &mut fmt::Formatter<W>) -> fmt::Result {
         write_parse_kind(f, self.kind())

@@ -1,14 +1,16 @@
-//! The comparison operators.
-ghost use Rattle.std.specs.Prelude.{◌≡◌, Some, Ok, IfOk, IfErr, IfSome, IsOk, refl};
+//! The comparison operators: their order, hash and string form, and the reader.
+ghost use Rattle.std.specs.Prelude.{◌≡◌, ◌≢◌, Some, Ok, IfOk, IfErr, IfSome, refl};
 ghost use Rattle.std.specs.Cmp.{partial_equiv_from_equiv};
 ghost use Rattle.std.specs.Ordering.{as_partial_cmp, eq_by_cmp};
 ghost use Rattle.pep440_rs.specs.Errors.{operator_kind_of, unknown_of};
-ghost use Rattle.pep440_rs.specs.Operators.{Spells, negated, is_star, has_lower_bound, allows_local, operator_rank, operator_cmp, feed_operator, operator_text, given_back};
+ghost use Rattle.pep440_rs.specs.Operators.{Spells, negated, is_star, has_lower_bound, allows_local, operator_rank, operator_cmp, feed_operator, operator_text};
+ghost use Rattle.pep440_rs.specs.declared.specifier.operator.Operator.TheVariants.{Equal, ExactEqual};
 ghost use Rattle.pep440_rs.specs.OperatorLaws.{operator_equiv, operator_po, operator_total, operators_feed_alike};
 
 use crate::specifier::error::{OperatorErrorKind, OperatorParseError};
 use std::alloc::Global;
 use std::cmp::Ordering;
+use std::fmt;
 use std::hash::{Hash, Hasher};
 
 /// A comparison operator (PEP 440, "Version specifiers"). They are ordered as they stand here.
@@ -60,7 +62,8 @@ impl Operator {
     /// `===`, which ends at `==`.
     pub fn negate(self) -> Option<Operator>
         ensures table { result ≡ negated self }
-        ensures twice { IfSome result (λ o. negated o ≡ Some (given_back self)) }
+        ensures twice { self ≢ ExactEqual → IfSome result (λ o. negated o ≡ Some self) }
+        ensures exact { self ≡ ExactEqual → IfSome result (λ o. negated o ≡ Some Equal) }
     {
         match self {
             Operator::Equal | Operator::ExactEqual => Some(Operator::NotEqual),
@@ -207,5 +210,15 @@ impl Hash for Operator {
 
     fn hash<H: Hasher>(&self, state: &mut H) {
         state.write_u64(self.place());
+    }
+}
+
+impl fmt::Display for Operator {
+    ghost output = { λ o. Some (operator_text o) };
+
+    ghost styled_output = { λ o _. Some (operator_text o) };
+
+    fn fmt<W: fmt::Write>(&self, f: &mut fmt::Formatter<W>) -> fmt::Result {
+        f.write_str(self.text())
     }
 }

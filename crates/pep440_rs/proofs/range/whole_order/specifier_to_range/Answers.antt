@@ -2,7 +2,9 @@ use Rattle.std.proofs.Common.{◌≡◌, Some, rules}
 use Rattle.std.proofs.lemmas.Result.{IfOk-weaker}
 use Rattle.pep440_rs.specs.Agreement.{Agrees, HoldsAllMatches, HoldsOnlyMatches, IsCandidate}
 use Rattle.pep440_rs.specs.Bounds.{range_of}
+use Rattle.pep440_rs.specs.Refused.{raised_number}
 use Rattle.pep440_rs.proofs.Raising.AtMax.{tells_max}
+use Rattle.pep440_rs.proofs.Raising.Refused.{refused_at_max}
 use Rattle.pep440_rs.proofs.Agreement.Single.{agrees, holds_only_matches, holds_all_matches}
 use Rattle.pep440_rs.proofs.range.whole_order.specifier_to_range.Goals as goal
 
@@ -23,4 +25,4 @@ returns-clause-around c = λ operand.
 
 pub returns-clause-at_max : goal.returns-clause-at_max
 returns-clause-at_max c =
-    tells_max c.args.specifier c.into_parts-operator.ensures.valid _ c.into_parts-operator.ensures.value c.range_of.result c.range_of.ensures.range c.range_of.ensures.refused
+    tells_max range_of raised_number refused_at_max c.args.specifier c.into_parts-operator.ensures.valid _ c.into_parts-operator.ensures.value c.range_of.result c.range_of.ensures.range c.range_of.ensures.refused

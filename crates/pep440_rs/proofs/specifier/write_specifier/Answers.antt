@@ -3,7 +3,7 @@ use Rattle.std.proofs.Output.{has_written_styled_append, has_written_styled_of_e
 use Rattle.pep440_version.specs.Print.{print}
 use Rattle.pep440_rs.specs.Operators.{is_star, operator_text}
 use Rattle.pep440_rs.proofs.Reread.Prints.{unstarred}
-use Rattle.pep440_rs.proofs.specifier.print.write_specifier.Goals as goal
+use Rattle.pep440_rs.proofs.specifier.write_specifier.Goals as goal
 
 pub returns-else-is_star : goal.returns-else-is_star
 returns-else-is_star g c = λ flush ok.
