@@ -94,10 +94,10 @@ module _ (conversion : Operator → Record → Option Segments) where
   abbrev pub GivesFew : Type 0
   GivesFew = (op : Operator) (s : Record) (range : Segments) → conversion op s ≡ Some range → length range ≤ (if is_exclusion op then 2 else 1)
 
-  -- the range of a list holds what the range of each member holds, none of which is refused
+  -- the range of a list holds what the range of each member holds, none of which is rejected
   abbrev pub HoldsInEach : List Spec → Segments → Type 0
   HoldsInEach members range = (v : Record) → contains record_cmp range v ≡ list_all (λ m. option_map_or (λ r. contains record_cmp r v) (conversion m.operator m.version) false) members
 
-  -- the list is refused exactly where some member is
+  -- the list has no range exactly where some member has none
   abbrev pub RefusedByAMember : List Spec → Type 0
   RefusedByAMember members = (list_range conversion members ≡ None) ↔ Any (λ m. conversion m.operator m.version ≡ None) members

@@ -24,7 +24,7 @@ is_star EqualStar = true
 is_star NotEqualStar = true
 is_star _ = false
 
--- a text is that of an operator without a star
+-- a string is that of an operator without a star
 abbrev pub Spells : List ℕ → Operator → Type 0
 Spells text o = (text ≡ operator_text o) × (is_star o ≡ false)
 

@@ -1,4 +1,4 @@
--- Which number a conversion raises. The conversion is refused exactly where that number is the greatest there is.
+-- Which number a conversion raises. The conversion is rejected exactly where that number is the greatest there is.
 use Rattle.std.specs.Prelude.{◌≡◌, ◌↔◌, ℕ, nat_eq, Bool, true, false, Option, option_map, Some, None, Result, Ok, Err, if◌then◌else◌}
 use Rattle.std.specs.List.{last_or}
 use Rattle.std.specs.Option.{option_eq, option_or}
@@ -33,7 +33,7 @@ RefusedAtMax conversion number = (s : Spec) → IsSpec s → (conversion s.opera
 abbrev pub raises_max : (Operator → Record → Option ℕ) → Spec → Bool
 raises_max number s = option_eq nat_eq (number s.operator s.version) (Some 18446744073709551615)
 
--- a conversion is refused for another cause than memory exactly where the greatest number there is has to be raised
+-- a conversion is rejected for another cause than memory exactly where the greatest number there is has to be raised
 abbrev pub TellsMax : Bool → Result Segments RangeError → Type 0
 TellsMax at_max (Ok range) = at_max ≡ false
 TellsMax at_max (Err NumberAtMax) = at_max ≡ true

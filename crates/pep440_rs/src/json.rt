@@ -24,14 +24,14 @@ use pep440_version::{ErrorKind, Version, VersionParseError};
 use serde_json::Value;
 use std::alloc::{AllocError, Global};
 
-// The text of a string.
-pub(crate) fn string<E>(value: &Value) -> Result<&str, JsonError<E>>
+// The bytes of a string value.
+pub(crate) fn expect_string<E>(value: &Value) -> Result<&str, JsonError<E>>
     ensures { MatchResult result (λ t. IsString value.now t.now) (λ e. (e ≡ NotAString) × (text_of value.now ≡ None)) }
 {
     value.as_str().ok_or_else(|| JsonError::NotAString)
 }
 
-// The refusal of a text, or out of memory.
+// The error of the string, or out of memory.
 fn from_version_error(error: VersionParseError) -> JsonError<VersionParseError>
     ensures { MatchOption (refusal_of (kind_of error)) (result ≡ OutOfMemory) (λ _. result ≡ Text error) }
 {
@@ -41,7 +41,7 @@ fn from_version_error(error: VersionParseError) -> JsonError<VersionParseError>
     }
 }
 
-// The refusal of a text, or out of memory.
+// The error of the string, or out of memory.
 pub(crate) fn from_specifier_error(
     error: VersionSpecifierParseError,
 ) -> JsonError<VersionSpecifierParseError>
@@ -54,7 +54,7 @@ pub(crate) fn from_specifier_error(
     }
 }
 
-// The refusal of a text, or out of memory.
+// The error of the string, or out of memory.
 pub(crate) fn from_list_error(
     error: VersionSpecifiersParseError,
 ) -> JsonError<VersionSpecifiersParseError>
@@ -67,47 +67,49 @@ pub(crate) fn from_list_error(
     }
 }
 
-/// The version as JSON: the string of its print.
+/// The version as JSON: the string that it prints.
 ///
-/// Takes memory.
+/// Allocates.
 pub fn version_to_json(alloc: Global, version: &Version) -> Result<Value, AllocError>
     ensures { IfOk result (λ value. IsString value (print version.now)) }
 {
     Ok(Value::from(version.to_string(alloc)?))
 }
 
-/// The version that the text of a JSON string means, as by `Version::from_str`.
+/// The version that a JSON string denotes, as by `Version::from_str`.
 ///
-/// Takes memory. Every other value is refused as `NotAString`, and a text that means no version as `Text` of the
-/// error of `Version::from_str`; only where a request for memory was refused the error of a string may be
-/// `OutOfMemory` instead.
+/// Allocates. Every other value is rejected as `NotAString`, and a string that is no version as `Text` of the error
+/// of `Version::from_str`; only where an allocation failed the error of a string may be `OutOfMemory` instead.
 pub fn version_from_json(
     alloc: Global,
     value: &Value,
 ) -> Result<Version, JsonError<VersionParseError>>
-    // What is no string is refused as such, and nothing else is.
+    // `NotAString` is the error of what is no string, and of nothing else.
     ensures no_string { IsErrOf result NotAString ↔ (text_of value.now ≡ None) }
-    // What is answered is what the text means.
+    // What is returned is what the string denotes.
     ensures found { IfOk result (λ v. (t : List ℕ) × IsString value.now t × Derives t v) }
-    // What the text means is answered, unless memory runs out.
+    // What the string denotes is returned, unless memory runs out.
     ensures only { (t : List ℕ) (r : Record) → IsString value.now t → Derives t r → JsonAnswers (λ e. refusal_of (kind_of e)) result (Ok r) }
-    // A refusal of the text is one that its fronts tell, and not out of memory.
+    // The error of the string is one that its prefixes decide, and not out of memory.
     ensures refused { IfErr result (λ e. IfText e (λ inner. IsSomeAnd (refusal_of (kind_of inner)) (λ f. (t : List ℕ) × IsString value.now t × Refuses t f))) }
-    // The error's text is the refusal's.
+    // The error's message is the stated one.
     ensures message { IfErr result (λ e. IfText e (λ inner. IfSome (refusal_of (kind_of inner)) (λ f. error_text (refusal_of (kind_of inner)) ≡ Some (refusal_text f)))) }
-    // A refusal that the fronts of the text tell is answered, unless memory runs out.
+    // The error that the prefixes of the string decide is returned, unless memory runs out.
     ensures decided { (t : List ℕ) (f : Refusal) → IsString value.now t → Refuses t f → JsonAnswers (λ e. refusal_of (kind_of e)) result (Err f) }
-    // The JSON form of a record is answered with that record, unless memory runs out.
+    // The JSON form of a record round-trips, unless memory runs out.
     ensures round_trips { (r : Record) → IsRecord r → RoundTrips r → IsString value.now (print r) → JsonAnswers (λ e. refusal_of (kind_of e)) result (Ok r) }
-    // So is that of what some text means.
+    // So does that of what some string denotes.
     ensures again { (t : List ℕ) (r : Record) → Derives t r → IsString value.now (print r) → JsonAnswers (λ e. refusal_of (kind_of e)) result (Ok r) }
 {
-    let text = string::<VersionParseError>(value)?;
+    let text = expect_string::<VersionParseError>(value)?;
     Version::from_str(alloc, text).map_err(from_version_error)
 }
 
 // The members with commas between them.
-pub(crate) fn joined(alloc: Global, members: &[VersionSpecifier]) -> Result<String, AllocError>
+pub(crate) fn join_members(
+    alloc: Global,
+    members: &[VersionSpecifier],
+) -> Result<String, AllocError>
     ensures { IfOk result (λ text. string_bytes text ≡ joined (codes ",") members.now) }
 {
     let Some((first, others)) = members.split_first() else {

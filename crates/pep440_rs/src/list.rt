@@ -26,9 +26,9 @@ pub(crate) mod error_text;
 pub(crate) mod print;
 pub(crate) mod read;
 
-use crate::bounds::members::members_of;
+use crate::bounds::members::convert_pairs;
 use crate::json::error::JsonError;
-use crate::json::{from_list_error, joined, string};
+use crate::json::{expect_string, from_list_error, join_members};
 use crate::list::error::VersionSpecifiersParseError;
 use crate::list::print::write_list;
 use crate::specifier::VersionSpecifier;
@@ -41,8 +41,8 @@ use std::marker::Model;
 use std::ops::Bound;
 use std::{fmt, vec};
 
-/// A list of specifiers, as `>=1.0, <2.0` (PEP 440, "Version specifiers"). A version is held by the list where
-/// each member holds it; so the empty list holds every version.
+/// A list of specifiers, as `>=1.0, <2.0` (PEP 440, "Version specifiers"). The list contains a version where each
+/// member does; so the empty list contains every version.
 ///
 /// The members stand by version, and members with equal versions in the order in which they were given.
 #[derive(Debug, Drop)]
@@ -63,19 +63,19 @@ impl Model for VersionSpecifiers {
 }
 
 // By version alone.
-fn by_version(a: &VersionSpecifier, b: &VersionSpecifier) -> Ordering
+fn cmp_versions(a: &VersionSpecifier, b: &VersionSpecifier) -> Ordering
     ensures { result ≡ version_cmp a.now b.now }
 {
     a.version().cmp(b.version())
 }
 
 // Whether no member's version is below that of the one before it.
-fn are_arranged(members: &[VersionSpecifier]) -> bool
+fn is_arranged(members: &[VersionSpecifier]) -> bool
     ensures rise { IsTrue result → IsArranged members.now }
     ensures fall { IsArranged members.now → IsTrue result }
 {
     for i in 1..members.len() {
-        if by_version(&members[i], &members[i - 1]).is_lt() {
+        if cmp_versions(&members[i], &members[i - 1]).is_lt() {
             return false;
         }
     }
@@ -104,7 +104,7 @@ impl VersionSpecifiers {
         ensures value { IfOk result (λ list. Arranges specifiers.items list) }
         ensures memory { IsArranged specifiers.items → IsOk result }
     {
-        if are_arranged(&specifiers) {
+        if is_arranged(&specifiers) {
             return Ok(VersionSpecifiers {
                 members: specifiers,
             });
@@ -117,13 +117,13 @@ impl VersionSpecifiers {
         ensures { IfOk result (λ list. Arranges specifiers.items list) }
     {
         let mut members = specifiers;
-        members.sort_by(|a, b| by_version(a, b))?;
+        members.sort_by(|a, b| cmp_versions(a, b))?;
         Ok(VersionSpecifiers { members })
     }
 
     /// The list of this one member.
     ///
-    /// Takes memory.
+    /// Allocates.
     pub fn from_specifier(
         alloc: Global,
         specifier: VersionSpecifier,
@@ -142,7 +142,7 @@ impl VersionSpecifiers {
     /// pair gives the empty list (PEP 440, "Version specifiers"). Each version must be a release alone;
     /// `Version::is_release_only` is its test.
     ///
-    /// Takes memory.
+    /// Allocates.
     pub fn from_release_only_bounds(
         alloc: Global,
         pairs: &[(Bound<Version>, Bound<Version>)],
@@ -154,7 +154,7 @@ impl VersionSpecifiers {
         // It contains no other release, where moreover each gap is empty or gives a member.
         ensures only { IfOk result (λ list. IsOrdered pairs.now → KnowsGaps pairs.now → HoldsOnlyWithin pairs.now list) }
     {
-        VersionSpecifiers::from_specifiers(alloc, members_of(alloc, pairs)?)
+        VersionSpecifiers::from_specifiers(alloc, convert_pairs(alloc, pairs)?)
     }
 
     // What the reading from the left gives.
@@ -171,35 +171,35 @@ impl VersionSpecifiers {
         )
     }
 
-    /// The list that the text means: specifiers with commas between them, by version, and those with equal
-    /// versions in the order of the text; the empty text is the empty list (PEP 440, "Version specifiers").
+    /// The list that the string denotes: specifiers with commas between them, by version, and those with equal
+    /// versions in the order of the string; the empty string is the empty list (PEP 440, "Version specifiers").
     ///
-    /// Takes memory. Every text that means no list is refused with its first piece that is no specifier, and
-    /// where in the text that piece lies; only where a request for memory was refused the kind may be
-    /// `OutOfMemory` instead.
+    /// Allocates. Every string that is no list is rejected with its first piece that is no specifier, and where in
+    /// the string that piece lies; only where an allocation failed the kind may be `OutOfMemory` instead.
     pub fn from_str(
         alloc: Global,
         text: &str,
     ) -> Result<VersionSpecifiers, VersionSpecifiersParseError>
-        // What is answered is what the text means.
+        // What is returned is what the string denotes.
         ensures found { IfOk result (λ list. DerivesList text.now list) }
-        // The version of each member is one that a text can give beside the operator, as the agreement of ranges asks.
+        // The version of each member is one that a string can have beside the operator, as the agreement of ranges
+        // requires.
         ensures operand { IfOk result (λ list. All HasOperand list) }
-        // What the text means is answered, unless memory runs out.
+        // What the string denotes is returned, unless memory runs out.
         ensures only { (list : List Spec) → DerivesList text.now list → ListAnswers result (Ok list) }
-        // A refusal is that of the first refused piece.
+        // The error is that of the first invalid piece.
         ensures refused { IfErr result (λ e. IfSome (list_refusal_of (list_kind_of e)) (RefusesList text.now)) }
-        // The refusal of the text is answered, unless memory runs out.
+        // The error of the string is returned, unless memory runs out.
         ensures decided { (f : PieceRefusal) → RefusesList text.now f → ListAnswers result (Err f) }
-        // The error's text is the refusal's, with the whole text and a line that marks the piece.
+        // The error's message is the stated one, with the whole string and a line that marks the piece.
         ensures message { IfErr result (λ e. IfSome (list_refusal_of (list_kind_of e)) (λ f. list_text_of (list_kind_of e) (line_of e) ≡ Some (list_refusal_text f text.now))) }
-        // The error holds the whole text, and none where memory ran out.
+        // The error holds the whole string, and nothing when out of memory.
         ensures line { IfErr result (λ e. line_of e ≡ line_for text.now (list_kind_of e)) }
         // Out of memory is the last kind, and stands in no other.
         ensures lifted { IfErr result (λ e. IsListLifted (list_kind_of e)) }
-        // The print of what some text means is answered with that, unless memory runs out.
+        // The printed form of what some string denotes round-trips, unless memory runs out.
         ensures again { (t : List ℕ) (list : List Spec) → DerivesList t list → text.now ≡ list_print list → ListAnswers result (Ok list) }
-        // So is its form with commas alone between the members.
+        // So does its form with commas alone between the members.
         ensures joined { (t : List ℕ) (list : List Spec) → DerivesList t list → text.now ≡ joined (codes ",") list → ListAnswers result (Ok list) }
     {
         VersionSpecifiers::read(alloc, text)
@@ -236,42 +236,42 @@ impl VersionSpecifiers {
         self.members.iter()
     }
 
-    /// The list as JSON: the string of its members' prints, with a comma and no blank between them.
+    /// The list as JSON: the string of its members, with a comma and no space between them.
     ///
-    /// Takes memory.
+    /// Allocates.
     pub fn to_json(&self, alloc: Global) -> Result<Value, AllocError>
         ensures { IfOk result (λ value. IsString value (joined (codes ",") self.now)) }
     {
-        Ok(Value::from(joined(alloc, self.as_slice())?))
+        Ok(Value::from(join_members(alloc, self.as_slice())?))
     }
 
-    /// The list that the text of a JSON string means, as by `VersionSpecifiers::from_str`.
+    /// The list that a JSON string denotes, as by `VersionSpecifiers::from_str`.
     ///
-    /// Takes memory. Every other value is refused as `NotAString`, and a text that means no list as `Text` of the
-    /// error of `VersionSpecifiers::from_str`; only where a request for memory was refused the error of a string may
-    /// be `OutOfMemory` instead.
+    /// Allocates. Every other value is rejected as `NotAString`, and a string that is no list as `Text` of the error
+    /// of `VersionSpecifiers::from_str`; only where an allocation failed the error of a string may be `OutOfMemory`
+    /// instead.
     pub fn from_json(
         alloc: Global,
         value: &Value,
     ) -> Result<VersionSpecifiers, JsonError<VersionSpecifiersParseError>>
-        // What is no string is refused as such, and nothing else is.
+        // `NotAString` is the error of what is no string, and of nothing else.
         ensures no_string { IsErrOf result NotAString ↔ (text_of value.now ≡ None) }
-        // What is answered is what the text means.
+        // What is returned is what the string denotes.
         ensures found { IfOk result (λ list. (t : List ℕ) × IsString value.now t × DerivesList t list) }
-        // What the text means is answered, unless memory runs out.
+        // What the string denotes is returned, unless memory runs out.
         ensures only { (t : List ℕ) (list : List Spec) → IsString value.now t → DerivesList t list → JsonAnswers (λ e. list_refusal_of (list_kind_of e)) result (Ok list) }
-        // A refusal of the text is that of its first refused piece, and not out of memory.
+        // The error of the string is that of its first invalid piece, and not out of memory.
         ensures refused { IfErr result (λ e. IfText e (λ inner. IsSomeAnd (list_refusal_of (list_kind_of inner)) (λ f. (t : List ℕ) × IsString value.now t × RefusesList t f))) }
-        // The error's text is the refusal's, with the whole text and a line that marks the piece.
+        // The error's message is the stated one, with the whole string and a line that marks the piece.
         ensures message { IfErr result (λ e. IfText e (λ inner. IfSome (list_refusal_of (list_kind_of inner)) (λ f. list_text_of (list_kind_of inner) (line_of inner) ≡ Some (list_refusal_text f (line_of inner))))) }
-        // The error of the text holds the whole text.
+        // The error of the string holds the whole string.
         ensures line { IfErr result (λ e. IfText e (λ inner. IsString value.now (line_of inner))) }
-        // The refusal of the text is answered, unless memory runs out.
+        // The error of the string is returned, unless memory runs out.
         ensures decided { (t : List ℕ) (f : PieceRefusal) → IsString value.now t → RefusesList t f → JsonAnswers (λ e. list_refusal_of (list_kind_of e)) result (Err f) }
-        // The JSON form of what some text means is answered with that, unless memory runs out.
+        // The JSON form of what some string denotes round-trips, unless memory runs out.
         ensures again { (t : List ℕ) (list : List Spec) → DerivesList t list → IsString value.now (joined (codes ",") list) → JsonAnswers (λ e. list_refusal_of (list_kind_of e)) result (Ok list) }
     {
-        let text = string::<VersionSpecifiersParseError>(value)?;
+        let text = expect_string::<VersionSpecifiersParseError>(value)?;
         VersionSpecifiers::from_str(alloc, text).map_err(from_list_error)
     }
 }

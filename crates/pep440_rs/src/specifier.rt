@@ -27,10 +27,10 @@ pub(crate) mod read;
 pub(crate) mod scan;
 
 use crate::bounds::error::BoundError;
-use crate::bounds::members::{lower_member, pair_members, upper_member, without_locals};
+use crate::bounds::members::{convert_lower, convert_pair, convert_upper, reject_local};
 use crate::bounds::release_bounds::ReleaseBounds;
 use crate::json::error::JsonError;
-use crate::json::{from_specifier_error, string};
+use crate::json::{expect_string, from_specifier_error};
 use crate::specifier::error::{
     BuildErrorKind, VersionSpecifierBuildError, VersionSpecifierParseError,
 };
@@ -47,8 +47,8 @@ use std::ops::Bound;
 /// An operator and a version, as `>=1.2.3` (PEP 440, "Version specifiers"). Before the version of a `~=` stand
 /// two release numbers or more.
 ///
-/// Specifiers are ordered by operator, then by version; so `==1.0` equals `==1.0.0`, though the two may differ
-/// in print.
+/// Specifiers are ordered by operator, then by version; so `==1.0` equals `==1.0.0`, though the two may print
+/// differently.
 #[derive(Debug, Drop)]
 pub struct VersionSpecifier {
     operator: Operator,
@@ -75,11 +75,11 @@ impl VersionSpecifier {
         VersionSpecifier { operator, version }
     }
 
-    /// The specifier of an operator and a pattern. A star turns `==` and `!=` into their star forms, and every
-    /// other operator is refused as `OperatorWithStar`, the star forms too. Then the version is asked as by
+    /// The specifier of an operator and a pattern. A star turns `==` and `!=` into their star forms, and every other
+    /// operator is rejected as `OperatorWithStar`, the star forms too. Then the version is tested as by
     /// `from_version` (PEP 440, "Version matching" and "Version exclusion").
     ///
-    /// Takes no memory.
+    /// Allocates nothing.
     pub fn from_pattern(
         operator: Operator,
         pattern: VersionPattern,
@@ -101,11 +101,11 @@ impl VersionSpecifier {
         VersionSpecifier::from_version(star, pattern.into_version())
     }
 
-    /// The specifier of an operator and a version. A local part is refused as `OperatorLocalCombo`, but for
-    /// `==`, `!=` and `===`; else `~=` before fewer than two release numbers is refused as `CompatibleRelease`
-    /// (PEP 440, "Compatible release" and "Version matching").
+    /// The specifier of an operator and a version. A local part is rejected as `OperatorLocalCombo`, but for `==`,
+    /// `!=` and `===`; else `~=` before fewer than two release numbers is rejected as `CompatibleRelease` (PEP 440,
+    /// "Compatible release" and "Version matching").
     ///
-    /// Takes no memory.
+    /// Allocates nothing.
     pub fn from_version(
         operator: Operator,
         version: Version,
@@ -124,7 +124,7 @@ impl VersionSpecifier {
         Ok(VersionSpecifier::from_parts(operator, version))
     }
 
-    /// `==version`. Unchecked, as the seven calls below: a local part and the marks `min` and `max` may be there.
+    /// `==version`. Unchecked, as the seven calls below: a local part and the sentinels `min` and `max` may be there.
     pub fn equals_version(version: Version) -> VersionSpecifier
         ensures { result ≡ record { operator = Equal; version = version } }
     {
@@ -180,32 +180,32 @@ impl VersionSpecifier {
         VersionSpecifier::from_parts(Operator::LessThan, version)
     }
 
-    /// The specifier of a lower bound: `>=` of an included version, `>` of an excluded one, none where there is
-    /// no bound. A version with a local part is refused as `Build` of `OperatorLocalCombo` with that operator
-    /// (PEP 440, "Inclusive ordered comparison" and "Exclusive ordered comparison").
+    /// The specifier of a lower bound: `>=` of an included version, `>` of an excluded one, none where there is no
+    /// bound. A version with a local part is rejected as `Build` of `OperatorLocalCombo` with that operator (PEP 440,
+    /// "Inclusive ordered comparison" and "Exclusive ordered comparison").
     ///
-    /// Takes memory; where a request for it is refused the answer is `OutOfMemory`.
+    /// Allocates; returns `OutOfMemory` where that fails.
     pub fn from_lower_bound(
         alloc: Global,
         bound: &Bound<Version>,
     ) -> Result<Option<VersionSpecifier>, BoundError>
         ensures { BoundAnswers result (without_locals (lower_member bound.now)) }
     {
-        without_locals(lower_member(bound)?)
+        reject_local(convert_lower(bound)?)
     }
 
-    /// The specifier of an upper bound: `<=` of an included version, `<` of an excluded one, none where there is
-    /// no bound. A version with a local part is refused as `Build` of `OperatorLocalCombo` with that operator
-    /// (PEP 440, "Inclusive ordered comparison" and "Exclusive ordered comparison").
+    /// The specifier of an upper bound: `<=` of an included version, `<` of an excluded one, none where there is no
+    /// bound. A version with a local part is rejected as `Build` of `OperatorLocalCombo` with that operator (PEP 440,
+    /// "Inclusive ordered comparison" and "Exclusive ordered comparison").
     ///
-    /// Takes memory; where a request for it is refused the answer is `OutOfMemory`.
+    /// Allocates; returns `OutOfMemory` where that fails.
     pub fn from_upper_bound(
         alloc: Global,
         bound: &Bound<Version>,
     ) -> Result<Option<VersionSpecifier>, BoundError>
         ensures { BoundAnswers result (without_locals (upper_member bound.now)) }
     {
-        without_locals(upper_member(bound)?)
+        reject_local(convert_upper(bound)?)
     }
 
     /// The specifiers that together contain exactly the releases from the lower bound to the upper: `==` of the
@@ -213,7 +213,7 @@ impl VersionSpecifier {
     /// 1; else that of the lower bound, then that of the upper, where there are such (PEP 440, "Version
     /// specifiers"). Each version must be a release alone; `Version::is_release_only` is its test.
     ///
-    /// Takes memory.
+    /// Allocates.
     pub fn from_release_only_bounds(
         alloc: Global,
         bounds: (&Bound<Version>, &Bound<Version>),
@@ -225,7 +225,7 @@ impl VersionSpecifier {
         ensures agrees { IfOk result (λ members. MatchesWithin (bounds.entry.0.now, bounds.entry.1.now) members) }
     {
         let (start, end) = bounds;
-        pair_members(start, end)
+        convert_pair(start, end)
     }
 
     /// The operator.
@@ -278,69 +278,69 @@ impl VersionSpecifier {
         Ok(read::specifier(alloc, text)?)
     }
 
-    /// The specifier that the text means: blanks, an operator, blanks, a version pattern, blanks and the end,
-    /// where a blank is a character of `char::is_whitespace` (PEP 440, "Version specifiers").
+    /// The specifier that the string denotes: white space, an operator, white space, a version pattern, white space
+    /// and the end, where white space is what `char::is_whitespace` accepts (PEP 440, "Version specifiers").
     ///
-    /// Takes memory. Every text that means no specifier is refused with its one `ParseErrorKind`; only where a
-    /// request for memory was refused the kind may be `OutOfMemory` instead.
+    /// Allocates. Every string that is no specifier is rejected with its one `ParseErrorKind`; only where an
+    /// allocation failed the kind may be `OutOfMemory` instead.
     pub fn from_str(
         alloc: Global,
         text: &str,
     ) -> Result<VersionSpecifier, VersionSpecifierParseError>
-        // What is answered is what the text means.
+        // What is returned is what the string denotes.
         ensures found { IfOk result (λ s. DerivesSpecifier text.now s) }
-        // Its version is one that a text can give beside the operator, as the agreement of ranges asks.
+        // Its version is one that a string can have beside the operator, as the agreement of ranges requires.
         ensures operand { IfOk result HasOperand }
-        // What the text means is answered, unless memory runs out.
+        // What the string denotes is returned, unless memory runs out.
         ensures only { (s : Spec) → DerivesSpecifier text.now s → SpecifierAnswers result (Ok s) }
-        // A refusal is the one of the text.
+        // The error is that of the string.
         ensures refused { IfErr result (λ e. IfSome (specifier_refusal_of (parse_kind_of e)) (RefusesSpecifier text.now)) }
-        // The refusal of the text is answered, unless memory runs out.
+        // The error of the string is returned, unless memory runs out.
         ensures decided { (f : SpecifierRefusal) → RefusesSpecifier text.now f → SpecifierAnswers result (Err f) }
-        // The error's text is the refusal's.
+        // The error's message is the stated one.
         ensures message { IfErr result (λ e. IfSome (specifier_refusal_of (parse_kind_of e)) (λ f. specifier_error_text (specifier_refusal_of (parse_kind_of e)) ≡ Some (specifier_refusal_text f))) }
         // Out of memory is the last kind, and stands in no other.
         ensures lifted { IfErr result (λ e. IsLifted (parse_kind_of e)) }
-        // The print of what some text means is answered with that, unless memory runs out.
+        // The printed form of what some string denotes round-trips, unless memory runs out.
         ensures again { (t : List ℕ) (s : Spec) → DerivesSpecifier t s → text.now ≡ spec_print s → SpecifierAnswers result (Ok s) }
     {
         VersionSpecifier::read(alloc, text)
     }
 
-    /// The specifier as JSON: the string of its print.
+    /// The specifier as JSON: the string that it prints.
     ///
-    /// Takes memory.
+    /// Allocates.
     pub fn to_json(&self, alloc: Global) -> Result<Value, AllocError>
         ensures { IfOk result (λ value. IsString value (spec_print self.now)) }
     {
         Ok(Value::from(self.to_string(alloc)?))
     }
 
-    /// The specifier that the text of a JSON string means, as by `VersionSpecifier::from_str`.
+    /// The specifier that a JSON string denotes, as by `VersionSpecifier::from_str`.
     ///
-    /// Takes memory. Every other value is refused as `NotAString`, and a text that means no specifier as `Text` of
-    /// the error of `VersionSpecifier::from_str`; only where a request for memory was refused the error of a string
-    /// may be `OutOfMemory` instead.
+    /// Allocates. Every other value is rejected as `NotAString`, and a string that is no specifier as `Text` of the
+    /// error of `VersionSpecifier::from_str`; only where an allocation failed the error of a string may be
+    /// `OutOfMemory` instead.
     pub fn from_json(
         alloc: Global,
         value: &Value,
     ) -> Result<VersionSpecifier, JsonError<VersionSpecifierParseError>>
-        // What is no string is refused as such, and nothing else is.
+        // `NotAString` is the error of what is no string, and of nothing else.
         ensures no_string { IsErrOf result NotAString ↔ (text_of value.now ≡ None) }
-        // What is answered is what the text means.
+        // What is returned is what the string denotes.
         ensures found { IfOk result (λ s. (t : List ℕ) × IsString value.now t × DerivesSpecifier t s) }
-        // What the text means is answered, unless memory runs out.
+        // What the string denotes is returned, unless memory runs out.
         ensures only { (t : List ℕ) (s : Spec) → IsString value.now t → DerivesSpecifier t s → JsonAnswers (λ e. specifier_refusal_of (parse_kind_of e)) result (Ok s) }
-        // A refusal of the text is the one of the text, and not out of memory.
+        // The error of the string is its one error, and not out of memory.
         ensures refused { IfErr result (λ e. IfText e (λ inner. IsSomeAnd (specifier_refusal_of (parse_kind_of inner)) (λ f. (t : List ℕ) × IsString value.now t × RefusesSpecifier t f))) }
-        // The error's text is the refusal's.
+        // The error's message is the stated one.
         ensures message { IfErr result (λ e. IfText e (λ inner. IfSome (specifier_refusal_of (parse_kind_of inner)) (λ f. specifier_error_text (specifier_refusal_of (parse_kind_of inner)) ≡ Some (specifier_refusal_text f)))) }
-        // The refusal of the text is answered, unless memory runs out.
+        // The error of the string is returned, unless memory runs out.
         ensures decided { (t : List ℕ) (f : SpecifierRefusal) → IsString value.now t → RefusesSpecifier t f → JsonAnswers (λ e. specifier_refusal_of (parse_kind_of e)) result (Err f) }
-        // The JSON form of what some text means is answered with that, unless memory runs out.
+        // The JSON form of what some string denotes round-trips, unless memory runs out.
         ensures again { (t : List ℕ) (s : Spec) → DerivesSpecifier t s → IsString value.now (spec_print s) → JsonAnswers (λ e. specifier_refusal_of (parse_kind_of e)) result (Ok s) }
     {
-        let text = string::<VersionSpecifierParseError>(value)?;
+        let text = expect_string::<VersionSpecifierParseError>(value)?;
         VersionSpecifier::from_str(alloc, text).map_err(from_specifier_error)
     }
 }
@@ -407,7 +407,7 @@ impl Hash for VersionSpecifier {
     }
 }
 
-// The print of a specifier.
+// Writes the operator, the version, and `.*` for a star form.
 #[tactic(auto, using(pep440_version::proofs::RoundTrip::Writing::two_writes))]
 pub(crate) fn write_specifier<W: fmt::Write>(
     f: &mut fmt::Formatter<W>,
@@ -415,7 +415,7 @@ pub(crate) fn write_specifier<W: fmt::Write>(
 ) -> fmt::Result
     ensures { WritesStyledOnOk W.write_str_gives f.old result (spec_print specifier.now) f.new }
 {
-    f.write_str(specifier.operator().text())?;
+    f.write_str(specifier.operator().as_str())?;
     fmt::Display::fmt(specifier.version(), f)?;
     if specifier.operator().is_star() {
         f.write_str(".*")

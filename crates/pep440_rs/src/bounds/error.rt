@@ -1,4 +1,4 @@
-//! Why a bound gives no specifier, and the text of that.
+//! Why a bound gives no specifier, and its message.
 ghost use Rattle.std.specs.Prelude.{◌≡◌, Some, codes};
 ghost use Rattle.std.specs.Option.{option_map_or};
 ghost use Rattle.pep440_rs.specs.ErrorTexts.{build_text};
@@ -10,13 +10,13 @@ use std::alloc::AllocError;
 use std::error::Error;
 use std::fmt;
 
-/// Why a bound gives no specifier. Two are equal exactly if they say the same.
+/// Why a bound gives no specifier. Two are equal exactly if they report the same.
 #[derive(Debug, PartialEq, Eq, Drop)]
 pub enum BoundError {
     /// The version has a local part, which no operator of a bound allows: always `OperatorLocalCombo`, with the
     /// operator that the bound would have given.
     Build(VersionSpecifierBuildError),
-    /// Memory ran out, which says nothing of the bound.
+    /// Out of memory, which says nothing about the bound.
     OutOfMemory,
 }
 

@@ -1,4 +1,4 @@
-//! The text of a list's error, the same whatever width and fill are asked for.
+//! The message of a list's error, the same whatever width and fill are asked for.
 ghost use Rattle.std.specs.Prelude.{◌≤◌, ◌++◌, codes, option_map, replicate, length, IsCharBoundary};
 ghost use Rattle.std.specs.Fmt.{DisplaysStyledOnOk, WritesStyledOnOk};
 ghost use Rattle.pep440_rs.specs.Errors.{parse_kind_of, specifier_refusal_of};
@@ -48,7 +48,7 @@ fn write_caret_line<W: fmt::Write>(
     f.write_str("\n")
 }
 
-// What follows the refusal of the piece: the whole text, and the line that marks the piece.
+// Writes what follows the piece's own message: the whole string, and the line that marks the piece.
 fn write_line<W: fmt::Write>(
     f: &mut fmt::Formatter<W>,
     line: &str,

@@ -1,4 +1,4 @@
-//! The print of a list, the same whatever width and fill are asked for.
+//! How a list is printed, the same whatever width and fill are asked for.
 ghost use Rattle.std.specs.Prelude.{◌++◌, codes};
 ghost use Rattle.std.specs.Fmt.{WritesStyledOnOk};
 ghost use Rattle.std.specs.List.{flat_map};
@@ -15,7 +15,7 @@ fn write_rest<W: fmt::Write>(f: &mut fmt::Formatter<W>, specifier: &VersionSpeci
     write_specifier(f, specifier)
 }
 
-// Each member after a comma and a blank.
+// Writes each member after a comma and a space.
 fn write_members<W: fmt::Write>(
     f: &mut fmt::Formatter<W>,
     members: &[VersionSpecifier],
@@ -28,7 +28,7 @@ fn write_members<W: fmt::Write>(
     Ok(())
 }
 
-// The print of a list.
+// Writes the members with a comma and a space between them.
 pub(crate) fn write_list<W: fmt::Write>(
     f: &mut fmt::Formatter<W>,
     members: &[VersionSpecifier],

@@ -1,4 +1,4 @@
-//! The texts of the errors, the same whatever width and fill are asked for.
+//! The messages of the errors, the same whatever width and fill are asked for.
 ghost use Rattle.std.specs.Prelude.{◌≡◌, ◌++◌, Some, map, codes};
 ghost use Rattle.std.specs.Fmt.{DisplaysStyledOnOk, HasWrittenStyled, IsFlush, WritesStyledOnOk};
 ghost use Rattle.pep440_version.specs.Print.{dotted, segment_print};
@@ -39,7 +39,7 @@ impl<W: fmt::Write> fmt::Write for Direct<'_, W> {
     }
 }
 
-// The refusal of a text that is no operator; the text stands in quotes, as in Rust's debug form.
+// Writes that the string is no operator; it stands in quotes, as in Rust's debug form.
 fn write_unknown<W: fmt::Write>(f: &mut fmt::Formatter<W>, got: &str) -> fmt::Result
     ensures { DisplaysStyledOnOk W.write_str_gives f.old result (operator_error_text (Some got.now)) f.new }
 {
@@ -86,7 +86,7 @@ fn write_incompatible<W: fmt::Write>(
     f.write_str("`)")
 }
 
-// The refusal of a local part.
+// Writes that the operator allows no local part.
 #[tactic(auto, using(pep440_version::proofs::RoundTrip::Writing::two_writes))]
 fn write_local_combo<W: fmt::Write>(
     f: &mut fmt::Formatter<W>,
@@ -96,7 +96,7 @@ fn write_local_combo<W: fmt::Write>(
     ensures { WritesStyledOnOk W.write_str_gives f.old result (codes "Operator " ++ (operator_text operator ++ (codes " is incompatible with versions containing non-empty local segments (`+" ++ (dotted segment_print (map segment local.now) ++ codes "`)")))) f.new }
 {
     f.write_str("Operator ")?;
-    f.write_str(operator.text())?;
+    f.write_str(operator.as_str())?;
     write_incompatible(f, local)
 }
 
@@ -110,13 +110,13 @@ fn write_build_kind<W: fmt::Write>(f: &mut fmt::Formatter<W>, kind: &BuildErrorK
         BuildErrorKind::OperatorWithStar { operator } => write_three(
             f,
             "Operator ",
-            operator.text(),
+            operator.as_str(),
             " cannot be used with a wildcard version specifier",
         ),
         BuildErrorKind::CompatibleRelease => write_three(
             f,
             "The ",
-            Operator::TildeEqual.text(),
+            Operator::TildeEqual.as_str(),
             " operator requires at least two segments in the release version",
         ),
     }
@@ -134,7 +134,7 @@ impl fmt::Display for VersionSpecifierBuildError {
 
 impl Error for VersionSpecifierBuildError {}
 
-// The text of a refusal; of an inner error its own.
+// Writes why a string is no specifier; of an inner error its own message.
 pub(crate) fn write_parse_kind<W: fmt::Write>(
     f: &mut fmt::Formatter<W>,
     kind: &ParseErrorKind,

@@ -40,8 +40,8 @@ pub enum Operator {
 }
 
 impl Operator {
-    // The place among the operators.
-    fn place(self) -> u64
+    // The position among the operators.
+    fn rank(self) -> u64
         ensures { result ≡ operator_rank self }
     {
         match self {
@@ -114,7 +114,7 @@ impl Operator {
     }
 
     // How the operator is written.
-    pub(crate) fn text(self) -> &'static str
+    pub(crate) fn as_str(self) -> &'static str
         ensures { result.now ≡ operator_text self }
     {
         match self {
@@ -129,16 +129,16 @@ impl Operator {
         }
     }
 
-    /// The operator that the text is: one of `~=`, `==`, `!=`, `<=`, `>=`, `<`, `>` and `===`, and never a
-    /// star form. Any other text is refused as `Unknown`.
+    /// The operator that the string is: one of `~=`, `==`, `!=`, `<=`, `>=`, `<`, `>` and `===`, and never a star
+    /// form. Any other string is rejected as `Unknown`.
     ///
     /// Allocates only for `Unknown`, and may then return `OutOfMemory` in its place.
     pub fn from_str(alloc: Global, text: &str) -> Result<Operator, OperatorParseError>
-        // What is answered is written so.
+        // What is returned is written so.
         ensures found { IfOk result (λ o. Spells text.now o) }
-        // What is written so is answered.
+        // What is written so is returned.
         ensures only { (o : Operator) → Spells text.now o → result ≡ Ok o }
-        // A refusal names the text.
+        // The error names the string.
         ensures refused { IfErr result (λ e. IfSome (unknown_of (operator_kind_of e)) (λ got. got ≡ text.now)) }
     {
         match text {
@@ -155,7 +155,7 @@ impl Operator {
     }
 }
 
-// The refusal of a text that is no operator.
+// The error of a string that is no operator.
 fn unknown(alloc: Global, text: &str) -> OperatorParseError
     ensures { IfSome (unknown_of (operator_kind_of result)) (λ got. got ≡ text.now) }
 {
@@ -199,7 +199,7 @@ impl Ord for Operator {
     ghost matches_eq = { λ a b. refl };
 
     fn cmp(&self, other: &Operator) -> Ordering {
-        self.place().cmp(&other.place())
+        self.rank().cmp(&other.rank())
     }
 }
 
@@ -209,7 +209,7 @@ impl Hash for Operator {
     ghost respects_eq = { operators_feed_alike };
 
     fn hash<H: Hasher>(&self, state: &mut H) {
-        state.write_u64(self.place());
+        state.write_u64(self.rank());
     }
 }
 
@@ -219,6 +219,6 @@ impl fmt::Display for Operator {
     ghost styled_output = { λ o _. Some (operator_text o) };
 
     fn fmt<W: fmt::Write>(&self, f: &mut fmt::Formatter<W>) -> fmt::Result {
-        f.write_str(self.text())
+        f.write_str(self.as_str())
     }
 }

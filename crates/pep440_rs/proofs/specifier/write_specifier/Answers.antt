@@ -10,6 +10,6 @@ returns-else-is_star g c = λ flush ok.
     let operator = c.in_ok-write_str.ensures.styled flush refl in
     let version = c.in_ok-fmt.ensures.styled operator.flush refl in
     has_written_styled_of_eq _ _ _ _ _
-    (unstarred c.args.specifier.now _ _ (c.text.ensures ∙ ap operator_text c.operator.ensures.value) (ap print c.version.ensures.value)
+    (unstarred c.args.specifier.now _ _ (c.as_str.ensures ∙ ap operator_text c.operator.ensures.value) (ap print c.version.ensures.value)
     (ap is_star (sym c.operator-2.ensures.value) ∙ sym c.is_star.ensures ∙ c.if-is_star.false))
     (has_written_styled_append _ _ _ _ _ _ operator version)
