@@ -5,7 +5,13 @@ use Rattle.std.specs.List.{list_all}
 use Rattle.pep440_version.specs.Reading.{lead, past}
 use Rattle.pep440_rs.specs.ListGrammar.{pieces}
 use Rattle.pep440_pick.specs.Names.{is_name, is_name_byte}
-use Rattle.pep440_pick.specs.RequirementGrammar.{Front, InvalidExtras, InvalidName, Marker, RequirementRefusal, Unclosed, Url, has_byte, opens, trim_blanks}
+use Rattle.pep440_pick.specs.RequirementGrammar.{InvalidExtras, InvalidName, Marker, RequirementRefusal, Unclosed, Url, has_byte, opens, trim_blanks}
+
+-- the name, the extras, and the text of the list
+pub record Front : Type 0 where
+  pub name : List ℕ
+  pub extras : List (List ℕ)
+  pub list : List ℕ
 
 -- what stands before the first such byte, and what behind it
 unfoldable pub split_at_byte : ℕ → List ℕ → Option (List ℕ × List ℕ)

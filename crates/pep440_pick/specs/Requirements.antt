@@ -4,7 +4,8 @@ use Rattle.pep440_rs.specs.ListAnswers.{line_of, list_kind_of}
 use Rattle.pep440_rs.specs.ListErrors.{list_refusal_of}
 use Rattle.pep440_rs.specs.ListGrammar.{PieceRefusal, RefusesList}
 use Rattle.pep440_rs.specs.Specifiers.{Spec}
-use Rattle.pep440_pick.specs.RequirementGrammar.{Front, InvalidExtras, InvalidName, Marker, Needed, RequirementRefusal, Specifiers, Unclosed, Url}
+use Rattle.pep440_pick.specs.RequirementGrammar.{InvalidExtras, InvalidName, Marker, Needed, RequirementRefusal, Specifiers, Unclosed, Url}
+use Rattle.pep440_pick.specs.RequirementReading.{Front}
 use Rattle.pep440_pick.specs.declared.error.RequirementError.{RequirementError}
 use Rattle.pep440_pick.specs.declared.error.RequirementError.TheVariants as error
 use Rattle.pep440_pick.specs.declared.read.Parts.{Parts}

@@ -8,7 +8,7 @@ use Rattle.pep440_rs.proofs.Intersecting.WholeLine.{converted_kept}
 use Rattle.pep440_rs.specs.Bounds.{full}
 use Rattle.pep440_rs.specs.Conversions.{IsKept, converted, raised_by}
 use Rattle.pep440_rs.specs.Refused.{raises_max}
-use Rattle.pep440_rs.proofs.range.list.list_range.Goals as goal
+use Rattle.pep440_rs.proofs.range.list.convert_members.Goals as goal
 
 pub loop-member-preserved : goal.loop-member-preserved
 loop-member-preserved c =

@@ -1,6 +1,6 @@
 use Rattle.std.proofs.Common.{◌≡◌, ◌++◌, length}
 use Rattle.pep440_rs.specs.Members.{gaps_members, last_end}
-use Rattle.pep440_rs.proofs.bounds.members.members_of.Given as goal
+use Rattle.pep440_rs.proofs.bounds.members.convert_pairs.Given as goal
 
 abbrev pub invariant-loop-next : goal.invariant-loop-next
 invariant-loop-next l = record {

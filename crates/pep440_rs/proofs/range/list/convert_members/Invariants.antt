@@ -6,7 +6,7 @@ use Rattle.pep440_rs.proofs.Intersecting.Neighbours.{met}
 use Rattle.pep440_rs.specs.Bounds.{full}
 use Rattle.pep440_rs.specs.Conversions.{IsKept, converted, raised_by}
 use Rattle.pep440_rs.specs.Refused.{raises_max}
-use Rattle.pep440_rs.proofs.range.list.list_range.Given as goal
+use Rattle.pep440_rs.proofs.range.list.convert_members.Given as goal
 
 abbrev pub invariant-loop-member : goal.invariant-loop-member
 invariant-loop-member l = record {

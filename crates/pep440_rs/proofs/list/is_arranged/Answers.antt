@@ -4,7 +4,7 @@ use Rattle.std.proofs.lemmas.List.{get_or_default}
 use Rattle.std.specs.Ordering.{is_lt}
 use Rattle.pep440_rs.specs.Arrangement.{version_cmp}
 use Rattle.pep440_rs.specs.Specifiers.{Spec}
-use Rattle.pep440_rs.proofs.list.are_arranged.Goals as goal
+use Rattle.pep440_rs.proofs.list.is_arranged.Goals as goal
 
 -- two neighbours, at any default
 neighbours : (members : List Spec) (i k : ℕ) (x y d : Spec) → k + 1 ≡ i → i < length members → x ≡ get_or members i x → y ≡ get_or members (i - 1) y
@@ -21,6 +21,6 @@ loop-i-preserved c = λ k d h. elim (cases_lt (k + 1) c.loop-i.i) [
   | inr g ↦
       let same : k + 1 ≡ c.loop-i.i = omega (arith, h, g) in
       let inside : c.loop-i.i < length c.args.members.now = omega arith in
-      let fine : is_lt (version_cmp c.index-members-i.result c.index-members-i-in-loop-i.result) ≡ false = ap is_lt (sym c.by_version.ensures) ∙ sym c.is_lt.ensures ∙ c.if-is_lt.false in
+      let fine : is_lt (version_cmp c.index-members-i.result c.index-members-i-in-loop-i.result) ≡ false = ap is_lt (sym c.cmp_versions.ensures) ∙ sym c.is_lt.ensures ∙ c.if-is_lt.false in
       neighbours c.args.members.now c.loop-i.i k c.index-members-i.result c.index-members-i-in-loop-i.result d same inside c.index-members-i.is c.index-members-i-in-loop-i.is fine
 ]
