@@ -52,6 +52,7 @@ impl Model for VersionSpecifier {
 
 impl VersionSpecifier {
     // What was read or built: every specifier is made here.
+    #[inline(always)]
     fn from_parts(operator: Operator, version: Version) -> VersionSpecifier
         requires { operator ≡ TildeEqual → 1 < length version.release }
         ensures { result ≡ record { operator = operator; version = version } }
@@ -91,6 +92,7 @@ impl VersionSpecifier {
     /// (PEP 440, "Compatible release" and "Version matching").
     ///
     /// Takes no memory.
+    #[inline(always)]
     pub fn from_version(
         operator: Operator,
         version: Version,

@@ -2,7 +2,7 @@ use Rattle.std.proofs.Common.{◌++◌, ◌∙◌, ap, sym}
 use Rattle.std.specs.Char.{encode_utf8}
 use Rattle.pep440_rs.specs.SpecifierReading.{passes}
 use Rattle.pep440_rs.proofs.Reading.Scanning.{ends_further, run_goes_on, run_stops}
-use Rattle.pep440_rs.proofs.specifier.scan.skip_run.Goals as goal
+use Rattle.pep440_rs.proofs.specifier.scan.skip_characters.Goals as goal
 
 pub returns-then-not-passes-clause-back : goal.returns-then-not-passes-clause-back
 returns-then-not-passes-clause-back c =
