@@ -67,6 +67,7 @@ impl Model for VersionSpecifier {
 
 impl VersionSpecifier {
     // What was read or built: every specifier is made here.
+    #[inline(always)]
     fn from_parts(operator: Operator, version: Version) -> VersionSpecifier
         requires { operator ≡ TildeEqual → 1 < length version.release }
         ensures { result ≡ record { operator = operator; version = version } }
@@ -106,6 +107,7 @@ impl VersionSpecifier {
     /// "Compatible release" and "Version matching").
     ///
     /// Allocates nothing.
+    #[inline(always)]
     pub fn from_version(
         operator: Operator,
         version: Version,
