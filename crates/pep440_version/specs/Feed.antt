@@ -30,12 +30,12 @@ feed_segment (Text t) = u64 0 ++ u64 (length t) ++ (t ∷ [])
 feed_segment (Number n) = u64 1 ++ u64 n
 
 -- how many items, and each of them
-abbrev pub feed_list : {A : Type 0} → (A → HashWrites) → List A → HashWrites
-feed_list feed_item items = u64 (length items) ++ flat_map feed_item items
+abbrev pub feed_items : {A : Type 0} → (A → HashWrites) → List A → HashWrites
+feed_items feed_item items = u64 (length items) ++ flat_map feed_item items
 
 -- part after part, the release without the zeros at its end
 abbrev pub feed_key : Key → HashWrites
-feed_key k = u64 k.epoch ++ feed_list u64 (trim k.release) ++ feed_stage k.stage ++ feed_post k.post ++ feed_dev k.dev ++ feed_list feed_segment k.local
+feed_key k = u64 k.epoch ++ feed_items u64 (trim k.release) ++ feed_stage k.stage ++ feed_post k.post ++ feed_dev k.dev ++ feed_items feed_segment k.local
 
 -- a version is fed by its key, so equal versions feed alike
 abbrev pub feed : Record → HashWrites
