@@ -13,7 +13,7 @@ abbrev pub feed_stage : Stage → HashWrites
 feed_stage (Pre k n) = u64 (2 + kind_rank k) ++ u64 n
 feed_stage s = u64 (stage_rank s).0
 
--- 0, or 1 and the number, or 2 and the number of the mark
+-- 0, or 1 and the number, or 2 and the number of the sentinel
 abbrev pub feed_post : PostPart → HashWrites
 feed_post NoPost = u64 0
 feed_post (PostAt p) = u64 1 ++ u64 p
@@ -24,7 +24,7 @@ abbrev pub feed_dev : DevPart → HashWrites
 feed_dev (DevAt d) = u64 0 ++ u64 d
 feed_dev NoDev = u64 1
 
--- a text is its length and its bytes
+-- a string is its length and its bytes
 abbrev pub feed_segment : LocalSegmentValue → HashWrites
 feed_segment (Text t) = u64 0 ++ u64 (length t) ++ (t ∷ [])
 feed_segment (Number n) = u64 1 ++ u64 n
@@ -41,7 +41,7 @@ feed_key k = u64 k.epoch ++ feed_items u64 (trim k.release) ++ feed_stage k.stag
 abbrev pub feed : Record → HashWrites
 feed r = feed_key (key r)
 
--- a kind by its place, and a pre-release as its kind and number
+-- a kind by its rank, and a pre-release as its kind and number
 abbrev pub feed_kind : PrereleaseKind → HashWrites
 feed_kind k = u64 (kind_rank k)
 

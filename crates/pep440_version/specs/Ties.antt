@@ -134,7 +134,7 @@ feeds_alike x y e =
     let t = ties (key x) (key y) ((Equal-is (record_cmp x y)).0 e) in
     λ i. u64 (t.epoch i) ++ feed_items u64 (t.release i) ++ feed_stage (t.stage i) ++ feed_post (t.post i) ++ feed_dev (t.dev i) ++ feed_items feed_segment (t.local i)
 
--- segments that are equal as they are held mean the same
+-- segments that are equal as they are stored denote the same
 same_held : (x y : LocalSegment) → equal_segments.it x y ≡ true → segment x ≡ segment y
 same_held (local_segment.String s) (local_segment.String t) e = ap Text ((pointwise_decides unsigned_Decides (string_bytes s) (string_bytes t)).0 e)
 same_held (local_segment.String s) (local_segment.Number n) e = cc e

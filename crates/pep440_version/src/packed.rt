@@ -191,7 +191,7 @@ pub(crate) fn replace_part(word: u64, part: Part) -> Option<u64>
 }
 
 // The class and the number of the one suffix; `None` if there are more.
-fn suffix(unpacked: &Unpacked) -> Option<(u64, u64)>
+fn find_suffix(unpacked: &Unpacked) -> Option<(u64, u64)>
     ensures { result ≡ suffix (unpacked_record unpacked.now) }
 {
     match (
@@ -223,7 +223,7 @@ fn are_small(numbers: [u64; 4]) -> bool
 }
 
 // The suffix of a version that a word can hold; its release numbers are given, padded.
-fn packed_suffix(unpacked: &Unpacked, numbers: [u64; 4]) -> Option<(u64, u64)>
+fn find_packed_suffix(unpacked: &Unpacked, numbers: [u64; 4]) -> Option<(u64, u64)>
     requires few { length unpacked.now.release ≤ 4 }
     requires first { slice_index numbers 0 ≡ slice_index unpacked.now.release 0 }
     requires second { slice_index numbers 1 ≡ slice_index unpacked.now.release 1 }
@@ -234,7 +234,7 @@ fn packed_suffix(unpacked: &Unpacked, numbers: [u64; 4]) -> Option<(u64, u64)>
     if unpacked.epoch != 0 || !unpacked.local.is_empty() || !are_small(numbers) {
         return None;
     }
-    let (class, number) = suffix(unpacked)?;
+    let (class, number) = find_suffix(unpacked)?;
     if number > MAX_SUFFIX_NUMBER {
         None
     } else {
@@ -243,7 +243,7 @@ fn packed_suffix(unpacked: &Unpacked, numbers: [u64; 4]) -> Option<(u64, u64)>
 }
 
 // Four numbers, a class and a number, each in its bits.
-fn word_of(numbers: [u64; 4], class: u64, number: u64) -> u64
+fn pack_word(numbers: [u64; 4], class: u64, number: u64) -> u64
     requires first { slice_index numbers 0 ≤ 65535 }
     requires second { slice_index numbers 1 ≤ 255 }
     requires third { slice_index numbers 2 ≤ 255 }
@@ -268,10 +268,10 @@ impl Packed {
             return None;
         }
         let numbers = pad_with_zeros(release);
-        let (class, number) = packed_suffix(unpacked, numbers)?;
+        let (class, number) = find_packed_suffix(unpacked, numbers)?;
         Some(Packed {
             count: release.len() as u8,
-            word: word_of(numbers, class, number),
+            word: pack_word(numbers, class, number),
             numbers,
         })
     }
@@ -295,7 +295,7 @@ impl Packed {
         }
         Some(Packed {
             count: count as u8,
-            word: word_of(numbers, class, number),
+            word: pack_word(numbers, class, number),
             numbers,
         })
     }
