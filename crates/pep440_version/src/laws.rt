@@ -1,4 +1,4 @@
-//! What holds of texts, records, prints, words and orders, each as the contract of a function that does nothing; and the word
+//! Laws of strings, records, normalized forms, words and orders, each as the contract of a function that does nothing; and the word
 //! of a version.
 ghost use Rattle.std.specs.Prelude.{Ok, Err, Some, None, ◌≡◌, ◌⊎◌, ℕ, List, Bool, true, if◌then◌else◌};
 ghost use Rattle.pep440_version.specs.Grammar.{Derives};
