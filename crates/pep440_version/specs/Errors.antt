@@ -32,11 +32,6 @@ error_refusal e = refusal_of (kind_of e)
 abbrev pub pattern_kind_of : VersionPatternParseError → PatternErrorKind
 pattern_kind_of e = e.kind
 
--- the kind of the version's error that a pattern's error holds
-abbrev pub inner_kind : PatternErrorKind → Option ErrorKind
-inner_kind (pattern.Version e) = Some (kind_of e)
-inner_kind pattern.WildcardNotTrailing = None
-
 -- the refusal of a pattern, or none where memory ran out
 abbrev pub pattern_refusal_of : PatternErrorKind → Option PatternRefusal
 pattern_refusal_of (pattern.Version e) = option_map OfVersion (refusal_of (kind_of e))

@@ -29,17 +29,13 @@ abbrev pub feed_segment : LocalSegmentValue → HashWrites
 feed_segment (Text t) = u64 0 ++ u64 (length t) ++ (t ∷ [])
 feed_segment (Number n) = u64 1 ++ u64 n
 
--- how many numbers, and each of them
-abbrev pub feed_numbers : List ℕ → HashWrites
-feed_numbers numbers = u64 (length numbers) ++ flat_map u64 numbers
-
--- how many segments, and each of them
-abbrev pub feed_local : List LocalSegmentValue → HashWrites
-feed_local segments = u64 (length segments) ++ flat_map feed_segment segments
+-- how many items, and each of them
+abbrev pub feed_list : {A : Type 0} → (A → HashWrites) → List A → HashWrites
+feed_list feed_item items = u64 (length items) ++ flat_map feed_item items
 
 -- part after part, the release without the zeros at its end
 abbrev pub feed_key : Key → HashWrites
-feed_key k = u64 k.epoch ++ feed_numbers (trim k.release) ++ feed_stage k.stage ++ feed_post k.post ++ feed_dev k.dev ++ feed_local k.local
+feed_key k = u64 k.epoch ++ feed_list u64 (trim k.release) ++ feed_stage k.stage ++ feed_post k.post ++ feed_dev k.dev ++ feed_list feed_segment k.local
 
 -- a version is fed by its key, so equal versions feed alike
 abbrev pub feed : Record → HashWrites

@@ -145,10 +145,6 @@ base_cmp r q = ordering_then (nat_cmp r.epoch q.epoch) (release_cmp r.release q.
 abbrev pub suffix_cmp : Record → Record → Ordering
 suffix_cmp r q = ordering_then (stage_cmp (key r).stage (key q).stage) (ordering_then (post_cmp (key r).post (key q).post) (dev_cmp (key r).dev (key q).dev))
 
--- Alpha < Beta < Rc
-abbrev pub kind_cmp : PrereleaseKind → PrereleaseKind → Ordering
-kind_cmp = on kind_rank nat_cmp
-
 -- the kind, then the number
 abbrev pub prerelease_cmp : Prerelease → Prerelease → Ordering
-prerelease_cmp = then_cmp (on (λ (p : Prerelease). p.kind) kind_cmp) (on (λ (p : Prerelease). p.number) nat_cmp)
+prerelease_cmp = on (λ (p : Prerelease). (kind_rank p.kind, p.number)) rank_cmp

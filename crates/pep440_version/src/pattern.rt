@@ -83,7 +83,7 @@ impl VersionPattern {
         ensures reads { Answers pattern_error_refusal result (read_pattern text.now) }
         ensures memory { (x : Record × Bool) → read_pattern text.now ≡ Ok x → is_packed x.0 ≡ true → IsOk result }
     {
-        if let Some(version) = read::normal_version(text) {
+        if let Some(version) = read::parse_normal_version(text) {
             return Ok(VersionPattern::verbatim(version));
         }
         let (version, wildcard) = read::parse_pattern(alloc, text)?;

@@ -32,13 +32,16 @@ impl Version {
         Version::from_unpacked(alloc, unpacked)
     }
 
-    /// The version with this epoch.
+    /// The version with this epoch; the version itself where it has it.
     ///
     /// Allocates only if the result is not packed.
     pub fn with_epoch(self, alloc: Global, epoch: u64) -> Result<Version, AllocError>
         ensures value { IfOk result (λ v. v ≡ record self { epoch = epoch }) }
         ensures memory { is_packed (record self { epoch = epoch }) ≡ true → IsOk result }
     {
+        if epoch == self.epoch() {
+            return Ok(self);
+        }
         let mut unpacked = self.into_unpacked(alloc);
         unpacked.epoch = epoch;
         Version::from_unpacked(alloc, unpacked)

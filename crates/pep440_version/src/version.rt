@@ -60,6 +60,7 @@ fn prove_segment_fits(local_segment: &LocalSegment)
     }
 }
 
+// The loop is compiled away: `with_local` takes as many instructions for 100,001 segments as for one.
 pub(crate) fn prove_segments_fit(segments: &[LocalSegment])
     ensures { All SegmentFits (map segment segments.now) }
 {
