@@ -146,6 +146,7 @@ fn build_star_version(alloc: Global, epoch: u64, release: Release) -> Result<Ver
 }
 
 // The version of the parts of a normal one.
+#[inline(always)]
 fn build_normal_version(alloc: Global, parts: NormalParts) -> Result<Version, ErrorKind>
     requires { 0 < length parts.release }
     ensures reads { AnswersBy (λ v. v) result (Ok (from_parts parts.epoch parts.release parts.pre parts.post parts.dev [])) }
@@ -206,7 +207,7 @@ impl Version {
     }
 
     // The same, where the version is likely not packed.
-    #[inline(never)]
+    #[inline(always)]
     fn read_unpacked(alloc: Global, text: &str) -> Result<Version, VersionParseError>
         ensures reads { Answers error_refusal result (read_version text.now) }
         ensures memory { (r : Record) → read_version text.now ≡ Ok r → is_packed r ≡ true → IsOk result }
