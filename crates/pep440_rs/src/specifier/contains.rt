@@ -65,11 +65,7 @@ fn is_late(specifier: &Version, version: &Version) -> bool
             || (specifier.is_local() && version.is_local()))
 }
 
-fn has_same_print(
-    alloc: Global,
-    specifier: &Version,
-    version: &Version,
-) -> Result<bool, AllocError>
+fn has_same_print(alloc: Global, specifier: &Version, version: &Version) -> Result<bool, AllocError>
     ensures { IfOk result (λ b. b ≡ matches ExactEqual specifier.now version.now) }
 {
     let wanted = specifier.to_string(alloc)?;
