@@ -1,5 +1,5 @@
 //! Names of packages and of extras.
-ghost use Rattle.std.specs.Prelude.{◌≡◌, ◌∷◌, ◌<◌, ◌≤◌, [], length, IfSome};
+ghost use Rattle.std.specs.Prelude.{◌≡◌, ◌∷◌, ◌&&◌, ◌<◌, ◌≤◌, [], length, IfSome};
 ghost use Rattle.std.specs.Char.{is_ascii_alphanumeric};
 ghost use Rattle.std.specs.List.{list_all, prefix_len};
 ghost use Rattle.std.specs.Option.{option_map_or};
@@ -47,6 +47,13 @@ fn has_name_bytes(text: &[u8]) -> bool
     text.iter().all(|byte| is_name_byte(*byte))
 }
 
+// A letter or a digit stands at both ends.
+pub(crate) fn has_name_ends(text: &[u8]) -> bool
+    ensures { result ≡ (starts is_ascii_alphanumeric text.now && ends is_ascii_alphanumeric text.now) }
+{
+    starts_well(text) && ends_well(text)
+}
+
 /// Whether the string is a name: ASCII letters and digits, `.`, `-` and `_`, one or more, with a letter or a digit at
 /// both ends.
 ///
@@ -55,7 +62,7 @@ pub fn is_name(text: &str) -> bool
     ensures { result ≡ is_name text.now }
 {
     let bytes = text.as_bytes();
-    has_name_bytes(bytes) && starts_well(bytes) && ends_well(bytes)
+    has_name_bytes(bytes) && has_name_ends(bytes)
 }
 
 fn count_separators(text: &[u8]) -> usize
