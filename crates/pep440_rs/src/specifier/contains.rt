@@ -64,7 +64,11 @@ pub(crate) fn is_late(specifier: &Version, version: &Version) -> bool
 }
 
 // Whether the two have the same normalized form.
-pub(crate) fn has_same_print(alloc: Global, specifier: &Version, version: &Version) -> Result<bool, AllocError>
+pub(crate) fn has_same_print(
+    alloc: Global,
+    specifier: &Version,
+    version: &Version,
+) -> Result<bool, AllocError>
     ensures { IfOk result (λ b. b ≡ matches ExactEqual specifier.now version.now) }
 {
     let wanted = specifier.to_string(alloc)?;
