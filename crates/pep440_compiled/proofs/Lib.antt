@@ -1,1 +1,4 @@
 pub mod Denoted
+pub mod Exact
+pub mod Leading
+pub mod Whole

@@ -1,1 +1,4 @@
 pub mod Format
+pub mod OptionalParts
+pub mod Parts
+pub mod Version

@@ -1,4 +1,6 @@
 //! Worked cases: packed versions and their bytes, bytes that denote nothing, and the order of compiled versions.
+mod versions;
+
 use crate::{NotCompiled, compare_packed, compile_packed, read_packed};
 use pep440_version::Version;
 use std::cmp::Ordering;

@@ -1,0 +1,6 @@
+-- A record with the parts that may be missing; no public clause cites it.
+use Rattle.pep440_compiled.specs.declared.unpacked.OptionalParts.{OptionalParts}
+use Rattle.pep440_version.specs.Record.{Record}
+
+abbrev pub with_optional_parts : OptionalParts → Record → Record
+with_optional_parts p r = record r { pre = p.pre; post = p.post; dev = p.dev; min = p.min; max = p.max }
