@@ -1,5 +1,5 @@
 -- What a version gives to a hasher: the parts of its key, each number as a write of its own.
-use Rattle.std.specs.Prelude.{ℕ, ◌+◌, List, [], ◌∷◌, ◌++◌, length}
+use Rattle.std.specs.Prelude.{◌+◌, List, [], ◌∷◌, ◌++◌, length}
 use Rattle.std.specs.Hash.{HashWrites, u64}
 use Rattle.std.specs.List.{flat_map}
 use Rattle.pep440_version.specs.declared.prerelease.PrereleaseKind.{PrereleaseKind}

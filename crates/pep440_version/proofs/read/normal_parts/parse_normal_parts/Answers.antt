@@ -1,4 +1,4 @@
-use Rattle.std.proofs.Common.{◌≡◌, ◌∙◌, ◌++◌, [], subst, sym, ap, take, length, eqb-true}
+use Rattle.std.proofs.Common.{◌≡◌, ◌∙◌, [], subst, sym, take, eqb-true}
 use Rattle.std.proofs.lemmas.List.{nil_from_length}
 use Rattle.pep440_version.specs.Grammar.{Derives}
 use Rattle.pep440_version.specs.Record.{from_parts}
