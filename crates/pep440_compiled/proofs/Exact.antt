@@ -1,5 +1,5 @@
 -- Codes that a value and what follows it can be read from in one way only.
-use Rattle.std.proofs.Common.{◌≡◌, ◌∙◌, ℕ, suc, ◌+◌, ◌<◌, ◌^◌, refl, sym, ap, arith, List, [], ◌∷◌, ◌++◌, length, take, drop, append_assoc, slice_index}
+use Rattle.std.proofs.Common.{◌≡◌, ◌∙◌, ℕ, ◌+◌, ◌<◌, refl, sym, ap, arith, List, [], ◌∷◌, ◌++◌, length, take, drop, append_assoc, slice_index}
 use Rattle.std.proofs.lemmas.List.{flat_map_more}
 use Rattle.std.proofs.lemmas.List.Elements.{recursion_from_All}
 use Rattle.std.proofs.lemmas.Nat.{from_be_bytes-to_be_bytes_8}
@@ -9,7 +9,7 @@ use Rattle.std.specs.Prelude.{Option, None, Some, IfSome}
 use Rattle.pep440_compiled.specs.Parts.{counted, eight_bytes, optional_number, optional_prerelease, tagged_segment}
 use Rattle.pep440_compiled.specs.Version.{IsStorable}
 use Rattle.pep440_version.specs.Key.{kind_rank}
-use Rattle.pep440_version.specs.Record.{Fits, LocalSegmentValue, Text, Number}
+use Rattle.pep440_version.specs.Record.{Fits, Text, Number}
 use Rattle.pep440_version.specs.declared.prerelease.Prerelease.{Prerelease}
 use Rattle.pep440_version.specs.declared.prerelease.PrereleaseKind.{PrereleaseKind}
 use Rattle.pep440_version.specs.declared.prerelease.PrereleaseKind.TheVariants.{Alpha, Beta, Rc}

@@ -1,5 +1,5 @@
 -- A version that is not packed: its bytes part by part, and that they are of it alone.
-use Rattle.std.proofs.Common.{◌≡◌, ◌==◌, ◌≤◌, eqb-true, inl, inr, get_or, map, ◌∙◌, ℕ, ◌+◌, ◌<◌, refl, sym, ap, subst, arith, Bool, true, false, if◌then◌else◌, List, [], ◌∷◌, ◌++◌, length, drop, append_assoc, slice_index}
+use Rattle.std.proofs.Common.{◌≡◌, ◌==◌, eqb-true, inl, inr, get_or, map, ◌∙◌, ℕ, ◌+◌, ◌<◌, refl, sym, ap, subst, arith, Bool, true, false, if◌then◌else◌, List, [], ◌∷◌, ◌++◌, length, drop, append_assoc, slice_index}
 use Rattle.std.proofs.lemmas.Bool.{cases_lt}
 use Rattle.std.proofs.lemmas.List.{append-nil, get_or-map}
 use Rattle.pep440_compiled.proofs.Denoted.{one_record}

@@ -1,4 +1,4 @@
-use Rattle.std.proofs.Common.{◌≡◌, ◌∙◌, ap, subst, refl, sym, arith, length, List, ℕ, ◌++◌, ◌∷◌, [], map}
+use Rattle.std.proofs.Common.{◌≡◌, ◌∙◌, ap, subst, sym, arith, length, ◌++◌, ◌∷◌, [], map}
 use Rattle.std.proofs.lemmas.List.{length-append, length-map, map-append}
 use Rattle.std.proofs.lemmas.List.Elements.{All-push}
 use Rattle.std.specs.List.{All, flat_map}
@@ -6,7 +6,6 @@ use Rattle.pep440_compiled.proofs.Exact.{item_follows, items_are, one_more, segm
 use Rattle.pep440_compiled.proofs.parts.read_local.Goals as goal
 use Rattle.pep440_compiled.specs.Parts.{tagged_segment}
 use Rattle.pep440_compiled.specs.Version.{IsStorable}
-use Rattle.pep440_version.specs.Record.{Fits, LocalSegmentValue}
 use Rattle.pep440_version.specs.Segments.{segment}
 
 pub returns-in_default-2-clause-only : goal.returns-in_default-2-clause-only

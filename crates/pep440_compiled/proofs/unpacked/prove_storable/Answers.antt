@@ -1,4 +1,4 @@
-use Rattle.std.proofs.Common.{◌∙◌, sym, ap, subst, arith, length, string_bytes}
+use Rattle.std.proofs.Common.{◌∙◌, sym, ap, subst, arith, length}
 use Rattle.std.specs.Str.{IsUtf8}
 use Rattle.pep440_compiled.proofs.unpacked.prove_storable.Goals as goal
 use Rattle.pep440_compiled.specs.Version.{IsStorable}

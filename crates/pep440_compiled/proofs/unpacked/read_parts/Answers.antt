@@ -1,9 +1,9 @@
-use Rattle.std.proofs.Common.{◌≡◌, ◌∙◌, ◌++◌, sym, ap, subst, map, arith, drop, [], length, List, ℕ, ◌<◌, None}
+use Rattle.std.proofs.Common.{◌≡◌, ◌∙◌, sym, ap, subst, map, arith, drop, [], None}
 use Rattle.std.proofs.lemmas.List.{append-nil}
 use Rattle.pep440_compiled.proofs.Whole.{after_epoch, after_release, is_nil, is_not_nil, joined_parts}
 use Rattle.pep440_compiled.proofs.unpacked.read_parts.Goals as goal
 use Rattle.pep440_compiled.specs.OptionalParts.{with_optional_parts}
-use Rattle.pep440_compiled.specs.Parts.{counted, eight_bytes, tagged_segment, unpacked_bytes}
+use Rattle.pep440_compiled.specs.Parts.{counted, tagged_segment, unpacked_bytes}
 use Rattle.pep440_version.specs.Segments.{segment}
 use Rattle.pep440_version.specs.Record.{Record, from_parts, zero_alpha_dev}
 
