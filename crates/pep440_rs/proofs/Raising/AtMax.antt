@@ -5,6 +5,7 @@ use Rattle.std.specs.List.{list_any}
 use Rattle.std.specs.Prelude.{IfOk, IsErrOf}
 use Rattle.std.specs.Option.{option_eq}
 use Rattle.pep440_rs.specs.Bounds.{Segments, range_of, release_range_of}
+use Rattle.pep440_rs.specs.Cover.{cover_of}
 use Rattle.pep440_rs.specs.Refused.{HasNumbers, RefusedAtMax, TellsMax, raised_number, raised_release_number, raises_max}
 use Rattle.pep440_rs.specs.Specifiers.{Spec, IsSpec}
 use Rattle.pep440_rs.specs.declared.specifier.operator.Operator.{Operator}
@@ -12,7 +13,7 @@ use Rattle.pep440_rs.specs.declared.specifier.operator.Operator.TheVariants.{Equ
 use Rattle.pep440_rs.specs.declared.range.error.RangeError.{RangeError}
 use Rattle.pep440_rs.specs.declared.range.error.RangeError.TheVariants.{NumberAtMax, OutOfMemory}
 use Rattle.pep440_version.specs.Record.{Record}
-use Rattle.pep440_rs.proofs.Raising.Refused.{refused_at_max, release_refused_at_max}
+use Rattle.pep440_rs.proofs.Raising.Refused.{cover_refused_at_max, refused_at_max, release_refused_at_max}
 
 -- a specifier has the numbers that its operator asks for
 has_numbers : (s : Spec) → IsSpec s → HasNumbers s.operator s.version
@@ -56,6 +57,12 @@ pub tells_max : (s : Spec) → IsSpec s → (p : Operator × Record) → p ≡ (
 tells_max s valid p parts result is none =
     subst (λ (q : Operator × Record). TellsMax (is_at_max (raised_number q.0 q.1)) result) parts
     (tells range_of raised_number refused_at_max p.0 p.1 (subst (λ (q : Operator × Record). HasNumbers q.0 q.1) (sym parts) (has_numbers s valid)) result is none)
+
+pub tells_cover_max : (s : Spec) → IsSpec s → (p : Operator × Record) → p ≡ (s.operator, s.version) → (result : Result Segments RangeError)
+    → IfOk result (λ r. cover_of p.0 p.1 ≡ Some r) → (IsErrOf result NumberAtMax → cover_of p.0 p.1 ≡ None) → TellsMax (raises_max raised_number s) result
+tells_cover_max s valid p parts result is none =
+    subst (λ (q : Operator × Record). TellsMax (is_at_max (raised_number q.0 q.1)) result) parts
+    (tells cover_of raised_number cover_refused_at_max p.0 p.1 (subst (λ (q : Operator × Record). HasNumbers q.0 q.1) (sym parts) (has_numbers s valid)) result is none)
 
 pub tells_release_max : (s : Spec) → IsSpec s → (p : Operator × Record) → p ≡ (s.operator, s.version) → (result : Result Segments RangeError)
     → IfOk result (λ r. release_range_of p.0 p.1 ≡ Some r) → (IsErrOf result NumberAtMax → release_range_of p.0 p.1 ≡ None) → TellsMax (raises_max raised_release_number s) result

@@ -4,6 +4,7 @@ use Rattle.std.proofs.lemmas.Bool.Decides.{nat_tests}
 use Rattle.std.specs.List.{last_or}
 use Rattle.std.specs.Option.{option_or}
 use Rattle.pep440_rs.specs.Bounds.{range_of, release_range_of, release_up_to, greater, star, star_end, next_number, raise_last}
+use Rattle.pep440_rs.specs.Cover.{cover_of}
 use Rattle.pep440_rs.specs.Matching.{without_last}
 use Rattle.pep440_rs.specs.Refused.{raised_number, raised_release_number, RefusedAtMax}
 use Rattle.pep440_rs.specs.declared.specifier.operator.Operator.TheVariants.{Equal, EqualStar, ExactEqual, NotEqual, NotEqualStar, TildeEqual, LessThan, LessThanEqual, GreaterThan, GreaterThanEqual}
@@ -86,6 +87,19 @@ refused_at_max LessThan s h = never _
 refused_at_max GreaterThan s h = greater_refused s s.dev s.post
 refused_at_max EqualStar s h = star_refused s h
 refused_at_max NotEqualStar s h = chain (through _ (star s)) (star_refused s h)
+
+-- a cover raises what the range does
+pub cover_refused_at_max : RefusedAtMax cover_of raised_number
+cover_refused_at_max Equal s h = never _
+cover_refused_at_max LessThanEqual s h = never _
+cover_refused_at_max LessThan s h = never _
+cover_refused_at_max EqualStar s h = refused_at_max EqualStar s h
+cover_refused_at_max ExactEqual s h = refused_at_max ExactEqual s h
+cover_refused_at_max NotEqual s h = refused_at_max NotEqual s h
+cover_refused_at_max NotEqualStar s h = refused_at_max NotEqualStar s h
+cover_refused_at_max TildeEqual s h = refused_at_max TildeEqual s h
+cover_refused_at_max GreaterThan s h = refused_at_max GreaterThan s h
+cover_refused_at_max GreaterThanEqual s h = refused_at_max GreaterThanEqual s h
 
 up_to_refused : (release numbers : List ℕ) → 1 ≤ length numbers → IsNone (release_up_to release numbers) ↔ IsMax (last_or None numbers)
 up_to_refused release numbers h = chain (through _ (raise_last numbers)) (raised_refused numbers h)
