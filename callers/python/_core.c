@@ -11,8 +11,9 @@
 static PyObject *InvalidVersion, *InvalidSpecifier;
 static PyTypeObject *HeldType;
 
-/* A version: its text as it was given, its sort key, and its parts once they were asked for. It never changes. `front` is the number
-   that the first eight bytes of the key are, of a shorter key with zeros behind it: where two differ, the keys stand as they do. */
+/* A version: its string as it was given, its sort key, and its parts once they were asked for; all three are NULL until `__init__` has read
+   a string. `front` is the number that the first eight bytes of the key are, of a shorter key with zeros behind it: where two differ, the
+   keys compare as they do. */
 typedef struct {
     PyObject_HEAD
     PyObject *text;
@@ -31,11 +32,21 @@ static PyObject *str_of(PyObject *given)
     return PyObject_TypeCheck(given, HeldType) ? ((Held *)given)->text : given;
 }
 
+/* Whether `__init__` has read a string; else an exception is set. A subclass may ask before it has called it. */
+static int is_initialised(const Held *self)
+{
+    if (!self->text)
+        PyErr_Format(PyExc_AttributeError, "%R was made without Version.__init__", Py_TYPE((PyObject *)self));
+    return self->text != NULL;
+}
+
 /* The bytes of a str or of a version's text, which live as long as it does. */
 static int view(PyObject *given, pep440_string *text)
 {
     Py_ssize_t length = 0;
     const char *bytes;
+    if (PyObject_TypeCheck(given, HeldType) && !is_initialised((Held *)given))
+        return -1;
     if (!PyUnicode_Check(str_of(given))) {
         PyErr_Format(PyExc_TypeError, "expected a str or a Version, not %R", Py_TYPE(given));
         return -1;
@@ -81,7 +92,10 @@ static PyObject *lines_of(const char *bytes, Py_ssize_t length)
     return PyUnicode_FromStringAndSize(bytes, length > 0 && bytes[length - 1] == '\n' ? length - 1 : length);
 }
 
-static PyObject *raise_invalid(PyObject *error, const char *form, PyObject *given, Writer why)
+static const char INVALID_VERSION[] = "Invalid version: %R: %U", INVALID_SPECIFIER[] = "Invalid specifier: %R\n%U";
+
+/* Raises the exception, which quotes one string and says why the other one, that was read, is invalid. */
+static PyObject *raise_invalid(PyObject *error, const char *form, PyObject *quoted, PyObject *given, Writer why)
 {
     pep440_string text;
     uint8_t status = PEP440_OK;
@@ -91,7 +105,7 @@ static PyObject *raise_invalid(PyObject *error, const char *form, PyObject *give
     reason = text.bytes == NO_TEXT ? PyUnicode_FromString("it has a lone surrogate")
                                    : written_by(why, text, lines_of, &status);
     if (reason)
-        PyErr_Format(error, form, str_of(given), reason);
+        PyErr_Format(error, form, str_of(quoted), reason);
     else if (!PyErr_Occurred())
         PyErr_NoMemory();
     Py_XDECREF(reason);
@@ -104,11 +118,11 @@ static PyObject *raise_by(uint8_t status, PyObject *version, PyObject *list)
     if (PyErr_Occurred())
         return NULL;
     if (status == PEP440_INVALID_VERSION && version)
-        return raise_invalid(InvalidVersion, "Invalid version: '%U': %U", version, pep440_version_error);
+        return raise_invalid(InvalidVersion, INVALID_VERSION, version, version, pep440_version_error);
     if (status == PEP440_INVALID_LIST && list)
-        return raise_invalid(InvalidSpecifier, "Invalid specifier: '%U'\n%U", list, pep440_list_error);
+        return raise_invalid(InvalidSpecifier, INVALID_SPECIFIER, list, list, pep440_list_error);
     if (status == PEP440_NUMBER_AT_MAX && list)
-        return PyErr_Format(PyExc_OverflowError, "no ranges of '%U': a bound lies above 18446744073709551615", str_of(list));
+        return PyErr_Format(PyExc_OverflowError, "no ranges of %R: a bound lies above 18446744073709551615", str_of(list));
     if (status == PEP440_OUT_OF_MEMORY)
         return PyErr_NoMemory();
     return PyErr_Format(PyExc_SystemError, "pep440: no such status here: %d", (int)status);
@@ -136,40 +150,39 @@ static uint64_t front_of(PyObject *key)
     return front;
 }
 
-static PyObject *held_new(PyTypeObject *type, PyObject *args, PyObject *named)
+/* Reads the string, also where one was read before. The old one stays where this one is no version. */
+static int held_init(Held *self, PyObject *args, PyObject *named)
 {
     static char *names[] = {"version", NULL};
-    PyObject *given = NULL, *key;
-    pep440_string text;
+    PyObject *given = NULL, *key, *text, *old[3];
+    pep440_string bytes;
     uint8_t status;
-    Held *self;
     if (!named && PyTuple_Size(args) == 1)
         given = PyTuple_GetItem(args, 0);
     else if (!PyArg_ParseTupleAndKeywords(args, named, "O:Version", names, &given))
-        return NULL;
-    if (!PyUnicode_Check(given))
-        return PyErr_Format(PyExc_TypeError, "expected a str, not %R", Py_TYPE(given));
-    if (view(given, &text) < 0)
-        return NULL;
-    key = written_by(pep440_sort_key, text, PyBytes_FromStringAndSize, &status);
-    if (!key)
-        return raise_by(status, given, NULL);
-    self = (Held *)PyType_GenericAlloc(type, 0);
-    if (self) {
-        self->key = key;
-        self->text = PyUnicode_FromObject(given); /* of a subclass of str the plain str */
-        self->front = front_of(key);
-        if (self->text)
-            return (PyObject *)self;
-        Py_DECREF(self);
-        return NULL;
+        return -1;
+    if (!PyUnicode_Check(given)) {
+        PyErr_Format(PyExc_TypeError, "expected a str, not %R", Py_TYPE(given));
+        return -1;
     }
-    Py_DECREF(key);
-    return NULL;
+    if (view(given, &bytes) < 0)
+        return -1;
+    key = written_by(pep440_sort_key, bytes, PyBytes_FromStringAndSize, &status);
+    if (!key) {
+        raise_by(status, given, NULL);
+        return -1;
+    }
+    text = PyUnicode_FromObject(given); /* of a subclass of str the plain str */
+    if (!text) {
+        Py_DECREF(key);
+        return -1;
+    }
+    old[0] = self->text, old[1] = self->key, old[2] = self->parts;
+    self->text = text, self->key = key, self->parts = NULL, self->front = front_of(key);
+    for (int each = 0; each < 3; each++)
+        Py_XDECREF(old[each]);
+    return 0;
 }
-
-/* All is done by then; this is here so that a subclass may call it. */
-static int held_init(PyObject *self, PyObject *args, PyObject *named) { return 0; }
 
 static void held_free(Held *self)
 {
@@ -187,12 +200,14 @@ static PyObject *held_compare(PyObject *left, PyObject *right, int operation)
     const Held *one = (Held *)left, *other = (Held *)right; /* the left one is a version, since its type has this call */
     if (Py_TYPE(right) != Py_TYPE(left) && !PyObject_TypeCheck(right, HeldType))
         Py_RETURN_NOTIMPLEMENTED;
+    if (!is_initialised(one) || !is_initialised(other))
+        return NULL;
     if (one->front != other->front)
         Py_RETURN_RICHCOMPARE(one->front, other->front, operation);
     return PyObject_RichCompare(one->key, other->key, operation);
 }
 
-static Py_hash_t held_hash(Held *self) { return PyObject_Hash(self->key); }
+static Py_hash_t held_hash(Held *self) { return is_initialised(self) ? PyObject_Hash(self->key) : -1; }
 
 static PyObject *held_str(Held *self)
 {
@@ -258,17 +273,23 @@ static PyObject *held_parts(Held *self, void *unused)
     return Py_XNewRef(self->parts);
 }
 
-static PyObject *held_key(Held *self, void *unused) { return Py_NewRef(self->key); }
+static PyObject *held_key(Held *self, void *unused) { return is_initialised(self) ? Py_NewRef(self->key) : NULL; }
+
+static PyObject *held_text(Held *self, void *unused) { return is_initialised(self) ? Py_NewRef(self->text) : NULL; }
+
+static PyObject *held_normal(Held *self, void *unused) { return held_str(self); }
 
 static PyGetSetDef held_values[] = {
+    {"_text", (getter)held_text, NULL, "The string as it was given.", NULL},
+    {"_normal", (getter)held_normal, NULL, "The normalized form.", NULL},
     {"_parts", (getter)held_parts, NULL, "(epoch, release, pre, post, dev, whether there is a local part)", NULL},
     {"sort_key", (getter)held_key, NULL,
      "Bytes that stand as the versions do: less, equal or greater. They may be stored, and compared by whatever compares bytes.", NULL},
     {NULL, NULL, NULL, NULL, NULL}};
 
-static PyType_Slot held_slots[] = {{Py_tp_new, held_new},       {Py_tp_init, held_init},           {Py_tp_dealloc, held_free},
-                                   {Py_tp_hash, held_hash},     {Py_tp_richcompare, held_compare}, {Py_tp_str, held_str},
-                                   {Py_tp_getset, held_values}, {Py_tp_doc, "A version and its sort key."}, {0, NULL}};
+static PyType_Slot held_slots[] = {{Py_tp_new, PyType_GenericNew}, {Py_tp_init, held_init},           {Py_tp_dealloc, held_free},
+                                   {Py_tp_hash, held_hash},        {Py_tp_richcompare, held_compare}, {Py_tp_str, held_str},
+                                   {Py_tp_getset, held_values},    {Py_tp_doc, "Held(version)\n--\n\nA version and its sort key."}, {0, NULL}};
 
 static PyType_Spec held_spec = {"pep440_rattle._core.Held", sizeof(Held), 0, Py_TPFLAGS_DEFAULT | Py_TPFLAGS_BASETYPE, held_slots};
 
@@ -285,8 +306,6 @@ static PyObject *on_a_list(Writer call, PyObject *list)
     return made ? made : raise_by(status, NULL, list);
 }
 
-static PyObject *normalize_list(PyObject *module, PyObject *list) { return on_a_list(pep440_normalize_list, list); }
-
 static PyObject *ranges(PyObject *module, PyObject *list) { return on_a_list(pep440_ranges, list); }
 
 static int has_count(const char *call, Py_ssize_t count, Py_ssize_t wanted)
@@ -294,6 +313,20 @@ static int has_count(const char *call, Py_ssize_t count, Py_ssize_t wanted)
     if (count != wanted)
         PyErr_Format(PyExc_TypeError, "%s() takes %zd arguments", call, wanted);
     return count == wanted;
+}
+
+/* The second argument is the string that an exception quotes, of which the first is the part without white space at its ends. */
+static PyObject *normalize_list(PyObject *module, PyObject *const *args, Py_ssize_t count)
+{
+    pep440_string text;
+    uint8_t status;
+    PyObject *made;
+    if (!has_count("normalize_list", count, 2) || view(args[0], &text) < 0)
+        return NULL;
+    made = written_by(pep440_normalize_list, text, PyUnicode_FromStringAndSize, &status);
+    if (!made && !PyErr_Occurred() && status == PEP440_INVALID_LIST)
+        return raise_invalid(InvalidSpecifier, INVALID_SPECIFIER, args[1], args[0], pep440_list_error);
+    return made ? made : raise_by(status, NULL, args[0]);
 }
 
 static PyObject *contains(PyObject *module, PyObject *const *args, Py_ssize_t count)
@@ -464,7 +497,7 @@ static PyObject *sort_keys(PyObject *module, PyObject *given)
 /* ---- the module */
 
 static PyMethodDef calls[] = {
-    {"normalize_list", normalize_list, METH_O, "The normal form of a list of specifiers."},
+    {"normalize_list", (PyCFunction)(void (*)(void))normalize_list, METH_FASTCALL, "normalize_list(list, quoted): its normalized form"},
     {"ranges", ranges, METH_O, "The range of a list, a segment a line."},
     {"contains", (PyCFunction)(void (*)(void))contains, METH_FASTCALL, "contains(list, item, prereleases)"},
     {"filter", (PyCFunction)(void (*)(void))filter, METH_FASTCALL, "filter(list, items, prereleases, skip_invalid): those that are contained"},
@@ -472,19 +505,29 @@ static PyMethodDef calls[] = {
     {"sort_keys", sort_keys, METH_O, "The sort key of each item."},
     {NULL, NULL, 0, NULL}};
 
-static struct PyModuleDef definition = {PyModuleDef_HEAD_INIT, "pep440_rattle._core", "The proved library.", -1, calls, NULL, NULL, NULL, NULL};
-
-PyMODINIT_FUNC PyInit__core(void)
+/* The type and the exceptions are held by static variables, so that there is one interpreter for them. */
+static int execute(PyObject *module)
 {
-    PyObject *module = PyModule_Create(&definition);
-    if (!module)
-        return NULL;
-    HeldType = (PyTypeObject *)PyType_FromSpec(&held_spec);
-    InvalidVersion = PyErr_NewExceptionWithDoc("pep440_rattle.version.InvalidVersion", "A text is no version.", PyExc_ValueError, NULL);
-    InvalidSpecifier = PyErr_NewExceptionWithDoc("pep440_rattle.specifiers.InvalidSpecifier", "A text is no specifier.", PyExc_ValueError, NULL);
-    if (!HeldType || PyModule_AddObjectRef(module, "Held", (PyObject *)HeldType) < 0 ||
-        PyModule_AddObjectRef(module, "InvalidVersion", InvalidVersion) < 0 ||
-        PyModule_AddObjectRef(module, "InvalidSpecifier", InvalidSpecifier) < 0)
-        Py_CLEAR(module);
-    return module;
+    if (PyInterpreterState_GetID(PyInterpreterState_Get()) != 0) {
+        PyErr_SetString(PyExc_ImportError, "pep440_rattle can be imported in the main interpreter alone");
+        return -1;
+    }
+    if (!HeldType)
+        HeldType = (PyTypeObject *)PyType_FromSpec(&held_spec);
+    if (!InvalidVersion)
+        InvalidVersion = PyErr_NewExceptionWithDoc("pep440_rattle.version.InvalidVersion", "A string is no version.", PyExc_ValueError, NULL);
+    if (!InvalidSpecifier)
+        InvalidSpecifier = PyErr_NewExceptionWithDoc("pep440_rattle.specifiers.InvalidSpecifier", "A string is no specifier.", PyExc_ValueError, NULL);
+    if (!HeldType || !InvalidVersion || !InvalidSpecifier)
+        return -1;
+    return PyModule_AddObjectRef(module, "Held", (PyObject *)HeldType) < 0 || PyModule_AddObjectRef(module, "InvalidVersion", InvalidVersion) < 0 ||
+                   PyModule_AddObjectRef(module, "InvalidSpecifier", InvalidSpecifier) < 0
+               ? -1
+               : 0;
 }
+
+static PyModuleDef_Slot slots[] = {{Py_mod_exec, execute}, {0, NULL}};
+
+static struct PyModuleDef definition = {PyModuleDef_HEAD_INIT, "pep440_rattle._core", "The proved library.", 0, calls, slots, NULL, NULL, NULL};
+
+PyMODINIT_FUNC PyInit__core(void) { return PyModuleDef_Init(&definition); }

@@ -1,7 +1,7 @@
 """The library `packaging` that the tests compare with, and what the two are asked.
 
 PEP440_PACKAGING in the environment names the folder that holds its folder `packaging`; else it is the one that is installed, or the newest copy that
-a pip on this machine has. Where none of 24 or 25 is found, the tests that compare are skipped.
+a pip on this machine has. Where none from 23 on is found, the tests that compare are skipped.
 """
 import glob
 import importlib
@@ -30,7 +30,7 @@ def number_of(version):
 
 
 def is_fit(version):
-    return (24,) <= number_of(version) < (26,)
+    return (23,) <= number_of(version)
 
 
 def folder_of_a_pip():
@@ -65,7 +65,7 @@ def load():
     folder = os.environ.get("PEP440_PACKAGING")
     found = imported(folder) if folder else imported() or imported(folder_of_a_pip())
     if not found:
-        raise unittest.SkipTest("no packaging of 24 or 25 to compare with: name its folder in PEP440_PACKAGING")
+        raise unittest.SkipTest("no packaging from 23 on to compare with: name its folder in PEP440_PACKAGING")
     return found
 
 
@@ -156,3 +156,30 @@ def is_local_above(operator, bound, candidate):
     if operator != ">" or candidate.local is None:
         return False
     return type(candidate)(bound.base_version) == type(candidate)(candidate.base_version) and type(candidate)(candidate.public) != bound
+
+
+# ---- what earlier releases of `packaging` did otherwise than the one that is followed (`pep440_rattle.behaves_like`)
+
+
+def names_a_prerelease(specifier):
+    """Its version is a pre-release or a developmental release."""
+    return bool(re.search(r"[0-9][-_.]?(a|b|c|rc|alpha|beta|pre|preview|dev)", specifier.version, re.I))
+
+
+def asks_a_prefix(specifier):
+    """It compares numbers of the release up to a place."""
+    return specifier.operator == "~=" or specifier.version.endswith(".*")
+
+
+# The first release that does as the one that is followed, the name of the difference, and whether it plays a part beside this specifier and, where
+# there is one, this candidate.
+CHANGES = [
+    ((24, 2), "`<` and `>` name no pre-release", lambda it, _: it.operator in ("<", ">") and names_a_prerelease(it)),
+    ((24, 0), "a prefix is compared with its epoch as a number", lambda it, text: asks_a_prefix(it) and "!" in it.version + (text or "")),
+]
+
+
+def changed_since(name, specifiers, candidate=None):
+    """The difference between the release of this name and the one that is followed that plays a part, or None."""
+    rules = [(what, plays) for first, what, plays in CHANGES if number_of(name) < first]
+    return next((what for what, plays in rules if any(plays(each, candidate) for each in specifiers)), None)

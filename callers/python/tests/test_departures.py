@@ -67,9 +67,11 @@ class Departures(unittest.TestCase):
         self.assertEqual((copy.deepcopy(mine).note, mine), ("mine", version))
 
     def test_private_names(self):
-        self.assertFalse(hasattr(Version, "_regex") or hasattr(Version("1.0"), "_version") or hasattr(Version("1.0"), "_key"))
+        self.assertFalse(hasattr(Version, "_regex") or hasattr(pep440_rattle.specifiers, "_version_split"))
+        self.assertEqual(Version("1.0")._key, Version("1.0").sort_key)
         self.assertIsInstance(Version("1.0"), pep440_rattle.version._BaseVersion)
         self.assertEqual(set(Specifier._operators), {"==", "!=", "<=", ">=", "<", ">", "~=", "==="})
+        self.assertEqual(Version("1!2.0rc1.post2.dev3+u-1")._version, (1, (2, 0), ("dev", 3), ("rc", 1), ("post", 2), ("u", 1)))
 
     def test_other_objects(self):
         theirs = peer.load()[0]

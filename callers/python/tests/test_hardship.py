@@ -191,8 +191,8 @@ def refusal(call, text, error):
         return str(raised)
 calls = [
     lambda: Version(long).sort_key, lambda: str(Version(long)), lambda: Version(long)._parts, lambda: Version(longest).release[-1], lambda: str(Version(longest)),
-    lambda: refusal(Version, "1.0prev", InvalidVersion), lambda: refusal(_core.normalize_list, ">=1.0;<2", InvalidSpecifier),
-    lambda: _core.normalize_list(members), lambda: _core.ranges(members), lambda: _core.contains(members, "1.17", False),
+    lambda: refusal(Version, "1.0prev", InvalidVersion), lambda: refusal(SpecifierSet, ">=1.0;<2", InvalidSpecifier),
+    lambda: _core.normalize_list(members, members), lambda: _core.ranges(members), lambda: _core.contains(members, "1.17", False),
     lambda: filter_texts(members, texts), lambda: _core.filter(">=0", texts, False, False), lambda: sort_texts(texts), lambda: sort_keys(texts),
     lambda: sort_keys([longest] * 3), lambda: refusal(sort_texts, texts + ["x"], InvalidVersion),
 ]

@@ -118,7 +118,10 @@ class Specifiers(unittest.TestCase):
         for text in ("1.0", "==", "=1.0", ">=1.0.*", "~=1", ">=1.0+x", "== 1.0 2.0", ">= =1.0", "", " "):
             with self.assertRaises(InvalidSpecifier) as caught:
                 Specifier(text)
-            self.assertTrue(str(caught.exception).startswith(f"Invalid specifier: '{text.strip() or text}'"), caught.exception)
+            self.assertTrue(str(caught.exception).startswith(f"Invalid specifier: {text!r}"), caught.exception)
+        with self.assertRaises(InvalidSpecifier) as caught:
+            Specifier(" it's \n")
+        self.assertTrue(str(caught.exception).startswith('Invalid specifier: " it\'s \\n"\n'), caught.exception)
         with self.assertRaises(InvalidSpecifier):
             SpecifierSet(">=1.0, <x")
 

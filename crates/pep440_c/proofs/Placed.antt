@@ -1,14 +1,17 @@
 -- Many texts, read one after another: versions with their places, marks, sort keys.
-use Rattle.std.proofs.Common.{Bor, ◌≡◌, ◌<◌, ◌+◌, ◌∙◌, ℕ, List, [], ◌∷◌, ◌++◌, length, get_or, take, drop, map, refl, sym, ap, subst, append-nil, arith, take-append-drop}
+use Rattle.std.proofs.Common.{Bor, ◌≡◌, ◌<◌, ◌+◌, ◌∙◌, ℕ, zero, suc, Some, List, [], ◌∷◌, ◌++◌, length, get_or, take, drop, map, refl, sym, ap, subst, append-nil, arith, take-append-drop}
 use Rattle.std.proofs.lemmas.List.Concat.{flat_map-append}
 use Rattle.std.proofs.lemmas.List.{drop_more, get_or_default, length-append, length-map, length-take-le, map-append, take_more}
-use Rattle.std.specs.List.{AllZip, enumerate_from, flat_map}
+use Rattle.std.specs.List.{All, AllZip, enumerate_from, flat_map}
 use Rattle.std.specs.List.Sorted.{IsPermutation, IsSorted, IsStable}
-use Rattle.std.specs.Prelude.{IfOk, Result, Ok, Err}
+use Rattle.std.specs.Ordering.{on}
+use Rattle.std.specs.Prelude.{IfOk, Result, Ok, Err, slice_get}
+use Rattle.std.specs.declared.cmp.Ordering.{Ordering}
 use Rattle.pep440_rs.specs.Specifiers.{Spec}
 use Rattle.pep440_sort_key.specs.Keys.{key_bytes}
+use Rattle.pep440_version.specs.Key.{record_cmp}
 use Rattle.pep440_version.specs.Record.{Record}
-use Rattle.pep440_c.specs.Batches.{ArrangesPlaces, IsMark, MeansKeys, MeansPlaced, FirstRefusedText, Sorts, StopsAll, ends_from, placed_cmp, stop_at}
+use Rattle.pep440_c.specs.Batches.{ArrangesPlaces, IsMark, MeansKeys, MeansPlaced, FirstRefusedText, Sorts, StopsAll, ends_from, stop_at}
 use Rattle.pep440_c.specs.Statuses.{Faults}
 use Rattle.pep440_c.specs.declared.texts.Fault.{Fault}
 use Rattle.pep440_c.specs.declared.texts.Fault.TheVariants.{InvalidVersion, InvalidList, NumberAtMax, OutOfMemory}
@@ -30,20 +33,31 @@ each_more {A} Means texts i x found new a inside is means more all =
     ap (map now) (take_more texts i x inside ∙ ap (λ (y : Bor (List ℕ)). take i texts ++ y ∷ []) (sym is)) ∙ map-append now (take i texts) (x ∷ []) in
     subst (λ (l : List (List ℕ)). AllZip Means l new) (sym seen) (subst (λ (l : List A). AllZip Means (map now (take i texts) ++ now x ∷ []) l) (sym more) (all_more Means (map now (take i texts)) found (now x) a all means))
 
+-- what stands in one of two lists has its like in the other
+each_means : (texts : List (List ℕ)) (versions : List Record) → AllZip MeansBytes texts versions → All (λ text. (r : Record) × MeansBytes text r) texts
+each_means [] versions h k d lt = absurd (omega (arith, lt))
+each_means (t ∷ texts) [] h k d lt = absurd h
+each_means (t ∷ texts) (v ∷ versions) h zero d lt = (v, h.0)
+each_means (t ∷ texts) (v ∷ versions) h (suc k) d lt = each_means texts versions h.1 k d (omega (arith, lt))
+
+-- the item at a position
+at_position : {A B : Type 0} (f : A → B) (xs : List A) (i : ℕ) (x : A) → i < length xs → x ≡ get_or xs i x → slice_get (map f xs) i ≡ Some (f x)
+at_position f [] i x inside is = absurd (omega (arith, inside))
+at_position f (y ∷ xs) zero x inside is = ap (λ a. Some (f a)) (sym is)
+at_position f (y ∷ xs) (suc i) x inside is = at_position f xs i x (omega (arith, inside)) is
+
 -- the text at a place is refused, and those before it mean versions
 refused_first : (texts : List (Bor (List ℕ))) (i : ℕ) (x : Bor (List ℕ)) (versions : List Record) → i < length texts → x ≡ get_or texts i x → RefusesBytes x.now
     → AllZip MeansBytes (map (λ t. t.now) (take i texts)) versions → FirstRefusedText (map (λ t. t.now) texts) i
 refused_first texts i x versions inside is why all = record {
-  before = map (λ t. t.now) (take i texts);
-  text = x.now;
-  after = map (λ t. t.now) (drop (i + 1) texts);
-  split = ap (map (λ (t : Bor (List ℕ)). t.now)) (sym (take-append-drop i texts) ∙ ap (λ (l : List (Bor (List ℕ))). take i texts ++ l) (drop_more texts i x inside ∙ ap (λ (y : Bor (List ℕ)). y ∷ drop (i + 1) texts) (sym is)))
-      ∙ map-append (λ (t : Bor (List ℕ)). t.now) (take i texts) (x ∷ drop (i + 1) texts);
-  versions = versions;
-  means = all;
-  refused = why;
-  at = sym (length-map (take i texts) (λ (t : Bor (List ℕ)). t.now) ∙ length-take-le i texts (omega (arith, inside)));
+  refused = rw (at_position (λ t. t.now) texts i x inside is) why;
+  before = subst (λ l. All (λ text. (r : Record) × MeansBytes text r) l) (map_take i texts) (each_means (map (λ t. t.now) (take i texts)) versions all);
 }
+  where
+    map_take : (i : ℕ) (texts : List (Bor (List ℕ))) → map (λ (t : Bor (List ℕ)). t.now) (take i texts) ≡ take i (map (λ (t : Bor (List ℕ)). t.now) texts)
+    map_take zero texts = refl
+    map_take (suc i) [] = refl
+    map_take (suc i) (t ∷ texts) = ap (λ l. t.now ∷ l) (map_take i texts)
 
 -- one more version with its place
 placed_push : (n : ℕ) (xs : List Record) (y : Record) → enumerate_from n (xs ++ y ∷ []) ≡ enumerate_from n xs ++ (n + length xs, y) ∷ []
@@ -88,6 +102,9 @@ marked_more list texts i x marks new m inside is more all =
 -- the places of the versions that the texts mean
 pub sorts : (texts : List (List ℕ)) (pairs : List (ℕ × Record)) (places : List ℕ) → MeansPlaced texts pairs → ArrangesPlaces pairs places → Sorts texts places
 sorts texts pairs places (versions, all, placed) sort_pairs = (versions, all, rw placed at sort_pairs)
+
+abbrev pub placed_cmp : ℕ × Record → ℕ × Record → Ordering
+placed_cmp = on (λ (p : ℕ × Record). p.1) record_cmp
 
 -- the places of what a sort made, where memory was found for them
 pub arranged_if : {V E : Type 0} (view : V → List ℕ) (given sorted : List (ℕ × Record)) (result : Result V E) → IsPermutation given sorted → IsSorted placed_cmp sorted → IsStable placed_cmp given sorted

@@ -1,4 +1,4 @@
--- What each call on one text answers.
+-- What each call on one string returns.
 use Rattle.std.specs.Prelude.{◌≡◌, ◌⊎◌, ℕ, ℤ, pos, negsuc, List, [], Bool, Some, None, length, is_some}
 use Rattle.std.specs.List.{list_any}
 use Rattle.std.specs.Option.{option_map_or}
@@ -30,11 +30,11 @@ IsNormal text bytes = (r : Record) × MeansBytes text r × (bytes ≡ print r)
 abbrev pub IsNormalList : List ℕ → List ℕ → Type 0
 IsNormalList text bytes = (list : List Spec) × MeansListBytes text list × (bytes ≡ list_print list)
 
--- why the text means no version; nothing where it means one
+-- why the string is no version; nothing where it means one
 abbrev pub IsVersionError : List ℕ → List ℕ → Type 0
 IsVersionError text bytes = ((r : Record) × MeansBytes text r × (bytes ≡ [])) ⊎ TellsWhy text bytes
 
--- why the text means no list; nothing where it means one
+-- why the string is no list; nothing where it means one
 abbrev pub IsListError : List ℕ → List ℕ → Type 0
 IsListError text bytes = ((list : List Spec) × MeansListBytes text list × (bytes ≡ [])) ⊎ TellsWhyNoList text bytes
 
@@ -58,13 +58,9 @@ order_number Less = negsuc 0
 order_number Equal = pos 0
 order_number Greater = pos 1
 
--- how the left version stands to the right one
-abbrev pub Orders : List ℕ → List ℕ → Ordering → Type 0
-Orders left right order = (r q : Record) × MeansBytes left r × MeansBytes right q × (order ≡ record_cmp r q)
-
--- the number that says how the left version stands to the right one
+-- the number that says how the left version compares with the right one
 abbrev pub IsOrder : List ℕ → List ℕ → ℤ → Type 0
-IsOrder left right number = (order : Ordering) × Orders left right order × (number ≡ order_number order)
+IsOrder left right number = (r q : Record) × MeansBytes left r × MeansBytes right q × (number ≡ order_number (record_cmp r q))
 
 -- whether the list contains the version
 abbrev pub Contains : List ℕ → List ℕ → Bool → Type 0
@@ -97,7 +93,7 @@ pub record TellsParts (r : Record) (p : Parts) : Type 0 where
   pub has_dev : p.has_dev ≡ flag (is_some r.dev)
   pub has_local : p.has_local ≡ flag (has_local r)
 
--- the parts are told, and the release is put at the front of the caller's numbers, or there are too few; or all stays
+-- the parts are reported, and the release is written at the start of the caller's numbers, or there are too few; or all stays
 abbrev pub PartsAnswer : List ℕ → Parts → Parts → List ℕ → List ℕ → ℕ → Type 0
 PartsAnswer text old parts old_release release status =
     ((r : Record) × MeansBytes text r × TellsParts r parts × PutsFront r.release old_release release status)

@@ -1,8 +1,7 @@
--- What each call on many texts answers. Places count from 0.
-use Rattle.std.specs.Prelude.{◌≡◌, ◌⊎◌, ◌+◌, ℕ, List, [], ◌∷◌, ◌++◌, length, map, if◌then◌else◌, Result, Ok, Err}
-use Rattle.std.specs.List.{AllZip, enumerate_from, flat_map}
+-- What each call on many strings returns. Positions count from 0.
+use Rattle.std.specs.Prelude.{◌≡◌, ◌⊎◌, ◌+◌, ℕ, List, [], ◌∷◌, ◌++◌, length, map, if◌then◌else◌, Result, Ok, Err, IsSomeAnd, slice_get, take}
+use Rattle.std.specs.List.{All, AllZip, enumerate_from, flat_map}
 use Rattle.std.specs.Ordering.{on}
-use Rattle.std.specs.declared.cmp.Ordering.{Ordering}
 use Rattle.pep440_rs.specs.Arrangement.{ArrangesBy}
 use Rattle.pep440_rs.specs.Matching.{list_matches}
 use Rattle.pep440_rs.specs.Specifiers.{Spec}
@@ -22,11 +21,11 @@ use Rattle.pep440_c.specs.Statuses.{Fails, PutsBoth, PutsFront}
 abbrev pub IsMark : List Spec → List ℕ → ℕ → Type 0
 IsMark list text mark = ((r : Record) × MeansBytes text r × (mark ≡ if list_matches list r then 1 else 0)) ⊎ (RefusesBytes text × (mark ≡ 2))
 
--- each text has its mark, in its place
+-- each string has its mark, in its position
 abbrev pub Marks : List ℕ → List (List ℕ) → List ℕ → Type 0
 Marks list_text texts marks = (list : List Spec) × MeansListBytes list_text list × AllZip (IsMark list) texts marks
 
--- the marks are put at the front of the caller's, or there are too few; or all stays
+-- the marks are written at the start of the caller's buffer, or it is too small; or all stays
 abbrev pub FilterMarks : List ℕ → List (List ℕ) → List ℕ → List ℕ → ℕ → Type 0
 FilterMarks list_text texts old marks status =
     ((found : List ℕ) × Marks list_text texts found × PutsFront found old marks status)
@@ -34,34 +33,24 @@ FilterMarks list_text texts old marks status =
 
 -- ---- texts that are all to be versions
 
--- the text at this place is the first that means no version
+-- the string at this position is no version, and each before it is one
 pub record FirstRefusedText (texts : List (List ℕ)) (position : ℕ) : Type 0 where
-  pub before : List (List ℕ)
-  pub text : List ℕ
-  pub after : List (List ℕ)
-  pub split : texts ≡ before ++ (text ∷ after)
-  pub versions : List Record
-  pub means : AllZip MeansBytes before versions
-  pub refused : RefusesBytes text
-  pub at : position ≡ length before
+  pub refused : IsSomeAnd (slice_get texts position) RefusesBytes
+  pub before : All (λ text. (r : Record) × MeansBytes text r) (take position texts)
 
--- the place of the first that means no version is told; or memory ran out
+-- the position of the first that is no version is reported; or memory ran out
 abbrev pub StopsAt : List (List ℕ) → ℕ → ℕ → ℕ → Type 0
 StopsAt texts old_at at status = ((status ≡ 1) × FirstRefusedText texts at) ⊎ ((status ≡ 3) × (at ≡ old_at))
 
--- by version alone
-abbrev pub placed_cmp : ℕ × Record → ℕ × Record → Ordering
-placed_cmp = on (λ (p : ℕ × Record). p.1) record_cmp
-
--- the places of the versions in order: nothing is lost or made, versions never fall, and equal ones stay in the order given
+-- the positions of the versions, which are arranged by version alone
 abbrev pub ArrangesPlaces : List (ℕ × Record) → List ℕ → Type 0
-ArrangesPlaces given places = (sorted : List (ℕ × Record)) × ArrangesBy placed_cmp given sorted × (places ≡ map (λ (p : ℕ × Record). p.0) sorted)
+ArrangesPlaces given places = (sorted : List (ℕ × Record)) × ArrangesBy (on (λ (p : ℕ × Record). p.1) record_cmp) given sorted × (places ≡ map (λ (p : ℕ × Record). p.0) sorted)
 
--- each text means a version, and these are their places in order
+-- each string denotes a version, and these are their positions in order
 abbrev pub Sorts : List (List ℕ) → List ℕ → Type 0
 Sorts texts places = (versions : List Record) × AllZip MeansBytes texts versions × ArrangesPlaces (enumerate_from 0 versions) places
 
--- the places are put at the front of the caller's, or there are too few; or all stays
+-- the positions are written at the start of the caller's buffer, or it is too small; or all stays
 abbrev pub SortAnswer : List (List ℕ) → List ℕ → List ℕ → ℕ → ℕ → ℕ → Type 0
 SortAnswer texts old places old_at at status =
     ((found : List ℕ) × Sorts texts found × PutsFront found old places status × (at ≡ old_at))
@@ -72,11 +61,12 @@ abbrev pub ends_from : ℕ → List Record → List ℕ
 ends_from start [] = []
 ends_from start (r ∷ rest) = (start + length (key_bytes r)) ∷ ends_from (start + length (key_bytes r)) rest
 
--- each text means a version, and these are their sort keys, one after the other, and where each of them ends
+-- each string denotes a version, and these are their sort keys, one after the other, and where each of them ends
 abbrev pub MeansKeys : List (List ℕ) → List ℕ → List ℕ → Type 0
 MeansKeys texts bytes ends = (versions : List Record) × AllZip MeansBytes texts versions × (bytes ≡ flat_map key_bytes versions) × (ends ≡ ends_from 0 versions)
 
--- the keys and their ends are put at the front of the caller's, or there are too few; how many bytes it takes is told. Or all stays
+-- the keys and their ends are written at the start of the caller's buffers, or one is too small; how many bytes it takes is reported. Or
+-- all stays
 abbrev pub KeysAnswer : List (List ℕ) → List ℕ → List ℕ → List ℕ → List ℕ → ℕ → ℕ → ℕ → ℕ → ℕ → Type 0
 KeysAnswer texts old bytes old_ends ends old_written written old_at at status =
     ((found : List ℕ) × (places : List ℕ) × MeansKeys texts found places × (written ≡ length found) × PutsBoth found places old bytes old_ends ends status × (at ≡ old_at))
@@ -92,18 +82,18 @@ abbrev pub GivesAll : {X : Type 0} → List (List ℕ) → (X → Type 0) → Re
 GivesAll texts P (Ok x) = P x
 GivesAll texts P (Err s) = StopsAll texts s
 
--- why the texts are not read, where the one at this place is not
+-- why a batch is rejected, where the string at this position was not read
 abbrev pub stop_at : ℕ → Fault → BatchError
 stop_at position fault.InvalidVersion = stop.InvalidAt position
 stop_at position fault.InvalidList = stop.InvalidAt position
 stop_at position fault.NumberAtMax = stop.InvalidAt position
 stop_at position fault.OutOfMemory = stop.OutOfMemory
 
--- the versions that the texts mean, with their places
+-- the versions that the strings denote, with their positions
 abbrev pub MeansPlaced : List (List ℕ) → List (ℕ × Record) → Type 0
 MeansPlaced texts given = (versions : List Record) × AllZip MeansBytes texts versions × (given ≡ enumerate_from 0 versions)
 
--- the place that was refused is told, and the status
+-- the position that was rejected is reported, and the status
 abbrev pub TellsStop : BatchError → ℕ → ℕ → ℕ → Type 0
 TellsStop (stop.InvalidAt position) old new status = (new ≡ position) × (status ≡ 1)
 TellsStop stop.OutOfMemory old new status = (new ≡ old) × (status ≡ 3)

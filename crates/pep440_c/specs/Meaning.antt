@@ -9,26 +9,26 @@ use Rattle.pep440_version.specs.Grammar.{Derives}
 use Rattle.pep440_version.specs.Record.{Record}
 use Rattle.pep440_version.specs.Refusals.{Refusal, Refuses}
 
--- the bytes are a text that means the version
+-- the bytes are a string that denotes the version
 abbrev pub MeansBytes : List ℕ → Record → Type 0
 MeansBytes bytes r = IsUtf8 bytes × Derives bytes r
 
--- the words say why the bytes mean no version
+-- the words say why the bytes are no version
 abbrev pub TellsWhy : List ℕ → List ℕ → Type 0
 TellsWhy bytes words = ((¬ IsUtf8 bytes) × (words ≡ codes "not UTF-8")) ⊎ (IsUtf8 bytes × (f : Refusal) × Refuses bytes f × (words ≡ refusal_text f))
 
--- the bytes mean no version
+-- the bytes are no version
 abbrev pub RefusesBytes : List ℕ → Type 0
 RefusesBytes bytes = (words : List ℕ) × TellsWhy bytes words
 
--- the bytes are a text that means the list
+-- the bytes are a string that denotes the list
 abbrev pub MeansListBytes : List ℕ → List Spec → Type 0
 MeansListBytes bytes list = IsUtf8 bytes × DerivesList bytes list
 
--- the words say why the bytes mean no list
+-- the words say why the bytes are no list
 abbrev pub TellsWhyNoList : List ℕ → List ℕ → Type 0
 TellsWhyNoList bytes words = ((¬ IsUtf8 bytes) × (words ≡ codes "not UTF-8")) ⊎ (IsUtf8 bytes × (f : PieceRefusal) × RefusesList bytes f × (words ≡ list_refusal_text f bytes))
 
--- the bytes mean no list
+-- the bytes are no list
 abbrev pub RefusesListBytes : List ℕ → Type 0
 RefusesListBytes bytes = (words : List ℕ) × TellsWhyNoList bytes words

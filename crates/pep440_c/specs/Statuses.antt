@@ -1,6 +1,6 @@
 -- How a call ends: its status, and what it leaves in the caller's memory. 0 ok, 1 a version is invalid, 2 a list is invalid, 3 out of
 -- memory, 4 too little room, 5 a bound lies above the greatest number.
-use Rattle.std.specs.Prelude.{◌≡◌, ◌⊎◌, ◌≤◌, ◌<◌, ℕ, Bool, true, false, List, ◌++◌, drop, length, Result, Ok, Err}
+use Rattle.std.specs.Prelude.{◌≡◌, ◌⊎◌, ◌≤◌, ◌<◌, ℕ, Bool, List, ◌++◌, drop, length, Result, Ok, Err, if◌then◌else◌}
 use Rattle.pep440_c.specs.declared.texts.Fault.{Fault}
 use Rattle.pep440_c.specs.declared.texts.Fault.TheVariants as fault
 
@@ -13,8 +13,7 @@ fault_status fault.NumberAtMax = 5
 
 -- a truth value as the number that C gets, 0 or 1 and no other
 abbrev pub flag : Bool → ℕ
-flag true = 1
-flag false = 0
+flag truth = if truth then 1 else 0
 
 -- the number is the truth value of which this holds
 abbrev pub IsFlagOf : (Bool → Type 0) → ℕ → Type 0
@@ -41,7 +40,7 @@ module _ (version list range : Type 0) where
   abbrev pub Puts : {X : Type 0} → (X → Type 0) → X → X → ℕ → Type 0
   Puts P old new status = ((status ≡ 0) × P new) ⊎ ((new ≡ old) × Fails status)
 
--- the items stand at the front of the caller's, and behind them these are as they were; or there are too few, and all stay
+-- the items are written at the start of the caller's buffer, whose rest is unchanged; or it is too small, and unchanged
 abbrev pub PutsFront : {X : Type 0} → List X → List X → List X → ℕ → Type 0
 PutsFront items old new status =
     ((status ≡ 0) × (length items ≤ length old) × (new ≡ items ++ drop (length items) old))
@@ -53,7 +52,8 @@ PutsBoth first second old new old_second new_second status =
     ((status ≡ 0) × (length first ≤ length old) × (length second ≤ length old_second) × (new ≡ first ++ drop (length first) old) × (new_second ≡ second ++ drop (length second) old_second))
     ⊎ ((status ≡ 4) × ((length old < length first) ⊎ (length old_second < length second)) × (new ≡ old) × (new_second ≡ old_second))
 
--- bytes of which this holds are put at the front of the caller's, or there are too few; how many it takes is told. Or all stays
+-- bytes of which this holds are written at the start of the caller's buffer, or it is too small; how many it takes is reported. Or all
+-- stays
 abbrev pub PutsBytes : Type 0 → Type 0 → Type 0 → (List ℕ → Type 0) → List ℕ → List ℕ → ℕ → ℕ → ℕ → Type 0
 PutsBytes version list range P old new old_written written status =
     ((bytes : List ℕ) × P bytes × (written ≡ length bytes) × PutsFront bytes old new status)

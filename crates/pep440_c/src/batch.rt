@@ -1,8 +1,9 @@
-// Many texts in one call.
+// Many strings in one call.
 ghost use Rattle.std.specs.Prelude.{◌≡◌, ◌++◌, ◌∷◌, [], length, map, IfOk};
 ghost use Rattle.std.specs.List.{AllZip};
 ghost use Rattle.pep440_sort_key.specs.Keys.{key_bytes};
-ghost use Rattle.pep440_c.specs.Batches.{ArrangesPlaces, GivesAll, IsMark, Marks, MeansKeys, MeansPlaced, Sorts, TellsStop, placed_cmp, stop_at};
+ghost use Rattle.pep440_version.specs.Key.{record_cmp};
+ghost use Rattle.pep440_c.specs.Batches.{ArrangesPlaces, GivesAll, IsMark, Marks, MeansKeys, MeansPlaced, Sorts, TellsStop, stop_at};
 ghost use Rattle.pep440_c.specs.Meaning.{RefusesListBytes};
 ghost use Rattle.pep440_c.specs.Statuses.{Gives};
 ghost use Rattle.pep440_c.specs.declared.batch.BatchError.TheVariants.{OutOfMemory};
@@ -19,10 +20,10 @@ const MATCH: u8 = 1;
 
 const NOT_A_VERSION: u8 = 2;
 
-/// Why many texts are not read.
+/// Why a batch is rejected.
 #[derive(Clone, Copy, Debug)]
 pub(crate) enum BatchError {
-    /// The text at this place is the first that means no version.
+    /// The string at this position is the first that is no version.
     InvalidAt(usize),
     /// Memory ran out.
     OutOfMemory,
@@ -45,8 +46,8 @@ impl<T: Drop> From<AllocFailed<T>> for BatchError {
 }
 
 impl BatchError {
-    // Why the texts are not read, where the one at this place is not.
-    fn at(position: usize, fault: Fault) -> BatchError
+    // Why a batch is rejected, where the string at this position was not read.
+    fn from_fault(position: usize, fault: Fault) -> BatchError
         ensures { result ≡ stop_at position fault }
     {
         match fault {
@@ -58,7 +59,7 @@ impl BatchError {
     }
 }
 
-// What the list says of the text.
+// What the list says of the string.
 fn mark(alloc: Global, list: &VersionSpecifiers, text: &[u8]) -> Result<u8, AllocError>
     ensures { IfOk result (IsMark list.now text.now) }
 {
@@ -75,8 +76,8 @@ fn mark(alloc: Global, list: &VersionSpecifiers, text: &[u8]) -> Result<u8, Allo
     }
 }
 
-// Of each text, what the list says of it.
-fn marks_of(alloc: Global, list: &VersionSpecifiers, texts: &[&[u8]]) -> Result<Vec<u8>, AllocError>
+// Of each string, what the list says of it.
+fn mark_all(alloc: Global, list: &VersionSpecifiers, texts: &[&[u8]]) -> Result<Vec<u8>, AllocError>
     ensures { IfOk result (λ found. AllZip (IsMark list.now) (map (λ t. t.now) texts.now) found.items) }
 {
     let mut found = Vec::with_capacity(alloc, texts.len())?;
@@ -87,15 +88,15 @@ fn marks_of(alloc: Global, list: &VersionSpecifiers, texts: &[&[u8]]) -> Result<
     Ok(found)
 }
 
-/// Of each text, whether the list contains it.
-pub(crate) fn marks(alloc: Global, list: &[u8], texts: &[&[u8]]) -> Result<Vec<u8>, Fault>
+/// Of each string, whether the list contains it.
+pub(crate) fn filter(alloc: Global, list: &[u8], texts: &[&[u8]]) -> Result<Vec<u8>, Fault>
     ensures { Gives ⊥ (RefusesListBytes list.now) ⊥ (λ found. Marks list.now (map (λ t. t.now) texts.now) found.items) result }
 {
     let specifiers = read_list(alloc, list)?;
-    Ok(marks_of(alloc, &specifiers, texts)?)
+    Ok(mark_all(alloc, &specifiers, texts)?)
 }
 
-// The versions that the texts mean, with their places.
+// The versions that the strings denote, with their places.
 fn read_all(alloc: Global, texts: &[&[u8]]) -> Result<Vec<(usize, Version)>, BatchError>
     ensures { GivesAll (map (λ t. t.now) texts.now) (λ pairs. MeansPlaced (map (λ t. t.now) texts.now) pairs.items) result }
 {
@@ -103,21 +104,21 @@ fn read_all(alloc: Global, texts: &[&[u8]]) -> Result<Vec<(usize, Version)>, Bat
     for (position, text) in texts.iter().enumerate() {
         match read(alloc, text) {
             Ok(version) => pairs.push((position, version))?,
-            Err(fault) => return Err(BatchError::at(position, fault)),
+            Err(fault) => return Err(BatchError::from_fault(position, fault)),
         }
     }
     Ok(pairs)
 }
 
 // By version alone.
-fn by_version(a: &(usize, Version), b: &(usize, Version)) -> Ordering
-    ensures { result ≡ placed_cmp a.now b.now }
+fn cmp_versions(a: &(usize, Version), b: &(usize, Version)) -> Ordering
+    ensures { result ≡ record_cmp a.now.1 b.now.1 }
 {
     a.1.cmp(&b.1)
 }
 
 // The places, without the versions.
-fn places(alloc: Global, pairs: &[(usize, Version)]) -> Result<Vec<usize>, AllocError>
+fn collect_positions(alloc: Global, pairs: &[(usize, Version)]) -> Result<Vec<usize>, AllocError>
     ensures { IfOk result (λ found. found.items ≡ map (λ p. p.0) pairs.now) }
 {
     let mut found = Vec::with_capacity(alloc, pairs.len())?;
@@ -132,12 +133,12 @@ fn sort_pairs(alloc: Global, pairs: Vec<(usize, Version)>) -> Result<Vec<usize>,
     ensures { IfOk result (λ found. ArrangesPlaces pairs.items found.items) }
 {
     let mut sorted = pairs;
-    sorted.sort_by(|a, b| by_version(a, b))?;
-    places(alloc, sorted.as_slice())
+    sorted.sort_by(|a, b| cmp_versions(a, b))?;
+    collect_positions(alloc, sorted.as_slice())
 }
 
-/// The places of the texts in the order of their versions.
-pub(crate) fn sorted(alloc: Global, texts: &[&[u8]]) -> Result<Vec<usize>, BatchError>
+/// The positions of the strings in the order of their versions.
+pub(crate) fn sort(alloc: Global, texts: &[&[u8]]) -> Result<Vec<usize>, BatchError>
     ensures { GivesAll (map (λ t. t.now) texts.now) (λ found. Sorts (map (λ t. t.now) texts.now) found.items) result }
 {
     let pairs = read_all(alloc, texts)?;
@@ -164,7 +165,7 @@ impl Keys {
     }
 }
 
-/// The sort keys of the texts.
+/// The sort keys of the strings.
 pub(crate) fn sort_keys(alloc: Global, texts: &[&[u8]]) -> Result<Keys, BatchError>
     ensures { GivesAll (map (λ t. t.now) texts.now) (λ keys. MeansKeys (map (λ t. t.now) texts.now) keys.bytes.items keys.ends.items) result }
 {
@@ -175,13 +176,13 @@ pub(crate) fn sort_keys(alloc: Global, texts: &[&[u8]]) -> Result<Keys, BatchErr
     for (position, text) in texts.iter().enumerate() {
         match read(alloc, text) {
             Ok(version) => keys.push(alloc, &version)?,
-            Err(fault) => return Err(BatchError::at(position, fault)),
+            Err(fault) => return Err(BatchError::from_fault(position, fault)),
         }
     }
     Ok(keys)
 }
 
-/// Tells the place of the text that is refused, and the status.
+/// Reports the position of the invalid string, and returns the status.
 pub(crate) fn report_batch_error(stop: BatchError, at: &mut usize) -> u8
     ensures { TellsStop stop at.old at.new result }
 {

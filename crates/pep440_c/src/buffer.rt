@@ -1,4 +1,4 @@
-// What is put into the caller's memory.
+// What is written to the caller's memory.
 ghost use Rattle.std.specs.Prelude.{◌≡◌, length, string_bytes};
 ghost use Rattle.pep440_c.specs.Statuses.{PutsBoth, PutsFront, flag};
 ghost use Rattle.pep440_c.specs.Room.{PutsGiven};
@@ -16,7 +16,7 @@ pub(crate) fn flag(truth: bool) -> u8
     if truth { 1 } else { 0 }
 }
 
-/// Puts the items at the front of the caller's, where there are enough of these.
+/// Writes the items at the start of the buffer if it has room.
 pub(crate) fn put<T: Copy>(items: &[T], out: &mut [T]) -> u8
     ensures { PutsFront items.now out.old out.new result }
 {
@@ -27,8 +27,8 @@ pub(crate) fn put<T: Copy>(items: &[T], out: &mut [T]) -> u8
     OK
 }
 
-// The same of bytes, and tells how many they are.
-fn put_counted(bytes: &[u8], out: &mut [u8], written: &mut usize) -> u8
+// The same of bytes, and reports how many they are.
+fn put_and_count(bytes: &[u8], out: &mut [u8], written: &mut usize) -> u8
     ensures counted { written.new ≡ length bytes.now }
     ensures put { PutsFront bytes.now out.old out.new result }
 {
@@ -36,12 +36,13 @@ fn put_counted(bytes: &[u8], out: &mut [u8], written: &mut usize) -> u8
     put(bytes, out)
 }
 
-/// Puts the text that a call gives at the front of the caller's bytes, where there are enough of these, and tells how many it takes.
+/// Writes the string that a call gives at the start of the buffer if it has room, and reports how many bytes it
+/// takes.
 pub(crate) fn put_text(given: Result<String, Fault>, out: &mut [u8], written: &mut usize) -> u8
     ensures { PutsGiven string_bytes given out.old out.new written.old written.new result }
 {
     match given {
-        Ok(text) => put_counted(text.as_bytes(), out, written),
+        Ok(text) => put_and_count(text.as_bytes(), out, written),
         Err(fault) => fault.status(),
     }
 }
@@ -51,12 +52,12 @@ pub(crate) fn put_bytes(given: Result<Vec<u8>, Fault>, out: &mut [u8], written: 
     ensures { PutsGiven (λ bytes. bytes.items) given out.old out.new written.old written.new result }
 {
     match given {
-        Ok(bytes) => put_counted(bytes.as_slice(), out, written),
+        Ok(bytes) => put_and_count(bytes.as_slice(), out, written),
         Err(fault) => fault.status(),
     }
 }
 
-/// Puts bytes and places at the front of the caller's, where there are enough of both.
+/// Writes bytes and positions at the start of the two buffers if both have room.
 pub(crate) fn put_both(bytes: &[u8], places: &[usize], out: &mut [u8], ends: &mut [usize]) -> u8
     ensures { PutsBoth bytes.now places.now out.old out.new ends.old ends.new result }
 {

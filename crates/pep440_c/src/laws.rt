@@ -5,7 +5,7 @@ ghost use Rattle.pep440_version.specs.Record.{Record};
 ghost use Rattle.pep440_c.specs.Answers.{HasNoRange, IsRangeText};
 ghost use Rattle.pep440_c.specs.Meaning.{MeansBytes, MeansListBytes, RefusesBytes, RefusesListBytes, TellsWhy, TellsWhyNoList};
 
-/// Bytes mean one version, or are invalid with one error, and never both.
+/// Bytes denote one version, or are invalid with one error, and never both.
 pub fn versions_once()
     ensures one { (bytes : List ℕ) (r q : Record) → MeansBytes bytes r → MeansBytes bytes q → r ≡ q }
     ensures why { (bytes words others : List ℕ) → TellsWhy bytes words → TellsWhy bytes others → words ≡ others }

@@ -1,4 +1,4 @@
-//! PEP 440 for C: versions and lists of specifiers, as texts in the caller's memory.
+//! PEP 440 for C: versions and lists of specifiers, as strings in the caller's memory.
 //!
 //! A string is bytes and how many there are. No call keeps a pointer, and none has a condition beyond its types. Each returns a status: 0
 //! ok, 1 a version is invalid, 2 a list is invalid, 3 out of memory, 4 too little room, 5 a bound of a range lies above the greatest number.
@@ -37,7 +37,7 @@ pub extern "C" fn pep440_normalize(
 ) -> u8
     ensures { PutsBytes (RefusesBytes text.now) ⊥ ⊥ (IsNormal text.now) out.old out.new written.old written.new result }
 {
-    put_text(texts::normal(alloc, text), out, written)
+    put_text(texts::normalize(alloc, text), out, written)
 }
 
 /// Writes the normal form of the list.
@@ -50,7 +50,7 @@ pub extern "C" fn pep440_normalize_list(
 ) -> u8
     ensures { PutsBytes ⊥ (RefusesListBytes list.now) ⊥ (IsNormalList list.now) out.old out.new written.old written.new result }
 {
-    put_text(texts::normal_list(alloc, list), out, written)
+    put_text(texts::normalize_list(alloc, list), out, written)
 }
 
 /// Writes why the string is no version; nothing where it is one.
@@ -63,7 +63,7 @@ pub extern "C" fn pep440_version_error(
 ) -> u8
     ensures { PutsBytes ⊥ ⊥ ⊥ (IsVersionError text.now) out.old out.new written.old written.new result }
 {
-    put_text(texts::version_error(alloc, text), out, written)
+    put_text(texts::explain_version(alloc, text), out, written)
 }
 
 /// Writes why the string is no list of specifiers; nothing where it is one.
@@ -76,7 +76,7 @@ pub extern "C" fn pep440_list_error(
 ) -> u8
     ensures { PutsBytes ⊥ ⊥ ⊥ (IsListError list.now) out.old out.new written.old written.new result }
 {
-    put_text(texts::list_error(alloc, list), out, written)
+    put_text(texts::explain_list(alloc, list), out, written)
 }
 
 // The number that stands for an order.
@@ -90,13 +90,13 @@ fn order_number(order: Ordering) -> i8
     }
 }
 
-/// How the left version stands to the right one: -1 below, 0 equal, 1 above (PEP 440, "Summary of permitted suffixes and relative
-/// ordering").
+/// How the left version compares with the right one: -1 below, 0 equal, 1 above (PEP 440, "Summary of permitted
+/// suffixes and relative ordering").
 #[unsafe(no_mangle)]
 pub extern "C" fn pep440_compare(alloc: Global, left: &[u8], right: &[u8], order: &mut i8) -> u8
     ensures { Puts (RefusesBytes left.now ⊎ RefusesBytes right.now) ⊥ ⊥ (IsOrder left.now right.now) order.old order.new result }
 {
-    match texts::order(alloc, left, right) {
+    match texts::compare(alloc, left, right) {
         Ok(found) => {
             *order = order_number(found);
             OK
@@ -170,8 +170,8 @@ pub extern "C" fn pep440_parts_of(
     }
 }
 
-/// Writes the sort key of the version: keys stand byte by byte as their versions do (PEP 440, "Summary of permitted suffixes and
-/// relative ordering").
+/// Writes the sort key of the version: `memcmp` orders keys as their versions (PEP 440, "Summary of permitted
+/// suffixes and relative ordering").
 #[unsafe(no_mangle)]
 pub extern "C" fn pep440_sort_key(
     alloc: Global,
@@ -181,7 +181,7 @@ pub extern "C" fn pep440_sort_key(
 ) -> u8
     ensures { PutsBytes (RefusesBytes text.now) ⊥ ⊥ (IsKey text.now) out.old out.new written.old written.new result }
 {
-    put_bytes(texts::key(alloc, text), out, written)
+    put_bytes(texts::make_key(alloc, text), out, written)
 }
 
 /// Writes the range of the list, a segment a line. Status 5 where a bound of it would need a number above the greatest.
@@ -194,7 +194,7 @@ pub extern "C" fn pep440_ranges(
 ) -> u8
     ensures { PutsBytes ⊥ (RefusesListBytes list.now) (HasNoRange list.now) (IsRangeText list.now) out.old out.new written.old written.new result }
 {
-    put_text(texts::range(alloc, list), out, written)
+    put_text(texts::to_range_lines(alloc, list), out, written)
 }
 
 /// Writes a mark for each string, in order: 1 the list contains its version, 0 it doesn't, 2 it is no version.
@@ -202,14 +202,14 @@ pub extern "C" fn pep440_ranges(
 pub extern "C" fn pep440_filter(alloc: Global, list: &[u8], texts: &[&[u8]], marks: &mut [u8]) -> u8
     ensures { FilterMarks list.now (map (λ t. t.now) texts.now) marks.old marks.new result }
 {
-    match batch::marks(alloc, list, texts) {
+    match batch::filter(alloc, list, texts) {
         Ok(found) => put(found.as_slice(), marks),
         Err(fault) => fault.status(),
     }
 }
 
-/// Writes the places of the texts in the order of their versions, equal ones in the order given. With status 1 `at` is the place of the
-/// first that is no version.
+/// Writes the positions of the strings in the order of their versions, equal ones in the order given. With status 1
+/// `at` is the position of the first that is no version.
 #[unsafe(no_mangle)]
 pub extern "C" fn pep440_sort(
     alloc: Global,
@@ -219,13 +219,13 @@ pub extern "C" fn pep440_sort(
 ) -> u8
     ensures { SortAnswer (map (λ t. t.now) texts.now) places.old places.new at.old at.new result }
 {
-    match batch::sorted(alloc, texts) {
+    match batch::sort(alloc, texts) {
         Ok(found) => put(found.as_slice(), places),
         Err(stop) => batch::report_batch_error(stop, at),
     }
 }
 
-/// Writes the sort keys of the texts, one after the other, and where each of them ends. `at` as above.
+/// Writes the sort keys of the strings, one after the other, and where each of them ends. `at` as above.
 #[unsafe(no_mangle)]
 pub extern "C" fn pep440_sort_keys(
     alloc: Global,

@@ -1,9 +1,9 @@
-// Bytes read as versions and as lists, and why they mean none.
+// Bytes parsed as versions and as lists, and why they are none.
 ghost use Rattle.std.specs.Prelude.{◌≡◌, ◌⊎◌, is_none, string_bytes};
 ghost use Rattle.std.specs.List.{list_any};
 ghost use Rattle.pep440_rs.specs.Matching.{any_prerelease};
 ghost use Rattle.pep440_rs.specs.Specifiers.{Spec};
-ghost use Rattle.pep440_c.specs.Answers.{Contains, HasNoRange, IsKey, IsListError, IsNormal, IsNormalList, IsRangeText, IsVersionError, NamesPrerelease, Orders, RefusesSecond};
+ghost use Rattle.pep440_c.specs.Answers.{Contains, HasNoRange, IsKey, IsListError, IsNormal, IsNormalList, IsOrder, IsRangeText, IsVersionError, NamesPrerelease, RefusesSecond, order_number};
 ghost use Rattle.pep440_c.specs.Meaning.{MeansBytes, MeansListBytes, RefusesBytes, RefusesListBytes};
 ghost use Rattle.pep440_c.specs.Statuses.{Gives, fault_status};
 ghost use Rattle.pep440_c.specs.declared.texts.Fault.TheVariants.{OutOfMemory};
@@ -69,7 +69,7 @@ fn is_out_of_memory(kind: &ErrorKind) -> bool
     matches!(kind, ErrorKind::OutOfMemory)
 }
 
-/// The version that the bytes mean.
+/// The version that the bytes denote.
 pub(crate) fn read(alloc: Global, bytes: &[u8]) -> Result<Version, Fault>
     ensures { Gives (RefusesBytes bytes.now) ⊥ ⊥ (MeansBytes bytes.now) result }
 {
@@ -87,7 +87,7 @@ pub(crate) fn read(alloc: Global, bytes: &[u8]) -> Result<Version, Fault>
     }
 }
 
-/// The list that the bytes mean.
+/// The list that the bytes denote.
 pub(crate) fn read_list(alloc: Global, bytes: &[u8]) -> Result<VersionSpecifiers, Fault>
     ensures { Gives ⊥ (RefusesListBytes bytes.now) ⊥ (MeansListBytes bytes.now) result }
 {
@@ -105,8 +105,8 @@ pub(crate) fn read_list(alloc: Global, bytes: &[u8]) -> Result<VersionSpecifiers
     }
 }
 
-/// Why the bytes mean no version; empty where they mean one.
-pub(crate) fn version_error(alloc: Global, bytes: &[u8]) -> Result<String, Fault>
+/// Why the bytes are no version; empty where they are one.
+pub(crate) fn explain_version(alloc: Global, bytes: &[u8]) -> Result<String, Fault>
     ensures { Gives ⊥ ⊥ ⊥ (λ words. IsVersionError bytes.now (string_bytes words)) result }
 {
     let Ok(text) = std::str::from_utf8(bytes) else {
@@ -123,8 +123,8 @@ pub(crate) fn version_error(alloc: Global, bytes: &[u8]) -> Result<String, Fault
     }
 }
 
-/// Why the bytes mean no list; empty where they mean one.
-pub(crate) fn list_error(alloc: Global, bytes: &[u8]) -> Result<String, Fault>
+/// Why the bytes are no list; empty where they are one.
+pub(crate) fn explain_list(alloc: Global, bytes: &[u8]) -> Result<String, Fault>
     ensures { Gives ⊥ ⊥ ⊥ (λ words. IsListError bytes.now (string_bytes words)) result }
 {
     let Ok(text) = std::str::from_utf8(bytes) else {
@@ -142,7 +142,7 @@ pub(crate) fn list_error(alloc: Global, bytes: &[u8]) -> Result<String, Fault>
 }
 
 /// The normal form of a version.
-pub(crate) fn normal(alloc: Global, bytes: &[u8]) -> Result<String, Fault>
+pub(crate) fn normalize(alloc: Global, bytes: &[u8]) -> Result<String, Fault>
     ensures { Gives (RefusesBytes bytes.now) ⊥ ⊥ (λ text. IsNormal bytes.now (string_bytes text)) result }
 {
     let version = read(alloc, bytes)?;
@@ -150,16 +150,16 @@ pub(crate) fn normal(alloc: Global, bytes: &[u8]) -> Result<String, Fault>
 }
 
 /// The normal form of a list.
-pub(crate) fn normal_list(alloc: Global, bytes: &[u8]) -> Result<String, Fault>
+pub(crate) fn normalize_list(alloc: Global, bytes: &[u8]) -> Result<String, Fault>
     ensures { Gives ⊥ (RefusesListBytes bytes.now) ⊥ (λ text. IsNormalList bytes.now (string_bytes text)) result }
 {
     let list = read_list(alloc, bytes)?;
     Ok(list.to_string(alloc)?)
 }
 
-/// How the left version stands to the right one.
-pub(crate) fn order(alloc: Global, left: &[u8], right: &[u8]) -> Result<Ordering, Fault>
-    ensures { Gives (RefusesBytes left.now ⊎ RefusesBytes right.now) ⊥ ⊥ (Orders left.now right.now) result }
+/// How the left version compares with the right one.
+pub(crate) fn compare(alloc: Global, left: &[u8], right: &[u8]) -> Result<Ordering, Fault>
+    ensures { Gives (RefusesBytes left.now ⊎ RefusesBytes right.now) ⊥ ⊥ (λ order. IsOrder left.now right.now (order_number order)) result }
 {
     let first = read(alloc, left)?;
     let second = read(alloc, right)?;
@@ -191,7 +191,7 @@ pub(crate) fn any_prerelease(alloc: Global, list: &[u8]) -> Result<bool, Fault>
 }
 
 /// The sort key of a version.
-pub(crate) fn key(alloc: Global, bytes: &[u8]) -> Result<Vec<u8>, Fault>
+pub(crate) fn make_key(alloc: Global, bytes: &[u8]) -> Result<Vec<u8>, Fault>
     ensures { Gives (RefusesBytes bytes.now) ⊥ ⊥ (λ key. IsKey bytes.now key.items) result }
 {
     let version = read(alloc, bytes)?;
@@ -199,7 +199,7 @@ pub(crate) fn key(alloc: Global, bytes: &[u8]) -> Result<Vec<u8>, Fault>
 }
 
 /// The range of a list, a segment a line.
-pub(crate) fn range(alloc: Global, list: &[u8]) -> Result<String, Fault>
+pub(crate) fn to_range_lines(alloc: Global, list: &[u8]) -> Result<String, Fault>
     ensures { Gives ⊥ (RefusesListBytes list.now) (HasNoRange list.now) (λ text. IsRangeText list.now (string_bytes text)) result }
 {
     let specifiers = read_list(alloc, list)?;

@@ -5,15 +5,11 @@ use Rattle.std.proofs.lemmas.List.Folds.{list_all-append}
 use Rattle.std.proofs.lemmas.Str.{IsCharBoundary-after_ascii, IsUtf8-drop}
 use Rattle.std.specs.Char.{is_ascii_whitespace}
 use Rattle.std.specs.List.{list_all}
-use Rattle.std.specs.Prelude.{IsErrAnd}
 use Rattle.std.specs.Str.{IsUtf8}
 use Rattle.pep440_rs.specs.ListGrammar.{pieces}
 use Rattle.pep440_pick.specs.Names.{is_name}
 use Rattle.pep440_pick.specs.RequirementGrammar.{opens, trim_blanks}
-use Rattle.pep440_pick.specs.RequirementReading.{bracketed, split_at_byte, extras_at, extras_in, names_in}
-use Rattle.pep440_pick.specs.Requirements.{ExtrasGive}
-use Rattle.pep440_pick.specs.declared.error.RequirementError.{RequirementError}
-use Rattle.pep440_pick.specs.declared.error.RequirementError.TheVariants.{InvalidExtras, OutOfMemory}
+use Rattle.pep440_pick.specs.RequirementReading.{bracketed, split_at_byte, extras_at, extras_in, listed_extras}
 use Rattle.pep440_pick.proofs.Splitting.{HasNo, first, later}
 
 -- a text without a comma is one piece
@@ -26,77 +22,62 @@ pieces_split : (p q : List ℕ) → HasNo 44 p → pieces (p ++ (44 ∷ q)) ≡ 
 pieces_split [] q none = refl
 pieces_split (b ∷ p) q none = rw (first 44 b p none, pieces_split p q (later 44 b p none)) refl
 
--- the pieces that are left, after those whose names were found
-pub record Kept (left all names : List (List ℕ)) : Type 0 where
-  pub done : List (List ℕ)
-  pub split : all ≡ done ++ left
-  pub found : names ≡ map trim_blanks done
-  pub valid : list_all is_name names ≡ true
+-- the piece before a comma, and those behind it
+pub next_piece : (rest part behind : List ℕ) → rest ≡ part ++ (44 ∷ behind) → HasNo 44 part → pieces rest ≡ part ∷ pieces behind
+next_piece rest part behind e none = ap pieces e ∙ pieces_split part behind none
 
-pub kept_none : (all : List (List ℕ)) → Kept all all []
-kept_none all = record { done = []; split = refl; found = refl; valid = refl }
+-- ---- whether the pieces are names
 
-true_and : (a b : Bool) → a ≡ true → b ≡ true → (a && (b && true)) ≡ true
-true_and a b e f = rw (e, f) refl
+pub names_after : (rest part behind : List ℕ) → rest ≡ part ++ (44 ∷ behind) → HasNo 44 part → is_name (trim_blanks part) ≡ true
+    → list_all is_name (map trim_blanks (pieces rest)) ≡ list_all is_name (map trim_blanks (pieces behind))
+names_after rest part behind e none is = rw (next_piece rest part behind e none, is) refl
 
-false_last : (a b c : Bool) → b ≡ false → (a && (b && c)) ≡ false
-false_last true b c f = rw f refl
-false_last false b c f = refl
+pub no_name_before : (rest part behind : List ℕ) → rest ≡ part ++ (44 ∷ behind) → HasNo 44 part → is_name (trim_blanks part) ≡ false → list_all is_name (map trim_blanks (pieces rest)) ≡ false
+no_name_before rest part behind e none is = rw (next_piece rest part behind e none, is) refl
 
-more_valid : (names : List (List ℕ)) (name : List ℕ) → list_all is_name names ≡ true → is_name name ≡ true → list_all is_name (names ++ name ∷ []) ≡ true
-more_valid names name e f = list_all-append is_name names (name ∷ []) ∙ true_and (list_all is_name names) (is_name name) e f
+and_true : (b : Bool) → (b && true) ≡ b
+and_true true = refl
+and_true false = refl
 
-kept_step : (left later all names new : List (List ℕ)) (part : List ℕ) → left ≡ part ∷ later → is_name (trim_blanks part) ≡ true → new ≡ names ++ trim_blanks part ∷ [] → Kept left all names → Kept later all new
-kept_step left later all names new part decomposition is more k = record {
-  done = k.done ++ part ∷ [];
-  split = k.split ∙ ap (λ (l : List (List ℕ)). k.done ++ l) decomposition ∙ sym (append_assoc k.done (part ∷ []) later);
-  found = more ∙ ap (λ (l : List (List ℕ)). l ++ trim_blanks part ∷ []) k.found ∙ sym (map-append trim_blanks k.done (part ∷ []));
-  valid = ap (list_all is_name) more ∙ more_valid names (trim_blanks part) k.valid is;
-}
+pub last_name : (rest : List ℕ) → HasNo 44 rest → list_all is_name (map trim_blanks (pieces rest)) ≡ is_name (trim_blanks rest)
+last_name rest none = rw (pieces_whole rest none) (and_true (is_name (trim_blanks rest)))
 
--- a name before a comma
-pub kept_more : (rest part behind : List ℕ) (all names new : List (List ℕ)) → rest ≡ part ++ (44 ∷ behind) → HasNo 44 part → is_name (trim_blanks part) ≡ true → new ≡ names ++ trim_blanks part ∷ []
-    → Kept (pieces rest) all names → Kept (pieces behind) all new
-kept_more rest part behind all names new decomposition none is more k =
-    kept_step (pieces rest) (pieces behind) all names new part (ap pieces decomposition ∙ pieces_split part behind none) is more k
+-- ---- copies of the pieces
 
-names_read : (all names : List (List ℕ)) → Kept [] all names → names_in all ≡ Some names
-names_read all names k =
-    let same : map trim_blanks all ≡ names = ap (map trim_blanks) (k.split ∙ append-nil k.done) ∙ sym k.found in
-    rw (same, k.valid) refl
+-- the copies so far, before what is left
+abbrev pub AreCopied : List (List ℕ) → List ℕ → List ℕ → Type 0
+AreCopied copies rest inside = copies ++ map trim_blanks (pieces rest) ≡ map trim_blanks (pieces inside)
 
--- the last name
-pub kept_last : (inside rest : List ℕ) (names new : List (List ℕ)) → HasNo 44 rest → is_name (trim_blanks rest) ≡ true → new ≡ names ++ trim_blanks rest ∷ []
-    → Kept (pieces rest) (pieces inside) names → names_in (pieces inside) ≡ Some new
-kept_last inside rest names new none is more k =
-    names_read (pieces inside) new (kept_step (pieces rest) [] (pieces inside) names new rest (pieces_whole rest none) is more k)
+pub copied_more : (copies new : List (List ℕ)) (rest part behind inside : List ℕ) → rest ≡ part ++ (44 ∷ behind) → HasNo 44 part → new ≡ copies ++ trim_blanks part ∷ []
+    → AreCopied copies rest inside → AreCopied new behind inside
+copied_more copies new rest part behind inside e none more so_far =
+    ap (λ (l : List (List ℕ)). l ++ map trim_blanks (pieces behind)) more ∙ append_assoc copies (trim_blanks part ∷ []) (map trim_blanks (pieces behind))
+    ∙ ap (λ (ps : List (List ℕ)). copies ++ map trim_blanks ps) (sym (next_piece rest part behind e none)) ∙ so_far
 
-refused_at : (left later all names : List (List ℕ)) (part : List ℕ) → left ≡ part ∷ later → is_name (trim_blanks part) ≡ false → Kept left all names → names_in all ≡ None
-refused_at left later all names part decomposition is k =
-    let split : map trim_blanks all ≡ map trim_blanks k.done ++ (trim_blanks part ∷ map trim_blanks later) =
-    ap (map trim_blanks) (k.split ∙ ap (λ (l : List (List ℕ)). k.done ++ l) decomposition) ∙ map-append trim_blanks k.done (part ∷ later) in
-    let none : list_all is_name (map trim_blanks all) ≡ false =
-    ap (list_all is_name) split ∙ list_all-append is_name (map trim_blanks k.done) (trim_blanks part ∷ map trim_blanks later)
-    ∙ false_last (list_all is_name (map trim_blanks k.done)) (is_name (trim_blanks part)) (list_all is_name (map trim_blanks later)) is in
-    rw none refl
+pub copied_last : (copies new : List (List ℕ)) (rest inside : List ℕ) → HasNo 44 rest → new ≡ copies ++ trim_blanks rest ∷ [] → AreCopied copies rest inside → new ≡ map trim_blanks (pieces inside)
+copied_last copies new rest inside none more so_far = more ∙ ap (λ (ps : List (List ℕ)). copies ++ map trim_blanks ps) (sym (pieces_whole rest none)) ∙ so_far
 
--- a piece before a comma that is none
-pub kept_refused : (inside rest part behind : List ℕ) (names : List (List ℕ)) → rest ≡ part ++ (44 ∷ behind) → HasNo 44 part → is_name (trim_blanks part) ≡ false
-    → Kept (pieces rest) (pieces inside) names → names_in (pieces inside) ≡ None
-kept_refused inside rest part behind names decomposition none is k =
-    refused_at (pieces rest) (pieces behind) (pieces inside) names part (ap pieces decomposition ∙ pieces_split part behind none) is k
+pub listed : (inside : List ℕ) (copies : List (List ℕ)) → list_all is_ascii_whitespace inside ≡ false → copies ≡ map trim_blanks (pieces inside) → copies ≡ listed_extras inside
+listed inside copies some is = is ∙ ap (λ (b : Bool). cond b [] (map trim_blanks (pieces inside))) (sym some)
 
--- the last piece is none
-pub last_refused : (inside rest : List ℕ) (names : List (List ℕ)) → HasNo 44 rest → is_name (trim_blanks rest) ≡ false → Kept (pieces rest) (pieces inside) names → names_in (pieces inside) ≡ None
-last_refused inside rest names none is k = refused_at (pieces rest) [] (pieces inside) names rest (pieces_whole rest none) is k
+-- ---- what stands in brackets
 
 pub no_extras : (inside : List ℕ) → list_all is_ascii_whitespace inside ≡ true → extras_in inside ≡ Some []
 unfolding extras_in
 no_extras inside e = rw e refl
 
-pub some_extras : (inside : List ℕ) → list_all is_ascii_whitespace inside ≡ false → extras_in inside ≡ names_in (pieces inside)
+pub some_extras : (inside : List ℕ) → list_all is_ascii_whitespace inside ≡ false
+    → extras_in inside ≡ cond (list_all is_name (map trim_blanks (pieces inside))) (Some (map trim_blanks (pieces inside))) None
 unfolding extras_in
 some_extras inside e = rw e refl
+
+pub extras_known : (inside : List ℕ) → list_all is_name (listed_extras inside) ≡ true → extras_in inside ≡ Some (listed_extras inside)
+unfolding extras_in
+extras_known inside e = rw e refl
+
+pub extras_unknown : (inside : List ℕ) → list_all is_name (listed_extras inside) ≡ false → extras_in inside ≡ None
+unfolding extras_in
+extras_unknown inside e = rw e refl
 
 -- what follows a comma is text
 at_seam : (prefix : List ℕ) (b : ℕ) (behind : List ℕ) → get_or (prefix ++ (b ∷ behind)) (length prefix) 0 ≡ b
@@ -153,11 +134,3 @@ closed_some text tail inside behind extras e is found = closed text tail inside 
 
 pub closed_none : (text tail inside behind : List ℕ) → Some tail ≡ cond (opens 91 text) (Some (drop 1 text)) None → Some (inside, behind) ≡ split_at_byte 93 tail → extras_in inside ≡ None → extras_at text ≡ None
 closed_none text tail inside behind e is none = closed text tail inside behind e is ∙ ap (option_map (λ x. (x, behind))) none
-
--- ---- refusals that are passed on
-
-pub passed_on : {X A : Type 0} (view : X → A) (read : Option A) (P : Type 0) (e : RequirementError) (result : Result X RequirementError) → ((e ≡ InvalidExtras) × P) ⊎ (e ≡ OutOfMemory) → (P → read ≡ None)
-    → IsErrAnd result (λ x. x ≡ e) → ExtrasGive view result read
-passed_on view read P e (Ok x) given none never = absurd never
-passed_on view read P e (Err x) (inl h) none same = inl (same ∙ h.0, none h.1)
-passed_on view read P e (Err x) (inr h) none same = inr (same ∙ h)

@@ -18,7 +18,7 @@ use Rattle.pep440_rs.specs.declared.range.error.RangeError.TheVariants.{NumberAt
 use Rattle.pep440_rs.proofs.Agreement.ListRanges.{holds_in_each, refused_by_a_member}
 use Rattle.pep440_version.specs.Key.{record_cmp}
 use Rattle.pep440_version.specs.Record.{Record}
-use Rattle.pep440_pick.specs.Allowed.{HoldsAllowed, lists_of, some_refused}
+use Rattle.pep440_pick.specs.Allowed.{HoldsAllowed, lists_of}
 use Rattle.pep440_pick.specs.RequirementGrammar.{Needed}
 
 abbrev pub joined : List (List Spec) → List Spec
@@ -93,6 +93,9 @@ out_in list = go (list_range range_of list) refl
           absurd (some_none range (list_range range_of list) e ((refused_by_a_member range_of list).1 (k, m, inside, is, out_none (range_of m.operator m.version) out)))
       | inr f ↦ ap is_none e ∙ sym f
     ]
+
+abbrev some_refused : List (List Spec) → Bool
+some_refused lists = list_any (λ list. is_none (list_range range_of list)) lists
 
 out_of_lists : (lists : List (List Spec)) → list_any (λ list. list_any is_out list) lists ≡ some_refused lists
 out_of_lists [] = refl

@@ -13,19 +13,19 @@ use Rattle.pep440_version.specs.Key.{record_cmp}
 use Rattle.pep440_version.specs.KeyLaws.{record_total}
 use Rattle.pep440_version.specs.Record.{Record}
 use Rattle.pep440_pick.specs.Newest.{IsNewest, Newest, all_contain}
-use Rattle.pep440_pick.specs.RequirementGrammar.{DerivesRequirement, Front, HasFront, Needed, RefusesRequirement, RequirementRefusal, Specifiers}
-use Rattle.pep440_pick.specs.RequirementReading.{read_prefix}
+use Rattle.pep440_pick.specs.RequirementGrammar.{DerivesRequirement, HasFront, Needed, RefusesRequirement, RequirementRefusal, Specifiers}
+use Rattle.pep440_pick.specs.RequirementReading.{Front, read_prefix}
 use Rattle.pep440_pick.proofs.Tells.{FrontTells, prefix_only, prefix_tells}
-use Rattle.pep440_pick.proofs.Whole.{prefix_err_decided, parts_of, refusal_of_list, told_prefix}
+use Rattle.pep440_pick.proofs.Whole.{front, prefix_err_decided, parts_of, refusal_of_list, told_prefix}
 
 -- ---- requirements
 
 abbrev Outcome : List ℕ → Type 0
 Outcome text = ((n : Needed) × DerivesRequirement text n) ⊎ ((f : RequirementRefusal) × RefusesRequirement text f)
 
-with_prefix : (text : List ℕ) (prefix : Front) → HasFront text prefix → ((list : List Spec) × DerivesList prefix.list list) ⊎ ((p : PieceRefusal) × RefusesList prefix.list p) → Outcome text
-with_prefix text prefix has (inl (list, d)) = inl (record { name = prefix.name; extras = prefix.extras; specifiers = list }, (prefix, has, refl, refl, d))
-with_prefix text prefix has (inr (p, r)) = inr (Specifiers prefix.list p, (prefix, has, refl, r))
+with_prefix : (text : List ℕ) (prefix : Front) → HasFront text prefix.name prefix.extras prefix.list → ((list : List Spec) × DerivesList prefix.list list) ⊎ ((p : PieceRefusal) × RefusesList prefix.list p) → Outcome text
+with_prefix text prefix has (inl (list, d)) = inl (record { name = prefix.name; extras = prefix.extras; specifiers = list }, (prefix.list, has, d))
+with_prefix text prefix has (inr (p, r)) = inr (Specifiers prefix.list p, (prefix.name, prefix.extras, has, r))
 
 pub either_requirement : (text : List ℕ) → Outcome text
 either_requirement text = go (read_prefix text) (prefix_tells text)
@@ -35,15 +35,17 @@ either_requirement text = go (read_prefix text) (prefix_tells text)
     go (Err f) h = inr (f, told_prefix text f h)
 
 pub one_requirement : (text : List ℕ) (n m : Needed) → DerivesRequirement text n → DerivesRequirement text m → n ≡ m
-one_requirement text n m (prefix, has, name, extras, list) d =
-    let parts = parts_of text prefix (prefix_only text prefix has) m d in
-    let same : n.specifiers ≡ m.specifiers = one_list prefix.list n.specifiers m.specifiers list parts.2 in
-    λ i. record { name = (name ∙ sym parts.0) i; extras = (extras ∙ sym parts.1) i; specifiers = same i }
+one_requirement text n m (list, has, derives) d =
+    let f = front n.name n.extras list in
+    let parts = parts_of text f (prefix_only text f has) m d in
+    let same : n.specifiers ≡ m.specifiers = one_list list n.specifiers m.specifiers derives parts.2 in
+    λ i. record { name = sym parts.0 i; extras = sym parts.1 i; specifiers = same i }
 
 pub not_both_requirement : (text : List ℕ) (n : Needed) (f : RequirementRefusal) → DerivesRequirement text n → RefusesRequirement text f → ⊥
-not_both_requirement text n f (prefix, has, name, extras, list) r =
+not_both_requirement text n f (list, has, derives) r =
+    let prefix = front n.name n.extras list in
     let piece = refusal_of_list text prefix (prefix_only text prefix has) f r in
-    not_both_list prefix.list n.specifiers piece.0 list piece.2
+    not_both_list list n.specifiers piece.0 derives piece.2
 
 pub one_refusal : (text : List ℕ) (f g : RequirementRefusal) → RefusesRequirement text f → RefusesRequirement text g → f ≡ g
 one_refusal text f g r s = go (read_prefix text) refl

@@ -8,8 +8,8 @@ use Rattle.pep440_version.proofs.Reading.Prefixes.{lead-all, lead-run, past-run,
 use Rattle.pep440_version.proofs.Reading.ReadIsDerived.{split}
 use Rattle.pep440_rs.specs.SpecifierGrammar.{IsRun}
 use Rattle.pep440_pick.specs.Names.{is_name, is_name_byte}
-use Rattle.pep440_pick.specs.RequirementGrammar.{RequirementParts, Front, HasExtras, HasFront, HasList, HasNoMarkerOrUrl, RefusesRequirement, RequirementRefusal, InvalidExtras, InvalidName, Marker, Specifiers, Unclosed, Url, has_byte, trim_blanks}
-use Rattle.pep440_pick.specs.RequirementReading.{behind_name, extras_at, list_in, name_of, prefix_after_name, read_prefix, with_extras, with_list}
+use Rattle.pep440_pick.specs.RequirementGrammar.{RequirementParts, HasExtras, HasFront, HasList, HasNoMarkerOrUrl, RefusesRequirement, RequirementRefusal, InvalidExtras, InvalidName, Marker, Specifiers, Unclosed, Url, has_byte, trim_blanks}
+use Rattle.pep440_pick.specs.RequirementReading.{Front, behind_name, extras_at, list_in, name_of, prefix_after_name, read_prefix, with_extras, with_list}
 use Rattle.pep440_pick.proofs.Prefixes.{is_named, not_named}
 use Rattle.pep440_pick.proofs.Parts.{brackets_complete, brackets_sound, list_complete, list_sound}
 
@@ -54,7 +54,7 @@ split_read text c =
 -- ---- reading says what the grammar says
 
 abbrev pub FrontTells : List ℕ → Result Front RequirementRefusal → Type 0
-FrontTells text (Ok f) = HasFront text f
+FrontTells text (Ok f) = HasFront text f.name f.extras f.list
 FrontTells text (Err Marker) = RefusesRequirement text Marker
 FrontTells text (Err Url) = RefusesRequirement text Url
 FrontTells text (Err InvalidName) = RefusesRequirement text InvalidName
@@ -65,7 +65,7 @@ FrontTells text (Err (Specifiers list f)) = ⊥
 module _ (text : List ℕ) (plain : HasNoMarkerOrUrl text) where
   at_list : (c : RequirementParts text) → is_name c.name ≡ true → (extras : List (List ℕ)) (behind : List ℕ) → HasExtras c.rest extras behind → (o : Option (List ℕ)) → list_in (trim_blanks behind) ≡ o
       → FrontTells text (with_list c.name extras o)
-  at_list c is extras behind has (Some list) e = record { plain = plain; decomposition = c; name = refl; prefix_after_name = is; behind = behind; extras = has; list = list_sound behind list e }
+  at_list c is extras behind has (Some list) e = record { plain = plain; decomposition = c; named = refl; prefix_after_name = is; behind = behind; has_extras = has; has_list = list_sound behind list e }
   at_list c is extras behind has None e = (plain, (c, is, (extras, behind, has, λ list h. some_none list (sym (list_complete behind list h) ∙ e))))
     where
       some_none : (x : List ℕ) → Some x ≡ None → ⊥
@@ -114,10 +114,10 @@ prefix_tells text = elim (cases_Bool (has_byte 59 text)) [
 
 -- ---- what the grammar says is what reading gives
 
-pub prefix_only : (text : List ℕ) (f : Front) → HasFront text f → read_prefix text ≡ Ok f
+pub prefix_only : (text : List ℕ) (f : Front) → HasFront text f.name f.extras f.list → read_prefix text ≡ Ok f
 prefix_only text f h =
-    read_by_split text h.plain h.decomposition ∙ is_named h.decomposition.name h.decomposition.rest h.prefix_after_name ∙ ap (with_extras h.decomposition.name) (brackets_complete h.decomposition.rest f.extras h.behind h.extras)
-    ∙ ap (with_list h.decomposition.name f.extras) (list_complete h.behind f.list h.list) ∙ (λ i. Ok (record { name = sym h.name i; extras = f.extras; list = f.list }))
+    read_by_split text h.plain h.decomposition ∙ is_named h.decomposition.name h.decomposition.rest h.prefix_after_name ∙ ap (with_extras h.decomposition.name) (brackets_complete h.decomposition.rest f.extras h.behind h.has_extras)
+    ∙ ap (with_list h.decomposition.name f.extras) (list_complete h.behind f.list h.has_list) ∙ (λ i. Ok (record { name = sym h.named i; extras = f.extras; list = f.list }))
 
 no_list : (behind : List ℕ) → ((list : List ℕ) → HasList behind list → ⊥) → (o : Option (List ℕ)) → list_in (trim_blanks behind) ≡ o → o ≡ None
 no_list behind none None e = refl

@@ -6,10 +6,13 @@ use Rattle.pep440_rs.specs.ListGrammar.{DerivesList, PieceRefusal, RefusesList}
 use Rattle.pep440_rs.specs.Specifiers.{Spec}
 use Rattle.pep440_pick.specs.Allowed.{lists_of}
 use Rattle.pep440_pick.specs.Names.{same_name}
-use Rattle.pep440_pick.specs.RequirementGrammar.{DerivesRequirement, Front, HasFront, Needed, RefusesRequirement, RequirementRefusal, InvalidExtras, InvalidName, Marker, Specifiers, Unclosed, Url}
-use Rattle.pep440_pick.specs.RequirementReading.{read_prefix}
+use Rattle.pep440_pick.specs.RequirementGrammar.{DerivesRequirement, HasFront, Needed, RefusesRequirement, RequirementRefusal, InvalidExtras, InvalidName, Marker, Specifiers, Unclosed, Url}
+use Rattle.pep440_pick.specs.RequirementReading.{Front, read_prefix}
 use Rattle.pep440_pick.specs.Requirements.{IsOfList}
 use Rattle.pep440_pick.proofs.Tells.{FrontTells, prefix_only, prefix_refused, prefix_tells}
+
+abbrev pub front : List ℕ → List (List ℕ) → List ℕ → Front
+front name extras list = record { name = name; extras = extras; list = list }
 
 abbrev pub ok_of : Needed → Result Needed RequirementRefusal
 ok_of n = Ok n
@@ -41,7 +44,7 @@ never r x y e h = absurd (apart e h)
 
 module _ (text : List ℕ) (o : Option RequirementRefusal) (given : IfSome o (λ f. read_prefix text ≡ Err f)) where
   pub prefix_err_only : (n : Needed) → DerivesRequirement text n → IfSome o (λ f. ok_of n ≡ Err f)
-  prefix_err_only n (prefix, has, name, extras, list) = IfSome_then o given (λ f e. never (read_prefix text) prefix f (prefix_only text prefix has) e)
+  prefix_err_only n (list, has, derives) = let f = front n.name n.extras list in IfSome_then o given (λ g e. never (read_prefix text) f g (prefix_only text f has) e)
 
   pub prefix_err_refused : IfSome o (RefusesRequirement text)
   prefix_err_refused = IfSome_then o given (λ f e. told_prefix text f (subst (FrontTells text) e (prefix_tells text)))
@@ -55,21 +58,22 @@ module _ (text : List ℕ) (o : Option RequirementRefusal) (given : IfSome o (λ
   prefix_err_decided InvalidName h = IfSome_then o given (λ g e. same_err InvalidName g (prefix_refused text InvalidName tt h) e)
   prefix_err_decided InvalidExtras h = IfSome_then o given (λ g e. same_err InvalidExtras g (prefix_refused text InvalidExtras tt h) e)
   prefix_err_decided Unclosed h = IfSome_then o given (λ g e. same_err Unclosed g (prefix_refused text Unclosed tt h) e)
-  prefix_err_decided (Specifiers list p) (prefix, has, same, refuses) = IfSome_then o given (λ g e. never (read_prefix text) prefix g (prefix_only text prefix has) e)
+  prefix_err_decided (Specifiers list p) (name, extras, has, refuses) =
+      let f = front name extras list in IfSome_then o given (λ g e. never (read_prefix text) f g (prefix_only text f has) e)
 
 -- ---- where the parts are read
 
 module _ (text : List ℕ) (prefix : Front) (is : read_prefix text ≡ Ok prefix) where
-  pub the_prefix : HasFront text prefix
+  pub the_prefix : HasFront text prefix.name prefix.extras prefix.list
   the_prefix = subst (FrontTells text) is (prefix_tells text)
 
-  same_prefix : (f : Front) → HasFront text f → f ≡ prefix
+  same_prefix : (f : Front) → HasFront text f.name f.extras f.list → f ≡ prefix
   same_prefix f h = let other = prefix_only text f h in cc
 
   pub parts_of : (n : Needed) → DerivesRequirement text n → (n.name ≡ prefix.name) × (n.extras ≡ prefix.extras) × DerivesList prefix.list n.specifiers
-  parts_of n (f, has, name, extras, list) =
-      let same = same_prefix f has in
-      (name ∙ ap (λ (x : Front). x.name) same, extras ∙ ap (λ (x : Front). x.extras) same, subst (λ (x : Front). DerivesList x.list n.specifiers) same list)
+  parts_of n (list, has, derives) =
+      let same = same_prefix (front n.name n.extras list) has in
+      (ap (λ (x : Front). x.name) same, ap (λ (x : Front). x.extras) same, subst (λ (x : Front). DerivesList x.list n.specifiers) same derives)
 
   pub refusal_of_list : (f : RequirementRefusal) → RefusesRequirement text f → (p : PieceRefusal) × (f ≡ Specifiers prefix.list p) × RefusesList prefix.list p
   refusal_of_list Marker h = never (read_prefix text) prefix Marker is (prefix_refused text Marker tt h)
@@ -77,9 +81,9 @@ module _ (text : List ℕ) (prefix : Front) (is : read_prefix text ≡ Ok prefix
   refusal_of_list InvalidName h = never (read_prefix text) prefix InvalidName is (prefix_refused text InvalidName tt h)
   refusal_of_list InvalidExtras h = never (read_prefix text) prefix InvalidExtras is (prefix_refused text InvalidExtras tt h)
   refusal_of_list Unclosed h = never (read_prefix text) prefix Unclosed is (prefix_refused text Unclosed tt h)
-  refusal_of_list (Specifiers list p) (f, has, same_list, refuses) =
-      let same = same_prefix f has in
-      (p, ap (λ l. Specifiers l p) (same_list ∙ ap (λ (x : Front). x.list) same), subst (λ (x : Front). RefusesList x.list p) same refuses)
+  refusal_of_list (Specifiers list p) (name, extras, has, refuses) =
+      let same = same_prefix (front name extras list) has in
+      (p, ap (λ (x : Front). Specifiers x.list p) same, subst (λ (x : Front). RefusesList x.list p) same refuses)
 
   -- the list is refused
 
@@ -88,7 +92,7 @@ module _ (text : List ℕ) (prefix : Front) (is : read_prefix text ≡ Ok prefix
   list_err_only o only n d = let parts = parts_of n d in IfSome_then o (only n.specifiers parts.2) (λ f h. never (list_ok n.specifiers) n.specifiers h.0 refl h.1)
 
   pub list_err_refused : (o : Option RequirementRefusal) → IfSome o (IsOfList prefix.list) → IfSome o (RefusesRequirement text)
-  list_err_refused o given = IfSome_then o given (λ g h. subst (RefusesRequirement text) (sym h.2) (prefix, the_prefix, refl, h.1))
+  list_err_refused o given = IfSome_then o given (λ g h. subst (RefusesRequirement text) (sym h.2) (prefix.name, prefix.extras, the_prefix, h.1))
 
   pub list_err_decided : (o : Option RequirementRefusal) → ((f : PieceRefusal) → RefusesList prefix.list f → IfSome o (λ g. (x : PieceRefusal) × (list_err f ≡ Err x) × (g ≡ Specifiers prefix.list x)))
       → (f : RequirementRefusal) → RefusesRequirement text f → IfSome o (λ g. err_of f ≡ Err g)
@@ -103,7 +107,7 @@ module _ (text : List ℕ) (prefix : Front) (is : read_prefix text ≡ Ok prefix
 
   module _ (n : Needed) (name : n.name ≡ prefix.name) (extras : n.extras ≡ prefix.extras) where
     pub list_ok_found : DerivesList prefix.list n.specifiers → DerivesRequirement text n
-    list_ok_found d = (prefix, the_prefix, name, extras, d)
+    list_ok_found d = (prefix.list, (subst (λ x. HasFront text x n.extras prefix.list) (sym name) (subst (λ x. HasFront text prefix.name x prefix.list) (sym extras) the_prefix), d))
 
     pub list_ok_only : ((list : List Spec) → DerivesList prefix.list list → list_ok list ≡ Ok n.specifiers) → (m : Needed) → DerivesRequirement text m → ok_of m ≡ Ok n
     list_ok_only only m d =

@@ -1,6 +1,6 @@
 -- The versions that requirements of one name allow.
-use Rattle.std.specs.Prelude.{◌≡◌, ℕ, List, Bool, false, is_none, map}
-use Rattle.std.specs.List.{filter, list_all, list_any}
+use Rattle.std.specs.Prelude.{◌≡◌, ℕ, List, false, map}
+use Rattle.std.specs.List.{filter, list_all}
 use Rattle.std.specs.Option.{option_map_or}
 use Rattle.pep440_ranges.specs.Segments.{contains}
 use Rattle.pep440_rs.specs.Bounds.{Segments, list_range, range_of}
@@ -17,7 +17,3 @@ lists_of name requirements = map (λ (n : Needed). n.specifiers) (filter (λ (n 
 -- the range holds what the range of each of the lists holds, none of which is refused
 abbrev pub HoldsAllowed : List (List Spec) → Segments → Type 0
 HoldsAllowed lists range = (v : Record) → contains record_cmp range v ≡ list_all (λ list. option_map_or (λ r. contains record_cmp r v) (list_range range_of list) false) lists
-
--- the range of some list is refused
-abbrev pub some_refused : List (List Spec) → Bool
-some_refused lists = list_any (λ list. is_none (list_range range_of list)) lists

@@ -64,26 +64,20 @@ HasList text list = ((opens 40 (trim_blanks text) ≡ false) × (list ≡ trim_b
 
 -- ---- what a text means
 
--- the name, the extras, and the text of the list
-pub record Front : Type 0 where
-  pub name : List ℕ
-  pub extras : List (List ℕ)
-  pub list : List ℕ
-
 -- there is no marker and no URL
 pub record HasNoMarkerOrUrl (text : List ℕ) : Type 0 where
   pub marker : has_byte 59 text ≡ false
   pub url : has_byte 64 text ≡ false
 
--- the text has these parts
-pub record HasFront (text : List ℕ) (f : Front) : Type 0 where
+-- the text has this name, these extras and this text of a list
+pub record HasFront (text name : List ℕ) (extras : List (List ℕ)) (list : List ℕ) : Type 0 where
   pub plain : HasNoMarkerOrUrl text
   pub decomposition : RequirementParts text
-  pub name : f.name ≡ decomposition.name
+  pub named : name ≡ decomposition.name
   pub prefix_after_name : is_name decomposition.name ≡ true
   pub behind : List ℕ
-  pub extras : HasExtras decomposition.rest f.extras behind
-  pub list : HasList behind f.list
+  pub has_extras : HasExtras decomposition.rest extras behind
+  pub has_list : HasList behind list
 
 -- a name, extras, and the members of a list
 pub record Needed : Type 0 where
@@ -93,7 +87,7 @@ pub record Needed : Type 0 where
 
 -- the text means the requirement
 abbrev pub DerivesRequirement : List ℕ → Needed → Type 0
-DerivesRequirement text n = (f : Front) × HasFront text f × (n.name ≡ f.name) × (n.extras ≡ f.extras) × DerivesList f.list n.specifiers
+DerivesRequirement text n = (list : List ℕ) × HasFront text n.name n.extras list × DerivesList list n.specifiers
 
 -- why a text is no requirement
 pub data RequirementRefusal : Type 0 where
@@ -113,4 +107,4 @@ RefusesRequirement text InvalidExtras = HasNoMarkerOrUrl text × ((c : Requireme
     × ((extras : List (List ℕ)) (behind : List ℕ) → HasExtras c.rest extras behind → ⊥))
 RefusesRequirement text Unclosed = HasNoMarkerOrUrl text × ((c : RequirementParts text) × (is_name c.name ≡ true)
     × ((extras : List (List ℕ)) × (behind : List ℕ) × HasExtras c.rest extras behind × ((list : List ℕ) → HasList behind list → ⊥)))
-RefusesRequirement text (Specifiers list f) = (prefix : Front) × HasFront text prefix × (list ≡ prefix.list) × RefusesList prefix.list f
+RefusesRequirement text (Specifiers list f) = (name : List ℕ) × (extras : List (List ℕ)) × HasFront text name extras list × RefusesList list f

@@ -5,7 +5,13 @@ use Rattle.std.specs.List.{list_all}
 use Rattle.pep440_version.specs.Reading.{lead, past}
 use Rattle.pep440_rs.specs.ListGrammar.{pieces}
 use Rattle.pep440_pick.specs.Names.{is_name, is_name_byte}
-use Rattle.pep440_pick.specs.RequirementGrammar.{Front, InvalidExtras, InvalidName, Marker, RequirementRefusal, Unclosed, Url, has_byte, opens, trim_blanks}
+use Rattle.pep440_pick.specs.RequirementGrammar.{InvalidExtras, InvalidName, Marker, RequirementRefusal, Unclosed, Url, has_byte, opens, trim_blanks}
+
+-- the name, the extras, and the text of the list
+pub record Front : Type 0 where
+  pub name : List ℕ
+  pub extras : List (List ℕ)
+  pub list : List ℕ
 
 -- what stands before the first such byte, and what behind it
 unfoldable pub split_at_byte : ℕ → List ℕ → Option (List ℕ × List ℕ)
@@ -18,13 +24,13 @@ without_end b [] = None
 without_end b (x ∷ []) = if x == b then Some [] else None
 without_end b (x ∷ y ∷ rest) = option_map (λ t. x ∷ t) (without_end b (y ∷ rest))
 
--- the names between the commas, if each is one
-abbrev pub names_in : List (List ℕ) → Option (List (List ℕ))
-names_in parts = if list_all is_name (map trim_blanks parts) then Some (map trim_blanks parts) else None
+-- what stands between the commas, and nothing where blanks stand alone
+abbrev pub listed_extras : List ℕ → List (List ℕ)
+listed_extras inside = if list_all is_ascii_whitespace inside then [] else map trim_blanks (pieces inside)
 
--- what stands in brackets
+-- what stands in brackets, if each is a name
 unfoldable pub extras_in : List ℕ → Option (List (List ℕ))
-extras_in inside = if list_all is_ascii_whitespace inside then Some [] else names_in (pieces inside)
+extras_in inside = if list_all is_name (listed_extras inside) then Some (listed_extras inside) else None
 
 abbrev pub bracketed : Option (List ℕ × List ℕ) → Option (List (List ℕ) × List ℕ)
 bracketed None = None

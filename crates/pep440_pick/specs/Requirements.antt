@@ -1,10 +1,11 @@
 -- What a requirement and its error say, apart from where they lie in memory.
-use Rattle.std.specs.Prelude.{◌≡◌, ◌⊎◌, ℕ, List, Option, option_map, Some, None, Result, Ok, Err, IfSome, map, string_bytes}
+use Rattle.std.specs.Prelude.{◌≡◌, ℕ, List, Option, option_map, Some, None, Result, Ok, Err, IfSome, map, string_bytes}
 use Rattle.pep440_rs.specs.ListAnswers.{line_of, list_kind_of}
 use Rattle.pep440_rs.specs.ListErrors.{list_refusal_of}
 use Rattle.pep440_rs.specs.ListGrammar.{PieceRefusal, RefusesList}
 use Rattle.pep440_rs.specs.Specifiers.{Spec}
-use Rattle.pep440_pick.specs.RequirementGrammar.{Front, InvalidExtras, InvalidName, Marker, Needed, RequirementRefusal, Specifiers, Unclosed, Url}
+use Rattle.pep440_pick.specs.RequirementGrammar.{InvalidExtras, InvalidName, Marker, Needed, RequirementRefusal, Specifiers, Unclosed, Url}
+use Rattle.pep440_pick.specs.RequirementReading.{Front, listed_extras}
 use Rattle.pep440_pick.specs.declared.error.RequirementError.{RequirementError}
 use Rattle.pep440_pick.specs.declared.error.RequirementError.TheVariants as error
 use Rattle.pep440_pick.specs.declared.read.Parts.{Parts}
@@ -36,17 +37,12 @@ RequirementAnswers (Err e) outcome = IfSome (requirement_refusal_of e) (λ f. ou
 -- ---- what the readers of the parts answer
 
 abbrev pub prefix_of : Parts → Front
-prefix_of p = record { name = p.name.now; extras = map string_bytes p.extras.items; list = p.list.now }
+prefix_of p = record { name = p.name.now; extras = listed_extras p.extras.now; list = p.list.now }
 
 -- the parts were read as reading gives them, unless memory ran out
 abbrev pub FrontGives : Result Parts RequirementError → Result Front RequirementRefusal → Type 0
 FrontGives (Ok p) read = read ≡ Ok (prefix_of p)
 FrontGives (Err e) read = IfSome (requirement_refusal_of e) (λ f. read ≡ Err f)
-
--- what was read, seen by view, is what reading gives, where `InvalidExtras` is the only refusal, unless memory ran out
-abbrev pub ExtrasGive : {X A : Type 0} → (X → A) → Result X RequirementError → Option A → Type 0
-ExtrasGive view (Ok x) read = read ≡ Some (view x)
-ExtrasGive view (Err e) read = ((e ≡ error.InvalidExtras) × (read ≡ None)) ⊎ (e ≡ error.OutOfMemory)
 
 -- the list of this text is this outcome, unless memory ran out
 abbrev pub ListGives : List ℕ → Result (List Spec) RequirementError → Result (List Spec) PieceRefusal → Type 0

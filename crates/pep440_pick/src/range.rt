@@ -1,9 +1,9 @@
 //! The versions that requirements of one name allow.
-ghost use Rattle.std.specs.Prelude.{◌≡◌, ◌++◌, [], map, IfOk};
-ghost use Rattle.std.specs.List.{flat_map};
-ghost use Rattle.pep440_rs.specs.Bounds.{full};
+ghost use Rattle.std.specs.Prelude.{◌≡◌, ◌++◌, [], map, is_none, IfOk};
+ghost use Rattle.std.specs.List.{flat_map, list_any};
+ghost use Rattle.pep440_rs.specs.Bounds.{full, list_range, range_of};
 ghost use Rattle.pep440_rs.specs.Refused.{TellsMax};
-ghost use Rattle.pep440_pick.specs.Allowed.{HoldsAllowed, lists_of, some_refused};
+ghost use Rattle.pep440_pick.specs.Allowed.{HoldsAllowed, lists_of};
 ghost use Rattle.pep440_pick.specs.Requirements.{needed};
 
 use crate::name::same_name;
@@ -56,7 +56,7 @@ pub fn allowed(
 ) -> Result<Ranges<Version>, RangeError>
     ensures set { IfOk result (HoldsAllowed (lists_of name.now (map needed requirements.now))) }
     // `NumberAtMax` exactly where the range of some requirement of that name is refused, unless memory runs out.
-    ensures at_max { TellsMax (some_refused (lists_of name.now (map needed requirements.now))) result }
+    ensures at_max { TellsMax (list_any (λ list. is_none (list_range range_of list)) (lists_of name.now (map needed requirements.now))) result }
     ensures all { lists_of name.now (map needed requirements.now) ≡ [] → IfOk result (λ range. range ≡ full) }
 {
     let members = members_of(alloc, requirements, name)?;

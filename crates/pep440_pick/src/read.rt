@@ -1,18 +1,18 @@
 //! The readers of the parts of a requirement.
-ghost use Rattle.std.specs.Prelude.{◌≡◌, ◌⊎◌, ◌∷◌, ◌++◌, [], List, true, false, map, option_map, string_bytes, Ok, Err, IfOk, IfErr, IfSome, Some};
-ghost use Rattle.std.specs.List.{All};
+ghost use Rattle.std.specs.Prelude.{◌≡◌, ◌∷◌, ◌++◌, [], List, map, option_map, string_bytes, Ok, Err, IfOk, IfErr, IfSome, Some};
+ghost use Rattle.std.specs.List.{All, list_all};
 ghost use Rattle.pep440_rs.specs.Agreement.{HasOperand};
 ghost use Rattle.pep440_rs.specs.ListAnswers.{line_of, list_kind_of};
 ghost use Rattle.pep440_rs.specs.ListErrors.{IsListLifted, list_refusal_of};
 ghost use Rattle.pep440_rs.specs.ListErrorTexts.{list_text_of};
-ghost use Rattle.pep440_rs.specs.ListGrammar.{DerivesList, PieceRefusal, RefusesList};
+ghost use Rattle.pep440_rs.specs.ListGrammar.{DerivesList, PieceRefusal, RefusesList, pieces};
 ghost use Rattle.pep440_rs.specs.Specifiers.{Spec};
 ghost use Rattle.pep440_pick.specs.Names.{is_name};
 ghost use Rattle.pep440_pick.specs.RequirementGrammar.{Specifiers, trim_blanks};
-ghost use Rattle.pep440_pick.specs.RequirementReading.{extras_at, extras_in, list_in, prefix_after_name, read_prefix};
-ghost use Rattle.pep440_pick.specs.Requirements.{ExtrasGive, FrontGives, IsOfList, IsRequirementLifted, ListGives, requirement_refusal_of};
+ghost use Rattle.pep440_pick.specs.RequirementReading.{extras_at, list_in, listed_extras, prefix_after_name, read_prefix};
+ghost use Rattle.pep440_pick.specs.Requirements.{FrontGives, IsOfList, IsRequirementLifted, ListGives, requirement_refusal_of};
 ghost use Rattle.pep440_pick.specs.RequirementTexts.{requirement_refusal_text, requirement_text_of};
-ghost use Rattle.pep440_pick.specs.declared.error.RequirementError.TheVariants.{InvalidExtras, OutOfMemory};
+ghost use Rattle.pep440_pick.specs.declared.error.RequirementError.TheVariants.{OutOfMemory};
 
 use crate::error::RequirementError;
 use crate::name::is_name;
@@ -21,57 +21,76 @@ use crate::scan::{
     without_prefix,
 };
 use pep440_rs::{SpecifiersErrorKind, VersionSpecifiers, VersionSpecifiersParseError};
-use std::alloc::Global;
+use std::alloc::{AllocError, Global};
 
-// The parts of a text: the name, the extras, and the text of the list.
-#[derive(Drop)]
+// The parts of a text: the name, what stands in brackets, and the text of the list.
+#[derive(Clone, Copy)]
 pub(crate) struct Parts<'a> {
     pub(crate) name: &'a str,
-    pub(crate) extras: Vec<String>,
+    // Empty where there are no brackets.
+    pub(crate) extras: &'a str,
     pub(crate) list: &'a str,
 }
 
-// One more name, where the part is one, but for blanks at its ends.
-fn add_name(alloc: Global, names: &mut Vec<String>, part: &str) -> Result<(), RequirementError>
-    ensures added { IfOk result (λ _. (is_name (trim_blanks part.now) ≡ true) × (map string_bytes names.new.items ≡ map string_bytes names.old.items ++ trim_blanks part.now ∷ [])) }
-    ensures refused { IfErr result (λ e. ((e ≡ InvalidExtras) × (is_name (trim_blanks part.now) ≡ false)) ⊎ (e ≡ OutOfMemory)) }
+// Whether names stand between the commas, but for blanks at their ends.
+fn are_names(inside: &str) -> bool
+    ensures { result ≡ list_all is_name (map trim_blanks (pieces inside.now)) }
 {
-    let name = trim_blanks(part);
-    if !is_name(name) {
-        return Err(RequirementError::InvalidExtras);
+    let mut rest = inside;
+    while let Some((part, later)) = rest.split_once(',') {
+        if !is_name(trim_blanks(part)) {
+            return false;
+        }
+        rest = later;
     }
-    names.push(String::from_str(alloc, name)?)?;
+    is_name(trim_blanks(rest))
+}
+
+// Whether what stands in brackets are extras, of which there are none where blanks stand alone.
+fn are_extras(inside: &str) -> bool
+    ensures { result ≡ list_all is_name (listed_extras inside.now) }
+{
+    are_blanks(inside) || are_names(inside)
+}
+
+fn push_extra(alloc: Global, extras: &mut Vec<String>, part: &str) -> Result<(), AllocError>
+    ensures { IfOk result (λ _. map string_bytes extras.new.items ≡ map string_bytes extras.old.items ++ trim_blanks part.now ∷ []) }
+{
+    extras.push(String::from_str(alloc, trim_blanks(part))?)?;
     Ok(())
 }
 
-// The names between commas, of which there are none where blanks stand alone.
-fn extras_in(alloc: Global, inside: &str) -> Result<Vec<String>, RequirementError>
-    ensures { ExtrasGive (λ v. map string_bytes v.items) result (extras_in inside.now) }
+// The extras that stand in brackets.
+pub(crate) fn copy_extras(alloc: Global, inside: &str) -> Result<Vec<String>, AllocError>
+    ensures { IfOk result (λ extras. map string_bytes extras.items ≡ listed_extras inside.now) }
 {
-    let mut names = Vec::new(alloc);
+    let mut extras = Vec::new(alloc);
     if are_blanks(inside) {
-        return Ok(names);
+        return Ok(extras);
     }
     let mut rest = inside;
     while let Some((part, later)) = rest.split_once(',') {
-        add_name(alloc, &mut names, part)?;
+        push_extra(alloc, &mut extras, part)?;
         rest = later;
     }
-    add_name(alloc, &mut names, rest)?;
-    Ok(names)
+    push_extra(alloc, &mut extras, rest)?;
+    Ok(extras)
 }
 
-// The extras at the front, where brackets open there, and what follows.
-fn extras_at(alloc: Global, text: &str) -> Result<(Vec<String>, &str), RequirementError>
-    ensures { ExtrasGive (λ x. (map string_bytes x.0.items, x.1.now)) result (extras_at text.now) }
+// What stands in brackets at the front, where they open there, and what follows; none where they hold no extras or
+// are not closed.
+fn extras_at(text: &str) -> Option<(&str, &str)>
+    ensures { option_map (λ x. (listed_extras x.0.now, x.1.now)) result ≡ extras_at text.now }
 {
     let Some(open) = without_prefix(text, '[') else {
-        return Ok((Vec::new(alloc), text));
+        return Some(("", text));
     };
-    let Some((inside, behind)) = split_at_byte(open, ']') else {
-        return Err(RequirementError::InvalidExtras);
-    };
-    Ok((extras_in(alloc, inside)?, behind))
+    let (inside, behind) = split_at_byte(open, ']')?;
+    if are_extras(inside) {
+        Some((inside, behind))
+    } else {
+        None
+    }
 }
 
 // The text of the list, with parentheses around it or without; none where they are not closed.
@@ -85,11 +104,7 @@ fn list_in(text: &str) -> Option<&str>
 }
 
 // The parts of a text, by the name and what follows it behind blanks.
-fn prefix_after_name<'a>(
-    alloc: Global,
-    name: &'a str,
-    rest: &'a str,
-) -> Result<Parts<'a>, RequirementError>
+fn prefix_after_name<'a>(name: &'a str, rest: &'a str) -> Result<Parts<'a>, RequirementError>
     ensures value { FrontGives result (prefix_after_name name.now rest.now) }
     ensures lifted { IfErr result IsRequirementLifted }
     ensures message { IfErr result (λ e. IfSome (requirement_refusal_of e) (λ f. requirement_text_of e ≡ Some (requirement_refusal_text f))) }
@@ -97,7 +112,9 @@ fn prefix_after_name<'a>(
     if !is_name(name) {
         return Err(RequirementError::InvalidName);
     }
-    let (extras, behind) = extras_at(alloc, rest)?;
+    let Some((extras, behind)) = extras_at(rest) else {
+        return Err(RequirementError::InvalidExtras);
+    };
     match list_in(trim_blanks(behind)) {
         Some(list) => Ok(Parts { name, extras, list }),
         None => Err(RequirementError::Unclosed),
@@ -105,7 +122,7 @@ fn prefix_after_name<'a>(
 }
 
 // The parts of the text.
-pub(crate) fn read_parts(alloc: Global, text: &str) -> Result<Parts<'_>, RequirementError>
+pub(crate) fn read_parts(text: &str) -> Result<Parts<'_>, RequirementError>
     ensures value { FrontGives result (read_prefix text.now) }
     ensures lifted { IfErr result IsRequirementLifted }
     ensures message { IfErr result (λ e. IfSome (requirement_refusal_of e) (λ f. requirement_text_of e ≡ Some (requirement_refusal_text f))) }
@@ -117,7 +134,7 @@ pub(crate) fn read_parts(alloc: Global, text: &str) -> Result<Parts<'_>, Require
         return Err(RequirementError::Url);
     }
     let (name, rest) = split_name(skip_blanks(text));
-    prefix_after_name(alloc, name, skip_blanks(rest))
+    prefix_after_name(name, skip_blanks(rest))
 }
 
 // The error of a text whose list is refused with this one.

@@ -8,7 +8,7 @@ ghost use Rattle.pep440_pick.specs.RequirementTexts.{requirement_refusal_text, r
 
 use crate::error::RequirementError;
 use crate::name::same_name;
-use crate::read::{list_of, read_parts};
+use crate::read::{copy_extras, list_of, read_parts};
 use pep440_rs::VersionSpecifiers;
 use std::alloc::{AllocError, Global};
 
@@ -47,18 +47,19 @@ impl Requirement {
         // The version of each member is one that a text can give beside the operator, as the agreement of ranges asks.
         ensures operand { IfOk result (λ r. All HasOperand r.specifiers) }
     {
-        let parts = read_parts(alloc, text)?;
+        let parts = read_parts(text)?;
         let specifiers = list_of(alloc, parts.list)?;
         let name = String::from_str(alloc, parts.name)?;
+        let extras = copy_extras(alloc, parts.extras)?;
         Ok(Requirement {
             name,
-            extras: parts.extras,
+            extras,
             specifiers,
         })
     }
 
     /// The list of specifiers of the requirement that the text means, if it is of this name, else none: what `from_str` and
-    /// `same_name` give, without a copy of the name.
+    /// `same_name` give, without a copy of the name and the extras.
     ///
     /// Allocates. A text that means no requirement is rejected as by `from_str`, whatever its name.
     pub fn specifiers_for(
@@ -75,7 +76,7 @@ impl Requirement {
         // Out of memory is the last kind, and stands in no other.
         ensures lifted { IfErr result IsRequirementLifted }
     {
-        let parts = read_parts(alloc, text)?;
+        let parts = read_parts(text)?;
         let specifiers = list_of(alloc, parts.list)?;
         if same_name(parts.name, name) {
             Ok(Some(specifiers))

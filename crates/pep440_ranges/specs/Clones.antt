@@ -1,4 +1,4 @@
--- A clone of each held value is that same value.
+-- A clone of each stored value is that same value.
 use Rattle.std.specs.Prelude.{◌≡◌, ◌⊎◌, List, [], ◌∷◌}
 use Rattle.std.specs.declared.ops.Bound.{Bound}
 use Rattle.std.specs.declared.ops.Bound.TheVariants.{Included, Excluded, Unbounded}
@@ -21,7 +21,7 @@ module _ {V : Type 0} (is_clone : V → V → Type 0) where
   abbrev pub IsCloneSame : V → Type 0
   IsCloneSame x = (copy : V) → is_clone x copy → copy ≡ x
 
-  -- a clone of each held value is that same value
+  -- a clone of each stored value is that same value
   abbrev pub ClonesBoundValues : List (Segment V) → Type 0
   ClonesBoundValues ss = (x : V) → IsBoundValue ss x → IsCloneSame x
 
@@ -36,6 +36,6 @@ module _ {V : Type 0} (is_clone : V → V → Type 0) where
   ClonesEach [] = Unit {0}
   ClonesEach (s ∷ ss) = ClonesBound s.0 × ClonesBound s.1 × ClonesEach ss
 
--- where a clone is always the same value, a clone of each held value is: of every range at once
+-- where a clone is always the same value, so is a clone of each stored value: of every range at once
 pub clones_bound_values : {V : Type 0} (is_clone : V → V → Type 0) → ((x : V) → IsCloneSame is_clone x) → (ss : List (Segment V)) → ClonesBoundValues is_clone ss
 clones_bound_values is_clone same ss x held = same x

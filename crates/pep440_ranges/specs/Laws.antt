@@ -1,4 +1,4 @@
--- What the lists mean as sets, and that each is a range, as statements; each is proved for every total order.
+-- Which sets the lists denote, and that each is a range, as statements; each is proved for every total order.
 use Rattle.std.specs.Prelude.{◌≡◌, ◌+◌, ◌-◌, ◌≤◌, not, ◌&&◌, List, length}
 use Rattle.std.specs.declared.cmp.Ordering.{Ordering}
 use Rattle.std.specs.declared.ops.Bound.{Bound}

@@ -90,7 +90,7 @@ pub(crate) fn clone_bound<V: Clone>(bound: &Bound<V>) -> Result<Bound<V>, AllocE
 }
 
 /// The bound with included and excluded swapped, with a clone of its value.
-pub(crate) fn flipped_bound<V: Clone>(bound: &Bound<V>) -> Result<Bound<V>, AllocError>
+pub(crate) fn flip_bound<V: Clone>(bound: &Bound<V>) -> Result<Bound<V>, AllocError>
     requires { ClonesBound V.is_clone bound.now }
     ensures { IfOk result (λ b. b ≡ flipped_bound bound.now) }
 {

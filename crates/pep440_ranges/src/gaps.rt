@@ -4,7 +4,7 @@ ghost use Rattle.std.specs.Prelude.{◌≡◌, IfOk};
 ghost use Rattle.pep440_ranges.specs.Complement.{gaps};
 ghost use Rattle.pep440_ranges.specs.Clones.{ClonesEach};
 
-use crate::bounds::flipped_bound;
+use crate::bounds::flip_bound;
 use crate::segments::Segment;
 use std::alloc::{AllocError, Global};
 use std::ops::Bound;
@@ -23,17 +23,17 @@ pub(crate) fn find_gaps<V: Clone>(
         return Ok(found);
     };
     if !matches!(first.0, Bound::Unbounded) {
-        found.push((Bound::Unbounded, flipped_bound(&first.0)?))?;
+        found.push((Bound::Unbounded, flip_bound(&first.0)?))?;
     }
     let mut end = &first.1;
     let mut rest = others;
     while let Some((segment, others)) = rest.split_first() {
-        found.push((flipped_bound(end)?, flipped_bound(&segment.0)?))?;
+        found.push((flip_bound(end)?, flip_bound(&segment.0)?))?;
         end = &segment.1;
         rest = others;
     }
     if !matches!(end, Bound::Unbounded) {
-        found.push((flipped_bound(end)?, Bound::Unbounded))?;
+        found.push((flip_bound(end)?, Bound::Unbounded))?;
     }
     Ok(found)
 }

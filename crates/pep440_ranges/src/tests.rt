@@ -1,5 +1,5 @@
-//! Tests at concrete types: the worked rows at `u64`, walks of the segments, and each call that
-//! takes memory at a type whose clone takes memory too.
+//! Tests at concrete types: the test cases at `u64`, walks of the segments, and each call that
+//! allocates, at a type whose clone allocates too.
 
 mod held;
 mod rows;

@@ -5,9 +5,10 @@ use Rattle.std.specs.List.{All, Any, list_all}
 use Rattle.std.specs.Option.{option_map_or}
 use Rattle.pep440_rs.specs.Bounds.{Segments, list_range}
 use Rattle.pep440_rs.specs.Matching.{matches, list_matches, same_release, any_prerelease}
+use Rattle.pep440_rs.specs.Operators.{allows_local, is_star}
 use Rattle.pep440_rs.specs.Specifiers.{Spec}
 use Rattle.pep440_rs.specs.declared.specifier.operator.Operator.{Operator}
-use Rattle.pep440_rs.specs.declared.specifier.operator.Operator.TheVariants.{Equal, EqualStar, ExactEqual, NotEqual, NotEqualStar, LessThan, GreaterThan}
+use Rattle.pep440_rs.specs.declared.specifier.operator.Operator.TheVariants.{ExactEqual, NotEqual, NotEqualStar, LessThan, GreaterThan}
 use Rattle.pep440_ranges.specs.Segments.{contains, IsRange}
 use Rattle.pep440_version.specs.Key.{record_cmp}
 use Rattle.pep440_version.specs.Record.{Record, from_release, epoch_and_release}
@@ -20,19 +21,11 @@ pub record HasNoLocalOrSentinel (v : Record) : Type 0 where
   pub min : v.min ≡ None
   pub max : v.max ≡ None
 
--- a version that a specifier's text can give beside the operator: beside a star a release with its epoch,
--- beside `==` and `!=` any version, beside the others one without local part; `===` is left out
-abbrev pub IsOperand : Operator → Record → Type 0
-IsOperand Equal s = Unit {0}
-IsOperand NotEqual s = Unit {0}
-IsOperand ExactEqual s = ⊥
-IsOperand EqualStar s = s ≡ epoch_and_release s.epoch s.release
-IsOperand NotEqualStar s = s ≡ epoch_and_release s.epoch s.release
-IsOperand _ s = HasNoLocalOrSentinel s
-
--- the version of a specifier, unless it is `===`, is one that a text can give beside its operator
-abbrev pub HasOperand : Spec → Type 0
-HasOperand s = s.operator ≢ ExactEqual → IsOperand s.operator s.version
+-- the version is one that a specifier's string can have beside the operator: beside a star a release with its epoch, and
+-- beside an operator that allows no local part one without it
+pub record HasOperand (s : Spec) : Type 0 where
+  pub star : IsTrue (is_star s.operator) → s.version ≡ epoch_and_release s.version.epoch s.version.release
+  pub plain : IsTrue (not (allows_local s.operator)) → HasNoLocalOrSentinel s.version
 
 -- no suffix stands on which range and matching part. For `<`: the two differ in epoch or release, or s isn't
 -- a post-release, or it has pre or dev. For `>`: they differ so, or v isn't a post-release, or s is one or has
@@ -101,10 +94,10 @@ module _ (conversion : Operator → Record → Option Segments) where
   abbrev pub GivesFew : Type 0
   GivesFew = (op : Operator) (s : Record) (range : Segments) → conversion op s ≡ Some range → length range ≤ (if is_exclusion op then 2 else 1)
 
-  -- the range of a list holds what the range of each member holds, none of which is refused
+  -- the range of a list holds what the range of each member holds, none of which is rejected
   abbrev pub HoldsInEach : List Spec → Segments → Type 0
   HoldsInEach members range = (v : Record) → contains record_cmp range v ≡ list_all (λ m. option_map_or (λ r. contains record_cmp r v) (conversion m.operator m.version) false) members
 
-  -- the list is refused exactly where some member is
+  -- the list has no range exactly where some member has none
   abbrev pub RefusedByAMember : List Spec → Type 0
   RefusedByAMember members = (list_range conversion members ≡ None) ↔ Any (λ m. conversion m.operator m.version ≡ None) members

@@ -1,9 +1,8 @@
--- What a call answers that makes a specifier of a bound, and the text of its error.
-use Rattle.std.specs.Prelude.{ℕ, List, Option, Some, None, Result, codes}
+-- What a call returns that makes a specifier of a bound.
+use Rattle.std.specs.Prelude.{Option, Some, None, Result}
 use Rattle.pep440_version.specs.Errors.{Answers}
 use Rattle.pep440_rs.specs.Build.{BuildRefusal}
 use Rattle.pep440_rs.specs.Errors.{build_kind_of, build_refusal_of}
-use Rattle.pep440_rs.specs.ErrorTexts.{build_text}
 use Rattle.pep440_rs.specs.Specifiers.{Spec}
 use Rattle.pep440_rs.specs.declared.bounds.error.BoundError.{BoundError}
 use Rattle.pep440_rs.specs.declared.bounds.error.BoundError.TheVariants as bound
@@ -13,11 +12,6 @@ abbrev pub bound_refusal_of : BoundError → Option BuildRefusal
 bound_refusal_of (bound.Build e) = Some (build_refusal_of (build_kind_of e))
 bound_refusal_of bound.OutOfMemory = None
 
--- the answer is this outcome, unless memory ran out
+-- the result is this outcome, unless memory ran out
 abbrev pub BoundAnswers : Result (Option Spec) BoundError → Result (Option Spec) BuildRefusal → Type 0
 BoundAnswers = Answers bound_refusal_of
-
--- the text of an error
-abbrev pub bound_text_of : BoundError → List ℕ
-bound_text_of (bound.Build e) = build_text (build_refusal_of (build_kind_of e))
-bound_text_of bound.OutOfMemory = codes "out of memory"

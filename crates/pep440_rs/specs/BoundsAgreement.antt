@@ -27,28 +27,20 @@ IsReleasePair p = IsReleaseBound p.0 × IsReleaseBound p.1
 abbrev pub is_followed : Bound Record → Bound Record → Bool
 is_followed end start = not (is_valid record_cmp start end)
 
--- the pairs are valid segments, each followed by the next, and the first follows what ends so
-abbrev pub IsOrderedAfter : Bound Record → List (Segment Record) → Type 0
-IsOrderedAfter end [] = Unit {0}
-IsOrderedAfter end (p ∷ pairs) = IsTrue (is_followed end p.0) × IsTrue (is_valid record_cmp p.0 p.1) × IsOrderedAfter p.1 pairs
-
 -- the pairs are valid segments, each followed by the next, and there is one
 abbrev pub IsOrdered : List (Segment Record) → Type 0
 IsOrdered [] = ⊥
-IsOrdered (p ∷ pairs) = IsTrue (is_valid record_cmp p.0 p.1) × IsOrderedAfter p.1 pairs
+IsOrdered (p ∷ []) = IsTrue (is_valid record_cmp p.0 p.1)
+IsOrdered (p ∷ q ∷ pairs) = IsTrue (is_valid record_cmp p.0 p.1) × IsTrue (is_followed p.1 q.0) × IsOrdered (q ∷ pairs)
 
 -- the gap between an end and a start has nothing in it, or gives a member
 abbrev pub is_known_gap : Bound Record → Bound Record → Bool
 is_known_gap end start = not (is_valid record_cmp (flipped_bound end) (flipped_bound start)) || not (length (gap_members end start) == 0)
 
-abbrev pub KnowsGapsAfter : Bound Record → List (Segment Record) → Type 0
-KnowsGapsAfter end [] = Unit {0}
-KnowsGapsAfter end (p ∷ pairs) = IsTrue (is_known_gap end p.0) × KnowsGapsAfter p.1 pairs
-
 -- so is each gap of the list
 abbrev pub KnowsGaps : List (Segment Record) → Type 0
-KnowsGaps [] = Unit {0}
-KnowsGaps (p ∷ pairs) = KnowsGapsAfter p.1 pairs
+KnowsGaps (p ∷ q ∷ pairs) = IsTrue (is_known_gap p.1 q.0) × KnowsGaps (q ∷ pairs)
+KnowsGaps pairs = Unit {0}
 
 -- ---- the statements
 

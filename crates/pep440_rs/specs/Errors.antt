@@ -17,7 +17,7 @@ use Rattle.pep440_rs.specs.declared.specifier.error.VersionSpecifierParseError.{
 abbrev pub operator_kind_of : OperatorParseError → OperatorErrorKind
 operator_kind_of e = e.kind
 
--- the text that is no operator, or none where memory ran out
+-- the string that is no operator, or none where memory ran out
 abbrev pub unknown_of : OperatorErrorKind → Option (List ℕ)
 unknown_of (operator.Unknown got) = Some (string_bytes got)
 unknown_of operator.OutOfMemory = None

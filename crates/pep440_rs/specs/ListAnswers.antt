@@ -15,7 +15,7 @@ list_kind_of e = e.kind
 abbrev pub line_of : VersionSpecifiersParseError → List ℕ
 line_of e = string_bytes e.line
 
--- the whole text of a refused piece, and nothing where memory ran out
+-- the whole string of a refused piece, and nothing where memory ran out
 abbrev pub line_for : List ℕ → SpecifiersErrorKind → List ℕ
 line_for text (Piece error start stop) = text
 line_for text OutOfMemory = []

@@ -1,13 +1,13 @@
--- The text of a list's error: the refusal of the piece, the whole text, and a line that marks the piece.
+-- The message of a list's error: the refusal of the piece, the whole string, and a line that marks the piece.
 use Rattle.std.specs.Prelude.{ℕ, List, ◌++◌, Option, Some, option_map, codes, replicate, chars, false, slice_range}
 use Rattle.unicode_width.specs.Width.{str_width}
-use Rattle.pep440_rs.specs.ErrorTexts.{specifier_refusal_text, specifier_text_of}
-use Rattle.pep440_rs.specs.Errors.{parse_kind_of}
+use Rattle.pep440_rs.specs.ErrorTexts.{specifier_error_text, specifier_refusal_text}
+use Rattle.pep440_rs.specs.Errors.{parse_kind_of, specifier_refusal_of}
 use Rattle.pep440_rs.specs.ListGrammar.{PieceRefusal}
 use Rattle.pep440_rs.specs.declared.list.error.SpecifiersErrorKind.{SpecifiersErrorKind}
 use Rattle.pep440_rs.specs.declared.list.error.SpecifiersErrorKind.TheVariants.{Piece, OutOfMemory}
 
--- the columns that a text takes
+-- the columns that a string takes
 abbrev pub columns : List ℕ → ℕ
 columns text = str_width false (chars text)
 
@@ -18,11 +18,11 @@ caret_line line start stop = replicate (columns (slice_range line 0 start)) 32 +
 abbrev pub piece_text : List ℕ → List ℕ → ℕ → ℕ → List ℕ
 piece_text inner line start stop = codes "Failed to parse version: " ++ (inner ++ (codes ":\n" ++ (line ++ (codes "\n" ++ caret_line line start stop))))
 
--- the text of a refusal
+-- the message of a refusal
 abbrev pub list_refusal_text : PieceRefusal → List ℕ → List ℕ
 list_refusal_text f line = piece_text (specifier_refusal_text f.error) line f.start f.stop
 
--- the text of an error
+-- the message of an error
 abbrev pub list_text_of : SpecifiersErrorKind → List ℕ → Option (List ℕ)
-list_text_of (Piece error start stop) line = option_map (λ inner. piece_text inner line start stop) (specifier_text_of (parse_kind_of error))
+list_text_of (Piece error start stop) line = option_map (λ inner. piece_text inner line start stop) (specifier_error_text (specifier_refusal_of (parse_kind_of error)))
 list_text_of OutOfMemory line = Some (codes "out of memory")

@@ -17,7 +17,7 @@ abbrev pub span_of : SpecifiersErrorKind → ℕ × ℕ
 span_of (Piece error start stop) = (start, stop)
 span_of OutOfMemory = (0, 0)
 
--- the piece is a part of the text, and the text may be cut at both its ends
+-- the piece is a part of the string, and the string may be cut at both its ends
 pub record IsSpan (text : List ℕ) (kind : SpecifiersErrorKind) : Type 0 where
   pub in_order : (span_of kind).0 ≤ (span_of kind).1
   pub starts : IsCharBoundary text (span_of kind).0

@@ -1,27 +1,27 @@
--- The texts of lists (PEP 440, "Version specifiers"): specifiers with commas between them; the empty text is the
--- empty list.
+-- The strings that denote lists (PEP 440, "Version specifiers"): specifiers with commas between them; the empty string is the empty
+-- list.
 use Rattle.std.specs.Prelude.{◌≡◌, ◌<◌, ◌+◌, ◌==◌, ◌⊎◌, ℕ, List, [], ◌∷◌, ◌++◌, length, sum_by}
 use Rattle.std.specs.List.{AllZip, slice_split}
 use Rattle.pep440_rs.specs.Arrangement.{Arranges}
 use Rattle.pep440_rs.specs.SpecifierGrammar.{DerivesSpecifier, RefusesSpecifier, SpecifierRefusal}
 use Rattle.pep440_rs.specs.Specifiers.{Spec}
 
--- the pieces of a text between its commas
+-- the pieces of a string between its commas
 abbrev pub pieces : List ℕ → List (List ℕ)
 pieces text = slice_split (λ b. b == 44) text
 
--- the text means the list: each piece means the specifier at its place
+-- the string denotes the list: each piece denotes the specifier at its position
 abbrev pub DerivesList : List ℕ → List Spec → Type 0
 DerivesList text list = ((text ≡ []) × (list ≡ []))
     ⊎ ((0 < length text) × (members : List Spec) × AllZip DerivesSpecifier (pieces text) members × Arranges members list)
 
--- why a text is no list: the refusal of a piece, and where the piece lies in the text, in bytes
+-- why a string is no list: the refusal of a piece, and where the piece lies in the string, in bytes
 pub record PieceRefusal : Type 0 where
   pub error : SpecifierRefusal
   pub start : ℕ
   pub stop : ℕ
 
--- the first piece that is refused: those before it mean specifiers; it begins behind them, each with the comma after it
+-- the first piece that is rejected: those before it mean specifiers; it begins behind them, each with the comma after it
 pub record RefusesList (text : List ℕ) (f : PieceRefusal) : Type 0 where
   pub some : 0 < length text
   pub before : List (List ℕ)

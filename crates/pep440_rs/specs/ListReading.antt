@@ -16,6 +16,6 @@ unfoldable pub read_pieces : ℕ → List (List ℕ) → Result (List Spec) Piec
 read_pieces start [] = Ok []
 read_pieces start (p ∷ rest) = after_piece start p (read_specifier p) (read_pieces (start + length p + 1) rest)
 
--- the members in the order of the text
+-- the members in the order of the string
 abbrev pub read_members : List ℕ → Result (List Spec) PieceRefusal
 read_members text = if length text == 0 then Ok [] else read_pieces 0 (pieces text)

@@ -6,7 +6,7 @@ use Rattle.std.specs.List.{flat_map}
 use Rattle.std.specs.declared.cmp.Ordering.{Ordering}
 use Rattle.pep440_rs.specs.Specifiers.{Spec, feed_spec, spec_cmp, spec_print}
 
--- the prints of the members, with this text between them
+-- the prints of the members, with this string between them
 abbrev pub joined : List ℕ → List Spec → List ℕ
 joined between [] = []
 joined between (s ∷ rest) = spec_print s ++ flat_map (λ t. between ++ spec_print t) rest

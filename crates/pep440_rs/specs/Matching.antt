@@ -1,7 +1,6 @@
 -- Whether a specifier contains a version (PEP 440, "Version specifiers"): for each operator one condition
 -- on the specifier's record s and the candidate's record v.
-use Rattle.std.specs.Prelude.{ℕ, ◌==◌, Bool, true, false, not, take_while, ◌&&◌, ◌||◌, List, [], ◌∷◌, length, is_some, nat_eq, if◌then◌else◌}
-use Rattle.std.specs.Cmp.Lexicographic.{pointwise}
+use Rattle.std.specs.Prelude.{ℕ, ◌==◌, Bool, true, false, not, ◌&&◌, ◌||◌, List, [], ◌∷◌, length, is_some, bytes_eq, if◌then◌else◌}
 use Rattle.std.specs.List.{list_all}
 use Rattle.std.specs.Ordering.{is_lt, is_le, is_gt, is_ge, is_eq}
 use Rattle.pep440_rs.specs.Specifiers.{Spec}
@@ -65,7 +64,7 @@ matches GreaterThanEqual s v = is_ge (record_cmp (candidate s v) s)
 matches LessThanEqual s v = is_le (record_cmp (candidate s v) s)
 matches EqualStar s v = has_prefix s s.release v
 matches NotEqualStar s v = not (has_prefix s s.release v)
-matches ExactEqual s v = pointwise nat_eq (print s) (print v)
+matches ExactEqual s v = bytes_eq (print s) (print v)
 matches TildeEqual s v = has_prefix s (without_last s.release) v && is_ge (record_cmp (candidate s v) s)
 matches LessThan s v = is_lt (record_cmp (candidate s v) s) && not (is_early s v)
 matches GreaterThan s v = is_gt (record_cmp (candidate s v) s) && not (is_late s v)
@@ -75,13 +74,3 @@ matches GreaterThan s v = is_gt (record_cmp (candidate s v) s) && not (is_late s
 -- each member contains v
 abbrev pub list_matches : List Spec → Record → Bool
 list_matches members v = list_all (λ m. matches m.operator m.version v) members
-
-abbrev pub is_exact : Operator → Bool
-is_exact ExactEqual = true
-is_exact _ = false
-
--- the members before the first `===` alone tell whether the list contains v: they are all there are, or one of them
--- doesn't contain it
-abbrev pub is_told_before_exact : List Spec → Record → Bool
-is_told_before_exact members v =
-    list_all (λ m. not (is_exact m.operator)) members || not (list_matches (take_while (λ m. not (is_exact m.operator)) members) v)

@@ -33,7 +33,7 @@ upper_member (Included v) = Some (spec LessThanEqual v)
 upper_member (Excluded v) = Some (spec LessThan v)
 upper_member Unbounded = None
 
--- a member whose version has a local part is refused with its operator and its version
+-- a member whose version has a local part is rejected with its operator and its version
 abbrev pub without_locals : Option Spec → Result (Option Spec) BuildRefusal
 without_locals None = Ok None
 without_locals (Some m) = if has_local m.version then Err (OperatorLocalCombo m.operator m.version) else Ok (Some m)

@@ -24,7 +24,7 @@ is_star EqualStar = true
 is_star NotEqualStar = true
 is_star _ = false
 
--- a text is that of an operator without a star
+-- a string is that of an operator without a star
 abbrev pub Spells : List ℕ → Operator → Type 0
 Spells text o = (text ≡ operator_text o) × (is_star o ≡ false)
 
@@ -74,8 +74,3 @@ operator_cmp = on operator_rank nat_cmp
 -- what an operator gives a hasher
 abbrev pub feed_operator : Operator → HashWrites
 feed_operator o = u64 (operator_rank o)
-
--- what negating twice ends at: the operator itself, but `===` ends at `==`
-abbrev pub given_back : Operator → Operator
-given_back ExactEqual = Equal
-given_back o = o

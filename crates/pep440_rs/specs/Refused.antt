@@ -1,40 +1,31 @@
--- Which number a conversion raises. The conversion is refused exactly where that number is the greatest there is.
-use Rattle.std.specs.Prelude.{◌≡◌, ◌↔◌, ◌≤◌, ℕ, length, nat_eq, Bool, true, false, Option, option_map, Some, None, Result, Ok, Err}
+-- Which number a conversion raises. The conversion is rejected exactly where that number is the greatest there is.
+use Rattle.std.specs.Prelude.{◌≡◌, ◌↔◌, ℕ, nat_eq, Bool, true, false, Option, option_map, Some, None, Result, Ok, Err, if◌then◌else◌}
 use Rattle.std.specs.List.{last_or}
 use Rattle.std.specs.Option.{option_eq, option_or}
 use Rattle.pep440_rs.specs.Bounds.{Segments}
 use Rattle.pep440_rs.specs.Matching.{without_last}
-use Rattle.pep440_rs.specs.Specifiers.{Spec}
+use Rattle.pep440_rs.specs.Operators.{is_star}
+use Rattle.pep440_rs.specs.Specifiers.{IsSpec, Spec}
 use Rattle.pep440_rs.specs.declared.specifier.operator.Operator.{Operator}
-use Rattle.pep440_rs.specs.declared.specifier.operator.Operator.TheVariants.{EqualStar, NotEqualStar, TildeEqual, GreaterThan}
+use Rattle.pep440_rs.specs.declared.specifier.operator.Operator.TheVariants.{TildeEqual, GreaterThan}
 use Rattle.pep440_rs.specs.declared.range.error.RangeError.{RangeError}
 use Rattle.pep440_rs.specs.declared.range.error.RangeError.TheVariants.{NumberAtMax, OutOfMemory}
 use Rattle.pep440_version.specs.Record.{Record, from_release}
 
--- a star: the post if there is one, else the pre's number if there is one, else the last number of the release
-abbrev pub raised_by_star : Record → Option ℕ
-raised_by_star s = option_or s.post (option_or (option_map (λ p. p.number) s.pre) (last_or None s.release))
-
 -- the number that the conversion raises, if it raises one. `>`: the dev if there is one, else the post if there is one;
--- `~=`: the last number but one
+-- `~=`: the last number but one; a star: the post if there is one, else the pre's number if there is one, else the last number
 abbrev pub raised_number : Operator → Record → Option ℕ
 raised_number GreaterThan s = option_or s.dev s.post
 raised_number TildeEqual s = last_or None (without_last s.release)
-raised_number EqualStar s = raised_by_star s
-raised_number NotEqualStar s = raised_by_star s
-raised_number _ s = None
+raised_number o s = if is_star o then option_or s.post (option_or (option_map (λ p. p.number) s.pre) (last_or None s.release)) else None
 
 -- by releases alone
 abbrev pub raised_release_number : Operator → Record → Option ℕ
 raised_release_number op s = raised_number op (from_release s.release)
 
--- enough release numbers: one, and two for `~=`
-abbrev pub HasNumbers : Operator → Record → Type 0
-HasNumbers TildeEqual s = 2 ≤ length s.release
-HasNumbers _ s = 1 ≤ length s.release
-
+-- of a specifier
 abbrev pub RefusedAtMax : (Operator → Record → Option Segments) → (Operator → Record → Option ℕ) → Type 0
-RefusedAtMax conversion number = (op : Operator) (s : Record) → HasNumbers op s → (conversion op s ≡ None) ↔ (number op s ≡ Some 18446744073709551615)
+RefusedAtMax conversion number = (s : Spec) → IsSpec s → (conversion s.operator s.version ≡ None) ↔ (number s.operator s.version ≡ Some 18446744073709551615)
 
 -- ---- what is answered there
 
@@ -42,7 +33,7 @@ RefusedAtMax conversion number = (op : Operator) (s : Record) → HasNumbers op 
 abbrev pub raises_max : (Operator → Record → Option ℕ) → Spec → Bool
 raises_max number s = option_eq nat_eq (number s.operator s.version) (Some 18446744073709551615)
 
--- a conversion is refused for another cause than memory exactly where the greatest number there is has to be raised
+-- a conversion is rejected for another cause than memory exactly where the greatest number there is has to be raised
 abbrev pub TellsMax : Bool → Result Segments RangeError → Type 0
 TellsMax at_max (Ok range) = at_max ≡ false
 TellsMax at_max (Err NumberAtMax) = at_max ≡ true

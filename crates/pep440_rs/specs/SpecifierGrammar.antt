@@ -1,5 +1,5 @@
--- The texts of specifiers (PEP 440, "Version specifiers"): blanks, an operator, blanks, a version, blanks and the
--- end. A blank is a character that Unicode calls white space.
+-- The strings that denote specifiers (PEP 440, "Version specifiers"): blanks, an operator, blanks, a version, blanks and the end. A
+-- blank is a character that Unicode calls white space.
 use Rattle.std.specs.Prelude.{◌≡◌, ◌<◌, ◌||◌, ◌==◌, ℕ, List, [], ◌++◌, Bool, true, false, length, Ok, Err}
 use Rattle.std.specs.Char.{is_whitespace, is_not_whitespace}
 use Rattle.std.specs.List.{list_all}
@@ -22,8 +22,8 @@ is_operator_char c = (c == 61) || (c == 33) || (c == 126) || (c == 60) || (c == 
 abbrev pub IsRun : (ℕ → Bool) → List ℕ → List ℕ → Type 0
 IsRun test part rest = (list_all test part ≡ true) × (starts test rest ≡ false)
 
--- the characters of a text in six parts, each but the last as long as can be: blanks, an operator, blanks, a
--- version, blanks, and the rest
+-- the characters of a string in six parts, each but the last as long as can be: blanks, an operator, blanks, a version,
+-- blanks, and the rest
 pub record SpecifierParts (text : List ℕ) : Type 0 where
   pub before : List ℕ
   pub operator : List ℕ
@@ -43,16 +43,16 @@ pub record ReadsParts {text : List ℕ} (c : SpecifierParts text) (o : Operator)
   pub operator : Spells (encode_utf8_all c.operator) o
   pub version : DerivesPattern (encode_utf8_all c.version) r star
 
--- the text means the specifier
+-- the string denotes the specifier
 abbrev pub DerivesSpecifier : List ℕ → Spec → Type 0
 DerivesSpecifier text s = (c : SpecifierParts text) × (o : Operator) × (r : Record) × (star : Bool) × ReadsParts c o r star
     × (built_pattern o r star ≡ Ok s) × (c.rest ≡ [])
 
--- some text means the specifier
+-- some string denotes the specifier
 abbrev pub HasText : Spec → Type 0
 HasText s = (text : List ℕ) × DerivesSpecifier text s
 
--- why a text is no specifier
+-- why a string is no specifier
 pub data SpecifierRefusal : Type 0 where
   MissingOperator : SpecifierRefusal
   InvalidOperator : (got : List ℕ) → SpecifierRefusal
@@ -61,7 +61,7 @@ pub data SpecifierRefusal : Type 0 where
   InvalidSpecifier : BuildRefusal → SpecifierRefusal
   InvalidTrailing : (rest : List ℕ) → SpecifierRefusal
 
--- asked in this order: each speaks of a text of which none before it holds
+-- asked in this order: each speaks of a string of which none before it holds
 abbrev pub RefusesSpecifier : List ℕ → SpecifierRefusal → Type 0
 RefusesSpecifier text MissingOperator = (c : SpecifierParts text) × (c.operator ≡ [])
 RefusesSpecifier text (InvalidOperator got) = (c : SpecifierParts text) × (0 < length c.operator) × (got ≡ encode_utf8_all c.operator) × ((o : Operator) → Spells got o → ⊥)

@@ -46,12 +46,12 @@ with_operator got None version rest = Err (InvalidOperator got)
 with_operator got (Some o) version rest =
     if length version == 0 then Err MissingVersion else with_pattern o (read_pattern version) rest
 
--- what the operator, the version and the rest of a text give
+-- what the operator, the version and the rest of a string give
 unfoldable pub meaning : List ℕ → List ℕ → List ℕ → Result Spec SpecifierRefusal
 meaning operator version rest =
     if length operator == 0 then Err MissingOperator else with_operator operator (read_operator operator) version rest
 
--- the parts of the characters of a text, from the operator on
+-- the parts of the characters of a string, from the operator on
 abbrev pub from_operator : List ℕ → List ℕ
 from_operator text = past is_whitespace (chars text)
 
@@ -61,7 +61,7 @@ from_version text = past is_whitespace (past is_operator_char (from_operator tex
 abbrev pub from_rest : List ℕ → List ℕ
 from_rest text = past is_whitespace (past is_not_whitespace (from_version text))
 
--- what the text reads as
+-- what the string reads as
 abbrev pub read_specifier : List ℕ → Result Spec SpecifierRefusal
 read_specifier text = meaning (encode_utf8_all (lead is_operator_char (from_operator text)))
     (encode_utf8_all (lead is_not_whitespace (from_version text))) (encode_utf8_all (from_rest text))

@@ -1,15 +1,10 @@
-//! Versions, specifiers and lists as JSON strings.
+//! Versions as JSON strings, and what the JSON forms of specifiers and lists share.
 ghost use Rattle.std.specs.Prelude.{◌≡◌, ◌↔◌, ℕ, List, codes, string_bytes, IfOk, IfErr, IfSome, IsErrOf, IsSomeAnd, Ok, Err, Some, None, MatchOption, MatchResult};
 ghost use Rattle.pep440_rs.specs.Json.{text_of, IsString, IfText, JsonAnswers};
-ghost use Rattle.pep440_rs.specs.ErrorTexts.{specifier_text_of, specifier_refusal_text};
 ghost use Rattle.pep440_rs.specs.Errors.{specifier_refusal_of, parse_kind_of, IsLifted};
-ghost use Rattle.pep440_rs.specs.ListAnswers.{line_of, list_kind_of};
+ghost use Rattle.pep440_rs.specs.ListAnswers.{list_kind_of};
 ghost use Rattle.pep440_rs.specs.ListErrors.{IsListLifted, list_refusal_of};
-ghost use Rattle.pep440_rs.specs.ListErrorTexts.{list_refusal_text, list_text_of};
-ghost use Rattle.pep440_rs.specs.ListGrammar.{DerivesList, PieceRefusal, RefusesList};
 ghost use Rattle.pep440_rs.specs.Lists.{joined};
-ghost use Rattle.pep440_rs.specs.SpecifierGrammar.{DerivesSpecifier, RefusesSpecifier, SpecifierRefusal};
-ghost use Rattle.pep440_rs.specs.Specifiers.{Spec, spec_print};
 ghost use Rattle.pep440_rs.specs.declared.json.error.JsonError.TheVariants.{NotAString, Text, OutOfMemory};
 ghost use Rattle.pep440_version.specs.ErrorTexts.{error_text, refusal_text};
 ghost use Rattle.pep440_version.specs.Errors.{kind_of, refusal_of};
@@ -22,7 +17,6 @@ ghost use Rattle.pep440_version.specs.RoundTrip.{RoundTrips};
 pub(crate) mod error;
 
 use crate::json::error::JsonError;
-use crate::list::VersionSpecifiers;
 use crate::list::error::{SpecifiersErrorKind, VersionSpecifiersParseError};
 use crate::specifier::VersionSpecifier;
 use crate::specifier::error::{ParseErrorKind, VersionSpecifierParseError};
@@ -30,14 +24,14 @@ use pep440_version::{ErrorKind, Version, VersionParseError};
 use serde_json::Value;
 use std::alloc::{AllocError, Global};
 
-// The text of a string.
-fn string<E>(value: &Value) -> Result<&str, JsonError<E>>
+// The bytes of a string value.
+pub(crate) fn expect_string<E>(value: &Value) -> Result<&str, JsonError<E>>
     ensures { MatchResult result (λ t. IsString value.now t.now) (λ e. (e ≡ NotAString) × (text_of value.now ≡ None)) }
 {
     value.as_str().ok_or_else(|| JsonError::NotAString)
 }
 
-// The refusal of a text, or out of memory.
+// The error of the string, or out of memory.
 fn from_version_error(error: VersionParseError) -> JsonError<VersionParseError>
     ensures { MatchOption (refusal_of (kind_of error)) (result ≡ OutOfMemory) (λ _. result ≡ Text error) }
 {
@@ -47,8 +41,10 @@ fn from_version_error(error: VersionParseError) -> JsonError<VersionParseError>
     }
 }
 
-// The refusal of a text, or out of memory.
-fn of_specifier(error: VersionSpecifierParseError) -> JsonError<VersionSpecifierParseError>
+// The error of the string, or out of memory.
+pub(crate) fn from_specifier_error(
+    error: VersionSpecifierParseError,
+) -> JsonError<VersionSpecifierParseError>
     requires { IsLifted (parse_kind_of error) }
     ensures { MatchOption (specifier_refusal_of (parse_kind_of error)) (result ≡ OutOfMemory) (λ _. result ≡ Text error) }
 {
@@ -58,8 +54,10 @@ fn of_specifier(error: VersionSpecifierParseError) -> JsonError<VersionSpecifier
     }
 }
 
-// The refusal of a text, or out of memory.
-fn of_list(error: VersionSpecifiersParseError) -> JsonError<VersionSpecifiersParseError>
+// The error of the string, or out of memory.
+pub(crate) fn from_list_error(
+    error: VersionSpecifiersParseError,
+) -> JsonError<VersionSpecifiersParseError>
     requires { IsListLifted (list_kind_of error) }
     ensures { MatchOption (list_refusal_of (list_kind_of error)) (result ≡ OutOfMemory) (λ _. result ≡ Text error) }
 {
@@ -69,47 +67,49 @@ fn of_list(error: VersionSpecifiersParseError) -> JsonError<VersionSpecifiersPar
     }
 }
 
-/// The version as JSON: the string of its print.
+/// The version as JSON: the string that it prints.
 ///
-/// Takes memory.
+/// Allocates.
 pub fn version_to_json(alloc: Global, version: &Version) -> Result<Value, AllocError>
     ensures { IfOk result (λ value. IsString value (print version.now)) }
 {
     Ok(Value::from(version.to_string(alloc)?))
 }
 
-/// The version that the text of a JSON string means, as by `Version::from_str`.
+/// The version that a JSON string denotes, as by `Version::from_str`.
 ///
-/// Takes memory. Every other value is refused as `NotAString`, and a text that means no version as `Text` of the
-/// error of `Version::from_str`; only where a request for memory was refused the error of a string may be
-/// `OutOfMemory` instead.
+/// Allocates. Every other value is rejected as `NotAString`, and a string that is no version as `Text` of the error
+/// of `Version::from_str`; only where an allocation failed the error of a string may be `OutOfMemory` instead.
 pub fn version_from_json(
     alloc: Global,
     value: &Value,
 ) -> Result<Version, JsonError<VersionParseError>>
-    // What is no string is refused as such, and nothing else is.
+    // `NotAString` is the error of what is no string, and of nothing else.
     ensures no_string { IsErrOf result NotAString ↔ (text_of value.now ≡ None) }
-    // What is answered is what the text means.
+    // What is returned is what the string denotes.
     ensures found { IfOk result (λ v. (t : List ℕ) × IsString value.now t × Derives t v) }
-    // What the text means is answered, unless memory runs out.
+    // What the string denotes is returned, unless memory runs out.
     ensures only { (t : List ℕ) (r : Record) → IsString value.now t → Derives t r → JsonAnswers (λ e. refusal_of (kind_of e)) result (Ok r) }
-    // A refusal of the text is one that its fronts tell, and not out of memory.
+    // The error of the string is one that its prefixes decide, and not out of memory.
     ensures refused { IfErr result (λ e. IfText e (λ inner. IsSomeAnd (refusal_of (kind_of inner)) (λ f. (t : List ℕ) × IsString value.now t × Refuses t f))) }
-    // The error's text is the refusal's.
+    // The error's message is the stated one.
     ensures message { IfErr result (λ e. IfText e (λ inner. IfSome (refusal_of (kind_of inner)) (λ f. error_text (refusal_of (kind_of inner)) ≡ Some (refusal_text f)))) }
-    // A refusal that the fronts of the text tell is answered, unless memory runs out.
+    // The error that the prefixes of the string decide is returned, unless memory runs out.
     ensures decided { (t : List ℕ) (f : Refusal) → IsString value.now t → Refuses t f → JsonAnswers (λ e. refusal_of (kind_of e)) result (Err f) }
-    // The JSON form of a record is answered with that record, unless memory runs out.
+    // The JSON form of a record round-trips, unless memory runs out.
     ensures round_trips { (r : Record) → IsRecord r → RoundTrips r → IsString value.now (print r) → JsonAnswers (λ e. refusal_of (kind_of e)) result (Ok r) }
-    // So is that of what some text means.
+    // So does that of what some string denotes.
     ensures again { (t : List ℕ) (r : Record) → Derives t r → IsString value.now (print r) → JsonAnswers (λ e. refusal_of (kind_of e)) result (Ok r) }
 {
-    let text = string::<VersionParseError>(value)?;
+    let text = expect_string::<VersionParseError>(value)?;
     Version::from_str(alloc, text).map_err(from_version_error)
 }
 
 // The members with commas between them.
-fn joined(alloc: Global, members: &[VersionSpecifier]) -> Result<String, AllocError>
+pub(crate) fn join_members(
+    alloc: Global,
+    members: &[VersionSpecifier],
+) -> Result<String, AllocError>
     ensures { IfOk result (λ text. string_bytes text ≡ joined (codes ",") members.now) }
 {
     let Some((first, others)) = members.split_first() else {
@@ -120,84 +120,4 @@ fn joined(alloc: Global, members: &[VersionSpecifier]) -> Result<String, AllocEr
         write!(text, ",{member}")?;
     }
     Ok(text)
-}
-
-impl VersionSpecifier {
-    /// The specifier as JSON: the string of its print.
-    ///
-    /// Takes memory.
-    pub fn to_json(&self, alloc: Global) -> Result<Value, AllocError>
-        ensures { IfOk result (λ value. IsString value (spec_print self.now)) }
-    {
-        Ok(Value::from(self.to_string(alloc)?))
-    }
-
-    /// The specifier that the text of a JSON string means, as by `VersionSpecifier::from_str`.
-    ///
-    /// Takes memory. Every other value is refused as `NotAString`, and a text that means no specifier as `Text` of
-    /// the error of `VersionSpecifier::from_str`; only where a request for memory was refused the error of a string
-    /// may be `OutOfMemory` instead.
-    pub fn from_json(
-        alloc: Global,
-        value: &Value,
-    ) -> Result<VersionSpecifier, JsonError<VersionSpecifierParseError>>
-        // What is no string is refused as such, and nothing else is.
-        ensures no_string { IsErrOf result NotAString ↔ (text_of value.now ≡ None) }
-        // What is answered is what the text means.
-        ensures found { IfOk result (λ s. (t : List ℕ) × IsString value.now t × DerivesSpecifier t s) }
-        // What the text means is answered, unless memory runs out.
-        ensures only { (t : List ℕ) (s : Spec) → IsString value.now t → DerivesSpecifier t s → JsonAnswers (λ e. specifier_refusal_of (parse_kind_of e)) result (Ok s) }
-        // A refusal of the text is the one of the text, and not out of memory.
-        ensures refused { IfErr result (λ e. IfText e (λ inner. IsSomeAnd (specifier_refusal_of (parse_kind_of inner)) (λ f. (t : List ℕ) × IsString value.now t × RefusesSpecifier t f))) }
-        // The error's text is the refusal's.
-        ensures message { IfErr result (λ e. IfText e (λ inner. IfSome (specifier_refusal_of (parse_kind_of inner)) (λ f. specifier_text_of (parse_kind_of inner) ≡ Some (specifier_refusal_text f)))) }
-        // The refusal of the text is answered, unless memory runs out.
-        ensures decided { (t : List ℕ) (f : SpecifierRefusal) → IsString value.now t → RefusesSpecifier t f → JsonAnswers (λ e. specifier_refusal_of (parse_kind_of e)) result (Err f) }
-        // The JSON form of what some text means is answered with that, unless memory runs out.
-        ensures again { (t : List ℕ) (s : Spec) → DerivesSpecifier t s → IsString value.now (spec_print s) → JsonAnswers (λ e. specifier_refusal_of (parse_kind_of e)) result (Ok s) }
-    {
-        let text = string::<VersionSpecifierParseError>(value)?;
-        VersionSpecifier::from_str(alloc, text).map_err(of_specifier)
-    }
-}
-
-impl VersionSpecifiers {
-    /// The list as JSON: the string of its members' prints, with a comma and no blank between them.
-    ///
-    /// Takes memory.
-    pub fn to_json(&self, alloc: Global) -> Result<Value, AllocError>
-        ensures { IfOk result (λ value. IsString value (joined (codes ",") self.now)) }
-    {
-        Ok(Value::from(joined(alloc, self.as_slice())?))
-    }
-
-    /// The list that the text of a JSON string means, as by `VersionSpecifiers::from_str`.
-    ///
-    /// Takes memory. Every other value is refused as `NotAString`, and a text that means no list as `Text` of the
-    /// error of `VersionSpecifiers::from_str`; only where a request for memory was refused the error of a string may
-    /// be `OutOfMemory` instead.
-    pub fn from_json(
-        alloc: Global,
-        value: &Value,
-    ) -> Result<VersionSpecifiers, JsonError<VersionSpecifiersParseError>>
-        // What is no string is refused as such, and nothing else is.
-        ensures no_string { IsErrOf result NotAString ↔ (text_of value.now ≡ None) }
-        // What is answered is what the text means.
-        ensures found { IfOk result (λ list. (t : List ℕ) × IsString value.now t × DerivesList t list) }
-        // What the text means is answered, unless memory runs out.
-        ensures only { (t : List ℕ) (list : List Spec) → IsString value.now t → DerivesList t list → JsonAnswers (λ e. list_refusal_of (list_kind_of e)) result (Ok list) }
-        // A refusal of the text is that of its first refused piece, and not out of memory.
-        ensures refused { IfErr result (λ e. IfText e (λ inner. IsSomeAnd (list_refusal_of (list_kind_of inner)) (λ f. (t : List ℕ) × IsString value.now t × RefusesList t f))) }
-        // The error's text is the refusal's, with the whole text and a line that marks the piece.
-        ensures message { IfErr result (λ e. IfText e (λ inner. IfSome (list_refusal_of (list_kind_of inner)) (λ f. list_text_of (list_kind_of inner) (line_of inner) ≡ Some (list_refusal_text f (line_of inner))))) }
-        // The error of the text holds the whole text.
-        ensures line { IfErr result (λ e. IfText e (λ inner. IsString value.now (line_of inner))) }
-        // The refusal of the text is answered, unless memory runs out.
-        ensures decided { (t : List ℕ) (f : PieceRefusal) → IsString value.now t → RefusesList t f → JsonAnswers (λ e. list_refusal_of (list_kind_of e)) result (Err f) }
-        // The JSON form of what some text means is answered with that, unless memory runs out.
-        ensures again { (t : List ℕ) (list : List Spec) → DerivesList t list → IsString value.now (joined (codes ",") list) → JsonAnswers (λ e. list_refusal_of (list_kind_of e)) result (Ok list) }
-    {
-        let text = string::<VersionSpecifiersParseError>(value)?;
-        VersionSpecifiers::from_str(alloc, text).map_err(of_list)
-    }
 }

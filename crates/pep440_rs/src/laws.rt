@@ -18,13 +18,13 @@ ghost use Rattle.pep440_rs.specs.Refused.{RefusedAtMax, raised_number, raised_re
 
 use crate::specifier::operator::Operator;
 
-/// A text means at most one specifier, and a text at most one list.
+/// A string denotes at most one specifier and at most one list.
 pub fn means_one()
     ensures specifier { (text : List ℕ) (s t : Spec) → DerivesSpecifier text s → DerivesSpecifier text t → s ≡ t }
     ensures list { (text : List ℕ) (l m : List Spec) → DerivesList text l → DerivesList text m → l ≡ m }
 {}
 
-/// A text either means a specifier or is refused, never both, and for exactly one reason; so it is of lists.
+/// A string either denotes a specifier or is rejected with exactly one error, never both; likewise for lists.
 pub fn refused_once()
     ensures specifier { (text : List ℕ) (f g : SpecifierRefusal) → RefusesSpecifier text f → RefusesSpecifier text g → f ≡ g }
     ensures either { (text : List ℕ) → ((s : Spec) × DerivesSpecifier text s) ⊎ ((f : SpecifierRefusal) × RefusesSpecifier text f) }
@@ -46,25 +46,25 @@ pub fn exclusions()
     ensures star { (s v : Record) → matches Operator.NotEqualStar s v ≡ not (matches Operator.EqualStar s v) }
 {}
 
-/// What a text gives beside an operator other than `===` is a version for which range and matching can be compared:
-/// beside a star a release with its epoch, beside `==` and `!=` any version, beside the others one without local
-/// part (PEP 440, "Version specifiers"). Each member of a list that a text gives is one that a text gives.
+/// The version of a specifier that some string denotes is one for which range and matching can be compared: beside a
+/// star a release with its epoch, beside `==`, `!=` and `===` any version, beside the others one without local part
+/// (PEP 440, "Version specifiers"). Each member of a list that some string denotes is itself denoted by some string.
 pub fn texts_give_operands()
     ensures single { (s : Spec) → HasText s → HasOperand s }
     ensures members { (text : List ℕ) (list : List Spec) → DerivesList text list → All HasText list }
     ensures list { (text : List ℕ) (list : List Spec) → DerivesList text list → All HasOperand list }
 {}
 
-/// Of a version that a text can give beside the operator the range holds exactly what the specifier contains, where the
-/// two can be compared; whatever the suffixes, the range of `<` holds only what matches, and that of `>` all that
-/// matches. So it is of each specifier that a text gives (`texts_give_operands`).
+/// Where the version is one that a string can have beside the operator, the range holds exactly what the specifier
+/// contains, as far as the two can be compared; whatever the suffixes, the range of `<` holds only what matches, and
+/// that of `>` all that matches. Each specifier that some string denotes is of this kind (`texts_give_operands`).
 pub fn range_agrees()
     ensures agrees { (s : Spec) (range : Segments) → range_of s.operator s.version ≡ Some range → HasOperand s → Agrees IsCandidate s range }
     ensures within { (s : Spec) (range : Segments) → range_of s.operator s.version ≡ Some range → HasOperand s → HoldsOnlyMatches s range }
     ensures around { (s : Spec) (range : Segments) → range_of s.operator s.version ≡ Some range → HasOperand s → HoldsAllMatches s range }
 {}
 
-/// The same of what texts give, alone or as members of any list, in one step.
+/// The same of what strings denote, alone or as members of any list, in one step.
 pub fn range_of_text_agrees()
     ensures single { (s : Spec) (range : Segments) → range_of s.operator s.version ≡ Some range → HasText s → Agrees IsCandidate s range }
     ensures list { (members : List Spec) (range : Segments) → list_range range_of members ≡ Some range → All HasText members → ListAgrees IsCandidate members range }
@@ -72,7 +72,7 @@ pub fn range_of_text_agrees()
     ensures around { (s : Spec) (range : Segments) → range_of s.operator s.version ≡ Some range → HasText s → HoldsAllMatches s range }
 {}
 
-/// Of releases alone the release-only range holds exactly what the specifier contains.
+/// The release-only range holds exactly the releases that the specifier contains.
 pub fn release_range_agrees()
     ensures { (s : Spec) (range : Segments) → release_range_of s.operator s.version ≡ Some range → Agrees IsReleaseComparable s range }
 {}
@@ -83,7 +83,8 @@ pub fn list_agrees()
     ensures release { (members : List Spec) (range : Segments) → list_range release_range_of members ≡ Some range → ListAgrees IsReleaseComparable members range }
 {}
 
-/// The range of a list is the intersection of its members' ranges, and refused exactly where one of them is.
+/// The range of a list is the intersection of its members' ranges, and there is none exactly where one of them has
+/// none.
 pub fn list_is_intersection()
     ensures whole { (members : List Spec) (range : Segments) → list_range range_of members ≡ Some range → HoldsInEach range_of members range }
     ensures release { (members : List Spec) (range : Segments) → list_range release_range_of members ≡ Some range → HoldsInEach release_range_of members range }
@@ -109,7 +110,7 @@ pub fn cover_holds()
     ensures apart { GivesRanges cover_of }
 {}
 
-/// A conversion is refused exactly where a number to be raised is the greatest there is.
+/// A conversion is rejected exactly where a number to be raised is the greatest there is.
 pub fn refused_at_max()
     ensures whole { RefusedAtMax range_of raised_number }
     ensures cover { RefusedAtMax cover_of raised_number }

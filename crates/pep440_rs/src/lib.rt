@@ -22,7 +22,7 @@
 //! }
 //! ```
 //!
-//! A call that may take memory is passed an allocator and answers a `Result`; nothing ends the process.
+//! A call that may allocate takes an allocator and returns a `Result`; nothing ends the process.
 #![tactic(auto)]
 
 mod bounds;

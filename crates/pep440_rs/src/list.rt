@@ -1,6 +1,6 @@
-//! Lists of specifiers: how one is made, and its members.
-ghost use Rattle.std.specs.Prelude.{◌≡◌, ◌==◌, ◌<◌, ◌∷◌, [], ℕ, List, codes, length, IfOk, IfErr, IfSome, IsOk, IsTrue, Some, Ok, Err};
-ghost use Rattle.std.specs.List.{All};
+//! Lists of specifiers: how one is made and read, its members, its forms as a string and as JSON, its order and hash.
+ghost use Rattle.std.specs.Prelude.{◌≡◌, ◌==◌, ◌∷◌, [], ℕ, List, codes, length, IfOk, IfErr, IfSome, IsOk, IsTrue, Some, Ok, Err, refl, ◌↔◌, IsErrOf, IsSomeAnd, None};
+ghost use Rattle.std.specs.List.{All, flat_map, fold};
 ghost use Rattle.std.specs.Slice.Iter.{iter_rest};
 ghost use Rattle.std.specs.Vec.Iter.{into_iter_items};
 ghost use Rattle.pep440_rs.specs.Agreement.{HasOperand};
@@ -10,26 +10,39 @@ ghost use Rattle.pep440_rs.specs.ListErrors.{IsListLifted, list_refusal_of};
 ghost use Rattle.pep440_rs.specs.ListErrorTexts.{list_refusal_text, list_text_of};
 ghost use Rattle.pep440_rs.specs.ListGrammar.{DerivesList, PieceRefusal, RefusesList};
 ghost use Rattle.pep440_rs.specs.ListReading.{read_members};
-ghost use Rattle.pep440_rs.specs.Lists.{joined, list_print};
-ghost use Rattle.pep440_rs.specs.Specifiers.{Spec};
+ghost use Rattle.pep440_rs.specs.Lists.{joined, list_print, list_cmp, feed_list};
+ghost use Rattle.pep440_rs.specs.Specifiers.{Spec, feed_spec};
+ghost use Rattle.std.specs.Cmp.{partial_equiv_from_equiv};
+ghost use Rattle.std.specs.Ordering.{as_partial_cmp, eq_by_cmp};
+ghost use Rattle.pep440_rs.specs.ListLaws.{list_equiv, list_po, list_total, lists_feed_alike};
+ghost use Rattle.pep440_rs.specs.Json.{text_of, IsString, IfText, JsonAnswers};
+ghost use Rattle.pep440_rs.specs.declared.json.error.JsonError.TheVariants.{NotAString};
+ghost use Rattle.pep440_rs.specs.BoundsAgreement.{IsReleasePair, IsOrdered, KnowsGaps, HoldsWithin, HoldsOnlyWithin};
+ghost use Rattle.pep440_rs.specs.Members.{list_members};
 
 pub(crate) mod contains;
 pub(crate) mod error;
 pub(crate) mod error_text;
-pub(crate) mod hash;
-pub(crate) mod order;
 pub(crate) mod print;
 pub(crate) mod read;
 
+use crate::bounds::members::convert_pairs;
+use crate::json::error::JsonError;
+use crate::json::{expect_string, from_list_error, join_members};
 use crate::list::error::VersionSpecifiersParseError;
+use crate::list::print::write_list;
 use crate::specifier::VersionSpecifier;
+use pep440_version::Version;
+use serde_json::Value;
 use std::alloc::{AllocError, Global};
 use std::cmp::Ordering;
+use std::hash::{Hash, Hasher};
 use std::marker::Model;
-use std::vec;
+use std::ops::Bound;
+use std::{fmt, vec};
 
-/// A list of specifiers, as `>=1.0, <2.0` (PEP 440, "Version specifiers"). A version is held by the list where
-/// each member holds it; so the empty list holds every version.
+/// A list of specifiers, as `>=1.0, <2.0` (PEP 440, "Version specifiers"). The list contains a version where each
+/// member does; so the empty list contains every version.
 ///
 /// The members stand by version, and members with equal versions in the order in which they were given.
 #[derive(Debug, Drop)]
@@ -50,19 +63,19 @@ impl Model for VersionSpecifiers {
 }
 
 // By version alone.
-fn by_version(a: &VersionSpecifier, b: &VersionSpecifier) -> Ordering
+fn cmp_versions(a: &VersionSpecifier, b: &VersionSpecifier) -> Ordering
     ensures { result ≡ version_cmp a.now b.now }
 {
     a.version().cmp(b.version())
 }
 
 // Whether no member's version is below that of the one before it.
-fn are_arranged(members: &[VersionSpecifier]) -> bool
+fn is_arranged(members: &[VersionSpecifier]) -> bool
     ensures rise { IsTrue result → IsArranged members.now }
     ensures fall { IsArranged members.now → IsTrue result }
 {
     for i in 1..members.len() {
-        if by_version(&members[i], &members[i - 1]).is_lt() {
+        if cmp_versions(&members[i], &members[i - 1]).is_lt() {
             return false;
         }
     }
@@ -91,7 +104,7 @@ impl VersionSpecifiers {
         ensures value { IfOk result (λ list. Arranges specifiers.items list) }
         ensures memory { IsArranged specifiers.items → IsOk result }
     {
-        if are_arranged(&specifiers) {
+        if is_arranged(&specifiers) {
             return Ok(VersionSpecifiers {
                 members: specifiers,
             });
@@ -104,13 +117,13 @@ impl VersionSpecifiers {
         ensures { IfOk result (λ list. Arranges specifiers.items list) }
     {
         let mut members = specifiers;
-        members.sort_by(|a, b| by_version(a, b))?;
+        members.sort_by(|a, b| cmp_versions(a, b))?;
         Ok(VersionSpecifiers { members })
     }
 
     /// The list of this one member.
     ///
-    /// Takes memory.
+    /// Allocates.
     pub fn from_specifier(
         alloc: Global,
         specifier: VersionSpecifier,
@@ -120,6 +133,28 @@ impl VersionSpecifiers {
         let mut members = Vec::new(alloc);
         members.push(specifier)?;
         Ok(VersionSpecifiers { members })
+    }
+
+    /// The list of pairs of bounds: for each gap between an upper bound and the next lower one `!=` of the one
+    /// version that is left out, or `!=a.b.*` from `a.b` on to below `a.c`, where c is b plus 1, and nothing for
+    /// every other gap; then the specifiers of the first lower and the last upper bound, as by
+    /// `VersionSpecifier::from_release_only_bounds`; by version, and those with equal versions in this order. No
+    /// pair gives the empty list (PEP 440, "Version specifiers"). Each version must be a release alone;
+    /// `Version::is_release_only` is its test.
+    ///
+    /// Allocates.
+    pub fn from_release_only_bounds(
+        alloc: Global,
+        pairs: &[(Bound<Version>, Bound<Version>)],
+    ) -> Result<VersionSpecifiers, AllocError>
+        requires { All IsReleasePair pairs.now }
+        ensures value { IfOk result (λ list. Arranges (list_members pairs.now) list) }
+        // It contains each release within the pairs, where these are valid and ascend.
+        ensures within { IfOk result (λ list. IsOrdered pairs.now → HoldsWithin pairs.now list) }
+        // It contains no other release, where moreover each gap is empty or gives a member.
+        ensures only { IfOk result (λ list. IsOrdered pairs.now → KnowsGaps pairs.now → HoldsOnlyWithin pairs.now list) }
+    {
+        VersionSpecifiers::from_specifiers(alloc, convert_pairs(alloc, pairs)?)
     }
 
     // What the reading from the left gives.
@@ -136,35 +171,35 @@ impl VersionSpecifiers {
         )
     }
 
-    /// The list that the text means: specifiers with commas between them, by version, and those with equal
-    /// versions in the order of the text; the empty text is the empty list (PEP 440, "Version specifiers").
+    /// The list that the string denotes: specifiers with commas between them, by version, and those with equal
+    /// versions in the order of the string; the empty string is the empty list (PEP 440, "Version specifiers").
     ///
-    /// Takes memory. Every text that means no list is refused with its first piece that is no specifier, and
-    /// where in the text that piece lies; only where a request for memory was refused the kind may be
-    /// `OutOfMemory` instead.
+    /// Allocates. Every string that is no list is rejected with its first piece that is no specifier, and where in
+    /// the string that piece lies; only where an allocation failed the kind may be `OutOfMemory` instead.
     pub fn from_str(
         alloc: Global,
         text: &str,
     ) -> Result<VersionSpecifiers, VersionSpecifiersParseError>
-        // What is answered is what the text means.
+        // What is returned is what the string denotes.
         ensures found { IfOk result (λ list. DerivesList text.now list) }
-        // The version of each member is one that a text can give beside the operator, as the agreement of ranges asks.
+        // The version of each member is one that a string can have beside the operator, as the agreement of ranges
+        // requires.
         ensures operand { IfOk result (λ list. All HasOperand list) }
-        // What the text means is answered, unless memory runs out.
+        // What the string denotes is returned, unless memory runs out.
         ensures only { (list : List Spec) → DerivesList text.now list → ListAnswers result (Ok list) }
-        // A refusal is that of the first refused piece.
+        // The error is that of the first invalid piece.
         ensures refused { IfErr result (λ e. IfSome (list_refusal_of (list_kind_of e)) (RefusesList text.now)) }
-        // The refusal of the text is answered, unless memory runs out.
+        // The error of the string is returned, unless memory runs out.
         ensures decided { (f : PieceRefusal) → RefusesList text.now f → ListAnswers result (Err f) }
-        // The error's text is the refusal's, with the whole text and a line that marks the piece.
+        // The error's message is the stated one, with the whole string and a line that marks the piece.
         ensures message { IfErr result (λ e. IfSome (list_refusal_of (list_kind_of e)) (λ f. list_text_of (list_kind_of e) (line_of e) ≡ Some (list_refusal_text f text.now))) }
-        // The error holds the whole text, and none where memory ran out.
+        // The error holds the whole string, and nothing when out of memory.
         ensures line { IfErr result (λ e. line_of e ≡ line_for text.now (list_kind_of e)) }
         // Out of memory is the last kind, and stands in no other.
         ensures lifted { IfErr result (λ e. IsListLifted (list_kind_of e)) }
-        // The print of what some text means is answered with that, unless memory runs out.
+        // The printed form of what some string denotes round-trips, unless memory runs out.
         ensures again { (t : List ℕ) (list : List Spec) → DerivesList t list → text.now ≡ list_print list → ListAnswers result (Ok list) }
-        // So is its form with commas alone between the members.
+        // So does its form with commas alone between the members.
         ensures joined { (t : List ℕ) (list : List Spec) → DerivesList t list → text.now ≡ joined (codes ",") list → ListAnswers result (Ok list) }
     {
         VersionSpecifiers::read(alloc, text)
@@ -200,6 +235,45 @@ impl VersionSpecifiers {
     {
         self.members.iter()
     }
+
+    /// The list as JSON: the string of its members, with a comma and no space between them.
+    ///
+    /// Allocates.
+    pub fn to_json(&self, alloc: Global) -> Result<Value, AllocError>
+        ensures { IfOk result (λ value. IsString value (joined (codes ",") self.now)) }
+    {
+        Ok(Value::from(join_members(alloc, self.as_slice())?))
+    }
+
+    /// The list that a JSON string denotes, as by `VersionSpecifiers::from_str`.
+    ///
+    /// Allocates. Every other value is rejected as `NotAString`, and a string that is no list as `Text` of the error
+    /// of `VersionSpecifiers::from_str`; only where an allocation failed the error of a string may be `OutOfMemory`
+    /// instead.
+    pub fn from_json(
+        alloc: Global,
+        value: &Value,
+    ) -> Result<VersionSpecifiers, JsonError<VersionSpecifiersParseError>>
+        // `NotAString` is the error of what is no string, and of nothing else.
+        ensures no_string { IsErrOf result NotAString ↔ (text_of value.now ≡ None) }
+        // What is returned is what the string denotes.
+        ensures found { IfOk result (λ list. (t : List ℕ) × IsString value.now t × DerivesList t list) }
+        // What the string denotes is returned, unless memory runs out.
+        ensures only { (t : List ℕ) (list : List Spec) → IsString value.now t → DerivesList t list → JsonAnswers (λ e. list_refusal_of (list_kind_of e)) result (Ok list) }
+        // The error of the string is that of its first invalid piece, and not out of memory.
+        ensures refused { IfErr result (λ e. IfText e (λ inner. IsSomeAnd (list_refusal_of (list_kind_of inner)) (λ f. (t : List ℕ) × IsString value.now t × RefusesList t f))) }
+        // The error's message is the stated one, with the whole string and a line that marks the piece.
+        ensures message { IfErr result (λ e. IfText e (λ inner. IfSome (list_refusal_of (list_kind_of inner)) (λ f. list_text_of (list_kind_of inner) (line_of inner) ≡ Some (list_refusal_text f (line_of inner))))) }
+        // The error of the string holds the whole string.
+        ensures line { IfErr result (λ e. IfText e (λ inner. IsString value.now (line_of inner))) }
+        // The error of the string is returned, unless memory runs out.
+        ensures decided { (t : List ℕ) (f : PieceRefusal) → IsString value.now t → RefusesList t f → JsonAnswers (λ e. list_refusal_of (list_kind_of e)) result (Err f) }
+        // The JSON form of what some string denotes round-trips, unless memory runs out.
+        ensures again { (t : List ℕ) (list : List Spec) → DerivesList t list → IsString value.now (joined (codes ",") list) → JsonAnswers (λ e. list_refusal_of (list_kind_of e)) result (Ok list) }
+    {
+        let text = expect_string::<VersionSpecifiersParseError>(value)?;
+        VersionSpecifiers::from_str(alloc, text).map_err(from_list_error)
+    }
 }
 
 impl IntoIterator for VersionSpecifiers {
@@ -222,5 +296,73 @@ impl Clone for VersionSpecifiers {
         Ok(VersionSpecifiers {
             members: self.members.clone()?,
         })
+    }
+}
+
+impl PartialEq for VersionSpecifiers {
+    ghost eq = { eq_by_cmp list_cmp };
+
+    ghost laws = { partial_equiv_from_equiv list_equiv };
+
+    fn eq(&self, other: &VersionSpecifiers) -> bool {
+        self.cmp(other) == Ordering::Equal
+    }
+}
+
+impl Eq for VersionSpecifiers {
+    ghost laws = { list_equiv };
+}
+
+impl PartialOrd for VersionSpecifiers {
+    ghost partial_cmp = { as_partial_cmp list_cmp };
+
+    ghost laws = { list_po };
+
+    fn partial_cmp(&self, other: &VersionSpecifiers) -> Option<Ordering> {
+        Some(self.cmp(other))
+    }
+}
+
+impl Ord for VersionSpecifiers {
+    ghost cmp = { list_cmp };
+
+    ghost total = { list_total };
+
+    ghost matches_partial_cmp = { λ a b. refl };
+
+    ghost matches_eq = { λ a b. refl };
+
+    fn cmp(&self, other: &VersionSpecifiers) -> Ordering {
+        self.as_slice().cmp(other.as_slice())
+    }
+}
+
+fn hash_members<H: Hasher>(members: &[VersionSpecifier], state: &mut H)
+    ensures { state.new ≡ fold H.write state.old (flat_map feed_spec members.now) }
+{
+    for member in members {
+        member.hash(state);
+    }
+}
+
+impl Hash for VersionSpecifiers {
+    ghost hash_input = { feed_list };
+
+    ghost respects_eq = { lists_feed_alike };
+
+    fn hash<H: Hasher>(&self, state: &mut H) {
+        let members = self.as_slice();
+        state.write_u64(members.len() as u64);
+        hash_members(members, state);
+    }
+}
+
+impl fmt::Display for VersionSpecifiers {
+    ghost output = { λ list. Some (list_print list) };
+
+    ghost styled_output = { λ list _. Some (list_print list) };
+
+    fn fmt<W: fmt::Write>(&self, f: &mut fmt::Formatter<W>) -> fmt::Result {
+        write_list(f, self.as_slice())
     }
 }

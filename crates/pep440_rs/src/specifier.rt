@@ -1,39 +1,54 @@
-//! Single specifiers: how one is made, and its parts.
-ghost use Rattle.std.specs.Prelude.{◌≡◌, ◌||◌, ◌<◌, length, is_some, Ok, Err, Some, IfOk, IfErr, IfSome, ℕ, List, Bool};
-ghost use Rattle.pep440_version.specs.Record.{Record};
+//! Specifiers: how one is made and read, its parts, its forms as a string and as JSON, its order and hash.
+ghost use Rattle.std.specs.Prelude.{◌≡◌, ◌||◌, ◌<◌, length, is_some, Ok, Err, Some, IfOk, IfErr, IfSome, ℕ, List, refl, ◌↔◌, IsErrOf, IsSomeAnd, None};
 ghost use Rattle.pep440_rs.specs.Agreement.{HasOperand};
 ghost use Rattle.pep440_rs.specs.Build.{built, built_pattern};
 ghost use Rattle.pep440_rs.specs.Errors.{Builds, SpecifierAnswers, specifier_refusal_of, parse_kind_of, IsLifted};
-ghost use Rattle.pep440_rs.specs.ErrorTexts.{specifier_text_of, specifier_refusal_text};
+ghost use Rattle.pep440_rs.specs.ErrorTexts.{specifier_error_text, specifier_refusal_text};
 ghost use Rattle.pep440_rs.specs.Operators.{has_lower_bound};
 ghost use Rattle.pep440_rs.specs.SpecifierGrammar.{DerivesSpecifier, RefusesSpecifier, SpecifierRefusal};
 ghost use Rattle.pep440_rs.specs.SpecifierReading.{read_specifier};
-ghost use Rattle.pep440_rs.specs.Specifiers.{Spec, IsSpec, spec_print};
+ghost use Rattle.pep440_rs.specs.Specifiers.{Spec, IsSpec, spec_print, spec_cmp, feed_spec};
 ghost use Rattle.pep440_rs.specs.declared.specifier.operator.Operator.TheVariants.{Equal, EqualStar, NotEqual, NotEqualStar, LessThan, LessThanEqual, GreaterThan, GreaterThanEqual, TildeEqual};
+ghost use Rattle.std.specs.Cmp.{partial_equiv_from_equiv};
+ghost use Rattle.std.specs.Ordering.{as_partial_cmp, eq_by_cmp};
+ghost use Rattle.pep440_rs.specs.SpecifierLaws.{spec_equiv, spec_po, spec_total, specs_feed_alike};
+ghost use Rattle.std.specs.Fmt.{WritesStyledOnOk};
+ghost use Rattle.pep440_rs.specs.Json.{text_of, IsString, IfText, JsonAnswers};
+ghost use Rattle.pep440_rs.specs.declared.json.error.JsonError.TheVariants.{NotAString};
+ghost use Rattle.pep440_rs.specs.BoundErrors.{BoundAnswers};
+ghost use Rattle.pep440_rs.specs.BoundsAgreement.{IsReleaseBound, MatchesWithin};
+ghost use Rattle.pep440_rs.specs.Members.{lower_member, upper_member, without_locals, pair_members};
 
 pub(crate) mod contains;
 pub(crate) mod error;
 pub(crate) mod error_text;
-pub(crate) mod hash;
 pub(crate) mod operator;
-pub(crate) mod order;
-pub(crate) mod print;
 pub(crate) mod read;
 pub(crate) mod scan;
 
+use crate::bounds::error::BoundError;
+use crate::bounds::members::{convert_lower, convert_pair, convert_upper, reject_local};
+use crate::bounds::release_bounds::ReleaseBounds;
+use crate::json::error::JsonError;
+use crate::json::{expect_string, from_specifier_error};
 use crate::specifier::error::{
     BuildErrorKind, VersionSpecifierBuildError, VersionSpecifierParseError,
 };
 use crate::specifier::operator::Operator;
 use pep440_version::{Version, VersionPattern};
+use serde_json::Value;
 use std::alloc::{AllocError, Global};
+use std::cmp::Ordering;
+use std::fmt;
+use std::hash::{Hash, Hasher};
 use std::marker::Model;
+use std::ops::Bound;
 
 /// An operator and a version, as `>=1.2.3` (PEP 440, "Version specifiers"). Before the version of a `~=` stand
 /// two release numbers or more.
 ///
-/// Specifiers are ordered by operator, then by version; so `==1.0` equals `==1.0.0`, though the two may differ
-/// in print.
+/// Specifiers are ordered by operator, then by version; so `==1.0` equals `==1.0.0`, though the two may print
+/// differently.
 #[derive(Debug, Drop)]
 pub struct VersionSpecifier {
     operator: Operator,
@@ -52,6 +67,7 @@ impl Model for VersionSpecifier {
 
 impl VersionSpecifier {
     // What was read or built: every specifier is made here.
+    #[inline(always)]
     fn from_parts(operator: Operator, version: Version) -> VersionSpecifier
         requires { operator ≡ TildeEqual → 1 < length version.release }
         ensures { result ≡ record { operator = operator; version = version } }
@@ -60,11 +76,11 @@ impl VersionSpecifier {
         VersionSpecifier { operator, version }
     }
 
-    /// The specifier of an operator and a pattern. A star turns `==` and `!=` into their star forms, and every
-    /// other operator is refused as `OperatorWithStar`, the star forms too. Then the version is asked as by
+    /// The specifier of an operator and a pattern. A star turns `==` and `!=` into their star forms, and every other
+    /// operator is rejected as `OperatorWithStar`, the star forms too. Then the version is tested as by
     /// `from_version` (PEP 440, "Version matching" and "Version exclusion").
     ///
-    /// Takes no memory.
+    /// Allocates nothing.
     pub fn from_pattern(
         operator: Operator,
         pattern: VersionPattern,
@@ -86,11 +102,12 @@ impl VersionSpecifier {
         VersionSpecifier::from_version(star, pattern.into_version())
     }
 
-    /// The specifier of an operator and a version. A local part is refused as `OperatorLocalCombo`, but for
-    /// `==`, `!=` and `===`; else `~=` before fewer than two release numbers is refused as `CompatibleRelease`
-    /// (PEP 440, "Compatible release" and "Version matching").
+    /// The specifier of an operator and a version. A local part is rejected as `OperatorLocalCombo`, but for `==`,
+    /// `!=` and `===`; else `~=` before fewer than two release numbers is rejected as `CompatibleRelease` (PEP 440,
+    /// "Compatible release" and "Version matching").
     ///
-    /// Takes no memory.
+    /// Allocates nothing.
+    #[inline(always)]
     pub fn from_version(
         operator: Operator,
         version: Version,
@@ -109,7 +126,7 @@ impl VersionSpecifier {
         Ok(VersionSpecifier::from_parts(operator, version))
     }
 
-    /// `==version`. Unchecked, as the seven calls below: a local part and the marks `min` and `max` may be there.
+    /// `==version`. Unchecked, as the seven calls below: a local part and the sentinels `min` and `max` may be there.
     pub fn equals_version(version: Version) -> VersionSpecifier
         ensures { result ≡ record { operator = Equal; version = version } }
     {
@@ -165,6 +182,54 @@ impl VersionSpecifier {
         VersionSpecifier::from_parts(Operator::LessThan, version)
     }
 
+    /// The specifier of a lower bound: `>=` of an included version, `>` of an excluded one, none where there is no
+    /// bound. A version with a local part is rejected as `Build` of `OperatorLocalCombo` with that operator (PEP 440,
+    /// "Inclusive ordered comparison" and "Exclusive ordered comparison").
+    ///
+    /// Allocates; returns `OutOfMemory` where that fails.
+    pub fn from_lower_bound(
+        alloc: Global,
+        bound: &Bound<Version>,
+    ) -> Result<Option<VersionSpecifier>, BoundError>
+        ensures { BoundAnswers result (without_locals (lower_member bound.now)) }
+    {
+        reject_local(convert_lower(bound)?)
+    }
+
+    /// The specifier of an upper bound: `<=` of an included version, `<` of an excluded one, none where there is no
+    /// bound. A version with a local part is rejected as `Build` of `OperatorLocalCombo` with that operator (PEP 440,
+    /// "Inclusive ordered comparison" and "Exclusive ordered comparison").
+    ///
+    /// Allocates; returns `OutOfMemory` where that fails.
+    pub fn from_upper_bound(
+        alloc: Global,
+        bound: &Bound<Version>,
+    ) -> Result<Option<VersionSpecifier>, BoundError>
+        ensures { BoundAnswers result (without_locals (upper_member bound.now)) }
+    {
+        reject_local(convert_upper(bound)?)
+    }
+
+    /// The specifiers that together contain exactly the releases from the lower bound to the upper: `==` of the
+    /// lower version where both are included and equal; `==a.b.*` from `a.b` on to below `a.c`, where c is b plus
+    /// 1; else that of the lower bound, then that of the upper, where there are such (PEP 440, "Version
+    /// specifiers"). Each version must be a release alone; `Version::is_release_only` is its test.
+    ///
+    /// Allocates.
+    pub fn from_release_only_bounds(
+        alloc: Global,
+        bounds: (&Bound<Version>, &Bound<Version>),
+    ) -> Result<ReleaseBounds, AllocError>
+        requires start { IsReleaseBound bounds.0.now }
+        requires end { IsReleaseBound bounds.1.now }
+        ensures value { IfOk result (λ members. members ≡ pair_members bounds.entry.0.now bounds.entry.1.now) }
+        // Together they contain exactly the releases within the bounds.
+        ensures agrees { IfOk result (λ members. MatchesWithin (bounds.entry.0.now, bounds.entry.1.now) members) }
+    {
+        let (start, end) = bounds;
+        convert_pair(start, end)
+    }
+
     /// The operator.
     pub fn operator(&self) -> &Operator
         ensures value { result.now ≡ self.now.operator }
@@ -215,33 +280,70 @@ impl VersionSpecifier {
         Ok(read::specifier(alloc, text)?)
     }
 
-    /// The specifier that the text means: blanks, an operator, blanks, a version pattern, blanks and the end,
-    /// where a blank is a character of `char::is_whitespace` (PEP 440, "Version specifiers").
+    /// The specifier that the string denotes: white space, an operator, white space, a version pattern, white space
+    /// and the end, where white space is what `char::is_whitespace` accepts (PEP 440, "Version specifiers").
     ///
-    /// Takes memory. Every text that means no specifier is refused with its one `ParseErrorKind`; only where a
-    /// request for memory was refused the kind may be `OutOfMemory` instead.
+    /// Allocates. Every string that is no specifier is rejected with its one `ParseErrorKind`; only where an
+    /// allocation failed the kind may be `OutOfMemory` instead.
     pub fn from_str(
         alloc: Global,
         text: &str,
     ) -> Result<VersionSpecifier, VersionSpecifierParseError>
-        // What is answered is what the text means.
+        // What is returned is what the string denotes.
         ensures found { IfOk result (λ s. DerivesSpecifier text.now s) }
-        // Its version is one that a text can give beside the operator, as the agreement of ranges asks.
+        // Its version is one that a string can have beside the operator, as the agreement of ranges requires.
         ensures operand { IfOk result HasOperand }
-        // What the text means is answered, unless memory runs out.
+        // What the string denotes is returned, unless memory runs out.
         ensures only { (s : Spec) → DerivesSpecifier text.now s → SpecifierAnswers result (Ok s) }
-        // A refusal is the one of the text.
+        // The error is that of the string.
         ensures refused { IfErr result (λ e. IfSome (specifier_refusal_of (parse_kind_of e)) (RefusesSpecifier text.now)) }
-        // The refusal of the text is answered, unless memory runs out.
+        // The error of the string is returned, unless memory runs out.
         ensures decided { (f : SpecifierRefusal) → RefusesSpecifier text.now f → SpecifierAnswers result (Err f) }
-        // The error's text is the refusal's.
-        ensures message { IfErr result (λ e. IfSome (specifier_refusal_of (parse_kind_of e)) (λ f. specifier_text_of (parse_kind_of e) ≡ Some (specifier_refusal_text f))) }
+        // The error's message is the stated one.
+        ensures message { IfErr result (λ e. IfSome (specifier_refusal_of (parse_kind_of e)) (λ f. specifier_error_text (specifier_refusal_of (parse_kind_of e)) ≡ Some (specifier_refusal_text f))) }
         // Out of memory is the last kind, and stands in no other.
         ensures lifted { IfErr result (λ e. IsLifted (parse_kind_of e)) }
-        // The print of what some text means is answered with that, unless memory runs out.
+        // The printed form of what some string denotes round-trips, unless memory runs out.
         ensures again { (t : List ℕ) (s : Spec) → DerivesSpecifier t s → text.now ≡ spec_print s → SpecifierAnswers result (Ok s) }
     {
         VersionSpecifier::read(alloc, text)
+    }
+
+    /// The specifier as JSON: the string that it prints.
+    ///
+    /// Allocates.
+    pub fn to_json(&self, alloc: Global) -> Result<Value, AllocError>
+        ensures { IfOk result (λ value. IsString value (spec_print self.now)) }
+    {
+        Ok(Value::from(self.to_string(alloc)?))
+    }
+
+    /// The specifier that a JSON string denotes, as by `VersionSpecifier::from_str`.
+    ///
+    /// Allocates. Every other value is rejected as `NotAString`, and a string that is no specifier as `Text` of the
+    /// error of `VersionSpecifier::from_str`; only where an allocation failed the error of a string may be
+    /// `OutOfMemory` instead.
+    pub fn from_json(
+        alloc: Global,
+        value: &Value,
+    ) -> Result<VersionSpecifier, JsonError<VersionSpecifierParseError>>
+        // `NotAString` is the error of what is no string, and of nothing else.
+        ensures no_string { IsErrOf result NotAString ↔ (text_of value.now ≡ None) }
+        // What is returned is what the string denotes.
+        ensures found { IfOk result (λ s. (t : List ℕ) × IsString value.now t × DerivesSpecifier t s) }
+        // What the string denotes is returned, unless memory runs out.
+        ensures only { (t : List ℕ) (s : Spec) → IsString value.now t → DerivesSpecifier t s → JsonAnswers (λ e. specifier_refusal_of (parse_kind_of e)) result (Ok s) }
+        // The error of the string is its one error, and not out of memory.
+        ensures refused { IfErr result (λ e. IfText e (λ inner. IsSomeAnd (specifier_refusal_of (parse_kind_of inner)) (λ f. (t : List ℕ) × IsString value.now t × RefusesSpecifier t f))) }
+        // The error's message is the stated one.
+        ensures message { IfErr result (λ e. IfText e (λ inner. IfSome (specifier_refusal_of (parse_kind_of inner)) (λ f. specifier_error_text (specifier_refusal_of (parse_kind_of inner)) ≡ Some (specifier_refusal_text f)))) }
+        // The error of the string is returned, unless memory runs out.
+        ensures decided { (t : List ℕ) (f : SpecifierRefusal) → IsString value.now t → RefusesSpecifier t f → JsonAnswers (λ e. specifier_refusal_of (parse_kind_of e)) result (Err f) }
+        // The JSON form of what some string denotes round-trips, unless memory runs out.
+        ensures again { (t : List ℕ) (s : Spec) → DerivesSpecifier t s → IsString value.now (spec_print s) → JsonAnswers (λ e. specifier_refusal_of (parse_kind_of e)) result (Ok s) }
+    {
+        let text = expect_string::<VersionSpecifierParseError>(value)?;
+        VersionSpecifier::from_str(alloc, text).map_err(from_specifier_error)
     }
 }
 
@@ -253,5 +355,83 @@ impl Clone for VersionSpecifier {
             operator: self.operator,
             version: self.version.clone()?,
         })
+    }
+}
+
+impl PartialEq for VersionSpecifier {
+    ghost eq = { eq_by_cmp spec_cmp };
+
+    ghost laws = { partial_equiv_from_equiv spec_equiv };
+
+    fn eq(&self, other: &VersionSpecifier) -> bool {
+        self.cmp(other) == Ordering::Equal
+    }
+}
+
+impl Eq for VersionSpecifier {
+    ghost laws = { spec_equiv };
+}
+
+impl PartialOrd for VersionSpecifier {
+    ghost partial_cmp = { as_partial_cmp spec_cmp };
+
+    ghost laws = { spec_po };
+
+    fn partial_cmp(&self, other: &VersionSpecifier) -> Option<Ordering> {
+        Some(self.cmp(other))
+    }
+}
+
+impl Ord for VersionSpecifier {
+    ghost cmp = { spec_cmp };
+
+    ghost total = { spec_total };
+
+    ghost matches_partial_cmp = { λ a b. refl };
+
+    ghost matches_eq = { λ a b. refl };
+
+    fn cmp(&self, other: &VersionSpecifier) -> Ordering {
+        self.operator()
+            .cmp(other.operator())
+            .then(self.version().cmp(other.version()))
+    }
+}
+
+impl Hash for VersionSpecifier {
+    ghost hash_input = { feed_spec };
+
+    ghost respects_eq = { specs_feed_alike };
+
+    fn hash<H: Hasher>(&self, state: &mut H) {
+        self.operator().hash(state);
+        self.version().hash(state);
+    }
+}
+
+// Writes the operator, the version, and `.*` for a star form.
+#[tactic(auto, using(pep440_version::proofs::RoundTrip::Writing::two_writes))]
+pub(crate) fn write_specifier<W: fmt::Write>(
+    f: &mut fmt::Formatter<W>,
+    specifier: &VersionSpecifier,
+) -> fmt::Result
+    ensures { WritesStyledOnOk W.write_str_gives f.old result (spec_print specifier.now) f.new }
+{
+    f.write_str(specifier.operator().as_str())?;
+    fmt::Display::fmt(specifier.version(), f)?;
+    if specifier.operator().is_star() {
+        f.write_str(".*")
+    } else {
+        Ok(())
+    }
+}
+
+impl fmt::Display for VersionSpecifier {
+    ghost output = { λ s. Some (spec_print s) };
+
+    ghost styled_output = { λ s _. Some (spec_print s) };
+
+    fn fmt<W: fmt::Write>(&self, f: &mut fmt::Formatter<W>) -> fmt::Result {
+        write_specifier(f, self)
     }
 }

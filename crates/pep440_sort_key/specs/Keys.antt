@@ -7,7 +7,7 @@ use Rattle.pep440_version.specs.Key.{key, stage_rank, post_rank, dev_rank}
 use Rattle.pep440_version.specs.Record.{Record, IsRecord, LocalSegmentValue, Text, Number}
 use Rattle.pep440_version.specs.Trim.{trim}
 
--- bytes without the zeros in front
+-- bytes without leading zeros
 abbrev pub trim_leading_zeros : List ℕ → List ℕ
 trim_leading_zeros [] = []
 trim_leading_zeros (b ∷ rest) = if b == 0 then trim_leading_zeros rest else b ∷ rest
@@ -24,11 +24,11 @@ number_bytes base n = (base + length (needed_bytes n)) ∷ needed_bytes n
 abbrev pub release_bytes : List ℕ → List ℕ
 release_bytes numbers = flat_map (number_bytes 1) (trim numbers) ++ 0 ∷ []
 
--- the place of a stage, a post or a dev: its number, on a base of 16 for each rank
+-- a ranked number, of a stage, a post or a dev: its number, on a base of 16 for each rank
 abbrev pub rank_bytes : ℕ × ℕ → List ℕ
 rank_bytes p = number_bytes (16 * p.0) p.1
 
--- a segment: 1, a text and 0; or a number on the base 2
+-- a segment: 1, a string and 0; or a number on the base 2
 abbrev pub segment_bytes : LocalSegmentValue → List ℕ
 segment_bytes (Text t) = 1 ∷ t ++ 0 ∷ []
 segment_bytes (Number n) = number_bytes 2 n
@@ -43,12 +43,12 @@ key_bytes r =
     number_bytes 0 (key r).epoch ++ release_bytes (key r).release ++ rank_bytes (stage_rank (key r).stage)
     ++ rank_bytes (post_rank (key r).post) ++ rank_bytes (dev_rank (key r).dev) ++ local_bytes (key r).local
 
--- a text without a zero byte, or a number
+-- a string without a zero byte, or a number
 abbrev pub HasNoZero : LocalSegmentValue → Type 0
 HasNoZero (Text t) = All (λ b. 0 < b) t
 HasNoZero (Number n) = Unit {0}
 
--- the records that sort keys tell apart: those of versions, whose local texts have no zero byte
+-- the records that sort keys distinguish: those of versions, whose local strings have no zero byte
 pub record IsKeyed (r : Record) : Type 0 where
   pub valid : IsRecord r
   pub local : All HasNoZero r.local

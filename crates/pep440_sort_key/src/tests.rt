@@ -1,4 +1,4 @@
-//! Worked rows: texts whose keys rise, and keys by their bytes; and a key with each request for memory refused in turn.
+//! Test cases: strings whose keys rise, and keys by their bytes; and a key with each allocation failing in turn.
 use crate::sort_key;
 use pep440_version::Version;
 use std::test::Fail;
@@ -78,7 +78,7 @@ fn keys_are_these(rt: HostRuntime) -> Result<(), Fail> {
     Ok(())
 }
 
-// Numbers of eight bytes, so that the key outgrows the room that it asked for first.
+// Numbers of eight bytes, so that the key outgrows its first allocation.
 const LONG: &str = "1.2.3.4.18446744073709551615.18446744073709551615+ubuntu.18446744073709551615";
 
 const LONG_KEY: [u8; 49] = [
@@ -87,7 +87,7 @@ const LONG_KEY: [u8; 49] = [
     255, 255, 255, 255, 0,
 ];
 
-// The key of the text, asked for a second time where memory was refused.
+// The key of the string, tried a second time if an allocation failed.
 #[test]
 fn sweep_sort_key(rt: HostRuntime) -> Result<(), Fail> {
     let version = match Version::from_str(rt.alloc(), LONG) {

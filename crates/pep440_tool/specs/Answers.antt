@@ -1,4 +1,4 @@
--- What the program answers: bytes and a status. Each command's answer is told by what its words mean.
+-- What the program answers: bytes and a status. Each command's answer is determined by what its words denote.
 use Rattle.std.specs.Prelude.{◌≡◌, ◌⊎◌, ℕ, List, ◌∷◌, ◌++◌, Bool, true, false, codes, Option, Some, None, Result, Ok, Err}
 use Rattle.std.specs.Fmt.{decimal}
 use Rattle.std.specs.List.{AllZip, enumerate_from}
@@ -29,19 +29,19 @@ pub record ToolAnswer : Type 0 where
   pub output : List ℕ
   pub status : ℕ
 
--- answered: the texts, each as a line
+-- a result: the strings, each as a line
 abbrev pub shown_lines : List (List ℕ) → ToolAnswer
 shown_lines texts = record { output = lines_of texts; status = 0 }
 
--- answered: the text as a line
+-- a result: the string as a line
 abbrev pub shown : List ℕ → ToolAnswer
 shown text = record { output = line text; status = 0 }
 
--- refused: the fault's text as a line
+-- an error: the fault's message as a line
 abbrev pub refused : List ℕ → ToolAnswer
 refused text = record { output = line (codes "error: " ++ text); status = 1 }
 
--- refused: the text of a list's fault ends its own lines
+-- an error: the message of a list's fault ends its own lines
 abbrev pub refused_list : List ℕ → ToolAnswer
 refused_list text = record { output = codes "error: " ++ text; status = 1 }
 
@@ -51,7 +51,7 @@ usage_answer = record { output = usage_text; status = 2 }
 
 -- ---- words that mean something, or are refused
 
--- the answer says why the word means no version
+-- the answer says why the word is no version
 abbrev pub RefusesWord : List ℕ → ToolAnswer → Type 0
 RefusesWord word a = (f : Refusal) × Refuses word f × (a ≡ refused (refusal_text f))
 
@@ -59,7 +59,7 @@ RefusesWord word a = (f : Refusal) × Refuses word f × (a ≡ refused (refusal_
 abbrev pub ReadsVersion : List ℕ → (Record → Type 0) → ToolAnswer → Type 0
 ReadsVersion word Then a = ((r : Record) × Derives word r × Then r) ⊎ RefusesWord word a
 
--- the answer says why the word means no list
+-- the answer says why the word is no list
 abbrev pub RefusesListWord : List ℕ → ToolAnswer → Type 0
 RefusesListWord word a = (f : PieceRefusal) × RefusesList word f × (a ≡ refused_list (list_refusal_text f word))
 
@@ -70,7 +70,7 @@ ReadsList word Then a = ((list : List Spec) × DerivesList word list × Then lis
 -- ---- texts with their numbers, one after another
 
 module _ {A : Type 0} (Means : ℕ × List ℕ → A → Type 0) (RejectsText : ℕ × List ℕ → ToolAnswer → Type 0) where
-  -- the answer says why the first text that means nothing does not
+  -- the answer says why the first string that means nothing does not
   pub record RejectsFirst (texts : List (ℕ × List ℕ)) (a : ToolAnswer) : Type 0 where
     pub before : List (ℕ × List ℕ)
     pub text : ℕ × List ℕ
@@ -80,13 +80,13 @@ module _ {A : Type 0} (Means : ℕ × List ℕ → A → Type 0) (RejectsText : 
     pub means : AllZip Means before found
     pub why : RejectsText text a
 
-  -- each text means something, and of these in order this holds; or the answer rejects the first that means nothing
+  -- each string means something, and of these in order this holds; or the answer rejects the first that means nothing
   abbrev pub ReadsEach : List (ℕ × List ℕ) → (List A → Type 0) → ToolAnswer → Type 0
   ReadsEach texts Then a = ((found : List A) × AllZip Means texts found × Then found) ⊎ RejectsFirst texts a
 
 -- ---- versions
 
--- `show V`: the print of V
+-- `show V`: the normalized form of V
 abbrev pub ShowAnswer : List ℕ → ToolAnswer → Type 0
 ShowAnswer text a = ReadsVersion text (λ r. a ≡ shown (print r)) a
 
@@ -95,7 +95,7 @@ sign_of Less = codes "<"
 sign_of Equal = codes "="
 sign_of Greater = codes ">"
 
--- `compare A B`: how A stands to B; A is read first
+-- `compare A B`: how A compares with B; A is read first
 abbrev pub CompareAnswer : List ℕ → List ℕ → ToolAnswer → Type 0
 CompareAnswer left right a = ReadsVersion left (λ r. ReadsVersion right (λ q. a ≡ shown (sign_of (record_cmp r q))) a) a
 

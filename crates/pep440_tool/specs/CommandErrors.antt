@@ -1,4 +1,4 @@
--- The texts of the errors of commands, and what holds of what is given, or of the answer that an error prints.
+-- The messages of the errors of commands, and what holds of what is given, or of the answer that an error prints.
 use Rattle.std.specs.Prelude.{◌≡◌, ℕ, List, Bool, true, false, codes, is_none, option_map, Option, Some, Result, Ok, Err, if◌then◌else◌}
 use Rattle.pep440_pick.specs.RequirementTexts.{requirement_text_of}
 use Rattle.pep440_pick.specs.declared.error.RequirementError.{RequirementError}
@@ -66,13 +66,13 @@ abbrev pub is_list_error : RequirementError → Bool
 is_list_error (requirement.Specifiers e) = true
 is_list_error _ = false
 
--- the text of a list's error ends its own lines
+-- the message of a list's error ends its own lines
 abbrev pub ends_lines : CommandError → Bool
 ends_lines (error.List e) = true
 ends_lines (error.Requirement n e) = is_list_error e
 ends_lines _ = false
 
--- what an error with this text prints
+-- what an error with this message prints
 abbrev pub error_answer : Bool → List ℕ → ToolAnswer
 error_answer ends text = if ends then refused_list text else refused text
 

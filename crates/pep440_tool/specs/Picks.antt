@@ -20,7 +20,7 @@ use Rattle.pep440_tool.specs.Lines.{LineMeans, RejectsLine, numbered_lines}
 abbrev pub CandidateMeans : ℕ × List ℕ → Record → Type 0
 CandidateMeans text r = Derives text.1 r
 
--- the answer says why the candidate means no version
+-- the answer says why the candidate is no version
 abbrev pub RejectsCandidate : ℕ × List ℕ → ToolAnswer → Type 0
 RejectsCandidate text a = (f : Refusal) × Refuses text.1 f × (a ≡ refused (candidate_fault_text text.0 (refusal_text f)))
 
@@ -30,7 +30,7 @@ abbrev pub is_of_list : RequirementRefusal → Bool
 is_of_list (Specifiers list f) = true
 is_of_list _ = false
 
--- the text of a list's fault ends its own lines
+-- the message of a list's fault ends its own lines
 abbrev pub refused_requirement : ℕ → RequirementRefusal → ToolAnswer
 refused_requirement number f = let text = line_fault_text number (requirement_refusal_text f) in if is_of_list f then refused_list text else refused text
 

@@ -1,12 +1,12 @@
--- The fixed texts of the program, each a line of its own, and lines.
+-- The fixed strings of the program, each a line of its own, and lines.
 use Rattle.std.specs.Prelude.{ℕ, List, [], ◌∷◌, ◌++◌, codes}
 use Rattle.std.specs.List.{flat_map}
 
--- the text and a newline
+-- the string and a newline
 abbrev pub line : List ℕ → List ℕ
 line text = text ++ 10 ∷ []
 
--- each text as a line
+-- each string as a line
 abbrev pub lines_of : List (List ℕ) → List ℕ
 lines_of texts = flat_map line texts
 

@@ -99,7 +99,7 @@ impl<'a> Command<'a> {
         }
     }
 
-    /// What it prints for its input: a result, or the error's text.
+    /// What it prints for its input: a result, or the error's message.
     pub(crate) fn answer(self, alloc: Global, input: &[u8]) -> Result<Answer, AllocError>
         ensures answer { IfOk result (λ a. IsAnswer (request self.entry) input.now (answer_value a)) }
         ensures known { IfOk result (λ a. a.status ≤ 2) }
@@ -111,11 +111,10 @@ impl<'a> Command<'a> {
     }
 }
 
-/// What the program answers to its words and its input: what is written, and the status 0 (answered), 1 (refused)
-/// or 2 (no such command, or a wrong number of words). `filter` and `pick` alone look at
-/// the input.
+/// What the program prints for its words and its input: what is written, and the status 0 (a result), 1 (an error) or
+/// 2 (no such command, or a wrong number of words). `filter` and `pick` alone look at the input.
 ///
-/// Takes memory; `AllocError` only where it ran out.
+/// Allocates; `AllocError` only where that fails.
 pub fn answer(alloc: Global, words: &[String], input: &[u8]) -> Result<Answer, AllocError>
     ensures answer { IfOk result (λ a. IsAnswer (asked (map string_bytes words.now)) input.now (answer_value a)) }
     ensures known { IfOk result (λ a. a.status ≤ 2) }

@@ -72,7 +72,7 @@ impl CommandError {
         }
     }
 
-    /// Whether its text ends its own lines, as that of a list does.
+    /// Whether its message ends its own lines, as that of a list does.
     pub(crate) fn ends_lines(&self) -> bool
         ensures { result ≡ ends_lines self.now }
     {

@@ -16,7 +16,7 @@ use pep440_pick::{Requirement, is_name, newest};
 use pep440_rs::{Version, VersionSpecifiers};
 use std::alloc::{AllocError, Global};
 
-/// The version that the candidate with this number means.
+/// The version that the candidate with this number denotes.
 fn read_candidate(alloc: Global, number: usize, word: &str) -> Result<Version, CommandError>
     ensures { HoldsOrStops (CandidateMeans (number, word.now)) (RejectsCandidate (number, word.now)) result }
 {
@@ -26,7 +26,7 @@ fn read_candidate(alloc: Global, number: usize, word: &str) -> Result<Version, C
     }
 }
 
-/// The versions that the candidates mean.
+/// The versions that the candidates denote.
 fn read_candidates(alloc: Global, words: &[String]) -> Result<Vec<Version>, CommandError>
     ensures { HoldsOrStops (λ v. AllZip CandidateMeans (enumerate_from 1 (map string_bytes words.now)) v.items) (RejectsFirst CandidateMeans RejectsCandidate (enumerate_from 1 (map string_bytes words.now))) result }
 {
@@ -38,7 +38,7 @@ fn read_candidates(alloc: Global, words: &[String]) -> Result<Vec<Version>, Comm
     Ok(versions)
 }
 
-/// The list of the requirement that the line means, if it is of that name.
+/// The list of the requirement that the line denotes, if it is of that name.
 fn read_specifiers(
     alloc: Global,
     name: &str,

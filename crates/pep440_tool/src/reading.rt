@@ -12,7 +12,7 @@ use pep440_rs::{Version, VersionSpecifiers};
 use std::alloc::Global;
 use std::cmp::Ordering;
 
-/// The version that the word means.
+/// The version that the word denotes.
 pub(crate) fn read(alloc: Global, word: &str) -> Result<Version, CommandError>
     ensures { HoldsOrStops (Derives word.now) (RefusesWord word.now) result }
 {
@@ -22,7 +22,7 @@ pub(crate) fn read(alloc: Global, word: &str) -> Result<Version, CommandError>
     }
 }
 
-/// The list that the word means.
+/// The list that the word denotes.
 pub(crate) fn read_list(alloc: Global, word: &str) -> Result<VersionSpecifiers, CommandError>
     ensures { HoldsOrStops (DerivesList word.now) (RefusesListWord word.now) result }
 {
@@ -32,7 +32,7 @@ pub(crate) fn read_list(alloc: Global, word: &str) -> Result<VersionSpecifiers, 
     }
 }
 
-/// `show V`: the print of V.
+/// `show V`: the normalized form of V.
 pub(crate) fn show(alloc: Global, word: &str) -> Result<Answer, CommandError>
     ensures { Answered (ShowAnswer word.now) result }
 {
@@ -51,7 +51,7 @@ fn sign(order: Ordering) -> &'static str
     }
 }
 
-/// `compare A B`: how A stands to B.
+/// `compare A B`: how A compares with B.
 pub(crate) fn compare(alloc: Global, left: &str, right: &str) -> Result<Answer, CommandError>
     ensures { Answered (CompareAnswer left.now right.now) result }
 {

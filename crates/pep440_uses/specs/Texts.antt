@@ -1,4 +1,4 @@
--- What is said of a text: the version that it means, or why it means none.
+-- What is reported of a string: the version that it denotes, or why it denotes none.
 use Rattle.std.specs.Prelude.{◌≡◌, ℕ, List, string_bytes}
 use Rattle.pep440_version.specs.ErrorTexts.{refusal_text}
 use Rattle.pep440_version.specs.Grammar.{Derives}

@@ -9,7 +9,7 @@ use std::collections::BTreeMap;
 
 /// How often the version was loaded: 0 where it is no key. Equal versions, as `1.0` and `1.0.0`, are one key.
 ///
-/// Takes no memory.
+/// Allocates nothing.
 pub fn loaded(downloads: &BTreeMap<Version, u64>, version: &Version) -> u64
     ensures { result ≡ unwrap_or (get record_cmp downloads.now version.now) 0 }
 {
@@ -18,7 +18,7 @@ pub fn loaded(downloads: &BTreeMap<Version, u64>, version: &Version) -> u64
 
 /// The version was loaded so many times more, up to the greatest number there is. After an error the map is what it was.
 ///
-/// May take memory; an error says that it ran out.
+/// May allocate; the error is out of memory.
 pub fn add(
     downloads: &mut BTreeMap<Version, u64>,
     version: Version,

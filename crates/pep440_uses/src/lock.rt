@@ -28,7 +28,7 @@ pub enum LockError {
     Wanted(VersionSpecifiersParseError),
     /// The third part is no version.
     Version(VersionParseError),
-    /// Memory ran out, which says nothing of the line.
+    /// Out of memory, which says nothing about the line.
     OutOfMemory,
 }
 
@@ -99,7 +99,7 @@ impl Locked {
 
 /// The names of the lines whose version is not contained in their list, in order.
 ///
-/// Takes memory; an error says that it ran out.
+/// Allocates; the error is out of memory.
 pub fn broken(alloc: Global, lock: &[Locked]) -> Result<Vec<String>, AllocError>
     ensures { IfOk result (λ names. map string_bytes names.items ≡ broken_names lock.now) }
 {

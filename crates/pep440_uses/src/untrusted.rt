@@ -1,4 +1,4 @@
-//! A reader of texts that nobody vouches for: each is accepted or refused with the reason, and none ends the process.
+//! A reader of untrusted strings: each is accepted or rejected with an error, and none ends the process.
 ghost use Rattle.std.specs.Prelude.{◌≡◌, is_none, IfOk};
 ghost use Rattle.std.specs.List.{AllZip};
 ghost use Rattle.pep440_version.specs.Errors.{error_refusal};
@@ -7,25 +7,25 @@ ghost use Rattle.pep440_uses.specs.Texts.{Tells};
 use pep440_rs::{ErrorKind, Version, VersionParseError};
 use std::alloc::{AllocError, Global};
 
-/// What a text is: a version, or none for this reason.
+/// What a string is: a version, or none for this reason.
 #[derive(Debug, Drop)]
 pub enum Verdict {
-    /// The version that the text means.
+    /// The version that the string denotes.
     Accepted(Version),
     /// Why it means none.
     Refused(String),
 }
 
-// The error says nothing of the text.
+// The error says nothing of the string.
 fn is_out_of_memory(error: &VersionParseError) -> bool
     ensures { result ≡ is_none (error_refusal error.now) }
 {
     matches!(error.kind(), ErrorKind::OutOfMemory)
 }
 
-/// The version that the text means, or why it means none.
+/// The version that the string denotes, or why it means none.
 ///
-/// Takes memory; an error says that it ran out.
+/// Allocates; the error is out of memory.
 pub fn read(alloc: Global, text: &str) -> Result<Verdict, AllocError>
     ensures { IfOk result (Tells text.now) }
 {
@@ -41,9 +41,9 @@ pub fn read(alloc: Global, text: &str) -> Result<Verdict, AllocError>
     }
 }
 
-/// A verdict for each text, in order.
+/// A verdict for each string, in order.
 ///
-/// Takes memory; an error says that it ran out.
+/// Allocates; the error is out of memory.
 pub fn read_all(alloc: Global, texts: &[&str]) -> Result<Vec<Verdict>, AllocError>
     ensures { IfOk result (λ verdicts. AllZip (λ text. Tells text.now) texts.now verdicts.items) }
 {

@@ -13,7 +13,7 @@ use std::alloc::Global;
 
 /// Keeps the versions that the range holds.
 ///
-/// Takes no memory.
+/// Allocates nothing.
 pub fn keep(range: &Ranges<Version>, versions: &mut Vec<Version>)
     ensures { versions.new.items ≡ filter (contains record_cmp range.now) versions.old.items }
 {
@@ -22,7 +22,7 @@ pub fn keep(range: &Ranges<Version>, versions: &mut Vec<Version>)
 
 /// Keeps the versions that lie in the range of the list.
 ///
-/// Takes memory. Answers `NumberAtMax` where a number that has to be raised is the greatest there is. After an error the
+/// Allocates. Returns `NumberAtMax` where a number that has to be raised is the greatest there is. After an error the
 /// versions are what they were.
 pub fn keep_wanted(
     alloc: Global,

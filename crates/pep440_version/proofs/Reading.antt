@@ -18,5 +18,6 @@ pub mod SegmentsInTurn
 pub mod AfterSpelling
 pub mod PublicAnswers
 pub mod AfterFirstNumber
+pub mod NormalParts
 pub mod NormalVersions
 pub mod WithoutMemory

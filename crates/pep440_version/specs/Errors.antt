@@ -1,4 +1,4 @@
--- What an error says, apart from where it lies in memory.
+-- What an error reports, apart from its address in memory.
 use Rattle.std.specs.Prelude.{◌≡◌, Option, option_map, Some, None, Result, Ok, Err, string_bytes, IfSome}
 use Rattle.std.specs.Result.{result_map_both}
 use Rattle.pep440_version.specs.declared.error.ErrorKind.{ErrorKind}
@@ -10,11 +10,11 @@ use Rattle.pep440_version.specs.declared.error.VersionPatternParseError.{Version
 use Rattle.pep440_version.specs.Reading.{Read}
 use Rattle.pep440_version.specs.Refusals.{PatternRefusal, OfVersion, WildcardNotTrailing, Refusal, Wildcard, NumberTooBig, NoLeadingNumber, NoLeadingReleaseNumber, LocalEmpty, UnexpectedEnd}
 
--- why a text is no version
+-- why a string is not a version
 abbrev pub kind_of : VersionParseError → ErrorKind
 kind_of e = e.kind
 
--- the refusal, or none where memory ran out
+-- the refusal, or none if out of memory
 abbrev pub refusal_of : ErrorKind → Option Refusal
 refusal_of kind.Wildcard = Some Wildcard
 refusal_of (kind.NumberTooBig bytes) = Some (NumberTooBig bytes.items)
@@ -24,20 +24,15 @@ refusal_of (kind.LocalEmpty c) = Some (LocalEmpty c)
 refusal_of (kind.UnexpectedEnd v r) = Some (UnexpectedEnd (string_bytes v) (string_bytes r))
 refusal_of kind.OutOfMemory = None
 
--- the refusal that an error tells, or none where memory ran out
+-- the refusal that an error reports, or none if out of memory
 abbrev pub error_refusal : VersionParseError → Option Refusal
 error_refusal e = refusal_of (kind_of e)
 
--- why a text is no pattern
+-- why a string is not a pattern
 abbrev pub pattern_kind_of : VersionPatternParseError → PatternErrorKind
 pattern_kind_of e = e.kind
 
--- the kind of the version's error that a pattern's error holds
-abbrev pub inner_kind : PatternErrorKind → Option ErrorKind
-inner_kind (pattern.Version e) = Some (kind_of e)
-inner_kind pattern.WildcardNotTrailing = None
-
--- the refusal of a pattern, or none where memory ran out
+-- the refusal of a pattern, or none if out of memory
 abbrev pub pattern_refusal_of : PatternErrorKind → Option PatternRefusal
 pattern_refusal_of (pattern.Version e) = option_map OfVersion (refusal_of (kind_of e))
 pattern_refusal_of pattern.WildcardNotTrailing = Some WildcardNotTrailing
@@ -45,11 +40,11 @@ pattern_refusal_of pattern.WildcardNotTrailing = Some WildcardNotTrailing
 abbrev pub pattern_error_refusal : VersionPatternParseError → Option PatternRefusal
 pattern_error_refusal e = pattern_refusal_of (pattern_kind_of e)
 
--- what a reader answers is what reading gives, unless memory ran out; `refusal` is what an error tells
+-- a parser returns what reading gives, unless out of memory; `refusal` is what an error reports
 abbrev pub Answers : {X E F : Type 0} → (E → Option F) → Result X E → Result X F → Type 0
 Answers refusal (Ok x) read = read ≡ Ok x
 Answers refusal (Err e) read = IfSome (refusal e) (λ f. read ≡ Err f)
 
--- the same of an inner reader, whose answer is seen by view
+-- the same of an inner parser, whose value is seen by view
 abbrev pub AnswersBy : {X Y : Type 0} → (X → Y) → Result X ErrorKind → Read Y → Type 0
 AnswersBy view result read = Answers refusal_of (result_map_both view (λ e. e) result) read

@@ -13,7 +13,7 @@ abbrev pub feed_stage : Stage → HashWrites
 feed_stage (Pre k n) = u64 (2 + kind_rank k) ++ u64 n
 feed_stage s = u64 (stage_rank s).0
 
--- 0, or 1 and the number, or 2 and the number of the mark
+-- 0, or 1 and the number, or 2 and the number of the sentinel
 abbrev pub feed_post : PostPart → HashWrites
 feed_post NoPost = u64 0
 feed_post (PostAt p) = u64 1 ++ u64 p
@@ -24,28 +24,24 @@ abbrev pub feed_dev : DevPart → HashWrites
 feed_dev (DevAt d) = u64 0 ++ u64 d
 feed_dev NoDev = u64 1
 
--- a text is its length and its bytes
+-- a string is its length and its bytes
 abbrev pub feed_segment : LocalSegmentValue → HashWrites
 feed_segment (Text t) = u64 0 ++ u64 (length t) ++ (t ∷ [])
 feed_segment (Number n) = u64 1 ++ u64 n
 
--- how many numbers, and each of them
-abbrev pub feed_numbers : List ℕ → HashWrites
-feed_numbers numbers = u64 (length numbers) ++ flat_map u64 numbers
-
--- how many segments, and each of them
-abbrev pub feed_local : List LocalSegmentValue → HashWrites
-feed_local segments = u64 (length segments) ++ flat_map feed_segment segments
+-- how many items, and each of them
+abbrev pub feed_items : {A : Type 0} → (A → HashWrites) → List A → HashWrites
+feed_items feed_item items = u64 (length items) ++ flat_map feed_item items
 
 -- part after part, the release without the zeros at its end
 abbrev pub feed_key : Key → HashWrites
-feed_key k = u64 k.epoch ++ feed_numbers (trim k.release) ++ feed_stage k.stage ++ feed_post k.post ++ feed_dev k.dev ++ feed_local k.local
+feed_key k = u64 k.epoch ++ feed_items u64 (trim k.release) ++ feed_stage k.stage ++ feed_post k.post ++ feed_dev k.dev ++ feed_items feed_segment k.local
 
 -- a version is fed by its key, so equal versions feed alike
 abbrev pub feed : Record → HashWrites
 feed r = feed_key (key r)
 
--- a kind by its place, and a pre-release as its kind and number
+-- a kind by its rank, and a pre-release as its kind and number
 abbrev pub feed_kind : PrereleaseKind → HashWrites
 feed_kind k = u64 (kind_rank k)
 

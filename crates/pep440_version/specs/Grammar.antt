@@ -1,5 +1,5 @@
--- The texts of versions (PEP 440, "Public version identifiers", "Normalization" and Appendix B): a text means a
--- record if it can be cut into w1 v e n p q d l w2, each the text of its part.
+-- The strings that denote versions (PEP 440, "Public version identifiers", "Normalization" and Appendix B): a string denotes a
+-- record if it can be split into w1 v e n p q d l w2, each the string of its part.
 use Rattle.std.specs.Prelude.{◌≡◌, ℕ, ◌<◌, ◌==◌, ◌||◌, ◌⊎◌, Bool, true, List, [], ◌∷◌, ◌++◌, codes, length, ◌^◌, ◌&&◌, false, map, Option, Some, None, nat_lt, if◌then◌else◌}
 use Rattle.std.specs.Char.{is_ascii_digit, is_ascii_alphanumeric, to_ascii_lowercase, is_ascii_whitespace}
 use Rattle.std.specs.List.{list_all}
@@ -101,7 +101,7 @@ abbrev pub IsPost : List ℕ → List ℕ → Option ℕ → Type 0
 IsPost part after None = part ≡ []
 IsPost part after (Some n) = ((digits : List ℕ) × IsNumber digits n × (part ≡ codes "-" ++ digits)) ⊎ IsSpelled post_spellings part after tt n
 
--- the developmental part (PEP 440, "Developmental releases")
+-- the dev part (PEP 440, "Developmental releases")
 abbrev pub IsDev : List ℕ → List ℕ → Option ℕ → Type 0
 IsDev part after None = part ≡ []
 IsDev part after (Some n) = IsSpelled dev_spellings part after tt n
@@ -110,7 +110,7 @@ IsDev part after (Some n) = IsSpelled dev_spellings part after tt n
 abbrev pub is_numeral : List ℕ → Bool
 is_numeral text = list_all is_ascii_digit text && nat_lt (digits_value 10 text) (2 ^ 64)
 
--- a numeral is a number, and every other segment is its lower-cased text (PEP 440, "Local version
+-- a numeral is a number, and every other segment is its lower-cased string (PEP 440, "Local version
 -- identifiers", "Case sensitivity")
 abbrev pub parse_segment : List ℕ → LocalSegmentValue
 parse_segment text = if is_numeral text then Number (digits_value 10 text) else Text (map to_ascii_lowercase text)
@@ -130,7 +130,7 @@ abbrev pub IsLocal : List ℕ → List LocalSegmentValue → Type 0
 IsLocal part [] = part ≡ []
 IsLocal part (s ∷ rest) = (text : List ℕ) × AreSegments text (s ∷ rest) × (part ≡ codes "+" ++ text)
 
--- the text means the record: it is cut into blanks w1, the letter v, epoch e, release n, pre p, post q, dev d, local l
+-- the string denotes the record: it is split into blanks w1, the letter v, epoch e, release n, pre p, post q, dev d, local l
 -- and blanks w2
 pub record Derives (text : List ℕ) (r : Record) : Type 0 where
   pub w1 : List ℕ

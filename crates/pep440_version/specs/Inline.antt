@@ -1,4 +1,4 @@
--- How release numbers are held: up to four without memory of their own.
+-- How release numbers are stored: up to four without an allocation.
 use Rattle.std.specs.Prelude.{ℕ, ◌<◌, ◌≤◌, List, length, take}
 use Rattle.pep440_version.specs.declared.release.Storage.{Storage}
 use Rattle.pep440_version.specs.declared.release.Storage.TheVariants.{Few, Many}

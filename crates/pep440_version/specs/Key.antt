@@ -17,13 +17,13 @@ pub data Stage : Type 0 where
   Pre : PrereleaseKind → ℕ → Stage
   Final : Stage
 
--- no post-release, the post-release of a number, or the mark above all of them
+-- no post-release, the post-release of a number, or the sentinel above all of them
 pub data PostPart : Type 0 where
   NoPost : PostPart
   PostAt : ℕ → PostPart
   PostTop : ℕ → PostPart
 
--- the developmental release of a number, or none, which is above all of them
+-- the dev release of a number, or none, which is above all of them
 pub data DevPart : Type 0 where
   DevAt : ℕ → DevPart
   NoDev : DevPart
@@ -97,7 +97,7 @@ post_rank NoPost = (0, 0)
 post_rank (PostAt p) = (1, p)
 post_rank (PostTop m) = (2, m)
 
--- DevAt < NoDev; developmental releases by number
+-- DevAt < NoDev; dev releases by number
 abbrev pub dev_rank : DevPart → ℕ × ℕ
 dev_rank (DevAt d) = (0, d)
 dev_rank NoDev = (1, 0)
@@ -106,7 +106,7 @@ dev_rank NoDev = (1, 0)
 abbrev pub rank_cmp : ℕ × ℕ → ℕ × ℕ → Ordering
 rank_cmp = then_cmp (on (λ p. p.0) nat_cmp) (on (λ p. p.1) nat_cmp)
 
--- a text is below every number; texts by their bytes, numbers by their value
+-- a string is below every number; strings by their bytes, numbers by their value
 abbrev pub segment_cmp : LocalSegmentValue → LocalSegmentValue → Ordering
 segment_cmp (Text s) (Text t) = slice_cmp nat_cmp s t
 segment_cmp (Text s) (Number n) = Less
@@ -127,7 +127,7 @@ key_cmp = then_cmp (on (λ (k : Key). k.epoch) nat_cmp) (then_cmp (on (λ (k : K
 abbrev pub record_cmp : Record → Record → Ordering
 record_cmp = on key key_cmp
 
--- stages, posts and devs by their places
+-- stages, posts and devs by their ranks
 abbrev pub stage_cmp : Stage → Stage → Ordering
 stage_cmp = on stage_rank rank_cmp
 
@@ -145,10 +145,6 @@ base_cmp r q = ordering_then (nat_cmp r.epoch q.epoch) (release_cmp r.release q.
 abbrev pub suffix_cmp : Record → Record → Ordering
 suffix_cmp r q = ordering_then (stage_cmp (key r).stage (key q).stage) (ordering_then (post_cmp (key r).post (key q).post) (dev_cmp (key r).dev (key q).dev))
 
--- Alpha < Beta < Rc
-abbrev pub kind_cmp : PrereleaseKind → PrereleaseKind → Ordering
-kind_cmp = on kind_rank nat_cmp
-
 -- the kind, then the number
 abbrev pub prerelease_cmp : Prerelease → Prerelease → Ordering
-prerelease_cmp = then_cmp (on (λ (p : Prerelease). p.kind) kind_cmp) (on (λ (p : Prerelease). p.number) nat_cmp)
+prerelease_cmp = on (λ (p : Prerelease). (kind_rank p.kind, p.number)) rank_cmp

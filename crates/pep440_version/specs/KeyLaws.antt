@@ -43,7 +43,7 @@ release_cmp-trim (x ∷ xs) (y ∷ ys) = ap (ordering_then (nat_cmp x y)) (relea
 pub release_total : IsTotalOrder release_cmp
 release_total = subst IsTotalOrder (λ i xs ys. sym (release_cmp-trim xs ys) i) (on_total trim nat_list_cmp_total)
 
--- a segment as a rank, a text and a number, which are compared in turn
+-- a segment as a rank, a string and a number, which are compared in turn
 abbrev pub segment_rank : LocalSegmentValue → ℕ
 segment_rank (Text t) = 0
 segment_rank (Number n) = 1

@@ -1,6 +1,9 @@
 -- Few release numbers and one suffix in its normal spelling (PEP 440, "Normalization").
-use Rattle.std.specs.Prelude.{◌≡◌, ℕ, ◌≤◌, ◌<◌, ◌⊎◌, ◌==◌, ◌++◌, List, [], codes, length, slice_index, if◌then◌else◌}
-use Rattle.pep440_version.specs.Grammar.{IsNumber}
+use Rattle.std.specs.Prelude.{◌≡◌, ℕ, ◌≤◌, ◌<◌, ◌⊎◌, ◌==◌, ◌++◌, List, [], codes, length, slice_index, false, Option, Some, None, if◌then◌else◌}
+use Rattle.std.specs.Char.{is_ascii_digit}
+use Rattle.pep440_version.specs.declared.prerelease.PrereleaseKind.{PrereleaseKind}
+use Rattle.pep440_version.specs.declared.prerelease.PrereleaseKind.TheVariants.{Alpha, Beta, Rc}
+use Rattle.pep440_version.specs.Grammar.{IsNumber, starts}
 
 -- the first numbers of four, with zeros behind them
 pub record IsPadded (count : ℕ) (numbers : List ℕ) : Type 0 where
@@ -24,3 +27,12 @@ IsSuffix text class n = ((text ≡ []) × (class ≡ 5) × (n ≡ 0)) ⊎ (IsCla
 -- the same of a class and a number alone
 abbrev pub IsKnown : ℕ → ℕ → Type 0
 IsKnown class n = ((class ≡ 5) × (n ≡ 0)) ⊎ IsClass class
+
+-- the classes of pre-releases
+abbrev pub IsClassOfKind : ℕ → PrereleaseKind → Type 0
+IsClassOfKind class kind = ((class ≡ 2) × (kind ≡ Alpha)) ⊎ ((class ≡ 3) × (kind ≡ Beta)) ⊎ ((class ≡ 4) × (kind ≡ Rc))
+
+-- the text begins with a suffix of this class and number, whose digits end there, or with none, and then rest
+abbrev pub HasSuffix : ℕ → List ℕ → Option ℕ → List ℕ → Type 0
+HasSuffix class text None rest = text ≡ rest
+HasSuffix class text (Some n) rest = (digits : List ℕ) × IsNumber digits n × (starts is_ascii_digit rest ≡ false) × (text ≡ spelling class ++ (digits ++ rest))

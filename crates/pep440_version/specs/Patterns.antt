@@ -1,4 +1,4 @@
--- Patterns: their texts, a version, or a version of epoch and release alone and `.*`; their equality and their feed.
+-- Patterns: the strings that denote them, a version, or epoch and release and `.*`; their equality and what they feed a hasher.
 use Rattle.std.specs.Prelude.{◌≡◌, ℕ, Bool, true, false, List, [], ◌++◌, codes, if◌then◌else◌}
 use Rattle.std.specs.Bool.{beq}
 use Rattle.std.specs.Hash.{HashWrites, u64}
@@ -8,12 +8,12 @@ use Rattle.pep440_version.specs.Grammar.{Derives}
 use Rattle.pep440_version.specs.Key.{record_cmp}
 use Rattle.pep440_version.specs.Record.{Record, epoch_and_release}
 
--- the text means the record with a star: `.*` follows a front that means it, has epoch and release alone, and ends
+-- the string denotes the record with a star: `.*` follows a prefix that denotes it, has epoch and release alone, and ends
 -- without blanks
 abbrev pub DerivesStar : List ℕ → Record → Type 0
 DerivesStar text r = (prefix : List ℕ) × (h : Derives prefix r) × (text ≡ prefix ++ codes ".*") × (h.w2 ≡ []) × (r ≡ epoch_and_release r.epoch r.release)
 
--- the text means the record, with a star or without
+-- the string denotes the record, with a star or without
 abbrev pub DerivesPattern : List ℕ → Record → Bool → Type 0
 DerivesPattern text r true = DerivesStar text r
 DerivesPattern text r false = Derives text r

@@ -1,11 +1,11 @@
--- What a version means (PEP 440, "Public version identifiers" and "Local version identifiers"), apart
--- from how it is held. min and max are marks of the crate, which no text gives.
+-- What a version denotes (PEP 440, "Public version identifiers" and "Local version identifiers"), apart
+-- from how it is stored. min and max are sentinels of the crate, to which no string parses.
 use Rattle.std.specs.Prelude.{ℕ, ◌<◌, ◌^◌, List, [], ◌∷◌, length, Option, Some, None, IfSome}
 use Rattle.std.specs.List.{All}
 use Rattle.pep440_version.specs.declared.prerelease.Prerelease.{Prerelease}
 use Rattle.pep440_version.specs.declared.prerelease.PrereleaseKind.TheVariants.{Alpha}
 
--- a segment of a local version: a text, by its bytes, or a number
+-- a segment of a local version: a string, by its bytes, or a number
 pub data LocalSegmentValue : Type 0 where
   Text : List ℕ → LocalSegmentValue
   Number : ℕ → LocalSegmentValue
@@ -28,7 +28,7 @@ abbrev pub SegmentFits : LocalSegmentValue → Type 0
 SegmentFits (Text t) = Unit {0}
 SegmentFits (Number n) = Fits n
 
--- the records that versions mean: each number fits, and there is a release
+-- the records that versions denote: each number fits, and there is a release
 pub record IsRecord (r : Record) : Type 0 where
   pub epoch : Fits r.epoch
   pub some : 0 < length r.release
@@ -48,7 +48,7 @@ from_release numbers = record { epoch = 0; release = numbers; pre = None; post =
 abbrev pub epoch_and_release : ℕ → List ℕ → Record
 epoch_and_release epoch release = record (from_release release) { epoch = epoch }
 
--- a record of its parts, without marks
+-- a record of its parts, without sentinels
 abbrev pub from_parts : ℕ → List ℕ → Option Prerelease → Option ℕ → Option ℕ → List LocalSegmentValue → Record
 from_parts epoch release pre post dev local = record { epoch = epoch; release = release; pre = pre; post = post; dev = dev; local = local; min = None; max = None }
 

@@ -1,4 +1,4 @@
--- Why a version text is refused, told by its fronts. Exactly one line holds of a text that the grammar does
+-- Why a version string is rejected, by its prefixes. Exactly one line holds of a string that the grammar does
 -- not derive, and none of one that it derives.
 use Rattle.std.specs.Prelude.{◌≡◌, ℕ, ◌<◌, ◌≤◌, ◌^◌, ◌==◌, ◌⊎◌, Bool, true, false, List, [], ◌∷◌, ◌++◌, codes, length}
 use Rattle.std.specs.Char.{is_ascii_digit, is_ascii_alphanumeric, is_ascii_whitespace}
@@ -7,7 +7,7 @@ use Rattle.std.specs.Str.Parse.{digits_value}
 use Rattle.pep440_version.specs.Grammar.{AreBlanks, IsLeadingV, IsNumber, IsEpoch, IsRelease, Derives, is_separator, starts, is_v}
 use Rattle.pep440_version.specs.Record.{Record}
 
--- why a version text is refused
+-- why a version string is rejected
 pub data Refusal : Type 0 where
   Wildcard : Refusal
   NumberTooBig : (digits : List ℕ) → Refusal
@@ -16,7 +16,7 @@ pub data Refusal : Type 0 where
   LocalEmpty : (precursor : ℕ) → Refusal
   UnexpectedEnd : (version remaining : List ℕ) → Refusal
 
--- why a pattern text is refused
+-- why a pattern string is rejected
 pub data PatternRefusal : Type 0 where
   OfVersion : Refusal → PatternRefusal
   WildcardNotTrailing : PatternRefusal
@@ -40,7 +40,7 @@ IsBigRun prefix digits rest = (list_all is_ascii_digit digits ≡ true) × (2 ^ 
 abbrev pub HasStar : List ℕ → List ℕ → Type 0
 HasStar text rest = (e n release : List ℕ) × (epoch : ℕ) × Opens text (e ++ (n ++ (codes ".*" ++ rest))) × IsEpoch e epoch × IsRelease n release
 
--- the text is cut after the longest front that the grammar derives
+-- the string is split after the longest prefix that the grammar derives
 pub record IsLongest (text prefix rest : List ℕ) : Type 0 where
   pub decomposition : text ≡ prefix ++ rest
   pub means : Record
@@ -67,7 +67,7 @@ abbrev pub Refuses : List ℕ → Refusal → Type 0
 Refuses text (UnexpectedEnd version remaining) = (0 < length remaining) × IsLongest text version remaining × ((f : Refusal) → RefusesEarlier text f → ⊥)
 Refuses text f = RefusesEarlier text f
 
--- why a pattern text is refused: a star at the end is none
+-- why a pattern string is rejected: a star at the end is no reason
 abbrev pub RefusesPattern : List ℕ → PatternRefusal → Type 0
 RefusesPattern text WildcardNotTrailing = (rest : List ℕ) × (0 < length rest) × HasStar text rest
 RefusesPattern text (OfVersion Wildcard) = ⊥

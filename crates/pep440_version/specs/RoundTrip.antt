@@ -1,4 +1,4 @@
--- The records whose print reads as themselves: min and max are absent, and a text of the local is written
+-- The records whose normalized form parses back to them: min and max are absent, and a string of the local part is written
 -- as reading gives it (PEP 440, "Local version identifiers").
 use Rattle.std.specs.Prelude.{◌≡◌, ℕ, ◌<◌, ◌||◌, Bool, true, false, length, None}
 use Rattle.std.specs.Char.{is_ascii_digit, is_ascii_lowercase}
@@ -10,12 +10,12 @@ use Rattle.pep440_version.specs.Record.{Record, LocalSegmentValue, Text, Number}
 abbrev pub is_lower : ℕ → Bool
 is_lower b = is_ascii_digit b || is_ascii_lowercase b
 
--- a number, or a text of lower-case ASCII letters and digits that would not be read as a number
+-- a number, or a string of lower-case ASCII letters and digits that would not be read as a number
 abbrev pub SegmentRereads : LocalSegmentValue → Type 0
 SegmentRereads (Text t) = (0 < length t) × (list_all is_lower t ≡ true) × (is_numeral t ≡ false)
 SegmentRereads (Number n) = Unit {0}
 
--- the print of the record means the record
+-- the normalized form of the record denotes the record
 pub record RoundTrips (r : Record) : Type 0 where
   pub no_min : r.min ≡ None
   pub no_max : r.max ≡ None

@@ -10,7 +10,7 @@ use Rattle.std.specs.FinMap.{nat_cmp-IsAntisymmetric, slice_cmp-IsAntisymmetric}
 use Rattle.std.specs.declared.cmp.Ordering.{Ordering}
 use Rattle.std.specs.declared.cmp.Ordering.TheVariants.{Less, Equal, Greater}
 use Rattle.pep440_version.specs.declared.prerelease.PrereleaseKind.TheVariants.{Alpha, Beta, Rc}
-use Rattle.pep440_version.specs.Feed.{feed, feed_numbers, feed_stage, feed_post, feed_dev, feed_local, feed_segment, feed_kind, feed_prerelease}
+use Rattle.pep440_version.specs.Feed.{feed, feed_items, feed_stage, feed_post, feed_dev, feed_segment, feed_kind, feed_prerelease}
 use Rattle.pep440_version.specs.Key.{Key, key, key_cmp, record_cmp, Stage, Min, Dev, Pre, Final, PostPart, NoPost, PostAt, PostTop, DevPart, DevAt, NoDev, stage_cmp, stage_rank, post_cmp, post_rank, dev_cmp, dev_rank, segment_cmp}
 use Rattle.pep440_version.specs.KeyLaws.{release_cmp-trim, segment_cmp-ranks, segment_rank, segment_string, segment_number}
 use Rattle.pep440_version.specs.Record.{Record, LocalSegmentValue, Text, Number}
@@ -132,9 +132,9 @@ ties x y e =
 pub feeds_alike : (x y : Record) → eq_by_cmp record_cmp x y ≡ true → feed x ≡ feed y
 feeds_alike x y e =
     let t = ties (key x) (key y) ((Equal-is (record_cmp x y)).0 e) in
-    λ i. u64 (t.epoch i) ++ feed_numbers (t.release i) ++ feed_stage (t.stage i) ++ feed_post (t.post i) ++ feed_dev (t.dev i) ++ feed_local (t.local i)
+    λ i. u64 (t.epoch i) ++ feed_items u64 (t.release i) ++ feed_stage (t.stage i) ++ feed_post (t.post i) ++ feed_dev (t.dev i) ++ feed_items feed_segment (t.local i)
 
--- segments that are equal as they are held mean the same
+-- segments that are equal as they are stored denote the same
 same_held : (x y : LocalSegment) → equal_segments.it x y ≡ true → segment x ≡ segment y
 same_held (local_segment.String s) (local_segment.String t) e = ap Text ((pointwise_decides unsigned_Decides (string_bytes s) (string_bytes t)).0 e)
 same_held (local_segment.String s) (local_segment.Number n) e = cc e

@@ -34,7 +34,7 @@ is_small None = false
 abbrev pub is_packed : Record → Bool
 is_packed r = (r.epoch == 0) && ((length r.local == 0) && (is_short r.release && is_small (suffix r)))
 
--- the places of the numbers, missing ones being 0, of the class and of the suffix's number
+-- the numbers, missing ones being 0, the class and the suffix's number, each at its bits
 abbrev pub word_of : List ℕ → ℕ × ℕ → ℕ
 word_of release s =
     slice_index release 0 * 2 ^ 48 + slice_index release 1 * 2 ^ 40 + slice_index release 2 * 2 ^ 32 + slice_index release 3 * 2 ^ 24 + s.0 * 2 ^ 21 + s.1

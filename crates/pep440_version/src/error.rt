@@ -1,7 +1,8 @@
 //! Why a string is not a version or not a pattern: kinds, errors and the conversions between them.
-ghost use Rattle.std.specs.Prelude.{◌≡◌, Some};
-ghost use Rattle.pep440_version.specs.Errors.{kind_of, pattern_kind_of, refusal_of, error_refusal, pattern_refusal_of, pattern_error_refusal, inner_kind};
+ghost use Rattle.std.specs.Prelude.{◌≡◌};
+ghost use Rattle.pep440_version.specs.Errors.{kind_of, pattern_kind_of, refusal_of, error_refusal, pattern_refusal_of, pattern_error_refusal};
 ghost use Rattle.pep440_version.specs.declared.error.PatternErrorKind.TheVariants.{Version};
+ghost use Rattle.pep440_version.specs.declared.error.VersionParseError.{VersionParseError};
 ghost use Rattle.pep440_version.specs.declared.error.ErrorKind.TheVariants.{OutOfMemory};
 
 use std::alloc::AllocError;
@@ -131,7 +132,7 @@ impl From<VersionParseError> for PatternErrorKind {
 }
 
 impl From<ErrorKind> for PatternErrorKind {
-    ghost from_gives = { λ kind outer. inner_kind outer ≡ Some kind };
+    ghost from_gives = { λ kind outer. (e : VersionParseError) × (outer ≡ Version e) × (kind_of e ≡ kind) };
 
     fn from(kind: ErrorKind) -> PatternErrorKind {
         PatternErrorKind::Version(VersionParseError::from(kind))
@@ -182,7 +183,7 @@ impl From<VersionParseError> for VersionPatternParseError {
 }
 
 impl From<ErrorKind> for VersionPatternParseError {
-    ghost from_gives = { λ kind error. inner_kind (pattern_kind_of error) ≡ Some kind };
+    ghost from_gives = { λ kind error. (e : VersionParseError) × (pattern_kind_of error ≡ Version e) × (kind_of e ≡ kind) };
 
     fn from(kind: ErrorKind) -> VersionPatternParseError {
         VersionPatternParseError {

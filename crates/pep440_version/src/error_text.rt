@@ -39,7 +39,7 @@ fn write_five<W: fmt::Write>(
 }
 
 // The digits as a string; other bytes may give another string.
-fn digits_text(bytes: &[u8]) -> &str
+fn digits_to_str(bytes: &[u8]) -> &str
     ensures { list_all is_ascii_digit bytes.now ≡ true → result.now ≡ bytes.now }
 {
     match std::str::from_utf8(bytes) {
@@ -54,7 +54,7 @@ fn write_too_big<W: fmt::Write>(f: &mut fmt::Formatter<W>, bytes: &[u8]) -> fmt:
     write_three(
         f,
         "expected number less than or equal to 18446744073709551615, but number found in \"",
-        digits_text(bytes),
+        digits_to_str(bytes),
         "\" exceeds it",
     )
 }

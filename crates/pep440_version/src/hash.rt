@@ -2,7 +2,7 @@
 ghost use Rattle.std.specs.Prelude.{◌≡◌, length, take, map};
 ghost use Rattle.std.specs.Hash as fed;
 ghost use Rattle.std.specs.List.{flat_map, fold};
-ghost use Rattle.pep440_version.specs.Feed.{feed, feed_kind, feed_prerelease, feed_numbers, feed_stage, feed_post, feed_dev, feed_segment, feed_local};
+ghost use Rattle.pep440_version.specs.Feed.{feed, feed_kind, feed_prerelease, feed_items, feed_stage, feed_post, feed_dev, feed_segment};
 ghost use Rattle.pep440_version.specs.Key.{key};
 ghost use Rattle.pep440_version.specs.Segments.{segment};
 ghost use Rattle.pep440_version.specs.Ties.{feeds_alike, segments_feed_alike, kinds_feed_alike, prereleases_feed_alike};
@@ -59,7 +59,7 @@ impl Hash for LocalSegment {
 }
 
 fn hash_numbers<H: Hasher>(numbers: &[u64], state: &mut H)
-    ensures { state.new ≡ fold H.write state.old (feed_numbers numbers.now) }
+    ensures { state.new ≡ fold H.write state.old (feed_items fed.u64 numbers.now) }
 {
     state.write_u64(numbers.len() as u64);
     u64::hash_slice(numbers, state);
@@ -96,7 +96,7 @@ fn hash_dev<H: Hasher>(v: &Version, state: &mut H)
 }
 
 fn hash_local<H: Hasher>(segments: &[LocalSegment], state: &mut H)
-    ensures { state.new ≡ fold H.write state.old (feed_local (map segment segments.now)) }
+    ensures { state.new ≡ fold H.write state.old (feed_items feed_segment (map segment segments.now)) }
 {
     state.write_u64(segments.len() as u64);
     for part in segments {

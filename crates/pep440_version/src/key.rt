@@ -1,4 +1,4 @@
-//! The key of a version, as its order, its hash and its sort key use it: the places of stage, post and dev, and the release
+//! The key of a version, as its order, its hash and its sort key use it: the ranks of stage, post and dev, and the release
 //! without the zeros at its end.
 ghost use Rattle.std.specs.Prelude.{◌≡◌, ◌≤◌};
 ghost use Rattle.pep440_version.specs.Key.{dev_rank, key, post_rank, stage_rank};
@@ -50,7 +50,7 @@ impl RankedNumber {
         }
     }
 
-    /// The post-release: none, one, the mark `max`.
+    /// The post-release: none, one, the sentinel `max`.
     pub fn from_post(version: &Version) -> RankedNumber
         ensures { (result.rank, result.number) ≡ post_rank (key version.now).post }
     {
@@ -61,7 +61,7 @@ impl RankedNumber {
         }
     }
 
-    /// The developmental release: the mark `min` or one, none.
+    /// The dev release: the sentinel `min` or one, none.
     pub fn from_dev(version: &Version) -> RankedNumber
         ensures { (result.rank, result.number) ≡ dev_rank (key version.now).dev }
     {

@@ -1,4 +1,4 @@
-//! What holds of texts, records, prints, words and orders, each as the contract of a function that does nothing; and the word
+//! Laws of strings, records, normalized forms, words and orders, each as the contract of a function that does nothing; and the word
 //! of a version.
 ghost use Rattle.std.specs.Prelude.{Ok, Err, Some, None, ◌≡◌, ◌⊎◌, ℕ, List, Bool, true, if◌then◌else◌};
 ghost use Rattle.pep440_version.specs.Grammar.{Derives};
@@ -7,7 +7,7 @@ ghost use Rattle.pep440_version.specs.Print.{print};
 ghost use Rattle.pep440_version.specs.Record.{Record, IsRecord};
 ghost use Rattle.pep440_version.specs.Refusals.{PatternRefusal, Refusal, Refuses, RefusesPattern};
 ghost use Rattle.pep440_version.specs.RoundTrip.{RoundTrips};
-ghost use Rattle.pep440_version.specs.Key.{kind_cmp, prerelease_cmp, record_cmp, segment_cmp};
+ghost use Rattle.pep440_version.specs.Key.{kind_rank, prerelease_cmp, record_cmp, segment_cmp};
 ghost use Rattle.pep440_version.specs.Segments.{segment};
 ghost use Rattle.pep440_version.specs.contracts.prerelease.PrereleaseKindOrd.TheImpl.{cmp-value as cmp_kinds};
 ghost use Rattle.pep440_version.specs.contracts.prerelease.PrereleaseOrd.TheImpl.{cmp-value as cmp_prereleases};
@@ -69,7 +69,7 @@ pub fn reading_agrees()
 
 /// `cmp` of kinds, pre-releases and segments, which are derived, is the stated order.
 pub fn parts_are_ordered()
-    ensures kind { (j k : PrereleaseKind) → cmp_kinds.it j k ≡ kind_cmp j k }
+    ensures kind { (j k : PrereleaseKind) → cmp_kinds.it j k ≡ nat_cmp (kind_rank j) (kind_rank k) }
     ensures prerelease { (p q : Prerelease) → cmp_prereleases.it p q ≡ prerelease_cmp p q }
     ensures segment { (s t : LocalSegment) → cmp_segments.it s t ≡ segment_cmp (segment s) (segment t) }
 {}

@@ -1,6 +1,7 @@
 //! A packed version: its release, and one word for the release and the one suffix that it may have.
 ghost use Rattle.std.specs.Prelude.{◌≡◌, ◌+◌, ◌*◌, ◌^◌, ◌<◌, ◌≤◌, ◌&&◌, nat_le, true, false, None, length, slice_index, take, IfSome, IfNone, if◌then◌else◌};
-ghost use Rattle.pep440_version.specs.Form.{IsWord, class_in, class_of_field, dev_class, unpacked_record, max_class, min_class, number_in, number_of_class, packed_record, post_class, prerelease_of_class, record_in, word_with, word_with_number};
+ghost use Rattle.pep440_version.specs.Form.{IsWord, class_in, dev_class, is_class_of_part, unpacked_record, max_class, min_class, number_in, number_of_class, packed_record, post_class, prerelease_of_class, record_in, suffix_of_part, word_with, word_with_part};
+ghost use Rattle.pep440_version.specs.Key.{kind_rank};
 ghost use Rattle.pep440_version.specs.Normal.{IsPadded, IsKnown};
 ghost use Rattle.pep440_version.specs.Word.{is_packed, is_short, suffix};
 
@@ -32,13 +33,14 @@ const MAX_OTHER_NUMBER: u64 = 255;
 
 pub(crate) const MAX_SUFFIX_NUMBER: u64 = 2097151;
 
-// The fields that are a number, each with a class of its own.
+// The parts that are a suffix, each with classes of its own; `None` is its absence.
 #[derive(Clone, Copy)]
-pub(crate) enum Field {
-    Min,
-    Dev,
-    Post,
-    Max,
+pub(crate) enum Part {
+    Min(Option<u64>),
+    Dev(Option<u64>),
+    Pre(Option<Prerelease>),
+    Post(Option<u64>),
+    Max(Option<u64>),
 }
 
 // The count of release numbers, the word, and the numbers in it.
@@ -114,14 +116,42 @@ pub(crate) fn max_in(word: u64) -> Option<u64>
 }
 
 #[inline(always)]
-fn class_of_field(field: Field) -> u64
-    ensures { result ≡ class_of_field field }
+fn class_of_kind(kind: PrereleaseKind) -> u64
+    ensures { result ≡ 2 + kind_rank kind }
 {
-    match field {
-        Field::Min => MIN,
-        Field::Dev => DEV,
-        Field::Post => POST,
-        Field::Max => MAX,
+    match kind {
+        PrereleaseKind::Alpha => ALPHA,
+        PrereleaseKind::Beta => BETA,
+        PrereleaseKind::Rc => RC,
+    }
+}
+
+// The class and the number of a part that is there.
+#[inline(always)]
+fn suffix_of_part(part: Part) -> Option<(u64, u64)>
+    ensures { result ≡ suffix_of_part part }
+{
+    match part {
+        Part::Min(Some(number)) => Some((MIN, number)),
+        Part::Dev(Some(number)) => Some((DEV, number)),
+        Part::Pre(Some(pre)) => Some((class_of_kind(pre.kind), pre.number)),
+        Part::Post(Some(number)) => Some((POST, number)),
+        Part::Max(Some(number)) => Some((MAX, number)),
+        _ => None,
+    }
+}
+
+// Whether the class is one of the part's.
+#[inline(always)]
+fn is_class_of_part(part: Part, class: u64) -> bool
+    ensures { result ≡ is_class_of_part part class }
+{
+    match part {
+        Part::Min(_) => class == MIN,
+        Part::Dev(_) => class == DEV,
+        Part::Pre(_) => class == ALPHA || class == BETA || class == RC,
+        Part::Post(_) => class == POST,
+        Part::Max(_) => class == MAX,
     }
 }
 
@@ -135,23 +165,23 @@ fn replace_suffix(word: u64, class: u64, number: u64) -> u64
     (word >> 24 << 3 | class) << 21 | number
 }
 
-// The word with this number in the field, where it has no suffix of another class.
+// The word with this part, where it has no suffix of another part.
 #[inline(always)]
-pub(crate) fn replace_number(word: u64, field: Field, number: Option<u64>) -> Option<u64>
-    ensures { result ≡ word_with_number word (class_of_field field) number }
+pub(crate) fn replace_part(word: u64, part: Part) -> Option<u64>
+    ensures { result ≡ word_with_part word part }
 {
-    let class = class_of_field(field);
     let own = class_in(word);
-    match number {
-        Some(number) => {
-            if number <= MAX_SUFFIX_NUMBER && (own == NONE || own == class) {
+    let is_own = is_class_of_part(part, own);
+    match suffix_of_part(part) {
+        Some((class, number)) => {
+            if number <= MAX_SUFFIX_NUMBER && (own == NONE || is_own) {
                 Some(replace_suffix(word, class, number))
             } else {
                 None
             }
         }
         None => {
-            if own == class {
+            if is_own {
                 Some(replace_suffix(word, NONE, 0))
             } else {
                 Some(word)
@@ -161,7 +191,7 @@ pub(crate) fn replace_number(word: u64, field: Field, number: Option<u64>) -> Op
 }
 
 // The class and the number of the one suffix; `None` if there are more.
-fn suffix(unpacked: &Unpacked) -> Option<(u64, u64)>
+fn find_suffix(unpacked: &Unpacked) -> Option<(u64, u64)>
     ensures { result ≡ suffix (unpacked_record unpacked.now) }
 {
     match (
@@ -174,11 +204,7 @@ fn suffix(unpacked: &Unpacked) -> Option<(u64, u64)>
         (None, None, None, None, None) => Some((NONE, 0)),
         (Some(min), None, None, None, None) => Some((MIN, min)),
         (None, Some(dev), None, None, None) => Some((DEV, dev)),
-        (None, None, Some(pre), None, None) => match pre.kind {
-            PrereleaseKind::Alpha => Some((ALPHA, pre.number)),
-            PrereleaseKind::Beta => Some((BETA, pre.number)),
-            PrereleaseKind::Rc => Some((RC, pre.number)),
-        },
+        (None, None, Some(pre), None, None) => Some((class_of_kind(pre.kind), pre.number)),
         (None, None, None, Some(post), None) => Some((POST, post)),
         (None, None, None, None, Some(max)) => Some((MAX, max)),
         _ => None,
@@ -197,7 +223,7 @@ fn are_small(numbers: [u64; 4]) -> bool
 }
 
 // The suffix of a version that a word can hold; its release numbers are given, padded.
-fn packed_suffix(unpacked: &Unpacked, numbers: [u64; 4]) -> Option<(u64, u64)>
+fn find_packed_suffix(unpacked: &Unpacked, numbers: [u64; 4]) -> Option<(u64, u64)>
     requires few { length unpacked.now.release ≤ 4 }
     requires first { slice_index numbers 0 ≡ slice_index unpacked.now.release 0 }
     requires second { slice_index numbers 1 ≡ slice_index unpacked.now.release 1 }
@@ -208,7 +234,7 @@ fn packed_suffix(unpacked: &Unpacked, numbers: [u64; 4]) -> Option<(u64, u64)>
     if unpacked.epoch != 0 || !unpacked.local.is_empty() || !are_small(numbers) {
         return None;
     }
-    let (class, number) = suffix(unpacked)?;
+    let (class, number) = find_suffix(unpacked)?;
     if number > MAX_SUFFIX_NUMBER {
         None
     } else {
@@ -217,7 +243,7 @@ fn packed_suffix(unpacked: &Unpacked, numbers: [u64; 4]) -> Option<(u64, u64)>
 }
 
 // Four numbers, a class and a number, each in its bits.
-fn word_of(numbers: [u64; 4], class: u64, number: u64) -> u64
+fn pack_word(numbers: [u64; 4], class: u64, number: u64) -> u64
     requires first { slice_index numbers 0 ≤ 65535 }
     requires second { slice_index numbers 1 ≤ 255 }
     requires third { slice_index numbers 2 ≤ 255 }
@@ -242,10 +268,10 @@ impl Packed {
             return None;
         }
         let numbers = pad_with_zeros(release);
-        let (class, number) = packed_suffix(unpacked, numbers)?;
+        let (class, number) = find_packed_suffix(unpacked, numbers)?;
         Some(Packed {
             count: release.len() as u8,
-            word: word_of(numbers, class, number),
+            word: pack_word(numbers, class, number),
             numbers,
         })
     }
@@ -269,7 +295,7 @@ impl Packed {
         }
         Some(Packed {
             count: count as u8,
-            word: word_of(numbers, class, number),
+            word: pack_word(numbers, class, number),
             numbers,
         })
     }

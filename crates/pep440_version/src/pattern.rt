@@ -83,7 +83,7 @@ impl VersionPattern {
         ensures reads { Answers pattern_error_refusal result (read_pattern text.now) }
         ensures memory { (x : Record × Bool) → read_pattern text.now ≡ Ok x → is_packed x.0 ≡ true → IsOk result }
     {
-        if let Some(version) = read::normal_version(text) {
+        if let Some(version) = read::parse_normal_version(text) {
             return Ok(VersionPattern::verbatim(version));
         }
         let (version, wildcard) = read::parse_pattern(alloc, text)?;
@@ -105,7 +105,7 @@ impl VersionPattern {
         ensures refused { IfErr result (λ e. IfSome (pattern_error_refusal e) (RefusesPattern text.now)) }
         // The error that the prefixes of the string determine is returned, unless out of memory.
         ensures decided { (f : PatternRefusal) → RefusesPattern text.now f → Answers pattern_error_refusal result (Err f) }
-        // The error's message is that of the refusal.
+        // The message is that of the error's kind.
         ensures message { IfErr result (λ e. IfSome (pattern_error_refusal e) (λ f. pattern_error_text (pattern_error_refusal e) ≡ Some (pattern_refusal_text f))) }
         // A string that denotes a packed record is parsed without allocating, with a star or without.
         ensures memory { (r : Record) (star : Bool) → DerivesPattern text.now r star → is_packed r ≡ true → IsOk result }

@@ -10,7 +10,8 @@ use crate::segment::LocalSegment;
 use crate::version::Version;
 use std::fmt;
 
-// A number in decimal, whatever the options of `f`.
+// A number in decimal, whatever the options of `f`. By std's `Display`, over a writer that ignores them, a version of
+// small numbers took 3 to 5 in a hundred more instructions (`bench/versions`).
 pub(crate) fn write_number<W: fmt::Write>(f: &mut fmt::Formatter<W>, n: u64) -> fmt::Result
     ensures { WritesStyledOnOk W.write_str_gives f.old result (decimal n) f.new }
 {

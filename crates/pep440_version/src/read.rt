@@ -1,11 +1,11 @@
 //! The parser of versions and patterns, part by part from left to right.
-ghost use Rattle.std.specs.Prelude.{◌≡◌, ◌<◌, ◌≤◌, ◌==◌, ℕ, Bool, List, true, length, Ok, Err, Some, IfOk, IfErr, IfSome, IsOk};
+ghost use Rattle.std.specs.Prelude.{◌≡◌, ◌<◌, ◌≤◌, ◌==◌, ℕ, Bool, List, [], true, length, Ok, Err, Some, IfOk, IfErr, IfSome, IsOk};
 ghost use Rattle.pep440_version.specs.ErrorTexts.{error_text, refusal_text};
 ghost use Rattle.pep440_version.specs.Errors.{Answers, AnswersBy, error_refusal, pattern_error_refusal};
 ghost use Rattle.pep440_version.specs.Grammar.{Derives, starts, is_v};
 ghost use Rattle.pep440_version.specs.Print.{print};
 ghost use Rattle.pep440_version.specs.Reading.{EndsWith, skip_v, starts_with_number};
-ghost use Rattle.pep440_version.specs.Record.{Record, IsRecord, epoch_and_release};
+ghost use Rattle.pep440_version.specs.Record.{Record, IsRecord, epoch_and_release, from_parts};
 ghost use Rattle.pep440_version.specs.Refusals.{Refusal, Refuses};
 ghost use Rattle.pep440_version.specs.RoundTrip.{RoundTrips};
 ghost use Rattle.pep440_version.specs.Word.{is_packed};
@@ -13,12 +13,14 @@ ghost use Rattle.pep440_version.specs.Whole.{parse_release_after_first, parse_ep
 
 mod local;
 mod normal;
+mod normal_parts;
 mod number;
 mod scan;
 mod suffix;
 
 use self::local::parse_local;
-pub(crate) use self::normal::normal_version;
+pub(crate) use self::normal::parse_normal_version;
+use self::normal_parts::{NormalParts, parse_normal_parts};
 use self::number::{parse_number, parse_release_from, starts_with_number};
 use self::suffix::{parse_dev, parse_post, parse_pre};
 use crate::error::{ErrorKind, PatternErrorKind, VersionParseError, VersionPatternParseError};
@@ -143,6 +145,23 @@ fn build_star_version(alloc: Global, epoch: u64, release: Release) -> Result<Ver
     Ok(Version::from_parts(alloc, epoch, release, None, None, None, no_local)?)
 }
 
+// The version of the parts of a normal one.
+fn build_normal_version(alloc: Global, parts: NormalParts) -> Result<Version, ErrorKind>
+    requires { 0 < length parts.release }
+    ensures reads { AnswersBy (λ v. v) result (Ok (from_parts parts.epoch parts.release parts.pre parts.post parts.dev [])) }
+    ensures memory { is_packed (from_parts parts.epoch parts.release parts.pre parts.post parts.dev []) ≡ true → IsOk result }
+{
+    let no_local = Vec::new(alloc);
+    let NormalParts {
+        epoch,
+        release,
+        pre,
+        post,
+        dev,
+    } = parts;
+    Ok(Version::from_parts(alloc, epoch, release, pre, post, dev, no_local)?)
+}
+
 // Blanks, the letter v, epoch and release.
 fn parse_through_release(alloc: Global, text: &str) -> Result<(u64, Release, &str), ErrorKind>
     ensures reads { AnswersBy (λ x. ((x.0, x.1), x.2.now)) result (parse_through_release text.now) }
@@ -180,8 +199,20 @@ impl Version {
         ensures reads { Answers error_refusal result (read_version text.now) }
         ensures memory { (r : Record) → read_version text.now ≡ Ok r → is_packed r ≡ true → IsOk result }
     {
-        match normal_version(text) {
+        match parse_normal_version(text) {
             Some(version) => Ok(version),
+            None => Version::read_unpacked(alloc, text),
+        }
+    }
+
+    // The same, where the version is likely not packed.
+    #[inline(never)]
+    fn read_unpacked(alloc: Global, text: &str) -> Result<Version, VersionParseError>
+        ensures reads { Answers error_refusal result (read_version text.now) }
+        ensures memory { (r : Record) → read_version text.now ≡ Ok r → is_packed r ≡ true → IsOk result }
+    {
+        match parse_normal_parts(text) {
+            Some(parts) => Ok(build_normal_version(alloc, parts)?),
             None => Version::read_whole(alloc, text),
         }
     }

@@ -8,7 +8,7 @@ ghost use Rattle.pep440_version.specs.Trim.{trim};
 ghost use Rattle.pep440_version.specs.Word.{is_packed};
 ghost use Rattle.std.specs.declared.cmp.Ordering.TheVariants.{Equal};
 
-use crate::packed::Field;
+use crate::packed::Part;
 use crate::prerelease::Prerelease;
 use crate::release::Release;
 use crate::segment::LocalSegment;
@@ -32,13 +32,16 @@ impl Version {
         Version::from_unpacked(alloc, unpacked)
     }
 
-    /// The version with this epoch.
+    /// The version with this epoch; the version itself where it has it.
     ///
     /// Allocates only if the result is not packed.
     pub fn with_epoch(self, alloc: Global, epoch: u64) -> Result<Version, AllocError>
         ensures value { IfOk result (λ v. v ≡ record self { epoch = epoch }) }
         ensures memory { is_packed (record self { epoch = epoch }) ≡ true → IsOk result }
     {
+        if epoch == self.epoch() {
+            return Ok(self);
+        }
         let mut unpacked = self.into_unpacked(alloc);
         unpacked.epoch = epoch;
         Version::from_unpacked(alloc, unpacked)
@@ -47,10 +50,14 @@ impl Version {
     /// The version with this pre-release part, or without one.
     ///
     /// Allocates only if the result is not packed.
+    #[inline(always)]
     pub fn with_pre(self, alloc: Global, pre: Option<Prerelease>) -> Result<Version, AllocError>
         ensures value { IfOk result (λ v. v ≡ record self { pre = pre }) }
         ensures memory { is_packed (record self { pre = pre }) ≡ true → IsOk result }
     {
+        if let Some(version) = self.with_part(Part::Pre(pre)) {
+            return Ok(version);
+        }
         let mut unpacked = self.into_unpacked(alloc);
         unpacked.pre = pre;
         Version::from_unpacked(alloc, unpacked)
@@ -64,7 +71,7 @@ impl Version {
         ensures value { IfOk result (λ v. v ≡ record self { post = post }) }
         ensures memory { is_packed (record self { post = post }) ≡ true → IsOk result }
     {
-        if let Some(version) = self.with_number(Field::Post, post) {
+        if let Some(version) = self.with_part(Part::Post(post)) {
             return Ok(version);
         }
         let mut unpacked = self.into_unpacked(alloc);
@@ -80,7 +87,7 @@ impl Version {
         ensures value { IfOk result (λ v. v ≡ record self { dev = dev }) }
         ensures memory { is_packed (record self { dev = dev }) ≡ true → IsOk result }
     {
-        if let Some(version) = self.with_number(Field::Dev, dev) {
+        if let Some(version) = self.with_part(Part::Dev(dev)) {
             return Ok(version);
         }
         let mut unpacked = self.into_unpacked(alloc);
@@ -144,7 +151,7 @@ impl Version {
         ensures value { IfOk result (λ v. v ≡ record self { min = min }) }
         ensures memory { is_packed (record self { min = min }) ≡ true → IsOk result }
     {
-        if let Some(version) = self.with_number(Field::Min, min) {
+        if let Some(version) = self.with_part(Part::Min(min)) {
             return Ok(version);
         }
         let mut unpacked = self.into_unpacked(alloc);
@@ -163,7 +170,7 @@ impl Version {
         ensures value { IfOk result (λ v. v ≡ record self { max = max }) }
         ensures memory { is_packed (record self { max = max }) ≡ true → IsOk result }
     {
-        if let Some(version) = self.with_number(Field::Max, max) {
+        if let Some(version) = self.with_part(Part::Max(max)) {
             return Ok(version);
         }
         let mut unpacked = self.into_unpacked(alloc);

@@ -1,13 +1,13 @@
 //! The type `Version`: how one is made, and its parts.
 ghost use Rattle.std.specs.Prelude.{◌≡◌, ◌<◌, ◌||◌, ◌↔◌, [], ◌∷◌, length, Some, None, IfOk, IfSome, IsOk, IsTrue, map, is_some, is_none, if◌then◌else◌, true, false};
 ghost use Rattle.std.specs.List.{All};
-ghost use Rattle.pep440_version.specs.Form.{IsWord, unpacked_record, packed_record, with_field};
+ghost use Rattle.pep440_version.specs.Form.{IsWord, unpacked_record, packed_record, with_part};
 ghost use Rattle.pep440_version.specs.Record.{from_parts, from_release, zero_alpha_dev, IsRecord, SegmentFits};
 ghost use Rattle.pep440_version.specs.Segments.{segment};
 ghost use Rattle.pep440_version.specs.Word.{is_packed, word};
 ghost use Rattle.std.specs.Option.{option_copied};
 
-use crate::packed::{Field, Packed, dev_in, max_in, min_in, post_in, pre_in, replace_number};
+use crate::packed::{Packed, Part, dev_in, max_in, min_in, post_in, pre_in, replace_part};
 use crate::prerelease::{Prerelease, PrereleaseKind};
 use crate::release::{Release, prove_numbers_fit};
 use crate::segment::LocalSegment;
@@ -60,6 +60,7 @@ fn prove_segment_fits(local_segment: &LocalSegment)
     }
 }
 
+// The loop is compiled away: `with_local` takes as many instructions for 100,001 segments as for one.
 pub(crate) fn prove_segments_fit(segments: &[LocalSegment])
     ensures { All SegmentFits (map segment segments.now) }
 {
@@ -118,10 +119,10 @@ impl Version {
         }
     }
 
-    // The version with this number in the field, where both are packed.
+    // The version with this part, where both are packed.
     #[inline(always)]
-    pub(crate) fn with_number(&self, field: Field, number: Option<u64>) -> Option<Version>
-        ensures { IfSome result (λ v. v ≡ with_field field number self.now) }
+    pub(crate) fn with_part(&self, part: Part) -> Option<Version>
+        ensures { IfSome result (λ v. v ≡ with_part part self.now) }
     {
         match &self.form {
             Form::UnpackedFields(_) => None,
@@ -130,7 +131,7 @@ impl Version {
                 word,
                 numbers,
             } => {
-                let word = replace_number(*word, field, number)?;
+                let word = replace_part(*word, part)?;
                 Some(Version::from_packed(Packed {
                     count: *count,
                     word,

@@ -11,7 +11,9 @@ True
 """
 from __future__ import annotations
 
-from collections.abc import Iterable, Iterator
+import abc
+import re
+from collections.abc import Callable, Iterable, Iterator
 from typing import NamedTuple, TypeVar, Union
 
 from . import _core
@@ -23,8 +25,8 @@ __all__ = ["BaseSpecifier", "Bound", "InvalidSpecifier", "Specifier", "Specifier
 UnparsedVersion = Union[Version, str]
 UnparsedVersionVar = TypeVar("UnparsedVersionVar", bound=UnparsedVersion)
 
-# Those beside which a pre-release as the version allows pre-releases.
-INCLUSIVE = ("===", "==", "~=", ">=", "<=")
+# The operators beside which a version that is a pre-release allows pre-releases: all but `!=`, since who excludes one does not ask for any.
+_NAMING = frozenset(("===", "==", "~=", ">=", "<=", ">", "<"))
 
 
 class Bound(NamedTuple):
@@ -39,33 +41,79 @@ class Bound(NamedTuple):
         return f"{self.version}~{self.mark}" if self.mark else str(self.version)
 
 
-def bound_of(text: str, included: bool) -> Bound | None:
+# What stands behind an operator, by PEP 440, Appendix B: behind `===` anything up to a white space, `;` or `)`; behind `==` and `!=` a version or
+# a release with a star; behind `~=` two numbers or more; a local part behind `==` and `!=` alone.
+_SUFFIXES = r"""
+    (?: [-_.]? (?: alpha | a | beta | b | preview | pre | c | rc ) [-_.]? [0-9]* )?
+    (?: - [0-9]+ | [-_.]? (?: post | rev | r ) [-_.]? [0-9]* )?
+    (?: [-_.]? dev [-_.]? [0-9]* )?
+"""
+_VERSION_OF_OPERATOR = rf"""
+    (?P<version>
+        (?<= === ) \s* [^\s;)]*
+        |
+        (?<! === ) (?<= == | != ) \s* v? (?: [0-9]+ ! )? [0-9]+ (?: \. [0-9]+ )*
+        (?: \. \* | {_SUFFIXES} (?: \+ [a-z0-9]+ (?: [-_.] [a-z0-9]+ )* )? )
+        |
+        (?<= ~= ) \s* v? (?: [0-9]+ ! )? [0-9]+ (?: \. [0-9]+ )+ {_SUFFIXES}
+        |
+        (?<! == | != | ~= ) \s* v? (?: [0-9]+ ! )? [0-9]+ (?: \. [0-9]+ )* {_SUFFIXES}
+    )
+"""
+
+
+def _version_of(item: UnparsedVersion) -> Version:
+    return item if isinstance(item, Version) else Version(item)
+
+
+def _bound_of(text: str, included: bool) -> Bound | None:
     if text == "*":
         return None
     version, _, mark = text.partition("~")
     return Bound(Version(version), included, mark)
 
 
-def segment_of(line: str) -> tuple[Bound | None, Bound | None]:
+def _segment_of(line: str) -> tuple[Bound | None, Bound | None]:
     lower, _, upper = line[1:-1].partition(", ")
-    return bound_of(lower, line[0] == "["), bound_of(upper, line[-1] == "]")
+    return _bound_of(lower, line[0] == "["), _bound_of(upper, line[-1] == "]")
 
 
-class BaseSpecifier:
+def _shown(specifier: Specifier | SpecifierSet) -> str:
+    pre = "" if specifier._prereleases is None else f", prereleases={specifier._prereleases!r}"
+    return f"<{type(specifier).__name__}({str(specifier)!r}{pre})>"
+
+
+class BaseSpecifier(metaclass=abc.ABCMeta):
     """What a specifier and a set of specifiers have in common."""
 
-    _prereleases: bool | None
+    @abc.abstractmethod
+    def __str__(self) -> str:
+        """The specifiers, as text."""
 
-    def __repr__(self) -> str:
-        pre = "" if self._prereleases is None else f", prereleases={self._prereleases!r}"
-        return f"<{type(self).__name__}({str(self)!r}{pre})>"
+    @abc.abstractmethod
+    def __hash__(self) -> int:
+        """A hash that equal ones share."""
 
-    def __contains__(self, item: UnparsedVersion) -> bool:
-        """Whether it contains the version, and `prereleases` allows it."""
-        return self.contains(item)
+    @abc.abstractmethod
+    def __eq__(self, other: object) -> bool:
+        """Whether both say the same."""
 
-    def contains(self, item: UnparsedVersion, prereleases: bool | None = None) -> bool:
-        raise NotImplementedError
+    @property
+    @abc.abstractmethod
+    def prereleases(self) -> bool | None:
+        """Whether pre-releases are allowed. May be set."""
+
+    @prereleases.setter
+    def prereleases(self, value: bool | None) -> None:
+        """Allows pre-releases, forbids them, or leaves it to the version with None."""
+
+    @abc.abstractmethod
+    def contains(self, item: str, prereleases: bool | None = None) -> bool:
+        """Whether the version is contained."""
+
+    @abc.abstractmethod
+    def filter(self, iterable: Iterable[UnparsedVersionVar], prereleases: bool | None = None) -> Iterator[UnparsedVersionVar]:
+        """The items that are contained."""
 
     def ranges(self) -> list[tuple[Bound | None, Bound | None]]:
         """The versions that are contained, pre-releases too, as segments between two bounds in rising order; None is no bound.
@@ -77,7 +125,7 @@ class BaseSpecifier:
 
         Raises `OverflowError` where a bound lies above 18446744073709551615, as that of `==18446744073709551615.*`.
         """
-        return [segment_of(line) for line in _core.ranges(str(self)).splitlines() if line != "empty"]
+        return [_segment_of(line) for line in _core.ranges(str(self)).splitlines() if line != "empty"]
 
 
 class Specifier(BaseSpecifier):
@@ -87,19 +135,40 @@ class Specifier(BaseSpecifier):
     the version: allowed where it is one itself.
     """
 
-    # The operators, as keys, where pip looks for them.
-    _operators = dict.fromkeys(("~=", "==", "!=", "<=", ">=", "<", ">", "==="))
+    # The operators, where pip looks for them, and what a subclass names its own comparison: `_compare_equal` and the like.
+    _operators = {
+        "~=": "compatible",
+        "==": "equal",
+        "!=": "not_equal",
+        "<=": "less_than_equal",
+        ">=": "greater_than_equal",
+        "<": "less_than",
+        ">": "greater_than",
+        "===": "arbitrary",
+    }
+    # Whether this is a class with a comparison or with properties of its own.
+    _is_changed = False
 
     # How often `prereleases` of some specifier was set, so that a set knows when to ask its members again.
     _times_set = 0
+
+    # Regular expressions for other modules of `packaging` and for tools; nothing here uses them.
+    _operator_regex_str = r"(?P<operator>~=|===?|!=|<=?|>=?)"
+    _version_regex_str = _VERSION_OF_OPERATOR
+    _regex = re.compile(rf"\s*{_operator_regex_str}{_version_regex_str}\s*\Z", re.VERBOSE | re.IGNORECASE)
+
+    def __init_subclass__(cls, **named: object) -> None:
+        super().__init_subclass__(**named)
+        asked = ["operator", "version", "__str__", "contains", "_get_operator", *map("_compare_{}".format, cls._operators.values())]
+        cls._is_changed = any(getattr(cls, it) is not getattr(Specifier, it) for it in asked)
 
     def __init__(self, spec: str = "", prereleases: bool | None = None) -> None:
         if not isinstance(spec, str):
             raise TypeError(f"expected a str, not {type(spec)!r}")
         text = spec.strip()
         if "," in text or not text:
-            raise InvalidSpecifier(f"Invalid specifier: '{spec}': it is not one specifier")
-        _core.normalize_list(text)
+            raise InvalidSpecifier(f"Invalid specifier: {spec!r}: it is not one specifier")
+        _core.normalize_list(text, spec)
         # by now an operator stands in front, of one to three characters, all but `<` and `>` with a `=` at their ends
         width = 3 if text.startswith("===") else 2 if text[1] == "=" else 1
         self._spec = text[:width], text[width:].lstrip()
@@ -124,18 +193,20 @@ class Specifier(BaseSpecifier):
         """
         return self._spec[1]
 
-    @property
+    @property  # type: ignore[override]
     def prereleases(self) -> bool:
         """Whether pre-releases are allowed. May be set."""
         if self._prereleases is not None:
             return self._prereleases
-        operator, version = self._spec
-        return operator in INCLUSIVE and not version.endswith(".*") and Version(version).is_prerelease
+        return self.operator in _NAMING and not self.version.endswith(".*") and Version(self.version).is_prerelease
 
     @prereleases.setter
     def prereleases(self, value: bool | None) -> None:
         self._prereleases = value
         Specifier._times_set += 1
+
+    def __repr__(self) -> str:
+        return _shown(self)
 
     def __str__(self) -> str:
         return "".join(self._spec)
@@ -177,7 +248,14 @@ class Specifier(BaseSpecifier):
         (False, True)
         """
         allowed = self.prereleases if prereleases is None else prereleases
-        return _core.contains(str(self), item, allowed)
+        if not self._is_changed:
+            return _core.contains("".join(self._spec), item, allowed)
+        version = _version_of(item)
+        return (allowed or not version.is_prerelease) and self._get_operator(self.operator)(version, self.version)
+
+    def __contains__(self, item: UnparsedVersion) -> bool:
+        """Whether it contains the version, and `prereleases` allows it."""
+        return self.contains(item)
 
     def filter(self, iterable: Iterable[UnparsedVersionVar], prereleases: bool | None = None) -> Iterator[UnparsedVersionVar]:
         """The items that are contained, in their order. With no word on pre-releases these are given where nothing else is contained.
@@ -187,9 +265,43 @@ class Specifier(BaseSpecifier):
         """
         items = tuple(iterable)
         if prereleases is not None:
-            return iter(_core.filter(str(self), items, prereleases, False))
-        kept = _core.filter(str(self), items, self.prereleases, False)
-        return iter(kept or _core.filter(str(self), items, True, False))
+            return iter(self._kept(items, prereleases))
+        return iter(self._kept(items, self.prereleases) or self._kept(items, True))
+
+    def _kept(self, items: tuple[UnparsedVersionVar, ...], prereleases: bool) -> list[UnparsedVersionVar]:
+        if self._is_changed:
+            return [it for it in items if self.contains(it, prereleases)]
+        return _core.filter("".join(self._spec), items, prereleases, False)
+
+    # ---- a comparison for each operator, which a subclass may have its own of
+
+    def _get_operator(self, op: str) -> Callable[[Version, str], bool]:
+        comparison: Callable[[Version, str], bool] = getattr(self, f"_compare_{self._operators[op]}")
+        return comparison
+
+    def _compare_compatible(self, prospective: Version, spec: str) -> bool:
+        return _core.contains(f"~={spec}", prospective, True)
+
+    def _compare_equal(self, prospective: Version, spec: str) -> bool:
+        return _core.contains(f"=={spec}", prospective, True)
+
+    def _compare_not_equal(self, prospective: Version, spec: str) -> bool:
+        return _core.contains(f"!={spec}", prospective, True)
+
+    def _compare_less_than_equal(self, prospective: Version, spec: str) -> bool:
+        return _core.contains(f"<={spec}", prospective, True)
+
+    def _compare_greater_than_equal(self, prospective: Version, spec: str) -> bool:
+        return _core.contains(f">={spec}", prospective, True)
+
+    def _compare_less_than(self, prospective: Version, spec: str) -> bool:
+        return _core.contains(f"<{spec}", prospective, True)
+
+    def _compare_greater_than(self, prospective: Version, spec: str) -> bool:
+        return _core.contains(f">{spec}", prospective, True)
+
+    def _compare_arbitrary(self, prospective: Version, spec: str) -> bool:
+        return _core.contains(f"==={spec}", prospective, True)
 
 
 class SpecifierSet(BaseSpecifier):
@@ -200,12 +312,15 @@ class SpecifierSet(BaseSpecifier):
     """
 
     def __init__(self, specifiers: str | Iterable[Specifier] = "", prereleases: bool | None = None) -> None:
-        pieces = [piece for piece in specifiers.split(",") if piece.strip()] if isinstance(specifiers, str) else specifiers
+        pieces: Iterable[str | Specifier] = specifiers
+        if isinstance(specifiers, str):
+            pieces = filter(None, map(str.strip, specifiers.split(",")))
         self._hold(frozenset(each if isinstance(each, Specifier) else Specifier(each) for each in pieces), prereleases)
 
     def _hold(self, specs: frozenset[Specifier], prereleases: bool | None) -> None:
         self._specs = specs
         self._text = ",".join(sorted(map(str, specs)))
+        self._is_changed = any(each._is_changed for each in specs)
         self._prereleases = prereleases
         self._of_members: bool | None = None
         self._asked_at = -1
@@ -226,6 +341,9 @@ class SpecifierSet(BaseSpecifier):
     @prereleases.setter
     def prereleases(self, value: bool | None) -> None:
         self._prereleases = value
+
+    def __repr__(self) -> str:
+        return _shown(self)
 
     def __str__(self) -> str:
         """The members in the order of their texts, with commas alone between them.
@@ -285,9 +403,16 @@ class SpecifierSet(BaseSpecifier):
         """
         allowed = self.prereleases if prereleases is None else prereleases
         if installed and allowed:
-            version = item if isinstance(item, Version) else Version(item)
+            version = _version_of(item)
             item = version.base_version if version.is_prerelease else version
+        if self._is_changed:
+            version = _version_of(item)
+            return (bool(allowed) or not version.is_prerelease) and all(each.contains(version, allowed) for each in self._specs)
         return _core.contains(self._text, item, allowed)
+
+    def __contains__(self, item: UnparsedVersion) -> bool:
+        """Whether it contains the version, and `prereleases` allows it."""
+        return self.contains(item)
 
     def filter(self, iterable: Iterable[UnparsedVersionVar], prereleases: bool | None = None) -> Iterator[UnparsedVersionVar]:
         """The items that each member contains, in their order. Of a set with no member, with no word on pre-releases, these are given
@@ -297,6 +422,8 @@ class SpecifierSet(BaseSpecifier):
         ([], ['3.0rc1'])
         """
         allowed = self.prereleases if prereleases is None else prereleases
+        if self._is_changed:
+            return iter([it for it in iterable if self.contains(it, bool(allowed))])
         if self._specs or allowed is not None:
             return iter(_core.filter(self._text, iterable, allowed, False))
         items = tuple(iterable)

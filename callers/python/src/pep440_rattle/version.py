@@ -8,12 +8,19 @@ True
 """
 from __future__ import annotations
 
-from ._core import Held, InvalidVersion
+import re
+from typing import NamedTuple, TypeVar, Union
+
+from . import _core
+from ._core import InvalidVersion
 
 __all__ = ["VERSION_PATTERN", "InvalidVersion", "Version", "parse"]
 
+_LocalSegments = tuple[Union[int, str], ...]
+_AnyVersion = TypeVar("_AnyVersion", bound="Version")
+
 # The name by which tools annotate what is compared.
-_BaseVersion = Held
+_BaseVersion = _core.Held
 
 VERSION_PATTERN = r"""
     v?
@@ -29,24 +36,80 @@ VERSION_PATTERN = r"""
 Nothing here uses it: what a version is says the proved library."""
 
 
-class Version(Held):
-    """A version, read from its text.
+class _Version(NamedTuple):
+    """The parts of a version, as `Version._version` has them, for tools that read or set it."""
+
+    epoch: int
+    release: tuple[int, ...]
+    dev: tuple[str, int] | None
+    pre: tuple[str, int] | None
+    post: tuple[str, int] | None
+    local: _LocalSegments | None
+
+
+# The properties that a version is printed from.
+_PRINTED = ("epoch", "release", "pre", "post", "dev", "local")
+
+
+def _compose(version: Version) -> str:
+    """The string of these properties, for subclasses that have one of their own."""
+    parts = [version.base_version]
+    if version.pre is not None:
+        parts.append("".join(map(str, version.pre)))
+    if version.post is not None:
+        parts.append(f".post{version.post}")
+    if version.dev is not None:
+        parts.append(f".dev{version.dev}")
+    if version.local is not None:
+        parts.append(f"+{version.local}")
+    return "".join(parts)
+
+
+def _restore(kind: type[_AnyVersion], text: str) -> _AnyVersion:
+    """A copy of a version of a class whose `__init__` may take anything."""
+    version = kind.__new__(kind)
+    Version.__init__(version, text)
+    return version
+
+
+class Version(_core.Held):
+    """A version, read from a string.
 
     Versions are compared, hashed and sorted by their sort keys, which are held. The parts are read where they are first asked for.
 
     >>> Version("1!2.0-Beta.3+Ubuntu.1")
     <Version('1!2.0b3+ubuntu.1')>
 
-    Raises `InvalidVersion`, with the reason, where the text is no version.
+    Raises `InvalidVersion`, with the reason, where the string is no version.
     """
 
     __slots__ = ()
+
+    def __init_subclass__(cls, **named: object) -> None:
+        super().__init_subclass__(**named)
+        # a subclass that has such a property prints it, unless it prints itself
+        if cls.__str__ is Version.__str__ and any(getattr(cls, it) is not getattr(Version, it) for it in _PRINTED):
+            cls.__str__ = _compose  # type: ignore[assignment]
 
     def __repr__(self) -> str:
         return f"<Version('{self}')>"
 
     def __reduce__(self) -> tuple[object, ...]:
-        return type(self), (str(self),), getattr(self, "__dict__", None) or None
+        return _restore, (type(self), self._text), getattr(self, "__dict__", None) or None
+
+    @property
+    def _key(self) -> bytes:
+        return self.sort_key
+
+    @property
+    def _version(self) -> _Version:
+        epoch, release, pre, post, dev, _ = self._parts
+        local = _parse_local_version(self._normal.partition("+")[2] or None)
+        return _Version(epoch, release, None if dev is None else ("dev", dev), pre, None if post is None else ("post", post), local)
+
+    @_version.setter
+    def _version(self, parts: _Version) -> None:
+        Version.__init__(self, _text_of(*parts))
 
     @property
     def epoch(self) -> int:
@@ -92,7 +155,7 @@ class Version(Held):
         >>> Version("1.0+Ubuntu-01").local
         'ubuntu.1'
         """
-        return str(self).partition("+")[2] if self._parts[5] else None
+        return self._normal.partition("+")[2] if self._parts[5] else None
 
     @property
     def public(self) -> str:
@@ -147,3 +210,61 @@ def parse(version: str) -> Version:
     <Version('1.0.dev1')>
     """
     return Version(version)
+
+
+class _TrimmedRelease(Version):
+    """A version whose release, and so its string, has no zeros at its end, for `packaging.utils`."""
+
+    __slots__ = ()
+
+    @property
+    def release(self) -> tuple[int, ...]:
+        release = super().release
+        while len(release) > 1 and release[-1] == 0:
+            release = release[:-1]
+        return release
+
+
+# ---- names that only tools read which look behind the public ones
+
+# What PEP 440, "Normalization", makes of each spelling.
+_SPELLINGS = {"alpha": "a", "beta": "b", "c": "rc", "pre": "rc", "preview": "rc", "rev": "post", "r": "post"}
+
+
+def _parse_letter_version(letter: str | None, number: str | bytes | int | None) -> tuple[str, int] | None:
+    """The normalized label of a suffix and its number: 0 where there is none, and a post-release where there is no label."""
+    if letter:
+        lower = letter.lower()
+        return _SPELLINGS.get(lower, lower), int(number or 0)
+    return ("post", int(number)) if number else None
+
+
+def _parse_local_version(local: str | None) -> _LocalSegments | None:
+    """The segments of a local part."""
+    if local is None:
+        return None
+    return tuple(int(it) if it.isdigit() else it.lower() for it in re.split(r"[-_.]", local))
+
+
+def _text_of(
+    epoch: int,
+    release: tuple[int, ...],
+    dev: tuple[str, int] | None,
+    pre: tuple[str, int] | None,
+    post: tuple[str, int] | None,
+    local: _LocalSegments | None,
+) -> str:
+    suffixes = [f"{'.' if it is not pre else ''}{it[0]}{it[1]}" for it in (pre, post, dev) if it]
+    return f"{epoch}!{'.'.join(map(str, release))}{''.join(suffixes)}{'+' + '.'.join(map(str, local)) if local else ''}"
+
+
+def _cmpkey(
+    epoch: int,
+    release: tuple[int, ...],
+    pre: tuple[str, int] | None,
+    post: tuple[str, int] | None,
+    dev: tuple[str, int] | None,
+    local: _LocalSegments | None,
+) -> bytes:
+    """The sort key of the version with these parts."""
+    return Version(_text_of(epoch, release, dev, pre, post, local)).sort_key

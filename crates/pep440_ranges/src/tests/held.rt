@@ -1,4 +1,4 @@
-//! A number that takes memory, and so does its clone.
+//! A number that is allocated, and so is its clone.
 
 ghost use Rattle.std.specs.Prelude.{◌≡◌, ℕ};
 ghost use Rattle.std.specs.Ordering.{eq_by_cmp, as_partial_cmp, nat_cmp};

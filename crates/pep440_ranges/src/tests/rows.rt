@@ -1,7 +1,7 @@
-//! The worked rows at `u64`.
+//! The test cases at `u64`.
 
 use crate::Ranges;
-use crate::tests::walk::{count_of, flipped_bound, segments_of, twice_turned};
+use crate::tests::walk::{collect_segments, complement_any, complement_twice, count_segments};
 use std::alloc::{AllocError, Global};
 use std::ops::Bound;
 use std::ops::Bound::{Excluded, Included, Unbounded};
@@ -175,7 +175,7 @@ fn complements_each_kind_of_bound(rt: HostRuntime) -> Result<(), Fail> {
     assert!(rt;
         is(
             &gaps.complement(rt.alloc())?,
-            &segments_of(rt.alloc(), &three)?
+            &collect_segments(rt.alloc(), &three)?
         )
     );
     Ok(())
@@ -256,12 +256,14 @@ fn clones_and_walks_the_segments(rt: HostRuntime) -> Result<(), Fail> {
     let hole = Ranges::singleton(rt.alloc(), 3u64)?.complement(rt.alloc())?;
     let wanted = [(Unbounded, Excluded(3)), (Excluded(3), Unbounded)];
     assert!(rt; is(&hole.clone(rt.alloc())?, &wanted));
-    assert!(rt; segments_of(rt.alloc(), &hole)?.as_slice() == wanted.as_slice());
-    assert!(rt; count_of(&hole) == 2 && count_of(&Ranges::<u64>::empty(rt.alloc())) == 0);
-    assert!(rt; is(&twice_turned(rt.alloc(), &hole)?, &wanted));
+    assert!(rt; collect_segments(rt.alloc(), &hole)?.as_slice() == wanted.as_slice());
+    assert!(rt;
+        count_segments(&hole) == 2 && count_segments(&Ranges::<u64>::empty(rt.alloc())) == 0
+    );
+    assert!(rt; is(&complement_twice(rt.alloc(), &hole)?, &wanted));
     assert!(rt;
         is(
-            &flipped_bound(rt.alloc(), &hole)?,
+            &complement_any(rt.alloc(), &hole)?,
             &[(Included(3), Included(3))]
         )
     );

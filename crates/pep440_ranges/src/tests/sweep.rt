@@ -1,8 +1,8 @@
-//! Each call that takes memory, made again once it was refused.
+//! Each call that allocates, made again once an allocation failed.
 //!
-//! Run with the Nth request for memory refused, for N = 1, 2, .. A test whose own ranges can't be
-//! made answers `Ok`. The call under test answers the wanted segments or, refused, leaves what it
-//! borrowed as it was and answers them when it is asked again.
+//! Run with the Nth allocation failing, for N = 1, 2, .. A test passes if its own ranges cannot be
+//! made. The call under test returns the expected segments or, out of memory, leaves its arguments
+//! unchanged and returns them on the second try.
 
 use crate::Ranges;
 use crate::tests::held::Held;

@@ -10,7 +10,7 @@ use std::alloc::{AllocError, Global};
 use std::ops::Bound;
 
 /// The segments, collected by a loop.
-pub(crate) fn segments_of(
+pub(crate) fn collect_segments(
     alloc: Global,
     range: &Ranges<u64>,
 ) -> Result<Vec<(Bound<u64>, Bound<u64>)>, AllocError>
@@ -24,21 +24,24 @@ pub(crate) fn segments_of(
 }
 
 /// How many segments there are, by the iterator's own call.
-pub(crate) fn count_of<V: Ord + Clone>(range: &Ranges<V>) -> usize
+pub(crate) fn count_segments<V: Ord + Clone>(range: &Ranges<V>) -> usize
     ensures { result ≡ length range.now }
 {
     range.iter().count()
 }
 
 /// What the range contains, at a type whose clone is known to be the same value.
-pub(crate) fn twice_turned(alloc: Global, range: &Ranges<u64>) -> Result<Ranges<u64>, AllocError>
+pub(crate) fn complement_twice(
+    alloc: Global,
+    range: &Ranges<u64>,
+) -> Result<Ranges<u64>, AllocError>
     ensures { IfOk result (λ r. (v : ℕ) → contains nat_cmp r v ≡ not (not (contains nat_cmp range.now v))) }
 {
     range.complement(alloc)?.complement(alloc)
 }
 
 /// The same at each type whose clone is always the same value.
-pub(crate) fn flipped_bound<V: Ord + Clone>(
+pub(crate) fn complement_any<V: Ord + Clone>(
     alloc: Global,
     range: &Ranges<V>,
 ) -> Result<Ranges<V>, AllocError>

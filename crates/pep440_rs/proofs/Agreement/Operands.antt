@@ -1,14 +1,15 @@
 -- What a text gives beside an operator other than `===` is a version that range and matching can be compared for.
-use Rattle.std.proofs.Common.{◌≡◌, ◌==◌, ◌&&◌, ℕ, zero, suc, List, [], ◌∷◌, Bool, true, false, Result, Ok, Err, refl, sym, ap, subst, length, nat_lt, not, arith, inl, inr, if◌then◌else◌}
+use Rattle.std.proofs.Common.{◌≡◌, ◌==◌, ◌&&◌, ℕ, zero, suc, List, [], ◌∷◌, Bool, true, false, Result, Ok, Err, refl, sym, ap, subst, ◌∙◌, length, nat_lt, not, arith, inl, inr, if◌then◌else◌}
 use Rattle.std.proofs.lemmas.Bool.Decides.{nat_tests}
 use Rattle.std.proofs.lemmas.List.Sorted.{All-permutation}
 use Rattle.std.specs.List.{All, AllZip}
-use Rattle.std.specs.Prelude.{IfOk}
+use mathlib.Core.Bool.{true≢false}
+use Rattle.std.specs.Prelude.{IfOk, IsTrue}
 use Rattle.std.specs.Str.{encode_utf8_all}
 use Rattle.pep440_version.specs.Grammar.{Derives}
 use Rattle.pep440_version.specs.Patterns.{DerivesPattern}
-use Rattle.pep440_version.specs.Record.{Record, LocalSegmentValue}
-use Rattle.pep440_rs.specs.Agreement.{HasOperand, IsOperand, HasNoLocalOrSentinel}
+use Rattle.pep440_version.specs.Record.{Record, LocalSegmentValue, epoch_and_release}
+use Rattle.pep440_rs.specs.Agreement.{HasOperand, HasNoLocalOrSentinel}
 use Rattle.pep440_rs.specs.Build.{BuildRefusal, CompatibleRelease, OperatorLocalCombo, built, built_pattern, is_compatible}
 use Rattle.pep440_rs.specs.ListGrammar.{DerivesList, pieces}
 use Rattle.pep440_rs.specs.Matching.{has_local}
@@ -40,30 +41,33 @@ plain text r h none = record { local = no_segment r.local none; min = h.no_min; 
 
 -- ---- of an operator and a pattern
 
-given : (o : Operator) (r : Record) (s : Spec) → IsOperand o r → built o r ≡ Ok s → IsOperand s.operator s.version
-given o r s fits is = subst (λ (q : Spec). IsOperand q.operator q.version) (built_is o r s is) fits
+given : (o : Operator) (r : Record) (s : Spec) → HasOperand (record { operator = o; version = r }) → built o r ≡ Ok s → HasOperand s
+given o r s fits is = subst HasOperand (built_is o r s is) fits
+
+unstarred : (o : Operator) (r : Record) (s : Spec) (u : List ℕ) → is_star o ≡ false → DerivesPattern u r false → built o r ≡ Ok s → HasOperand s
+unstarred o r s u no_star h is =
+    given o r s (record { star = λ star. absurd (true≢false (sym star ∙ no_star)); plain = λ none. plain u r h (no_local o r s (un_not (allows_local o) none) is) }) is
+  where
+    un_not : (b : Bool) → IsTrue (not b) → b ≡ false
+    un_not true none = cc none
+    un_not false none = refl
+
+starred : (o : Operator) (r : Record) (s : Spec) → r ≡ epoch_and_release r.epoch r.release → built o r ≡ Ok s → HasOperand s
+starred o r s release is =
+    given o r s (record { star = λ star. release; plain = λ none. record { local = ap (λ (q : Record). q.local) release; min = ap (λ (q : Record). q.min) release; max = ap (λ (q : Record). q.max) release } }) is
 
 operand : (o : Operator) (r : Record) (star : Bool) (s : Spec) (u : List ℕ) → is_star o ≡ false → DerivesPattern u r star → built_pattern o r star ≡ Ok s → HasOperand s
-operand Equal r false s u unstarred h is other = given Equal r s tt is
-operand NotEqual r false s u unstarred h is other = given NotEqual r s tt is
-operand ExactEqual r false s u unstarred h is other = absurd (other (sym (ap (λ (q : Spec). q.operator) (built_is ExactEqual r s is))))
-operand EqualStar r false s u unstarred h is other = cc unstarred
-operand NotEqualStar r false s u unstarred h is other = cc unstarred
-operand TildeEqual r false s u unstarred h is other = given TildeEqual r s (plain u r h (no_local TildeEqual r s refl is)) is
-operand LessThan r false s u unstarred h is other = given LessThan r s (plain u r h (no_local LessThan r s refl is)) is
-operand LessThanEqual r false s u unstarred h is other = given LessThanEqual r s (plain u r h (no_local LessThanEqual r s refl is)) is
-operand GreaterThan r false s u unstarred h is other = given GreaterThan r s (plain u r h (no_local GreaterThan r s refl is)) is
-operand GreaterThanEqual r false s u unstarred h is other = given GreaterThanEqual r s (plain u r h (no_local GreaterThanEqual r s refl is)) is
-operand Equal r true s u unstarred h is other = given EqualStar r s h.4 is
-operand NotEqual r true s u unstarred h is other = given NotEqualStar r s h.4 is
-operand ExactEqual r true s u unstarred h is other = cc is
-operand EqualStar r true s u unstarred h is other = cc unstarred
-operand NotEqualStar r true s u unstarred h is other = cc unstarred
-operand TildeEqual r true s u unstarred h is other = cc is
-operand LessThan r true s u unstarred h is other = cc is
-operand LessThanEqual r true s u unstarred h is other = cc is
-operand GreaterThan r true s u unstarred h is other = cc is
-operand GreaterThanEqual r true s u unstarred h is other = cc is
+operand o r false s u no_star h is = unstarred o r s u no_star h is
+operand Equal r true s u no_star h is = starred EqualStar r s h.4 is
+operand NotEqual r true s u no_star h is = starred NotEqualStar r s h.4 is
+operand ExactEqual r true s u no_star h is = cc is
+operand EqualStar r true s u no_star h is = cc no_star
+operand NotEqualStar r true s u no_star h is = cc no_star
+operand TildeEqual r true s u no_star h is = cc is
+operand LessThan r true s u no_star h is = cc is
+operand LessThanEqual r true s u no_star h is = cc is
+operand GreaterThan r true s u no_star h is = cc is
+operand GreaterThanEqual r true s u no_star h is = cc is
 
 -- ---- of a text
 

@@ -8,9 +8,10 @@ use Rattle.pep440_rs.proofs.Agreement.Less.{less_agrees, less_within}
 use Rattle.pep440_rs.proofs.Agreement.VersionOrder.{plain, is_plain, turn_le, ge_not_lt, only_start, only_end}
 use Rattle.pep440_rs.proofs.Agreement.Prefix.{some_is}
 use Rattle.pep440_rs.proofs.Agreement.Star.{star_agrees, not_star_agrees, tilde_agrees}
-use Rattle.pep440_rs.specs.Agreement.{HasOperand, IsCandidate, HasNoLocalOrSentinel, IsOperand, IsSuffixComparable, Agrees, HoldsOnlyMatches, HoldsAllMatches}
+use Rattle.pep440_rs.specs.Agreement.{HasOperand, IsCandidate, HasNoLocalOrSentinel, IsSuffixComparable, Agrees, HoldsOnlyMatches, HoldsAllMatches}
 use Rattle.pep440_rs.specs.Bounds.{Segments, range_of, alone, greater}
 use Rattle.pep440_rs.specs.Matching.{matches, candidate, has_local}
+use Rattle.pep440_rs.specs.Operators.{allows_local}
 use Rattle.pep440_rs.specs.Specifiers.{Spec}
 use Rattle.pep440_rs.specs.declared.specifier.operator.Operator.{Operator}
 use Rattle.pep440_rs.specs.declared.specifier.operator.Operator.TheVariants.{Equal, EqualStar, ExactEqual, NotEqual, NotEqualStar, TildeEqual, LessThan, LessThanEqual, GreaterThan, GreaterThanEqual}
@@ -56,21 +57,21 @@ For op s v = IsSuffixComparable op s v → (range : Segments) → range_of op s 
 taken : (op : Operator) (s s' v : Record) → s ≡ s' → HasNoLocalOrSentinel v → For op s' (plain v) → For op s v
 taken op s s' v p q h = subst (λ t. For op t v) (sym p) (subst (For op s') (sym (is_plain v q)) h)
 
-each : (op : Operator) (s v : Record) → IsOperand op s → HasNoLocalOrSentinel v → For op s v
-each Equal s v p q = taken Equal s s v refl q (λ c range h. rw (some_is _ range h) (alone_holds s (plain v) ∙ ap (λ w. is_eq (record_cmp w s)) (sym (own s v))))
-each ExactEqual s v p q = absurd p
-each NotEqual s v p q = taken NotEqual s s v refl q (λ c range h. rw (some_is _ range h) (others_hold s (plain v) ∙ ap (λ w. not (is_eq (record_cmp w s))) (sym (own s v))))
-each EqualStar s v p q = taken EqualStar s (epoch_and_release s.epoch s.release) v p q (λ c range h. star_agrees s.epoch s.release v range h)
-each NotEqualStar s v p q = taken NotEqualStar s (epoch_and_release s.epoch s.release) v p q (λ c range h. not_star_agrees s.epoch s.release v range h)
-each TildeEqual s v p q = taken TildeEqual s (plain s) v (is_plain s p) q (λ c range h. tilde_agrees s v range h)
-each LessThan s v p q = taken LessThan s (plain s) v (is_plain s p) q (λ c range h. rw (some_is _ range h) (less_agrees s v c))
-each LessThanEqual s v p q = taken LessThanEqual s (plain s) v (is_plain s p) q (λ c range h. rw (some_is _ range h) (only_end (is_le (record_cmp (plain v) (plain s)))))
-each GreaterThan s v p q = taken GreaterThan s (plain s) v (is_plain s p) q (greater_agrees s.epoch s.release s.pre s.post s.dev v)
-each GreaterThanEqual s v p q = taken GreaterThanEqual s (plain s) v (is_plain s p) q (λ c range h.
+each : (op : Operator) (s v : Record) → HasOperand (record { operator = op; version = s }) → op ≢ ExactEqual → HasNoLocalOrSentinel v → For op s v
+each Equal s v p o q = taken Equal s s v refl q (λ c range h. rw (some_is _ range h) (alone_holds s (plain v) ∙ ap (λ w. is_eq (record_cmp w s)) (sym (own s v))))
+each ExactEqual s v p o q = absurd (o refl)
+each NotEqual s v p o q = taken NotEqual s s v refl q (λ c range h. rw (some_is _ range h) (others_hold s (plain v) ∙ ap (λ w. not (is_eq (record_cmp w s))) (sym (own s v))))
+each EqualStar s v p o q = taken EqualStar s (epoch_and_release s.epoch s.release) v (p.star refl) q (λ c range h. star_agrees s.epoch s.release v range h)
+each NotEqualStar s v p o q = taken NotEqualStar s (epoch_and_release s.epoch s.release) v (p.star refl) q (λ c range h. not_star_agrees s.epoch s.release v range h)
+each TildeEqual s v p o q = taken TildeEqual s (plain s) v (is_plain s (p.plain refl)) q (λ c range h. tilde_agrees s v range h)
+each LessThan s v p o q = taken LessThan s (plain s) v (is_plain s (p.plain refl)) q (λ c range h. rw (some_is _ range h) (less_agrees s v c))
+each LessThanEqual s v p o q = taken LessThanEqual s (plain s) v (is_plain s (p.plain refl)) q (λ c range h. rw (some_is _ range h) (only_end (is_le (record_cmp (plain v) (plain s)))))
+each GreaterThan s v p o q = taken GreaterThan s (plain s) v (is_plain s (p.plain refl)) q (greater_agrees s.epoch s.release s.pre s.post s.dev v)
+each GreaterThanEqual s v p o q = taken GreaterThanEqual s (plain s) v (is_plain s (p.plain refl)) q (λ c range h.
     rw (some_is _ range h) (only_start (is_le (record_cmp (plain s) (plain v))) ∙ turn_le (plain s) (plain v) ∙ sym (ge_not_lt (record_cmp (plain v) (plain s)))))
 
 pub agrees : (s : Spec) (range : Segments) → range_of s.operator s.version ≡ Some range → HasOperand s → Agrees IsCandidate s range
-agrees s range h given v p = each s.operator s.version v (given p.operator) p.plain p.suffixes range h
+agrees s range h given v p = each s.operator s.version v given p.operator p.plain p.suffixes range h
 
 -- ---- the inclusions that hold whatever the suffixes
 
@@ -89,14 +90,11 @@ greater_all s v p q =
     subst (λ t. Around GreaterThan t v) (sym (is_plain s p)) (subst (Around GreaterThan (plain s)) (sym (is_plain v q)) (greater_around s.epoch s.release s.pre s.post s.dev v))
 
 -- the version of a `<` and of a `>` is plain
-less_plain : (op : Operator) (s : Record) → op ≡ LessThan → (op ≢ ExactEqual → IsOperand op s) → HasNoLocalOrSentinel s
-less_plain op s less = subst (λ o. (o ≢ ExactEqual → IsOperand o s) → HasNoLocalOrSentinel s) (sym less) (λ given. given (λ e. cc e))
-
-greater_plain : (op : Operator) (s : Record) → op ≡ GreaterThan → (op ≢ ExactEqual → IsOperand op s) → HasNoLocalOrSentinel s
-greater_plain op s greater = subst (λ o. (o ≢ ExactEqual → IsOperand o s) → HasNoLocalOrSentinel s) (sym greater) (λ given. given (λ e. cc e))
+is_plain_for : (s : Spec) (o : Operator) → s.operator ≡ o → IsTrue (not (allows_local o)) → HasOperand s → HasNoLocalOrSentinel s.version
+is_plain_for s o same none given = given.plain (ap (λ x. not (allows_local x)) same ∙ none)
 
 pub holds_only_matches : (s : Spec) (range : Segments) → range_of s.operator s.version ≡ Some range → HasOperand s → HoldsOnlyMatches s range
-holds_only_matches s range h given less v q = subst (λ o. Within o s.version v) (sym less) (less_only s.version v (less_plain s.operator s.version less given) q) range h
+holds_only_matches s range h given less v q = subst (λ o. Within o s.version v) (sym less) (less_only s.version v (is_plain_for s LessThan less refl given) q) range h
 
 pub holds_all_matches : (s : Spec) (range : Segments) → range_of s.operator s.version ≡ Some range → HasOperand s → HoldsAllMatches s range
-holds_all_matches s range h given greater v q = subst (λ o. Around o s.version v) (sym greater) (greater_all s.version v (greater_plain s.operator s.version greater given) q) range h
+holds_all_matches s range h given greater v q = subst (λ o. Around o s.version v) (sym greater) (greater_all s.version v (is_plain_for s GreaterThan greater refl given) q) range h

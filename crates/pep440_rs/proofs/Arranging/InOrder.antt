@@ -1,11 +1,21 @@
 -- The members of a list asked in order, up to the first `===`.
-use Rattle.std.proofs.Common.{◌≡◌, ◌≢◌, ◌<◌, ◌+◌, ◌∙◌, ℕ, suc, Bool, true, false, not, ◌&&◌, ◌||◌, IsTrue, List, ◌∷◌, cond, length, get_or, take, drop, drop-cons, refl, sym, ap, subst, arith}
-use Rattle.std.specs.List.{list_all, prefix_len}
-use Rattle.pep440_rs.specs.Matching.{is_exact, is_told_before_exact, list_matches, matches}
+use Rattle.std.proofs.Common.{◌≡◌, ◌≢◌, ◌<◌, ◌+◌, ◌∙◌, ℕ, suc, Bool, true, false, not, ◌&&◌, ◌||◌, IsTrue, List, [], ◌∷◌, ◌++◌, take_while, cond, length, get_or, take, drop, drop-cons, refl, sym, ap, subst, arith}
+use Rattle.std.proofs.lemmas.List.Elements.{All-tail}
+use Rattle.std.specs.List.{All, list_all, prefix_len}
+use Rattle.pep440_rs.specs.Matching.{list_matches, matches}
 use Rattle.pep440_rs.specs.Specifiers.{Spec}
 use Rattle.pep440_rs.specs.declared.specifier.operator.Operator.{Operator}
 use Rattle.pep440_rs.specs.declared.specifier.operator.Operator.TheVariants.{Equal, EqualStar, ExactEqual, NotEqual, NotEqualStar, TildeEqual, LessThan, LessThanEqual, GreaterThan, GreaterThanEqual}
 use Rattle.pep440_version.specs.Record.{Record}
+
+abbrev is_exact : Operator → Bool
+is_exact ExactEqual = true
+is_exact _ = false
+
+-- the members before the first `===` decide whether the list contains v: they are all there are, or one of them doesn't contain it
+abbrev pub is_told_before_exact : List Spec → Record → Bool
+is_told_before_exact members v =
+    list_all (λ m. not (is_exact m.operator)) members || not (list_matches (take_while (λ m. not (is_exact m.operator)) members) v)
 
 first_of : (n : ℕ) (m : Spec) (rest : List Spec) → take (1 + n) (m ∷ rest) ≡ m ∷ take n rest
 first_of n m rest = let at : 1 + n ≡ suc n = omega arith in ap (λ k. take k (m ∷ rest)) at
@@ -53,3 +63,38 @@ same_step items i m v inside is e = ap (λ l. list_matches l v) (decomposition i
 pub un_not : (b : Bool) → not b ≡ false → b ≡ true
 un_not true h = refl
 un_not false h = cc h
+
+no_exact : (o : Operator) → o ≢ ExactEqual → is_exact o ≡ false
+no_exact Equal none = refl
+no_exact EqualStar none = refl
+no_exact ExactEqual none = absurd (none refl)
+no_exact NotEqual none = refl
+no_exact NotEqualStar none = refl
+no_exact TildeEqual none = refl
+no_exact LessThan none = refl
+no_exact LessThanEqual none = refl
+no_exact GreaterThan none = refl
+no_exact GreaterThanEqual none = refl
+
+-- a member that is no `===` and does not contain v decides
+decides : (e x b : Bool) (n : ℕ) (m : Spec) (rest : List Spec) (v : Record) → e ≡ false → matches m.operator m.version v ≡ x →
+    (x ≡ true → IsTrue (b || not (list_matches (take n rest) v))) → IsTrue ((not e && b) || not (list_matches (take (cond (not e) (1 + n) 0) (m ∷ rest)) v))
+decides true x b n m rest v none is goes = cc none
+decides false false b n m rest v none is goes =
+    subst (λ l. IsTrue (b || not (list_matches l v))) (sym (first_of n m rest)) (subst (λ y. IsTrue (b || not (y && list_matches (take n rest) v))) (sym is) (or_true b))
+  where
+    or_true : (b : Bool) → IsTrue (b || true)
+    or_true true = refl
+    or_true false = refl
+decides false true b n m rest v none is goes =
+    subst (λ l. IsTrue (b || not (list_matches l v))) (sym (first_of n m rest)) (subst (λ y. IsTrue (b || not (y && list_matches (take n rest) v))) (sym is) (goes refl))
+
+-- so members before every `===` do, one of which does not contain v
+pub told_of : (members before after : List Spec) (v : Record) → members ≡ before ++ after → All (λ m. m.operator ≢ ExactEqual) before → IsTrue (not (list_matches before v)) → IsTrue (is_told_before_exact members v)
+told_of members before after v is none out = subst (λ l. IsTrue (is_told_before_exact l v)) (sym is) (told before none out)
+  where
+    told : (before : List Spec) → All (λ m. m.operator ≢ ExactEqual) before → IsTrue (not (list_matches before v)) → IsTrue (is_told_before_exact (before ++ after) v)
+    told [] none out = cc out
+    told (m ∷ before) none out =
+        decides (is_exact m.operator) (matches m.operator m.version v) _ _ m (before ++ after) v (no_exact m.operator (none 0 m (omega arith))) refl
+        (λ yes. told before (All-tail (λ m. m.operator ≢ ExactEqual) m before none) (subst (λ y. IsTrue (not (y && list_matches before v))) yes out))

@@ -16,7 +16,7 @@ use Rattle.pep440_rs.proofs.Agreement.Star.{first_dev, star_agrees, tilde_agrees
 use Rattle.pep440_rs.proofs.Agreement.VersionOrder.{by_parts, same_base, plain, is_plain, turn_le, turn_lt, ge_not_lt, only_start, only_end, both}
 use Rattle.pep440_rs.proofs.Covering.NextPublic.{next_above, next_is_bare, parts, under}
 use Rattle.pep440_rs.proofs.Covering.PublicParts.{above_bare, below_bare, between_bare, equal_bare, is_unmarked, same_between, unmarked}
-use Rattle.pep440_rs.specs.Agreement.{IsOperand}
+use Rattle.pep440_rs.specs.Agreement.{HasOperand}
 use Rattle.pep440_rs.specs.Bounds.{Segments, alone, compatible_end, from_to, greater, less, next_number, raise_last, star, star_end}
 use Rattle.pep440_rs.specs.Cover.{Covers, IsCoverable, IsDenoted, below_post, cover_of, next_public, with_locals}
 use Rattle.pep440_rs.specs.Matching.{any_prerelease, candidate, has_local, has_prefix, matches, same_release, without_last}
@@ -282,17 +282,17 @@ below s v = go s.pre s.post s.dev
 taken : (op : Operator) (s s' v : Record) → s ≡ s' → IsDenoted v → For op s' (unmarked v) → For op s v
 taken op s s' v p (text, d) h = subst (λ t. For op t v) (sym p) (subst (For op s') (sym (is_unmarked text v d)) h)
 
-each : (op : Operator) (s v : Record) → (op ≢ ExactEqual → IsOperand op s) → IsDenoted s → IsDenoted v → For op s v
+each : (op : Operator) (s v : Record) → HasOperand (record { operator = op; version = s }) → IsDenoted s → IsDenoted v → For op s v
 each Equal s v p (text, d) q = taken Equal s (unmarked s) v (is_unmarked text s d) q (equal s v)
 each ExactEqual s v p d q = exact s v d q
 each NotEqual s v p (text, d) q = taken NotEqual s (unmarked s) v (is_unmarked text s d) q (not_equal s v)
-each EqualStar s v p d q = taken EqualStar s (epoch_and_release s.epoch s.release) v (p (λ e. cc e)) q (λ cover h k. star_public s.epoch s.release v cover h ∙ k)
-each NotEqualStar s v p d q = taken NotEqualStar s (epoch_and_release s.epoch s.release) v (p (λ e. cc e)) q (λ cover h k. not_star_public s.epoch s.release v cover h ∙ k)
-each TildeEqual s v p d q = taken TildeEqual s (plain s) v (is_plain s (p (λ e. cc e))) q (tilde s v)
-each LessThan s v p d q = taken LessThan s (plain s) v (is_plain s (p (λ e. cc e))) q (below s v)
-each LessThanEqual s v p d q = taken LessThanEqual s (plain s) v (is_plain s (p (λ e. cc e))) q (at_most s v)
-each GreaterThan s v p d q = taken GreaterThan s (plain s) v (is_plain s (p (λ e. cc e))) q (above s v)
-each GreaterThanEqual s v p d q = taken GreaterThanEqual s (plain s) v (is_plain s (p (λ e. cc e))) q (at_least s v)
+each EqualStar s v p d q = taken EqualStar s (epoch_and_release s.epoch s.release) v (p.star refl) q (λ cover h k. star_public s.epoch s.release v cover h ∙ k)
+each NotEqualStar s v p d q = taken NotEqualStar s (epoch_and_release s.epoch s.release) v (p.star refl) q (λ cover h k. not_star_public s.epoch s.release v cover h ∙ k)
+each TildeEqual s v p d q = taken TildeEqual s (plain s) v (is_plain s (p.plain refl)) q (tilde s v)
+each LessThan s v p d q = taken LessThan s (plain s) v (is_plain s (p.plain refl)) q (below s v)
+each LessThanEqual s v p d q = taken LessThanEqual s (plain s) v (is_plain s (p.plain refl)) q (at_most s v)
+each GreaterThan s v p d q = taken GreaterThan s (plain s) v (is_plain s (p.plain refl)) q (above s v)
+each GreaterThanEqual s v p d q = taken GreaterThanEqual s (plain s) v (is_plain s (p.plain refl)) q (at_least s v)
 
 pub covers : (s : Spec) (cover : Segments) → cover_of s.operator s.version ≡ Some cover → IsCoverable s → Covers s cover
 covers s cover h given v d = each s.operator s.version v given.0 given.1 d cover h

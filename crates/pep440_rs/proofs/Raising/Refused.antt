@@ -7,6 +7,8 @@ use Rattle.pep440_rs.specs.Bounds.{range_of, release_range_of, release_up_to, gr
 use Rattle.pep440_rs.specs.Cover.{cover_of}
 use Rattle.pep440_rs.specs.Matching.{without_last}
 use Rattle.pep440_rs.specs.Refused.{raised_number, raised_release_number, RefusedAtMax}
+use Rattle.pep440_rs.specs.Specifiers.{IsSpec}
+use Rattle.pep440_rs.specs.declared.specifier.operator.Operator.{Operator}
 use Rattle.pep440_rs.specs.declared.specifier.operator.Operator.TheVariants.{Equal, EqualStar, ExactEqual, NotEqual, NotEqualStar, TildeEqual, LessThan, LessThanEqual, GreaterThan, GreaterThanEqual}
 use Rattle.pep440_version.specs.Record.{Record}
 use Rattle.pep440_version.specs.declared.prerelease.Prerelease.{Prerelease}
@@ -77,41 +79,51 @@ star_refused : (s : Record) → 1 ≤ length s.release → IsNone (star s) ↔ I
 star_refused s h = chain (through _ (star_end s s.post s.pre)) (end_refused s s.post s.pre h)
 
 pub refused_at_max : RefusedAtMax range_of raised_number
-refused_at_max Equal s h = never _
-refused_at_max ExactEqual s h = never _
-refused_at_max NotEqual s h = never _
-refused_at_max GreaterThanEqual s h = never _
-refused_at_max LessThanEqual s h = never _
-refused_at_max TildeEqual s h = chain (chain (through _ _) (through _ (raise_last (without_last s.release)))) (raised_refused (without_last s.release) (some_left s.release h))
-refused_at_max LessThan s h = never _
-refused_at_max GreaterThan s h = greater_refused s s.dev s.post
-refused_at_max EqualStar s h = star_refused s h
-refused_at_max NotEqualStar s h = chain (through _ (star s)) (star_refused s h)
+refused_at_max s valid = at s.operator s.version (omega (arith, valid.0)) (λ e. let two = valid.1 e in omega (arith, two))
+  where
+    at : (o : Operator) (r : Record) → 1 ≤ length r.release → (o ≡ TildeEqual → 2 ≤ length r.release) → IsNone (range_of o r) ↔ IsMax (raised_number o r)
+    at Equal r one two = never _
+    at ExactEqual r one two = never _
+    at NotEqual r one two = never _
+    at GreaterThanEqual r one two = never _
+    at LessThanEqual r one two = never _
+    at TildeEqual r one two =
+        chain (chain (through _ _) (through _ (raise_last (without_last r.release)))) (raised_refused (without_last r.release) (some_left r.release (two refl)))
+    at LessThan r one two = never _
+    at GreaterThan r one two = greater_refused r r.dev r.post
+    at EqualStar r one two = star_refused r one
+    at NotEqualStar r one two = chain (through _ (star r)) (star_refused r one)
 
 -- a cover raises what the range does
 pub cover_refused_at_max : RefusedAtMax cover_of raised_number
-cover_refused_at_max Equal s h = never _
-cover_refused_at_max LessThanEqual s h = never _
-cover_refused_at_max LessThan s h = never _
-cover_refused_at_max EqualStar s h = refused_at_max EqualStar s h
-cover_refused_at_max ExactEqual s h = refused_at_max ExactEqual s h
-cover_refused_at_max NotEqual s h = refused_at_max NotEqual s h
-cover_refused_at_max NotEqualStar s h = refused_at_max NotEqualStar s h
-cover_refused_at_max TildeEqual s h = refused_at_max TildeEqual s h
-cover_refused_at_max GreaterThan s h = refused_at_max GreaterThan s h
-cover_refused_at_max GreaterThanEqual s h = refused_at_max GreaterThanEqual s h
+cover_refused_at_max s valid = at s.operator s.version valid
+  where
+    at : (o : Operator) (r : Record) → IsSpec (record { operator = o; version = r }) → IsNone (cover_of o r) ↔ IsMax (raised_number o r)
+    at Equal r is = never _
+    at LessThanEqual r is = never _
+    at LessThan r is = never _
+    at EqualStar r is = refused_at_max (record { operator = EqualStar; version = r }) is
+    at ExactEqual r is = refused_at_max (record { operator = ExactEqual; version = r }) is
+    at NotEqual r is = refused_at_max (record { operator = NotEqual; version = r }) is
+    at NotEqualStar r is = refused_at_max (record { operator = NotEqualStar; version = r }) is
+    at TildeEqual r is = refused_at_max (record { operator = TildeEqual; version = r }) is
+    at GreaterThan r is = refused_at_max (record { operator = GreaterThan; version = r }) is
+    at GreaterThanEqual r is = refused_at_max (record { operator = GreaterThanEqual; version = r }) is
 
 up_to_refused : (release numbers : List ℕ) → 1 ≤ length numbers → IsNone (release_up_to release numbers) ↔ IsMax (last_or None numbers)
 up_to_refused release numbers h = chain (through _ (raise_last numbers)) (raised_refused numbers h)
 
 pub release_refused_at_max : RefusedAtMax release_range_of raised_release_number
-release_refused_at_max Equal s h = never _
-release_refused_at_max ExactEqual s h = never _
-release_refused_at_max NotEqual s h = never _
-release_refused_at_max GreaterThanEqual s h = never _
-release_refused_at_max LessThanEqual s h = never _
-release_refused_at_max TildeEqual s h = up_to_refused s.release (without_last s.release) (some_left s.release h)
-release_refused_at_max LessThan s h = never _
-release_refused_at_max GreaterThan s h = never _
-release_refused_at_max EqualStar s h = up_to_refused s.release s.release h
-release_refused_at_max NotEqualStar s h = chain (through _ (release_up_to s.release s.release)) (up_to_refused s.release s.release h)
+release_refused_at_max s valid = at s.operator s.version (omega (arith, valid.0)) (λ e. let two = valid.1 e in omega (arith, two))
+  where
+    at : (o : Operator) (r : Record) → 1 ≤ length r.release → (o ≡ TildeEqual → 2 ≤ length r.release) → IsNone (release_range_of o r) ↔ IsMax (raised_release_number o r)
+    at Equal r one two = never _
+    at ExactEqual r one two = never _
+    at NotEqual r one two = never _
+    at GreaterThanEqual r one two = never _
+    at LessThanEqual r one two = never _
+    at TildeEqual r one two = up_to_refused r.release (without_last r.release) (some_left r.release (two refl))
+    at LessThan r one two = never _
+    at GreaterThan r one two = never _
+    at EqualStar r one two = up_to_refused r.release r.release one
+    at NotEqualStar r one two = chain (through _ (release_up_to r.release r.release)) (up_to_refused r.release r.release one)

@@ -1,39 +1,30 @@
 -- The text of a list's error.
 use Rattle.std.proofs.Common.{◌≡◌, ℕ, List, Option, Some, None, Result, Ok, Err, refl, sym, ap, subst, option_map, ◌∙◌}
 use Rattle.std.specs.Prelude.{IfErr, IfSome}
-use Rattle.pep440_rs.specs.ErrorTexts.{specifier_refusal_text, specifier_text_of}
+use Rattle.pep440_rs.specs.ErrorTexts.{specifier_error_text}
 use Rattle.pep440_rs.specs.Errors.{parse_kind_of, specifier_refusal_of}
 use Rattle.pep440_rs.specs.ListAnswers.{line_for, line_of, list_kind_of}
 use Rattle.pep440_rs.specs.ListErrors.{list_refusal_of}
 use Rattle.pep440_rs.specs.ListErrorTexts.{list_refusal_text, list_text_of, piece_text}
 use Rattle.pep440_rs.specs.ListGrammar.{PieceRefusal, RefusesList}
-use Rattle.pep440_rs.specs.SpecifierGrammar.{RefusesSpecifier, SpecifierRefusal}
+use Rattle.pep440_rs.specs.SpecifierGrammar.{SpecifierRefusal}
 use Rattle.pep440_rs.specs.Specifiers.{Spec}
-use Rattle.pep440_rs.specs.declared.specifier.error.ParseErrorKind.{ParseErrorKind}
 use Rattle.pep440_rs.specs.declared.list.error.SpecifiersErrorKind.{SpecifiersErrorKind}
 use Rattle.pep440_rs.specs.declared.list.error.SpecifiersErrorKind.TheVariants.{Piece, OutOfMemory}
 use Rattle.pep440_rs.specs.declared.list.error.VersionSpecifiersParseError.{VersionSpecifiersParseError}
-use Rattle.pep440_rs.proofs.Reading.Told.{specifier_told}
+use Rattle.pep440_rs.proofs.Reading.Told.{refusal_told}
 
-piece_told : (text : List ℕ) (k : ParseErrorKind) (start stop : ℕ) (o : Option SpecifierRefusal) → specifier_refusal_of k ≡ o
-    → IfSome (option_map (λ f. record { error = f; start = start; stop = stop }) o) (RefusesList text) → IfSome o (λ f. specifier_text_of k ≡ Some (specifier_refusal_text f))
-piece_told text k start stop None e h = tt
-piece_told text k start stop (Some f) e h =
-    subst (λ o. IfSome o (λ g. specifier_text_of k ≡ Some (specifier_refusal_text g))) e
-    (specifier_told h.piece k (subst (λ o. IfSome o (RefusesSpecifier h.piece)) (sym e) h.refused))
-
-told_text : (line : List ℕ) (start stop : ℕ) (o : Option SpecifierRefusal) (t : Option (List ℕ)) → IfSome o (λ f. t ≡ Some (specifier_refusal_text f))
-    → IfSome (option_map (λ f. record { error = f; start = start; stop = stop }) o) (λ g. option_map (λ inner. piece_text inner line start stop) t ≡ Some (list_refusal_text g line))
-told_text line start stop None t h = tt
-told_text line start stop (Some f) t h = ap (option_map (λ inner. piece_text inner line start stop)) h
+piece_told : (text line : List ℕ) (start stop : ℕ) (o : Option SpecifierRefusal) → IfSome (option_map (λ f. record { error = f; start = start; stop = stop }) o) (RefusesList text)
+    → IfSome (option_map (λ f. record { error = f; start = start; stop = stop }) o) (λ g. option_map (λ inner. piece_text inner line start stop) (specifier_error_text o) ≡ Some (list_refusal_text g line))
+piece_told text line start stop None h = tt
+piece_told text line start stop (Some f) h = ap (option_map (λ inner. piece_text inner line start stop)) (refusal_told h.piece f h.refused)
 
 list_told : (text : List ℕ) (kind : SpecifiersErrorKind) (line : List ℕ) → line ≡ line_for text kind → IfSome (list_refusal_of kind) (RefusesList text)
     → IfSome (list_refusal_of kind) (λ f. list_text_of kind line ≡ Some (list_refusal_text f text))
 list_told text OutOfMemory line e h = tt
 list_told text (Piece error start stop) line e h =
     subst (λ l. IfSome (list_refusal_of (Piece error start stop)) (λ f. list_text_of (Piece error start stop) l ≡ Some (list_refusal_text f text))) (sym e)
-    (told_text text start stop (specifier_refusal_of (parse_kind_of error)) (specifier_text_of (parse_kind_of error))
-    (piece_told text (parse_kind_of error) start stop (specifier_refusal_of (parse_kind_of error)) refl h))
+    (piece_told text text start stop (specifier_refusal_of (parse_kind_of error)) h)
 
 pub is_list_told : (text : List ℕ) (result : Result (List Spec) VersionSpecifiersParseError) → IfErr result (λ e. IfSome (list_refusal_of (list_kind_of e)) (RefusesList text))
     → IfErr result (λ e. line_of e ≡ line_for text (list_kind_of e)) → IfErr result (λ e. IfSome (list_refusal_of (list_kind_of e)) (λ f. list_text_of (list_kind_of e) (line_of e) ≡ Some (list_refusal_text f text)))

@@ -1,9 +1,9 @@
 -- The pieces of a list's text, as they are read one after another.
-use Rattle.std.proofs.Common.{◌≡◌, ◌≢◌, ◌==◌, ◌<◌, ◌+◌, ◌-◌, ◌∙◌, ℕ, suc, List, [], ◌∷◌, ◌++◌, false, Option, Some, None, Result, Ok, Err, length, drop, get_or, refl, sym, ap, subst, option_map, arith, inl, inr, eqb-true}
+use Rattle.std.proofs.Common.{◌≡◌, ◌≢◌, ◌==◌, ◌<◌, ◌+◌, ◌-◌, ◌∙◌, ℕ, suc, List, [], ◌∷◌, ◌++◌, false, All, Option, Some, None, Result, Ok, Err, length, drop, get_or, refl, sym, ap, subst, option_map, arith, inl, inr, eqb-true, take, take-append-drop}
 use Rattle.std.proofs.lemmas.Bool.{cases_Bool}
-use Rattle.std.proofs.lemmas.List.{append_assoc, drop_at, length-append}
-use Rattle.std.proofs.lemmas.Str.{IsCharBoundary-after_ascii, IsCharBoundary-start, IsUtf8-append, IsUtf8-drop, IsUtf8-from_ascii}
-use Rattle.std.proofs.lemmas.Str.Ascii.{IsAscii-cons, IsAscii-nil}
+use Rattle.std.proofs.lemmas.List.{append_assoc, drop_at, drop_more, length-append}
+use Rattle.std.proofs.lemmas.List.Splits.{slice_split_at}
+use Rattle.std.proofs.lemmas.Str.{IsCharBoundary-after_ascii, IsCharBoundary-before_ascii, IsCharBoundary-start, IsUtf8-drop}
 use Rattle.std.specs.Prelude.{IfSome}
 use Rattle.std.specs.Str.{IsCharBoundary, IsUtf8}
 use Rattle.pep440_version.specs.Reading.{EndsWith}
@@ -40,6 +40,21 @@ pub pieces_split : (p q : List ℕ) → HasNoComma p → pieces (p ++ (44 ∷ q)
 pieces_split [] q none = refl
 pieces_split (b ∷ p) q none = rw (first_byte b p none, pieces_split p q (later_bytes b p none)) refl
 
+-- a text with a comma, before and behind that
+pub at_comma : (text : List ℕ) (i : ℕ) → i < length text → get_or text i 0 ≡ 44 → text ≡ take i text ++ (44 ∷ drop (i + 1) text)
+at_comma text i inside comma = sym (take-append-drop i text) ∙ ap (λ (zs : List ℕ). take i text ++ zs) (drop_more text i 0 inside ∙ ap (λ (z : ℕ). z ∷ drop (i + 1) text) comma)
+
+pub piece_read : (text : List ℕ) (i : ℕ) → i < length text → get_or text i 0 ≡ 44 → All (λ x. (x == 44) ≡ false) (take i text) → pieces text ≡ take i text ∷ pieces (drop (i + 1) text)
+piece_read text i inside comma before = ap pieces (at_comma text i inside comma) ∙ slice_split_at (λ x. x == 44) (take i text) 44 (drop (i + 1) text) before refl
+
+-- the text may be cut before and behind a comma
+pub piece_boundary : (text bytes : List ℕ) (i : ℕ) → bytes ≡ text → i < length bytes → get_or bytes i 0 ≡ 44 → IsCharBoundary text i
+piece_boundary text bytes i e inside comma = subst (λ t. IsCharBoundary t i) e (IsCharBoundary-before_ascii bytes i inside (omega (arith, comma)))
+
+pub comma_boundary : (text bytes : List ℕ) (i : ℕ) → bytes ≡ text → IsUtf8 text → i < length bytes → get_or bytes i 0 ≡ 44 → IsCharBoundary text (i + 1)
+comma_boundary text bytes i e utf8 inside comma =
+    IsCharBoundary-after_ascii text i utf8 (subst (λ t. i < length t) e inside) (subst (λ t. get_or t i 0 < 128) e (omega (arith, comma)))
+
 -- members that were read before what is still to be read
 abbrev pub with_members : List Spec → Result (List Spec) PieceRefusal → Result (List Spec) PieceRefusal
 with_members prefix (Ok rest) = Ok (prefix ++ rest)
@@ -57,35 +72,28 @@ steps text rest piece later h e =
     let rest_long = ap length e ∙ length-append piece (44 ∷ later) in
     omega (arith, long, rest_long)
 
-here : (k : ℕ) (rest piece later : List ℕ) → rest ≡ piece ++ (44 ∷ later) → HasNoComma piece → read_pieces k (pieces rest) ≡ after_piece k piece (read_specifier piece) (read_pieces (k + length piece + 1) (pieces later))
+here : (k : ℕ) (rest piece : List ℕ) (tail : List (List ℕ)) → pieces rest ≡ piece ∷ tail → read_pieces k (pieces rest) ≡ after_piece k piece (read_specifier piece) (read_pieces (k + length piece + 1) tail)
 unfolding read_pieces
-here k rest piece later e none = ap (λ t. read_pieces k (pieces t)) e ∙ ap (read_pieces k) (pieces_split piece later none)
+here k rest piece tail e = ap (read_pieces k) e
 
-pub goes_on : (prefix : List Spec) (s : Spec) (out : Result (List Spec) PieceRefusal) (text rest piece later : List ℕ) → EndsWith text rest → rest ≡ piece ++ (44 ∷ later) → HasNoComma piece → read_specifier piece ≡ Ok s
+pub goes_on : (prefix : List Spec) (s : Spec) (out : Result (List Spec) PieceRefusal) (text rest piece later : List ℕ) → EndsWith text rest → rest ≡ piece ++ (44 ∷ later) → pieces rest ≡ piece ∷ pieces later → read_specifier piece ≡ Ok s
     → out ≡ with_members prefix (read_pieces (length text - length rest) (pieces rest)) → out ≡ with_members (prefix ++ s ∷ []) (read_pieces (length text - length later) (pieces later))
-goes_on prefix s out text rest piece later h e none read is =
-    is ∙ ap (with_members prefix) (here (length text - length rest) rest piece later e none
+goes_on prefix s out text rest piece later h e split read is =
+    is ∙ ap (with_members prefix) (here (length text - length rest) rest piece (pieces later) split
     ∙ ap (λ x. after_piece (length text - length rest) piece x (read_pieces (length text - length rest + length piece + 1) (pieces later))) read)
     ∙ one_more prefix s (length text - length rest) piece (read_pieces (length text - length rest + length piece + 1) (pieces later)) ∙ ap (λ k. with_members (prefix ++ s ∷ []) (read_pieces k (pieces later))) (sym (steps text rest piece later h e))
 
-pub stops_here : (prefix : List Spec) (f : SpecifierRefusal) (out : Result (List Spec) PieceRefusal) (k : ℕ) (rest piece later : List ℕ) → rest ≡ piece ++ (44 ∷ later) → HasNoComma piece → read_specifier piece ≡ Err f
+pub stops_here : (prefix : List Spec) (f : SpecifierRefusal) (out : Result (List Spec) PieceRefusal) (k : ℕ) (rest piece : List ℕ) (tail : List (List ℕ)) → pieces rest ≡ piece ∷ tail → read_specifier piece ≡ Err f
     → out ≡ with_members prefix (read_pieces k (pieces rest)) → out ≡ Err (record { error = f; start = k; stop = k + length piece })
-stops_here prefix f out k rest piece later e none read is =
-    is ∙ ap (with_members prefix) (here k rest piece later e none ∙ ap (λ x. after_piece k piece x (read_pieces (k + length piece + 1) (pieces later))) read)
+stops_here prefix f out k rest piece tail split read is =
+    is ∙ ap (with_members prefix) (here k rest piece tail split ∙ ap (λ x. after_piece k piece x (read_pieces (k + length piece + 1) tail)) read)
 
 -- ---- the last piece
 
-last : (k : ℕ) (rest : List ℕ) → HasNoComma rest → read_pieces k (pieces rest) ≡ after_piece k rest (read_specifier rest) (Ok [])
-unfolding read_pieces
-last k rest none = ap (read_pieces k) (pieces_whole rest none)
-
-pub ends_here : (prefix : List Spec) (s : Spec) (out : Result (List Spec) PieceRefusal) (k : ℕ) (rest : List ℕ) → HasNoComma rest → read_specifier rest ≡ Ok s
+pub ends_here : (prefix : List Spec) (s : Spec) (out : Result (List Spec) PieceRefusal) (k : ℕ) (rest piece : List ℕ) → pieces rest ≡ piece ∷ [] → read_specifier piece ≡ Ok s
     → out ≡ with_members prefix (read_pieces k (pieces rest)) → out ≡ Ok (prefix ++ s ∷ [])
-ends_here prefix s out k rest none read is = is ∙ ap (with_members prefix) (last k rest none ∙ ap (λ x. after_piece k rest x (Ok [])) read)
-
-pub last_stops : (prefix : List Spec) (f : SpecifierRefusal) (out : Result (List Spec) PieceRefusal) (k : ℕ) (rest : List ℕ) → HasNoComma rest → read_specifier rest ≡ Err f
-    → out ≡ with_members prefix (read_pieces k (pieces rest)) → out ≡ Err (record { error = f; start = k; stop = k + length rest })
-last_stops prefix f out k rest none read is = is ∙ ap (with_members prefix) (last k rest none ∙ ap (λ x. after_piece k rest x (Ok [])) read)
+unfolding read_pieces
+ends_here prefix s out k rest piece split read is = is ∙ ap (with_members prefix) (here k rest piece [] split ∙ ap (λ x. after_piece k piece x (Ok [])) read)
 
 -- ---- the error of a piece
 
@@ -99,21 +107,19 @@ piece_refused (Piece error begin end) k p read out (told, b, e) all = by_refusal
     by_refusal (Some f) h = all f h ∙ (λ i. Err (record { error = f; start = sym b i; stop = sym e i }))
 
 -- the piece lies in the text where the error says
-pub piece_span : (kind : SpecifiersErrorKind) (text rest piece tail : List ℕ) (read : Result Spec SpecifierRefusal) → IsUtf8 text → IsUtf8 rest → IsUtf8 tail → EndsWith text rest → rest ≡ piece ++ tail
+pub piece_span : (kind : SpecifiersErrorKind) (text rest piece tail : List ℕ) (read : Result Spec SpecifierRefusal) → IsUtf8 text → IsUtf8 rest → IsCharBoundary rest (length piece) → EndsWith text rest → rest ≡ piece ++ tail
     → PieceGives (length text - length rest) piece (Err kind) read → IsSpan text kind
 piece_span OutOfMemory text rest piece tail read u v w h e given = record { in_order = omega arith; starts = IsCharBoundary-start text u; stops = IsCharBoundary-start text u }
 piece_span (Piece error begin end) text rest piece tail read u v w h e (told, b, s) =
     let long = ap length h.1 ∙ length-append h.0 rest in
     let rest_long = ap length e ∙ length-append piece tail in
     let at : length text - length tail ≡ end = omega (arith, long, rest_long, s) in
+    let behind : drop (length piece) rest ≡ tail = ap (drop (length piece)) e ∙ drop_at piece tail (length piece) refl in
     record {
       in_order = omega (arith, b, s);
       starts = subst (IsCharBoundary text) (sym b) (seam text rest h v);
-      stops = subst (IsCharBoundary text) at (seam text tail (ends_then text rest tail h (piece, e)) w);
+      stops = subst (IsCharBoundary text) at (seam text tail (ends_then text rest tail h (piece, e)) (subst IsUtf8 behind (IsUtf8-drop rest (length piece) v w)));
     }
-
-pub comma_utf8 : (later : List ℕ) → IsUtf8 later → IsUtf8 (44 ∷ later)
-comma_utf8 later u = IsUtf8-append (44 ∷ []) later (IsUtf8-from_ascii (44 ∷ []) (IsAscii-cons 44 [] (omega arith) IsAscii-nil)) u
 
 at_seam : (prefix : List ℕ) (b : ℕ) (later : List ℕ) → get_or (prefix ++ (b ∷ later)) (length prefix) 0 ≡ b
 at_seam [] b later = refl

@@ -1,9 +1,10 @@
 -- A text in its characters, as the longest run at its front is read.
-use Rattle.std.proofs.Common.{◌≡◌, ◌-◌, ◌∙◌, ℕ, List, ◌∷◌, ◌++◌, Bool, true, false, length, take, drop, refl, sym, ap, arith}
-use Rattle.std.proofs.lemmas.List.{append_cancel_right, drop_at, length-append, nil_from_length, take_at}
-use Rattle.std.proofs.lemmas.Str.{chars-nil, chars_past_char, encodes-append, encodes-chars}
-use Rattle.std.specs.Char.{encode_utf8}
-use Rattle.std.specs.Str.{IsUtf8, chars, encode_utf8_all}
+use Rattle.std.proofs.Common.{◌≡◌, ◌<◌, ◌≤◌, ◌+◌, ◌-◌, ◌∙◌, ℕ, List, [], ◌∷◌, ◌++◌, Bool, true, false, get_or, length, take, drop, refl, sym, ap, subst, arith, length-drop}
+use Rattle.std.proofs.lemmas.Bool.Decides.{nat_tests}
+use Rattle.std.proofs.lemmas.List.{append_cancel_right, drop_at, drop_more, length-append, nil_from_length, take-append-drop, take_at}
+use Rattle.std.proofs.lemmas.Str.{IsUtf8-drop, chars-nil, chars_past_char, encode_ascii, encodes-append, encodes-chars}
+use Rattle.std.specs.Char.{encode_utf8, is_ascii}
+use Rattle.std.specs.Str.{IsCharBoundary, IsUtf8, chars, encode_utf8_all}
 use Rattle.pep440_version.specs.Reading.{EndsWith, lead, past}
 use Rattle.pep440_version.proofs.Refusals.LongerTexts.{past_one}
 use Rattle.pep440_version.proofs.Reading.Endings.{ends_then}
@@ -47,3 +48,36 @@ run_bytes test text rest utf8 utf8_rest h e =
 
 pub rest_bytes : (test : ℕ → Bool) (text rest : List ℕ) → IsUtf8 rest → chars rest ≡ past test (chars text) → rest ≡ encode_utf8_all (past test (chars text))
 rest_bytes test text rest utf8 e = sym (encodes-chars rest utf8) ∙ ap encode_utf8_all e
+
+-- ---- byte by byte
+
+-- the text from an ASCII byte on is that byte and the text behind it
+pub ascii_step : (text : List ℕ) (at : ℕ) → at < length text → get_or text at 0 < 128 → drop at text ≡ encode_utf8 (get_or text at 0) ++ drop (at + 1) text
+ascii_step text at inside ascii = drop_more text at 0 inside ∙ ap (λ t. t ++ drop (at + 1) text) (sym (encode_ascii (get_or text at 0) ascii))
+
+-- the run goes past this byte
+pub byte_passes : (test : ℕ → Bool) (text : List ℕ) (at : ℕ) → IsUtf8 text → IsCharBoundary text at → at < length text → get_or text at 0 < 128 → test (get_or text at 0) ≡ true
+    → past test (chars text) ≡ past test (chars (drop at text)) → past test (chars text) ≡ past test (chars (drop (at + 1) text))
+byte_passes test text at utf8 boundary inside ascii passes before =
+    run_goes_on test text (drop at text) (drop (at + 1) text) (get_or text at 0) (IsUtf8-drop text at utf8 boundary) (ascii_step text at inside ascii) passes before
+
+-- the run ends before this byte
+pub byte_stops : (test : ℕ → Bool) (text : List ℕ) (at : ℕ) → IsUtf8 text → IsCharBoundary text at → at < length text → get_or text at 0 < 128 → test (get_or text at 0) ≡ false
+    → past test (chars text) ≡ past test (chars (drop at text)) → chars (drop at text) ≡ past test (chars text)
+byte_stops test text at utf8 boundary inside ascii fails before =
+    run_stops test text (drop at text) (drop (at + 1) text) (get_or text at 0) (IsUtf8-drop text at utf8 boundary) (ascii_step text at inside ascii) fails before
+
+pub ends_at : (text rest : List ℕ) (at : ℕ) → rest ≡ drop at text → EndsWith text rest
+ends_at text rest at e = (take at text, sym (take-append-drop at text) ∙ ap (λ t. take at text ++ t) (sym e))
+
+-- a byte of the text that was tested
+pub ascii_at : (text bytes : List ℕ) (at : ℕ) → bytes ≡ text → is_ascii (get_or bytes at 0) ≡ true → get_or text at 0 < 128
+ascii_at text bytes at e ascii = subst (λ t. get_or t at 0 < 128) e (below (get_or bytes at 0) ascii)
+  where
+    below : (b : ℕ) → is_ascii b ≡ true → b < 128
+    below b e = grind (arith, nat_tests)
+
+pub no_run_left : (test : ℕ → Bool) (text : List ℕ) (at : ℕ) → length text ≤ at → past test (chars text) ≡ past test (chars (drop at text)) → chars [] ≡ past test (chars text)
+no_run_left test text at all before =
+    let none : length (drop at text) ≡ 0 = length-drop at text ∙ omega (arith, all) in
+    ap chars (sym (nil_from_length (drop at text) none)) ∙ run_ends test text (drop at text) none before

@@ -1,5 +1,5 @@
 -- The members of a list of pairs contain the releases within the pairs.
-use Rattle.std.proofs.Common.{◌≡◌, ◌⊎◌, inl, inr, Bool, true, false, not, ◌&&◌, ◌||◌, List, [], ◌∷◌, refl, sym, ap, ◌∙◌, arith}
+use Rattle.std.proofs.Common.{◌≡◌, ◌⊎◌, inl, inr, Bool, true, false, not, ◌&&◌, ◌||◌, List, [], ◌∷◌, IsTrue, refl, sym, ap, ◌∙◌, arith}
 use mathlib.Core.Bool.{true≢false}
 use Rattle.std.proofs.lemmas.List.Elements.{All-tail}
 use Rattle.std.proofs.lemmas.List.Sorted.{All-permutation, IsPermutation-sym}
@@ -10,7 +10,7 @@ use Rattle.std.specs.declared.ops.Bound.{Bound}
 use Rattle.pep440_rs.proofs.Agreement.VersionOrder.{both}
 use Rattle.pep440_rs.proofs.Within.PairMembers.{append_matches, pair_agrees, gap_holds, gap_only}
 use Rattle.pep440_rs.specs.Agreement.{IsReleaseOnly}
-use Rattle.pep440_rs.specs.BoundsAgreement.{IsReleaseBound, IsReleasePair, is_followed, IsOrdered, IsOrderedAfter, KnowsGaps, KnowsGapsAfter, HoldsWithin, HoldsOnlyWithin}
+use Rattle.pep440_rs.specs.BoundsAgreement.{IsReleaseBound, IsReleasePair, is_followed, is_known_gap, IsOrdered, KnowsGaps, HoldsWithin, HoldsOnlyWithin}
 use Rattle.pep440_rs.specs.Matching.{matches, list_matches}
 use Rattle.pep440_rs.specs.Specifiers.{Spec}
 use Rattle.pep440_rs.specs.Members.{pair_members, gap_members, gaps_members, last_end, list_members}
@@ -70,6 +70,23 @@ from_back s e b u v f h =
     (not_true _ (sym (from_is record_total b u) ∙ h)))
 
 -- ---- by induction on the pairs
+
+-- the pairs are valid segments, each followed by the next, and the first follows what ends so
+abbrev IsOrderedAfter : Bound Record → List (Segment Record) → Type 0
+IsOrderedAfter end [] = Unit {0}
+IsOrderedAfter end (p ∷ pairs) = IsTrue (is_followed end p.0) × IsTrue (is_valid record_cmp p.0 p.1) × IsOrderedAfter p.1 pairs
+
+ordered_after : (p : Segment Record) (pairs : List (Segment Record)) → IsOrdered (p ∷ pairs) → IsTrue (is_valid record_cmp p.0 p.1) × IsOrderedAfter p.1 pairs
+ordered_after p [] o = (o, tt)
+ordered_after p (q ∷ pairs) o = let rest = ordered_after q pairs o.2 in (o.0, (o.1, rest.0, rest.1))
+
+abbrev KnowsGapsAfter : Bound Record → List (Segment Record) → Type 0
+KnowsGapsAfter end [] = Unit {0}
+KnowsGapsAfter end (p ∷ pairs) = IsTrue (is_known_gap end p.0) × KnowsGapsAfter p.1 pairs
+
+known_after : (p : Segment Record) (pairs : List (Segment Record)) → KnowsGaps (p ∷ pairs) → KnowsGapsAfter p.1 pairs
+known_after p [] g = tt
+known_after p (q ∷ pairs) g = (g.0, known_after q pairs g.1)
 
 -- what is up to an end is in no later gap, and up to the last end
 after : (e : Bound Record) (pairs : List (Segment Record)) (u : Record) → IsReleaseBound e → IsOrderedAfter e pairs → All IsReleasePair pairs → IsReleaseOnly u →
@@ -161,14 +178,15 @@ same_tests false false p q = refl
 pub contains_within : (pairs : List (Segment Record)) (members : List Spec) → IsOrdered pairs → All IsReleasePair pairs → IsPermutation (list_members pairs) members → HoldsWithin pairs members
 contains_within [] members o all k v q h = absurd o
 contains_within (p ∷ pairs) members o all k v q h =
+    let ordered = ordered_after p pairs o in
     arranged (list_members (p ∷ pairs)) members v k
-    (spans_is p pairs v all q ∙ within p.0 p.1 pairs v (all 0 p (omega arith)).1 o.0 o.1 (All-tail IsReleasePair p pairs all) q h)
+    (spans_is p pairs v all q ∙ within p.0 p.1 pairs v (all 0 p (omega arith)).1 ordered.0 ordered.1 (All-tail IsReleasePair p pairs all) q h)
 
 pub contains_only_within : (pairs : List (Segment Record)) (members : List Spec) → IsOrdered pairs → All IsReleasePair pairs → KnowsGaps pairs → IsPermutation (list_members pairs) members →
     HoldsOnlyWithin pairs members
 contains_only_within [] members o all g k v q = absurd o
 contains_only_within (p ∷ pairs) members o all g k v q =
     same_tests _ _
-    (λ h. only p.0 p.1 pairs v (all 0 p (omega arith)).1 (All-tail IsReleasePair p pairs all) g q
+    (λ h. only p.0 p.1 pairs v (all 0 p (omega arith)).1 (All-tail IsReleasePair p pairs all) (known_after p pairs g) q
     (sym (spans_is p pairs v all q) ∙ arranged members (list_members (p ∷ pairs)) v (IsPermutation-sym (list_members (p ∷ pairs)) members k) h))
     (λ h. contains_within (p ∷ pairs) members o all k v q h)

@@ -1,6 +1,8 @@
-//! Why a bound gives no specifier, and the text of that.
-ghost use Rattle.std.specs.Prelude.{◌≡◌, Some};
-ghost use Rattle.pep440_rs.specs.BoundErrors.{bound_refusal_of, bound_text_of};
+//! Why a bound gives no specifier, and its message.
+ghost use Rattle.std.specs.Prelude.{◌≡◌, Some, codes};
+ghost use Rattle.std.specs.Option.{option_map_or};
+ghost use Rattle.pep440_rs.specs.ErrorTexts.{build_text};
+ghost use Rattle.pep440_rs.specs.BoundErrors.{bound_refusal_of};
 ghost use Rattle.pep440_rs.specs.declared.bounds.error.BoundError.TheVariants.{OutOfMemory};
 
 use crate::specifier::error::VersionSpecifierBuildError;
@@ -8,13 +10,13 @@ use std::alloc::AllocError;
 use std::error::Error;
 use std::fmt;
 
-/// Why a bound gives no specifier. Two are equal exactly if they say the same.
+/// Why a bound gives no specifier. Two are equal exactly if they report the same.
 #[derive(Debug, PartialEq, Eq, Drop)]
 pub enum BoundError {
     /// The version has a local part, which no operator of a bound allows: always `OperatorLocalCombo`, with the
     /// operator that the bound would have given.
     Build(VersionSpecifierBuildError),
-    /// Memory ran out, which says nothing of the bound.
+    /// Out of memory, which says nothing about the bound.
     OutOfMemory,
 }
 
@@ -38,9 +40,9 @@ impl From<AllocError> for BoundError {
 }
 
 impl fmt::Display for BoundError {
-    ghost output = { λ e. Some (bound_text_of e) };
+    ghost output = { λ e. Some (option_map_or build_text (bound_refusal_of e) (codes "out of memory")) };
 
-    ghost styled_output = { λ e _. Some (bound_text_of e) };
+    ghost styled_output = { λ e _. Some (option_map_or build_text (bound_refusal_of e) (codes "out of memory")) };
 
     fn fmt<W: fmt::Write>(&self, f: &mut fmt::Formatter<W>) -> fmt::Result {
         match self {

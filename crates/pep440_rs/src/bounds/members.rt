@@ -1,9 +1,12 @@
 //! Specifiers from bounds on releases.
 ghost use Rattle.std.specs.Prelude.{◌≡◌, ◌++◌, IfOk, OnOk};
-ghost use Rattle.pep440_rs.specs.Members.{is_next, lower_member, upper_member, pair_members, gap_members, gaps_members, last_end, list_members};
+ghost use Rattle.pep440_rs.specs.Members.{is_next, lower_member, upper_member, pair_members, gap_members, list_members, without_locals};
+ghost use Rattle.pep440_rs.specs.BoundErrors.{BoundAnswers};
 
+use crate::bounds::error::BoundError;
 use crate::bounds::release_bounds::ReleaseBounds;
 use crate::specifier::VersionSpecifier;
+use crate::specifier::error::{BuildErrorKind, VersionSpecifierBuildError};
 use pep440_version::Version;
 use std::alloc::{AllocError, Global};
 use std::ops::Bound;
@@ -19,7 +22,7 @@ fn is_next(release: &[u64], next: &[u64]) -> bool
 }
 
 // The member of a lower bound.
-pub(crate) fn lower_member(bound: &Bound<Version>) -> Result<Option<VersionSpecifier>, AllocError>
+pub(crate) fn convert_lower(bound: &Bound<Version>) -> Result<Option<VersionSpecifier>, AllocError>
     ensures { IfOk result (λ m. m ≡ lower_member bound.now) }
 {
     Ok(match bound {
@@ -32,7 +35,7 @@ pub(crate) fn lower_member(bound: &Bound<Version>) -> Result<Option<VersionSpeci
 }
 
 // The member of an upper bound.
-pub(crate) fn upper_member(bound: &Bound<Version>) -> Result<Option<VersionSpecifier>, AllocError>
+pub(crate) fn convert_upper(bound: &Bound<Version>) -> Result<Option<VersionSpecifier>, AllocError>
     ensures { IfOk result (λ m. m ≡ upper_member bound.now) }
 {
     Ok(match bound {
@@ -45,7 +48,7 @@ pub(crate) fn upper_member(bound: &Bound<Version>) -> Result<Option<VersionSpeci
 }
 
 // The members of a pair: one where one says it all, else the lower bound's, then the upper's.
-pub(crate) fn pair_members(
+pub(crate) fn convert_pair(
     start: &Bound<Version>,
     end: &Bound<Version>,
 ) -> Result<ReleaseBounds, AllocError>
@@ -66,7 +69,7 @@ pub(crate) fn pair_members(
         }
         _ => {}
     }
-    Ok(ReleaseBounds::new(lower_member(start)?, upper_member(end)?))
+    Ok(ReleaseBounds::new(convert_lower(start)?, convert_upper(end)?))
 }
 
 // The members of a pair, after those that are there.
@@ -77,7 +80,7 @@ fn push_pair(
 ) -> Result<(), AllocError>
     ensures { OnOk result (members.new.items ≡ members.old.items ++ pair_members start.now end.now) }
 {
-    for member in pair_members(start, end)? {
+    for member in convert_pair(start, end)? {
         members.push(member)?;
     }
     Ok(())
@@ -108,7 +111,7 @@ fn push_gap(
 }
 
 // The members of a list of pairs, not yet arranged.
-pub(crate) fn members_of(
+pub(crate) fn convert_pairs(
     alloc: Global,
     pairs: &[(Bound<Version>, Bound<Version>)],
 ) -> Result<Vec<VersionSpecifier>, AllocError>
@@ -126,4 +129,24 @@ pub(crate) fn members_of(
         push_pair(&mut members, &first.0, end)?;
     }
     Ok(members)
+}
+
+// The member, refused where its version has a local part.
+pub(crate) fn reject_local(
+    member: Option<VersionSpecifier>,
+) -> Result<Option<VersionSpecifier>, BoundError>
+    ensures { BoundAnswers result (without_locals member) }
+{
+    match member {
+        Some(member) => {
+            if !member.version().is_local() {
+                return Ok(Some(member));
+            }
+            let (operator, version) = member.into_parts();
+            Err(BoundError::Build(VersionSpecifierBuildError::from(
+                BuildErrorKind::OperatorLocalCombo { operator, version },
+            )))
+        }
+        None => Ok(None),
+    }
 }

@@ -8,7 +8,7 @@ use std::marker::Model;
 
 /// The specifiers of a pair of bounds in order, at most two; made by `VersionSpecifier::from_release_only_bounds`.
 ///
-/// It takes no memory. A clause sees it as the list of the specifiers that are left.
+/// It allocates nothing. A clause sees it as the list of the specifiers that are left.
 #[derive(Debug, Drop)]
 pub struct ReleaseBounds {
     first: Option<VersionSpecifier>,

@@ -1,4 +1,4 @@
-//! Why a JSON value is no version, no specifier or no list, and the text of that.
+//! Why a JSON value is no version, no specifier or no list, and its message.
 ghost use Rattle.std.specs.Prelude.{◌≡◌};
 ghost use Rattle.pep440_rs.specs.Json.{IsJsonClone, json_text_of};
 ghost use Rattle.pep440_rs.specs.declared.json.error.JsonError.TheVariants.{OutOfMemory};
@@ -7,15 +7,15 @@ use std::alloc::AllocError;
 use std::error::Error;
 use std::fmt;
 
-/// Why a JSON value is no version, no specifier or no list; `E` is the error of the reader of texts. Two are equal
-/// exactly if they say the same.
+/// Why a JSON value is no version, no specifier or no list; `E` is the error of the reader of strings. Two are equal
+/// exactly if they report the same.
 #[derive(Debug, PartialEq, Eq, Drop)]
 pub enum JsonError<E> {
-    /// The value is no string. So is every number refused, a fraction too.
+    /// The value is no string. Numbers are rejected, including fractions.
     NotAString,
-    /// The text of the string is refused, and not because memory ran out.
+    /// The string is rejected, and not because memory ran out.
     Text(E),
-    /// Memory ran out, which says nothing of the value.
+    /// Out of memory, which says nothing about the value.
     OutOfMemory,
 }
 

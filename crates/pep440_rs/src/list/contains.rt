@@ -1,7 +1,8 @@
 //! Whether a list contains a version.
-ghost use Rattle.std.specs.Prelude.{◌≡◌, ◌≢◌, IfOk, IsOk, IsTrue};
+ghost use Rattle.std.specs.Prelude.{◌≡◌, ◌≢◌, ◌++◌, IfOk, IsOk, IsTrue, List, not};
 ghost use Rattle.std.specs.List.{All};
-ghost use Rattle.pep440_rs.specs.Matching.{list_matches, is_told_before_exact};
+ghost use Rattle.pep440_rs.specs.Matching.{list_matches};
+ghost use Rattle.pep440_rs.specs.Specifiers.{Spec};
 ghost use Rattle.pep440_rs.specs.declared.specifier.operator.Operator.TheVariants.{ExactEqual};
 
 use crate::list::VersionSpecifiers;
@@ -19,7 +20,7 @@ impl VersionSpecifiers {
         ensures value { IfOk result (λ b. b ≡ list_matches self.now version.now) }
         ensures answered { All (λ m. m.operator ≢ ExactEqual) self.now → IsOk result }
         // So it does where a member before the first `===` does not contain the version.
-        ensures in_order { IsTrue (is_told_before_exact self.now version.now) → IsOk result }
+        ensures in_order { (before after : List Spec) → self.now ≡ before ++ after → All (λ m. m.operator ≢ ExactEqual) before → IsTrue (not (list_matches before version.now)) → IsOk result }
     {
         for member in self.as_slice() {
             if !member.contains(alloc, version)? {

@@ -1,4 +1,4 @@
-//! Why a text is no list of specifiers.
+//! Why a string is no list of specifiers.
 ghost use Rattle.std.specs.Prelude.{◌≡◌, ◌≤◌, ◌⊎◌, [], IsCharBoundary, string_bytes};
 ghost use Rattle.pep440_rs.specs.ListErrors.{IsSpan, list_refusal_of, span_of};
 ghost use Rattle.pep440_rs.specs.declared.list.error.SpecifiersErrorKind.TheVariants.{OutOfMemory};
@@ -6,19 +6,19 @@ ghost use Rattle.pep440_rs.specs.declared.list.error.SpecifiersErrorKind.TheVari
 use crate::specifier::error::VersionSpecifierParseError;
 use std::alloc::{AllocError, AllocFailed, Global};
 
-/// Why a text is no list of specifiers.
+/// Why a string is no list of specifiers.
 #[derive(Debug, PartialEq, Eq, Drop)]
 pub enum SpecifiersErrorKind {
     /// A piece between commas is no specifier; it is the first such piece.
     Piece {
         /// Why it is none.
         error: VersionSpecifierParseError,
-        /// The byte of the text at which the piece begins.
+        /// The byte of the string at which the piece begins.
         start: usize,
-        /// The byte of the text at which the piece ends.
+        /// The byte of the string at which the piece ends.
         stop: usize,
     },
-    /// Memory ran out, which says nothing of the text.
+    /// Out of memory, which says nothing about the string.
     OutOfMemory,
 }
 
@@ -53,7 +53,8 @@ impl<T: Drop> From<AllocFailed<T>> for SpecifiersErrorKind {
     }
 }
 
-/// A text is no list of specifiers, or memory ran out. Two are equal exactly if they say the same of the same text.
+/// A string is no list of specifiers, or memory ran out. Two are equal exactly if they report the same of the same
+/// string.
 #[derive(Debug, PartialEq, Eq, Drop)]
 pub struct VersionSpecifiersParseError {
     kind: SpecifiersErrorKind,
@@ -73,14 +74,14 @@ impl VersionSpecifiersParseError {
         &self.kind
     }
 
-    /// The whole text; empty where memory ran out.
+    /// The whole string; empty when out of memory.
     pub fn line(&self) -> &str
         ensures { result.now ≡ line_of self.now }
     {
         self.line.as_str()
     }
 
-    // Out of memory; takes none.
+    // Out of memory; allocates nothing.
     pub(crate) fn out_of_memory(alloc: Global) -> VersionSpecifiersParseError
         ensures kind { list_kind_of result ≡ OutOfMemory }
         ensures line { line_of result ≡ [] }
@@ -91,7 +92,7 @@ impl VersionSpecifiersParseError {
         }
     }
 
-    // This kind of the text, or out of memory.
+    // This kind of the string, or out of memory.
     pub(crate) fn from_text(
         alloc: Global,
         text: &str,

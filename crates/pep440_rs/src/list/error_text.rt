@@ -1,8 +1,8 @@
-//! The text of a list's error, the same whatever width and fill are asked for.
+//! The message of a list's error, the same whatever width and fill are asked for.
 ghost use Rattle.std.specs.Prelude.{◌≤◌, ◌++◌, codes, option_map, replicate, length, IsCharBoundary};
 ghost use Rattle.std.specs.Fmt.{DisplaysStyledOnOk, WritesStyledOnOk};
-ghost use Rattle.pep440_rs.specs.Errors.{parse_kind_of};
-ghost use Rattle.pep440_rs.specs.ErrorTexts.{specifier_text_of};
+ghost use Rattle.pep440_rs.specs.Errors.{parse_kind_of, specifier_refusal_of};
+ghost use Rattle.pep440_rs.specs.ErrorTexts.{specifier_error_text};
 ghost use Rattle.pep440_rs.specs.ListAnswers.{line_of, list_kind_of};
 ghost use Rattle.pep440_rs.specs.ListErrorTexts.{caret_line, list_text_of, piece_text};
 
@@ -48,7 +48,7 @@ fn write_caret_line<W: fmt::Write>(
     f.write_str("\n")
 }
 
-// What follows the refusal of the piece: the whole text, and the line that marks the piece.
+// Writes what follows the piece's own message: the whole string, and the line that marks the piece.
 fn write_line<W: fmt::Write>(
     f: &mut fmt::Formatter<W>,
     line: &str,
@@ -76,7 +76,7 @@ fn write_piece<W: fmt::Write>(
     requires in_order { start ≤ stop }
     requires starts { IsCharBoundary line.now start }
     requires stops { IsCharBoundary line.now stop }
-    ensures { DisplaysStyledOnOk W.write_str_gives f.old result (option_map (λ inner. piece_text inner line.now start stop) (specifier_text_of (parse_kind_of error.now))) f.new }
+    ensures { DisplaysStyledOnOk W.write_str_gives f.old result (option_map (λ inner. piece_text inner line.now start stop) (specifier_error_text (specifier_refusal_of (parse_kind_of error.now)))) f.new }
 {
     f.write_str("Failed to parse version: ")?;
     write_parse_kind(f, error.kind())?;

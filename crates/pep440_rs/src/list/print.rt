@@ -1,13 +1,11 @@
-//! The print of a list, the same whatever width and fill are asked for.
-ghost use Rattle.std.specs.Prelude.{Some, ◌++◌, codes};
+//! How a list is printed, the same whatever width and fill are asked for.
+ghost use Rattle.std.specs.Prelude.{◌++◌, codes};
 ghost use Rattle.std.specs.Fmt.{WritesStyledOnOk};
 ghost use Rattle.std.specs.List.{flat_map};
 ghost use Rattle.pep440_rs.specs.Lists.{list_print};
 ghost use Rattle.pep440_rs.specs.Specifiers.{spec_print};
 
-use crate::list::VersionSpecifiers;
-use crate::specifier::VersionSpecifier;
-use crate::specifier::print::write_specifier;
+use crate::specifier::{VersionSpecifier, write_specifier};
 use std::fmt;
 
 fn write_rest<W: fmt::Write>(f: &mut fmt::Formatter<W>, specifier: &VersionSpecifier) -> fmt::Result
@@ -17,7 +15,7 @@ fn write_rest<W: fmt::Write>(f: &mut fmt::Formatter<W>, specifier: &VersionSpeci
     write_specifier(f, specifier)
 }
 
-// Each member after a comma and a blank.
+// Writes each member after a comma and a space.
 fn write_members<W: fmt::Write>(
     f: &mut fmt::Formatter<W>,
     members: &[VersionSpecifier],
@@ -30,8 +28,11 @@ fn write_members<W: fmt::Write>(
     Ok(())
 }
 
-// The print of a list.
-fn write_list<W: fmt::Write>(f: &mut fmt::Formatter<W>, members: &[VersionSpecifier]) -> fmt::Result
+// Writes the members with a comma and a space between them.
+pub(crate) fn write_list<W: fmt::Write>(
+    f: &mut fmt::Formatter<W>,
+    members: &[VersionSpecifier],
+) -> fmt::Result
     ensures { WritesStyledOnOk W.write_str_gives f.old result (list_print members.now) f.new }
 {
     match members {
@@ -40,15 +41,5 @@ fn write_list<W: fmt::Write>(f: &mut fmt::Formatter<W>, members: &[VersionSpecif
             write_specifier(f, first)?;
             write_members(f, rest)
         }
-    }
-}
-
-impl fmt::Display for VersionSpecifiers {
-    ghost output = { λ list. Some (list_print list) };
-
-    ghost styled_output = { λ list _. Some (list_print list) };
-
-    fn fmt<W: fmt::Write>(&self, f: &mut fmt::Formatter<W>) -> fmt::Result {
-        write_list(f, self.as_slice())
     }
 }

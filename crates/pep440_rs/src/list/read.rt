@@ -1,6 +1,8 @@
 //! The reader of lists, piece by piece.
-ghost use Rattle.std.specs.Prelude.{◌<◌, ◌+◌, ◌^◌, ◌≡◌, ◌++◌, ◌∷◌, [], length, Ok, IfOk, Err, IfErr};
+ghost use Rattle.std.specs.Prelude.{◌<◌, ◌+◌, ◌^◌, ◌≡◌, ◌++◌, ◌∷◌, [], length, Ok, IfOk, Err, IfErr, IsCharBoundary};
+ghost use Rattle.std.specs.Option.{option_map_or};
 ghost use Rattle.pep440_rs.specs.ListErrors.{IsListLifted, IsSpan, MembersGive, PieceGives};
+ghost use Rattle.pep440_rs.specs.ListGrammar.{pieces};
 ghost use Rattle.pep440_rs.specs.ListReading.{read_members};
 ghost use Rattle.pep440_rs.specs.SpecifierReading.{read_specifier};
 ghost use Rattle.pep440_rs.specs.Specifiers.{Spec};
@@ -12,6 +14,7 @@ use crate::specifier::read::specifier;
 use std::alloc::Global;
 
 // What a piece of a list reads as, which begins at this byte.
+#[inline(always)]
 fn piece(alloc: Global, start: usize, piece: &str) -> Result<VersionSpecifier, SpecifiersErrorKind>
     requires { start + length piece.now < 2 ^ 64 }
     ensures value { PieceGives start piece.now result (read_specifier piece.now) }
@@ -29,6 +32,7 @@ fn piece(alloc: Global, start: usize, piece: &str) -> Result<VersionSpecifier, S
 }
 
 // One more member, which a piece that begins at this byte reads as.
+#[inline(always)]
 fn add_piece(
     alloc: Global,
     members: &mut Vec<VersionSpecifier>,
@@ -45,6 +49,22 @@ fn add_piece(
     Ok(())
 }
 
+// The first piece, and what stands behind the comma after it if there is one.
+#[inline(always)]
+fn split_piece(text: &str) -> (&str, Option<&str>)
+    ensures pieces { pieces text.now ≡ result.0.now ∷ option_map_or (λ later. pieces later.now) result.1 [] }
+    ensures whole { text.now ≡ result.0.now ++ option_map_or (λ later. 44 ∷ later.now) result.1 [] }
+    ensures boundary { IsCharBoundary text.now (length result.0.now) }
+{
+    let bytes = text.as_bytes();
+    for (at, byte) in bytes.iter().enumerate() {
+        if *byte == b',' {
+            return (&text[..at], Some(&text[at + 1..]));
+        }
+    }
+    (text, None)
+}
+
 // The members of a list, in the order of the text.
 pub(crate) fn members(
     alloc: Global,
@@ -59,10 +79,12 @@ pub(crate) fn members(
         return Ok(members);
     }
     let mut rest = text;
-    while let Some((prefix, later)) = rest.split_once(',') {
-        add_piece(alloc, &mut members, text.len() - rest.len(), prefix)?;
-        rest = later;
+    loop {
+        let (piece, later) = split_piece(rest);
+        add_piece(alloc, &mut members, text.len() - rest.len(), piece)?;
+        match later {
+            Some(later) => rest = later,
+            None => return Ok(members),
+        }
     }
-    add_piece(alloc, &mut members, text.len() - rest.len(), rest)?;
-    Ok(members)
 }

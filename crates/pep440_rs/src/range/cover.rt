@@ -4,7 +4,7 @@ ghost use Rattle.pep440_rs.specs.Cover.{Covers, IsCoverable, after_devs, below_p
 ghost use Rattle.pep440_rs.specs.Refused.{TellsMax, raised_number, raises_max};
 
 use crate::range::error::RangeError;
-use crate::range::whole_order::{less, range_of};
+use crate::range::whole_order::{convert, convert_less};
 use crate::specifier::VersionSpecifier;
 use crate::specifier::operator::Operator;
 use pep440_ranges::Ranges;
@@ -13,7 +13,7 @@ use std::alloc::{AllocError, Global};
 use std::ops::Bound;
 
 // Above the last dev number: without dev, or the least alpha where there is neither pre nor post.
-fn after_devs(alloc: Global, version: Version) -> Result<Version, AllocError>
+fn skip_devs(alloc: Global, version: Version) -> Result<Version, AllocError>
     ensures { IfOk result (λ v. v ≡ after_devs version version.post version.pre) }
 {
     if version.post().is_some() || version.pre().is_some() {
@@ -29,13 +29,13 @@ fn after_devs(alloc: Global, version: Version) -> Result<Version, AllocError>
 }
 
 // The least version above this one and its local versions.
-fn next_public(alloc: Global, version: Version) -> Result<Version, AllocError>
+fn find_next_public(alloc: Global, version: Version) -> Result<Version, AllocError>
     ensures { IfOk result (λ v. v ≡ next_public version) }
 {
     if let Some(dev) = version.dev() {
         return match dev.checked_add(1) {
             Some(next) => version.with_dev(alloc, Some(next)),
-            None => after_devs(alloc, version),
+            None => skip_devs(alloc, version),
         };
     }
     let next = match version.post() {
@@ -49,18 +49,18 @@ fn next_public(alloc: Global, version: Version) -> Result<Version, AllocError>
 }
 
 // `==`: with the local versions, if the version has no local part itself.
-fn with_locals(alloc: Global, version: Version) -> Result<Ranges<Version>, AllocError>
+fn cover_equal(alloc: Global, version: Version) -> Result<Ranges<Version>, AllocError>
     ensures { IfOk result (λ r. r ≡ with_locals version) }
 {
     if version.is_local() {
         return Ranges::singleton(alloc, version);
     }
-    let end = next_public(alloc, version.clone()?)?;
+    let end = find_next_public(alloc, version.clone()?)?;
     Ranges::from_range_bounds(alloc, Bound::Included(version), Bound::Excluded(end))
 }
 
 // Below this post-release of a release, without the release's pre-releases.
-fn below_post(
+fn cover_below_post(
     alloc: Global,
     release: Version,
     post: Option<u64>,
@@ -79,18 +79,18 @@ fn below_post(
 }
 
 // `<`: of a post-release also what lies from the release up to it.
-fn less_cover(alloc: Global, version: Version) -> Result<Ranges<Version>, AllocError>
+fn cover_less(alloc: Global, version: Version) -> Result<Ranges<Version>, AllocError>
     ensures { IfOk result (λ r. r ≡ less_cover version) }
 {
     if !version.is_post() || version.any_prerelease() {
-        return less(alloc, version);
+        return convert_less(alloc, version);
     }
     let release = Version::new(alloc, version.release())?.with_epoch(alloc, version.epoch())?;
-    below_post(alloc, release, version.post())
+    cover_below_post(alloc, release, version.post())
 }
 
 // The cover, operator by operator.
-fn cover_of(
+fn cover(
     alloc: Global,
     operator: Operator,
     version: Version,
@@ -100,19 +100,19 @@ fn cover_of(
     ensures refused { IsErrOf result RangeError.NumberAtMax → cover_of operator version ≡ None }
 {
     match operator {
-        Operator::Equal => Ok(with_locals(alloc, version)?),
+        Operator::Equal => Ok(cover_equal(alloc, version)?),
         Operator::LessThanEqual => {
-            let end = next_public(alloc, version)?;
+            let end = find_next_public(alloc, version)?;
             Ok(Ranges::strictly_lower_than(alloc, end)?)
         }
-        Operator::LessThan => Ok(less_cover(alloc, version)?),
+        Operator::LessThan => Ok(cover_less(alloc, version)?),
         Operator::EqualStar
         | Operator::ExactEqual
         | Operator::NotEqual
         | Operator::NotEqualStar
         | Operator::TildeEqual
         | Operator::GreaterThan
-        | Operator::GreaterThanEqual => range_of(alloc, operator, version),
+        | Operator::GreaterThanEqual => convert(alloc, operator, version),
     }
 }
 
@@ -136,5 +136,5 @@ pub fn specifier_to_cover(
     ensures holds { IsCoverable specifier → IfOk result (Covers specifier) }
 {
     let (operator, version) = specifier.into_parts();
-    cover_of(alloc, operator, version)
+    cover(alloc, operator, version)
 }

@@ -1,4 +1,4 @@
-//! Why a conversion into a range is refused, and the text of that.
+//! Why a conversion into a range fails, and its message.
 ghost use Rattle.std.specs.Prelude.{Some};
 ghost use Rattle.pep440_rs.specs.ErrorTexts.{range_error_text};
 
@@ -6,13 +6,13 @@ use std::alloc::{AllocError, AllocFailed};
 use std::error::Error;
 use std::fmt;
 
-/// Why a conversion into a range is refused.
+/// Why a conversion into a range fails.
 #[derive(Debug, Clone, Copy, PartialEq, Eq)]
 pub enum RangeError {
     /// A number that has to be raised is 18446744073709551615, the greatest there is; of a list it is so in some
     /// member.
     NumberAtMax,
-    /// Memory ran out, which says nothing of the specifiers.
+    /// Out of memory, which says nothing about the specifiers.
     OutOfMemory,
 }
 

@@ -1,4 +1,4 @@
-//! Ranges printed a segment a line, the same whatever width and fill are asked for.
+//! Ranges printed one segment a line, the same whatever width and fill are asked for.
 ghost use Rattle.std.specs.Prelude.{Some};
 ghost use Rattle.std.specs.Fmt.{WritesStyledOnOk};
 ghost use Rattle.std.specs.List.{flat_map};

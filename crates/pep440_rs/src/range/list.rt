@@ -27,7 +27,7 @@ pub(crate) enum Conversion {
 }
 
 impl Conversion {
-    fn range(
+    fn convert(
         self,
         alloc: Global,
         specifier: VersionSpecifier,
@@ -44,9 +44,9 @@ impl Conversion {
     }
 }
 
-// The intersection of the members' ranges, in the list's order. Each member is asked first, so that none is left out
-// where those before it leave nothing.
-fn list_range(
+// The intersection of the members' ranges, in the list's order. Each member is converted first, so that none is left
+// out where those before it leave nothing.
+fn convert_members(
     alloc: Global,
     conversion: Conversion,
     members: Vec<VersionSpecifier>,
@@ -57,7 +57,7 @@ fn list_range(
 {
     let mut ranges = Vec::new(alloc);
     for member in members {
-        let next = conversion.range(alloc, member)?;
+        let next = conversion.convert(alloc, member)?;
         ranges.push(next)?;
     }
     Ok(intersect_all(alloc, ranges)?)
@@ -66,8 +66,8 @@ fn list_range(
 /// The range of a list: all versions, intersected with each member's range in the list's order (PEP 440, "Version
 /// specifiers": a version must match each of them).
 ///
-/// Takes memory. Answers `NumberAtMax` where that is the answer of some member, also where the members before it
-/// leave no version, and `OutOfMemory` where memory is refused.
+/// Allocates. Returns `NumberAtMax` where the conversion of some member does, also where the members before it leave
+/// no version, and `OutOfMemory` where an allocation fails.
 pub fn specifiers_to_ranges(
     alloc: Global,
     specifiers: VersionSpecifiers,
@@ -76,8 +76,8 @@ pub fn specifiers_to_ranges(
     ensures refused { IsErrOf result RangeError.NumberAtMax → list_range range_of specifiers ≡ None }
     // `NumberAtMax` exactly where some member has to raise the greatest number there is, unless memory runs out.
     ensures at_max { TellsMax (list_any (raises_max raised_number) specifiers) result }
-    // Of members whose versions texts can give it holds exactly what the list contains, where range and matching of each
-    // can be compared.
+    // Where each member's version is one that a string can have beside its operator, it holds exactly what the list
+    // contains, as far as range and matching of each can be compared.
     ensures agrees { All HasOperand specifiers → IfOk result (ListAgrees IsCandidate specifiers) }
     // It holds what the range of each member holds.
     ensures set { IfOk result (λ r. HoldsInEach range_of specifiers r) }
@@ -85,14 +85,14 @@ pub fn specifiers_to_ranges(
     ensures count { IfOk result (λ r. HasFewSegments specifiers r) }
 {
     let members = specifiers.into_members();
-    list_range(alloc, Conversion::WholeOrder, members)
+    convert_members(alloc, Conversion::WholeOrder, members)
 }
 
 /// The release-only range of a list: all versions, intersected with each member's in the list's order (PEP 440,
 /// "Version specifiers" and "Final releases").
 ///
-/// Takes memory. Answers `NumberAtMax` where that is the answer of some member, also where the members before it
-/// leave no version, and `OutOfMemory` where memory is refused.
+/// Allocates. Returns `NumberAtMax` where the conversion of some member does, also where the members before it leave
+/// no version, and `OutOfMemory` where an allocation fails.
 pub fn release_specifiers_to_ranges(
     alloc: Global,
     specifiers: VersionSpecifiers,
@@ -101,7 +101,7 @@ pub fn release_specifiers_to_ranges(
     ensures refused { IsErrOf result RangeError.NumberAtMax → list_range release_range_of specifiers ≡ None }
     // `NumberAtMax` exactly where some member has to raise the greatest number there is, unless memory runs out.
     ensures at_max { TellsMax (list_any (raises_max raised_release_number) specifiers) result }
-    // Of releases alone it holds exactly what the list contains.
+    // It holds exactly the releases that the list contains.
     ensures agrees { IfOk result (λ r. ListAgrees IsReleaseComparable specifiers r) }
     // It holds what the range of each member holds.
     ensures set { IfOk result (λ r. HoldsInEach release_range_of specifiers r) }
@@ -109,7 +109,7 @@ pub fn release_specifiers_to_ranges(
     ensures count { IfOk result (λ r. HasFewSegments specifiers r) }
 {
     let members = specifiers.into_members();
-    list_range(alloc, Conversion::ReleaseOnly, members)
+    convert_members(alloc, Conversion::ReleaseOnly, members)
 }
 
 /// The cover of a list: all versions, intersected with each member's cover in the list's order. It holds every version that
@@ -130,5 +130,5 @@ pub fn specifiers_to_cover(
     ensures set { IfOk result (λ r. HoldsInEach cover_of specifiers r) }
 {
     let members = specifiers.into_members();
-    list_range(alloc, Conversion::Cover, members)
+    convert_members(alloc, Conversion::Cover, members)
 }

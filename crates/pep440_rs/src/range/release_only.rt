@@ -16,7 +16,7 @@ use std::alloc::{AllocError, Global};
 use std::ops::Bound;
 
 // Up to the release with the last number of these raised.
-fn release_up_to(
+fn convert_prefix(
     alloc: Global,
     release: &[u64],
     numbers: &[u64],
@@ -33,7 +33,7 @@ fn release_up_to(
 }
 
 // `!=`: all but the release.
-fn other_than(alloc: Global, release: Version) -> Result<Ranges<Version>, AllocError>
+fn exclude_release(alloc: Global, release: Version) -> Result<Ranges<Version>, AllocError>
     requires { release ≡ from_release release.release }
     ensures { IfOk result (λ r. release_range_of Operator.NotEqual release ≡ Some r) }
 {
@@ -42,7 +42,7 @@ fn other_than(alloc: Global, release: Version) -> Result<Ranges<Version>, AllocE
 }
 
 // The range, operator by operator.
-fn release_range_of(
+fn convert_release(
     alloc: Global,
     operator: Operator,
     version: &Version,
@@ -56,8 +56,8 @@ fn release_range_of(
         Operator::Equal | Operator::ExactEqual => {
             Ok(Ranges::singleton(alloc, version.only_release(alloc)?)?)
         }
-        Operator::NotEqual => Ok(other_than(alloc, version.only_release(alloc)?)?),
-        Operator::TildeEqual => release_up_to(alloc, numbers, without_last(numbers)),
+        Operator::NotEqual => Ok(exclude_release(alloc, version.only_release(alloc)?)?),
+        Operator::TildeEqual => convert_prefix(alloc, numbers, without_last(numbers)),
         Operator::LessThan => {
             Ok(Ranges::strictly_lower_than(alloc, version.only_release(alloc)?)?)
         }
@@ -68,9 +68,9 @@ fn release_range_of(
         Operator::GreaterThanEqual => {
             Ok(Ranges::higher_than(alloc, version.only_release(alloc)?)?)
         }
-        Operator::EqualStar => release_up_to(alloc, numbers, numbers),
+        Operator::EqualStar => convert_prefix(alloc, numbers, numbers),
         Operator::NotEqualStar => {
-            let inside = release_up_to(alloc, numbers, numbers)?;
+            let inside = convert_prefix(alloc, numbers, numbers)?;
             Ok(inside.complement(alloc)?)
         }
     }
@@ -79,8 +79,8 @@ fn release_range_of(
 /// The release-only range of a specifier: that of its release, whatever its other parts (PEP 440, "Version
 /// specifiers" and "Final releases").
 ///
-/// Takes memory. Answers `NumberAtMax` where a number that has to be raised is 18446744073709551615, and
-/// `OutOfMemory` where memory is refused.
+/// Allocates. Returns `NumberAtMax` where a number that has to be raised is 18446744073709551615, and `OutOfMemory`
+/// where an allocation fails.
 pub fn release_specifier_to_range(
     alloc: Global,
     specifier: VersionSpecifier,
@@ -89,8 +89,8 @@ pub fn release_specifier_to_range(
     ensures refused { IsErrOf result RangeError.NumberAtMax → release_range_of specifier.operator specifier.version ≡ None }
     // `NumberAtMax` exactly where the number to be raised is the greatest there is, unless memory runs out.
     ensures at_max { TellsMax (raises_max raised_release_number specifier) result }
-    // Of releases alone it holds exactly what the specifier contains.
+    // It holds exactly the releases that the specifier contains.
     ensures agrees { IfOk result (Agrees IsReleaseComparable specifier) }
 {
-    release_range_of(alloc, *specifier.operator(), specifier.version())
+    convert_release(alloc, *specifier.operator(), specifier.version())
 }

@@ -16,15 +16,15 @@ use std::alloc::{AllocError, Global};
 use std::ops::Bound;
 
 // `!=`: all but the version.
-fn other_than(alloc: Global, version: Version) -> Result<Ranges<Version>, AllocError>
+fn exclude_version(alloc: Global, version: Version) -> Result<Ranges<Version>, AllocError>
     ensures { IfOk result (λ r. range_of Operator.NotEqual version ≡ Some r) }
 {
     let one = Ranges::singleton(alloc, version)?;
     one.complement(alloc)
 }
 
-// `<`: below the version, or below the mark that is below all of its release.
-pub(crate) fn less(alloc: Global, version: Version) -> Result<Ranges<Version>, AllocError>
+// `<`: below the version, or below the sentinel that is below all of its release.
+pub(crate) fn convert_less(alloc: Global, version: Version) -> Result<Ranges<Version>, AllocError>
     ensures { IfOk result (λ r. r ≡ less version) }
 {
     if version.pre().is_some() || version.dev().is_some() {
@@ -34,7 +34,7 @@ pub(crate) fn less(alloc: Global, version: Version) -> Result<Ranges<Version>, A
 }
 
 // `>`: from the next dev, from the first dev of the next post, or above every post.
-fn greater(alloc: Global, version: Version) -> Result<Ranges<Version>, RangeError>
+fn convert_greater(alloc: Global, version: Version) -> Result<Ranges<Version>, RangeError>
     ensures range { IfOk result (λ r. greater version version.dev version.post ≡ Some r) }
     ensures refused { IsErrOf result RangeError.NumberAtMax → greater version version.dev version.post ≡ None }
 {
@@ -51,7 +51,7 @@ fn greater(alloc: Global, version: Version) -> Result<Ranges<Version>, RangeErro
 }
 
 // The end of `~=`.
-fn compatible_end(alloc: Global, version: &Version) -> Result<Version, RangeError>
+fn raise_compatible(alloc: Global, version: &Version) -> Result<Version, RangeError>
     requires { 2 ≤ length version.now.release }
     ensures end { IfOk result (λ v. compatible_end version.now ≡ Some v) }
     ensures refused { IsErrOf result RangeError.NumberAtMax → compatible_end version.now ≡ None }
@@ -61,12 +61,12 @@ fn compatible_end(alloc: Global, version: &Version) -> Result<Version, RangeErro
     Ok(end.with_dev(alloc, Some(0))?)
 }
 
-fn compatible(alloc: Global, version: Version) -> Result<Ranges<Version>, RangeError>
+fn convert_compatible(alloc: Global, version: Version) -> Result<Ranges<Version>, RangeError>
     requires { 2 ≤ length version.release }
     ensures range { IfOk result (λ r. range_of Operator.TildeEqual version ≡ Some r) }
     ensures refused { IsErrOf result RangeError.NumberAtMax → range_of Operator.TildeEqual version ≡ None }
 {
-    let end = compatible_end(alloc, &version)?;
+    let end = raise_compatible(alloc, &version)?;
     Ok(Ranges::from_range_bounds(alloc, Bound::Included(version), Bound::Excluded(end))?)
 }
 
@@ -91,7 +91,7 @@ fn raise_star(alloc: Global, version: Version) -> Result<Version, RangeError>
     }
 }
 
-fn star(alloc: Global, version: Version) -> Result<Ranges<Version>, RangeError>
+fn convert_star(alloc: Global, version: Version) -> Result<Ranges<Version>, RangeError>
     ensures range { IfOk result (λ r. star version ≡ Some r) }
     ensures refused { IsErrOf result RangeError.NumberAtMax → star version ≡ None }
 {
@@ -102,7 +102,7 @@ fn star(alloc: Global, version: Version) -> Result<Ranges<Version>, RangeError>
 }
 
 // The range, operator by operator.
-pub(crate) fn range_of(
+pub(crate) fn convert(
     alloc: Global,
     operator: Operator,
     version: Version,
@@ -113,15 +113,15 @@ pub(crate) fn range_of(
 {
     match operator {
         Operator::Equal | Operator::ExactEqual => Ok(Ranges::singleton(alloc, version)?),
-        Operator::NotEqual => Ok(other_than(alloc, version)?),
-        Operator::TildeEqual => compatible(alloc, version),
-        Operator::LessThan => Ok(less(alloc, version)?),
+        Operator::NotEqual => Ok(exclude_version(alloc, version)?),
+        Operator::TildeEqual => convert_compatible(alloc, version),
+        Operator::LessThan => Ok(convert_less(alloc, version)?),
         Operator::LessThanEqual => Ok(Ranges::lower_than(alloc, version)?),
-        Operator::GreaterThan => greater(alloc, version),
+        Operator::GreaterThan => convert_greater(alloc, version),
         Operator::GreaterThanEqual => Ok(Ranges::higher_than(alloc, version)?),
-        Operator::EqualStar => star(alloc, version),
+        Operator::EqualStar => convert_star(alloc, version),
         Operator::NotEqualStar => {
-            let inside = star(alloc, version)?;
+            let inside = convert_star(alloc, version)?;
             Ok(inside.complement(alloc)?)
         }
     }
@@ -130,8 +130,8 @@ pub(crate) fn range_of(
 /// The range of a specifier, by the whole order of versions (PEP 440, "Version specifiers" and "Summary of permitted
 /// suffixes and relative ordering").
 ///
-/// Takes memory. Answers `NumberAtMax` where a number that has to be raised is 18446744073709551615, and
-/// `OutOfMemory` where memory is refused.
+/// Allocates. Returns `NumberAtMax` where a number that has to be raised is 18446744073709551615, and `OutOfMemory`
+/// where an allocation fails.
 pub fn specifier_to_range(
     alloc: Global,
     specifier: VersionSpecifier,
@@ -140,13 +140,13 @@ pub fn specifier_to_range(
     ensures refused { IsErrOf result RangeError.NumberAtMax → range_of specifier.operator specifier.version ≡ None }
     // `NumberAtMax` exactly where the number to be raised is the greatest there is, unless memory runs out.
     ensures at_max { TellsMax (raises_max raised_number specifier) result }
-    // Of a version that a text can give beside the operator it holds exactly what the specifier contains, where the two
-    // can be compared.
+    // Where the version is one that a string can have beside the operator, it holds exactly what the specifier
+    // contains, as far as the two can be compared.
     ensures agrees { HasOperand specifier → IfOk result (Agrees IsCandidate specifier) }
     // Whatever the suffixes, the range of `<` holds only what matches, and that of `>` all that matches.
     ensures within { HasOperand specifier → IfOk result (HoldsOnlyMatches specifier) }
     ensures around { HasOperand specifier → IfOk result (HoldsAllMatches specifier) }
 {
     let (operator, version) = specifier.into_parts();
-    range_of(alloc, operator, version)
+    convert(alloc, operator, version)
 }

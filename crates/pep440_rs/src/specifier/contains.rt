@@ -65,30 +65,16 @@ fn is_late(specifier: &Version, version: &Version) -> bool
             || (specifier.is_local() && version.is_local()))
 }
 
-// Whether a specifier of this operator, which is not `===`, contains the candidate.
-fn holds(operator: Operator, specifier: &Version, version: &Version) -> bool
-    requires { operator ≢ Operator.ExactEqual }
-    ensures { result ≡ matches operator specifier.now version.now }
+fn has_same_print(
+    alloc: Global,
+    specifier: &Version,
+    version: &Version,
+) -> Result<bool, AllocError>
+    ensures { IfOk result (λ b. b ≡ matches ExactEqual specifier.now version.now) }
 {
-    match operator {
-        Operator::Equal => cmp_candidate(specifier, version).is_eq(),
-        Operator::NotEqual => cmp_candidate(specifier, version).is_ne(),
-        Operator::EqualStar => has_prefix(specifier, specifier.release(), version),
-        Operator::NotEqualStar => !has_prefix(specifier, specifier.release(), version),
-        Operator::TildeEqual => {
-            has_prefix(specifier, without_last(specifier.release()), version)
-                && cmp_candidate(specifier, version).is_ge()
-        }
-        Operator::LessThan => {
-            cmp_candidate(specifier, version).is_lt() && !is_early(specifier, version)
-        }
-        Operator::LessThanEqual => cmp_candidate(specifier, version).is_le(),
-        Operator::GreaterThan => {
-            cmp_candidate(specifier, version).is_gt() && !is_late(specifier, version)
-        }
-        Operator::GreaterThanEqual => cmp_candidate(specifier, version).is_ge(),
-        Operator::ExactEqual => false,
-    }
+    let wanted = specifier.to_string(alloc)?;
+    let found = version.to_string(alloc)?;
+    Ok(wanted == found)
 }
 
 impl VersionSpecifier {
@@ -103,11 +89,25 @@ impl VersionSpecifier {
         ensures excluded { self.now.operator ≡ NotEqual → IfOk result (λ b. b ≡ not (matches Equal self.now.version version.now)) }
         ensures excluded_star { self.now.operator ≡ NotEqualStar → IfOk result (λ b. b ≡ not (matches EqualStar self.now.version version.now)) }
     {
-        if *self.operator() == Operator::ExactEqual {
-            let wanted = self.version().to_string(alloc)?;
-            let found = version.to_string(alloc)?;
-            return Ok(wanted == found);
-        }
-        Ok(holds(*self.operator(), self.version(), version))
+        let specifier = self.version();
+        Ok(match self.operator() {
+            Operator::Equal => cmp_candidate(specifier, version).is_eq(),
+            Operator::NotEqual => cmp_candidate(specifier, version).is_ne(),
+            Operator::EqualStar => has_prefix(specifier, specifier.release(), version),
+            Operator::NotEqualStar => !has_prefix(specifier, specifier.release(), version),
+            Operator::TildeEqual => {
+                has_prefix(specifier, without_last(specifier.release()), version)
+                    && cmp_candidate(specifier, version).is_ge()
+            }
+            Operator::LessThan => {
+                cmp_candidate(specifier, version).is_lt() && !is_early(specifier, version)
+            }
+            Operator::LessThanEqual => cmp_candidate(specifier, version).is_le(),
+            Operator::GreaterThan => {
+                cmp_candidate(specifier, version).is_gt() && !is_late(specifier, version)
+            }
+            Operator::GreaterThanEqual => cmp_candidate(specifier, version).is_ge(),
+            Operator::ExactEqual => has_same_print(alloc, specifier, version)?,
+        })
     }
 }

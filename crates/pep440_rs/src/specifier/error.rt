@@ -1,4 +1,4 @@
-//! Why a text is no operator or no specifier: kinds, errors and the conversions between them.
+//! Why a string is no operator or no specifier: kinds, errors and the conversions between them.
 ghost use Rattle.std.specs.Prelude.{◌≡◌, option_map, is_none};
 ghost use Rattle.pep440_version.specs.Errors.{pattern_kind_of, pattern_refusal_of};
 ghost use Rattle.pep440_rs.specs.Errors.{operator_kind_of, unknown_of, build_kind_of, build_refusal_of, parse_kind_of, specifier_refusal_of, IsLifted};
@@ -9,15 +9,15 @@ use crate::specifier::operator::Operator;
 use pep440_version::{ErrorKind, PatternErrorKind, Version, VersionPatternParseError};
 use std::alloc::AllocError;
 
-/// Why a text is no operator.
+/// Why a string is no operator.
 #[derive(Debug, PartialEq, Eq, Drop)]
 pub enum OperatorErrorKind {
-    /// The text is none of the eight operators.
+    /// The string is none of the eight operators.
     Unknown {
-        /// The text.
+        /// The string.
         got: String,
     },
-    /// Memory ran out, which says nothing but that the text is no operator.
+    /// Out of memory, which says nothing but that the string is no operator.
     OutOfMemory,
 }
 
@@ -34,7 +34,7 @@ impl Clone for OperatorErrorKind {
     }
 }
 
-/// A text is no operator. Two are equal exactly if they say the same.
+/// A string is no operator. Two are equal exactly if they report the same.
 #[derive(Debug, PartialEq, Eq, Drop)]
 pub struct OperatorParseError {
     kind: OperatorErrorKind,
@@ -107,7 +107,7 @@ impl Clone for BuildErrorKind {
     }
 }
 
-/// An operator and a version are no specifier. Two are equal exactly if they say the same.
+/// An operator and a version are no specifier. Two are equal exactly if they report the same.
 #[derive(Debug, PartialEq, Eq, Drop)]
 pub struct VersionSpecifierBuildError {
     kind: BuildErrorKind,
@@ -140,24 +140,24 @@ impl From<BuildErrorKind> for VersionSpecifierBuildError {
     }
 }
 
-/// Why a text is no specifier (PEP 440, "Version specifiers").
+/// Why a string is no specifier (PEP 440, "Version specifiers").
 ///
-/// Of a text that is no specifier exactly one kind but the last holds.
+/// A string that is no specifier has exactly one of the kinds before the last.
 #[derive(Debug, PartialEq, Eq, Drop)]
 pub enum ParseErrorKind {
-    /// After the blanks there is no character of an operator.
+    /// No operator character follows the white space.
     MissingOperator,
-    /// The characters of an operator are none.
+    /// The operator characters are no operator.
     InvalidOperator(OperatorParseError),
-    /// After the operator and blanks the text ends.
+    /// The string ends after the operator and white space.
     MissingVersion,
-    /// What follows the operator, up to the next blank, is no version pattern.
+    /// What follows the operator, up to the next white space, is no version pattern.
     InvalidVersion(VersionPatternParseError),
     /// The operator and the version are no specifier.
     InvalidSpecifier(VersionSpecifierBuildError),
-    /// The text goes on after the version and blanks: what is left.
+    /// The string goes on after the version and white space: what is left.
     InvalidTrailing(String),
-    /// Memory ran out, which says nothing of the text.
+    /// Out of memory, which says nothing about the string.
     OutOfMemory,
 }
 
@@ -198,7 +198,7 @@ impl From<VersionSpecifierBuildError> for ParseErrorKind {
 }
 
 impl ParseErrorKind {
-    // The refusal of an operator, or out of memory.
+    // The error of the operator, or out of memory.
     pub(crate) fn from_operator_error(error: OperatorParseError) -> ParseErrorKind
         ensures refusal { specifier_refusal_of result ≡ option_map InvalidOperator (unknown_of (operator_kind_of error)) }
         ensures lifted { IsLifted result }
@@ -209,7 +209,7 @@ impl ParseErrorKind {
         }
     }
 
-    // The refusal of a version, or out of memory.
+    // The error of the version, or out of memory.
     pub(crate) fn from_version_error(error: VersionPatternParseError) -> ParseErrorKind
         ensures refusal { specifier_refusal_of result ≡ option_map InvalidVersion (pattern_refusal_of (pattern_kind_of error)) }
         ensures lifted { IsLifted result }
@@ -231,7 +231,7 @@ fn is_out_of_memory(kind: &PatternErrorKind) -> bool
     }
 }
 
-/// A text is no specifier, or memory ran out. Two are equal exactly if they say the same.
+/// A string is no specifier, or memory ran out. Two are equal exactly if they report the same.
 #[derive(Debug, PartialEq, Eq, Drop)]
 pub struct VersionSpecifierParseError {
     kind: ParseErrorKind,

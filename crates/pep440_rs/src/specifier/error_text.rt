@@ -1,12 +1,10 @@
-//! The texts of the errors, the same whatever width and fill are asked for.
-ghost use Rattle.std.specs.Prelude.{◌≡◌, ◌++◌, Some, None, map, codes, if◌then◌else◌};
+//! The messages of the errors, the same whatever width and fill are asked for.
+ghost use Rattle.std.specs.Prelude.{◌≡◌, ◌++◌, Some, map, codes};
 ghost use Rattle.std.specs.Fmt.{DisplaysStyledOnOk, HasWrittenStyled, IsFlush, WritesStyledOnOk};
-ghost use Rattle.std.specs.Char.{is_ascii};
-ghost use Rattle.std.specs.List.{list_all};
 ghost use Rattle.pep440_version.specs.Print.{dotted, segment_print};
 ghost use Rattle.pep440_version.specs.Segments.{segment};
-ghost use Rattle.pep440_rs.specs.Errors.{build_kind_of, build_refusal_of, operator_kind_of, parse_kind_of};
-ghost use Rattle.pep440_rs.specs.ErrorTexts.{build_text, operator_text_of, specifier_text_of, unknown_text};
+ghost use Rattle.pep440_rs.specs.Errors.{build_kind_of, build_refusal_of, operator_kind_of, parse_kind_of, specifier_refusal_of, unknown_of};
+ghost use Rattle.pep440_rs.specs.ErrorTexts.{build_text, operator_error_text, specifier_error_text};
 ghost use Rattle.pep440_rs.specs.Operators.{operator_text};
 
 use crate::specifier::error::{
@@ -41,9 +39,9 @@ impl<W: fmt::Write> fmt::Write for Direct<'_, W> {
     }
 }
 
-// The refusal of a text that is no operator; the text stands in quotes, as in Rust's debug form.
+// Writes that the string is no operator; it stands in quotes, as in Rust's debug form.
 fn write_unknown<W: fmt::Write>(f: &mut fmt::Formatter<W>, got: &str) -> fmt::Result
-    ensures { DisplaysStyledOnOk W.write_str_gives f.old result (if list_all is_ascii got.now then Some (unknown_text got.now) else None) f.new }
+    ensures { DisplaysStyledOnOk W.write_str_gives f.old result (operator_error_text (Some got.now)) f.new }
 {
     let mut direct = Direct { f };
     write!(
@@ -56,7 +54,7 @@ fn write_operator_kind<W: fmt::Write>(
     f: &mut fmt::Formatter<W>,
     kind: &OperatorErrorKind,
 ) -> fmt::Result
-    ensures { DisplaysStyledOnOk W.write_str_gives f.old result (operator_text_of kind.now) f.new }
+    ensures { DisplaysStyledOnOk W.write_str_gives f.old result (operator_error_text (unknown_of kind.now)) f.new }
 {
     match kind {
         OperatorErrorKind::Unknown { got } => write_unknown(f, got.as_str()),
@@ -65,9 +63,9 @@ fn write_operator_kind<W: fmt::Write>(
 }
 
 impl fmt::Display for OperatorParseError {
-    ghost output = { λ e. operator_text_of (operator_kind_of e) };
+    ghost output = { λ e. operator_error_text (unknown_of (operator_kind_of e)) };
 
-    ghost styled_output = { λ e _. operator_text_of (operator_kind_of e) };
+    ghost styled_output = { λ e _. operator_error_text (unknown_of (operator_kind_of e)) };
 
     fn fmt<W: fmt::Write>(&self, f: &mut fmt::Formatter<W>) -> fmt::Result {
         write_operator_kind(f, self.kind())
@@ -88,7 +86,7 @@ fn write_incompatible<W: fmt::Write>(
     f.write_str("`)")
 }
 
-// The refusal of a local part.
+// Writes that the operator allows no local part.
 #[tactic(auto, using(pep440_version::proofs::RoundTrip::Writing::two_writes))]
 fn write_local_combo<W: fmt::Write>(
     f: &mut fmt::Formatter<W>,
@@ -98,7 +96,7 @@ fn write_local_combo<W: fmt::Write>(
     ensures { WritesStyledOnOk W.write_str_gives f.old result (codes "Operator " ++ (operator_text operator ++ (codes " is incompatible with versions containing non-empty local segments (`+" ++ (dotted segment_print (map segment local.now) ++ codes "`)")))) f.new }
 {
     f.write_str("Operator ")?;
-    f.write_str(operator.text())?;
+    f.write_str(operator.as_str())?;
     write_incompatible(f, local)
 }
 
@@ -112,13 +110,13 @@ fn write_build_kind<W: fmt::Write>(f: &mut fmt::Formatter<W>, kind: &BuildErrorK
         BuildErrorKind::OperatorWithStar { operator } => write_three(
             f,
             "Operator ",
-            operator.text(),
+            operator.as_str(),
             " cannot be used with a wildcard version specifier",
         ),
         BuildErrorKind::CompatibleRelease => write_three(
             f,
             "The ",
-            Operator::TildeEqual.text(),
+            Operator::TildeEqual.as_str(),
             " operator requires at least two segments in the release version",
         ),
     }
@@ -136,12 +134,12 @@ impl fmt::Display for VersionSpecifierBuildError {
 
 impl Error for VersionSpecifierBuildError {}
 
-// The text of a refusal; of an inner error its own.
+// Writes why a string is no specifier; of an inner error its own message.
 pub(crate) fn write_parse_kind<W: fmt::Write>(
     f: &mut fmt::Formatter<W>,
     kind: &ParseErrorKind,
 ) -> fmt::Result
-    ensures { DisplaysStyledOnOk W.write_str_gives f.old result (specifier_text_of kind.now) f.new }
+    ensures { DisplaysStyledOnOk W.write_str_gives f.old result (specifier_error_text (specifier_refusal_of kind.now)) f.new }
 {
     match kind {
         ParseErrorKind::MissingOperator => f.write_str(
@@ -164,9 +162,9 @@ pub(crate) fn write_parse_kind<W: fmt::Write>(
 }
 
 impl fmt::Display for VersionSpecifierParseError {
-    ghost output = { λ e. specifier_text_of (parse_kind_of e) };
+    ghost output = { λ e. specifier_error_text (specifier_refusal_of (parse_kind_of e)) };
 
-    ghost styled_output = { λ e _. specifier_text_of (parse_kind_of e) };
+    ghost styled_output = { λ e _. specifier_error_text (specifier_refusal_of (parse_kind_of e)) };
 
     fn fmt<W: fmt::Write>(&self, f: &mut fmt::Formatter<W>) -> fmt::Result {
         write_parse_kind(f, self.kind())

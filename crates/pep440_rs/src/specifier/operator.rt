@@ -1,14 +1,16 @@
-//! The comparison operators.
-ghost use Rattle.std.specs.Prelude.{◌≡◌, Some, Ok, IfOk, IfErr, IfSome, IsOk, refl};
+//! The comparison operators: their order, hash and string form, and the reader.
+ghost use Rattle.std.specs.Prelude.{◌≡◌, ◌≢◌, Some, Ok, IfOk, IfErr, IfSome, refl};
 ghost use Rattle.std.specs.Cmp.{partial_equiv_from_equiv};
 ghost use Rattle.std.specs.Ordering.{as_partial_cmp, eq_by_cmp};
 ghost use Rattle.pep440_rs.specs.Errors.{operator_kind_of, unknown_of};
-ghost use Rattle.pep440_rs.specs.Operators.{Spells, negated, is_star, has_lower_bound, allows_local, operator_rank, operator_cmp, feed_operator, operator_text, given_back};
+ghost use Rattle.pep440_rs.specs.Operators.{Spells, negated, is_star, has_lower_bound, allows_local, operator_rank, operator_cmp, feed_operator, operator_text};
+ghost use Rattle.pep440_rs.specs.declared.specifier.operator.Operator.TheVariants.{Equal, ExactEqual};
 ghost use Rattle.pep440_rs.specs.OperatorLaws.{operator_equiv, operator_po, operator_total, operators_feed_alike};
 
 use crate::specifier::error::{OperatorErrorKind, OperatorParseError};
 use std::alloc::Global;
 use std::cmp::Ordering;
+use std::fmt;
 use std::hash::{Hash, Hasher};
 
 /// A comparison operator (PEP 440, "Version specifiers"). They are ordered as they stand here.
@@ -38,8 +40,8 @@ pub enum Operator {
 }
 
 impl Operator {
-    // The place among the operators.
-    fn place(self) -> u64
+    // The position among the operators.
+    fn rank(self) -> u64
         ensures { result ≡ operator_rank self }
     {
         match self {
@@ -60,7 +62,8 @@ impl Operator {
     /// `===`, which ends at `==`.
     pub fn negate(self) -> Option<Operator>
         ensures table { result ≡ negated self }
-        ensures twice { IfSome result (λ o. negated o ≡ Some (given_back self)) }
+        ensures twice { self ≢ ExactEqual → IfSome result (λ o. negated o ≡ Some self) }
+        ensures exact { self ≡ ExactEqual → IfSome result (λ o. negated o ≡ Some Equal) }
     {
         match self {
             Operator::Equal | Operator::ExactEqual => Some(Operator::NotEqual),
@@ -111,7 +114,7 @@ impl Operator {
     }
 
     // How the operator is written.
-    pub(crate) fn text(self) -> &'static str
+    pub(crate) fn as_str(self) -> &'static str
         ensures { result.now ≡ operator_text self }
     {
         match self {
@@ -126,16 +129,16 @@ impl Operator {
         }
     }
 
-    /// The operator that the text is: one of `~=`, `==`, `!=`, `<=`, `>=`, `<`, `>` and `===`, and never a
-    /// star form. Any other text is refused as `Unknown`.
+    /// The operator that the string is: one of `~=`, `==`, `!=`, `<=`, `>=`, `<`, `>` and `===`, and never a star
+    /// form. Any other string is rejected as `Unknown`.
     ///
     /// Allocates only for `Unknown`, and may then return `OutOfMemory` in its place.
     pub fn from_str(alloc: Global, text: &str) -> Result<Operator, OperatorParseError>
-        // What is answered is written so.
+        // What is returned is written so.
         ensures found { IfOk result (λ o. Spells text.now o) }
-        // What is written so is answered.
+        // What is written so is returned.
         ensures only { (o : Operator) → Spells text.now o → result ≡ Ok o }
-        // A refusal names the text.
+        // The error names the string.
         ensures refused { IfErr result (λ e. IfSome (unknown_of (operator_kind_of e)) (λ got. got ≡ text.now)) }
     {
         match text {
@@ -152,7 +155,7 @@ impl Operator {
     }
 }
 
-// The refusal of a text that is no operator.
+// The error of a string that is no operator.
 fn unknown(alloc: Global, text: &str) -> OperatorParseError
     ensures { IfSome (unknown_of (operator_kind_of result)) (λ got. got ≡ text.now) }
 {
@@ -196,7 +199,7 @@ impl Ord for Operator {
     ghost matches_eq = { λ a b. refl };
 
     fn cmp(&self, other: &Operator) -> Ordering {
-        self.place().cmp(&other.place())
+        self.rank().cmp(&other.rank())
     }
 }
 
@@ -206,6 +209,16 @@ impl Hash for Operator {
     ghost respects_eq = { operators_feed_alike };
 
     fn hash<H: Hasher>(&self, state: &mut H) {
-        state.write_u64(self.place());
+        state.write_u64(self.rank());
+    }
+}
+
+impl fmt::Display for Operator {
+    ghost output = { λ o. Some (operator_text o) };
+
+    ghost styled_output = { λ o _. Some (operator_text o) };
+
+    fn fmt<W: fmt::Write>(&self, f: &mut fmt::Formatter<W>) -> fmt::Result {
+        f.write_str(self.as_str())
     }
 }

@@ -25,8 +25,8 @@ impl Run {
     }
 }
 
-// What follows the longest run at the front.
-fn skip_run(text: &str, run: Run) -> &str
+// What follows the longest run at the front, character by character.
+fn skip_characters(text: &str, run: Run) -> &str
     ensures back { chars result.now ≡ past (passes run) (chars text.now) }
     ensures ends { EndsWith text.now result.now }
 {
@@ -41,7 +41,26 @@ fn skip_run(text: &str, run: Run) -> &str
     rest
 }
 
+// What follows the longest run at the front: byte by byte, up to one that is not ASCII.
+#[inline(always)]
+fn skip_run(text: &str, run: Run) -> &str
+    ensures back { chars result.now ≡ past (passes run) (chars text.now) }
+    ensures ends { EndsWith text.now result.now }
+{
+    let bytes = text.as_bytes();
+    for at in 0..bytes.len() {
+        if !bytes[at].is_ascii() {
+            return skip_characters(&text[at..], run);
+        }
+        if !run.passes(char::from(bytes[at])) {
+            return &text[at..];
+        }
+    }
+    ""
+}
+
 // The longest run at the front, and what follows it.
+#[inline(always)]
 pub(crate) fn split_run(text: &str, run: Run) -> (&str, &str)
     ensures prefix { result.0.now ≡ encode_utf8_all (lead (passes run) (chars text.now)) }
     ensures back { chars result.1.now ≡ past (passes run) (chars text.now) }
@@ -51,9 +70,11 @@ pub(crate) fn split_run(text: &str, run: Run) -> (&str, &str)
     text.split_at(text.len() - rest.len())
 }
 
+// What follows the blanks at the front.
+#[inline(always)]
 pub(crate) fn skip_blanks(text: &str) -> &str
     ensures back { chars result.now ≡ past is_whitespace (chars text.now) }
     ensures bytes { result.now ≡ encode_utf8_all (past is_whitespace (chars text.now)) }
 {
-    split_run(text, Run::Blanks).1
+    skip_run(text, Run::Blanks)
 }

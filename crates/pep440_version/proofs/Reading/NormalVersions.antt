@@ -1,9 +1,9 @@
 -- Few small numbers and one suffix in its normal spelling, read byte by byte.
-use Rattle.std.proofs.Common.{◌≡◌, ◌<◌, ◌≤◌, ◌+◌, ◌*◌, ◌-◌, ◌^◌, ◌&&◌, ℕ, true, List, [], ◌∷◌, ◌++◌, length, drop, take, get_or, set, zero, suc, refl, sym, ap, ◌∙◌, subst, inl, inr, arith, Option, Some, None, codes, nat_le}
+use Rattle.std.proofs.Common.{◌≡◌, ◌<◌, ◌≤◌, ◌+◌, ◌*◌, ◌-◌, ◌^◌, ◌&&◌, ℕ, Bool, true, List, [], ◌∷◌, ◌++◌, length, drop, take, get_or, set, false, zero, suc, refl, sym, ap, ◌∙◌, subst, inl, inr, arith, Option, Some, None, codes, nat_le}
 use Rattle.std.proofs.lemmas.Bool.{cases_lt, le-leb}
 use Rattle.std.proofs.lemmas.Bool.Decides.{nat_tests}
 use Rattle.std.proofs.lemmas.Int.Digits.{digits_value_push}
-use Rattle.std.proofs.lemmas.List.{append_assoc, append-nil, length-drop, length-take-le, take-append-drop, take_more, take_more_set, get_or-take, get_or-set_other, length-set}
+use Rattle.std.proofs.lemmas.List.{append_assoc, append-nil, length-drop, length-take-le, take-append-drop, drop_more, take_more, take_more_set, get_or-take, get_or-set_other, length-set}
 use Rattle.std.proofs.lemmas.List.Folds.{list_all-append}
 use Rattle.std.proofs.lemmas.Str.{digit_value_digit}
 use Rattle.std.proofs.Math.ListN.{get_or-eq_default}
@@ -15,7 +15,7 @@ use Rattle.std.specs.Str.Parse.{digits_value}
 use Rattle.pep440_version.specs.declared.prerelease.Prerelease.{Prerelease}
 use Rattle.pep440_version.specs.declared.prerelease.PrereleaseKind.TheVariants.{Alpha, Beta, Rc}
 use Rattle.pep440_version.specs.Form.{IsWord, packed_record, record_in}
-use Rattle.pep440_version.specs.Grammar.{Derives, IsLeadingV, IsNumber, IsRelease, IsSpelled, IsSpelling, IsPre, IsPost, IsDev, Spellings, IsSeparator, pre_spellings, post_spellings, dev_spellings}
+use Rattle.pep440_version.specs.Grammar.{Derives, IsEpoch, IsLeadingV, IsNumber, IsRelease, IsSpelled, IsSpelling, IsPre, IsPost, IsDev, Spellings, IsSeparator, pre_spellings, post_spellings, dev_spellings, starts}
 use Rattle.pep440_version.specs.Normal.{IsClass, IsKnown, IsPadded, IsSuffix, spelling}
 use Rattle.pep440_version.specs.Record.{from_parts}
 use Rattle.pep440_version.specs.Word.{is_short, word_of}
@@ -69,6 +69,10 @@ number_ends text after rest i n d small end = (
 -- what stands behind a place
 pub rest_of : (i : ℕ) (rest : List ℕ) → take (length rest - i) (drop i rest) ≡ drop i rest
 rest_of i rest = ap (λ n. take n (drop i rest)) (sym (length-drop i rest)) ∙ take-length (drop i rest)
+
+-- and begins with the byte there
+pub starts_at : (p : ℕ → Bool) (i : ℕ) (rest : List ℕ) → i < length rest → p (get_or rest i 0) ≡ false → starts p (take (length rest - i) (drop i rest)) ≡ false
+starts_at p i rest inside h = ap (starts p) (rest_of i rest ∙ drop_more rest i 0 inside) ∙ h
 
 -- ---- a release
 
@@ -170,12 +174,12 @@ packs numbers count class n w p k small short sum =
 
 -- ---- a version
 
-parted : (text v release p q d ns : List ℕ) (pre : Option Prerelease) (post dev : Option ℕ) → text ≡ v ++ (release ++ (p ++ (q ++ (d ++ [])))) → IsLeadingV v
-    → IsRelease release ns → IsPre p (q ++ (d ++ [])) pre → IsPost q (d ++ []) post → IsDev d [] dev → Derives text (from_parts 0 ns pre post dev [])
-parted text v release p q d ns pre post dev decomposition hv hr hp hq hd = record {
+pub with_epoch : (text v e release p q d ns : List ℕ) (epoch : ℕ) (pre : Option Prerelease) (post dev : Option ℕ) → text ≡ v ++ (e ++ (release ++ (p ++ (q ++ (d ++ []))))) → IsLeadingV v
+    → IsEpoch e epoch → IsRelease release ns → IsPre p (q ++ (d ++ [])) pre → IsPost q (d ++ []) post → IsDev d [] dev → Derives text (from_parts epoch ns pre post dev [])
+with_epoch text v e release p q d ns epoch pre post dev decomposition hv he hr hp hq hd = record {
   w1 = [];
   v = v;
-  e = [];
+  e = e;
   n = release;
   p = p;
   q = q;
@@ -185,7 +189,7 @@ parted text v release p q d ns pre post dev decomposition hv hr hp hq hd = recor
   decomposition = decomposition;
   blanks = refl;
   letter = hv;
-  epoch = inl (refl, refl);
+  epoch = he;
   release = hr;
   pre = hp;
   post = hq;
@@ -196,9 +200,13 @@ parted text v release p q d ns pre post dev decomposition hv hr hp hq hd = recor
   no_max = refl;
 }
 
-spelled_so : {A : Type 0} (table : Spellings A) (before word digits : List ℕ) (a : A) (n : ℕ) → IsSeparator before → IsSpelling table word a → IsNumber digits n
-    → IsSpelled table (before ++ (word ++ digits)) [] a n
-spelled_so table before word digits a n hb hw hn = record {
+parted : (text v release p q d ns : List ℕ) (pre : Option Prerelease) (post dev : Option ℕ) → text ≡ v ++ (release ++ (p ++ (q ++ (d ++ [])))) → IsLeadingV v
+    → IsRelease release ns → IsPre p (q ++ (d ++ [])) pre → IsPost q (d ++ []) post → IsDev d [] dev → Derives text (from_parts 0 ns pre post dev [])
+parted text v release p q d ns pre post dev decomposition hv hr hp hq hd = with_epoch text v [] release p q d ns 0 pre post dev decomposition hv (inl (refl, refl)) hr hp hq hd
+
+pub spelled_so : {A : Type 0} (table : Spellings A) (before word digits after : List ℕ) (a : A) (n : ℕ) → IsSeparator before → IsSpelling table word a → IsNumber digits n
+    → starts is_ascii_digit after ≡ false → IsSpelled table (before ++ (word ++ digits)) after a n
+spelled_so table before word digits after a n hb hw hn ended = record {
   before = before;
   word = word;
   between = [];
@@ -208,8 +216,8 @@ spelled_so table before word digits a n hb hw hn = record {
   spelling = hw;
   second = inl refl;
   count = inr hn;
-  keeps_separator = λ _ _. refl;
-  keeps_digits = refl;
+  keeps_separator = λ _ none. absurd (omega (arith, ap length none, hn.0));
+  keeps_digits = ended;
 }
 
 split_of : (text v release rest part : List ℕ) → text ≡ v ++ (release ++ rest) → rest ≡ part → text ≡ v ++ (release ++ (part ++ []))
@@ -221,26 +229,26 @@ of_class text v release rest digits ns class n decomposition hv hr k hn is = eli
   | inl e ↦
       subst (λ c. Derives text (record_in ns c n)) (sym e)
       (parted text v release [] [] (codes ".dev" ++ digits) ns None None (Some n) (split_of text v release rest (codes ".dev" ++ digits) decomposition (is ∙ ap (λ c. spelling c ++ digits) e)) hv hr refl refl
-      (spelled_so dev_spellings (codes ".") (codes "dev") digits tt n (inr (46, refl, refl)) (inl (refl, refl)) hn))
+      (spelled_so dev_spellings (codes ".") (codes "dev") digits [] tt n (inr (46, refl, refl)) (inl (refl, refl)) hn refl))
   | inr k ↦ elim k [
     | inl e ↦
         subst (λ c. Derives text (record_in ns c n)) (sym e)
         (parted text v release (codes "a" ++ digits) [] [] ns (Some (record { kind = Alpha; number = n })) None None (split_of text v release rest (codes "a" ++ digits) decomposition (is ∙ ap (λ c. spelling c ++ digits) e)) hv hr
-        (spelled_so pre_spellings [] (codes "a") digits Alpha n (inl refl) (inr (inl (refl, refl))) hn) refl refl)
+        (spelled_so pre_spellings [] (codes "a") digits [] Alpha n (inl refl) (inr (inl (refl, refl))) hn refl) refl refl)
     | inr k ↦ elim k [
       | inl e ↦
           subst (λ c. Derives text (record_in ns c n)) (sym e)
           (parted text v release (codes "b" ++ digits) [] [] ns (Some (record { kind = Beta; number = n })) None None (split_of text v release rest (codes "b" ++ digits) decomposition (is ∙ ap (λ c. spelling c ++ digits) e)) hv hr
-          (spelled_so pre_spellings [] (codes "b") digits Beta n (inl refl) (inr (inr (inr (inl (refl, refl))))) hn) refl refl)
+          (spelled_so pre_spellings [] (codes "b") digits [] Beta n (inl refl) (inr (inr (inr (inl (refl, refl))))) hn refl) refl refl)
       | inr k ↦ elim k [
         | inl e ↦
             subst (λ c. Derives text (record_in ns c n)) (sym e)
             (parted text v release (codes "rc" ++ digits) [] [] ns (Some (record { kind = Rc; number = n })) None None (split_of text v release rest (codes "rc" ++ digits) decomposition (is ∙ ap (λ c. spelling c ++ digits) e)) hv hr
-            (spelled_so pre_spellings [] (codes "rc") digits Rc n (inl refl) (inr (inr (inr (inr (inl (refl, refl)))))) hn) refl refl)
+            (spelled_so pre_spellings [] (codes "rc") digits [] Rc n (inl refl) (inr (inr (inr (inr (inl (refl, refl)))))) hn refl) refl refl)
         | inr e ↦
             subst (λ c. Derives text (record_in ns c n)) (sym e)
             (parted text v release [] (codes ".post" ++ digits) [] ns None (Some n) None (split_of text v release rest (codes ".post" ++ digits) decomposition (is ∙ ap (λ c. spelling c ++ digits) e)) hv hr refl
-            (inr (spelled_so post_spellings (codes ".") (codes "post") digits tt n (inr (46, refl, refl)) (inl (refl, refl)) hn)) refl)
+            (inr (spelled_so post_spellings (codes ".") (codes "post") digits [] tt n (inr (46, refl, refl)) (inl (refl, refl)) hn refl)) refl)
       ]
     ]
   ]

@@ -2,9 +2,11 @@
 use Rattle.std.proofs.Common.{◌≡◌, ◌==◌, ◌≤◌, ◌<◌, ℕ, ◌+◌, ◌*◌, ◌/◌, ◌^◌, ◌&&◌, ◌||◌, ◌∙◌, ◌⊎◌, inl, inr, refl, sym, subst, ap, arith, List, take, slice_index, Bool, true, false, Option, Some, None, unwrap_or, if◌then◌else◌, nat_le}
 use Rattle.std.proofs.lemmas.Bool.Decides.{nat_tests}
 use Rattle.std.proofs.lemmas.Nat.{div-mul-add}
-use Rattle.pep440_version.specs.declared.packed.Field.{Field}
-use Rattle.pep440_version.specs.declared.packed.Field.TheVariants as field
-use Rattle.pep440_version.specs.Form.{IsWord, class_in, class_of_field, number_in, packed_record, record_in, with_field, word_with, word_with_number}
+use Rattle.pep440_version.specs.declared.packed.Part.{Part}
+use Rattle.pep440_version.specs.declared.packed.Part.TheVariants as part
+use Rattle.pep440_version.specs.declared.prerelease.PrereleaseKind.{PrereleaseKind}
+use Rattle.pep440_version.specs.declared.prerelease.PrereleaseKind.TheVariants as Kind
+use Rattle.pep440_version.specs.Form.{IsWord, class_in, is_class_of_part, number_in, packed_record, record_in, with_part, word_with, word_with_part, word_with_suffix}
 use Rattle.pep440_version.specs.Record.{Record}
 use Rattle.pep440_version.specs.Word.{is_packed, is_short, suffix, word, word_of}
 use Rattle.pep440_version.proofs.Word.Order.{word_at}
@@ -73,59 +75,108 @@ replaced count w numbers s h low =
       is,
     )
 
--- a word of no suffix, or of this class, with another number of the class
-renumbered : (f : Field) (n count w : ℕ) (numbers : List ℕ) → IsWord count w numbers → n ≤ 2097151 → (class_in w ≡ 5) ⊎ (class_in w ≡ class_of_field f)
-    → IsWord count (word_with w (class_of_field f) n) numbers × (packed_record count (word_with w (class_of_field f) n) numbers ≡ with_field f (Some n) (packed_record count w numbers))
-renumbered field.Min n count w numbers h low (inl e) = let r = replaced count w numbers (Min n) h low in (r.0, r.1 ∙ sym (ap (λ c. with_field field.Min (Some n) (record_in (take count numbers) c (number_in w))) e))
-renumbered field.Min n count w numbers h low (inr e) = let r = replaced count w numbers (Min n) h low in (r.0, r.1 ∙ sym (ap (λ c. with_field field.Min (Some n) (record_in (take count numbers) c (number_in w))) e))
-renumbered field.Dev n count w numbers h low (inl e) = let r = replaced count w numbers (Dev n) h low in (r.0, r.1 ∙ sym (ap (λ c. with_field field.Dev (Some n) (record_in (take count numbers) c (number_in w))) e))
-renumbered field.Dev n count w numbers h low (inr e) = let r = replaced count w numbers (Dev n) h low in (r.0, r.1 ∙ sym (ap (λ c. with_field field.Dev (Some n) (record_in (take count numbers) c (number_in w))) e))
-renumbered field.Post n count w numbers h low (inl e) = let r = replaced count w numbers (Post n) h low in (r.0, r.1 ∙ sym (ap (λ c. with_field field.Post (Some n) (record_in (take count numbers) c (number_in w))) e))
-renumbered field.Post n count w numbers h low (inr e) = let r = replaced count w numbers (Post n) h low in (r.0, r.1 ∙ sym (ap (λ c. with_field field.Post (Some n) (record_in (take count numbers) c (number_in w))) e))
-renumbered field.Max n count w numbers h low (inl e) = let r = replaced count w numbers (Max n) h low in (r.0, r.1 ∙ sym (ap (λ c. with_field field.Max (Some n) (record_in (take count numbers) c (number_in w))) e))
-renumbered field.Max n count w numbers h low (inr e) = let r = replaced count w numbers (Max n) h low in (r.0, r.1 ∙ sym (ap (λ c. with_field field.Max (Some n) (record_in (take count numbers) c (number_in w))) e))
-
--- a word of this class, without its suffix
-removed : (f : Field) (count w : ℕ) (numbers : List ℕ) → IsWord count w numbers → class_in w ≡ class_of_field f
-    → IsWord count (word_with w 5 0) numbers × (packed_record count (word_with w 5 0) numbers ≡ with_field f None (packed_record count w numbers))
-removed field.Min count w numbers h e = let r = replaced count w numbers Plain h (omega arith) in (r.0, r.1 ∙ sym (ap (λ c. with_field field.Min None (record_in (take count numbers) c (number_in w))) e))
-removed field.Dev count w numbers h e = let r = replaced count w numbers Plain h (omega arith) in (r.0, r.1 ∙ sym (ap (λ c. with_field field.Dev None (record_in (take count numbers) c (number_in w))) e))
-removed field.Post count w numbers h e = let r = replaced count w numbers Plain h (omega arith) in (r.0, r.1 ∙ sym (ap (λ c. with_field field.Post None (record_in (take count numbers) c (number_in w))) e))
-removed field.Max count w numbers h e = let r = replaced count w numbers Plain h (omega arith) in (r.0, r.1 ∙ sym (ap (λ c. with_field field.Max None (record_in (take count numbers) c (number_in w))) e))
-
--- a field that is not there is not changed by its removal
-absent : (f : Field) (xs : List ℕ) (c m : ℕ) → (c == class_of_field f) ≡ false → record_in xs c m ≡ with_field f None (record_in xs c m)
-absent field.Min xs c m e = ap (λ (b : Bool). with_field field.Min (if b then Some m else None) (record_in xs c m)) e
-absent field.Dev xs c m e = ap (λ (b : Bool). with_field field.Dev (if b then Some m else None) (record_in xs c m)) e
-absent field.Post xs c m e = ap (λ (b : Bool). with_field field.Post (if b then Some m else None) (record_in xs c m)) e
-absent field.Max xs c m e = ap (λ (b : Bool). with_field field.Max (if b then Some m else None) (record_in xs c m)) e
-
-either : (x k : ℕ) → ((x == 5) || (x == k)) ≡ true → (x ≡ 5) ⊎ (x ≡ k)
-either x k e = by (x == 5) refl e
-  where
-    by : (b : Bool) → (x == 5) ≡ b → (b || (x == k)) ≡ true → (x ≡ 5) ⊎ (x ≡ k)
-    by true p q = inl (same x 5 p)
-    by false p q = inr (same x k q)
-
--- the word that a number is set in shows the record with that field set
-abbrev Shows : Field → Option ℕ → ℕ → ℕ → List ℕ → ℕ → Type 0
-Shows f o count w numbers new = IsWord count new numbers × (packed_record count new numbers ≡ with_field f o (packed_record count w numbers))
+-- the word that a part is set in shows the record with that part
+abbrev Shows : Part → ℕ → ℕ → List ℕ → ℕ → Type 0
+Shows p count w numbers new = IsWord count new numbers × (packed_record count new numbers ≡ with_part p (packed_record count w numbers))
 
 is_same : (a b : ℕ) → Some a ≡ Some b → a ≡ b
 is_same a b e = ap (λ (o : Option ℕ). unwrap_or o 0) e
 
-pub number_is_set : (f : Field) (o : Option ℕ) (count w new : ℕ) (numbers : List ℕ) → IsWord count w numbers → Some new ≡ word_with_number w (class_of_field f) o
-    → IsWord count new numbers × (packed_record count new numbers ≡ with_field f o (packed_record count w numbers))
-number_is_set f (Some n) count w new numbers h e = by (nat_le n 2097151 && ((class_in w == 5) || (class_in w == class_of_field f))) refl e
+-- a part that is there, where the record of its suffix is the record with that part
+present : (p : Part) (s : Suffix) (count w new : ℕ) (numbers : List ℕ) → IsWord count w numbers
+    → (((class_in w == 5) || is_class_of_part p (class_in w)) ≡ true → record_of (take count numbers) s ≡ with_part p (packed_record count w numbers))
+    → Some new ≡ word_with_suffix w (is_class_of_part p (class_in w)) (Some (class_of s, number_of s)) → Shows p count w numbers new
+present p s count w new numbers h set e = by (nat_le (number_of s) 2097151 && ((class_in w == 5) || is_class_of_part p (class_in w))) refl e
   where
-    by : (b : Bool) → (nat_le n 2097151 && ((class_in w == 5) || (class_in w == class_of_field f))) ≡ b
-        → Some new ≡ (if b then Some (word_with w (class_of_field f) n) else None) → Shows f (Some n) count w numbers new
-    by true p q =
-        let t = both (nat_le n 2097151) ((class_in w == 5) || (class_in w == class_of_field f)) p in
-        subst (Shows f (Some n) count w numbers) (sym (is_same new (word_with w (class_of_field f) n) q)) (renumbered f n count w numbers h (below n 2097151 t.0) (either (class_in w) (class_of_field f) t.1))
-    by false p q = cc q
-number_is_set f None count w new numbers h e = by (class_in w == class_of_field f) refl e
+    by : (b : Bool) → (nat_le (number_of s) 2097151 && ((class_in w == 5) || is_class_of_part p (class_in w))) ≡ b
+        → Some new ≡ (if b then Some (word_with w (class_of s) (number_of s)) else None) → Shows p count w numbers new
+    by true t q =
+        let both_hold = both (nat_le (number_of s) 2097151) ((class_in w == 5) || is_class_of_part p (class_in w)) t in
+        let r = replaced count w numbers s h (below (number_of s) 2097151 both_hold.0) in
+        subst (Shows p count w numbers) (sym (is_same new (word_with w (class_of s) (number_of s)) q)) (r.0, r.1 ∙ set both_hold.1)
+    by false t q = cc q
+
+-- a part that is not there
+absent : (p : Part) (count w new : ℕ) (numbers : List ℕ) → IsWord count w numbers
+    → (is_class_of_part p (class_in w) ≡ true → record_of (take count numbers) Plain ≡ with_part p (packed_record count w numbers))
+    → (is_class_of_part p (class_in w) ≡ false → packed_record count w numbers ≡ with_part p (packed_record count w numbers))
+    → Some new ≡ word_with_suffix w (is_class_of_part p (class_in w)) None → Shows p count w numbers new
+absent p count w new numbers h removed kept e = by (is_class_of_part p (class_in w)) refl e
   where
-    by : (b : Bool) → (class_in w == class_of_field f) ≡ b → Some new ≡ (if b then Some (word_with w 5 0) else Some w) → Shows f None count w numbers new
-    by true p q = subst (Shows f None count w numbers) (sym (is_same new (word_with w 5 0) q)) (removed f count w numbers h (same (class_in w) (class_of_field f) p))
-    by false p q = subst (Shows f None count w numbers) (sym (is_same new w q)) (h, absent f (take count numbers) (class_in w) (number_in w) p)
+    by : (b : Bool) → is_class_of_part p (class_in w) ≡ b → Some new ≡ (if b then Some (word_with w 5 0) else Some w) → Shows p count w numbers new
+    by true t q =
+        let r = replaced count w numbers Plain h (omega arith) in
+        subst (Shows p count w numbers) (sym (is_same new (word_with w 5 0) q)) (r.0, r.1 ∙ removed t)
+    by false t q = subst (Shows p count w numbers) (sym (is_same new w q)) (h, kept t)
+
+either : (a b : Bool) → (a || b) ≡ true → (a ≡ true) ⊎ (b ≡ true)
+either true b e = inl refl
+either false b e = inr e
+
+neither : (a b : Bool) → (a || b) ≡ false → (a ≡ false) × (b ≡ false)
+neither true b e = cc e
+neither false b e = (refl, e)
+
+-- what holds of a record of class 5 and of one of class k holds of the word's, whose class is one of them
+of_class : (P : ℕ → Type 0) (c k : ℕ) → P 5 → P k → ((c == 5) || (c == k)) ≡ true → P c
+of_class P c k five own t = elim (either (c == 5) (c == k) t) [
+  | inl e ↦ subst P (sym (same c 5 e)) five
+  | inr e ↦ subst P (sym (same c k e)) own
+]
+
+-- the same of the three classes of pre-releases
+of_pre_class : (P : ℕ → Type 0) (c : ℕ) → P 2 → P 3 → P 4 → ((c == 2) || ((c == 3) || (c == 4))) ≡ true → P c
+of_pre_class P c alpha beta rc t = elim (either (c == 2) ((c == 3) || (c == 4)) t) [
+  | inl e ↦ subst P (sym (same c 2 e)) alpha
+  | inr other ↦ elim (either (c == 3) (c == 4) other) [
+    | inl e ↦ subst P (sym (same c 3 e)) beta
+    | inr e ↦ subst P (sym (same c 4 e)) rc
+  ]
+]
+
+of_any_class : (P : ℕ → Type 0) (c : ℕ) → P 5 → P 2 → P 3 → P 4 → ((c == 5) || ((c == 2) || ((c == 3) || (c == 4)))) ≡ true → P c
+of_any_class P c five alpha beta rc t = elim (either (c == 5) ((c == 2) || ((c == 3) || (c == 4))) t) [
+  | inl e ↦ subst P (sym (same c 5 e)) five
+  | inr e ↦ of_pre_class P c alpha beta rc e
+]
+
+pub part_is_set : (p : Part) (count w new : ℕ) (numbers : List ℕ) → IsWord count w numbers → Some new ≡ word_with_part w p
+    → IsWord count new numbers × (packed_record count new numbers ≡ with_part p (packed_record count w numbers))
+part_is_set (part.Min (Some n)) count w new numbers h e = present (part.Min (Some n)) (Min n) count w new numbers h
+    (of_class (λ c. record_of (take count numbers) (Min n) ≡ with_part (part.Min (Some n)) (record_in (take count numbers) c (number_in w))) (class_in w) 0 refl refl) e
+part_is_set (part.Dev (Some n)) count w new numbers h e = present (part.Dev (Some n)) (Dev n) count w new numbers h
+    (of_class (λ c. record_of (take count numbers) (Dev n) ≡ with_part (part.Dev (Some n)) (record_in (take count numbers) c (number_in w))) (class_in w) 1 refl refl) e
+part_is_set (part.Post (Some n)) count w new numbers h e = present (part.Post (Some n)) (Post n) count w new numbers h
+    (of_class (λ c. record_of (take count numbers) (Post n) ≡ with_part (part.Post (Some n)) (record_in (take count numbers) c (number_in w))) (class_in w) 6 refl refl) e
+part_is_set (part.Max (Some n)) count w new numbers h e = present (part.Max (Some n)) (Max n) count w new numbers h
+    (of_class (λ c. record_of (take count numbers) (Max n) ≡ with_part (part.Max (Some n)) (record_in (take count numbers) c (number_in w))) (class_in w) 7 refl refl) e
+part_is_set (part.Pre (Some p)) count w new numbers h e = by_kind p.kind p.number e
+  where
+    by_kind : (k : PrereleaseKind) (n : ℕ) → Some new ≡ word_with_part w (part.Pre (Some (record { kind = k; number = n }))) → Shows (part.Pre (Some (record { kind = k; number = n }))) count w numbers new
+    by_kind Kind.Alpha n e = present (part.Pre (Some (record { kind = Kind.Alpha; number = n }))) (Alpha n) count w new numbers h
+        (of_any_class (λ c. record_of (take count numbers) (Alpha n) ≡ with_part (part.Pre (Some (record { kind = Kind.Alpha; number = n }))) (record_in (take count numbers) c (number_in w))) (class_in w) refl refl refl refl) e
+    by_kind Kind.Beta n e = present (part.Pre (Some (record { kind = Kind.Beta; number = n }))) (Beta n) count w new numbers h
+        (of_any_class (λ c. record_of (take count numbers) (Beta n) ≡ with_part (part.Pre (Some (record { kind = Kind.Beta; number = n }))) (record_in (take count numbers) c (number_in w))) (class_in w) refl refl refl refl) e
+    by_kind Kind.Rc n e = present (part.Pre (Some (record { kind = Kind.Rc; number = n }))) (Rc n) count w new numbers h
+        (of_any_class (λ c. record_of (take count numbers) (Rc n) ≡ with_part (part.Pre (Some (record { kind = Kind.Rc; number = n }))) (record_in (take count numbers) c (number_in w))) (class_in w) refl refl refl refl) e
+part_is_set (part.Min None) count w new numbers h e = absent (part.Min None) count w new numbers h
+    (λ t. ap (λ c. with_part (part.Min None) (record_in (take count numbers) c (number_in w))) (sym (same (class_in w) 0 t)))
+    (λ t. ap (λ (b : Bool). with_part (part.Min (if b then Some (number_in w) else None)) (packed_record count w numbers)) t) e
+part_is_set (part.Dev None) count w new numbers h e = absent (part.Dev None) count w new numbers h
+    (λ t. ap (λ c. with_part (part.Dev None) (record_in (take count numbers) c (number_in w))) (sym (same (class_in w) 1 t)))
+    (λ t. ap (λ (b : Bool). with_part (part.Dev (if b then Some (number_in w) else None)) (packed_record count w numbers)) t) e
+part_is_set (part.Post None) count w new numbers h e = absent (part.Post None) count w new numbers h
+    (λ t. ap (λ c. with_part (part.Post None) (record_in (take count numbers) c (number_in w))) (sym (same (class_in w) 6 t)))
+    (λ t. ap (λ (b : Bool). with_part (part.Post (if b then Some (number_in w) else None)) (packed_record count w numbers)) t) e
+part_is_set (part.Max None) count w new numbers h e = absent (part.Max None) count w new numbers h
+    (λ t. ap (λ c. with_part (part.Max None) (record_in (take count numbers) c (number_in w))) (sym (same (class_in w) 7 t)))
+    (λ t. ap (λ (b : Bool). with_part (part.Max (if b then Some (number_in w) else None)) (packed_record count w numbers)) t) e
+part_is_set (part.Pre None) count w new numbers h e = absent (part.Pre None) count w new numbers h
+    (of_pre_class (λ c. record_of (take count numbers) Plain ≡ with_part (part.Pre None) (record_in (take count numbers) c (number_in w))) (class_in w) refl refl refl) kept e
+  where
+    kept : ((class_in w == 2) || ((class_in w == 3) || (class_in w == 4))) ≡ false → packed_record count w numbers ≡ with_part (part.Pre None) (packed_record count w numbers)
+    kept t =
+        let others = neither (class_in w == 2) ((class_in w == 3) || (class_in w == 4)) t in
+        let last = neither (class_in w == 3) (class_in w == 4) others.1 in
+        λ i. with_part (part.Pre (if others.0 i then Some (record { kind = Kind.Alpha; number = number_in w })
+        else (if last.0 i then Some (record { kind = Kind.Beta; number = number_in w }) else (if last.1 i then Some (record { kind = Kind.Rc; number = number_in w }) else None)))) (packed_record count w numbers)

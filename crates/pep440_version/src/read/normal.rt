@@ -1,7 +1,8 @@
 //! The fast path: what indexes mostly have, the letter `v`, up to four small numbers and one suffix in its normal
 //! spelling, read byte by byte.
-ghost use Rattle.std.specs.Prelude.{◌≡◌, ◌≤◌, ◌++◌, ◌∷◌, ℕ, List, IfSome, take};
-ghost use Rattle.pep440_version.specs.Grammar.{Derives, IsNumber, IsRelease};
+ghost use Rattle.std.specs.Prelude.{◌≡◌, ◌≤◌, ◌++◌, ◌∷◌, ℕ, List, IfSome, false, take};
+ghost use Rattle.std.specs.Char.{is_ascii_digit};
+ghost use Rattle.pep440_version.specs.Grammar.{Derives, IsNumber, IsRelease, starts};
 ghost use Rattle.pep440_version.specs.Normal.{IsClass, IsPadded, IsSuffix, spelling};
 
 use super::skip_v;
@@ -10,8 +11,9 @@ use crate::version::Version;
 
 // The number at the front, where it is small, and what follows it.
 #[inline(always)]
-fn small_number(text: &[u8]) -> Option<(u64, &[u8])>
-    ensures { IfSome result (λ x. (digits : List ℕ) × IsNumber digits x.0 × (x.0 ≤ 2097151) × (text.now ≡ digits ++ x.1.now)) }
+pub(crate) fn parse_small_number(text: &[u8]) -> Option<(u64, &[u8])>
+    ensures number { IfSome result (λ x. (digits : List ℕ) × IsNumber digits x.0 × (x.0 ≤ 2097151) × (text.now ≡ digits ++ x.1.now)) }
+    ensures ended { IfSome result (λ x. starts is_ascii_digit x.1.now ≡ false) }
 {
     let (first, rest) = text.split_first()?;
     if !first.is_ascii_digit() {
@@ -32,24 +34,24 @@ fn small_number(text: &[u8]) -> Option<(u64, &[u8])>
 
 // The small number after a dot, and what follows it.
 #[inline(always)]
-fn next_number(text: &[u8]) -> Option<(u64, &[u8])>
+fn parse_next_number(text: &[u8]) -> Option<(u64, &[u8])>
     ensures { IfSome result (λ x. (digits : List ℕ) × IsNumber digits x.0 × (x.0 ≤ 2097151) × (text.now ≡ 46 ∷ (digits ++ x.1.now))) }
 {
     match text {
-        [b'.', rest @ ..] => small_number(rest),
+        [b'.', rest @ ..] => parse_small_number(rest),
         _ => None,
     }
 }
 
 // Up to four small numbers with dots between them, how many there are, and what follows them.
 #[inline(always)]
-fn small_release(text: &[u8]) -> Option<([u64; 4], usize, &[u8])>
+pub(crate) fn parse_small_release(text: &[u8]) -> Option<([u64; 4], usize, &[u8])>
     ensures { IfSome result (λ x. IsPadded x.1 x.0 × ((release : List ℕ) × IsRelease release (take x.1 x.0) × (text.now ≡ release ++ x.2.now))) }
 {
-    let (first, mut rest) = small_number(text)?;
+    let (first, mut rest) = parse_small_number(text)?;
     let mut numbers = [first, 0, 0, 0];
     for count in 1..4 {
-        let Some((number, after)) = next_number(rest) else {
+        let Some((number, after)) = parse_next_number(rest) else {
             return Some((numbers, count, rest));
         };
         numbers[count] = number;
@@ -60,7 +62,7 @@ fn small_release(text: &[u8]) -> Option<([u64; 4], usize, &[u8])>
 
 // The class of the suffix whose normal spelling stands at the front, and what follows the spelling.
 #[inline(always)]
-fn spelled_class(text: &[u8]) -> Option<(u64, &[u8])>
+pub(crate) fn parse_class(text: &[u8]) -> Option<(u64, &[u8])>
     ensures { IfSome result (λ x. IsClass x.0 × (text.now ≡ spelling x.0 ++ x.1.now)) }
 {
     match text {
@@ -75,14 +77,14 @@ fn spelled_class(text: &[u8]) -> Option<(u64, &[u8])>
 
 // The class and the number of the one normal suffix that the text is.
 #[inline(always)]
-fn normal_suffix(text: &[u8]) -> Option<(u64, u64)>
+fn parse_normal_suffix(text: &[u8]) -> Option<(u64, u64)>
     ensures { IfSome result (λ s. IsSuffix text.now s.0 s.1 × (s.1 ≤ 2097151)) }
 {
     if text.is_empty() {
         return Some((NONE, 0));
     }
-    let (class, digits) = spelled_class(text)?;
-    let (number, rest) = small_number(digits)?;
+    let (class, digits) = parse_class(text)?;
+    let (number, rest) = parse_small_number(digits)?;
     if rest.is_empty() {
         Some((class, number))
     } else {
@@ -92,11 +94,11 @@ fn normal_suffix(text: &[u8]) -> Option<(u64, u64)>
 
 // What the text parses to, where it is of this form; None says nothing.
 #[inline(always)]
-pub(crate) fn normal_version(text: &str) -> Option<Version>
+pub(crate) fn parse_normal_version(text: &str) -> Option<Version>
     ensures { IfSome result (λ v. Derives text.now v) }
 {
-    let (numbers, count, rest) = small_release(skip_v(text).as_bytes())?;
-    let (class, number) = normal_suffix(rest)?;
+    let (numbers, count, rest) = parse_small_release(skip_v(text).as_bytes())?;
+    let (class, number) = parse_normal_suffix(rest)?;
     let packed = Packed::of_suffix(numbers, count, class, number)?;
     Some(Version::from_packed(packed))
 }

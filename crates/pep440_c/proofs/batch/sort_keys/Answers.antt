@@ -2,7 +2,7 @@ use Rattle.pep440_c.proofs.Placed.{keys_more, stops_at}
 use Rattle.pep440_c.proofs.batch.sort_keys.Goals as goal
 
 pub returns-in-Err : goal.returns-in-Err
-returns-in-Err c = stops_at c.args.texts.now c.loop-position.position _ c.in-Err.fault c.at.result c.loop-position.invariant.0 c.loop-position-test.true c.at.ensures c.in-Err.ensures c.loop-position.invariant.1
+returns-in-Err c = stops_at c.args.texts.now c.loop-position.position _ c.in-Err.fault c.from_fault.result c.loop-position.invariant.0 c.loop-position-test.true c.from_fault.ensures c.in-Err.ensures c.loop-position.invariant.1
 
 pub loop-position-preserved : goal.loop-position-preserved
 loop-position-preserved c = keys_more c.args.texts.now c.loop-position.position _ c.loop-position.keys.bytes.items c.push.new.self.bytes.items c.loop-position.keys.ends.items c.push.new.self.ends.items

@@ -38,12 +38,12 @@ returns-in_err-specifiers-clause-decided c = λ f h.
 
 pub returns-clause-found : goal.returns-clause-found
 returns-clause-found c =
-    list_ok_found c.args.text.now (prefix_of c.in_ok-parts.parts) c.in_ok-parts.ensures.value (needed (record { name = c.in_ok-name.name; extras = c.in_ok-parts.parts.extras; specifiers = c.in_ok-specifiers.specifiers })) c.in_ok-name.ensures.ok refl c.in_ok-specifiers.ensures.found
+    list_ok_found c.args.text.now (prefix_of c.in_ok-parts.parts) c.in_ok-parts.ensures.value (needed (record { name = c.in_ok-name.name; extras = c.in_ok-extras.extras; specifiers = c.in_ok-specifiers.specifiers })) c.in_ok-name.ensures.ok c.in_ok-extras.ensures c.in_ok-specifiers.ensures.found
 
 pub returns-clause-only : goal.returns-clause-only
 returns-clause-only c =
-    list_ok_only c.args.text.now (prefix_of c.in_ok-parts.parts) c.in_ok-parts.ensures.value (needed (record { name = c.in_ok-name.name; extras = c.in_ok-parts.parts.extras; specifiers = c.in_ok-specifiers.specifiers })) c.in_ok-name.ensures.ok refl c.in_ok-specifiers.ensures.only
+    list_ok_only c.args.text.now (prefix_of c.in_ok-parts.parts) c.in_ok-parts.ensures.value (needed (record { name = c.in_ok-name.name; extras = c.in_ok-extras.extras; specifiers = c.in_ok-specifiers.specifiers })) c.in_ok-name.ensures.ok c.in_ok-extras.ensures c.in_ok-specifiers.ensures.only
 
 pub returns-clause-decided : goal.returns-clause-decided
 returns-clause-decided c =
-    list_ok_decided c.args.text.now (prefix_of c.in_ok-parts.parts) c.in_ok-parts.ensures.value (needed (record { name = c.in_ok-name.name; extras = c.in_ok-parts.parts.extras; specifiers = c.in_ok-specifiers.specifiers })) c.in_ok-name.ensures.ok refl c.in_ok-specifiers.ensures.decided
+    list_ok_decided c.args.text.now (prefix_of c.in_ok-parts.parts) c.in_ok-parts.ensures.value (needed (record { name = c.in_ok-name.name; extras = c.in_ok-extras.extras; specifiers = c.in_ok-specifiers.specifiers })) c.in_ok-name.ensures.ok c.in_ok-extras.ensures c.in_ok-specifiers.ensures.decided

@@ -21,7 +21,7 @@ returns-then-same_name-clause-found c =
     let n : Needed = (record { name = (prefix_of c.in_ok-parts.parts).name; extras = (prefix_of c.in_ok-parts.parts).extras; specifiers = c.in_ok-specifiers.specifiers }) in
     (n, list_ok_found c.args.text.now (prefix_of c.in_ok-parts.parts) c.in_ok-parts.ensures.value n refl refl c.in_ok-specifiers.ensures.found, of_name n c.args.name.now true (sym c.same_name.ensures ∙ c.if-same_name.true))
 
-pub returns-clause-found : goal.returns-clause-found
-returns-clause-found c =
+pub returns-else-same_name-clause-found : goal.returns-else-same_name-clause-found
+returns-else-same_name-clause-found c =
     let n : Needed = (record { name = (prefix_of c.in_ok-parts.parts).name; extras = (prefix_of c.in_ok-parts.parts).extras; specifiers = c.in_ok-specifiers.specifiers }) in
     (n, list_ok_found c.args.text.now (prefix_of c.in_ok-parts.parts) c.in_ok-parts.ensures.value n refl refl c.in_ok-specifiers.ensures.found, of_name n c.args.name.now false (sym c.same_name.ensures ∙ c.if-same_name.false))

@@ -1,6 +1,7 @@
 use Rattle.std.proofs.Common.{◌≡◌, drop}
 use Rattle.std.specs.Prelude.{IsTrue}
-use Rattle.pep440_rs.specs.Matching.{is_told_before_exact, list_matches}
+use Rattle.pep440_rs.specs.Matching.{list_matches}
+use Rattle.pep440_rs.proofs.Arranging.InOrder.{is_told_before_exact}
 use Rattle.pep440_rs.proofs.list.VersionSpecifiers.contains.Given as goal
 
 abbrev pub invariant-loop-member : goal.invariant-loop-member

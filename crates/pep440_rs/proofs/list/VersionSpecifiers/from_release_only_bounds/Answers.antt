@@ -23,7 +23,7 @@ holds_only pairs given members made (Ok list) arranged = λ ordered known. conta
 holds_only pairs given members made (Err e) arranged = tt
 
 pub returns-clause-within : goal.returns-clause-within
-returns-clause-within c = holds c.args.pairs.now c.requires _ c.in_ok-members_of.ensures c.from_specifiers.result c.from_specifiers.ensures.value
+returns-clause-within c = holds c.args.pairs.now c.requires _ c.in_ok-convert_pairs.ensures c.from_specifiers.result c.from_specifiers.ensures.value
 
 pub returns-clause-only : goal.returns-clause-only
-returns-clause-only c = holds_only c.args.pairs.now c.requires _ c.in_ok-members_of.ensures c.from_specifiers.result c.from_specifiers.ensures.value
+returns-clause-only c = holds_only c.args.pairs.now c.requires _ c.in_ok-convert_pairs.ensures c.from_specifiers.result c.from_specifiers.ensures.value

@@ -7,9 +7,9 @@ use denote.Shadow.{shadow}
 use denote.Text.{Utf8}
 use Rattle.pep440_rs.proofs.list.read.members.Given as goal
 
-abbrev pub invariant-loop-prefix : goal.invariant-loop-prefix
-invariant-loop-prefix l = shadow (Utf8 l.rest) × EndsWith l.text l.rest
+abbrev pub invariant-loop-members : goal.invariant-loop-members
+invariant-loop-members l = shadow (Utf8 l.rest) × EndsWith l.text l.rest
     × (read_pieces 0 (pieces l.text) ≡ with_members l.members.items (read_pieces (length l.text - length l.rest) (pieces l.rest)))
 
-abbrev pub decreases-loop-prefix : goal.decreases-loop-prefix
-decreases-loop-prefix l = length l.rest
+abbrev pub decreases-loop-members : goal.decreases-loop-members
+decreases-loop-members l = length l.rest

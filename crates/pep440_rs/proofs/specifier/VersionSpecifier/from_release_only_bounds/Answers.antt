@@ -15,4 +15,4 @@ agreed p given (Ok m) made = λ v only. ap (λ l. list_matches l v) made ∙ pai
 agreed p given (Err e) made = tt
 
 pub returns-clause-agrees : goal.returns-clause-agrees
-returns-clause-agrees c = agreed (c.args.bounds.0.now, c.args.bounds.1.now) (c.requires.start, c.requires.end) c.pair_members.result c.pair_members.ensures
+returns-clause-agrees c = agreed (c.args.bounds.0.now, c.args.bounds.1.now) (c.requires.start, c.requires.end) c.convert_pair.result c.convert_pair.ensures

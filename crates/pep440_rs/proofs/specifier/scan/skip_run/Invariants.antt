@@ -1,9 +1,11 @@
-use Rattle.std.proofs.Common.{◌≡◌}
-use Rattle.std.specs.Str.{IsUtf8, chars}
-use Rattle.std.specs.Str.Iter.{chars_rest}
-use Rattle.pep440_version.specs.Reading.{EndsWith, past}
+use Rattle.std.proofs.Common.{◌≡◌, drop}
+use Rattle.std.specs.Str.{IsCharBoundary, chars}
+use Rattle.pep440_version.specs.Reading.{past}
 use Rattle.pep440_rs.specs.SpecifierReading.{passes}
 use Rattle.pep440_rs.proofs.specifier.scan.skip_run.Given as goal
 
-abbrev pub invariant-loop-c : goal.invariant-loop-c
-invariant-loop-c l = (chars_rest l.characters ≡ l.rest) × IsUtf8 l.rest × EndsWith l.text l.rest × (past (passes l.run) (chars l.text) ≡ past (passes l.run) (chars l.rest))
+abbrev pub invariant-loop-at : goal.invariant-loop-at
+invariant-loop-at l = record {
+  boundary : IsCharBoundary l.text l.at;
+  passed : past (passes l.run) (chars l.text) ≡ past (passes l.run) (chars (drop l.at l.text));
+}

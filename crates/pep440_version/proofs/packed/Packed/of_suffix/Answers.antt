@@ -8,6 +8,6 @@ returns-then-not-are_small-clause-none c = short_is c.args.numbers c.args.count 
 
 pub returns-clause-some : goal.returns-clause-some
 returns-clause-some c =
-    let sum : c.word_of.result ≡ word_of c.args.numbers (c.args.class, c.args.number) = omega arith in
+    let sum : c.pack_word.result ≡ word_of c.args.numbers (c.args.class, c.args.number) = omega arith in
     let short = short_is c.args.numbers c.args.count c.requires.pad_with_zeros ∙ sym c.are_small.ensures ∙ c.if-not-are_small.false in
-    packs c.args.numbers c.args.count c.args.class c.args.number c.word_of.result c.requires.pad_with_zeros c.requires.known c.requires.small short sum
+    packs c.args.numbers c.args.count c.args.class c.args.number c.pack_word.result c.requires.pad_with_zeros c.requires.known c.requires.small short sum

@@ -1,0 +1,86 @@
+"""Runs a program with these modules in place of `packaging.version` and `packaging.specifiers`.
+
+    python -m pep440_rattle.swap PROGRAM WORD..        a script by its path, or one of those that the interpreter's environment has
+    python -m pep440_rattle.swap -m MODULE WORD..      a module
+
+Copies that a package carries along are replaced too: those of pip, of setuptools, and every other `packaging` below a folder `_vendor` or
+`extern`. The other modules of `packaging` stay what they are, and so do all of a release before 22, which has other classes besides. A file `sitecustomize.py` with the line
+`import pep440_rattle.swap; pep440_rattle.swap.swap()` does so for each program of an environment.
+"""
+from __future__ import annotations
+
+import importlib.abc
+import importlib.machinery
+import os
+import re
+import runpy
+import shutil
+import sys
+import sysconfig
+import types
+from collections.abc import Sequence
+
+from . import specifiers, version
+
+__all__ = ["swap"]
+
+_OURS = {"version": version, "specifiers": specifiers}
+_REPLACED = re.compile(r"(?:.*\.(?:_vendor|extern)\.)?packaging\.(version|specifiers)")
+
+
+def _is_old(package: str) -> bool:
+    """Whether it is a release of `packaging` that knows versions beyond PEP 440."""
+    return int(getattr(sys.modules[package], "__version__", "22").partition(".")[0]) < 22
+
+
+class _Finder(importlib.abc.MetaPathFinder, importlib.abc.Loader):
+    """Finds these modules under the replaced names."""
+
+    def find_spec(
+        self, name: str, path: Sequence[str] | None, target: types.ModuleType | None = None
+    ) -> importlib.machinery.ModuleSpec | None:
+        return importlib.machinery.ModuleSpec(name, self) if _REPLACED.fullmatch(name) and not _is_old(name.rpartition(".")[0]) else None
+
+    def exec_module(self, module: types.ModuleType) -> None:
+        # the import system takes what stands here by then
+        sys.modules[module.__name__] = _OURS[module.__name__.rpartition(".")[2]]
+
+
+def swap() -> None:
+    """From now on each import of `packaging.version` or `packaging.specifiers` gives these modules. It may be called again.
+
+    Raises `RuntimeError` where one of them was imported before: who did so has other classes by now.
+    """
+    if any(isinstance(each, _Finder) for each in sys.meta_path):
+        return
+    before = [name for name in sys.modules if _REPLACED.fullmatch(name)]
+    if before:
+        raise RuntimeError(f"imported before the swap: {', '.join(before)}")
+    sys.meta_path.insert(0, _Finder())
+
+
+def _path_of(program: str) -> str:
+    beside = os.path.join(sysconfig.get_path("scripts"), program)
+    if os.sep not in program and not os.path.exists(program):
+        return beside if os.path.exists(beside) else shutil.which(program) or program
+    return program
+
+
+def _main() -> None:
+    words = sys.argv[1:]
+    if not words or words == ["-m"]:
+        sys.exit("usage: python -m pep440_rattle.swap [-m] PROGRAM WORD..")
+    swap()
+    if words[0] == "-m":
+        sys.argv = words[1:]
+        sys.path[0] = os.getcwd()
+        runpy.run_module(words[1], run_name="__main__", alter_sys=True)
+    else:
+        sys.argv = words
+        program = _path_of(words[0])
+        sys.path[0] = os.path.dirname(os.path.abspath(program))
+        runpy.run_path(program, run_name="__main__")
+
+
+if __name__ == "__main__":
+    _main()

@@ -1,0 +1,177 @@
+"""Classes of a user's own over these, as programs that use `packaging` have them, and what looks at the classes themselves."""
+import copy
+import inspect
+import pickle
+import subprocess
+import sys
+import unittest
+
+import pep440_rattle
+from pep440_rattle import InvalidVersion, Specifier, SpecifierSet, Version
+from pep440_rattle.specifiers import BaseSpecifier
+from pep440_rattle.version import _cmpkey, _parse_letter_version, _TrimmedRelease
+
+
+class AsWritten(Version):
+    """Prints what it was made of, as setuptools_scm has one."""
+
+    def __init__(self, version):
+        super().__init__(version)
+        self.written = version
+
+    def __str__(self):
+        return self.written
+
+
+class Cleaned(Version):
+    """Cleans its string first, and takes a second argument."""
+
+    def __init__(self, text, note=None):
+        super().__init__(text.removeprefix("release-"))
+        self.note = note
+
+
+class Short(Version):
+    @property
+    def release(self):
+        return super().release[:2]
+
+
+class Equal(Specifier):
+    """Any local version is equal."""
+
+    def _compare_equal(self, prospective, spec):
+        return prospective.public == spec
+
+
+class AnyOf(BaseSpecifier):
+    """A specifier of a user's own."""
+
+    prereleases = None
+
+    def __init__(self, *texts):
+        self.texts = texts
+
+    def __str__(self):
+        return "|".join(self.texts)
+
+    def __hash__(self):
+        return hash(self.texts)
+
+    def __eq__(self, other):
+        return self.texts == other.texts
+
+    def contains(self, item, prereleases=None):
+        return str(item) in self.texts
+
+    def filter(self, iterable, prereleases=None):
+        return (it for it in iterable if self.contains(it))
+
+
+class Versions(unittest.TestCase):
+    def test_parts_of_one_that_prints_itself(self):
+        version = AsWritten("1.0.0-RC1+Ubuntu-01")
+        self.assertEqual((version.local, version.pre, str(version)), ("ubuntu.1", ("rc", 1), "1.0.0-RC1+Ubuntu-01"))
+        self.assertEqual(repr(version), "<Version('1.0.0-RC1+Ubuntu-01')>")
+
+    def test_one_that_cleans_its_string(self):
+        version = Cleaned("release-1.0", note="mine")
+        self.assertEqual((version, version.note), (Version("1.0"), "mine"))
+        for again in (copy.copy(version), copy.deepcopy(version), pickle.loads(pickle.dumps(version))):
+            self.assertEqual((type(again), again, again.note), (Cleaned, version, "mine"))
+
+    def test_one_with_a_release_of_its_own(self):
+        version = Short("1!2.3.4rc1+u")
+        self.assertEqual((str(version), version.public, version.base_version), ("1!2.3rc1+u", "1!2.3rc1", "1!2.3"))
+        self.assertEqual(version, Version("1!2.3.4rc1+u"))
+        for text, wanted in {"1.0.0": "1", "0.0": "0", "1!1.0.10.0.post1.dev2": "1!1.0.10.post1.dev2"}.items():
+            self.assertEqual(str(_TrimmedRelease(text)), wanted)
+
+    def test_init_again(self):
+        version = Version("1.0")
+        self.assertEqual(version.release, (1, 0))
+        version.__init__("2.0rc1")
+        self.assertEqual((str(version), version.release, version == Version("2.0rc1")), ("2.0rc1", (2, 0), True))
+        with self.assertRaises(InvalidVersion):
+            version.__init__("x")
+        self.assertEqual(str(version), "2.0rc1")
+
+    def test_without_init(self):
+        version = Version.__new__(Version)
+        for call in (str, hash, lambda it: it.release, lambda it: it < Version("1"), lambda it: Version("1") < it, lambda it: it.sort_key, Version("1").__eq__):
+            with self.assertRaises(AttributeError):
+                call(version)
+        with self.assertRaises(AttributeError):
+            SpecifierSet(">=1").contains(version)
+
+    def test_parts_that_a_tool_sets(self):
+        # hatchling raises a version so
+        version = Version("1!1.2.3rc1.dev4+u.1")
+        parts = version._version
+        version._version = type(parts)(parts.epoch, (1, 3, 0), None, None, ("post", 2), ("x", 1))
+        self.assertEqual((str(version), version), ("1!1.3.0.post2+x.1", Version("1!1.3.0.post2+x.1")))
+        self.assertEqual(_parse_letter_version("Preview", None), ("rc", 0))
+        self.assertEqual((_parse_letter_version(None, "3"), _parse_letter_version(None, None)), (("post", 3), None))
+        parts = Version("1.0a1+u")._version
+        self.assertEqual(_cmpkey(parts.epoch, parts.release, parts.pre, parts.post, parts.dev, parts.local), Version("1.0a1+u").sort_key)
+
+    def test_signatures(self):
+        self.assertEqual(str(inspect.signature(Version)), "(version)")
+        self.assertEqual(list(inspect.signature(SpecifierSet).parameters), ["specifiers", "prereleases"])
+
+
+class Specifiers(unittest.TestCase):
+    def test_a_comparison_of_its_own(self):
+        mine = Equal("==1.0")
+        self.assertTrue(mine.contains("1.0+u"))
+        self.assertEqual(list(mine.filter(["1.0+u", "1.1"])), ["1.0+u"])
+        several = SpecifierSet([mine, Specifier("<2")])
+        self.assertTrue("1.0+u" in several and "1.0.post1" not in several)
+        self.assertEqual(list(several.filter(["1.0+u", "1.1", "2.0"])), ["1.0+u"])
+
+    def test_one_of_its_own(self):
+        mine = AnyOf("1.0", "2.0")
+        self.assertTrue(repr(mine).startswith("<test_subclasses.AnyOf object"))
+        self.assertTrue(mine.contains("1.0"))
+        with self.assertRaises(TypeError):
+            BaseSpecifier()
+
+    def test_a_name_of_its_own(self):
+        class Named(Specifier):
+            pass
+
+        self.assertEqual(repr(Named(">=1.0")), "<Named('>=1.0')>")
+        self.assertTrue(Named(">=1.0").contains("1.0"))
+
+
+class Interpreters(unittest.TestCase):
+    def fails(self, program):
+        ran = subprocess.run([sys.executable, "-c", program], capture_output=True, text=True, check=False)
+        self.assertEqual(ran.returncode, 1, ran.stderr)
+        return ran.stderr
+
+    @unittest.skipUnless(sys.version_info[:2] in ((3, 10), (3, 11), (3, 12)), "a second interpreter by _xxsubinterpreters")
+    def test_a_second_interpreter(self):
+        said = self.fails("import sys, _xxsubinterpreters as it; it.run_string(it.create(), f'import sys; sys.path[:] = {sys.path!r}; import pep440_rattle')")
+        self.assertIn("pep440_rattle can be imported in the main interpreter alone", said)
+        both = "import pep440_rattle, sys, _xxsubinterpreters as it; it.run_string(it.create(), f'import sys; sys.path[:] = {sys.path!r}; import pep440_rattle')"
+        self.assertIn("pep440_rattle can be imported in the main interpreter alone", self.fails(both))
+
+    def test_without_the_global_lock(self):
+        self.assertIn("needs a Python with its global lock", self.fails("import sys; sys.abiflags = 't'; import pep440_rattle"))
+
+    def test_imported_anew(self):
+        again = "import sys, pep440_rattle as it; one = it.Version('1'); [sys.modules.pop(each) for each in list(sys.modules) if each.startswith('pep440')]"
+        subprocess.run([sys.executable, "-c", again + "; import pep440_rattle; assert pep440_rattle.Version('1') == one"], check=True)
+
+
+class Names(unittest.TestCase):
+    def test_public_names(self):
+        for module in (pep440_rattle.version, pep440_rattle.specifiers):
+            own = {name for name, it in vars(module).items() if getattr(it, "__module__", "").startswith("pep440_rattle") and name[0] != "_"}
+            self.assertLessEqual(own, {*module.__all__, "Version", "UnparsedVersionVar"}, module)
+        self.assertEqual(pep440_rattle.behaves_like, "24.2")
+
+
+if __name__ == "__main__":
+    unittest.main()

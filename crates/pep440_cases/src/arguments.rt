@@ -1,0 +1,74 @@
+//! Versions as arguments: a version, and the changes that are made to it, each behind a `~`, as `1.0~min=0`.
+use crate::error::CaseError;
+use pep440_change_words::{ChangeWordError, parse_change};
+use pep440_version::{Change, ErrorKind, Version};
+use std::alloc::Global;
+
+/// The version, which has no changes.
+pub fn parse_version(alloc: Global, text: &str) -> Result<Version, CaseError> {
+    Version::from_str(alloc, text).map_err(|error| {
+        if *error.kind() == ErrorKind::OutOfMemory {
+            CaseError::OutOfMemory
+        } else {
+            CaseError::Unreadable
+        }
+    })
+}
+
+/// The change that the word asks for.
+pub fn change_argument(alloc: Global, word: &str) -> Result<Change, CaseError> {
+    parse_change(alloc, word).map_err(|error| match error {
+        ChangeWordError::NotAChange => CaseError::Unreadable,
+        ChangeWordError::OutOfMemory => CaseError::OutOfMemory,
+    })
+}
+
+// The version, changed by the setter of the change's name.
+fn set(alloc: Global, version: Version, change: Change) -> Result<Version, CaseError> {
+    Ok(match change {
+        Change::Release(numbers) => {
+            if numbers.is_empty() {
+                return Err(CaseError::Unreadable);
+            }
+            version.with_release(alloc, numbers.as_slice())?
+        }
+        Change::Epoch(epoch) => version.with_epoch(alloc, epoch)?,
+        Change::Pre(pre) => version.with_pre(alloc, pre)?,
+        Change::Post(post) => version.with_post(alloc, post)?,
+        Change::Dev(dev) => version.with_dev(alloc, dev)?,
+        Change::Local(local) => version.with_local(alloc, local)?,
+        Change::WithoutLocal => version.without_local(alloc)?,
+        Change::OnlyRelease => version.only_release(alloc)?,
+        Change::Min(min) => {
+            if version.pre().is_some() || version.dev().is_some() {
+                return Err(CaseError::Unreadable);
+            }
+            version.with_min(alloc, min)?
+        }
+        Change::Max(max) => {
+            if version.post().is_some() || version.dev().is_some() {
+                return Err(CaseError::Unreadable);
+            }
+            version.with_max(alloc, max)?
+        }
+    })
+}
+
+/// The version with its changes.
+pub fn version_argument(alloc: Global, text: &str) -> Result<Version, CaseError> {
+    let mut words = text.split('~');
+    let mut version = parse_version(alloc, words.next().unwrap_or(""))?;
+    for word in words {
+        version = set(alloc, version, change_argument(alloc, word)?)?;
+    }
+    Ok(version)
+}
+
+/// The versions.
+pub fn version_arguments(alloc: Global, texts: &[String]) -> Result<Vec<Version>, CaseError> {
+    let mut versions = Vec::new(alloc);
+    for text in texts {
+        versions.push(version_argument(alloc, text.as_str())?)?;
+    }
+    Ok(versions)
+}

@@ -1,0 +1,49 @@
+//! The fields of a line, with their escapes: `\n`, `\r`, `\t`, `\e` for nothing, and `\u{a0}` for the character of that number.
+use crate::error::CaseError;
+use std::alloc::Global;
+
+// The character of `{a0}` at the beginning, and what follows.
+fn numbered(text: &str) -> Option<(char, &str)> {
+    let (digits, rest) = text.strip_prefix('{')?.split_once('}')?;
+    let number = u32::from_str_radix(digits, 16).ok()?;
+    Some((char::from_u32(number)?, rest))
+}
+
+// Appends what stands behind a backslash.
+fn push_escaped(text: &mut String, escaped: &str) -> Result<(), CaseError> {
+    let Some((name, rest)) = escaped.split_at_checked(1) else {
+        return Err(CaseError::Unreadable);
+    };
+    let (character, rest) = match name {
+        "e" => return Ok(text.push_str(rest)?),
+        "n" => ('\n', rest),
+        "r" => ('\r', rest),
+        "t" => ('\t', rest),
+        "u" => numbered(rest).ok_or(CaseError::Unreadable)?,
+        _ => return Err(CaseError::Unreadable),
+    };
+    text.push(character)?;
+    Ok(text.push_str(rest)?)
+}
+
+// The field with its escapes replaced.
+fn unescape(alloc: Global, field: &str) -> Result<String, CaseError> {
+    let mut text = String::new(alloc);
+    let mut pieces = field.split('\\');
+    if let Some(plain) = pieces.next() {
+        text.push_str(plain)?;
+    }
+    for piece in pieces {
+        push_escaped(&mut text, piece)?;
+    }
+    Ok(text)
+}
+
+/// The fields of the line.
+pub fn split_fields(alloc: Global, line: &str) -> Result<Vec<String>, CaseError> {
+    let mut fields = Vec::new(alloc);
+    for field in line.split('\t') {
+        fields.push(unescape(alloc, field)?)?;
+    }
+    Ok(fields)
+}

@@ -1,0 +1,35 @@
+//! How a value prints.
+use std::alloc::{AllocError, Global};
+use std::fmt::Display;
+
+// Plainly, and where 30 columns are asked for, filled with blanks or stars; with bars between those that differ.
+fn print_widths<T: Display>(alloc: Global, value: &T) -> Result<String, AllocError> {
+    let mut text = value.to_string(alloc)?;
+    let right = format!(in alloc; "{value:>30}")?;
+    let left = format!(in alloc; "{value:*<30}")?;
+    if right != text || left != text {
+        write!(text, "|{right}|{left}")?;
+    }
+    Ok(text)
+}
+
+/// The print, which is the same whatever width and fill are asked for; asked again where memory was refused.
+pub fn printed<T: Display>(alloc: Global, value: &T) -> Result<String, AllocError> {
+    match print_widths(alloc, value) {
+        Ok(text) => Ok(text),
+        Err(_) => print_widths(alloc, value),
+    }
+}
+
+/// A copy, asked for again where memory was refused.
+pub fn copy<T: Clone>(value: &T) -> Result<T, AllocError> {
+    match value.clone() {
+        Ok(copy) => Ok(copy),
+        Err(_) => value.clone(),
+    }
+}
+
+/// Whether the value equals its copy.
+pub fn equals_copy<T: Clone + PartialEq + Drop>(value: &T) -> Result<bool, AllocError> {
+    Ok(copy(value)? == *value)
+}
