@@ -1,12 +1,21 @@
 -- The parts of a text, as its readers find them.
-use Rattle.std.proofs.Common.{◌≡◌, ◌∙◌, ℕ, List, Option, Some, None, Ok, Err, refl, sym, ap, true, false}
-use Rattle.pep440_pick.specs.Names.{is_name}
+use Rattle.std.proofs.Common.{◌≡◌, ◌∙◌, ◌&&◌, ℕ, Bool, List, Option, Some, None, Ok, Err, refl, sym, ap, true, false}
+use Rattle.std.specs.Char.{is_ascii_alphanumeric}
+use Rattle.std.specs.List.{list_all}
+use Rattle.pep440_version.specs.Grammar.{starts}
+use Rattle.pep440_version.specs.Refusals.{ends}
+use Rattle.pep440_pick.specs.Names.{is_name, is_name_byte}
 use Rattle.pep440_pick.specs.RequirementGrammar.{InvalidExtras, InvalidName, Unclosed, trim_blanks}
 use Rattle.pep440_pick.specs.RequirementReading.{extras_at, list_in, prefix_after_name, with_extras, with_list}
 
 pub not_named : (name rest : List ℕ) → is_name name ≡ false → prefix_after_name name rest ≡ Err InvalidName
 unfolding prefix_after_name
 not_named name rest e = rw e refl
+
+-- bytes of names, which were read as these, are a name by their ends alone
+pub ends_decide : (name bytes : List ℕ) (b : Bool) → list_all is_name_byte name ≡ true → bytes ≡ name → (starts is_ascii_alphanumeric bytes && ends is_ascii_alphanumeric bytes) ≡ b → is_name name ≡ b
+ends_decide name bytes b all same e =
+    ap (λ (x : Bool). x && (starts is_ascii_alphanumeric name && ends is_ascii_alphanumeric name)) all ∙ ap (λ (t : List ℕ). starts is_ascii_alphanumeric t && ends is_ascii_alphanumeric t) (sym same) ∙ e
 
 pub is_named : (name rest : List ℕ) → is_name name ≡ true → prefix_after_name name rest ≡ with_extras name (extras_at rest)
 unfolding prefix_after_name

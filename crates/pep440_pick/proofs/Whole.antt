@@ -107,7 +107,8 @@ module _ (text : List ℕ) (prefix : Front) (is : read_prefix text ≡ Ok prefix
 
   module _ (n : Needed) (name : n.name ≡ prefix.name) (extras : n.extras ≡ prefix.extras) where
     pub list_ok_found : DerivesList prefix.list n.specifiers → DerivesRequirement text n
-    list_ok_found d = (prefix.list, (subst (λ x. HasFront text x n.extras prefix.list) (sym name) (subst (λ x. HasFront text prefix.name x prefix.list) (sym extras) the_prefix), d))
+    list_ok_found d =
+        (prefix.list, subst (λ x. HasFront text x n.extras prefix.list) (sym name) (subst (λ x. HasFront text prefix.name x prefix.list) (sym extras) the_prefix), d)
 
     pub list_ok_only : ((list : List Spec) → DerivesList prefix.list list → list_ok list ≡ Ok n.specifiers) → (m : Needed) → DerivesRequirement text m → ok_of m ≡ Ok n
     list_ok_only only m d =

@@ -1,6 +1,5 @@
--- The texts of requirements: a name, extras in brackets, and a list of specifiers, with parentheses around it or
--- without. A blank is a tab, a line feed, a form feed, a carriage return or a space, and may stand before, between and
--- after the parts.
+-- The strings of requirements: a name, extras in brackets, and a list of specifiers, with parentheses around it or without. A
+-- blank is a tab, a line feed, a form feed, a carriage return or a space, and may stand before, between and after the parts.
 use Rattle.std.specs.Prelude.{◌≡◌, ◌==◌, ◌⊎◌, ℕ, List, [], ◌∷◌, ◌++◌, Bool, true, false, map, if◌then◌else◌}
 use Rattle.std.specs.Char.{is_ascii_whitespace}
 use Rattle.std.specs.List.{list_all, list_any}
@@ -13,26 +12,26 @@ use Rattle.pep440_pick.specs.Names.{is_name, is_name_byte}
 
 -- ---- blanks
 
--- the text without the blanks at its end
+-- the string without the blanks at its end
 abbrev pub trimmed_end : List ℕ → List ℕ
 trimmed_end [] = []
 trimmed_end (b ∷ rest) = if list_all is_ascii_whitespace (b ∷ rest) then [] else b ∷ trimmed_end rest
 
--- the text without the blanks at its ends
+-- the string without the blanks at its ends
 abbrev pub trim_blanks : List ℕ → List ℕ
 trim_blanks text = trimmed_end (past is_ascii_whitespace text)
 
 -- ---- the parts of a text
 
--- the byte stands somewhere in the text
+-- the byte stands somewhere in the string
 abbrev pub has_byte : ℕ → List ℕ → Bool
 has_byte b text = list_any (λ x. x == b) text
 
--- the text begins with the byte
+-- the string begins with the byte
 abbrev pub opens : ℕ → List ℕ → Bool
 opens b text = starts (λ x. x == b) text
 
--- a text in four parts, each but the last as long as can be: blanks, a name, blanks, and the rest
+-- a string in four parts, each but the last as long as can be: blanks, a name, blanks, and the rest
 pub record RequirementParts (text : List ℕ) : Type 0 where
   pub before : List ℕ
   pub name : List ℕ
@@ -48,16 +47,16 @@ abbrev pub AreExtras : List ℕ → List (List ℕ) → Type 0
 AreExtras inside extras = ((list_all is_ascii_whitespace inside ≡ true) × (extras ≡ []))
     ⊎ ((extras ≡ map trim_blanks (pieces inside)) × (list_all is_name extras ≡ true))
 
--- the text is `[`, inside up to the first `]`, and behind
+-- the string is `[`, inside up to the first `]`, and behind
 abbrev pub IsBracketed : List ℕ → List ℕ → List ℕ → Type 0
 IsBracketed text inside behind = (text ≡ 91 ∷ (inside ++ (93 ∷ behind))) × (has_byte 93 inside ≡ false)
 
--- the text has these extras in brackets at its front, or none and no bracket, and then behind
+-- the string has these extras in brackets at its front, or none and no bracket, and then behind
 abbrev pub HasExtras : List ℕ → List (List ℕ) → List ℕ → Type 0
 HasExtras text extras behind = ((opens 91 text ≡ false) × (extras ≡ []) × (behind ≡ text))
     ⊎ ((inside : List ℕ) × IsBracketed text inside behind × AreExtras inside extras)
 
--- the text, without blanks at its ends, is the text of a list, or that in parentheses
+-- the string, without blanks at its ends, is the string of a list, or that in parentheses
 abbrev pub HasList : List ℕ → List ℕ → Type 0
 HasList text list = ((opens 40 (trim_blanks text) ≡ false) × (list ≡ trim_blanks text))
     ⊎ ((inner : List ℕ) × (trim_blanks text ≡ 40 ∷ (inner ++ 41 ∷ [])) × (list ≡ trim_blanks inner))
@@ -69,7 +68,7 @@ pub record HasNoMarkerOrUrl (text : List ℕ) : Type 0 where
   pub marker : has_byte 59 text ≡ false
   pub url : has_byte 64 text ≡ false
 
--- the text has this name, these extras and this text of a list
+-- the string has this name, these extras and this string of a list
 pub record HasFront (text name : List ℕ) (extras : List (List ℕ)) (list : List ℕ) : Type 0 where
   pub plain : HasNoMarkerOrUrl text
   pub decomposition : RequirementParts text
@@ -85,11 +84,11 @@ pub record Needed : Type 0 where
   pub extras : List (List ℕ)
   pub specifiers : List Spec
 
--- the text means the requirement
+-- the string denotes the requirement
 abbrev pub DerivesRequirement : List ℕ → Needed → Type 0
 DerivesRequirement text n = (list : List ℕ) × HasFront text n.name n.extras list × DerivesList list n.specifiers
 
--- why a text is no requirement
+-- why a string is no requirement
 pub data RequirementRefusal : Type 0 where
   Marker : RequirementRefusal
   Url : RequirementRefusal
@@ -98,7 +97,7 @@ pub data RequirementRefusal : Type 0 where
   Unclosed : RequirementRefusal
   Specifiers : (list : List ℕ) → PieceRefusal → RequirementRefusal
 
--- asked in this order: each speaks of a text of which none before it holds
+-- asked in this order: each speaks of a string of which none before it holds
 abbrev pub RefusesRequirement : List ℕ → RequirementRefusal → Type 0
 RefusesRequirement text Marker = has_byte 59 text ≡ true
 RefusesRequirement text Url = (has_byte 59 text ≡ false) × (has_byte 64 text ≡ true)

@@ -7,7 +7,7 @@ use Rattle.pep440_rs.specs.ListGrammar.{pieces}
 use Rattle.pep440_pick.specs.Names.{is_name, is_name_byte}
 use Rattle.pep440_pick.specs.RequirementGrammar.{InvalidExtras, InvalidName, Marker, RequirementRefusal, Unclosed, Url, has_byte, opens, trim_blanks}
 
--- the name, the extras, and the text of the list
+-- the name, the extras, and the string of the list
 pub record Front : Type 0 where
   pub name : List ℕ
   pub extras : List (List ℕ)
@@ -18,7 +18,7 @@ unfoldable pub split_at_byte : ℕ → List ℕ → Option (List ℕ × List ℕ
 split_at_byte b [] = None
 split_at_byte b (x ∷ rest) = if x == b then Some ([], rest) else option_map (λ p. (x ∷ p.0, p.1)) (split_at_byte b rest)
 
--- the text without this byte at its end, where it stands there
+-- the string without this byte at its end, where it stands there
 unfoldable pub without_end : ℕ → List ℕ → Option (List ℕ)
 without_end b [] = None
 without_end b (x ∷ []) = if x == b then Some [] else None
@@ -40,7 +40,7 @@ bracketed (Some p) = option_map (λ e. (e, p.1)) (extras_in p.0)
 unfoldable pub extras_at : List ℕ → Option (List (List ℕ) × List ℕ)
 extras_at text = if opens 91 text then bracketed (split_at_byte 93 (drop 1 text)) else Some ([], text)
 
--- the text of the list, of a text without blanks at its ends
+-- the string of the list, of a string without blanks at its ends
 abbrev pub list_in : List ℕ → Option (List ℕ)
 list_in text = if opens 40 text then option_map trim_blanks (without_end 41 (drop 1 text)) else Some text
 
@@ -56,13 +56,13 @@ with_extras name (Some p) = with_list name p.0 (list_in (trim_blanks p.1))
 unfoldable pub prefix_after_name : List ℕ → List ℕ → Result Front RequirementRefusal
 prefix_after_name name rest = if is_name name then with_extras name (extras_at rest) else Err InvalidName
 
--- the name of a text, and what follows it behind blanks
+-- the name of a string, and what follows it behind blanks
 abbrev pub name_of : List ℕ → List ℕ
 name_of text = lead is_name_byte (past is_ascii_whitespace text)
 
 abbrev pub behind_name : List ℕ → List ℕ
 behind_name text = past is_ascii_whitespace (past is_name_byte (past is_ascii_whitespace text))
 
--- the parts of the text
+-- the parts of the string
 abbrev pub read_prefix : List ℕ → Result Front RequirementRefusal
 read_prefix text = if has_byte 59 text then Err Marker else if has_byte 64 text then Err Url else prefix_after_name (name_of text) (behind_name text)

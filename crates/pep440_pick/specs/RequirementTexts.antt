@@ -1,4 +1,4 @@
--- The texts of the errors of requirements.
+-- The messages of the errors of requirements.
 use Rattle.std.specs.Prelude.{ℕ, List, Option, Some, codes, option_map}
 use Rattle.pep440_rs.specs.ListAnswers.{line_of, list_kind_of}
 use Rattle.pep440_rs.specs.ListErrorTexts.{list_refusal_text, list_text_of}
@@ -7,7 +7,7 @@ use Rattle.pep440_pick.specs.Requirements.{requirement_refusal_of}
 use Rattle.pep440_pick.specs.declared.error.RequirementError.{RequirementError}
 use Rattle.pep440_pick.specs.declared.error.RequirementError.TheVariants as error
 
--- the text of a refusal
+-- the message of a refusal
 abbrev pub requirement_refusal_text : RequirementRefusal → List ℕ
 requirement_refusal_text Marker = codes "markers are not supported"
 requirement_refusal_text Url = codes "URLs are not supported"
@@ -16,7 +16,7 @@ requirement_refusal_text InvalidExtras = codes "not valid extras"
 requirement_refusal_text Unclosed = codes "unclosed parenthesis"
 requirement_refusal_text (Specifiers list f) = list_refusal_text f list
 
--- the text of an error
+-- the message of an error
 abbrev pub requirement_text_of : RequirementError → Option (List ℕ)
 requirement_text_of (error.Specifiers e) = list_text_of (list_kind_of e) (line_of e)
 requirement_text_of error.OutOfMemory = Some (codes "out of memory")

@@ -44,11 +44,11 @@ abbrev pub FrontGives : Result Parts RequirementError → Result Front Requireme
 FrontGives (Ok p) read = read ≡ Ok (prefix_of p)
 FrontGives (Err e) read = IfSome (requirement_refusal_of e) (λ f. read ≡ Err f)
 
--- the list of this text is this outcome, unless memory ran out
+-- the list of this string is this outcome, unless memory ran out
 abbrev pub ListGives : List ℕ → Result (List Spec) RequirementError → Result (List Spec) PieceRefusal → Type 0
 ListGives text (Ok list) outcome = outcome ≡ Ok list
 ListGives text (Err e) outcome = IfSome (requirement_refusal_of e) (λ g. (f : PieceRefusal) × (outcome ≡ Err f) × (g ≡ Specifiers text f))
 
--- the refusal is that of the list of this text
+-- the refusal is that of the list of this string
 abbrev pub IsOfList : List ℕ → RequirementRefusal → Type 0
 IsOfList text g = (f : PieceRefusal) × RefusesList text f × (g ≡ Specifiers text f)

@@ -38,11 +38,11 @@ fn is_above(candidates: &[Version], newest: Option<usize>, version: &Version) ->
     }
 }
 
-/// The place of the greatest candidate that every list contains, counted from 0; of equal ones the first. `None` only
-/// where no candidate is contained. Without lists every candidate is contained.
+/// The position of the greatest candidate that every list contains, counted from 0; of equal ones the first. `None`
+/// only where no candidate is contained. Without lists every candidate is contained.
 ///
-/// Takes memory for members with `===` alone, and answers `AllocError` only where that is refused; where no list has such a
-/// member it always answers. Candidates that are not above the newest so far are not asked of the lists.
+/// Allocates for members with `===` alone, and returns `AllocError` only where that fails; where no list has such a
+/// member it always succeeds. Candidates that are not above the newest so far are not matched.
 pub fn newest(
     alloc: Global,
     lists: &[VersionSpecifiers],

@@ -1,4 +1,4 @@
-//! Why a text is no requirement, and the text of that.
+//! Why a string is no requirement, and its message.
 ghost use Rattle.std.specs.Prelude.{◌≡◌};
 ghost use Rattle.pep440_pick.specs.Requirements.{requirement_refusal_of};
 ghost use Rattle.pep440_pick.specs.RequirementTexts.{requirement_text_of};
@@ -9,22 +9,22 @@ use std::alloc::{AllocError, AllocFailed};
 use std::error::Error;
 use std::fmt;
 
-/// Why a text is no requirement: the first of these that holds of it. Two are equal exactly if they say the same.
+/// Why a string is no requirement: the first of these that holds. Two are equal exactly if they report the same.
 #[derive(Debug, PartialEq, Eq, Drop)]
 pub enum RequirementError {
     /// There is a `;`: markers are not supported.
     Marker,
     /// There is an `@`: URLs are not supported.
     Url,
-    /// No name stands in front.
+    /// It does not begin with a name.
     InvalidName,
-    /// What stands in brackets are no extras, or the brackets are not closed.
+    /// What is in brackets are no extras, or the brackets are not closed.
     InvalidExtras,
-    /// A parenthesis stands in front of the list, and none at its end.
+    /// A parenthesis opens before the list, and none closes it.
     Unclosed,
-    /// The list of specifiers is refused; the error's line is the text of the list.
+    /// The list of specifiers is invalid; the error's line is the list.
     Specifiers(VersionSpecifiersParseError),
-    /// Memory ran out, which says nothing of the text.
+    /// Out of memory, which says nothing about the string.
     OutOfMemory,
 }
 

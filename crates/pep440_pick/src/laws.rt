@@ -5,12 +5,12 @@ ghost use Rattle.pep440_pick.specs.RequirementGrammar.{DerivesRequirement, Neede
 ghost use Rattle.pep440_rs.specs.Specifiers.{Spec};
 ghost use Rattle.pep440_version.specs.Record.{Record};
 
-/// A text means at most one requirement.
+/// A string denotes at most one requirement.
 pub fn means_one()
     ensures { (text : List ℕ) (n m : Needed) → DerivesRequirement text n → DerivesRequirement text m → n ≡ m }
 {}
 
-/// A text either means a requirement or is refused, never both, and for exactly one reason.
+/// A string either denotes a requirement or is rejected with exactly one error, never both.
 pub fn refused_once()
     ensures one { (text : List ℕ) (f g : RequirementRefusal) → RefusesRequirement text f → RefusesRequirement text g → f ≡ g }
     ensures either { (text : List ℕ) → ((n : Needed) × DerivesRequirement text n) ⊎ ((f : RequirementRefusal) × RefusesRequirement text f) }

@@ -1,5 +1,5 @@
 //! Names of packages and of extras.
-ghost use Rattle.std.specs.Prelude.{◌≡◌, ◌∷◌, ◌<◌, ◌≤◌, [], length, IfSome};
+ghost use Rattle.std.specs.Prelude.{◌≡◌, ◌∷◌, ◌&&◌, ◌<◌, ◌≤◌, [], length, IfSome};
 ghost use Rattle.std.specs.Char.{is_ascii_alphanumeric};
 ghost use Rattle.std.specs.List.{list_all, prefix_len};
 ghost use Rattle.std.specs.Option.{option_map_or};
@@ -47,18 +47,25 @@ fn has_name_bytes(text: &[u8]) -> bool
     text.iter().all(|byte| is_name_byte(*byte))
 }
 
-/// Whether the text is a name: ASCII letters and digits, `.`, `-` and `_`, one or more, with a letter or a digit at both
-/// ends.
+// A letter or a digit stands at both ends.
+pub(crate) fn has_name_ends(text: &[u8]) -> bool
+    ensures { result ≡ (starts is_ascii_alphanumeric text.now && ends is_ascii_alphanumeric text.now) }
+{
+    starts_well(text) && ends_well(text)
+}
+
+/// Whether the string is a name: ASCII letters and digits, `.`, `-` and `_`, one or more, with a letter or a digit at
+/// both ends.
 ///
-/// Takes no memory.
+/// Allocates nothing.
 pub fn is_name(text: &str) -> bool
     ensures { result ≡ is_name text.now }
 {
     let bytes = text.as_bytes();
-    has_name_bytes(bytes) && starts_well(bytes) && ends_well(bytes)
+    has_name_bytes(bytes) && has_name_ends(bytes)
 }
 
-fn separators_len(text: &[u8]) -> usize
+fn count_separators(text: &[u8]) -> usize
     ensures count { result ≡ prefix_len is_separator text.now }
     ensures inside { result ≤ length text.now }
 {
@@ -72,7 +79,7 @@ fn next_byte(text: &[u8]) -> Option<(u8, &[u8])>
 {
     let (first, rest) = text.split_first()?;
     if is_separator(*first) {
-        Some((b'-', &rest[separators_len(rest)..]))
+        Some((b'-', &rest[count_separators(rest)..]))
     } else {
         Some((first.to_ascii_lowercase(), rest))
     }
@@ -81,7 +88,7 @@ fn next_byte(text: &[u8]) -> Option<(u8, &[u8])>
 /// Whether the two names are the same: equal but for the case of ASCII letters, and with each run of `.`, `-` and `_`
 /// as one `-`.
 ///
-/// Takes no memory.
+/// Allocates nothing.
 pub fn same_name(one: &str, other: &str) -> bool
     ensures { result ≡ same_name one.now other.now }
 {

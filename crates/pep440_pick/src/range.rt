@@ -27,7 +27,7 @@ fn add_members(
 }
 
 // The members of the lists of the requirements of that name.
-fn members_of(
+fn collect_members(
     alloc: Global,
     requirements: &[Requirement],
     name: &str,
@@ -46,20 +46,20 @@ fn members_of(
 /// The versions that lie in the range of each requirement of that name (`specifiers_to_ranges`): all versions where there
 /// is no such requirement. Requirements of other names are not looked at.
 ///
-/// Takes memory. Answers `NumberAtMax` where that is the answer for some requirement of that name, also where the others
-/// allow no version, and `OutOfMemory` where memory is refused. The ranges are intersected by halves: n members take
-/// n log n steps.
+/// Allocates. Returns `NumberAtMax` where some requirement of that name gives it, also where the others allow no
+/// version, and `OutOfMemory` where an allocation fails. The ranges are intersected by halves: n members take n log n
+/// steps.
 pub fn allowed(
     alloc: Global,
     requirements: &[Requirement],
     name: &str,
 ) -> Result<Ranges<Version>, RangeError>
     ensures set { IfOk result (HoldsAllowed (lists_of name.now (map needed requirements.now))) }
-    // `NumberAtMax` exactly where the range of some requirement of that name is refused, unless memory runs out.
+    // `NumberAtMax` exactly where the range of some requirement of that name is rejected, unless memory runs out.
     ensures at_max { TellsMax (list_any (λ list. is_none (list_range range_of list)) (lists_of name.now (map needed requirements.now))) result }
     ensures all { lists_of name.now (map needed requirements.now) ≡ [] → IfOk result (λ range. range ≡ full) }
 {
-    let members = members_of(alloc, requirements, name)?;
+    let members = collect_members(alloc, requirements, name)?;
     let list = VersionSpecifiers::from_specifiers(alloc, members)?;
     specifiers_to_ranges(alloc, list)
 }

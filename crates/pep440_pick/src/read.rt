@@ -1,5 +1,5 @@
 //! The readers of the parts of a requirement.
-ghost use Rattle.std.specs.Prelude.{◌≡◌, ◌∷◌, ◌++◌, [], List, map, option_map, string_bytes, Ok, Err, IfOk, IfErr, IfSome, Some};
+ghost use Rattle.std.specs.Prelude.{◌≡◌, ◌∷◌, ◌++◌, [], List, true, map, option_map, string_bytes, Ok, Err, IfOk, IfErr, IfSome, Some};
 ghost use Rattle.std.specs.List.{All, list_all};
 ghost use Rattle.pep440_rs.specs.Agreement.{HasOperand};
 ghost use Rattle.pep440_rs.specs.ListAnswers.{line_of, list_kind_of};
@@ -7,7 +7,7 @@ ghost use Rattle.pep440_rs.specs.ListErrors.{IsListLifted, list_refusal_of};
 ghost use Rattle.pep440_rs.specs.ListErrorTexts.{list_text_of};
 ghost use Rattle.pep440_rs.specs.ListGrammar.{DerivesList, PieceRefusal, RefusesList, pieces};
 ghost use Rattle.pep440_rs.specs.Specifiers.{Spec};
-ghost use Rattle.pep440_pick.specs.Names.{is_name};
+ghost use Rattle.pep440_pick.specs.Names.{is_name, is_name_byte};
 ghost use Rattle.pep440_pick.specs.RequirementGrammar.{Specifiers, trim_blanks};
 ghost use Rattle.pep440_pick.specs.RequirementReading.{extras_at, list_in, listed_extras, prefix_after_name, read_prefix};
 ghost use Rattle.pep440_pick.specs.Requirements.{FrontGives, IsOfList, IsRequirementLifted, ListGives, requirement_refusal_of};
@@ -15,7 +15,7 @@ ghost use Rattle.pep440_pick.specs.RequirementTexts.{requirement_refusal_text, r
 ghost use Rattle.pep440_pick.specs.declared.error.RequirementError.TheVariants.{OutOfMemory};
 
 use crate::error::RequirementError;
-use crate::name::is_name;
+use crate::name::{has_name_ends, is_name};
 use crate::scan::{
     are_blanks, has_byte, skip_blanks, split_at_byte, split_name, trim_blanks, without_end,
     without_prefix,
@@ -103,13 +103,14 @@ fn list_in(text: &str) -> Option<&str>
     }
 }
 
-// The parts of a text, by the name and what follows it behind blanks.
+// The parts of a text, by its bytes of a name and what follows them behind blanks.
 fn prefix_after_name<'a>(name: &'a str, rest: &'a str) -> Result<Parts<'a>, RequirementError>
+    requires { list_all is_name_byte name.now ≡ true }
     ensures value { FrontGives result (prefix_after_name name.now rest.now) }
     ensures lifted { IfErr result IsRequirementLifted }
     ensures message { IfErr result (λ e. IfSome (requirement_refusal_of e) (λ f. requirement_text_of e ≡ Some (requirement_refusal_text f))) }
 {
-    if !is_name(name) {
+    if !has_name_ends(name.as_bytes()) {
         return Err(RequirementError::InvalidName);
     }
     let Some((extras, behind)) = extras_at(rest) else {

@@ -19,5 +19,5 @@ abbrev pub list_cmp : List Spec → List Spec → Ordering
 list_cmp = slice_cmp spec_cmp
 
 -- the count, then the members
-abbrev pub feed_list : List Spec → HashWrites
-feed_list list = u64 (length list) ++ flat_map feed_spec list
+abbrev pub feed_members : List Spec → HashWrites
+feed_members list = u64 (length list) ++ flat_map feed_spec list

@@ -1,5 +1,5 @@
 //! Lists of specifiers: how one is made and read, its members, its forms as a string and as JSON, its order and hash.
-ghost use Rattle.std.specs.Prelude.{◌≡◌, ◌==◌, ◌∷◌, [], ℕ, List, codes, length, IfOk, IfErr, IfSome, IsOk, IsTrue, Some, Ok, Err, refl, ◌↔◌, IsErrOf, IsSomeAnd, None};
+ghost use Rattle.std.specs.Prelude.{◌≡◌, ◌≢◌, ◌==◌, ◌∷◌, ◌++◌, not, [], ℕ, List, codes, length, IfOk, IfErr, IfSome, IsOk, IsTrue, Some, Ok, Err, refl, ◌↔◌, IsErrOf, IsSomeAnd, None};
 ghost use Rattle.std.specs.List.{All, flat_map, fold};
 ghost use Rattle.std.specs.Slice.Iter.{iter_rest};
 ghost use Rattle.std.specs.Vec.Iter.{into_iter_items};
@@ -10,17 +10,18 @@ ghost use Rattle.pep440_rs.specs.ListErrors.{IsListLifted, list_refusal_of};
 ghost use Rattle.pep440_rs.specs.ListErrorTexts.{list_refusal_text, list_text_of};
 ghost use Rattle.pep440_rs.specs.ListGrammar.{DerivesList, PieceRefusal, RefusesList};
 ghost use Rattle.pep440_rs.specs.ListReading.{read_members};
-ghost use Rattle.pep440_rs.specs.Lists.{joined, list_print, list_cmp, feed_list};
+ghost use Rattle.pep440_rs.specs.Matching.{list_matches};
+ghost use Rattle.pep440_rs.specs.Lists.{joined, list_print, list_cmp, feed_members};
 ghost use Rattle.pep440_rs.specs.Specifiers.{Spec, feed_spec};
 ghost use Rattle.std.specs.Cmp.{partial_equiv_from_equiv};
 ghost use Rattle.std.specs.Ordering.{as_partial_cmp, eq_by_cmp};
 ghost use Rattle.pep440_rs.specs.ListLaws.{list_equiv, list_po, list_total, lists_feed_alike};
 ghost use Rattle.pep440_rs.specs.Json.{text_of, IsString, IfText, JsonAnswers};
+ghost use Rattle.pep440_rs.specs.declared.specifier.operator.Operator.TheVariants.{ExactEqual};
 ghost use Rattle.pep440_rs.specs.declared.json.error.JsonError.TheVariants.{NotAString};
 ghost use Rattle.pep440_rs.specs.BoundsAgreement.{IsReleasePair, IsOrdered, KnowsGaps, HoldsWithin, HoldsOnlyWithin};
 ghost use Rattle.pep440_rs.specs.Members.{list_members};
 
-pub(crate) mod contains;
 pub(crate) mod error;
 pub(crate) mod error_text;
 pub(crate) mod print;
@@ -236,6 +237,26 @@ impl VersionSpecifiers {
         self.members.iter()
     }
 
+    /// Whether each member contains the version; so the empty list contains every version. The first member that
+    /// does not, or whose allocation fails, decides (PEP 440, "Version specifiers").
+    ///
+    /// Allocates for members with `===` alone, and for none behind the first member that does not contain the version;
+    /// where no `===` is reached it always succeeds.
+    #[tactic(auto, using(crate::proofs::Arranging::InOrder::told_step, crate::proofs::Arranging::InOrder::told_open))]
+    pub fn contains(&self, alloc: Global, version: &Version) -> Result<bool, AllocError>
+        ensures value { IfOk result (λ b. b ≡ list_matches self.now version.now) }
+        ensures answered { All (λ m. m.operator ≢ ExactEqual) self.now → IsOk result }
+        // So it does where a member before the first `===` does not contain the version.
+        ensures in_order { (before after : List Spec) → self.now ≡ before ++ after → All (λ m. m.operator ≢ ExactEqual) before → IsTrue (not (list_matches before version.now)) → IsOk result }
+    {
+        for member in self.as_slice() {
+            if !member.contains(alloc, version)? {
+                return Ok(false);
+            }
+        }
+        Ok(true)
+    }
+
     /// The list as JSON: the string of its members, with a comma and no space between them.
     ///
     /// Allocates.
@@ -346,7 +367,7 @@ fn hash_members<H: Hasher>(members: &[VersionSpecifier], state: &mut H)
 }
 
 impl Hash for VersionSpecifiers {
-    ghost hash_input = { feed_list };
+    ghost hash_input = { feed_members };
 
     ghost respects_eq = { lists_feed_alike };
 

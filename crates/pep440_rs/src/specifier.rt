@@ -1,14 +1,15 @@
 //! Specifiers: how one is made and read, its parts, its forms as a string and as JSON, its order and hash.
-ghost use Rattle.std.specs.Prelude.{◌≡◌, ◌||◌, ◌<◌, length, is_some, Ok, Err, Some, IfOk, IfErr, IfSome, ℕ, List, refl, ◌↔◌, IsErrOf, IsSomeAnd, None};
+ghost use Rattle.std.specs.Prelude.{◌≡◌, ◌≢◌, ◌||◌, ◌<◌, not, IsOk, length, is_some, Ok, Err, Some, IfOk, IfErr, IfSome, ℕ, List, refl, ◌↔◌, IsErrOf, IsSomeAnd, None};
 ghost use Rattle.pep440_rs.specs.Agreement.{HasOperand};
 ghost use Rattle.pep440_rs.specs.Build.{built, built_pattern};
 ghost use Rattle.pep440_rs.specs.Errors.{Builds, SpecifierAnswers, specifier_refusal_of, parse_kind_of, IsLifted};
 ghost use Rattle.pep440_rs.specs.ErrorTexts.{specifier_error_text, specifier_refusal_text};
+ghost use Rattle.pep440_rs.specs.Matching.{matches};
 ghost use Rattle.pep440_rs.specs.Operators.{has_lower_bound};
 ghost use Rattle.pep440_rs.specs.SpecifierGrammar.{DerivesSpecifier, RefusesSpecifier, SpecifierRefusal};
 ghost use Rattle.pep440_rs.specs.SpecifierReading.{read_specifier};
 ghost use Rattle.pep440_rs.specs.Specifiers.{Spec, IsSpec, spec_print, spec_cmp, feed_spec};
-ghost use Rattle.pep440_rs.specs.declared.specifier.operator.Operator.TheVariants.{Equal, EqualStar, NotEqual, NotEqualStar, LessThan, LessThanEqual, GreaterThan, GreaterThanEqual, TildeEqual};
+ghost use Rattle.pep440_rs.specs.declared.specifier.operator.Operator.TheVariants.{Equal, EqualStar, ExactEqual, NotEqual, NotEqualStar, LessThan, LessThanEqual, GreaterThan, GreaterThanEqual, TildeEqual};
 ghost use Rattle.std.specs.Cmp.{partial_equiv_from_equiv};
 ghost use Rattle.std.specs.Ordering.{as_partial_cmp, eq_by_cmp};
 ghost use Rattle.pep440_rs.specs.SpecifierLaws.{spec_equiv, spec_po, spec_total, specs_feed_alike};
@@ -31,6 +32,9 @@ use crate::bounds::members::{convert_lower, convert_pair, convert_upper, reject_
 use crate::bounds::release_bounds::ReleaseBounds;
 use crate::json::error::JsonError;
 use crate::json::{expect_string, from_specifier_error};
+use crate::specifier::contains::{
+    cmp_candidate, has_prefix, has_same_print, is_early, is_late, without_last,
+};
 use crate::specifier::error::{
     BuildErrorKind, VersionSpecifierBuildError, VersionSpecifierParseError,
 };
@@ -307,6 +311,39 @@ impl VersionSpecifier {
         ensures again { (t : List ℕ) (s : Spec) → DerivesSpecifier t s → text.now ≡ spec_print s → SpecifierAnswers result (Ok s) }
     {
         VersionSpecifier::read(alloc, text)
+    }
+
+    /// Whether the specifier contains the version (PEP 440, "Version specifiers"). A specifier whose version has no
+    /// local part ignores that of the candidate.
+    ///
+    /// Allocates for `===` alone, which compares normalized forms; with any other operator it always succeeds.
+    pub fn contains(&self, alloc: Global, version: &Version) -> Result<bool, AllocError>
+        ensures value { IfOk result (λ b. b ≡ matches self.now.operator self.now.version version.now) }
+        ensures answered { self.now.operator ≢ ExactEqual → IsOk result }
+        // `!=` contains exactly what `==` does not, and `!=` star exactly what `==` star does not.
+        ensures excluded { self.now.operator ≡ NotEqual → IfOk result (λ b. b ≡ not (matches Equal self.now.version version.now)) }
+        ensures excluded_star { self.now.operator ≡ NotEqualStar → IfOk result (λ b. b ≡ not (matches EqualStar self.now.version version.now)) }
+    {
+        let specifier = self.version();
+        Ok(match self.operator() {
+            Operator::Equal => cmp_candidate(specifier, version).is_eq(),
+            Operator::NotEqual => cmp_candidate(specifier, version).is_ne(),
+            Operator::EqualStar => has_prefix(specifier, specifier.release(), version),
+            Operator::NotEqualStar => !has_prefix(specifier, specifier.release(), version),
+            Operator::TildeEqual => {
+                has_prefix(specifier, without_last(specifier.release()), version)
+                    && cmp_candidate(specifier, version).is_ge()
+            }
+            Operator::LessThan => {
+                cmp_candidate(specifier, version).is_lt() && !is_early(specifier, version)
+            }
+            Operator::LessThanEqual => cmp_candidate(specifier, version).is_le(),
+            Operator::GreaterThan => {
+                cmp_candidate(specifier, version).is_gt() && !is_late(specifier, version)
+            }
+            Operator::GreaterThanEqual => cmp_candidate(specifier, version).is_ge(),
+            Operator::ExactEqual => has_same_print(alloc, specifier, version)?,
+        })
     }
 
     /// The specifier as JSON: the string that it prints.

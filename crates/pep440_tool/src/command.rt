@@ -106,7 +106,7 @@ impl<'a> Command<'a> {
     {
         match self.run(alloc, input) {
             Ok(answer) => Ok(answer),
-            Err(error) => Answer::error(alloc, &error),
+            Err(error) => Answer::from_error(alloc, &error),
         }
     }
 }

@@ -39,7 +39,7 @@ fn apply_changes(
     match version.with_changes(alloc, changes) {
         Ok(version) => {
             let print = WithSentinels(&version).to_string(alloc)?;
-            Ok(Answer::shown(alloc, print.as_str())?)
+            Ok(Answer::from_line(alloc, print.as_str())?)
         }
         Err(error) => Err(CommandError::Change(error)),
     }

@@ -107,5 +107,5 @@ pub(crate) fn filter(alloc: Global, word: &str, input: &[u8]) -> Result<Answer, 
     let lines = VersionLines {
         versions: versions.as_slice(),
     };
-    Ok(Answer::shown_lines(lines.to_string(alloc)?))
+    Ok(Answer::from_lines(lines.to_string(alloc)?))
 }

@@ -19,7 +19,7 @@ const USAGE: &str =
 
 impl Answer {
     /// The string as a line, with status 0.
-    pub(crate) fn shown(alloc: Global, text: &str) -> Result<Answer, AllocError>
+    pub(crate) fn from_line(alloc: Global, text: &str) -> Result<Answer, AllocError>
         ensures { IfOk result (λ a. answer_value a ≡ shown text.now) }
     {
         let mut output = Vec::from_slice(alloc, text.as_bytes())?;
@@ -28,7 +28,7 @@ impl Answer {
     }
 
     /// The string, which is made of whole lines, with status 0.
-    pub(crate) fn shown_lines(text: String) -> Answer
+    pub(crate) fn from_lines(text: String) -> Answer
         ensures { answer_value result ≡ record { output = string_bytes text; status = 0 } }
     {
         Answer {
@@ -38,7 +38,7 @@ impl Answer {
     }
 
     /// The error's message as a line, with status 1.
-    pub(crate) fn error(alloc: Global, error: &CommandError) -> Result<Answer, AllocError>
+    pub(crate) fn from_error(alloc: Global, error: &CommandError) -> Result<Answer, AllocError>
         ensures memory { IfOk result (λ _. lacks_memory error.now ≡ false) }
         ensures status { IfOk result (λ a. a.status ≡ 1) }
         ensures printed { IfOk result (λ a. IfSome (error_text_of error.now) (λ text. answer_value a ≡ error_answer (ends_lines error.now) text)) }

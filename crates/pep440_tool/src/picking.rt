@@ -100,8 +100,8 @@ pub(crate) fn pick(
     match newest(alloc, lists.as_slice(), versions.as_slice())? {
         Some(position) => {
             let print = versions[position].to_string(alloc)?;
-            Ok(Answer::shown(alloc, print.as_str())?)
+            Ok(Answer::from_line(alloc, print.as_str())?)
         }
-        None => Ok(Answer::shown(alloc, "none")?),
+        None => Ok(Answer::from_line(alloc, "none")?),
     }
 }

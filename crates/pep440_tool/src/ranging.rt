@@ -14,7 +14,7 @@ pub(crate) fn range(alloc: Global, word: &str) -> Result<Answer, CommandError>
 {
     let list = read_list(alloc, word)?;
     match specifiers_to_ranges(alloc, list) {
-        Ok(range) => Ok(Answer::shown_lines(RangeLines(&range).to_string(alloc)?)),
+        Ok(range) => Ok(Answer::from_lines(RangeLines(&range).to_string(alloc)?)),
         Err(error) => Err(CommandError::Range(error)),
     }
 }

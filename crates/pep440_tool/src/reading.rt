@@ -38,7 +38,7 @@ pub(crate) fn show(alloc: Global, word: &str) -> Result<Answer, CommandError>
 {
     let version = read(alloc, word)?;
     let print = version.to_string(alloc)?;
-    Ok(Answer::shown(alloc, print.as_str())?)
+    Ok(Answer::from_line(alloc, print.as_str())?)
 }
 
 fn sign(order: Ordering) -> &'static str
@@ -57,7 +57,7 @@ pub(crate) fn compare(alloc: Global, left: &str, right: &str) -> Result<Answer, 
 {
     let first = read(alloc, left)?;
     let second = read(alloc, right)?;
-    Ok(Answer::shown(alloc, sign(first.cmp(&second)))?)
+    Ok(Answer::from_line(alloc, sign(first.cmp(&second)))?)
 }
 
 fn yes_or_no(is: bool) -> &'static str
@@ -73,5 +73,5 @@ pub(crate) fn contains(alloc: Global, list: &str, word: &str) -> Result<Answer, 
     let list = read_list(alloc, list)?;
     let version = read(alloc, word)?;
     let holds = list.contains(alloc, &version)?;
-    Ok(Answer::shown(alloc, yes_or_no(holds))?)
+    Ok(Answer::from_line(alloc, yes_or_no(holds))?)
 }

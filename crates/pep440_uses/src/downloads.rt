@@ -10,7 +10,7 @@ use std::collections::BTreeMap;
 /// How often the version was loaded: 0 where it is no key. Equal versions, as `1.0` and `1.0.0`, are one key.
 ///
 /// Allocates nothing.
-pub fn loaded(downloads: &BTreeMap<Version, u64>, version: &Version) -> u64
+pub fn count_loads(downloads: &BTreeMap<Version, u64>, version: &Version) -> u64
     ensures { result ≡ unwrap_or (get record_cmp downloads.now version.now) 0 }
 {
     downloads.get(version).copied().unwrap_or(0)
@@ -27,7 +27,7 @@ pub fn add(
     ensures ok { OnOk result (Updates record_cmp downloads.old downloads.new version (Some (min (unwrap_or (get record_cmp downloads.old version) 0 + times) (2 ^ 64 - 1)))) }
     ensures err { OnErr result (IsUnchanged downloads.old downloads.new) }
 {
-    let sum = loaded(downloads, &version).saturating_add(times);
+    let sum = count_loads(downloads, &version).saturating_add(times);
     downloads.insert(version, sum)?;
     Ok(())
 }
@@ -47,7 +47,7 @@ mod tests {
             add(&mut downloads, Version::from_str(rt.alloc(), text)?, times)?;
         }
         let one = Version::new(rt.alloc(), &[1])?;
-        assert!(rt; loaded(&downloads, &one) == 5 && downloads.len() == 2);
+        assert!(rt; count_loads(&downloads, &one) == 5 && downloads.len() == 2);
         Ok(())
     }
 }

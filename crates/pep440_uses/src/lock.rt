@@ -63,7 +63,7 @@ impl From<AllocError> for LockError {
 }
 
 // The parts of the line, which stand between semicolons; none where there are fewer than two.
-fn parts(line: &str) -> Option<(&str, &str, &str)>
+fn split_parts(line: &str) -> Option<(&str, &str, &str)>
     ensures short { IfNone result (IsShort line.now) }
     ensures long { IfSome result (λ _. ¬ IsShort line.now) }
     ensures name { IfSome result (λ p. p.0.now ≡ name_part line.now) }
@@ -86,7 +86,7 @@ impl Locked {
         ensures version { IfOk result (λ l. Derives (version_part line.now) l.version) }
         ensures refused { IfErr result (IsFault line.now) }
     {
-        let Some((name, wanted, version)) = parts(line) else {
+        let Some((name, wanted, version)) = split_parts(line) else {
             return Err(LockError::Parts);
         };
         Ok(Locked {
@@ -100,7 +100,7 @@ impl Locked {
 /// The names of the lines whose version is not contained in their list, in order.
 ///
 /// Allocates; the error is out of memory.
-pub fn broken(alloc: Global, lock: &[Locked]) -> Result<Vec<String>, AllocError>
+pub fn find_broken(alloc: Global, lock: &[Locked]) -> Result<Vec<String>, AllocError>
     ensures { IfOk result (λ names. map string_bytes names.items ≡ broken_names lock.now) }
 {
     let mut names = Vec::new(alloc);
@@ -130,7 +130,7 @@ mod tests {
         for line in LOCK {
             lock.push(Locked::from_line(rt.alloc(), line)?)?;
         }
-        let names = broken(rt.alloc(), &lock)?;
+        let names = find_broken(rt.alloc(), &lock)?;
         let first = names.first().map(|name| name.as_str() == "other");
         assert!(rt; names.len() == 2 && first == Some(true));
         Ok(())

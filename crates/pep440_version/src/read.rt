@@ -19,6 +19,7 @@ mod scan;
 mod suffix;
 
 use self::local::parse_local;
+use self::normal::parse_normal_star;
 pub(crate) use self::normal::parse_normal_version;
 use self::normal_parts::{NormalParts, parse_normal_parts};
 use self::number::{parse_number, parse_release_from, starts_with_number};
@@ -107,7 +108,7 @@ fn parse_end(alloc: Global, text: &str, version: Version, rest: &str) -> Result<
         return Ok(version);
     }
     Err(ErrorKind::UnexpectedEnd {
-        version: String::from_str(alloc, scan::before_end(text, after))?,
+        version: String::from_str(alloc, scan::strip_end(text, after))?,
         remaining: String::from_str(alloc, after)?,
     })
 }
@@ -146,6 +147,7 @@ fn build_star_version(alloc: Global, epoch: u64, release: Release) -> Result<Ver
 }
 
 // The version of the parts of a normal one.
+#[inline(always)]
 fn build_normal_version(alloc: Global, parts: NormalParts) -> Result<Version, ErrorKind>
     requires { 0 < length parts.release }
     ensures reads { AnswersBy (λ v. v) result (Ok (from_parts parts.epoch parts.release parts.pre parts.post parts.dev [])) }
@@ -172,6 +174,24 @@ fn parse_through_release(alloc: Global, text: &str) -> Result<(u64, Release, &st
 
 // The version that the string parses to, and whether a star follows.
 pub(crate) fn parse_pattern(
+    alloc: Global,
+    text: &str,
+) -> Result<(Version, bool), VersionPatternParseError>
+    ensures reads { Answers pattern_error_refusal result (read_pattern text.now) }
+    ensures memory { (x : Record × Bool) → read_pattern text.now ≡ Ok x → is_packed x.0 ≡ true → IsOk result }
+{
+    if matches!(text.as_bytes(), [.., b'*']) {
+        if let Some(version) = parse_normal_star(text) {
+            return Ok((version, true));
+        }
+    } else if let Some(parts) = parse_normal_parts(text) {
+        return Ok((build_normal_version(alloc, parts)?, false));
+    }
+    parse_whole_pattern(alloc, text)
+}
+
+// The same part by part, for any string.
+fn parse_whole_pattern(
     alloc: Global,
     text: &str,
 ) -> Result<(Version, bool), VersionPatternParseError>
@@ -206,7 +226,7 @@ impl Version {
     }
 
     // The same, where the version is likely not packed.
-    #[inline(never)]
+    #[inline(always)]
     fn read_unpacked(alloc: Global, text: &str) -> Result<Version, VersionParseError>
         ensures reads { Answers error_refusal result (read_version text.now) }
         ensures memory { (r : Record) → read_version text.now ≡ Ok r → is_packed r ≡ true → IsOk result }

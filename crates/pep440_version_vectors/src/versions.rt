@@ -1,9 +1,7 @@
 //! Versions and patterns.
 mod again;
 mod calls;
-mod changes;
 mod copies;
-mod edited;
 mod equal;
 mod errors;
 mod extremes;
@@ -11,11 +9,7 @@ mod generic;
 mod hashing;
 mod kept;
 mod long;
-mod order;
 mod packed;
-mod patterns;
 mod printing;
-mod reading;
-mod refusals;
 mod sweeps;
 mod without_memory;

@@ -1,17 +1,15 @@
-//! Whether a specifier contains a version.
-ghost use Rattle.std.specs.Prelude.{◌≡◌, ◌≢◌, ◌<◌, ◌+◌, length, not, IfOk, IsOk};
+//! What matching asks of two versions.
+ghost use Rattle.std.specs.Prelude.{◌≡◌, ◌<◌, ◌+◌, length, IfOk};
 ghost use Rattle.pep440_rs.specs.Matching.{matches, candidate, same_release, begins_with, has_prefix, is_early, is_late, without_last};
-ghost use Rattle.pep440_rs.specs.declared.specifier.operator.Operator.TheVariants.{Equal, EqualStar, ExactEqual, NotEqual, NotEqualStar};
+ghost use Rattle.pep440_rs.specs.declared.specifier.operator.Operator.TheVariants.{ExactEqual};
 ghost use Rattle.pep440_version.specs.Key.{record_cmp};
 
-use crate::specifier::VersionSpecifier;
-use crate::specifier::operator::Operator;
 use pep440_version::{Version, cmp_releases, cmp_without_local};
 use std::alloc::{AllocError, Global};
 use std::cmp::Ordering;
 
 // The order of the candidate, without its local part if the specifier has none, and the specifier.
-fn cmp_candidate(specifier: &Version, version: &Version) -> Ordering
+pub(crate) fn cmp_candidate(specifier: &Version, version: &Version) -> Ordering
     ensures { result ≡ record_cmp (candidate specifier.now version.now) specifier.now }
 {
     if specifier.is_local() {
@@ -38,7 +36,7 @@ fn begins_with(numbers: &[u64], prefix: &[u64]) -> bool
     numbers.starts_with(shared) && beyond.iter().all(|number| *number == 0)
 }
 
-fn has_prefix(specifier: &Version, prefix: &[u64], version: &Version) -> bool
+pub(crate) fn has_prefix(specifier: &Version, prefix: &[u64], version: &Version) -> bool
     ensures { result ≡ has_prefix specifier.now prefix.now version.now }
 {
     version.epoch() == specifier.epoch() && begins_with(version.release(), prefix)
@@ -51,13 +49,13 @@ fn same_release(specifier: &Version, version: &Version) -> bool
         && cmp_releases(version.release(), specifier.release()).is_eq()
 }
 
-fn is_early(specifier: &Version, version: &Version) -> bool
+pub(crate) fn is_early(specifier: &Version, version: &Version) -> bool
     ensures { result ≡ is_early specifier.now version.now }
 {
     same_release(specifier, version) && !specifier.any_prerelease() && version.any_prerelease()
 }
 
-fn is_late(specifier: &Version, version: &Version) -> bool
+pub(crate) fn is_late(specifier: &Version, version: &Version) -> bool
     ensures { result ≡ is_late specifier.now version.now }
 {
     same_release(specifier, version)
@@ -65,7 +63,8 @@ fn is_late(specifier: &Version, version: &Version) -> bool
             || (specifier.is_local() && version.is_local()))
 }
 
-fn has_same_print(
+// Whether the two have the same normalized form.
+pub(crate) fn has_same_print(
     alloc: Global,
     specifier: &Version,
     version: &Version,
@@ -75,39 +74,4 @@ fn has_same_print(
     let wanted = specifier.to_string(alloc)?;
     let found = version.to_string(alloc)?;
     Ok(wanted == found)
-}
-
-impl VersionSpecifier {
-    /// Whether the specifier contains the version (PEP 440, "Version specifiers"). A specifier whose version has no
-    /// local part looks past that of the candidate.
-    ///
-    /// Takes memory for `===` alone, which compares prints; with any other operator it always answers.
-    pub fn contains(&self, alloc: Global, version: &Version) -> Result<bool, AllocError>
-        ensures value { IfOk result (λ b. b ≡ matches self.now.operator self.now.version version.now) }
-        ensures answered { self.now.operator ≢ ExactEqual → IsOk result }
-        // `!=` contains exactly what `==` does not, and `!=` star exactly what `==` star does not.
-        ensures excluded { self.now.operator ≡ NotEqual → IfOk result (λ b. b ≡ not (matches Equal self.now.version version.now)) }
-        ensures excluded_star { self.now.operator ≡ NotEqualStar → IfOk result (λ b. b ≡ not (matches EqualStar self.now.version version.now)) }
-    {
-        let specifier = self.version();
-        Ok(match self.operator() {
-            Operator::Equal => cmp_candidate(specifier, version).is_eq(),
-            Operator::NotEqual => cmp_candidate(specifier, version).is_ne(),
-            Operator::EqualStar => has_prefix(specifier, specifier.release(), version),
-            Operator::NotEqualStar => !has_prefix(specifier, specifier.release(), version),
-            Operator::TildeEqual => {
-                has_prefix(specifier, without_last(specifier.release()), version)
-                    && cmp_candidate(specifier, version).is_ge()
-            }
-            Operator::LessThan => {
-                cmp_candidate(specifier, version).is_lt() && !is_early(specifier, version)
-            }
-            Operator::LessThanEqual => cmp_candidate(specifier, version).is_le(),
-            Operator::GreaterThan => {
-                cmp_candidate(specifier, version).is_gt() && !is_late(specifier, version)
-            }
-            Operator::GreaterThanEqual => cmp_candidate(specifier, version).is_ge(),
-            Operator::ExactEqual => has_same_print(alloc, specifier, version)?,
-        })
-    }
 }

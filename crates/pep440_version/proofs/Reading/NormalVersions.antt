@@ -17,6 +17,7 @@ use Rattle.pep440_version.specs.declared.prerelease.PrereleaseKind.TheVariants.{
 use Rattle.pep440_version.specs.Form.{IsWord, packed_record, record_in}
 use Rattle.pep440_version.specs.Grammar.{Derives, IsEpoch, IsLeadingV, IsNumber, IsRelease, IsSpelled, IsSpelling, IsPre, IsPost, IsDev, Spellings, IsSeparator, pre_spellings, post_spellings, dev_spellings, starts}
 use Rattle.pep440_version.specs.Normal.{IsClass, IsKnown, IsPadded, IsSuffix, spelling}
+use Rattle.pep440_version.specs.Patterns.{DerivesStar}
 use Rattle.pep440_version.specs.Record.{from_parts}
 use Rattle.pep440_version.specs.Word.{is_short, word_of}
 use Rattle.pep440_version.proofs.Word.Shown.{Given, shown}
@@ -174,7 +175,7 @@ packs numbers count class n w p k small short sum =
 
 -- ---- a version
 
-pub with_epoch : (text v e release p q d ns : List ℕ) (epoch : ℕ) (pre : Option Prerelease) (post dev : Option ℕ) → text ≡ v ++ (e ++ (release ++ (p ++ (q ++ (d ++ []))))) → IsLeadingV v
+abbrev pub with_epoch : (text v e release p q d ns : List ℕ) (epoch : ℕ) (pre : Option Prerelease) (post dev : Option ℕ) → text ≡ v ++ (e ++ (release ++ (p ++ (q ++ (d ++ []))))) → IsLeadingV v
     → IsEpoch e epoch → IsRelease release ns → IsPre p (q ++ (d ++ [])) pre → IsPost q (d ++ []) post → IsDev d [] dev → Derives text (from_parts epoch ns pre post dev [])
 with_epoch text v e release p q d ns epoch pre post dev decomposition hv he hr hp hq hd = record {
   w1 = [];
@@ -265,3 +266,20 @@ normal text v after release rest ns class n decomposition hv after_is hr s =
           (parted text v release [] [] [] ns None None None (whole ∙ ap (λ t. v ++ (release ++ t)) h.0) hv hr refl refl refl)
       | inr h ↦ of_class text v release rest h.1.0 ns class n whole hv hr h.0 h.1.1 h.1.2
     ]
+
+-- a text of two bytes
+pub by_two : (a b : ℕ) (text : List ℕ) → length text ≡ 2 → get_or text 0 0 ≡ a → get_or text 1 0 ≡ b → text ≡ a ∷ b ∷ []
+by_two a b [] two f g = absurd (omega (arith, two))
+by_two a b (x ∷ []) two f g = absurd (omega (arith, two))
+by_two a b (x ∷ y ∷ []) two f g = λ i. f i ∷ g i ∷ []
+by_two a b (x ∷ y ∷ z ∷ rest) two f g = absurd (omega (arith, two))
+
+-- a letter v, a release and a star are a pattern
+pub starred : (text v after release rest ns : List ℕ) → text ≡ v ++ after → IsLeadingV v → after ≡ release ++ rest → IsRelease release ns → rest ≡ codes ".*" → DerivesStar text (record_in ns 5 0)
+starred text v after release rest ns decomposition hv after_is hr is = (
+  v ++ (release ++ []),
+  with_epoch (v ++ (release ++ [])) v [] release [] [] [] ns 0 None None None refl hv (inl (refl, refl)) hr refl refl refl,
+  decomposition ∙ ap (λ t. v ++ t) (after_is ∙ ap (λ t. release ++ t) is ∙ ap (λ t. t ++ codes ".*") (sym (append-nil release))) ∙ sym (append_assoc v (release ++ []) (codes ".*")),
+  refl,
+  refl,
+)

@@ -54,7 +54,7 @@ fn parse_segments(alloc: Global, text: &str) -> Result<(Vec<LocalSegment>, &str)
             return Err(make_local_empty(precursor));
         }
         push_segment(&mut segments, parse_segment(alloc, prefix)?)?;
-        match scan::first_separator(after) {
+        match scan::find_separator(after) {
             None => return Ok((segments, after)),
             Some(separator) => precursor = separator,
         }

@@ -4,6 +4,7 @@ ghost use Rattle.std.specs.Prelude.{◌≡◌, ◌≤◌, ◌++◌, ◌∷◌, �
 ghost use Rattle.std.specs.Char.{is_ascii_digit};
 ghost use Rattle.pep440_version.specs.Grammar.{Derives, IsNumber, IsRelease, starts};
 ghost use Rattle.pep440_version.specs.Normal.{IsClass, IsPadded, IsSuffix, spelling};
+ghost use Rattle.pep440_version.specs.Patterns.{DerivesStar};
 
 use super::skip_v;
 use crate::packed::{ALPHA, BETA, DEV, MAX_SUFFIX_NUMBER, NONE, POST, Packed, RC};
@@ -100,5 +101,18 @@ pub(crate) fn parse_normal_version(text: &str) -> Option<Version>
     let (numbers, count, rest) = parse_small_release(skip_v(text).as_bytes())?;
     let (class, number) = parse_normal_suffix(rest)?;
     let packed = Packed::of_suffix(numbers, count, class, number)?;
+    Some(Version::from_packed(packed))
+}
+
+// The release that the text has before a star, where it is of this form; None says nothing.
+#[inline(always)]
+pub(crate) fn parse_normal_star(text: &str) -> Option<Version>
+    ensures { IfSome result (DerivesStar text.now) }
+{
+    let (numbers, count, rest) = parse_small_release(skip_v(text).as_bytes())?;
+    let [b'.', b'*'] = rest else {
+        return None;
+    };
+    let packed = Packed::of_suffix(numbers, count, NONE, 0)?;
     Some(Version::from_packed(packed))
 }

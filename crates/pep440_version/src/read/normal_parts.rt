@@ -34,7 +34,7 @@ fn parse_normal_epoch(text: &[u8]) -> Option<(u64, &[u8])>
 
 // The kind of pre-release of a class.
 #[inline(always)]
-fn class_kind(class: u64) -> Option<PrereleaseKind>
+fn find_kind(class: u64) -> Option<PrereleaseKind>
     ensures { IfSome result (IsClassOfKind class) }
 {
     if class == ALPHA {
@@ -56,7 +56,7 @@ fn parse_normal_pre(text: &[u8]) -> Option<(Option<Prerelease>, &[u8])>
     let Some((class, digits)) = parse_class(text) else {
         return Some((None, text));
     };
-    let Some(kind) = class_kind(class) else {
+    let Some(kind) = find_kind(class) else {
         return Some((None, text));
     };
     let (number, rest) = parse_small_number(digits)?;

@@ -58,7 +58,7 @@ pub(crate) fn starts_with(text: &str, byte: u8) -> bool
 }
 
 // The leading separator.
-pub(crate) fn first_separator(text: &str) -> Option<u8>
+pub(crate) fn find_separator(text: &str) -> Option<u8>
     ensures { result ≡ (if starts is_separator text.now then Some (first_byte text.now) else None) }
 {
     match text.as_bytes() {
@@ -74,7 +74,7 @@ pub(crate) fn first_separator(text: &str) -> Option<u8>
 pub(crate) fn skip_separator(text: &str) -> &str
     ensures { result.now ≡ skip_separator text.now }
 {
-    match first_separator(text) {
+    match find_separator(text) {
         Some(_) => skip_ascii(text),
         None => text,
     }
@@ -140,7 +140,7 @@ pub(crate) fn skip_ascii(text: &str) -> &str
 }
 
 // The string without this end.
-pub(crate) fn before_end<'a>(text: &'a str, end: &str) -> &'a str
+pub(crate) fn strip_end<'a>(text: &'a str, end: &str) -> &'a str
     requires { EndsWith text.now end.now }
     ensures { result.now ≡ take (length text.now - length end.now) text.now }
 {

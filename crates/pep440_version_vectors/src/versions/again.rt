@@ -1,7 +1,6 @@
 //! Values for the tests that are run with one request for memory refused: what was refused is asked for again,
 //! and is then given.
-use super::calls::Refused;
-use pep440_version::{ErrorKind, Version, VersionParseError};
+use pep440_version::Version;
 use std::alloc::Global;
 use std::fmt::Display;
 use std::test::Fail;
@@ -49,33 +48,4 @@ pub fn printed<T: Display>(alloc: Global, value: &T) -> Result<String, Fail> {
 /// Whether the value prints so.
 pub fn prints<T: Display>(alloc: Global, value: &T, want: &str) -> Result<bool, Fail> {
     Ok(printed(alloc, value)?.as_str() == want)
-}
-
-/// Why the text is no version.
-pub fn refusal(rt: HostRuntime, text: &str) -> Result<VersionParseError, Fail> {
-    for _ in 0..TRIES {
-        if let Err(error) = Version::from_str(rt.alloc(), text) {
-            if *error.kind() != ErrorKind::OutOfMemory {
-                return Ok(error);
-            }
-        }
-    }
-    Err(refused_each_time())
-}
-
-/// Whether the kind says so; takes no memory.
-pub fn says(kind: &ErrorKind, refused: Refused<'_>) -> bool {
-    match (kind, refused) {
-        (ErrorKind::Wildcard, Refused::Wildcard) => true,
-        (ErrorKind::NumberTooBig { bytes }, Refused::TooBig(digits)) => {
-            bytes.as_slice() == digits.as_bytes()
-        }
-        (ErrorKind::NoLeadingNumber, Refused::NoNumber) => true,
-        (ErrorKind::NoLeadingReleaseNumber, Refused::NoRelease) => true,
-        (ErrorKind::LocalEmpty { precursor }, Refused::LocalEmpty(c)) => *precursor == c,
-        (ErrorKind::UnexpectedEnd { version, remaining }, Refused::End(front, rest)) => {
-            version.as_str() == front && remaining.as_str() == rest
-        }
-        _ => false,
-    }
 }

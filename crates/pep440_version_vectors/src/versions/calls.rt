@@ -13,16 +13,6 @@ pub fn pattern(rt: HostRuntime, text: &str) -> Result<VersionPattern, Fail> {
     Ok(VersionPattern::from_str(rt.alloc(), text)?)
 }
 
-/// The print of the version that the text means.
-pub fn printed(rt: HostRuntime, text: &str) -> Result<String, Fail> {
-    Ok(version(rt, text)?.to_string(rt.alloc())?)
-}
-
-/// The marks `min` and `max`.
-pub fn marks(version: &Version) -> (Option<u64>, Option<u64>) {
-    (version.min(), version.max())
-}
-
 /// A refusal, as a table writes it.
 #[derive(Clone, Copy)]
 pub enum Refused<'a> {

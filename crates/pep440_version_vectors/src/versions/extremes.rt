@@ -1,18 +1,5 @@
-//! Numbers at their maximum, and very long texts.
-use super::calls::printed;
+//! A thousand release numbers, and a thousand local segments.
 use std::test::Fail;
-
-const GREATEST: &str =
-    "18446744073709551615!18446744073709551615.0a18446744073709551615.post18446744073709551615.dev18446744073709551615";
-
-#[test]
-fn greatest_numbers(rt: HostRuntime) -> Result<(), Fail> {
-    let found = printed(rt, GREATEST)?;
-    assert!(rt; found.as_str() == GREATEST, "{found}");
-    let found = printed(rt, "00018446744073709551615")?;
-    assert!(rt; found.as_str() == "18446744073709551615", "{found}");
-    Ok(())
-}
 
 #[test]
 fn thousand_release_numbers(rt: HostRuntime) -> Result<(), Fail> {

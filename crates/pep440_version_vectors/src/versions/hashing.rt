@@ -68,6 +68,50 @@ fn epoch_set_back(rt: HostRuntime) -> Result<(), Fail> {
     Ok(())
 }
 
+// Epoch 0, one release number, stage final, post 5, no dev, no local.
+const POST_5: [Call; 8] = [
+    Number(0),
+    Number(1),
+    Number(1),
+    Number(5),
+    Number(1),
+    Number(5),
+    Number(1),
+    Number(0),
+];
+
+#[test]
+fn post_set_back(rt: HostRuntime) -> Result<(), Fail> {
+    let back = version(rt, "1.0")?
+        .with_post(rt.alloc(), Some(2097152))?
+        .with_post(rt.alloc(), Some(5))?;
+    assert_feeds(&rt, &back, &POST_5);
+    assert_feeds(&rt, &version(rt, "1.0.post5")?, &POST_5);
+    Ok(())
+}
+
+// Epoch 0, two release numbers, stage final, no post, no dev, no local.
+const ONE_TWO: [Call; 8] = [
+    Number(0),
+    Number(2),
+    Number(1),
+    Number(2),
+    Number(5),
+    Number(0),
+    Number(1),
+    Number(0),
+];
+
+#[test]
+fn local_and_release_set_back(rt: HostRuntime) -> Result<(), Fail> {
+    let back = version(rt, "1.0+x")?.without_local(rt.alloc())?;
+    assert_feeds(&rt, &back, &ONE);
+    let back = version(rt, "1.2.3.4.5")?.with_release(rt.alloc(), &[1, 2])?;
+    assert_feeds(&rt, &back, &ONE_TWO);
+    assert_feeds(&rt, &version(rt, "1.2")?, &ONE_TWO);
+    Ok(())
+}
+
 #[test]
 fn marks(rt: HostRuntime) -> Result<(), Fail> {
     let max = Version::new(rt.alloc(), &[1, 0])?.with_max(rt.alloc(), Some(3))?;

@@ -94,19 +94,6 @@ fn versions(rt: HostRuntime) -> Result<(), Fail> {
 }
 
 #[test]
-fn errors(rt: HostRuntime) -> Result<(), Fail> {
-    let want = "wildcards are not allowed in a version";
-    let error = VersionParseError::from(kind(rt.alloc(), Refused::Wildcard)?);
-    assert_prints(&rt, rt.alloc(), &error, want)?;
-    assert_prints(
-        &rt,
-        rt.alloc(),
-        &VersionPatternParseError::from(error),
-        want,
-    )
-}
-
-#[test]
 fn errors_of_changes(rt: HostRuntime) -> Result<(), Fail> {
     let want = "change 12: a release needs at least one number";
     assert_prints(&rt, rt.alloc(), &ChangeError::EmptyRelease(12), want)

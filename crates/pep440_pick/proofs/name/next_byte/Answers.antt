@@ -10,5 +10,5 @@ returns-then-is_separator-clause-value c =
     let parts : c.args.text.now ≡ c.in_ok-first.first.now ∷ c.in_ok-first.rest.now = search rules in
     let is : is_separator c.in_ok-first.first.now ≡ true = sym c.is_separator.ensures ∙ c.if-is_separator.true in
     ap normal parts ∙ run_is_one c.in_ok-first.first.now c.in_ok-first.rest.now is
-    ∙ ap (λ n. 45 ∷ normal (drop n c.in_ok-first.rest.now)) (sym c.separators_len.ensures.count)
-    ∙ ap (λ t. 45 ∷ normal t) (sym (take_rest c.in_ok-first.rest.now c.separators_len.result))
+    ∙ ap (λ n. 45 ∷ normal (drop n c.in_ok-first.rest.now)) (sym c.count_separators.ensures.count)
+    ∙ ap (λ t. 45 ∷ normal t) (sym (take_rest c.in_ok-first.rest.now c.count_separators.result))

@@ -15,9 +15,9 @@ returns c = inl (
   inl (
     c.in_ok-versions.ensures.0,
     c.in_ok-versions.ensures.1,
-    shows_contained c.in_ok-list.list c.in_ok-versions.ensures.0 (answer_value c.shown_lines.result) c.in_ok-versions.versions.items c.sort.new.self.items (string_bytes c.in_ok-to_string.field-0)
+    shows_contained c.in_ok-list.list c.in_ok-versions.ensures.0 (answer_value c.from_lines.result) c.in_ok-versions.versions.items c.sort.new.self.items (string_bytes c.in_ok-to_string.field-0)
         c.in_ok-versions.ensures.2 c.in_ok-sort.ensures.permutation c.in_ok-sort.ensures.sorted c.in_ok-sort.ensures.stable
-        (rw c.as_slice.ensures.value at c.in_ok-to_string.ensures.ok) c.shown_lines.ensures,
+        (rw c.as_slice.ensures.value at c.in_ok-to_string.ensures.ok) c.from_lines.ensures,
   ),
 )
 

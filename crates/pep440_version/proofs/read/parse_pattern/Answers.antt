@@ -1,17 +1,18 @@
-use Rattle.pep440_version.proofs.Reading.Agreement.{opening_ends, opening_some}
-use Rattle.pep440_version.proofs.Reading.WithoutMemory.{opened_too}
+use Rattle.std.proofs.Common.{◌∙◌, ap, sym, false, true, Bool, Ok}
+use Rattle.pep440_version.specs.Record.{Record}
+use Rattle.pep440_version.specs.Word.{is_packed}
+use Rattle.pep440_version.proofs.Reading.Agreement.{only_pattern, sure}
+use Rattle.pep440_version.proofs.Reading.ReadIsDerived.{inside}
 use Rattle.pep440_version.proofs.read.parse_pattern.Goals as goal
 
-pub parse_after_release-requires-clause-some : goal.parse_after_release-requires-clause-some
-parse_after_release-requires-clause-some c = opening_some c.args.text.now _ c.in_ok-epoch.ensures.reads
+pub returns-in-Some-clause-reads : goal.returns-in-Some-clause-reads
+returns-in-Some-clause-reads c = only_pattern c.args.text.now c.in-Some.version true c.in-Some.ensures
 
-pub parse_after_release-requires-clause-at_end : goal.parse_after_release-requires-clause-at_end
-parse_after_release-requires-clause-at_end c = opening_ends c.args.text.now _ c.in_ok-epoch.ensures.reads
+pub returns-in-Some-parse_normal_parts-clause-reads : goal.returns-in-Some-parse_normal_parts-clause-reads
+returns-in-Some-parse_normal_parts-clause-reads c =
+    only_pattern c.args.text.now _ false c.in-Some-parse_normal_parts.ensures ∙ ap (λ (r : Record). Ok (r, false)) (inside _ _ c.in_ok-build_normal_version.ensures.reads)
 
-pub build_star_version-requires : goal.build_star_version-requires
-build_star_version-requires c = opening_some c.args.text.now _ c.in_ok-epoch.ensures.reads
-
-pub returns-in_err-epoch-clause-memory : goal.returns-in_err-epoch-clause-memory
-returns-in_err-epoch-clause-memory c = λ x e fits.
-    let o = opened_too c.args.text.now x e fits in
-    cc (c.in_err-epoch.ensures.memory o.0 o.1 o.2)
+pub returns-in_err-build_normal_version-clause-memory : goal.returns-in_err-build_normal_version-clause-memory
+returns-in_err-build_normal_version-clause-memory c = λ x e fits.
+    let same = sure _ _ (sym (only_pattern c.args.text.now _ false c.in-Some-parse_normal_parts.ensures) ∙ e) in
+    cc (c.in_err-build_normal_version.ensures.memory (ap (λ (p : Record × Bool). is_packed p.0) same ∙ fits))

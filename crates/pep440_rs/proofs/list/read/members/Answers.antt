@@ -1,4 +1,4 @@
-use Rattle.std.proofs.Common.{◌≡◌, ◌++◌, ◌-◌, ◌∙◌, ◌∷◌, [], ap, arith, length, sym, Ok}
+use Rattle.std.proofs.Common.{◌++◌, ◌-◌, ◌∙◌, ◌∷◌, [], ap, arith, length, sym, Ok}
 use Rattle.std.proofs.lemmas.List.{append_assoc, length-append}
 use Rattle.pep440_version.proofs.Reading.Endings.{ends_then}
 use Rattle.std.specs.Prelude.{IfErr}
@@ -51,5 +51,5 @@ returns-in-None-clause-value c =
     let added = c.in_ok-add_piece.ensures.added in
     members_from c.args.text.now some
     ∙ ends_here c.loop-members.members.items added.0 (read_pieces 0 (pieces c.args.text.now)) (length c.args.text.now - length c.loop-members.rest.now) c.loop-members.rest.now c.split_piece.result.0.now split added.1
-        c.loop-members.invariant.2
+    c.loop-members.invariant.2
     ∙ ap Ok (sym added.2)
