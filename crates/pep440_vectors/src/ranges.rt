@@ -12,7 +12,7 @@ use std::ops::Bound;
 use std::test::Fail;
 
 // A text, and its range or refusal as `told` writes it.
-type Row = (&'static str, &'static str);
+pub type Row = (&'static str, &'static str);
 
 // The print, then min and max.
 fn marked(alloc: Global, version: &Version) -> Result<String, AllocError> {
@@ -55,7 +55,7 @@ fn segments(alloc: Global, range: &Ranges<Version>) -> Result<String, AllocError
 }
 
 // The segments, or why there is no range; asked again where memory was refused.
-fn told(rt: HostRuntime, range: Result<Ranges<Version>, RangeError>) -> Result<String, Fail> {
+pub fn told(rt: HostRuntime, range: Result<Ranges<Version>, RangeError>) -> Result<String, Fail> {
     match range {
         Ok(range) => match segments(rt.alloc(), &range) {
             Ok(text) => Ok(text),
@@ -65,7 +65,7 @@ fn told(rt: HostRuntime, range: Result<Ranges<Version>, RangeError>) -> Result<S
     }
 }
 
-const REFUSED: &str = "a number of 18446744073709551615 cannot be raised";
+pub const REFUSED: &str = "a number of 18446744073709551615 cannot be raised";
 
 // PEP 440, "Version specifiers": by the whole order.
 const WHOLE: [Row; 38] = [
