@@ -90,11 +90,7 @@ fn cover_less(alloc: Global, version: Version) -> Result<Ranges<Version>, AllocE
 }
 
 // The cover, operator by operator.
-fn cover(
-    alloc: Global,
-    operator: Operator,
-    version: Version,
-) -> Result<Ranges<Version>, RangeError>
+fn cover(alloc: Global, operator: Operator, version: Version) -> Result<Ranges<Version>, RangeError>
     requires { operator ≡ Operator.TildeEqual → 2 ≤ length version.release }
     ensures cover { IfOk result (λ r. cover_of operator version ≡ Some r) }
     ensures refused { IsErrOf result RangeError.NumberAtMax → cover_of operator version ≡ None }
