@@ -105,31 +105,48 @@ fn members_of_pair(
     Ok(prints)
 }
 
-// The bounds, two by two.
-fn pairs_of(
+// A pair of bounds on releases.
+fn pair(
     alloc: Global,
-    sides: &[String],
-) -> Result<Vec<(Bound<Version>, Bound<Version>)>, CaseError>
-    ensures { IfOk result (λ pairs. All IsReleasePair pairs.items) }
+    start: &str,
+    end: &str,
+) -> Result<(Bound<Version>, Bound<Version>), CaseError>
+    ensures { IfOk result (λ p. IsReleasePair p) }
 {
-    let mut pairs = Vec::new(alloc);
-    let mut rest = sides;
-    while let [start, end, later @ ..] = rest {
-        let start = release_bound(alloc, start.as_str())?;
-        pairs.push((start, release_bound(alloc, end.as_str())?))?;
-        rest = later;
-    }
-    Ok(pairs)
+    Ok((release_bound(alloc, start)?, release_bound(alloc, end)?))
 }
 
-/// The list of these pairs of bounds on releases; behind that of one pair, its specifiers.
-pub fn pairs(alloc: Global, sides: &[String]) -> Result<String, CaseError> {
-    let pairs = pairs_of(alloc, sides)?;
-    let list = VersionSpecifiers::from_release_only_bounds(alloc, pairs.as_slice())?;
-    let mut text = printed(alloc, &list)?;
-    if let [pair] = pairs.as_slice() {
-        let members = members_of_pair(alloc, pair)?;
-        write!(text, ";{members}")?;
-    }
+// The list of these pairs.
+fn list_of_pairs(
+    alloc: Global,
+    pairs: &[(Bound<Version>, Bound<Version>)],
+) -> Result<String, CaseError>
+    requires { All IsReleasePair pairs.now }
+{
+    let list = VersionSpecifiers::from_release_only_bounds(alloc, pairs)?;
+    Ok(printed(alloc, &list)?)
+}
+
+// The list of one pair, and behind it the pair's specifiers.
+fn list_of_one(alloc: Global, start: &str, end: &str) -> Result<String, CaseError> {
+    let one = pair(alloc, start, end)?;
+    let members = members_of_pair(alloc, &one)?;
+    let pairs = [one];
+    let mut text = list_of_pairs(alloc, &pairs)?;
+    write!(text, ";{members}")?;
     Ok(text)
+}
+
+/// The list of these pairs of bounds on releases, at most two; behind that of one pair, its specifiers.
+pub fn pairs(alloc: Global, sides: &[String]) -> Result<String, CaseError> {
+    match sides {
+        [] => list_of_pairs(alloc, &[]),
+        [start, end] => list_of_one(alloc, start.as_str(), end.as_str()),
+        [start, end, next, last] => {
+            let first = pair(alloc, start.as_str(), end.as_str())?;
+            let pairs = [first, pair(alloc, next.as_str(), last.as_str())?];
+            list_of_pairs(alloc, &pairs)
+        }
+        _ => Err(CaseError::Unreadable),
+    }
 }
