@@ -68,7 +68,22 @@ def compile_extension(out):
         raise SystemExit(f"{PACKAGE}: not compiled: {shlex.join(command)}")
 
 
-def metadata():
+def platform_of(extension):
+    """The platform of the wheel's tag: by the newest glibc that the extension asks for (PEP 600), where that can be read and it needs no more."""
+    machine = re.sub(r"[-.]", "_", sysconfig.get_platform())
+    readelf = shutil.which("readelf")
+    if not machine.startswith("linux_") or not readelf:
+        return machine
+    told = subprocess.run([readelf, "--wide", "--dynamic", "--version-info", str(extension)], capture_output=True, text=True, check=True).stdout
+    needed = re.findall(r"\(NEEDED\).*\[(.*)\]", told)
+    asked = [tuple(map(int, it)) for it in re.findall(r"Name: GLIBC_([0-9]+)\.([0-9]+)", told)]
+    if needed != ["libc.so.6"] or not asked:
+        return machine
+    # no index takes a lower one than 2.5
+    return "manylinux_{}_{}_{}".format(*max(*asked, (2, 5)), machine.removeprefix("linux_"))
+
+
+def metadata(tag):
     """The files of the wheel's folder .dist-info, but for RECORD."""
     told = project()
     head = [
@@ -81,13 +96,8 @@ def metadata():
         "Description-Content-Type: text/markdown",
     ]
     readme = (HERE / told["readme"]).read_text(encoding="utf-8")
-    wheel = ["Wheel-Version: 1.0", "Generator: build_backend", "Root-Is-Purelib: false", f"Tag: {tag()}"]
+    wheel = ["Wheel-Version: 1.0", "Generator: build_backend", "Root-Is-Purelib: false", f"Tag: {tag}"]
     return {"METADATA": "\n".join([*head, "", readme]), "WHEEL": "\n".join([*wheel, ""])}
-
-
-def tag():
-    platform = re.sub(r"[-.]", "_", sysconfig.get_platform())
-    return f"{PYTHON_TAG}-abi3-{platform}"
 
 
 def release():
@@ -100,26 +110,29 @@ def record_line(name, data):
 
 
 def contents():
-    """The files of the wheel by their names in it, RECORD last."""
+    """The wheel's tag, and its files by their names in it, RECORD last."""
     files = {}
     for path in sorted((HERE / "src" / PACKAGE).iterdir()):
         if path.suffix in (".py", ".pyi", ".typed"):
             files[f"{PACKAGE}/{path.name}"] = path.read_bytes()
     with tempfile.TemporaryDirectory() as work:
-        compile_extension(pathlib.Path(work) / EXTENSION)
-        files[f"{PACKAGE}/{EXTENSION}"] = (pathlib.Path(work) / EXTENSION).read_bytes()
+        extension = pathlib.Path(work) / EXTENSION
+        compile_extension(extension)
+        files[f"{PACKAGE}/{EXTENSION}"] = extension.read_bytes()
+        tag = f"{PYTHON_TAG}-abi3-{platform_of(extension)}"
     info = f"{release()}.dist-info"
-    files |= {f"{info}/{name}": text.encode() for name, text in metadata().items()}
+    files |= {f"{info}/{name}": text.encode() for name, text in metadata(tag).items()}
     files |= {f"{info}/licenses/{name}": (HERE.parent.parent / name).read_bytes() for name in ("LICENSE", "NOTICE")}
     lines = [record_line(name, data) for name, data in files.items()]
     files[f"{info}/RECORD"] = "\n".join([*lines, f"{info}/RECORD,,", ""]).encode()
-    return files
+    return tag, files
 
 
 def build_wheel(wheel_directory, config_settings=None, metadata_directory=None):
-    name = f"{release()}-{tag()}.whl"
+    tag, files = contents()
+    name = f"{release()}-{tag}.whl"
     with zipfile.ZipFile(os.path.join(wheel_directory, name), "w", zipfile.ZIP_DEFLATED) as wheel:
-        for each, data in contents().items():
+        for each, data in files.items():
             # no time of day, so that the same sources make the same wheel
             entry = zipfile.ZipInfo(each, (1980, 1, 1, 0, 0, 0))
             entry.compress_type = zipfile.ZIP_DEFLATED

@@ -2,6 +2,7 @@ pub mod Reading
 pub mod Reread
 pub mod Arranging
 pub mod Agreement
+pub mod Covering
 pub mod Intersecting
 pub mod Raising
 pub mod Within

@@ -25,3 +25,4 @@ pub mod Members
 pub mod Refused
 pub mod Json
 pub mod Conversions
+pub mod Cover

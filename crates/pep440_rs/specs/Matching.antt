@@ -1,6 +1,6 @@
 -- Whether a specifier contains a version (PEP 440, "Version specifiers"): for each operator one condition
 -- on the specifier's record s and the candidate's record v.
-use Rattle.std.specs.Prelude.{ℕ, ◌==◌, Bool, true, false, not, ◌&&◌, ◌||◌, List, [], ◌∷◌, length, is_some, bytes_eq, if◌then◌else◌}
+use Rattle.std.specs.Prelude.{ℕ, ◌==◌, Bool, true, not, ◌&&◌, ◌||◌, List, [], ◌∷◌, length, is_some, bytes_eq, if◌then◌else◌}
 use Rattle.std.specs.List.{list_all}
 use Rattle.std.specs.Ordering.{is_lt, is_le, is_gt, is_ge, is_eq}
 use Rattle.pep440_rs.specs.Specifiers.{Spec}

@@ -6,6 +6,7 @@ ghost use Rattle.pep440_rs.specs.Agreement.{Agrees, HasOperand, HoldsOnlyMatches
 ghost use Rattle.pep440_rs.specs.Arrangement.{Arranges};
 ghost use Rattle.pep440_rs.specs.BoundsAgreement.{HoldsOnlyWithin, HoldsWithin, IsOrdered, IsReleasePair, KnowsGaps, MatchesWithin};
 ghost use Rattle.pep440_rs.specs.Bounds.{Segments, range_of, release_range_of, list_range};
+ghost use Rattle.pep440_rs.specs.Cover.{Covers, IsCoverable, ListCovers, cover_of};
 ghost use Rattle.pep440_rs.specs.ListGrammar.{DerivesList, PieceRefusal, RefusesList};
 ghost use Rattle.pep440_rs.specs.Matching.{matches};
 ghost use Rattle.pep440_rs.specs.Members.{list_members, pair_members};
@@ -101,9 +102,18 @@ pub fn ranges_stay_small()
     ensures release { (members : List Spec) (range : Segments) → list_range release_range_of members ≡ Some range → HasFewSegments members range }
 {}
 
+/// The cover holds every version that the specifier or the list contains, of all that strings give.
+pub fn cover_holds()
+    ensures single { (s : Spec) (cover : Segments) → cover_of s.operator s.version ≡ Some cover → HasText s → Covers s cover }
+    ensures list { (members : List Spec) (cover : Segments) → list_range cover_of members ≡ Some cover → All HasText members → ListCovers members cover }
+    ensures given { (s : Spec) → HasText s → IsCoverable s }
+    ensures apart { GivesRanges cover_of }
+{}
+
 /// A conversion is rejected exactly where a number to be raised is the greatest there is.
 pub fn refused_at_max()
     ensures whole { RefusedAtMax range_of raised_number }
+    ensures cover { RefusedAtMax cover_of raised_number }
     ensures release { RefusedAtMax release_range_of raised_release_number }
 {}
 

@@ -44,9 +44,10 @@ pub use pep440_version::{
     Version, VersionParseError, VersionPattern, VersionPatternParseError, cmp_releases,
     cmp_without_local, min_version, write_local_segments,
 };
+pub use range::cover::specifier_to_cover;
 pub use range::error::RangeError;
 pub use range::lines::RangeLines;
-pub use range::list::{release_specifiers_to_ranges, specifiers_to_ranges};
+pub use range::list::{release_specifiers_to_ranges, specifiers_to_cover, specifiers_to_ranges};
 pub use range::release_only::release_specifier_to_range;
 pub use range::whole_order::specifier_to_range;
 pub use specifier::VersionSpecifier;

@@ -1,4 +1,5 @@
-//! Ranges of specifiers and of lists: two conversions, their intersection, raised numbers.
+//! Ranges of specifiers and of lists: two conversions, covers, their intersection, raised numbers.
+pub(crate) mod cover;
 pub(crate) mod error;
 pub(crate) mod intersection;
 pub(crate) mod lines;

@@ -17,7 +17,7 @@ use matching::{build, compare, contains, contains_unchecked, unchecked};
 use operators::operator;
 use parsers::{list, members, specifier};
 use pep440_cases::{Calls, CaseError, run_cases};
-use ranges::{beside, intersection, range, release_range, unchecked_range};
+use ranges::{beside, cover, cover_beside, intersection, range, release_range, unchecked_range};
 use std::alloc::Global;
 use std::io;
 
@@ -30,6 +30,7 @@ fn of_one(alloc: Global, call: &str, text: &str) -> Result<String, CaseError> {
         "list" => list(alloc, text),
         "members" => members(alloc, text),
         "range" => range(alloc, text),
+        "cover" => cover(alloc, text),
         "release-range" => release_range(alloc, text),
         "lower-bound" => lower_bound(alloc, text),
         "upper-bound" => upper_bound(alloc, text),
@@ -51,6 +52,7 @@ fn of_two(alloc: Global, call: &str, one: &str, other: &str) -> Result<String, C
         "unchecked" => unchecked(alloc, one, other),
         "unchecked-range" => unchecked_range(alloc, one, other),
         "beside" => beside(alloc, one, other),
+        "cover-beside" => cover_beside(alloc, one, other),
         _ => Err(CaseError::Unreadable),
     }
 }

@@ -31,7 +31,7 @@ lt_table ord.Equal X Y p h k = rw (h refl) (go Y (k refl))
     go ord.Equal k = refl
     go ord.Greater k = refl
 
-abbrev marked : Record → Record
+abbrev pub marked : Record → Record
 marked s = record (plain s) { min = Some 0 }
 
 below_agrees : (s v : Record) → any_prerelease (plain s) ≡ false → not (is_eq (base_cmp (plain v) (plain s))) || not (is_some s.post) || any_prerelease (plain s) ≡ true →

@@ -22,14 +22,14 @@ use Rattle.pep440_rs.proofs.Agreement.Releases.{release_agrees}
 use Rattle.pep440_rs.proofs.Agreement.Single.{agrees}
 
 -- v lies in the range of a member, which isn't refused
-abbrev is_held : Option Segments → Record → Bool
+abbrev pub is_held : Option Segments → Record → Bool
 is_held range v = option_map_or (λ r. contains record_cmp r v) range false
 
 abbrev exclusions : List Spec → ℕ
 exclusions members = count_by (λ m. is_exclusion m.operator) members
 
 -- what follows a member's range, where it has one
-bound : {A B : Type 0} (f : A → Option B) (o : Option A) (b : B) → option_and_then f o ≡ Some b → (a : A) × (o ≡ Some a) × (f a ≡ Some b)
+pub bound : {A B : Type 0} (f : A → Option B) (o : Option A) (b : B) → option_and_then f o ≡ Some b → (a : A) × (o ≡ Some a) × (f a ≡ Some b)
 bound f None b e = cc
 bound f (Some a) b e = (a, refl, e)
 

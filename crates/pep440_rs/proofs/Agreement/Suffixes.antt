@@ -70,7 +70,7 @@ from_dev None (Some p) None = refl
 from_dev None (Some p) (Some d) = refl
 
 -- the stage with a dev is the same whatever its number, and so is that with a post
-dev_stage : (pre : Option Prerelease) (post : Option ℕ) (d n : ℕ) → stage_of None pre (Some d) post None ≡ stage_of None pre (Some n) post None
+pub dev_stage : (pre : Option Prerelease) (post : Option ℕ) (d n : ℕ) → stage_of None pre (Some d) post None ≡ stage_of None pre (Some n) post None
 dev_stage (Some p) post d n = refl
 dev_stage None None d n = refl
 dev_stage None (Some p) d n = refl

@@ -10,9 +10,9 @@ use Rattle.pep440_rs.specs.Agreement.{GivesRanges}
 use Rattle.pep440_rs.specs.Bounds.{Segments, full}
 use Rattle.pep440_rs.specs.Conversions.{converted, IsKept}
 use Rattle.pep440_rs.specs.declared.range.list.Conversion.{Conversion}
-use Rattle.pep440_rs.specs.declared.range.list.Conversion.TheVariants.{WholeOrder, ReleaseOnly}
+use Rattle.pep440_rs.specs.declared.range.list.Conversion.TheVariants.{WholeOrder, ReleaseOnly, Cover}
 use Rattle.pep440_rs.proofs.Intersecting.Associates.{overlaps_assoc}
-use Rattle.pep440_rs.proofs.Intersecting.Count.{gives_ranges, gives_release_ranges}
+use Rattle.pep440_rs.proofs.Intersecting.Count.{gives_covers, gives_ranges, gives_release_ranges}
 use Rattle.pep440_version.specs.Key.{record_cmp}
 use Rattle.pep440_version.specs.KeyLaws.{record_total}
 use Rattle.pep440_version.specs.Record.{Record}
@@ -47,6 +47,7 @@ kept (s ∷ ss) h = append-nil _ ∙ one s ss h.0 (each s.1 ss h.1)
 gives : (c : Conversion) → GivesRanges (converted c)
 gives WholeOrder = gives_ranges
 gives ReleaseOnly = gives_release_ranges
+gives Cover = gives_covers
 
 -- what a conversion gives
 pub converted_kept : (c : Conversion) (op : _) (s : Record) (range : Segments) → converted c op s ≡ Some range → IsKept range

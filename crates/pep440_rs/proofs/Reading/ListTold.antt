@@ -1,5 +1,5 @@
 -- The text of a list's error.
-use Rattle.std.proofs.Common.{◌≡◌, ℕ, List, Option, Some, None, Result, Ok, Err, refl, sym, ap, subst, option_map, ◌∙◌}
+use Rattle.std.proofs.Common.{◌≡◌, ℕ, List, Option, Some, None, Result, Ok, Err, sym, ap, subst, option_map, ◌∙◌}
 use Rattle.std.specs.Prelude.{IfErr, IfSome}
 use Rattle.pep440_rs.specs.ErrorTexts.{specifier_error_text}
 use Rattle.pep440_rs.specs.Errors.{parse_kind_of, specifier_refusal_of}

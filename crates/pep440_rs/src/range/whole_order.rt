@@ -1,7 +1,7 @@
 //! The range of a specifier, by the whole order of versions.
 ghost use Rattle.std.specs.Prelude.{◌≡◌, ◌≤◌, length, IfOk, IsErrOf, Some, None};
 ghost use Rattle.pep440_rs.specs.Agreement.{Agrees, IsCandidate, HasOperand, HoldsOnlyMatches, HoldsAllMatches};
-ghost use Rattle.pep440_rs.specs.Bounds.{range_of, greater, compatible_end, star, star_end};
+ghost use Rattle.pep440_rs.specs.Bounds.{range_of, less, greater, compatible_end, star, star_end};
 ghost use Rattle.pep440_rs.specs.Refused.{TellsMax, raised_number, raises_max};
 ghost use Rattle.pep440_version.specs.Record.{Record};
 
@@ -24,8 +24,8 @@ fn exclude_version(alloc: Global, version: Version) -> Result<Ranges<Version>, A
 }
 
 // `<`: below the version, or below the sentinel that is below all of its release.
-fn convert_less(alloc: Global, version: Version) -> Result<Ranges<Version>, AllocError>
-    ensures { IfOk result (λ r. range_of Operator.LessThan version ≡ Some r) }
+pub(crate) fn convert_less(alloc: Global, version: Version) -> Result<Ranges<Version>, AllocError>
+    ensures { IfOk result (λ r. r ≡ less version) }
 {
     if version.pre().is_some() || version.dev().is_some() {
         return Ranges::strictly_lower_than(alloc, version);
@@ -102,7 +102,7 @@ fn convert_star(alloc: Global, version: Version) -> Result<Ranges<Version>, Rang
 }
 
 // The range, operator by operator.
-fn convert(
+pub(crate) fn convert(
     alloc: Global,
     operator: Operator,
     version: Version,
