@@ -1,4 +1,5 @@
-//! Worked rows of the program, as tests: words, input, output and status; readers and writers that fail; refused memory.
+//! What no test case of `pep440_tool_cases` and `pep440_pick_cases` can ask: readers and writers that fail, refused memory, very long
+//! strings.
 #![tactic(auto)]
 
 #[cfg(test)]
@@ -8,11 +9,9 @@ mod lists;
 #[cfg(test)]
 mod long;
 #[cfg(test)]
-mod picks;
+mod requirements;
 #[cfg(test)]
 mod room;
-#[cfg(test)]
-mod rows;
 #[cfg(test)]
 mod runs;
 #[cfg(test)]

@@ -1,5 +1,4 @@
-//! What words with a list of specifiers answer, also with each request for memory refused in turn; and runs of `filter` over readers and
-//! writers that fail.
+//! Input that is no text; a refused list cut anywhere; runs of `filter` and `pick` over readers and writers that fail.
 use super::support::{After, Manner, Trickle, answered, run_over, split_words, words_of};
 use std::alloc::{AllocError, Global};
 use std::test::Fail;
@@ -21,164 +20,11 @@ fn holds(
     Ok(said.status == status && said.output.as_slice() == output.as_bytes())
 }
 
-// A list, a version, and whether the list contains it.
-const MATCHES: [(&str, &str, bool); 34] = [
-    ("==1.2.*", "1", false),
-    ("==1.0.*", "1", true),
-    ("<1.0", "1.0a1", false),
-    ("<1.0b2", "1.0a1", true),
-    ("<1!1.0", "1.0a1", true),
-    (">1.0", "1.0.post1", false),
-    (">1.0", "1.0+x", false),
-    ("<=1.0", "1.0.post1", false),
-    ("<=1.0", "1.0+x", true),
-    ("===1.0", "1.0.0", false),
-    ("~=2.2.post3", "2.2", false),
-    ("~=2.2.post3", "2.2.post3", true),
-    ("~=2.2.post3", "2.3", true),
-    ("~=2.2.post3", "3.0", false),
-    ("~=1.4.5", "1.4", false),
-    ("==1!1.*", "1.5", false),
-    ("==1.0+x", "1.0", false),
-    ("==1.0", "1.0+x", true),
-    ("!=1.0", "1.0+x", false),
-    ("===1.0", "1.0+x", false),
-    ("<1.0.post1", "1.0.dev1", false),
-    ("<1.0.dev3", "1.0.dev2", true),
-    (">1.0.post1", "1.0.post2.dev1", true),
-    (">1.0a1", "1.0a2.post1", false),
-    ("<1.0.post1", "1.0", true),
-    (">=1.0", "1.0a1", false),
-    ("", "1.0a1", true),
-    ("== 1.*", "1.19", true),
-    (">=1.16, <2.0", "1.19", true),
-    (">=1,!=1", "1", false),
-    ("!=1,>=1", "1", false),
-    (">=1,!=1", "1.1", true),
-    ("!=1,>=1", "1.1", true),
-    (">=1.0,===1.1+x", "1.1+x", true),
-];
-
-// Whether `match` answers so.
-fn matches_so(
-    alloc: Global,
-    specifiers: &str,
-    version: &str,
-    contained: bool,
-) -> Result<bool, AllocError> {
-    let words = words_of(alloc, &["match", specifiers, version])?;
-    let said = answered(alloc, words.as_slice(), b"never read\n")?;
-    let want = if contained { "yes\n" } else { "no\n" };
-    Ok(said.status == 0 && said.output.as_slice() == want.as_bytes())
-}
-
 #[test]
-fn sweep_matches(rt: HostRuntime) -> Result<(), Fail> {
-    for (specifiers, version, contained) in MATCHES {
-        let holds = matches_so(rt.alloc(), specifiers, version, contained)?;
-        assert!(rt; holds, "{specifiers} and {version}");
-    }
-    Ok(())
-}
-
-// Words, the output, and the status.
-const RANGES: [(&str, &str, u8); 24] = [
-    ("range|~=1.2.3", "[1.2.3, 1.3.dev0)\n", 0),
-    ("range|==1.2.*", "[1.2.dev0, 1.3.dev0)\n", 0),
-    ("range|>=1.0,<2.0,!=1.5", "[1.0, 1.5)\n(1.5, 2.0~min0)\n", 0),
-    ("range|<1,>2", "empty\n", 0),
-    ("range|", "(*, *)\n", 0),
-    ("range|>1.0.dev3", "[1.0.dev4, *)\n", 0),
-    ("range|!=1.0.*", "(*, 1.0.dev0)\n[1.1.dev0, *)\n", 0),
-    ("range|>1.0", "(1.0~max0, *)\n", 0),
-    ("range|<0", "(*, 0~min0)\n", 0),
-    ("range|<1.0a1", "(*, 1.0a1)\n", 0),
-    ("range|>1.0.post1", "[1.0.post2.dev0, *)\n", 0),
-    ("range|>1.0a1.post3", "[1.0a1.post4.dev0, *)\n", 0),
-    ("range|>1.0.post1.dev3", "[1.0.post1.dev4, *)\n", 0),
-    (
-        "range|>1.0.post18446744073709551615",
-        "error: a number of 18446744073709551615 cannot be raised\n",
-        1,
-    ),
-    ("range|~=1!2.2", "[1!2.2, 1!3.dev0)\n", 0),
-    ("range|===1.0", "[1.0, 1.0]\n", 0),
-    ("range|>=1.0,<1.0", "empty\n", 0),
-    ("range|>=1,!=1", "(1, *)\n", 0),
-    (
-        "range|==18446744073709551615.*",
-        "error: a number of 18446744073709551615 cannot be raised\n",
-        1,
-    ),
-    (
-        "range|~=1.18446744073709551615.0",
-        "error: a number of 18446744073709551615 cannot be raised\n",
-        1,
-    ),
-    ("range|>=1.0, =>2", REFUSED_LIST, 1),
-    ("match|>=1.0, =>2|1", REFUSED_LIST, 1),
-    ("match|>=1.0, =>2|x", REFUSED_LIST, 1),
-    (
-        "match|>=1|1.*",
-        "error: wildcards are not allowed in a version\n",
-        1,
-    ),
-];
-
-#[test]
-fn sweep_ranges(rt: HostRuntime) -> Result<(), Fail> {
-    for (words, output, status) in RANGES {
-        let holds = holds(rt.alloc(), words, b"never read\n", output, status)?;
-        assert!(rt; holds, "{words}");
-    }
-    Ok(())
-}
-
-// Words, the input, the output, and the status.
-const FILTERS: [(&str, &str, &str, u8); 10] = [
-    (
-        "filter|>=1.0,!=1.1",
-        "1.1.0\n2.0\n1.0.0\n1.0\n",
-        "1.0.0\n1.0\n2.0\n",
-        0,
-    ),
-    ("filter|", "2\n \n1", "1\n2\n", 0),
-    ("filter|>=1", "", "", 0),
-    ("filter|>=2", "1\n", "", 0),
-    ("filter|>=1", " 1.0-A \r\nV1!1.0\r\n", "1!1.0\n", 0),
-    ("filter|>=1.0, =>2", "x\n", REFUSED_LIST, 1),
-    (
-        "filter|>=1",
-        "1.0\nx\n",
-        "error: line 2: expected version to start with a number, but no leading ASCII digits were found\n",
-        1,
-    ),
-    (
-        "filter|>=1",
-        "1.0\nx",
-        "error: line 2: expected version to start with a number, but no leading ASCII digits were found\n",
-        1,
-    ),
-    (
-        "filter|>=1",
-        "1\n\n \t\r\u{c}\nx\ny\n",
-        "error: line 4: expected version to start with a number, but no leading ASCII digits were found\n",
-        1,
-    ),
-    (
-        "filter|>=1",
-        "\u{b}\n",
-        "error: line 1: expected version to start with a number, but no leading ASCII digits were found\n",
-        1,
-    ),
-];
-
-#[test]
-fn sweep_filters(rt: HostRuntime) -> Result<(), Fail> {
-    for (words, input, output, status) in FILTERS {
-        let holds = holds(rt.alloc(), words, input.as_bytes(), output, status)?;
-        assert!(rt; holds, "{words} of {input:?}");
-    }
+fn sweep_pick_of_no_text(rt: HostRuntime) -> Result<(), Fail> {
+    let output = "error: line 2: not UTF-8\n";
+    let holds = holds(rt.alloc(), "pick|a|1", b"a\n\xff\n", output, 1)?;
+    assert!(rt; holds, "a byte 255");
     Ok(())
 }
 
@@ -290,6 +136,28 @@ fn filters_that_fail(rt: HostRuntime) -> Result<(), Fail> {
             run.1,
             run.6
         );
+    }
+    Ok(())
+}
+
+// Words, and whether the reader is asked: it fails at once.
+const READS: [(&str, bool); 4] = [
+    ("pick|a|1", true),
+    ("pick|-a|x", true),
+    ("pick|a", false),
+    ("pick", false),
+];
+
+#[test]
+fn failing_readers(rt: HostRuntime) -> Result<(), Fail> {
+    for (words, asked) in READS {
+        let list = split_words(rt.alloc(), words)?;
+        let mut reader = Trickle::new(b"", After::Fails);
+        let manner = Manner::TakesAtMost(512);
+        let (status, sink) = run_over(rt.alloc(), list.as_slice(), &mut reader, manner);
+        let failed = status == 4 && sink.bytes().is_empty() && reader.calls == 1;
+        let unread = status == 2 && reader.calls == 0;
+        assert!(rt; if asked { failed } else { unread }, "{words}");
     }
     Ok(())
 }

@@ -1,11 +1,12 @@
-//! Worked rows and tables of specifiers, lists, matching and ranges, as tests; their values come from PEP 440 and from the crate that is
-//! ported.
+//! What no test case of `pep440_rs_cases` can ask: refused memory, requests counted, very long strings, and iterators.
 #![tactic(auto)]
 
 #[cfg(test)]
+mod bounds;
+#[cfg(test)]
 mod calls;
 #[cfg(test)]
-mod covers;
+mod json;
 #[cfg(test)]
 mod lists;
 #[cfg(test)]

@@ -1,5 +1,4 @@
 //! Texts of more than 65,536 bytes: no reader gives up because a text is long.
-use crate::calls::printed;
 use pep440_rs::{Operator, VersionSpecifier, VersionSpecifiers};
 use std::test::Fail;
 
@@ -18,7 +17,7 @@ fn long_operator(rt: HostRuntime) -> Result<(), Fail> {
     let Err(error) = Operator::from_str(rt.alloc(), text.as_str()) else {
         return Err(Fail::new("an operator"));
     };
-    let print = printed(rt.alloc(), &error)?;
+    let print = error.to_string(rt.alloc())?;
     assert!(rt;
         print
             .as_str()
@@ -53,7 +52,7 @@ fn long_invalid_list(rt: HostRuntime) -> Result<(), Fail> {
     let Err(error) = VersionSpecifiers::from_str(rt.alloc(), text.as_str()) else {
         return Err(Fail::new("a list"));
     };
-    let print = printed(rt.alloc(), &error)?;
+    let print = error.to_string(rt.alloc())?;
     assert!(rt; print.as_str().ends_with(" ^\n"), "the error");
     Ok(())
 }
