@@ -153,9 +153,11 @@ class Interpreters(unittest.TestCase):
     @unittest.skipUnless(sys.version_info[:2] in ((3, 10), (3, 11), (3, 12)), "a second interpreter by _xxsubinterpreters")
     def test_a_second_interpreter(self):
         said = self.fails("import sys, _xxsubinterpreters as it; it.run_string(it.create(), f'import sys; sys.path[:] = {sys.path!r}; import pep440_rattle')")
-        self.assertIn("pep440_rattle can be imported in the main interpreter alone", said)
+        # from 3.12 on Python itself says so
+        reason = "ImportError.*(can be imported in the main interpreter alone|does not support loading in subinterpreters)"
+        self.assertRegex(said, reason)
         both = "import pep440_rattle, sys, _xxsubinterpreters as it; it.run_string(it.create(), f'import sys; sys.path[:] = {sys.path!r}; import pep440_rattle')"
-        self.assertIn("pep440_rattle can be imported in the main interpreter alone", self.fails(both))
+        self.assertRegex(self.fails(both), reason)
 
     def test_without_the_global_lock(self):
         self.assertIn("needs a Python with its global lock", self.fails("import sys; sys.abiflags = 't'; import pep440_rattle"))
