@@ -13,7 +13,7 @@
 static uint8_t out[256];
 static size_t written;
 static int8_t order;
-static uint8_t is;
+static uint8_t is, early;
 static pep440_parts parts;
 static uint64_t release[16];
 
@@ -23,8 +23,8 @@ static uint8_t normalize_list(void) { return pep440_normalize_list(TEXT(LIST), o
 static uint8_t version_error(void) { return pep440_version_error(TEXT("1.0prev"), out, sizeof out, &written); }
 static uint8_t compare(void) { return pep440_compare(TEXT("1.2.3"), TEXT("1.2.4"), &order); }
 static uint8_t compare_longer(void) { return pep440_compare(TEXT(LONGER), TEXT("1!2.0rc1.post2"), &order); }
-static uint8_t contains(void) { return pep440_contains(TEXT(LIST), TEXT("1.2.3"), &is); }
-static uint8_t contains_one(void) { return pep440_contains(TEXT(">=1.0"), TEXT("1.2.3"), &is); }
+static uint8_t contains(void) { return pep440_contains(TEXT(LIST), TEXT("1.2.3"), &is, &early); }
+static uint8_t contains_one(void) { return pep440_contains(TEXT(">=1.0"), TEXT("1.2.3"), &is, &early); }
 static uint8_t any_prerelease(void) { return pep440_any_prerelease(TEXT(LIST), &is); }
 static uint8_t parts_of(void) { return pep440_parts_of(TEXT("1.2.3"), &parts, release, 16); }
 static uint8_t sort_key(void) { return pep440_sort_key(TEXT("1.2.3"), out, sizeof out, &written); }

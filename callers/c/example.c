@@ -1,7 +1,8 @@
 /* What a C program does with versions; it holds each result against what PEP 440 wants, and ends with 0 where all are right.
    What a call writes to is uninitialized before, which the header allows: valgrind finds no use of such bytes.
 
-   cc -I callers/c callers/c/example.c crates/pep440_c/out/libpep440_c.a KIT/c/liblibc_c.a */
+   cc -I callers/c callers/c/example.c crates/pep440_c/out/libpep440_c.a KIT/c/liblibc_c.a
+   cc example.c $(pkg-config --cflags --libs pep440), where the library is installed */
 #include <stdio.h>
 #include <stdlib.h>
 #include <string.h>
@@ -29,7 +30,7 @@ static void hold_text(const uint8_t *out, size_t written, const char *wanted)
 static void normalize_and_explain(void)
 {
     uint8_t out[256];
-    size_t written;
+    size_t written, count, ends[4];
     hold(pep440_normalize(TEXT(" V1!1.0-Alpha.2-3.DEV+Ubuntu-01 "), out, sizeof out, &written) == PEP440_OK, "normalize");
     hold_text(out, written, "1!1.0a2.post3.dev0+ubuntu.1");
     printf("normal form: %.*s\n", (int)written, (const char *)out);
@@ -44,6 +45,9 @@ static void normalize_and_explain(void)
 
     hold(pep440_normalize_list(TEXT(">=1.16 ,<2.0"), out, sizeof out, &written) == PEP440_OK, "normalize_list");
     hold_text(out, written, ">=1.16, <2.0");
+    hold(pep440_specifiers_of(TEXT("!=1.5.* ,>=1.16"), out, sizeof out, ends, 4, &written, &count) == PEP440_OK && count == 4, "specifiers_of");
+    hold_text(out, written, "!=1.5.*>=1.16");
+    hold(ends[0] == 2 && ends[1] == 7 && ends[2] == 9 && ends[3] == 13, "operator, version, operator, version");
     hold(pep440_list_error(TEXT(">=1.16; <2.0"), out, sizeof out, &written) == PEP440_OK && written > 0, "why no list");
     printf("%.*s", (int)written, (const char *)out);
 }
@@ -51,15 +55,15 @@ static void normalize_and_explain(void)
 static void compare_and_match(void)
 {
     int8_t order;
-    uint8_t is;
+    uint8_t is, early;
     hold(pep440_compare(TEXT("1.0rc1"), TEXT("1.0"), &order) == PEP440_OK && order == -1, "1.0rc1 < 1.0");
     hold(pep440_compare(TEXT("1.0"), TEXT("1.0.0"), &order) == PEP440_OK && order == 0, "1.0 == 1.0.0");
     hold(pep440_compare(TEXT("1.10"), TEXT("1.9"), &order) == PEP440_OK && order == 1, "1.10 > 1.9");
-    hold(pep440_contains(TEXT(">=1.16, <2.0"), TEXT("1.19"), &is) == PEP440_OK && is == 1, "contains 1.19");
-    hold(pep440_contains(TEXT(">=1.16, <2.0"), TEXT("2.0a1"), &is) == PEP440_OK && is == 0, "does not contain 2.0a1");
-    hold(pep440_contains(TEXT(">=1.0"), TEXT("2.0rc1"), &is) == PEP440_OK && is == 1, "a pre-release is a version like others");
-    hold(pep440_contains(TEXT(">=1.16; <2.0"), TEXT("1.19"), &is) == PEP440_INVALID_LIST, "no list");
-    hold(pep440_contains(TEXT(">=1.16"), TEXT("latest"), &is) == PEP440_INVALID_VERSION, "no version");
+    hold(pep440_contains(TEXT(">=1.16, <2.0"), TEXT("1.19"), &is, &early) == PEP440_OK && is == 1, "contains 1.19");
+    hold(pep440_contains(TEXT(">=1.16, <2.0"), TEXT("2.0a1"), &is, &early) == PEP440_OK && is == 0, "does not contain 2.0a1");
+    hold(pep440_contains(TEXT(">=1.0"), TEXT("2.0rc1"), &is, &early) == PEP440_OK && is == 1 && early == 1, "a pre-release is a version like others");
+    hold(pep440_contains(TEXT(">=1.16; <2.0"), TEXT("1.19"), &is, &early) == PEP440_INVALID_LIST, "no list");
+    hold(pep440_contains(TEXT(">=1.16"), TEXT("latest"), &is, &early) == PEP440_INVALID_VERSION, "no version");
     hold(pep440_any_prerelease(TEXT(">=1.0, <2.0rc1"), &is) == PEP440_OK && is == 1, "a pre-release among them");
     hold(pep440_any_prerelease(TEXT(">=1.0, <2.0"), &is) == PEP440_OK && is == 0, "none among them");
 }
@@ -68,7 +72,7 @@ static void take_apart(void)
 {
     pep440_parts parts;
     uint64_t release[4];
-    uint8_t out[256], is;
+    uint8_t out[256], is, early;
     int8_t order;
     size_t written;
     hold(pep440_parts_of(TEXT("2!1.2.3rc4.post5+ubuntu.1"), &parts, release, 4) == PEP440_OK, "parts");
@@ -91,7 +95,7 @@ static void take_apart(void)
     /* The range of a list goes by the order alone, so it ends below a local version that the list contains. */
     hold(pep440_ranges(TEXT("<=1.0"), out, sizeof out, &written) == PEP440_OK, "a range that ends at 1.0");
     hold_text(out, written, "(*, 1.0]\n");
-    hold(pep440_contains(TEXT("<=1.0"), TEXT("1.0+cu1"), &is) == PEP440_OK && is == 1, "a local version of 1.0");
+    hold(pep440_contains(TEXT("<=1.0"), TEXT("1.0+cu1"), &is, &early) == PEP440_OK && is == 1, "a local version of 1.0");
     hold(pep440_compare(TEXT("1.0+cu1"), TEXT("1.0"), &order) == PEP440_OK && order == 1, "which is above 1.0");
 }
 
@@ -105,11 +109,47 @@ static void keep_keys(void)
 {
     uint8_t left[64], right[64];
     size_t left_length, right_length;
+    uint64_t word, other;
     hold(pep440_sort_key(TEXT("1.9"), left, sizeof left, &left_length) == PEP440_OK, "a key");
     hold(pep440_sort_key(TEXT("1.10rc1"), right, sizeof right, &right_length) == PEP440_OK, "another key");
     hold(as_bytes(left, left_length, right, right_length) < 0, "keys have the order of the versions");
     hold(pep440_sort_key(TEXT("1.9.0"), right, sizeof right, &right_length) == PEP440_OK, "a third key");
     hold(as_bytes(left, left_length, right, right_length) == 0, "equal versions have one key");
+
+    /* Of most versions a number does as well. */
+    hold(pep440_word(TEXT("1.10rc1"), &word) == PEP440_OK && pep440_word(TEXT("1.10"), &other) == PEP440_OK && word < other, "words are in order");
+    hold(pep440_word(TEXT("1.10+local"), &word) == PEP440_NOT_PACKED, "a version without a word");
+}
+
+/* Whether the key lies between some two of these. */
+static int is_within(const uint8_t *key, size_t length, const uint8_t *bounds, const size_t *ends, size_t count)
+{
+    for (size_t place = 0; place < count; place += 2) {
+        size_t start = place ? ends[place - 1] : 0, middle = ends[place], end = ends[place + 1];
+        if (as_bytes(key, length, bounds + start, middle - start) >= 0 &&
+            (end == middle || as_bytes(key, length, bounds + middle, end - middle) < 0))
+            return 1;
+    }
+    return 0;
+}
+
+/* What a database does that has the keys in an index. */
+static void ask_keys(void)
+{
+    uint8_t range[128], cover[128], key[64];
+    size_t range_ends[4], cover_ends[4], range_count, cover_count, length, written;
+    hold(pep440_range_keys(TEXT(">=1.0,<2.0,!=1.5"), range, sizeof range, range_ends, 4, &written, &range_count) == PEP440_OK, "range_keys");
+    hold(range_count == 4 && range_ends[3] == written, "two segments");
+    hold(pep440_sort_key(TEXT("1.4.post1"), key, sizeof key, &length) == PEP440_OK, "key");
+    hold(is_within(key, length, range, range_ends, range_count), "1.4.post1 is in the range");
+    hold(pep440_sort_key(TEXT("1.5.0"), key, sizeof key, &length) == PEP440_OK, "key");
+    hold(!is_within(key, length, range, range_ends, range_count), "1.5.0 is not");
+    hold(pep440_range_keys(TEXT("<=1.0"), range, sizeof range, range_ends, 4, &written, &range_count) == PEP440_OK, "range_keys");
+    hold(pep440_cover_keys(TEXT("<=1.0"), cover, sizeof cover, cover_ends, 4, &written, &cover_count) == PEP440_OK, "cover_keys");
+    hold(range_count == 2 && range_ends[0] == 0 && cover_count == 2 && cover_ends[0] == 0, "no lower bound");
+    hold(pep440_sort_key(TEXT("1.0+cu1"), key, sizeof key, &length) == PEP440_OK, "key");
+    hold(!is_within(key, length, range, range_ends, 2) && is_within(key, length, cover, cover_ends, 2), "1.0+cu1 is in the cover alone");
+    hold(pep440_range_keys(TEXT(">=1.0,<2.0,!=1.5"), range, 1, range_ends, 4, &written, &range_count) == PEP440_NO_ROOM && range_count == 4, "room");
 }
 
 static void many_at_once(void)
@@ -119,7 +159,7 @@ static void many_at_once(void)
     pep440_string texts[COUNT];
     uint8_t marks[COUNT];
     size_t indices[COUNT], index;
-    static const uint8_t wanted_marks[] = {PEP440_MATCH, PEP440_NO_MATCH, PEP440_NOT_A_VERSION, PEP440_MATCH, PEP440_NO_MATCH};
+    static const uint8_t wanted_marks[] = {PEP440_MATCH, PEP440_NO_MATCH, PEP440_NOT_A_VERSION, PEP440_PRERELEASE_MATCH, PEP440_NO_MATCH};
     for (size_t at = 0; at < COUNT; at++)
         texts[at] = (pep440_string){(const uint8_t *)given[at], strlen(given[at])};
     hold(pep440_filter(TEXT(">1.9,<2.0"), texts, COUNT, marks, COUNT) == PEP440_OK, "filter");
@@ -136,10 +176,12 @@ static void many_at_once(void)
 
 int main(void)
 {
+    hold(pep440_version_of_library() == PEP440_VERSION, "the library is of the header's version");
     normalize_and_explain();
     compare_and_match();
     take_apart();
     keep_keys();
+    ask_keys();
     many_at_once();
     printf("%d wrong\n", wrong);
     return wrong ? EXIT_FAILURE : EXIT_SUCCESS;

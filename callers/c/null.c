@@ -20,13 +20,14 @@ static void hold(int is_right, const char *what)
 
 static void strings(void)
 {
-    uint8_t out[128], is;
+    uint8_t out[128], is, early;
     int8_t order;
-    size_t written;
-    uint64_t release[4];
+    size_t written, count;
+    uint64_t release[4], word;
     pep440_parts parts;
     hold(pep440_normalize(NONE, out, sizeof out, &written) == PEP440_INVALID_VERSION, "normalize");
     hold(pep440_sort_key(NONE, out, sizeof out, &written) == PEP440_INVALID_VERSION, "sort_key");
+    hold(pep440_word(NONE, &word) == PEP440_INVALID_VERSION, "word");
     hold(pep440_version_error(NONE, out, sizeof out, &written) == PEP440_OK && written > 0, "version_error");
     hold(pep440_parts_of(NONE, &parts, release, 4) == PEP440_INVALID_VERSION, "parts_of");
     hold(pep440_compare(NONE, (const uint8_t *)"1", 1, &order) == PEP440_INVALID_VERSION, "compare, left");
@@ -34,10 +35,13 @@ static void strings(void)
     /* An empty list is one without a specifier, and contains each version. */
     hold(pep440_normalize_list(NONE, out, sizeof out, &written) == PEP440_OK && written == 0, "normalize_list");
     hold(pep440_list_error(NONE, out, sizeof out, &written) == PEP440_OK && written == 0, "list_error");
-    hold(pep440_contains(NONE, (const uint8_t *)"1", 1, &is) == PEP440_OK && is == 1, "contains, list");
-    hold(pep440_contains(EMPTY, NONE, &is) == PEP440_INVALID_VERSION, "contains, version");
+    hold(pep440_contains(NONE, (const uint8_t *)"1", 1, &is, &early) == PEP440_OK && is == 1 && early == 0, "contains, list");
+    hold(pep440_contains(EMPTY, NONE, &is, &early) == PEP440_INVALID_VERSION, "contains, version");
     hold(pep440_any_prerelease(NONE, &is) == PEP440_OK && is == 0, "any_prerelease");
     hold(pep440_ranges(NONE, out, sizeof out, &written) == PEP440_OK && written == 7, "ranges");
+    hold(pep440_specifiers_of(NONE, NONE, NONE, &written, &count) == PEP440_OK && written == 0 && count == 0, "specifiers_of");
+    hold(pep440_range_keys(NONE, NONE, NONE, &written, &count) == PEP440_NO_ROOM && written == 0 && count == 2, "range_keys");
+    hold(pep440_cover_keys(NONE, NONE, NONE, &written, &count) == PEP440_NO_ROOM && written == 0 && count == 2, "cover_keys");
 }
 
 static void buffers(void)

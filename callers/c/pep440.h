@@ -29,13 +29,21 @@
 extern "C" {
 #endif
 
+/* The version of this header, a byte for each number. */
+#define PEP440_VERSION 0x000200
+#define PEP440_VERSION_TEXT "0.2.0"
+
+/* The version of the library, as PEP440_VERSION. With the library of another soname nothing is promised. */
+uint32_t pep440_version_of_library(void);
+
 enum {
     PEP440_OK = 0,
     PEP440_INVALID_VERSION = 1, /* a string is no version */
     PEP440_INVALID_LIST = 2,    /* a string is no list of specifiers */
     PEP440_OUT_OF_MEMORY = 3,
     PEP440_NO_ROOM = 4,
-    PEP440_NUMBER_AT_MAX = 5 /* of pep440_ranges alone: a bound would lie above 18446744073709551615 */
+    PEP440_NUMBER_AT_MAX = 5, /* of a range or a cover alone: a bound would lie above 18446744073709551615 */
+    PEP440_NOT_PACKED = 7     /* of pep440_word alone: the version has no word; 6 is no status yet */
 };
 
 /* A string of a batch. */
@@ -52,6 +60,13 @@ uint8_t pep440_normalize(const uint8_t *version, size_t length, uint8_t *out, si
 /* The same of a list of specifiers, as `>=1.16, <2.0`. */
 uint8_t pep440_normalize_list(const uint8_t *list, size_t length, uint8_t *out, size_t size, size_t *written);
 
+/* Writes operator and version of each specifier of a list, as pep440_normalize_list prints them and in that order, as `>=`, `1.16`, `!=`, `1.5.*`, one
+   string after the other, at the start of `out`, and to `ends` where each of them ends, counted from the start of `out`; to `written` how many
+   bytes they are, and to `count` how many strings, two for each specifier. With PEP440_NO_ROOM (`size` is less than the bytes, or `ends_size` less
+   than the strings) `written` and `count` are written, and `out` and `ends` are unchanged. */
+uint8_t pep440_specifiers_of(const uint8_t *list, size_t length, uint8_t *out, size_t size, size_t *ends, size_t ends_size, size_t *written,
+                             size_t *count);
+
 /* Writes why a string is no version, in words, and 0 bytes where it is one; `out` and `written` as for pep440_normalize. */
 uint8_t pep440_version_error(const uint8_t *version, size_t length, uint8_t *out, size_t size, size_t *written);
 
@@ -61,10 +76,12 @@ uint8_t pep440_list_error(const uint8_t *list, size_t length, uint8_t *out, size
 /* Writes to `order` whether the left version is below the right one (-1), equal to it (0) or above it (1). */
 uint8_t pep440_compare(const uint8_t *left, size_t left_length, const uint8_t *right, size_t right_length, int8_t *order);
 
-/* Writes to `contained` whether the list contains the version, 1 or 0: whether each of its specifiers does. Pre-releases are versions like
-   others here: `>=1.0` contains `2.0rc1`. A caller that leaves pre-releases out (PEP 440, "Handling of
-   pre-releases") finds them by pep440_parts_of, and whether the list names one by pep440_any_prerelease. */
-uint8_t pep440_contains(const uint8_t *list, size_t list_length, const uint8_t *version, size_t length, uint8_t *contained);
+/* Writes to `contained` whether the list contains the version, 1 or 0: whether each of its specifiers does; and to `prerelease` whether the
+   version is a pre-release or a developmental release, 1 or 0, contained or not. Pre-releases are versions like others here: `>=1.0` contains
+   `2.0rc1`. So a caller that leaves them out (PEP 440, "Handling of pre-releases") looks at both, and finds by pep440_any_prerelease whether the
+   list names one. */
+uint8_t pep440_contains(const uint8_t *list, size_t list_length, const uint8_t *version, size_t length, uint8_t *contained,
+                        uint8_t *prerelease);
 
 /* Writes to `any` whether the version of some specifier of the list is a pre-release or a developmental release, 1 or 0. */
 uint8_t pep440_any_prerelease(const uint8_t *list, size_t length, uint8_t *any);
@@ -92,8 +109,14 @@ uint8_t pep440_parts_of(const uint8_t *version, size_t length, pep440_parts *par
 /* Writes the sort key of a version; `out` and `written` as for pep440_normalize. Keys compared byte by byte (memcmp, then the shorter one
    first) have the order of their versions, and are equal exactly where the versions are. No key is a prefix of another one, so a key may be
    followed by other bytes in an index, and these count only between equal versions. A key may be stored and compared by whatever compares
-   bytes; it cannot be parsed back, so store the version beside it. */
+   bytes: the key of a version is the same in each release. It cannot be parsed back, so store the version beside it. */
 uint8_t pep440_sort_key(const uint8_t *version, size_t length, uint8_t *out, size_t size, size_t *written);
+
+/* Writes the word of a version: as numbers words have the order of their versions, and are equal exactly where the versions are.
+   PEP440_NOT_PACKED where the version has none. It has one where its epoch is 0, it has no local part, its release has at most four numbers, the
+   first at most 65535 and the others at most 255, and it has at most one of a pre-release, a post-release and a developmental part, whose number
+   is at most 2097151. A word may be stored, as a sort key may; words and sort keys are not compared with each other. */
+uint8_t pep440_word(const uint8_t *version, size_t length, uint64_t *word);
 
 /* Writes the range of the list: its segments in ascending order, a line each, each line with a newline at its end; the one line `empty` where
    there are none. `out` and `written` as for pep440_normalize. A line is `[1.0, 1.5)`: two bounds between a square bracket, where the bound
@@ -107,12 +130,27 @@ uint8_t pep440_sort_key(const uint8_t *version, size_t length, uint8_t *out, siz
    PEP440_NUMBER_AT_MAX where a bound would need a number above 18446744073709551615, as the end of `==18446744073709551615.*`. */
 uint8_t pep440_ranges(const uint8_t *list, size_t length, uint8_t *out, size_t size, size_t *written);
 
+/* Writes the range of the list as sort keys, two for each segment in ascending order, one after the other, at the start of `out`, and to `ends`
+   where each of them ends, counted from the start of `out`; to `written` how many bytes they are, and to `count` how many keys. A version is in
+   a segment exactly where its sort key is at least the first of the two and below the second, compared as pep440_sort_key says: so an index over
+   stored keys finds the versions of a range. A key of no bytes is no bound: of the first each key is at least that, of the second leave out the
+   comparison. Keys of bounds are not always sort keys of versions. With PEP440_NO_ROOM (`size` is less than the bytes, or `ends_size` less than
+   the keys) `written` and `count` are written, and `out` and `ends` are unchanged. PEP440_NUMBER_AT_MAX as for pep440_ranges. */
+uint8_t pep440_range_keys(const uint8_t *list, size_t length, uint8_t *out, size_t size, size_t *ends, size_t ends_size, size_t *written,
+                          size_t *count);
+
+/* The same of the cover of the list: a range that has each version that the list contains, local versions too, and maybe others; what is found
+   by it is then asked of pep440_contains or pep440_filter. The range of pep440_range_keys may leave out versions that the list contains. */
+uint8_t pep440_cover_keys(const uint8_t *list, size_t length, uint8_t *out, size_t size, size_t *ends, size_t ends_size, size_t *written,
+                          size_t *count);
+
 /* ---- batches: many strings in one call */
 
-/* The mark of a string of a filter. */
-enum { PEP440_NO_MATCH = 0, PEP440_MATCH = 1, PEP440_NOT_A_VERSION = 2 };
+/* The mark of a string of a filter; the last is a match that is a pre-release or a developmental release. */
+enum { PEP440_NO_MATCH = 0, PEP440_MATCH = 1, PEP440_NOT_A_VERSION = 2, PEP440_PRERELEASE_MATCH = 3 };
 
-/* Writes a mark for each string, in order: whether the list contains its version, or that it is no version. PEP440_NO_ROOM where `size` is
+/* Writes a mark for each string, in order: whether the list contains its version, and whether this is then a pre-release or a developmental
+   release, or that it is no version. PEP440_NO_ROOM where `size` is
    less than `count`; then nothing is written. */
 uint8_t pep440_filter(const uint8_t *list, size_t list_length, const pep440_string *strings, size_t count, uint8_t *marks, size_t size);
 

@@ -15,9 +15,9 @@ static pep440_string given, list;
 static pep440_string *strings;
 static uint8_t *out;
 static size_t *indices, *ends, written, at;
-static uint64_t *release;
+static uint64_t *release, packed;
 static pep440_parts parts;
-static uint8_t flag;
+static uint8_t flag, early;
 static int8_t order;
 
 #define GIVEN given.bytes, given.length
@@ -29,11 +29,27 @@ static void *normalize_list(void *unused) { pep440_normalize_list(LIST, OUT); re
 static void *version_error(void *unused) { pep440_version_error(GIVEN, OUT); return unused; }
 static void *list_error(void *unused) { pep440_list_error(LIST, OUT); return unused; }
 static void *compare(void *unused) { pep440_compare(GIVEN, GIVEN, &order); return unused; }
-static void *contains(void *unused) { pep440_contains(LIST, GIVEN, &flag); return unused; }
+static void *contains(void *unused) { pep440_contains(LIST, GIVEN, &flag, &early); return unused; }
 static void *any_prerelease(void *unused) { pep440_any_prerelease(LIST, &flag); return unused; }
 static void *parts_of(void *unused) { pep440_parts_of(GIVEN, &parts, release, LONG); return unused; }
 static void *sort_key(void *unused) { pep440_sort_key(GIVEN, OUT); return unused; }
+static void *word(void *unused) { pep440_word(GIVEN, &packed); return unused; }
 static void *ranges(void *unused) { pep440_ranges(LIST, OUT); return unused; }
+static void *specifiers_of(void *unused)
+{
+    pep440_specifiers_of(LIST, out, (size_t)LONG * 64, ends, MANY, &written, &at);
+    return unused;
+}
+static void *range_keys(void *unused)
+{
+    pep440_range_keys(LIST, out, (size_t)LONG * 64, ends, MANY, &written, &at);
+    return unused;
+}
+static void *cover_keys(void *unused)
+{
+    pep440_cover_keys(LIST, out, (size_t)LONG * 64, ends, MANY, &written, &at);
+    return unused;
+}
 static void *filter(void *unused) { pep440_filter(LIST, strings, MANY, out, MANY); return unused; }
 static void *sort(void *unused) { pep440_sort(strings, MANY, indices, MANY, &at); return unused; }
 static void *sort_keys(void *unused)
@@ -48,8 +64,9 @@ static const struct {
 } CALLS[] = {{"normalize", normalize},           {"normalize_list", normalize_list}, {"version_error", version_error},
              {"list_error", list_error},         {"compare", compare},               {"contains", contains},
              {"any_prerelease", any_prerelease}, {"parts_of", parts_of},             {"sort_key", sort_key},
-             {"ranges", ranges},                 {"filter", filter},                 {"sort", sort},
-             {"sort_keys", sort_keys}};
+             {"word", word},                     {"ranges", ranges},                 {"range_keys", range_keys},
+             {"cover_keys", cover_keys},         {"specifiers_of", specifiers_of},   {"filter", filter},
+             {"sort", sort},                     {"sort_keys", sort_keys}};
 
 static uint8_t *stack;
 static void *(*call)(void *);

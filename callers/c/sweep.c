@@ -33,11 +33,11 @@ void *__wrap_calloc(size_t count, size_t size) { return fails() ? NULL : __real_
 /* All that a call writes, `at` aside. */
 typedef struct {
     uint8_t out[1024], marks[8];
-    size_t written, places[8], ends[8];
-    uint64_t release[8];
+    size_t written, count, places[8], ends[8];
+    uint64_t release[8], word;
     pep440_parts parts;
     int8_t order;
-    uint8_t is;
+    uint8_t is, early;
 } Answer;
 
 static size_t at;
@@ -53,13 +53,21 @@ static uint8_t normalize_no_list(Answer *answer) { return pep440_normalize_list(
 static uint8_t version_error(Answer *answer) { return pep440_version_error(TEXT("1.0prev"), OUT); }
 static uint8_t list_error(Answer *answer) { return pep440_list_error(TEXT(">=1.16, =<2.0"), OUT); }
 static uint8_t compare(Answer *answer) { return pep440_compare(TEXT("1.0+a.b"), TEXT("1.0.0+a.c"), &answer->order); }
-static uint8_t contains(Answer *answer) { return pep440_contains(TEXT(MEMBERS), TEXT("1.17"), &answer->is); }
+static uint8_t contains(Answer *answer) { return pep440_contains(TEXT(MEMBERS), TEXT("1.17"), &answer->is, &answer->early); }
 static uint8_t any_prerelease(Answer *answer) { return pep440_any_prerelease(TEXT(MEMBERS ",>=1.0a1"), &answer->is); }
 static uint8_t parts_of(Answer *answer) { return pep440_parts_of(TEXT(LONG), &answer->parts, answer->release, 8); }
 static uint8_t sort_key(Answer *answer) { return pep440_sort_key(TEXT(LONG), OUT); }
+static uint8_t word(Answer *answer) { return pep440_word(TEXT("1.2.3.post4"), &answer->word); }
+static uint8_t word_not_packed(Answer *answer) { return pep440_word(TEXT(LONG), &answer->word); }
 static uint8_t ranges(Answer *answer) { return pep440_ranges(TEXT(MEMBERS), OUT); }
 static uint8_t ranges_at_max(Answer *answer) { return pep440_ranges(TEXT(">=1.0, ==18446744073709551615.*"), OUT); }
 static uint8_t ranges_no_list(Answer *answer) { return pep440_ranges(TEXT(">=1.0, =2"), OUT); }
+#define KEYS answer->out, sizeof answer->out, answer->ends, 8, &answer->written, &answer->count
+static uint8_t specifiers_of(Answer *answer) { return pep440_specifiers_of(TEXT(MEMBERS), KEYS); }
+static uint8_t range_keys(Answer *answer) { return pep440_range_keys(TEXT(MEMBERS), KEYS); }
+static uint8_t range_keys_at_max(Answer *answer) { return pep440_range_keys(TEXT(">=1.0, ==18446744073709551615.*"), KEYS); }
+static uint8_t cover_keys(Answer *answer) { return pep440_cover_keys(TEXT(MEMBERS), KEYS); }
+static uint8_t cover_keys_no_list(Answer *answer) { return pep440_cover_keys(TEXT(">=1.0, =2"), KEYS); }
 static uint8_t filter(Answer *answer) { return pep440_filter(TEXT(MEMBERS), TEXTS, 5, answer->marks, 8); }
 static uint8_t sort(Answer *answer) { return pep440_sort(TEXTS, 5, answer->places, 8, &at); }
 static uint8_t sort_invalid(Answer *answer) { return pep440_sort(INVALID, 2, answer->places, 8, &at); }
@@ -83,9 +91,16 @@ static const struct {
              {"any_prerelease", any_prerelease, PEP440_OK},
              {"parts_of", parts_of, PEP440_OK},
              {"sort_key", sort_key, PEP440_OK},
+             {"word", word, PEP440_OK},
+             {"word, not packed", word_not_packed, PEP440_NOT_PACKED},
              {"ranges", ranges, PEP440_OK},
              {"ranges, at max", ranges_at_max, PEP440_NUMBER_AT_MAX},
              {"ranges, no list", ranges_no_list, PEP440_INVALID_LIST},
+             {"specifiers_of", specifiers_of, PEP440_OK},
+             {"range_keys", range_keys, PEP440_OK},
+             {"range_keys, at max", range_keys_at_max, PEP440_NUMBER_AT_MAX},
+             {"cover_keys", cover_keys, PEP440_OK},
+             {"cover_keys, no list", cover_keys_no_list, PEP440_INVALID_LIST},
              {"filter", filter, PEP440_OK},
              {"sort", sort, PEP440_OK},
              {"sort, invalid", sort_invalid, PEP440_INVALID_VERSION},

@@ -128,16 +128,6 @@ static PyObject *raise_by(uint8_t status, PyObject *version, PyObject *list)
     return PyErr_Format(PyExc_SystemError, "pep440: no such status here: %d", (int)status);
 }
 
-static int is_prerelease(pep440_string text, uint8_t *status)
-{
-    pep440_parts parts;
-    uint64_t none;
-    *status = pep440_parts_of(text.bytes, text.length, &parts, &none, 0);
-    if (*status == PEP440_NO_ROOM)
-        *status = PEP440_OK;
-    return *status == PEP440_OK && (parts.pre_kind != PEP440_NO_PRE || parts.has_dev);
-}
-
 /* ---- the type */
 
 static uint64_t front_of(PyObject *key)
@@ -332,15 +322,12 @@ static PyObject *normalize_list(PyObject *module, PyObject *const *args, Py_ssiz
 static PyObject *contains(PyObject *module, PyObject *const *args, Py_ssize_t count)
 {
     pep440_string list, text;
-    uint8_t status;
-    uint8_t contained;
+    uint8_t status, contained, is_prerelease;
     int prereleases;
     if (!has_count("contains", count, 3) || view(args[0], &list) < 0 || view(args[1], &text) < 0 || (prereleases = PyObject_IsTrue(args[2])) < 0)
         return NULL;
-    status = pep440_contains(list.bytes, list.length, text.bytes, text.length, &contained);
-    if (status == PEP440_OK && contained && !prereleases)
-        contained = !is_prerelease(text, &status);
-    return status == PEP440_OK ? PyBool_FromLong(contained) : raise_by(status, args[1], args[0]);
+    status = pep440_contains(list.bytes, list.length, text.bytes, text.length, &contained, &is_prerelease);
+    return status == PEP440_OK ? PyBool_FromLong(contained && (prereleases || !is_prerelease)) : raise_by(status, args[1], args[0]);
 }
 
 /* ---- batches: what they read is held by a tuple of their own, so that other threads may run meanwhile */
@@ -383,7 +370,7 @@ static uint8_t mark(pep440_string list, const Batch *batch, int prereleases, uin
 {
     uint8_t status = pep440_filter(list.bytes, list.length, batch->texts, batch->count, marks, batch->count);
     for (size_t place = 0; status == PEP440_OK && !prereleases && place < batch->count; place++)
-        if (marks[place] == PEP440_MATCH && is_prerelease(batch->texts[place], &status))
+        if (marks[place] == PEP440_PRERELEASE_MATCH)
             marks[place] = PEP440_NO_MATCH;
     return status;
 }
@@ -394,7 +381,7 @@ static PyObject *marked(const Batch *batch, const uint8_t *marks, int skip)
     for (size_t place = 0; kept && place < batch->count; place++) {
         if (marks[place] == PEP440_NOT_A_VERSION && !skip)
             raise_by(PEP440_INVALID_VERSION, item(batch, place), NULL);
-        else if (marks[place] != PEP440_MATCH || PyList_Append(kept, item(batch, place)) == 0)
+        else if (marks[place] == PEP440_NO_MATCH || marks[place] == PEP440_NOT_A_VERSION || PyList_Append(kept, item(batch, place)) == 0)
             continue;
         Py_CLEAR(kept);
     }

@@ -1,13 +1,18 @@
-"""Builds the wheel with `cc` and the standard library alone (the hooks of PEP 517).
+"""Builds the wheel and the source archive with `cc` and the standard library alone (the hooks of PEP 517).
 
-It links two static libraries: the proved one, crates/pep440_c/out/libpep440_c.a of this repository, and the toolchain's part over the
-C library, c/liblibc_c.a of the kit, which is found by the command `rt`. In the environment:
+The wheel has the static library in it, the first of these that is there:
 
-    PEP440_ARCHIVES   both, with a colon between them, in place of these
-    CC, CFLAGS        the C compiler (cc) and what else it is to be passed
+    PEP440_ARCHIVES, in the environment: static libraries with a colon between them;
+    in a clone of the repository, what `rt lib` in crates/pep440_c leaves, and the toolchain's part over the C library, found by `rt`;
+    libpep440.a of the release's library archive, where pkg-config finds `pep440`.
+
+CC and CFLAGS in the environment are the C compiler (cc) and what else it is to be passed. The source archive has pep440.h beside _core.c, and
+the licence; the rest lies as in the repository.
 """
 import base64
+import gzip
 import hashlib
+import io
 import os
 import pathlib
 import re
@@ -15,6 +20,7 @@ import shlex
 import shutil
 import subprocess
 import sysconfig
+import tarfile
 import tempfile
 import zipfile
 
@@ -25,8 +31,10 @@ EXTENSION = "_core.abi3.so"
 PYTHON_TAG = "cp310"
 
 
-class UnsupportedOperation(Exception):
-    """A hook that is not offered."""
+# In a clone the header and the licence lie elsewhere than in the source archive.
+CLONE = HERE.parent.parent if (HERE.parent / "c" / "pep440.h").is_file() else None
+HEADER = HERE.parent / "c" / "pep440.h" if CLONE else HERE / "pep440.h"
+LICENCES = {name: (CLONE or HERE) / name for name in ("LICENSE", "NOTICE")}
 
 
 def project():
@@ -35,27 +43,36 @@ def project():
     return dict(re.findall(r'^([a-z-]+) = "(.*)"$', table, re.M))
 
 
+def installed():
+    """The static library that pkg-config knows of, if it does."""
+    tool = shutil.which("pkg-config")
+    told = tool and subprocess.run([tool, "--variable=libdir", "pep440"], capture_output=True, text=True, check=False)
+    return [pathlib.Path(told.stdout.strip()) / "libpep440.a"] if told and told.returncode == 0 else []
+
+
 def archives():
-    """The two static libraries, or an error that says how they are made."""
+    """The static libraries, or an error that says how they are made."""
     if os.environ.get("PEP440_ARCHIVES"):
-        found = [pathlib.Path(each).resolve() for each in os.environ["PEP440_ARCHIVES"].split(":")]
+        choices = [[pathlib.Path(each).resolve() for each in os.environ["PEP440_ARCHIVES"].split(":")]]
     else:
         rt = shutil.which("rt")
         kit = pathlib.Path(os.path.realpath(rt)).parent.parent if rt else pathlib.Path("KIT")
-        found = [HERE.parent.parent / "crates" / "pep440_c" / "out" / "libpep440_c.a", kit / "c" / "liblibc_c.a"]
-    missing = [str(each) for each in found if not each.is_file()]
-    if missing:
-        raise SystemExit(
-            f"{PACKAGE}: not there: {' '.join(missing)}\n"
-            "Run `rt lib` in crates/pep440_c, which proves and builds the library (rt is the toolchain's command),\n"
-            "or name both static libraries: PEP440_ARCHIVES=libpep440_c.a:liblibc_c.a"
-        )
-    return found
+        proved = CLONE and [CLONE / "crates" / "pep440_c" / "out" / "libpep440_c.a", kit / "c" / "liblibc_c.a"]
+        choices = [each for each in (proved, installed()) if each]
+    for found in choices:
+        if all(each.is_file() for each in found):
+            return found
+    missing = " ".join(str(each) for found in choices for each in found if not each.is_file())
+    raise SystemExit(
+        f"{PACKAGE}: not there: {missing or 'libpep440.a'}\n"
+        "In a clone, run `rt lib` in crates/pep440_c, which proves and builds the library (rt is the toolchain's command). Elsewhere unpack\n"
+        "the release's library archive, and let PKG_CONFIG_PATH name its folder lib/pkgconfig, or PEP440_ARCHIVES its lib/libpep440.a."
+    )
 
 
 def compile_extension(out):
     """Compiles and links _core.c; of what the libraries define, nothing is left to see from outside."""
-    include = [sysconfig.get_path("include"), sysconfig.get_path("platinclude"), str(HERE.parent / "c")]
+    include = [sysconfig.get_path("include"), sysconfig.get_path("platinclude"), str(HEADER.parent)]
     command = [
         *shlex.split(os.environ.get("CC", "cc")),
         *"-std=c11 -O2 -Wall -Werror=implicit-function-declaration -fPIC -fvisibility=hidden -shared -Wl,--exclude-libs,ALL".split(),
@@ -122,7 +139,7 @@ def contents():
         tag = f"{PYTHON_TAG}-abi3-{platform_of(extension)}"
     info = f"{release()}.dist-info"
     files |= {f"{info}/{name}": text.encode() for name, text in metadata(tag).items()}
-    files |= {f"{info}/licenses/{name}": (HERE.parent.parent / name).read_bytes() for name in ("LICENSE", "NOTICE")}
+    files |= {f"{info}/licenses/{name}": path.read_bytes() for name, path in LICENCES.items()}
     lines = [record_line(name, data) for name, data in files.items()]
     files[f"{info}/RECORD"] = "\n".join([*lines, f"{info}/RECORD,,", ""]).encode()
     return tag, files
@@ -141,5 +158,27 @@ def build_wheel(wheel_directory, config_settings=None, metadata_directory=None):
     return name
 
 
+def sources():
+    """The files of the source archive, by their names in it."""
+    names = ["README.md", "_core.c", "build_backend.py", "pyproject.toml"]
+    folders = [HERE / "src" / PACKAGE, HERE / "tests"]
+    paths = [path for folder in folders for path in sorted(folder.iterdir()) if path.suffix in (".py", ".pyi", ".typed", ".c")]
+    files = {name: (HERE / name).read_bytes() for name in names} | {str(path.relative_to(HERE)): path.read_bytes() for path in paths}
+    files |= {name: path.read_bytes() for name, path in LICENCES.items()}
+    files["pep440.h"] = HEADER.read_bytes()
+    files["PKG-INFO"] = metadata("")["METADATA"].encode()
+    return files
+
+
 def build_sdist(sdist_directory, config_settings=None):
-    raise UnsupportedOperation("the library is proved and built from the whole repository: install from a clone, or from a wheel")
+    name = f"{release()}.tar.gz"
+    tar = io.BytesIO()
+    with tarfile.open(fileobj=tar, mode="w", format=tarfile.PAX_FORMAT) as archive:
+        for each, data in sorted(sources().items()):
+            # no time of day and no user, so that the same sources make the same archive
+            entry = tarfile.TarInfo(f"{release()}/{each}")
+            entry.size, entry.mode = len(data), 0o644
+            archive.addfile(entry, io.BytesIO(data))
+    with open(os.path.join(sdist_directory, name), "wb") as out, gzip.GzipFile(filename="", mode="wb", fileobj=out, mtime=0) as packed:
+        packed.write(tar.getvalue())
+    return name

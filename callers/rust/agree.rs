@@ -18,6 +18,7 @@ mod pep440 {
         InvalidList,
         OutOfMemory,
         NumberAtMax,
+        NotPacked,
     }
 
     /// What a filter finds of a string.
@@ -26,6 +27,7 @@ mod pep440 {
         NoMatch,
         Match,
         NotAVersion,
+        PrereleaseMatch,
     }
 
     #[repr(C)]
@@ -48,6 +50,8 @@ mod pep440 {
         pub has_local: u8,
     }
 
+    type Joins = unsafe extern "C" fn(*const u8, usize, *mut u8, usize, *mut usize, usize, *mut usize, *mut usize) -> u8;
+
     type Writes = unsafe extern "C" fn(*const u8, usize, *mut u8, usize, *mut usize) -> u8;
 
     unsafe extern "C" {
@@ -56,9 +60,40 @@ mod pep440 {
         fn pep440_version_error(text: *const u8, length: usize, out: *mut u8, room: usize, written: *mut usize) -> u8;
         fn pep440_list_error(list: *const u8, length: usize, out: *mut u8, room: usize, written: *mut usize) -> u8;
         fn pep440_sort_key(text: *const u8, length: usize, out: *mut u8, room: usize, written: *mut usize) -> u8;
+        fn pep440_word(text: *const u8, length: usize, word: *mut u64) -> u8;
         fn pep440_ranges(list: *const u8, length: usize, out: *mut u8, room: usize, written: *mut usize) -> u8;
+        fn pep440_range_keys(
+            list: *const u8,
+            length: usize,
+            out: *mut u8,
+            room: usize,
+            ends: *mut usize,
+            ends_room: usize,
+            written: *mut usize,
+            count: *mut usize,
+        ) -> u8;
+        fn pep440_specifiers_of(
+            list: *const u8,
+            length: usize,
+            out: *mut u8,
+            room: usize,
+            ends: *mut usize,
+            ends_room: usize,
+            written: *mut usize,
+            count: *mut usize,
+        ) -> u8;
+        fn pep440_cover_keys(
+            list: *const u8,
+            length: usize,
+            out: *mut u8,
+            room: usize,
+            ends: *mut usize,
+            ends_room: usize,
+            written: *mut usize,
+            count: *mut usize,
+        ) -> u8;
         fn pep440_compare(left: *const u8, left_length: usize, right: *const u8, right_length: usize, order: *mut i8) -> u8;
-        fn pep440_contains(list: *const u8, list_length: usize, text: *const u8, length: usize, contained: *mut u8) -> u8;
+        fn pep440_contains(list: *const u8, list_length: usize, text: *const u8, length: usize, contained: *mut u8, prerelease: *mut u8) -> u8;
         fn pep440_any_prerelease(list: *const u8, length: usize, any: *mut u8) -> u8;
         fn pep440_parts_of(text: *const u8, length: usize, parts: *mut Parts, release: *mut u64, room: usize) -> u8;
         fn pep440_filter(list: *const u8, list_length: usize, texts: *const Text, count: usize, marks: *mut u8, room: usize) -> u8;
@@ -84,6 +119,7 @@ mod pep440 {
             3 => Err(Error::OutOfMemory),
             4 => Ok(false),
             5 => Err(Error::NumberAtMax),
+            7 => Err(Error::NotPacked),
             _ => unreachable!("status {status}"),
         }
     }
@@ -129,9 +165,42 @@ mod pep440 {
         written_by(pep440_sort_key, text)
     }
 
+    pub fn word(text: &str) -> Result<u64, Error> {
+        let mut word = 0;
+        // SAFETY: as in `written_by`; so in all calls below.
+        has_room(unsafe { pep440_word(text.as_ptr(), text.len(), &mut word) })?;
+        Ok(word)
+    }
+
+    fn joined_by(call: Joins, text: &str) -> Result<Vec<Vec<u8>>, Error> {
+        let (mut out, mut ends, mut written, mut count) = (vec![0; 8], vec![0; 2], 0, 0);
+        loop {
+            let (room, ends_room) = (out.len(), ends.len());
+            let status = unsafe { call(text.as_ptr(), text.len(), out.as_mut_ptr(), room, ends.as_mut_ptr(), ends_room, &mut written, &mut count) };
+            if has_room(status)? {
+                let starts = std::iter::once(&0).chain(&ends);
+                return Ok(starts.zip(&ends[..count]).map(|(start, end)| out[*start..*end].to_vec()).collect());
+            }
+            assert!(written > room || count > ends_room, "too little room, and no more is asked for");
+            out.resize(written.max(room), 0);
+            ends.resize(count.max(ends_room), 0);
+        }
+    }
+
+    pub fn specifiers_of(list: &str) -> Result<Vec<Vec<u8>>, Error> {
+        joined_by(pep440_specifiers_of, list)
+    }
+
+    pub fn range_keys(list: &str) -> Result<Vec<Vec<u8>>, Error> {
+        joined_by(pep440_range_keys, list)
+    }
+
+    pub fn cover_keys(list: &str) -> Result<Vec<Vec<u8>>, Error> {
+        joined_by(pep440_cover_keys, list)
+    }
+
     pub fn compare(left: &str, right: &str) -> Result<Ordering, Error> {
         let mut order = 0;
-        // SAFETY: as in `written_by`; so in all calls below.
         has_room(unsafe { pep440_compare(left.as_ptr(), left.len(), right.as_ptr(), right.len(), &mut order) })?;
         Ok(order.cmp(&0))
     }
@@ -141,10 +210,15 @@ mod pep440 {
         number == 1
     }
 
+    /// Whether the list contains the version, and whether this is a pre-release or a developmental release.
+    pub fn contains_and_early(list: &str, text: &str) -> Result<(bool, bool), Error> {
+        let (mut contained, mut early) = (9, 9);
+        has_room(unsafe { pep440_contains(list.as_ptr(), list.len(), text.as_ptr(), text.len(), &mut contained, &mut early) })?;
+        Ok((truth(contained), truth(early)))
+    }
+
     pub fn contains(list: &str, text: &str) -> Result<bool, Error> {
-        let mut contained = 9;
-        has_room(unsafe { pep440_contains(list.as_ptr(), list.len(), text.as_ptr(), text.len(), &mut contained) })?;
-        Ok(truth(contained))
+        Ok(contains_and_early(list, text)?.0)
     }
 
     pub fn any_prerelease(list: &str) -> Result<bool, Error> {
@@ -171,7 +245,7 @@ mod pep440 {
         let (lent, mut marks) = (lent(texts), vec![9; texts.len()]);
         let status = unsafe { pep440_filter(list.as_ptr(), list.len(), lent.as_ptr(), lent.len(), marks.as_mut_ptr(), marks.len()) };
         assert!(has_room(status)?, "there is room");
-        Ok(marks.iter().map(|mark| [Mark::NoMatch, Mark::Match, Mark::NotAVersion][usize::from(*mark)]).collect())
+        Ok(marks.iter().map(|mark| [Mark::NoMatch, Mark::Match, Mark::NotAVersion, Mark::PrereleaseMatch][usize::from(*mark)]).collect())
     }
 
     /// The places in the order of the versions, or the place of the first text that is none.
@@ -288,6 +362,7 @@ fn same_readings(texts: &[String]) -> usize {
                 assert_eq!(error, Error::InvalidVersion, "{text}");
                 assert_ne!(told, "", "{text}");
                 assert_eq!(pep440::sort_key(text), Err(Error::InvalidVersion));
+                assert_eq!(pep440::word(text), Err(Error::InvalidVersion));
                 assert_eq!(pep440::parts_of(text), Err(Error::InvalidVersion));
                 assert_eq!(pep440::compare(text, "1"), Err(Error::InvalidVersion));
                 assert_eq!(pep440::contains(">=1", text), Err(Error::InvalidVersion));
@@ -317,10 +392,50 @@ fn same_orders(versions: &[String]) {
     assert_eq!(places, by_key);
 }
 
+/// How many versions have a word.
+fn same_words(versions: &[String]) -> usize {
+    let words: Vec<Option<u64>> = versions.iter().map(|text| pep440::word(text).ok()).collect();
+    for (place, text) in versions.iter().enumerate() {
+        match words[place] {
+            None => assert_eq!(pep440::word(text), Err(Error::NotPacked), "{text}"),
+            Some(word) => {
+                let parts = pep440::parts_of(text).unwrap().0;
+                assert!(parts.epoch == 0 && parts.has_local == 0 && parts.release_length <= 4, "{text}");
+                for other in (place + 1..versions.len()).filter(|other| words[*other].is_some()).take(3) {
+                    let order = pep440::compare(text, &versions[other]).unwrap();
+                    assert_eq!(word.cmp(&words[other].unwrap()), order, "{text} {}", versions[other]);
+                }
+            }
+        }
+    }
+    words.iter().flatten().count()
+}
+
 fn same_errors(texts: &[String]) {
     let first = texts.iter().position(|text| pep440::normalize(text).is_err()).expect("some string is no version");
     assert_eq!(pep440::sort(texts), Err((Error::InvalidVersion, first)));
     assert_eq!(pep440::sort_keys(texts), Err((Error::InvalidVersion, first)));
+}
+
+fn is_within(bounds: &[Vec<u8>], key: &[u8]) -> bool {
+    bounds.chunks(2).any(|pair| key >= pair[0].as_slice() && (pair[1].is_empty() || key < pair[1].as_slice()))
+}
+
+/// A list without `===` and its range agree on versions that have no local part, where no operator is `>` or `<`; its cover
+/// has all that the list contains.
+fn same_intervals(list: &str, texts: &[String]) {
+    let range = pep440::ranges(list).unwrap();
+    let (within, around) = (pep440::range_keys(list).unwrap(), pep440::cover_keys(list).unwrap());
+    assert_eq!(within.len(), 2 * range.lines().filter(|line| *line != "empty").count(), "{list}");
+    let is_exact = !["===", ">", "<"].iter().any(|operator| list.replace(">=", "").replace("<=", "").contains(operator));
+    for text in texts {
+        let Ok(contained) = pep440::contains(list, text) else { continue };
+        let key = pep440::sort_key(text).unwrap();
+        assert!(!contained || is_within(&around, &key), "{list} {text}");
+        if is_exact && !list.contains('+') && pep440::parts_of(text).unwrap().0.has_local == 0 {
+            assert_eq!(is_within(&within, &key), contained, "{list} {text}");
+        }
+    }
 }
 
 /// How many candidates were asked of lists.
@@ -334,6 +449,7 @@ fn same_filters(chance: &mut Chance, texts: &[String]) -> usize {
             Err(error) => {
                 assert_eq!((error, told.is_empty()), (Error::InvalidList, false), "{list}");
                 assert_eq!(pep440::normalize_list(&list), Err(Error::InvalidList));
+                assert_eq!(pep440::specifiers_of(&list), Err(Error::InvalidList));
                 assert_eq!(pep440::contains(&list, "1"), Err(Error::InvalidList));
                 continue;
             }
@@ -341,14 +457,21 @@ fn same_filters(chance: &mut Chance, texts: &[String]) -> usize {
         assert_eq!(told, "", "{list}");
         let print = pep440::normalize_list(&list).unwrap();
         assert_eq!(pep440::normalize_list(&print).as_ref(), Ok(&print));
+        let members: Vec<String> = pep440::specifiers_of(&list).unwrap().chunks(2).map(|pair| String::from_utf8(pair.concat()).unwrap()).collect();
+        assert_eq!(members.join(", "), print);
         assert_eq!(pep440::filter(&print, chunk).as_ref(), Ok(&marks), "{list}");
         assert_eq!(pep440::any_prerelease(&list), pep440::any_prerelease(&print));
         assert_eq!(pep440::ranges(&list), pep440::ranges(&print), "{list}");
+        match pep440::ranges(&list) {
+            Ok(_) => same_intervals(&list, chunk),
+            Err(error) => assert_eq!((error, pep440::range_keys(&list), pep440::cover_keys(&list)), (Error::NumberAtMax, Err(error), Err(error))),
+        }
         let members: Vec<&str> = list.split(", ").filter(|member| !member.is_empty()).collect();
         for (text, mark) in chunk.iter().zip(&marks) {
-            let wanted = match pep440::contains(&list, text) {
-                Ok(true) => Mark::Match,
-                Ok(false) => Mark::NoMatch,
+            let wanted = match pep440::contains_and_early(&list, text) {
+                Ok((true, false)) => Mark::Match,
+                Ok((true, true)) => Mark::PrereleaseMatch,
+                Ok((false, _)) => Mark::NoMatch,
                 Err(error) => {
                     assert_eq!(error, Error::InvalidVersion);
                     Mark::NotAVersion
@@ -356,7 +479,9 @@ fn same_filters(chance: &mut Chance, texts: &[String]) -> usize {
             };
             assert_eq!(*mark, wanted, "{list} {text}");
             if wanted != Mark::NotAVersion {
-                assert_eq!(members.iter().all(|member| pep440::contains(member, text).unwrap()), wanted == Mark::Match, "{list} {text}");
+                let parts = pep440::parts_of(text).unwrap().0;
+                assert_eq!(pep440::contains_and_early(&list, text).unwrap().1, parts.pre_kind > 0 || parts.has_dev == 1, "{text}");
+                assert_eq!(members.iter().all(|member| pep440::contains(member, text).unwrap()), wanted != Mark::NoMatch, "{list} {text}");
             }
         }
         asked += chunk.len();
@@ -372,13 +497,16 @@ fn main() {
     let found = same_readings(&texts);
     let versions: Vec<String> = texts.iter().filter(|text| pep440::normalize(text).is_ok()).cloned().collect();
     same_orders(&versions);
+    let packed = same_words(&versions);
     same_errors(&texts);
     let asked = same_filters(&mut chance, &texts);
     let distinct: HashMap<Vec<u8>, &String> = pep440::sort_keys(&versions).unwrap().into_iter().zip(&versions).collect();
     assert_eq!(pep440::sort(&[]), Ok(vec![]));
     assert_eq!(pep440::compare("1.0", "1.0.0"), Ok(Ordering::Equal));
     assert_eq!(pep440::ranges("").as_deref(), Ok("(*, *)\n"));
+    assert_eq!(pep440::range_keys(""), Ok(vec![vec![], vec![]]));
+    assert_eq!(pep440::range_keys(">1,<1"), Ok(vec![]));
     assert_eq!(pep440::ranges("==18446744073709551615.*"), Err(Error::NumberAtMax));
     assert_eq!(pep440::ranges("=1.0"), Err(Error::InvalidList));
-    println!("{count} texts: {found} versions ({} distinct), {} invalid, {asked} asked of lists; both routes agree", distinct.len(), count - found);
+    println!("{count} texts: {found} versions ({} distinct, {packed} with a word), {} invalid, {asked} asked of lists; both routes agree", distinct.len(), count - found);
 }

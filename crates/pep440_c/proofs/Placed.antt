@@ -1,8 +1,7 @@
 -- Many texts, read one after another: versions with their places, marks, sort keys.
-use Rattle.std.proofs.Common.{Bor, ◌≡◌, ◌<◌, ◌+◌, ◌∙◌, ℕ, zero, suc, Some, List, [], ◌∷◌, ◌++◌, length, get_or, take, drop, map, refl, sym, ap, subst, append-nil, arith, take-append-drop}
-use Rattle.std.proofs.lemmas.List.Concat.{flat_map-append}
-use Rattle.std.proofs.lemmas.List.{drop_more, get_or_default, length-append, length-map, length-take-le, map-append, take_more}
-use Rattle.std.specs.List.{All, AllZip, enumerate_from, flat_map}
+use Rattle.std.proofs.Common.{Bor, ◌≡◌, ◌<◌, ◌+◌, ◌∙◌, ℕ, zero, suc, Some, List, [], ◌∷◌, ◌++◌, length, get_or, take, map, refl, sym, ap, subst, arith}
+use Rattle.std.proofs.lemmas.List.{get_or_default, length-map, length-take-le, map-append, take_more}
+use Rattle.std.specs.List.{All, AllZip, enumerate_from}
 use Rattle.std.specs.List.Sorted.{IsPermutation, IsSorted, IsStable}
 use Rattle.std.specs.Ordering.{on}
 use Rattle.std.specs.Prelude.{IfOk, Result, Ok, Err, slice_get}
@@ -11,7 +10,8 @@ use Rattle.pep440_rs.specs.Specifiers.{Spec}
 use Rattle.pep440_sort_key.specs.Keys.{key_bytes}
 use Rattle.pep440_version.specs.Key.{record_cmp}
 use Rattle.pep440_version.specs.Record.{Record}
-use Rattle.pep440_c.specs.Batches.{ArrangesPlaces, IsMark, MeansKeys, MeansPlaced, FirstRefusedText, Sorts, StopsAll, ends_from, stop_at}
+use Rattle.pep440_c.specs.Batches.{ArrangesPlaces, IsMark, MeansKeys, MeansPlaced, FirstRefusedText, Sorts, StopsAll, stop_at}
+use Rattle.pep440_c.specs.Joined.{Joins}
 use Rattle.pep440_c.specs.Statuses.{Faults}
 use Rattle.pep440_c.specs.declared.texts.Fault.{Fault}
 use Rattle.pep440_c.specs.declared.texts.Fault.TheVariants.{InvalidVersion, InvalidList, NumberAtMax, OutOfMemory}
@@ -114,23 +114,11 @@ arranged_if view given sorted (Err e) same rises stable seen is told = tt
 
 -- ---- sort keys
 
--- one more key, and where it ends
-ends_push : (start : ℕ) (versions : List Record) (v : Record) → ends_from start (versions ++ v ∷ []) ≡ ends_from start versions ++ (start + (length (flat_map key_bytes versions) + length (key_bytes v))) ∷ []
-ends_push start [] v = ap (λ (n : ℕ). n ∷ []) (omega arith)
-ends_push start (r ∷ rest) v =
-    let all : length (key_bytes r ++ flat_map key_bytes rest) ≡ length (key_bytes r) + length (flat_map key_bytes rest) = length-append (key_bytes r) (flat_map key_bytes rest) in
-    ap (λ (l : List ℕ). (start + length (key_bytes r)) ∷ l) (ends_push (start + length (key_bytes r)) rest v
-    ∙ ap (λ (n : ℕ). ends_from (start + length (key_bytes r)) rest ++ n ∷ []) (omega (arith, all)))
-
-pub keys_more : (texts : List (Bor (List ℕ))) (i : ℕ) (x : Bor (List ℕ)) (bytes new ends new_ends : List ℕ) (v : Record) → i < length texts → MeansBytes (get_or texts i x).now v
-    → new ≡ bytes ++ key_bytes v → new_ends ≡ ends ++ length new ∷ [] → MeansKeys (map (λ t. t.now) (take i texts)) bytes ends → MeansKeys (map (λ t. t.now) (take (i + 1) texts)) new new_ends
-keys_more texts i x bytes new ends new_ends v inside means more ended (versions, all, keys, places) =
-    let long : length (bytes ++ key_bytes v) ≡ length bytes + length (key_bytes v) = length-append bytes (key_bytes v) in
-    let count : length new ≡ length (bytes ++ key_bytes v) = ap length more in
-    let same : length bytes ≡ length (flat_map key_bytes versions) = ap length keys in (
-      versions ++ v ∷ [],
-      each_more MeansBytes texts i (get_or texts i x) versions (versions ++ v ∷ []) v inside (get_or_default texts i x (get_or texts i x) inside) means refl all,
-      more ∙ ap (λ (l : List ℕ). l ++ key_bytes v) keys ∙ ap (λ (l : List ℕ). flat_map key_bytes versions ++ l) (sym (append-nil (key_bytes v)))
-          ∙ sym (flat_map-append key_bytes versions (v ∷ [])),
-      ended ∙ ap (λ (l : List ℕ). l ++ length new ∷ []) places ∙ ap (λ (n : ℕ). ends_from 0 versions ++ n ∷ []) (omega (arith, long, count, same)) ∙ sym (ends_push 0 versions v),
-    )
+-- one more key
+pub keys_more : (texts : List (Bor (List ℕ))) (i : ℕ) (x : Bor (List ℕ)) (bytes new ends new_ends key : List ℕ) (v : Record) → i < length texts → MeansBytes (get_or texts i x).now v → key ≡ key_bytes v
+    → ((l : List (List ℕ)) → Joins l bytes ends → Joins (l ++ key ∷ []) new new_ends) → MeansKeys (map (λ t. t.now) (take i texts)) bytes ends → MeansKeys (map (λ t. t.now) (take (i + 1) texts)) new new_ends
+keys_more texts i x bytes new ends new_ends key v inside means is more (versions, all, joins) = (
+  versions ++ v ∷ [],
+  each_more MeansBytes texts i (get_or texts i x) versions (versions ++ v ∷ []) v inside (get_or_default texts i x (get_or texts i x) inside) means refl all,
+  subst (λ (l : List (List ℕ)). Joins l new new_ends) (ap (λ (k : List ℕ). map key_bytes versions ++ k ∷ []) is ∙ sym (map-append key_bytes versions (v ∷ []))) (more (map key_bytes versions) joins),
+)

@@ -1,23 +1,26 @@
 -- What each call on one string returns.
-use Rattle.std.specs.Prelude.{◌≡◌, ◌⊎◌, ℕ, ℤ, pos, negsuc, List, [], Bool, Some, None, length, is_some}
-use Rattle.std.specs.List.{list_any}
+use Rattle.std.specs.Prelude.{◌≡◌, ◌⊎◌, ℕ, ℤ, pos, negsuc, List, [], ◌∷◌, ◌++◌, codes, Bool, Option, Some, None, length, is_some, if◌then◌else◌}
+use Rattle.std.specs.List.{flat_map, list_any}
 use Rattle.std.specs.Option.{option_map_or}
 use Rattle.std.specs.declared.cmp.Ordering.{Ordering}
 use Rattle.std.specs.declared.cmp.Ordering.TheVariants.{Less, Equal, Greater}
 use Rattle.pep440_rs.specs.Bounds.{Segments, list_range, range_of}
 use Rattle.pep440_rs.specs.Lists.{list_print}
 use Rattle.pep440_rs.specs.Matching.{any_prerelease, has_local, list_matches}
+use Rattle.pep440_rs.specs.Operators.{is_star, operator_text}
 use Rattle.pep440_rs.specs.RangeLines.{range_lines}
 use Rattle.pep440_rs.specs.Specifiers.{Spec}
 use Rattle.pep440_sort_key.specs.Keys.{key_bytes}
 use Rattle.pep440_version.specs.Key.{record_cmp}
 use Rattle.pep440_version.specs.Print.{print}
 use Rattle.pep440_version.specs.Record.{Record}
+use Rattle.pep440_version.specs.Word.{is_packed, word}
 use Rattle.pep440_version.specs.declared.prerelease.Prerelease.{Prerelease}
 use Rattle.pep440_version.specs.declared.prerelease.PrereleaseKind.{PrereleaseKind}
 use Rattle.pep440_version.specs.declared.prerelease.PrereleaseKind.TheVariants.{Alpha, Beta, Rc}
-use Rattle.pep440_c.specs.Meaning.{MeansBytes, MeansListBytes, RefusesBytes, TellsWhy, TellsWhyNoList}
-use Rattle.pep440_c.specs.Statuses.{Fails, PutsFront, flag}
+use Rattle.pep440_c.specs.Joined.{Joins}
+use Rattle.pep440_c.specs.Meaning.{MeansBytes, MeansListBytes, RefusesBytes, RefusesListBytes, TellsWhy, TellsWhyNoList}
+use Rattle.pep440_c.specs.Statuses.{Fails, IsFlagOf, PutsFront, flag}
 use Rattle.pep440_c.specs.declared.Parts.{Parts}
 
 -- ---- texts
@@ -42,6 +45,17 @@ IsListError text bytes = ((list : List Spec) × MeansListBytes text list × (byt
 abbrev pub IsKey : List ℕ → List ℕ → Type 0
 IsKey text bytes = (r : Record) × MeansBytes text r × (bytes ≡ key_bytes r)
 
+-- the word of a version, if it is packed
+abbrev pub TellsWord : List ℕ → Option ℕ → Type 0
+TellsWord text found = (r : Record) × MeansBytes text r × (found ≡ if is_packed r then Some (word r) else None)
+
+-- the word is written; or the version is not packed, and has none; or the call fails. But for the first, the number is unchanged
+abbrev pub WordAnswer : List ℕ → ℕ → ℕ → ℕ → Type 0
+WordAnswer text old new status =
+    (TellsWord text (Some new) × (status ≡ 0))
+    ⊎ ((TellsWord text None × (status ≡ 7) × (new ≡ old))
+    ⊎ ((new ≡ old) × Fails (RefusesBytes text) ⊥ ⊥ status))
+
 -- the range of a list
 abbrev pub IsRangeText : List ℕ → List ℕ → Type 0
 IsRangeText text bytes = (list : List Spec) × (range : Segments) × MeansListBytes text list × (list_range range_of list ≡ Some range) × (bytes ≡ range_lines range)
@@ -49,6 +63,20 @@ IsRangeText text bytes = (list : List Spec) × (range : Segments) × MeansListBy
 -- the list has no range, since a number that can't be raised would have to be
 abbrev pub HasNoRange : List ℕ → Type 0
 HasNoRange text = (list : List Spec) × MeansListBytes text list × (list_range range_of list ≡ None)
+
+-- ---- members
+
+-- the version, and `.*` for a star form
+abbrev pub version_text : Spec → List ℕ
+version_text s = if is_star s.operator then print s.version ++ codes ".*" else print s.version
+
+-- operator and version of a member, as the list prints them
+abbrev pub member_texts : Spec → List (List ℕ)
+member_texts s = operator_text s.operator ∷ version_text s ∷ []
+
+-- those of each member of the list, in its order
+abbrev pub TellsMembers : List ℕ → List ℕ → List ℕ → Type 0
+TellsMembers text bytes ends = (list : List Spec) × MeansListBytes text list × Joins (flat_map member_texts list) bytes ends
 
 -- ---- order and matching
 
@@ -66,9 +94,19 @@ IsOrder left right number = (r q : Record) × MeansBytes left r × MeansBytes ri
 abbrev pub Contains : List ℕ → List ℕ → Bool → Type 0
 Contains list_text text contained = (list : List Spec) × (r : Record) × MeansListBytes list_text list × MeansBytes text r × (contained ≡ list_matches list r)
 
+-- whether the version is a pre-release or a developmental release
+abbrev pub IsPrerelease : List ℕ → Bool → Type 0
+IsPrerelease text early = (r : Record) × MeansBytes text r × (early ≡ any_prerelease r)
+
 -- the list is read first
 abbrev pub RefusesSecond : List ℕ → List ℕ → Type 0
 RefusesSecond list_text text = (list : List Spec) × MeansListBytes list_text list × RefusesBytes text
+
+-- both truth values are written, or both numbers stay
+abbrev pub ContainsAnswer : List ℕ → List ℕ → ℕ → ℕ → ℕ → ℕ → ℕ → Type 0
+ContainsAnswer list text old contained old_prerelease prerelease status =
+    ((status ≡ 0) × IsFlagOf (Contains list text) contained × IsFlagOf (IsPrerelease text) prerelease)
+    ⊎ ((contained ≡ old) × (prerelease ≡ old_prerelease) × Fails (RefusesSecond list text) (RefusesListBytes list) ⊥ status)
 
 -- whether a version of the list is a pre-release or a developmental release
 abbrev pub NamesPrerelease : List ℕ → Bool → Type 0

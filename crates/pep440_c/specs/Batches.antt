@@ -1,9 +1,9 @@
 -- What each call on many strings returns. Positions count from 0.
-use Rattle.std.specs.Prelude.{◌≡◌, ◌⊎◌, ◌+◌, ℕ, List, [], ◌∷◌, ◌++◌, length, map, if◌then◌else◌, Result, Ok, Err, IsSomeAnd, slice_get, take}
-use Rattle.std.specs.List.{All, AllZip, enumerate_from, flat_map}
+use Rattle.std.specs.Prelude.{◌≡◌, ◌⊎◌, ℕ, List, length, map, if◌then◌else◌, Result, Ok, Err, IsSomeAnd, slice_get, take}
+use Rattle.std.specs.List.{All, AllZip, enumerate_from}
 use Rattle.std.specs.Ordering.{on}
 use Rattle.pep440_rs.specs.Arrangement.{ArrangesBy}
-use Rattle.pep440_rs.specs.Matching.{list_matches}
+use Rattle.pep440_rs.specs.Matching.{any_prerelease, list_matches}
 use Rattle.pep440_rs.specs.Specifiers.{Spec}
 use Rattle.pep440_sort_key.specs.Keys.{key_bytes}
 use Rattle.pep440_version.specs.Key.{record_cmp}
@@ -12,14 +12,15 @@ use Rattle.pep440_c.specs.declared.batch.BatchError.{BatchError}
 use Rattle.pep440_c.specs.declared.batch.BatchError.TheVariants as stop
 use Rattle.pep440_c.specs.declared.texts.Fault.{Fault}
 use Rattle.pep440_c.specs.declared.texts.Fault.TheVariants as fault
+use Rattle.pep440_c.specs.Joined.{Joins}
 use Rattle.pep440_c.specs.Meaning.{MeansBytes, MeansListBytes, RefusesBytes, RefusesListBytes}
 use Rattle.pep440_c.specs.Statuses.{Fails, PutsBoth, PutsFront}
 
 -- ---- which of the texts a list contains
 
--- 1 contained, 0 not, 2 no version
+-- 1 contained, 3 contained and a pre-release or a developmental release, 0 not contained, 2 no version
 abbrev pub IsMark : List Spec → List ℕ → ℕ → Type 0
-IsMark list text mark = ((r : Record) × MeansBytes text r × (mark ≡ if list_matches list r then 1 else 0)) ⊎ (RefusesBytes text × (mark ≡ 2))
+IsMark list text mark = ((r : Record) × MeansBytes text r × (mark ≡ if list_matches list r then (if any_prerelease r then 3 else 1) else 0)) ⊎ (RefusesBytes text × (mark ≡ 2))
 
 -- each string has its mark, in its position
 abbrev pub Marks : List ℕ → List (List ℕ) → List ℕ → Type 0
@@ -56,14 +57,9 @@ SortAnswer texts old places old_at at status =
     ((found : List ℕ) × Sorts texts found × PutsFront found old places status × (at ≡ old_at))
     ⊎ ((places ≡ old) × StopsAt texts old_at at status)
 
--- where each key ends, the first of them beginning here
-abbrev pub ends_from : ℕ → List Record → List ℕ
-ends_from start [] = []
-ends_from start (r ∷ rest) = (start + length (key_bytes r)) ∷ ends_from (start + length (key_bytes r)) rest
-
 -- each string denotes a version, and these are their sort keys, one after the other, and where each of them ends
 abbrev pub MeansKeys : List (List ℕ) → List ℕ → List ℕ → Type 0
-MeansKeys texts bytes ends = (versions : List Record) × AllZip MeansBytes texts versions × (bytes ≡ flat_map key_bytes versions) × (ends ≡ ends_from 0 versions)
+MeansKeys texts bytes ends = (versions : List Record) × AllZip MeansBytes texts versions × Joins (map key_bytes versions) bytes ends
 
 -- the keys and their ends are written at the start of the caller's buffers, or one is too small; how many bytes it takes is reported. Or
 -- all stays

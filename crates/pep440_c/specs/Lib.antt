@@ -1,5 +1,7 @@
 pub mod Meaning
 pub mod Statuses
+pub mod Joined
 pub mod Answers
+pub mod Intervals
 pub mod Batches
 pub mod Room

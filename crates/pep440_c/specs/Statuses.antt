@@ -1,5 +1,5 @@
 -- How a call ends: its status, and what it leaves in the caller's memory. 0 ok, 1 a version is invalid, 2 a list is invalid, 3 out of
--- memory, 4 too little room, 5 a bound lies above the greatest number.
+-- memory, 4 too little room, 5 a bound lies above the greatest number, 7 a version is not packed.
 use Rattle.std.specs.Prelude.{◌≡◌, ◌⊎◌, ◌≤◌, ◌<◌, ℕ, Bool, List, ◌++◌, drop, length, Result, Ok, Err, if◌then◌else◌}
 use Rattle.pep440_c.specs.declared.texts.Fault.{Fault}
 use Rattle.pep440_c.specs.declared.texts.Fault.TheVariants as fault

@@ -1,13 +1,13 @@
 // Many strings in one call.
-ghost use Rattle.std.specs.Prelude.{◌≡◌, ◌++◌, ◌∷◌, [], length, map, IfOk};
+ghost use Rattle.std.specs.Prelude.{◌≡◌, map, IfOk};
 ghost use Rattle.std.specs.List.{AllZip};
-ghost use Rattle.pep440_sort_key.specs.Keys.{key_bytes};
 ghost use Rattle.pep440_version.specs.Key.{record_cmp};
 ghost use Rattle.pep440_c.specs.Batches.{ArrangesPlaces, GivesAll, IsMark, Marks, MeansKeys, MeansPlaced, Sorts, TellsStop, stop_at};
 ghost use Rattle.pep440_c.specs.Meaning.{RefusesListBytes};
 ghost use Rattle.pep440_c.specs.Statuses.{Gives};
 ghost use Rattle.pep440_c.specs.declared.batch.BatchError.TheVariants.{OutOfMemory};
 
+use crate::joined::Joined;
 use crate::texts::{Fault, read, read_list};
 use pep440_rs::{Version, VersionSpecifiers};
 use pep440_sort_key::sort_key;
@@ -19,6 +19,8 @@ const NO_MATCH: u8 = 0;
 const MATCH: u8 = 1;
 
 const NOT_A_VERSION: u8 = 2;
+
+const PRERELEASE_MATCH: u8 = 3;
 
 /// Why a batch is rejected.
 #[derive(Clone, Copy, Debug)]
@@ -65,10 +67,12 @@ fn mark(alloc: Global, list: &VersionSpecifiers, text: &[u8]) -> Result<u8, Allo
 {
     match read(alloc, text) {
         Ok(version) => {
-            if list.contains(alloc, &version)? {
-                Ok(MATCH)
-            } else {
+            if !list.contains(alloc, &version)? {
                 Ok(NO_MATCH)
+            } else if version.any_prerelease() {
+                Ok(PRERELEASE_MATCH)
+            } else {
+                Ok(MATCH)
             }
         }
         Err(Fault::OutOfMemory) => Err(AllocError),
@@ -145,37 +149,14 @@ pub(crate) fn sort(alloc: Global, texts: &[&[u8]]) -> Result<Vec<usize>, BatchEr
     Ok(sort_pairs(alloc, pairs)?)
 }
 
-/// Sort keys, one after the other, and where each of them ends.
-#[derive(Drop)]
-pub(crate) struct Keys {
-    pub(crate) bytes: Vec<u8>,
-    pub(crate) ends: Vec<usize>,
-}
-
-impl Keys {
-    // One more key.
-    fn push(&mut self, alloc: Global, version: &Version) -> Result<(), AllocError>
-        ensures bytes { IfOk result (λ _. self.new.bytes.items ≡ self.old.bytes.items ++ key_bytes version.now) }
-        ensures ends { IfOk result (λ _. self.new.ends.items ≡ self.old.ends.items ++ length self.new.bytes.items ∷ []) }
-    {
-        let key = sort_key(alloc, version)?;
-        self.bytes.extend_from_slice(key.as_slice())?;
-        self.ends.push(self.bytes.len())?;
-        Ok(())
-    }
-}
-
 /// The sort keys of the strings.
-pub(crate) fn sort_keys(alloc: Global, texts: &[&[u8]]) -> Result<Keys, BatchError>
+pub(crate) fn sort_keys(alloc: Global, texts: &[&[u8]]) -> Result<Joined, BatchError>
     ensures { GivesAll (map (λ t. t.now) texts.now) (λ keys. MeansKeys (map (λ t. t.now) texts.now) keys.bytes.items keys.ends.items) result }
 {
-    let mut keys = Keys {
-        bytes: Vec::new(alloc),
-        ends: Vec::with_capacity(alloc, texts.len())?,
-    };
+    let mut keys = Joined::with_capacity(alloc, texts.len())?;
     for (position, text) in texts.iter().enumerate() {
         match read(alloc, text) {
-            Ok(version) => keys.push(alloc, &version)?,
+            Ok(version) => keys.push(sort_key(alloc, &version)?.as_slice())?,
             Err(fault) => return Err(BatchError::from_fault(position, fault)),
         }
     }

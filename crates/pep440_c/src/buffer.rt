@@ -1,13 +1,16 @@
 // What is written to the caller's memory.
 ghost use Rattle.std.specs.Prelude.{◌≡◌, length, string_bytes};
 ghost use Rattle.pep440_c.specs.Statuses.{PutsBoth, PutsFront, flag};
-ghost use Rattle.pep440_c.specs.Room.{PutsGiven};
+ghost use Rattle.pep440_c.specs.Room.{PutsGiven, PutsGivenJoined};
 
+use crate::joined::Joined;
 use crate::texts::Fault;
 
 pub(crate) const OK: u8 = 0;
 
 pub(crate) const NO_ROOM: u8 = 4;
+
+pub(crate) const NOT_PACKED: u8 = 7;
 
 /// The number that stands for a truth value.
 pub(crate) fn flag(truth: bool) -> u8
@@ -67,4 +70,24 @@ pub(crate) fn put_both(bytes: &[u8], places: &[usize], out: &mut [u8], ends: &mu
     out[..bytes.len()].copy_from_slice(bytes);
     ends[..places.len()].copy_from_slice(places);
     OK
+}
+
+/// The same of strings one after the other, and reports how many bytes and how many strings they are.
+pub(crate) fn put_joined(
+    given: Result<Joined, Fault>,
+    out: &mut [u8],
+    ends: &mut [usize],
+    written: &mut usize,
+    count: &mut usize,
+) -> u8
+    ensures { PutsGivenJoined given out.old out.new ends.old ends.new written.old written.new count.old count.new result }
+{
+    match given {
+        Ok(joined) => {
+            *written = joined.bytes.len();
+            *count = joined.ends.len();
+            put_both(joined.bytes.as_slice(), joined.ends.as_slice(), out, ends)
+        }
+        Err(fault) => fault.status(),
+    }
 }

@@ -1,8 +1,18 @@
 //! What holds of the bytes of a caller, as contracts of functions that do nothing.
-ghost use Rattle.std.specs.Prelude.{◌≡◌, ◌⊎◌, ℕ, List};
+ghost use Rattle.std.specs.Prelude.{◌≡◌, ◌⊎◌, ℕ, List, true};
+ghost use Rattle.std.specs.List.{list_any};
+ghost use Rattle.pep440_range_keys.specs.RangeKeys.{is_within, segment_interval};
+ghost use Rattle.pep440_ranges.specs.Segments.{contains};
+ghost use Rattle.pep440_rs.specs.Bounds.{Segments, range_of};
+ghost use Rattle.pep440_rs.specs.Cover.{cover_of};
+ghost use Rattle.pep440_sort_key.specs.Keys.{key_bytes};
 ghost use Rattle.pep440_rs.specs.Specifiers.{Spec};
 ghost use Rattle.pep440_version.specs.Record.{Record};
-ghost use Rattle.pep440_c.specs.Answers.{HasNoRange, IsRangeText};
+ghost use Rattle.pep440_version.specs.Key.{record_cmp};
+ghost use Rattle.std.specs.Ordering.{nat_cmp};
+ghost use Rattle.std.specs.Prelude.{Some};
+ghost use Rattle.pep440_c.specs.Answers.{Contains, HasNoRange, IsRangeText, TellsWord};
+ghost use Rattle.pep440_c.specs.Intervals.{HasRange};
 ghost use Rattle.pep440_c.specs.Meaning.{MeansBytes, MeansListBytes, RefusesBytes, RefusesListBytes, TellsWhy, TellsWhyNoList};
 
 /// Bytes denote one version, or are invalid with one error, and never both.
@@ -28,4 +38,17 @@ pub fn ranges_once()
     ensures never_both { (bytes words : List ℕ) → IsRangeText bytes words → RefusesListBytes bytes → ⊥ }
     ensures never_at_max { (bytes words : List ℕ) → IsRangeText bytes words → HasNoRange bytes → ⊥ }
     ensures one_error { (bytes : List ℕ) → HasNoRange bytes → RefusesListBytes bytes → ⊥ }
+{}
+
+/// The words of strings, as numbers, are in the order of the versions, and equal exactly if these are; a string has at most one word.
+pub fn words_are_ordered()
+    ensures one { (bytes : List ℕ) (m n : ℕ) → TellsWord bytes (Some m) → TellsWord bytes (Some n) → m ≡ n }
+    ensures ordered { (a b : List ℕ) (m n : ℕ) (r q : Record) → TellsWord a (Some m) → TellsWord b (Some n) → MeansBytes a r → MeansBytes b q → nat_cmp m n ≡ record_cmp r q }
+{}
+
+/// The sort key of a version lies in one of the intervals of a list's range exactly where the range has the version; and
+/// in one of those of its cover where the list contains the version.
+pub fn keys_tell_membership()
+    ensures range { (list text : List ℕ) (range : Segments) (r : Record) → HasRange range_of list range → MeansBytes text r → list_any (λ s. is_within (segment_interval s) (key_bytes r)) range ≡ contains record_cmp range r }
+    ensures cover { (list text : List ℕ) (cover : Segments) (r : Record) → HasRange cover_of list cover → MeansBytes text r → Contains list text true → list_any (λ s. is_within (segment_interval s) (key_bytes r)) cover ≡ true }
 {}

@@ -1,7 +1,8 @@
 //! PEP 440 for C: versions and lists of specifiers, as strings in the caller's memory.
 //!
 //! A string is bytes and how many there are. No call keeps a pointer, and none has a condition beyond its types. Each returns a status: 0
-//! ok, 1 a version is invalid, 2 a list is invalid, 3 out of memory, 4 too little room, 5 a bound of a range lies above the greatest number.
+//! ok, 1 a version is invalid, 2 a list is invalid, 3 out of memory, 4 too little room, 5 a bound of a range lies above the greatest number,
+//! 7 a version is not packed.
 //! The header is `callers/c/pep440.h`.
 //!
 //! A call may allocate from `malloc`, and frees what it allocated before it returns. Where `malloc` fails it returns 3, and may be made
@@ -9,23 +10,40 @@
 #![tactic(auto)]
 
 ghost use Rattle.std.specs.Prelude.{◌≡◌, ◌⊎◌, map};
-ghost use Rattle.pep440_c.specs.Answers.{Contains, HasNoRange, IsKey, IsListError, IsNormal, IsNormalList, IsOrder, IsRangeText, IsVersionError, NamesPrerelease, PartsAnswer, RefusesSecond, order_number};
+ghost use Rattle.pep440_rs.specs.Bounds.{range_of};
+ghost use Rattle.pep440_rs.specs.Cover.{cover_of};
+ghost use Rattle.pep440_c.specs.Answers.{ContainsAnswer, HasNoRange, IsKey, IsListError, IsNormal, IsNormalList, IsOrder, IsRangeText, IsVersionError, NamesPrerelease, PartsAnswer, TellsMembers, WordAnswer, order_number};
 ghost use Rattle.pep440_c.specs.Batches.{FilterMarks, KeysAnswer, SortAnswer};
+ghost use Rattle.pep440_c.specs.Intervals.{LacksRange, TellsIntervals};
+ghost use Rattle.pep440_c.specs.Joined.{PutsJoined};
 ghost use Rattle.pep440_c.specs.Meaning.{RefusesBytes, RefusesListBytes};
 ghost use Rattle.pep440_c.specs.Statuses.{IsFlagOf, Puts, PutsBytes};
 
 mod batch;
 mod buffer;
+mod intervals;
+mod joined;
 pub mod laws;
+mod members;
 #[cfg(test)]
 mod tests;
 mod texts;
 mod version_parts;
 
 use crate::batch::BatchError;
-use crate::buffer::{OK, flag, put, put_both, put_bytes, put_text};
+use crate::buffer::{NOT_PACKED, OK, flag, put, put_both, put_bytes, put_joined, put_text};
 use std::alloc::Global;
 use std::cmp::Ordering;
+
+const VERSION_OF_LIBRARY: u32 = 0x00_02_00;
+
+/// The version of the library, a byte for each of its three numbers. Allocates nothing.
+#[unsafe(no_mangle)]
+pub extern "C" fn pep440_version_of_library() -> u32
+    ensures { result ≡ 0x00_02_00 }
+{
+    VERSION_OF_LIBRARY
+}
 
 /// Writes the normal form of the version (PEP 440, "Normalization").
 #[unsafe(no_mangle)]
@@ -51,6 +69,22 @@ pub extern "C" fn pep440_normalize_list(
     ensures { PutsBytes ⊥ (RefusesListBytes list.now) ⊥ (IsNormalList list.now) out.old out.new written.old written.new result }
 {
     put_text(texts::normalize_list(alloc, list), out, written)
+}
+
+/// Writes operator and version of each member of the list, as its normal form has them, in their order, and where each
+/// of these ends. Reports how many bytes and how many strings there are.
+#[unsafe(no_mangle)]
+pub extern "C" fn pep440_specifiers_of(
+    alloc: Global,
+    list: &[u8],
+    out: &mut [u8],
+    ends: &mut [usize],
+    written: &mut usize,
+    count: &mut usize,
+) -> u8
+    ensures { PutsJoined ⊥ (RefusesListBytes list.now) ⊥ (TellsMembers list.now) out.old out.new ends.old ends.new written.old written.new count.old count.new result }
+{
+    put_joined(members::to_members(alloc, list), out, ends, written, count)
 }
 
 /// Writes why the string is no version; nothing where it is one.
@@ -105,14 +139,22 @@ pub extern "C" fn pep440_compare(alloc: Global, left: &[u8], right: &[u8], order
     }
 }
 
-/// Whether the list contains the version, 1 or 0 (PEP 440, "Version specifiers").
+/// Whether the list contains the version, 1 or 0 (PEP 440, "Version specifiers"); and whether the version is a pre-release or
+/// a developmental release, 1 or 0 (PEP 440, "Handling of pre-releases").
 #[unsafe(no_mangle)]
-pub extern "C" fn pep440_contains(alloc: Global, list: &[u8], text: &[u8], contained: &mut u8) -> u8
-    ensures { Puts (RefusesSecond list.now text.now) (RefusesListBytes list.now) ⊥ (IsFlagOf (Contains list.now text.now)) contained.old contained.new result }
+pub extern "C" fn pep440_contains(
+    alloc: Global,
+    list: &[u8],
+    text: &[u8],
+    contained: &mut u8,
+    prerelease: &mut u8,
+) -> u8
+    ensures { ContainsAnswer list.now text.now contained.old contained.new prerelease.old prerelease.new result }
 {
     match texts::contains(alloc, list, text) {
-        Ok(found) => {
+        Ok((found, is_early)) => {
             *contained = flag(found);
+            *prerelease = flag(is_early);
             OK
         }
         Err(fault) => fault.status(),
@@ -184,6 +226,22 @@ pub extern "C" fn pep440_sort_key(
     put_bytes(texts::make_key(alloc, text), out, written)
 }
 
+/// Writes the word of the version: words are numbers in the order of their versions (PEP 440, "Summary of permitted
+/// suffixes and relative ordering"). Status 7 where the version is not packed: then it has no word.
+#[unsafe(no_mangle)]
+pub extern "C" fn pep440_word(alloc: Global, text: &[u8], word: &mut u64) -> u8
+    ensures { WordAnswer text.now word.old word.new result }
+{
+    match texts::to_word(alloc, text) {
+        Ok(Some(found)) => {
+            *word = found;
+            OK
+        }
+        Ok(None) => NOT_PACKED,
+        Err(fault) => fault.status(),
+    }
+}
+
 /// Writes the range of the list, a segment a line. Status 5 where a bound of it would need a number above the greatest.
 #[unsafe(no_mangle)]
 pub extern "C" fn pep440_ranges(
@@ -197,7 +255,52 @@ pub extern "C" fn pep440_ranges(
     put_text(texts::to_range_lines(alloc, list), out, written)
 }
 
-/// Writes a mark for each string, in order: 1 the list contains its version, 0 it doesn't, 2 it is no version.
+/// Writes the range of the list as sort keys, two a segment, and where each of them ends: a version is in the range
+/// where its key is at least the first of a segment and below the second. No bytes stand for no bound. Reports how many
+/// bytes and how many keys there are. Status 5 as above.
+#[unsafe(no_mangle)]
+pub extern "C" fn pep440_range_keys(
+    alloc: Global,
+    list: &[u8],
+    out: &mut [u8],
+    ends: &mut [usize],
+    written: &mut usize,
+    count: &mut usize,
+) -> u8
+    ensures { PutsJoined ⊥ (RefusesListBytes list.now) (LacksRange range_of list.now) (TellsIntervals range_of list.now) out.old out.new ends.old ends.new written.old written.new count.old count.new result }
+{
+    put_joined(
+        intervals::to_range_keys(alloc, list),
+        out,
+        ends,
+        written,
+        count,
+    )
+}
+
+/// The same of the cover of the list, a range that has each version that the list contains.
+#[unsafe(no_mangle)]
+pub extern "C" fn pep440_cover_keys(
+    alloc: Global,
+    list: &[u8],
+    out: &mut [u8],
+    ends: &mut [usize],
+    written: &mut usize,
+    count: &mut usize,
+) -> u8
+    ensures { PutsJoined ⊥ (RefusesListBytes list.now) (LacksRange cover_of list.now) (TellsIntervals cover_of list.now) out.old out.new ends.old ends.new written.old written.new count.old count.new result }
+{
+    put_joined(
+        intervals::to_cover_keys(alloc, list),
+        out,
+        ends,
+        written,
+        count,
+    )
+}
+
+/// Writes a mark for each string, in order: 1 the list contains its version, 3 it does and this is a pre-release or a
+/// developmental release, 0 it doesn't, 2 it is no version.
 #[unsafe(no_mangle)]
 pub extern "C" fn pep440_filter(alloc: Global, list: &[u8], texts: &[&[u8]], marks: &mut [u8]) -> u8
     ensures { FilterMarks list.now (map (λ t. t.now) texts.now) marks.old marks.new result }

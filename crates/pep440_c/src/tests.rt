@@ -1,8 +1,9 @@
 //! Each call once where it returns a value and where it returns an error, with too little room, and with each allocation failing in turn.
 use crate::{
-    Parts, pep440_any_prerelease, pep440_compare, pep440_contains, pep440_filter,
-    pep440_list_error, pep440_normalize, pep440_normalize_list, pep440_parts_of, pep440_ranges,
-    pep440_sort, pep440_sort_key, pep440_sort_keys, pep440_version_error,
+    Parts, pep440_any_prerelease, pep440_compare, pep440_contains, pep440_cover_keys,
+    pep440_filter, pep440_list_error, pep440_normalize, pep440_normalize_list, pep440_parts_of,
+    pep440_range_keys, pep440_ranges, pep440_sort, pep440_sort_key, pep440_sort_keys,
+    pep440_specifiers_of, pep440_version_error, pep440_word,
 };
 use std::alloc::Global;
 use std::test::Fail;
@@ -156,18 +157,20 @@ fn sweep_compare(rt: HostRuntime) -> Result<(), Fail> {
 
 #[test]
 fn sweep_contains(rt: HostRuntime) -> Result<(), Fail> {
-    for (list, text, want) in [
-        (">=1.16, <2.0", "1.19", 1),
-        (">=1.16, <2.0", "2.0a1", 0),
-        ("===1.2.3.4.5.6", "1.2.3.4.5.6", 1),
-        (">=1.0", "2.0rc1", 1),
+    for (list, text, want, want_prerelease) in [
+        (">=1.16, <2.0", "1.19", 1, 0),
+        (">=1.16, <2.0", "2.0a1", 0, 1),
+        ("===1.2.3.4.5.6", "1.2.3.4.5.6", 1, 0),
+        (">=1.0", "2.0rc1", 1, 1),
+        (">=1.0", "2.0.post1.dev3", 1, 1),
     ] {
-        let mut contained = 7;
-        if pep440_contains(rt.alloc(), list.as_bytes(), text.as_bytes(), &mut contained) == 3 {
-            assert!(rt; contained == 7);
-            pep440_contains(rt.alloc(), list.as_bytes(), text.as_bytes(), &mut contained);
+        let (list, text) = (list.as_bytes(), text.as_bytes());
+        let (mut contained, mut prerelease) = (7, 7);
+        if pep440_contains(rt.alloc(), list, text, &mut contained, &mut prerelease) == 3 {
+            assert!(rt; contained == 7 && prerelease == 7);
+            pep440_contains(rt.alloc(), list, text, &mut contained, &mut prerelease);
         }
-        assert!(rt; contained == want, "{list} and {text}");
+        assert!(rt; contained == want && prerelease == want_prerelease);
     }
     Ok(())
 }
@@ -186,6 +189,27 @@ fn sweep_any_prerelease(rt: HostRuntime) -> Result<(), Fail> {
             pep440_any_prerelease(rt.alloc(), list.as_bytes(), &mut any);
         }
         assert!(rt; any == want, "{list}");
+    }
+    Ok(())
+}
+
+#[test]
+fn sweep_word(rt: HostRuntime) -> Result<(), Fail> {
+    let class_none = 5 << 21;
+    for (text, want_status, want) in [
+        ("1.2.3", 0, (1 << 48 | 2 << 40 | 3 << 32) + class_none),
+        (" v1.2.3.0 ", 0, (1 << 48 | 2 << 40 | 3 << 32) + class_none),
+        ("1.2.3.4.5.6", 7, 9),
+        ("1.2.3+local", 7, 9),
+        ("1.2.3.4.5.6x", 1, 9),
+    ] {
+        let mut word = 9;
+        let mut status = pep440_word(rt.alloc(), text.as_bytes(), &mut word);
+        if status == 3 {
+            assert!(rt; word == 9);
+            status = pep440_word(rt.alloc(), text.as_bytes(), &mut word);
+        }
+        assert!(rt; status == want_status && word == want, "{text}");
     }
     Ok(())
 }
@@ -232,14 +256,14 @@ fn no_parts(rt: HostRuntime) -> Result<(), Fail> {
 
 #[test]
 fn sweep_filter(rt: HostRuntime) -> Result<(), Fail> {
-    let texts: [&[u8]; 5] = [b"1.0", b"0.9", b"1.2.3.4.5.6", b"x", b"1.6"];
-    let mut marks = [7u8; 6];
+    let texts: [&[u8]; 6] = [b"1.0", b"0.9", b"1.2.3.4.5.6", b"x", b"1.6", b"1.7.dev1"];
+    let mut marks = [7u8; 7];
     let mut status = pep440_filter(rt.alloc(), b">=1,!=1.2.*", &texts, &mut marks);
     if status == 3 {
-        assert!(rt; marks == [7u8; 6]);
+        assert!(rt; marks == [7u8; 7]);
         status = pep440_filter(rt.alloc(), b">=1,!=1.2.*", &texts, &mut marks);
     }
-    assert!(rt; status == 0 && marks == [1, 0, 0, 2, 1, 7]);
+    assert!(rt; status == 0 && marks == [1, 0, 0, 2, 1, 3, 7]);
     Ok(())
 }
 
@@ -287,13 +311,103 @@ fn sweep_sort_keys(rt: HostRuntime) -> Result<(), Fail> {
     Ok(())
 }
 
+// What is written to, and what was there before.
+#[derive(Drop)]
+struct Keys {
+    out: [u8; 24],
+    ends: [usize; 4],
+    written: usize,
+    count: usize,
+}
+
+fn ask_keys(alloc: Global, is_cover: bool, list: &[u8], keys: &mut Keys) -> u8 {
+    let (out, ends) = (&mut keys.out, &mut keys.ends);
+    if is_cover {
+        pep440_cover_keys(alloc, list, out, ends, &mut keys.written, &mut keys.count)
+    } else {
+        pep440_range_keys(alloc, list, out, ends, &mut keys.written, &mut keys.count)
+    }
+}
+
+// The key of `1.0`, with a byte behind it, and that of `1.0.post0.dev0`.
+const BEHIND_ONE: &[u8] = &[0, 2, 1, 0, 80, 0, 16, 0, 0];
+
+const ABOVE_ONE: &[u8] = &[0, 2, 1, 0, 80, 16, 0, 0];
+
+#[test]
+fn sweep_interval_keys(rt: HostRuntime) -> Result<(), Fail> {
+    for (is_cover, list, want_status, want, want_ends) in [
+        (false, b"<=1.0".as_slice(), 0, BEHIND_ONE, [0, 9, 99, 99]),
+        (true, b"<=1.0", 0, ABOVE_ONE, [0, 8, 99, 99]),
+        (false, b"==1.0.*,!=1", 4, b"", [99; 4]),
+        (true, b"=1.0", 2, b"", [99; 4]),
+        (false, b"==18446744073709551615.*", 5, b"", [99; 4]),
+    ] {
+        let mut keys = Keys {
+            out: [9; 24],
+            ends: [99; 4],
+            written: 98,
+            count: 97,
+        };
+        let mut status = ask_keys(rt.alloc(), is_cover, list, &mut keys);
+        if status == 3 {
+            assert!(rt; keys.out == [9; 24] && keys.ends == [99; 4] && keys.written == 98);
+            status = ask_keys(rt.alloc(), is_cover, list, &mut keys);
+        }
+        assert!(rt; status == want_status && &keys.out[..want.len()] == want);
+        assert!(rt; keys.out[want.len()] == 9 && keys.ends == want_ends);
+    }
+    Ok(())
+}
+
+#[test]
+fn sweep_specifiers_of(rt: HostRuntime) -> Result<(), Fail> {
+    for (list, want_status, want, want_ends) in [
+        (
+            b"~=1.2 ,!=01.5.*".as_slice(),
+            0,
+            b"~=1.2!=1.5.*".as_slice(),
+            [2, 5, 7, 12, 99],
+        ),
+        (b"===1.2.3.4.5.6", 0, b"===1.2.3.4.5.6", [3, 14, 99, 99, 99]),
+        (b"", 0, b"", [99; 5]),
+        (b">=1,<2,!=3", 4, b"", [99; 5]),
+        (b"=1.0", 2, b"", [99; 5]),
+    ] {
+        let (mut out, mut ends, mut written, mut count) = ([9; 24], [99; 5], 98, 97);
+        let mut status = pep440_specifiers_of(
+            rt.alloc(),
+            list,
+            &mut out,
+            &mut ends,
+            &mut written,
+            &mut count,
+        );
+        if status == 3 {
+            assert!(rt; out == [9; 24] && ends == [99; 5] && written == 98 && count == 97);
+            status = pep440_specifiers_of(
+                rt.alloc(),
+                list,
+                &mut out,
+                &mut ends,
+                &mut written,
+                &mut count,
+            );
+        }
+        assert!(rt; status == want_status && &out[..want.len()] == want);
+        assert!(rt; out[want.len()] == 9 && ends == want_ends);
+    }
+    Ok(())
+}
+
 #[test]
 fn errors(rt: HostRuntime) -> Result<(), Fail> {
     let mut order = 7;
     assert!(rt; pep440_compare(rt.alloc(), b"1", b"x", &mut order) == 1 && order == 7);
-    let mut contained = 7;
-    assert!(rt; pep440_contains(rt.alloc(), b"1", b"x", &mut contained) == 2 && contained == 7);
-    assert!(rt; pep440_contains(rt.alloc(), b"<1", b"x", &mut contained) == 1 && contained == 7);
+    let (mut contained, mut early) = (7, 7);
+    assert!(rt; pep440_contains(rt.alloc(), b"1", b"x", &mut contained, &mut early) == 2);
+    assert!(rt; pep440_contains(rt.alloc(), b"<1", b"x", &mut contained, &mut early) == 1);
+    assert!(rt; contained == 7 && early == 7);
     let texts: [&[u8]; 3] = [b"1.0", b"1.x", b"x"];
     let (mut places, mut at) = ([7; 3], 99);
     assert!(rt; pep440_sort(rt.alloc(), &texts, &mut places, &mut at) == 1);

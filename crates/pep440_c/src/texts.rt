@@ -3,7 +3,7 @@ ghost use Rattle.std.specs.Prelude.{◌≡◌, ◌⊎◌, is_none, string_bytes}
 ghost use Rattle.std.specs.List.{list_any};
 ghost use Rattle.pep440_rs.specs.Matching.{any_prerelease};
 ghost use Rattle.pep440_rs.specs.Specifiers.{Spec};
-ghost use Rattle.pep440_c.specs.Answers.{Contains, HasNoRange, IsKey, IsListError, IsNormal, IsNormalList, IsOrder, IsRangeText, IsVersionError, NamesPrerelease, RefusesSecond, order_number};
+ghost use Rattle.pep440_c.specs.Answers.{Contains, HasNoRange, IsKey, IsListError, IsNormal, IsNormalList, IsOrder, IsPrerelease, IsRangeText, IsVersionError, NamesPrerelease, RefusesSecond, TellsWord, order_number};
 ghost use Rattle.pep440_c.specs.Meaning.{MeansBytes, MeansListBytes, RefusesBytes, RefusesListBytes};
 ghost use Rattle.pep440_c.specs.Statuses.{Gives, fault_status};
 ghost use Rattle.pep440_c.specs.declared.texts.Fault.TheVariants.{OutOfMemory};
@@ -14,6 +14,7 @@ use pep440_rs::{
     specifiers_to_ranges,
 };
 use pep440_sort_key::sort_key;
+use pep440_version::laws::word;
 use std::alloc::{AllocError, AllocFailed, Global};
 use std::cmp::Ordering;
 
@@ -166,13 +167,14 @@ pub(crate) fn compare(alloc: Global, left: &[u8], right: &[u8]) -> Result<Orderi
     Ok(first.cmp(&second))
 }
 
-/// Whether the list contains the version.
-pub(crate) fn contains(alloc: Global, list: &[u8], bytes: &[u8]) -> Result<bool, Fault>
-    ensures { Gives (RefusesSecond list.now bytes.now) (RefusesListBytes list.now) ⊥ (Contains list.now bytes.now) result }
+/// Whether the list contains the version, and whether this is a pre-release or a developmental release.
+pub(crate) fn contains(alloc: Global, list: &[u8], bytes: &[u8]) -> Result<(bool, bool), Fault>
+    ensures { Gives (RefusesSecond list.now bytes.now) (RefusesListBytes list.now) ⊥ (λ found. Contains list.now bytes.now found.0 × IsPrerelease bytes.now found.1) result }
 {
     let specifiers = read_list(alloc, list)?;
     let version = read(alloc, bytes)?;
-    Ok(specifiers.contains(alloc, &version)?)
+    let contained = specifiers.contains(alloc, &version)?;
+    Ok((contained, version.any_prerelease()))
 }
 
 // Whether the version of a member is a pre-release or a developmental release.
@@ -196,6 +198,14 @@ pub(crate) fn make_key(alloc: Global, bytes: &[u8]) -> Result<Vec<u8>, Fault>
 {
     let version = read(alloc, bytes)?;
     Ok(sort_key(alloc, &version)?)
+}
+
+/// The word of a version; `None` of one that is not packed.
+pub(crate) fn to_word(alloc: Global, bytes: &[u8]) -> Result<Option<u64>, Fault>
+    ensures { Gives (RefusesBytes bytes.now) ⊥ ⊥ (TellsWord bytes.now) result }
+{
+    let version = read(alloc, bytes)?;
+    Ok(word(&version).copied())
 }
 
 /// The range of a list, a segment a line.

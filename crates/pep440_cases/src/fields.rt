@@ -3,15 +3,15 @@ use crate::error::CaseError;
 use std::alloc::Global;
 
 // The character of `{a0}` at the beginning, and what follows.
-fn numbered(text: &str) -> Option<(char, &str)> {
+fn split_character(text: &str) -> Option<(char, &str)> {
     let (digits, rest) = text.strip_prefix('{')?.split_once('}')?;
     let number = u32::from_str_radix(digits, 16).ok()?;
     Some((char::from_u32(number)?, rest))
 }
 
 // Appends what stands behind a backslash.
-fn push_escaped(text: &mut String, escaped: &str) -> Result<(), CaseError> {
-    let Some((name, rest)) = escaped.split_at_checked(1) else {
+fn push_escape(text: &mut String, escape: &str) -> Result<(), CaseError> {
+    let Some((name, rest)) = escape.split_at_checked(1) else {
         return Err(CaseError::Unreadable);
     };
     let (character, rest) = match name {
@@ -19,7 +19,7 @@ fn push_escaped(text: &mut String, escaped: &str) -> Result<(), CaseError> {
         "n" => ('\n', rest),
         "r" => ('\r', rest),
         "t" => ('\t', rest),
-        "u" => numbered(rest).ok_or(CaseError::Unreadable)?,
+        "u" => split_character(rest).ok_or(CaseError::Unreadable)?,
         _ => return Err(CaseError::Unreadable),
     };
     text.push(character)?;
@@ -34,7 +34,7 @@ fn unescape(alloc: Global, field: &str) -> Result<String, CaseError> {
         text.push_str(plain)?;
     }
     for piece in pieces {
-        push_escaped(&mut text, piece)?;
+        push_escape(&mut text, piece)?;
     }
     Ok(text)
 }

@@ -11,4 +11,4 @@ mod values;
 pub use arguments::{change_argument, parse_version, version_argument, version_arguments};
 pub use error::CaseError;
 pub use run::{Calls, run_cases};
-pub use values::{copy, equals_copy, printed};
+pub use values::{copy, equals_copy, print_value};

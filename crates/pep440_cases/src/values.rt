@@ -14,7 +14,7 @@ fn print_widths<T: Display>(alloc: Global, value: &T) -> Result<String, AllocErr
 }
 
 /// The print, which is the same whatever width and fill are asked for; asked again where memory was refused.
-pub fn printed<T: Display>(alloc: Global, value: &T) -> Result<String, AllocError> {
+pub fn print_value<T: Display>(alloc: Global, value: &T) -> Result<String, AllocError> {
     match print_widths(alloc, value) {
         Ok(text) => Ok(text),
         Err(_) => print_widths(alloc, value),

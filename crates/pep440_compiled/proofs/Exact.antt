@@ -88,19 +88,20 @@ items_again P code exact (x ∷ xs) (y ∷ ys) u v p q l e =
     let rest = items_again P code exact xs ys u v p.1 q.1 (omega arith) first.1 in
     (λ i. first.0 i ∷ rest.0 i, rest.1)
 
-next_again : {A : Type 0} (P : A → Type 0) (code : A → List ℕ) → IsExact P code → (xs ys : List A) (u v : List ℕ) → AllByRecursion P xs → AllByRecursion P ys → length xs < length ys → flat_map code xs ++ u ≡ flat_map code ys ++ v → (y : A) × (w : List ℕ) × P y × (u ≡ code y ++ w)
+next_again : {A : Type 0} (P : A → Type 0) (code : A → List ℕ) → IsExact P code → (xs ys : List A) (u v : List ℕ) → AllByRecursion P xs → AllByRecursion P ys → length xs < length ys → flat_map code xs ++ u ≡ flat_map code ys ++ v → (y : A) × (w : List ℕ) × P y × (u ≡ code y ++ w) × (more : List A) × (ys ≡ xs ++ y ∷ more)
 next_again P code exact xs [] u v p q l e = absurd (omega arith)
-next_again P code exact [] (y ∷ ys) u v p q l e = (y, flat_map code ys ++ v, q.0, e ∙ append_assoc (code y) (flat_map code ys) v)
+next_again P code exact [] (y ∷ ys) u v p q l e = (y, flat_map code ys ++ v, q.0, e ∙ append_assoc (code y) (flat_map code ys) v, ys, refl)
 next_again P code exact (x ∷ xs) (y ∷ ys) u v p q l e =
     let first = exact x y (flat_map code xs ++ u) (flat_map code ys ++ v) p.0 q.0 (sym (append_assoc (code x) (flat_map code xs) u) ∙ e ∙ append_assoc (code y) (flat_map code ys) v) in
-    next_again P code exact xs ys u v p.1 q.1 (omega arith) first.1
+    let next = next_again P code exact xs ys u v p.1 q.1 (omega arith) first.1 in
+    (next.0, next.1, next.2, next.3, next.4, (λ i. sym first.0 i ∷ next.5 i))
 
 -- as many items, whatever follows them, are the same
 pub same_items : {A : Type 0} (P : A → Type 0) (code : A → List ℕ) → IsExact P code → (xs ys : List A) (u v : List ℕ) → All P xs → All P ys → length xs ≡ length ys → flat_map code xs ++ u ≡ flat_map code ys ++ v → (xs ≡ ys) × (u ≡ v)
 same_items P code exact xs ys u v p q = items_again P code exact xs ys u v (recursion_from_All P xs p) (recursion_from_All P ys q)
 
 -- behind fewer items another begins
-pub next_item : {A : Type 0} (P : A → Type 0) (code : A → List ℕ) → IsExact P code → (xs ys : List A) (u v : List ℕ) → All P xs → All P ys → length xs < length ys → flat_map code xs ++ u ≡ flat_map code ys ++ v → (y : A) × (w : List ℕ) × P y × (u ≡ code y ++ w)
+pub next_item : {A : Type 0} (P : A → Type 0) (code : A → List ℕ) → IsExact P code → (xs ys : List A) (u v : List ℕ) → All P xs → All P ys → length xs < length ys → flat_map code xs ++ u ≡ flat_map code ys ++ v → (y : A) × (w : List ℕ) × P y × (u ≡ code y ++ w) × (more : List A) × (ys ≡ xs ++ y ∷ more)
 next_item P code exact xs ys u v p q = next_again P code exact xs ys u v (recursion_from_All P xs p) (recursion_from_All P ys q)
 
 -- a count, and what follows it
@@ -115,7 +116,7 @@ items_are P code exact n seen xs bytes u w v p q all_seen all_xs e l g f =
     same_items P code exact seen xs w v all_seen all_xs (l ∙ both.0) (sym g ∙ both.1)
 
 -- while it has read fewer, another one follows
-pub item_follows : {A : Type 0} (P : A → Type 0) (code : A → List ℕ) → IsExact P code → (n : ℕ) (seen xs : List A) (bytes u w v : List ℕ) → Fits n → Fits (length xs) → All P seen → All P xs → bytes ≡ eight_bytes n ++ u → length seen < n → u ≡ flat_map code seen ++ w → bytes ≡ counted code xs ++ v → (y : A) × (rest : List ℕ) × P y × (w ≡ code y ++ rest)
+pub item_follows : {A : Type 0} (P : A → Type 0) (code : A → List ℕ) → IsExact P code → (n : ℕ) (seen xs : List A) (bytes u w v : List ℕ) → Fits n → Fits (length xs) → All P seen → All P xs → bytes ≡ eight_bytes n ++ u → length seen < n → u ≡ flat_map code seen ++ w → bytes ≡ counted code xs ++ v → (y : A) × (rest : List ℕ) × P y × (w ≡ code y ++ rest) × (more : List A) × (xs ≡ seen ++ y ∷ more)
 item_follows P code exact n seen xs bytes u w v p q all_seen all_xs e l g f =
     let both = count_again code n xs bytes u v p q e f in
     next_item P code exact seen xs w v all_seen all_xs (omega (arith, both.0)) (sym g ∙ both.1)

@@ -1,4 +1,5 @@
 pub mod Denoted
 pub mod Exact
 pub mod Leading
+pub mod Seen
 pub mod Whole

@@ -1,7 +1,9 @@
 //! What holds of compiled bytes, as contracts of functions that do nothing.
 ghost use Rattle.std.specs.Prelude.{◌≡◌, ◌↔◌, ℕ, List, true};
 ghost use Rattle.pep440_compiled.specs.Format.{DenotesPacked};
+ghost use Rattle.pep440_compiled.specs.Lists.{DenotesList};
 ghost use Rattle.pep440_compiled.specs.Version.{DenotesVersion};
+ghost use Rattle.pep440_rs.specs.Specifiers.{Spec};
 ghost use Rattle.pep440_version.specs.Record.{Record};
 ghost use Rattle.pep440_version.specs.Word.{is_packed};
 
@@ -18,4 +20,11 @@ pub fn versions_are_exact()
     ensures one { (bytes : List ℕ) (r q : Record) → DenotesVersion bytes r → DenotesVersion bytes q → r ≡ q }
     ensures same { (a b : List ℕ) (r q : Record) → DenotesVersion a r → DenotesVersion b q → (a ≡ b) ↔ (r ≡ q) }
     ensures packed { (bytes : List ℕ) (r : Record) → is_packed r ≡ true → DenotesVersion bytes r → DenotesPacked bytes r }
+{}
+
+/// Bytes denote at most one list, and a list has one compiled form: so two have the same bytes exactly when their members are
+/// the same, in the same order.
+pub fn lists_are_exact()
+    ensures one { (bytes : List ℕ) (l m : List Spec) → DenotesList bytes l → DenotesList bytes m → l ≡ m }
+    ensures same { (a b : List ℕ) (l m : List Spec) → DenotesList a l → DenotesList b m → (a ≡ b) ↔ (l ≡ m) }
 {}

@@ -5,11 +5,17 @@
 //! greatest byte first. Any other version compiles to 2 and all its parts. Bytes denote at most one version, and two
 //! versions compile to the same bytes exactly when all their parts are the same: `1.0` and `1.0.0` are equal and compile to
 //! different bytes. `laws` says so. The first byte is the format: bytes of another format are rejected, not misread.
+//!
+//! A list of specifiers (`pep440_rs::VersionSpecifiers`) compiles to 3, how many members there are, and each member: its
+//! operator and its compiled version. `contains` reads one member after the other, and over packed versions allocates nothing
+//! but for `===`.
 #![tactic(auto)]
 
 mod bytes;
 mod calls;
 pub mod laws;
+mod list;
+mod members;
 mod packed;
 mod parts;
 #[cfg(test)]
@@ -18,5 +24,6 @@ mod unpacked;
 mod version;
 
 pub use calls::{compare, normalize, sort_key};
+pub use list::{compile_list, contains, normalize_list, read_list};
 pub use packed::{NotCompiled, compare_packed, compile_packed, read_packed};
 pub use version::{CompiledError, compile_version, read_version};

@@ -1,4 +1,5 @@
 //! Worked cases: packed versions and their bytes, bytes that denote nothing, and the order of compiled versions.
+mod lists;
 mod versions;
 
 use crate::{NotCompiled, compare_packed, compile_packed, read_packed};

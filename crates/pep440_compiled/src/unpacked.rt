@@ -1,5 +1,5 @@
 //! Versions that are not packed, as bytes.
-ghost use Rattle.std.specs.Prelude.{◌≡◌, ◌<◌, ◌++◌, ℕ, List, false, length, map, MatchOption, IfNone, IfOk, IfSome, Option};
+ghost use Rattle.std.specs.Prelude.{◌≡◌, ◌<◌, ◌++◌, ℕ, List, false, length, map, MatchOption, IfNone, IfOk, IfSome, OnOk, Option};
 ghost use Rattle.std.specs.List.{All};
 ghost use Rattle.pep440_compiled.specs.Parts.{optional_parts, unpacked_bytes};
 ghost use Rattle.pep440_compiled.specs.OptionalParts.{with_optional_parts};
@@ -19,20 +19,19 @@ use std::alloc::{AllocError, Global};
 // The format of versions that are not packed.
 const UNPACKED: u8 = 2;
 
-pub(crate) fn to_bytes(alloc: Global, version: &Version) -> Result<Vec<u8>, AllocError>
-    ensures { IfOk result (λ bytes. bytes.items ≡ unpacked_bytes version.now) }
+pub(crate) fn push_parts(bytes: &mut Vec<u8>, version: &Version) -> Result<(), AllocError>
+    ensures { OnOk result (bytes.new.items ≡ bytes.old.items ++ unpacked_bytes version.now) }
 {
-    let mut bytes = Vec::new(alloc);
     bytes.push(UNPACKED)?;
-    push_number(&mut bytes, version.epoch())?;
-    push_release(&mut bytes, version.release())?;
-    push_prerelease(&mut bytes, version.pre())?;
-    push_optional_number(&mut bytes, version.post())?;
-    push_optional_number(&mut bytes, version.dev())?;
-    push_optional_number(&mut bytes, version.min())?;
-    push_optional_number(&mut bytes, version.max())?;
-    push_local(&mut bytes, version.local())?;
-    Ok(bytes)
+    push_number(bytes, version.epoch())?;
+    push_release(bytes, version.release())?;
+    push_prerelease(bytes, version.pre())?;
+    push_optional_number(bytes, version.post())?;
+    push_optional_number(bytes, version.dev())?;
+    push_optional_number(bytes, version.min())?;
+    push_optional_number(bytes, version.max())?;
+    push_local(bytes, version.local())?;
+    Ok(())
 }
 
 // The parts between release and local part.
@@ -85,10 +84,10 @@ fn assemble(
         .with_local(alloc, local)
 }
 
-// The version whose parts these are, packed or not.
-fn read_parts(alloc: Global, bytes: &[u8]) -> Result<Option<Version>, AllocError>
-    ensures some { IfOk result (λ o. IfSome o (λ v. bytes.now ≡ unpacked_bytes v)) }
-    ensures only { (r : Record) → IsStored r → bytes.now ≡ unpacked_bytes r → IfOk result (λ o. MatchOption o ⊥ (λ v. v ≡ r)) }
+// The version whose parts stand in front, packed or not, and what follows them.
+fn read_parts(alloc: Global, bytes: &[u8]) -> Result<Option<(Version, &[u8])>, AllocError>
+    ensures some { IfOk result (λ o. IfSome o (λ p. bytes.now ≡ unpacked_bytes p.0 ++ p.1.now)) }
+    ensures only { (r : Record) (rest : List ℕ) → IsStored r → bytes.now ≡ unpacked_bytes r ++ rest → IfOk result (λ o. MatchOption o ⊥ (λ p. (p.0 ≡ r) × (p.1.now ≡ rest))) }
 {
     let Some((format, rest)) = bytes.split_first() else {
         return Ok(None);
@@ -111,10 +110,8 @@ fn read_parts(alloc: Global, bytes: &[u8]) -> Result<Option<Version>, AllocError
     let Some((local, rest)) = read_local(alloc, rest)? else {
         return Ok(None);
     };
-    if !rest.is_empty() {
-        return Ok(None);
-    }
-    Ok(Some(assemble(alloc, epoch, &release, parts, local)?))
+    let version = assemble(alloc, epoch, &release, parts, local)?;
+    Ok(Some((version, rest)))
 }
 
 // A string is UTF-8, and lengths fit.
@@ -148,16 +145,35 @@ pub(crate) fn prove_stored(version: &Version)
     prove_local_storable(version.local());
 }
 
-// None where no version that is not packed has these bytes.
-pub(crate) fn from_bytes(alloc: Global, bytes: &[u8]) -> Result<Option<Version>, AllocError>
-    ensures some { IfOk result (λ o. IfSome o (λ v. (is_packed v ≡ false) × (bytes.now ≡ unpacked_bytes v))) }
-    ensures none { IfOk result (λ o. IfNone o ((r : Record) → IsStored r → is_packed r ≡ false → bytes.now ≡ unpacked_bytes r → ⊥)) }
+// The version that is not packed and stands in front, and what follows it; None where there is none.
+#[inline(never)]
+pub(crate) fn read_leading(
+    alloc: Global,
+    bytes: &[u8],
+) -> Result<Option<(Version, &[u8])>, AllocError>
+    ensures some { IfOk result (λ o. IfSome o (λ p. IsStored p.0 × (is_packed p.0 ≡ false) × (bytes.now ≡ unpacked_bytes p.0 ++ p.1.now))) }
+    ensures none { IfOk result (λ o. IfNone o ((r : Record) (rest : List ℕ) → IsStored r → is_packed r ≡ false → bytes.now ≡ unpacked_bytes r ++ rest → ⊥)) }
 {
-    let Some(version) = read_parts(alloc, bytes)? else {
+    let Some((version, rest)) = read_parts(alloc, bytes)? else {
         return Ok(None);
     };
     // A packed version has packed bytes alone.
     if to_word(&version).is_some() {
+        return Ok(None);
+    }
+    prove_stored(&version);
+    Ok(Some((version, rest)))
+}
+
+// None where no version that is not packed has these bytes.
+pub(crate) fn from_bytes(alloc: Global, bytes: &[u8]) -> Result<Option<Version>, AllocError>
+    ensures some { IfOk result (λ o. IfSome o (λ v. IsStored v × (is_packed v ≡ false) × (bytes.now ≡ unpacked_bytes v))) }
+    ensures none { IfOk result (λ o. IfNone o ((r : Record) → IsStored r → is_packed r ≡ false → bytes.now ≡ unpacked_bytes r → ⊥)) }
+{
+    let Some((version, rest)) = read_leading(alloc, bytes)? else {
+        return Ok(None);
+    };
+    if !rest.is_empty() {
         return Ok(None);
     }
     Ok(Some(version))

@@ -1,5 +1,5 @@
 //! The newest candidate, and the range that is allowed.
-use pep440_cases::{CaseError, printed, version_argument};
+use pep440_cases::{CaseError, print_value, version_argument};
 use pep440_pick::{Requirement, RequirementError, allowed, newest};
 use pep440_rs::{RangeError, RangeLines, SpecifiersErrorKind, Version, VersionSpecifiers};
 use std::alloc::Global;
@@ -53,8 +53,8 @@ pub fn allowed_range(alloc: Global, name: &str, lines: &[String]) -> Result<Stri
         requirements.push(requirement(alloc, line.as_str())?)?;
     }
     match allowed(alloc, requirements.as_slice(), name) {
-        Ok(range) => Ok(printed(alloc, &RangeLines(&range))?),
+        Ok(range) => Ok(print_value(alloc, &RangeLines(&range))?),
         Err(RangeError::OutOfMemory) => Err(CaseError::OutOfMemory),
-        Err(RangeError::NumberAtMax) => Ok(printed(alloc, &RangeError::NumberAtMax)?),
+        Err(RangeError::NumberAtMax) => Ok(print_value(alloc, &RangeError::NumberAtMax)?),
     }
 }

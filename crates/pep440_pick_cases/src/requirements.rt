@@ -1,5 +1,5 @@
 //! Requirements.
-use pep440_cases::{CaseError, copy, equals_copy, printed};
+use pep440_cases::{CaseError, copy, equals_copy, print_value};
 use pep440_pick::{Requirement, RequirementError};
 use std::alloc::Global;
 
@@ -17,7 +17,7 @@ fn error_text(alloc: Global, error: &RequirementError) -> Result<String, CaseErr
     if !equals_copy(error)? {
         return Err(CaseError::Disagreement);
     }
-    let message = printed(alloc, error)?;
+    let message = print_value(alloc, error)?;
     Ok(format!(in alloc; "{name}: {message}")?)
 }
 
@@ -29,7 +29,7 @@ fn print(alloc: Global, requirement: &Requirement) -> Result<String, CaseError> 
         text.push_str(extra.as_str())?;
         text.push(',')?;
     }
-    let list = printed(alloc, &requirement.specifiers)?;
+    let list = print_value(alloc, &requirement.specifiers)?;
     write!(text, "] {list}")?;
     Ok(text)
 }
@@ -51,7 +51,7 @@ pub fn requirement(alloc: Global, text: &str) -> Result<String, CaseError> {
 /// The list of the requirement, where it is of this name.
 pub fn specifiers_for(alloc: Global, name: &str, text: &str) -> Result<String, CaseError> {
     match Requirement::specifiers_for(alloc, name, text) {
-        Ok(Some(list)) => Ok(printed(alloc, &list)?),
+        Ok(Some(list)) => Ok(print_value(alloc, &list)?),
         Ok(None) => Ok(String::from_str(alloc, "another name")?),
         Err(error) => error_text(alloc, &error),
     }

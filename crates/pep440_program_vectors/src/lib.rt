@@ -1,5 +1,5 @@
 //! What no test case of `pep440_tool_cases` and `pep440_pick_cases` can ask: readers and writers that fail, refused memory, very long
-//! strings.
+//! strings; and runs of `pyver`.
 #![tactic(auto)]
 
 #[cfg(test)]
@@ -8,6 +8,8 @@ mod change_words;
 mod lists;
 #[cfg(test)]
 mod long;
+#[cfg(test)]
+mod pyver;
 #[cfg(test)]
 mod requirements;
 #[cfg(test)]

@@ -7,9 +7,10 @@ use Rattle.std.specs.Hash.{u64}
 use Rattle.std.specs.List.{flat_map}
 use Rattle.std.specs.Ordering.{as_partial_cmp, eq_by_cmp, is_eq}
 use Rattle.std.specs.declared.cmp.Ordering.TheVariants.{Equal}
-use Rattle.pep440_rs.specs.Lists.{feed_members, list_cmp}
+use Rattle.pep440_rs.specs.Lists.{list_cmp}
 use Rattle.pep440_rs.specs.SpecifierLaws.{ties_first, ties_second, spec_total, specs_feed_alike}
 use Rattle.pep440_rs.specs.Specifiers.{Spec, feed_spec, spec_cmp}
+use Rattle.pep440_version.specs.Feed.{feed_items}
 
 pub list_total : IsTotalOrder list_cmp
 list_total = lists_total spec_total
@@ -30,7 +31,7 @@ members_alike (x ∷ xs) (y ∷ ys) e =
     let rest = members_alike xs ys (ties_second _ _ e) in
     (ap (λ n. suc n) rest.0, λ i. here i ++ rest.1 i)
 
-pub lists_feed_alike : (x y : List Spec) → eq_by_cmp list_cmp x y ≡ true → feed_members x ≡ feed_members y
+pub lists_feed_alike : (x y : List Spec) → eq_by_cmp list_cmp x y ≡ true → feed_items feed_spec x ≡ feed_items feed_spec y
 lists_feed_alike x y e =
     let same = members_alike x y ((Equal-is (list_cmp x y)).0 e) in
     λ i. u64 (same.0 i) ++ same.1 i

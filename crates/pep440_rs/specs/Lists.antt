@@ -1,10 +1,9 @@
--- How a list of specifiers is printed, ordered and fed to a hasher.
-use Rattle.std.specs.Prelude.{ℕ, List, [], ◌∷◌, ◌++◌, codes, length}
+-- How a list of specifiers is printed and ordered.
+use Rattle.std.specs.Prelude.{ℕ, List, [], ◌∷◌, ◌++◌, codes}
 use Rattle.std.specs.Cmp.Lexicographic.{slice_cmp}
-use Rattle.std.specs.Hash.{HashWrites, u64}
 use Rattle.std.specs.List.{flat_map}
 use Rattle.std.specs.declared.cmp.Ordering.{Ordering}
-use Rattle.pep440_rs.specs.Specifiers.{Spec, feed_spec, spec_cmp, spec_print}
+use Rattle.pep440_rs.specs.Specifiers.{Spec, spec_cmp, spec_print}
 
 -- the prints of the members, with this string between them
 abbrev pub joined : List ℕ → List Spec → List ℕ
@@ -17,7 +16,3 @@ list_print list = joined (codes ", ") list
 -- member by member, and a beginning of a longer list is less
 abbrev pub list_cmp : List Spec → List Spec → Ordering
 list_cmp = slice_cmp spec_cmp
-
--- the count, then the members
-abbrev pub feed_members : List Spec → HashWrites
-feed_members list = u64 (length list) ++ flat_map feed_spec list

@@ -11,8 +11,9 @@ ghost use Rattle.pep440_rs.specs.ListErrorTexts.{list_refusal_text, list_text_of
 ghost use Rattle.pep440_rs.specs.ListGrammar.{DerivesList, PieceRefusal, RefusesList};
 ghost use Rattle.pep440_rs.specs.ListReading.{read_members};
 ghost use Rattle.pep440_rs.specs.Matching.{list_matches};
-ghost use Rattle.pep440_rs.specs.Lists.{joined, list_print, list_cmp, feed_members};
+ghost use Rattle.pep440_rs.specs.Lists.{joined, list_print, list_cmp};
 ghost use Rattle.pep440_rs.specs.Specifiers.{Spec, feed_spec};
+ghost use Rattle.pep440_version.specs.Feed.{feed_items};
 ghost use Rattle.std.specs.Cmp.{partial_equiv_from_equiv};
 ghost use Rattle.std.specs.Ordering.{as_partial_cmp, eq_by_cmp};
 ghost use Rattle.pep440_rs.specs.ListLaws.{list_equiv, list_po, list_total, lists_feed_alike};
@@ -367,7 +368,7 @@ fn hash_members<H: Hasher>(members: &[VersionSpecifier], state: &mut H)
 }
 
 impl Hash for VersionSpecifiers {
-    ghost hash_input = { feed_members };
+    ghost hash_input = { feed_items feed_spec };
 
     ghost respects_eq = { lists_feed_alike };
 

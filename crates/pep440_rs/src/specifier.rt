@@ -70,9 +70,14 @@ impl Model for VersionSpecifier {
 }
 
 impl VersionSpecifier {
-    // What was read or built: every specifier is made here.
+    /// The specifier of these parts, as `into_parts` returns them. Unchecked, as the eight calls below: a local part and the
+    /// sentinels `min` and `max` may be there. Before `~=` two release numbers or more are required (PEP 440, "Compatible
+    /// release").
+    ///
+    /// Allocates nothing.
+    // Every specifier is made here.
     #[inline(always)]
-    fn from_parts(operator: Operator, version: Version) -> VersionSpecifier
+    pub fn from_parts(operator: Operator, version: Version) -> VersionSpecifier
         requires { operator ≡ TildeEqual → 1 < length version.release }
         ensures { result ≡ record { operator = operator; version = version } }
     {

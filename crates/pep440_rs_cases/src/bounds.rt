@@ -4,7 +4,7 @@ ghost use Rattle.std.specs.List.{All};
 ghost use Rattle.pep440_rs.specs.Agreement.{IsReleaseOnly};
 ghost use Rattle.pep440_rs.specs.BoundsAgreement.{IsReleaseBound, IsReleasePair};
 
-use pep440_cases::{CaseError, copy, equals_copy, parse_version, printed};
+use pep440_cases::{CaseError, copy, equals_copy, parse_version, print_value};
 use pep440_rs::{
     BoundError, BuildErrorKind, ReleaseBounds, Version, VersionSpecifier, VersionSpecifiers,
 };
@@ -29,7 +29,7 @@ fn error_text(alloc: Global, error: &BoundError) -> Result<String, CaseError> {
     if !equals_copy(error)? {
         return Err(CaseError::Disagreement);
     }
-    let message = printed(alloc, error)?;
+    let message = print_value(alloc, error)?;
     match inner.kind() {
         BuildErrorKind::OperatorLocalCombo { operator, .. } => {
             Ok(format!(in alloc; "OperatorLocalCombo({operator}): {message}")?)
@@ -44,7 +44,7 @@ fn member_text(
     answer: Result<Option<VersionSpecifier>, BoundError>,
 ) -> Result<String, CaseError> {
     match answer {
-        Ok(Some(member)) => Ok(printed(alloc, &member)?),
+        Ok(Some(member)) => Ok(print_value(alloc, &member)?),
         Ok(None) => Ok(String::from_str(alloc, "none")?),
         Err(error) => error_text(alloc, &error),
     }
@@ -124,7 +124,7 @@ fn list_of_pairs(
     requires { All IsReleasePair pairs.now }
 {
     let list = VersionSpecifiers::from_release_only_bounds(alloc, pairs)?;
-    Ok(printed(alloc, &list)?)
+    Ok(print_value(alloc, &list)?)
 }
 
 // The list of one pair, and behind it the pair's specifiers.

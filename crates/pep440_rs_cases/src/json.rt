@@ -1,6 +1,6 @@
 //! JSON strings.
 use crate::parsers::{list_argument, list_error_text, specifier_argument};
-use pep440_cases::{CaseError, equals_copy, printed, version_argument};
+use pep440_cases::{CaseError, equals_copy, print_value, version_argument};
 use pep440_rs::{
     JsonError, VersionSpecifier, VersionSpecifiers, VersionSpecifiersParseError, version_from_json,
     version_to_json,
@@ -24,7 +24,7 @@ fn same_again(alloc: Global, value: &Value, same: bool) -> Result<String, CaseEr
     if !same {
         return Err(CaseError::Disagreement);
     }
-    Ok(printed(alloc, value)?)
+    Ok(print_value(alloc, value)?)
 }
 
 /// The JSON string of the version, which is parsed as the version again.
@@ -60,18 +60,18 @@ pub fn json_list(alloc: Global, text: &str) -> Result<String, CaseError> {
 /// The version that the value denotes as it prints, or the message of the error.
 pub fn version_of_json(alloc: Global, text: &str) -> Result<String, CaseError> {
     match version_from_json(alloc, &value(alloc, text)?) {
-        Ok(version) => Ok(printed(alloc, &version)?),
+        Ok(version) => Ok(print_value(alloc, &version)?),
         Err(JsonError::OutOfMemory) => Err(CaseError::OutOfMemory),
-        Err(error) => Ok(printed(alloc, &error)?),
+        Err(error) => Ok(print_value(alloc, &error)?),
     }
 }
 
 /// The same of a specifier.
 pub fn specifier_of_json(alloc: Global, text: &str) -> Result<String, CaseError> {
     match VersionSpecifier::from_json(alloc, &value(alloc, text)?) {
-        Ok(specifier) => Ok(printed(alloc, &specifier)?),
+        Ok(specifier) => Ok(print_value(alloc, &specifier)?),
         Err(JsonError::OutOfMemory) => Err(CaseError::OutOfMemory),
-        Err(error) => Ok(printed(alloc, &error)?),
+        Err(error) => Ok(print_value(alloc, &error)?),
     }
 }
 
@@ -84,7 +84,7 @@ fn list_error(
         return Err(CaseError::Disagreement);
     }
     match error {
-        JsonError::NotAString => Ok(printed(alloc, error)?),
+        JsonError::NotAString => Ok(print_value(alloc, error)?),
         JsonError::Text(inner) => list_error_text(alloc, inner, inner.line()),
         JsonError::OutOfMemory => Err(CaseError::OutOfMemory),
     }
@@ -93,7 +93,7 @@ fn list_error(
 /// The same of a list.
 pub fn list_of_json(alloc: Global, text: &str) -> Result<String, CaseError> {
     match VersionSpecifiers::from_json(alloc, &value(alloc, text)?) {
-        Ok(list) => Ok(printed(alloc, &list)?),
+        Ok(list) => Ok(print_value(alloc, &list)?),
         Err(error) => list_error(alloc, &error),
     }
 }

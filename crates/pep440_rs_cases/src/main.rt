@@ -13,7 +13,7 @@ use bounds::{lower_bound, pairs, upper_bound};
 use json::{
     json_list, json_specifier, json_version, list_of_json, specifier_of_json, version_of_json,
 };
-use matching::{build, compare, contains, contains_unchecked, unchecked};
+use matching::{build, compare, contains, contains_unchecked, print_unchecked};
 use operators::operator;
 use parsers::{list, members, specifier};
 use pep440_cases::{Calls, CaseError, run_cases};
@@ -49,7 +49,7 @@ fn of_two(alloc: Global, call: &str, one: &str, other: &str) -> Result<String, C
         "contains" => contains(alloc, one, other),
         "compare" => compare(alloc, one, other),
         "build" => build(alloc, one, other),
-        "unchecked" => unchecked(alloc, one, other),
+        "unchecked" => print_unchecked(alloc, one, other),
         "unchecked-range" => unchecked_range(alloc, one, other),
         "beside" => beside(alloc, one, other),
         "cover-beside" => cover_beside(alloc, one, other),

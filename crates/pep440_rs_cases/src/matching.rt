@@ -1,7 +1,7 @@
 //! What specifiers and lists contain, lists compared, and specifiers that are built.
 use crate::operators::operator_argument;
 use crate::parsers::{build_kind_name, list_argument, specifier_argument};
-use pep440_cases::{CaseError, equals_copy, printed, version_argument};
+use pep440_cases::{CaseError, equals_copy, print_value, version_argument};
 use pep440_rs::{ErrorKind, Operator, PatternErrorKind, Version, VersionPattern, VersionSpecifier};
 use std::alloc::{AllocError, Global};
 use std::cmp::Ordering;
@@ -70,7 +70,7 @@ fn pattern(alloc: Global, text: &str) -> Result<VersionPattern, CaseError> {
 pub fn build(alloc: Global, operator: &str, text: &str) -> Result<String, CaseError> {
     let operator = operator_argument(alloc, operator)?;
     match VersionSpecifier::from_pattern(operator, pattern(alloc, text)?) {
-        Ok(specifier) => Ok(printed(alloc, &specifier)?),
+        Ok(specifier) => Ok(print_value(alloc, &specifier)?),
         Err(error) => Ok(String::from_str(alloc, build_kind_name(error.kind()))?),
     }
 }
@@ -104,12 +104,12 @@ pub fn unchecked_argument(
 }
 
 /// How it prints, and whether its version is or precedes a pre-release.
-pub fn unchecked(alloc: Global, operator: &str, text: &str) -> Result<String, CaseError> {
+pub fn print_unchecked(alloc: Global, operator: &str, text: &str) -> Result<String, CaseError> {
     let specifier = unchecked_argument(alloc, operator, text)?;
     if !equals_copy(&specifier)? {
         return Err(CaseError::Disagreement);
     }
-    let mut print = printed(alloc, &specifier)?;
+    let mut print = print_value(alloc, &specifier)?;
     if specifier.any_prerelease() {
         print.push_str(" pre-release")?;
     }

@@ -1,5 +1,5 @@
 //! Operators.
-use pep440_cases::{CaseError, printed};
+use pep440_cases::{CaseError, print_value};
 use pep440_rs::{Operator, OperatorErrorKind, OperatorParseError, Version, VersionSpecifier};
 use std::alloc::Global;
 
@@ -25,7 +25,7 @@ fn has_lower_bound(alloc: Global, operator: Operator) -> Result<bool, CaseError>
 
 // The operator's name, its print, its negation, and whether it bounds from below.
 fn operator_text(alloc: Global, operator: Operator) -> Result<String, CaseError> {
-    let print = printed(alloc, &operator)?;
+    let print = print_value(alloc, &operator)?;
     let mut text = format!(in alloc; "{operator:?} {print}, ")?;
     match operator.negate() {
         Some(negation) => write!(text, "negated {negation:?}")?,
@@ -42,7 +42,7 @@ fn operator_text(alloc: Global, operator: Operator) -> Result<String, CaseError>
 fn error_text(alloc: Global, error: &OperatorParseError) -> Result<String, CaseError> {
     match error.kind() {
         OperatorErrorKind::Unknown { got } => {
-            let message = printed(alloc, error)?;
+            let message = print_value(alloc, error)?;
             Ok(format!(in alloc; "Unknown({got}): {message}")?)
         }
         OperatorErrorKind::OutOfMemory => Err(CaseError::OutOfMemory),

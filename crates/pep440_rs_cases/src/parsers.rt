@@ -1,5 +1,5 @@
 //! Specifiers and lists.
-use pep440_cases::{CaseError, copy, equals_copy, printed};
+use pep440_cases::{CaseError, copy, equals_copy, print_value};
 use pep440_rs::{
     BuildErrorKind, ParseErrorKind, SpecifiersErrorKind, VersionSpecifier,
     VersionSpecifierParseError, VersionSpecifiers, VersionSpecifiersParseError,
@@ -62,7 +62,7 @@ fn error_text(alloc: Global, error: &VersionSpecifierParseError) -> Result<Strin
         return Err(CaseError::Disagreement);
     }
     let name = kind_name(error.kind())?;
-    let message = printed(alloc, error)?;
+    let message = print_value(alloc, error)?;
     Ok(format!(in alloc; "{name}: {message}")?)
 }
 
@@ -70,7 +70,7 @@ fn error_text(alloc: Global, error: &VersionSpecifierParseError) -> Result<Strin
 pub fn specifier(alloc: Global, text: &str) -> Result<String, CaseError> {
     match VersionSpecifier::from_str(alloc, text) {
         Ok(specifier) => {
-            let print = printed(alloc, &specifier)?;
+            let print = print_value(alloc, &specifier)?;
             if !equals_copy(&specifier)?
                 || specifier != specifier_argument(alloc, print.as_str())?
             {
@@ -101,7 +101,7 @@ pub fn list_error_text(
                 return Err(CaseError::Disagreement);
             }
             let name = kind_name(inner.kind())?;
-            let message = printed(alloc, error)?;
+            let message = print_value(alloc, error)?;
             Ok(format!(in alloc; "{name} from {start} to {stop}: {message}")?)
         }
         SpecifiersErrorKind::OutOfMemory => Err(CaseError::OutOfMemory),
@@ -112,7 +112,7 @@ pub fn list_error_text(
 pub fn list(alloc: Global, text: &str) -> Result<String, CaseError> {
     match VersionSpecifiers::from_str(alloc, text) {
         Ok(list) => {
-            let print = printed(alloc, &list)?;
+            let print = print_value(alloc, &list)?;
             if !equals_copy(&list)? || list != list_argument(alloc, print.as_str())? {
                 return Err(CaseError::Disagreement);
             }

@@ -2,7 +2,7 @@
 use crate::bounds::bound;
 use crate::matching::{holds, unchecked_argument};
 use crate::parsers::{list_argument, specifier_argument};
-use pep440_cases::{CaseError, printed, version_argument};
+use pep440_cases::{CaseError, print_value, version_argument};
 use pep440_rs::{
     RangeError, RangeLines, Ranges, Version, release_specifier_to_range,
     release_specifiers_to_ranges, specifier_to_cover, specifier_to_range, specifiers_to_cover,
@@ -16,9 +16,9 @@ fn range_text(
     range: Result<Ranges<Version>, RangeError>,
 ) -> Result<String, CaseError> {
     match range {
-        Ok(range) => Ok(printed(alloc, &RangeLines(&range))?),
+        Ok(range) => Ok(print_value(alloc, &RangeLines(&range))?),
         Err(RangeError::OutOfMemory) => Err(CaseError::OutOfMemory),
-        Err(RangeError::NumberAtMax) => Ok(printed(alloc, &RangeError::NumberAtMax)?),
+        Err(RangeError::NumberAtMax) => Ok(print_value(alloc, &RangeError::NumberAtMax)?),
     }
 }
 
@@ -67,7 +67,7 @@ pub fn cover(alloc: Global, text: &str) -> Result<String, CaseError> {
 /// The range of a specifier that no string gives, behind how it prints.
 pub fn unchecked_range(alloc: Global, operator: &str, text: &str) -> Result<String, CaseError> {
     let specifier = unchecked_argument(alloc, operator, text)?;
-    let mut print = printed(alloc, &specifier)?;
+    let mut print = print_value(alloc, &specifier)?;
     let range = range_text(alloc, specifier_to_range(alloc, specifier))?;
     write!(print, " {range}")?;
     Ok(print)
@@ -135,5 +135,5 @@ pub fn intersection(alloc: Global, sides: &[String]) -> Result<String, CaseError
     let one = between(alloc, start.as_str(), end.as_str())?;
     let other = between(alloc, other_start.as_str(), other_end.as_str())?;
     let shared = one.intersection(alloc, &other)?;
-    Ok(printed(alloc, &RangeLines(&shared))?)
+    Ok(print_value(alloc, &RangeLines(&shared))?)
 }

@@ -1,9 +1,10 @@
 -- Few release numbers and one suffix in its normal spelling (PEP 440, "Normalization").
-use Rattle.std.specs.Prelude.{◌≡◌, ℕ, ◌≤◌, ◌<◌, ◌⊎◌, ◌==◌, ◌++◌, List, [], codes, length, slice_index, false, Option, Some, None, if◌then◌else◌}
+use Rattle.std.specs.Prelude.{◌≡◌, ℕ, ◌≤◌, ◌<◌, ◌⊎◌, ◌==◌, ◌++◌, List, [], codes, length, slice_index, take, false, Option, Some, None, if◌then◌else◌}
 use Rattle.std.specs.Char.{is_ascii_digit}
 use Rattle.pep440_version.specs.declared.prerelease.PrereleaseKind.{PrereleaseKind}
 use Rattle.pep440_version.specs.declared.prerelease.PrereleaseKind.TheVariants.{Alpha, Beta, Rc}
-use Rattle.pep440_version.specs.Grammar.{IsNumber, starts}
+use Rattle.pep440_version.specs.Grammar.{IsNumber, IsRelease, starts}
+use Rattle.pep440_version.specs.Reading.{skip_v}
 
 -- the first numbers of four, with zeros behind them
 pub record IsPadded (count : ℕ) (numbers : List ℕ) : Type 0 where
@@ -11,6 +12,10 @@ pub record IsPadded (count : ℕ) (numbers : List ℕ) : Type 0 where
   pub few : count ≤ 4
   pub four : length numbers ≡ 4
   pub zeros : (k : ℕ) → count ≤ k → slice_index numbers k ≡ 0
+
+-- the text begins with a release of the first numbers of four, behind the letter v or not, and goes on with the rest
+abbrev pub HasRelease : List ℕ → List ℕ → ℕ → List ℕ → Type 0
+HasRelease text numbers count rest = IsPadded count numbers × ((release : List ℕ) × IsRelease release (take count numbers) × (skip_v text ≡ release ++ rest))
 
 -- the classes of a suffix that a text can have: dev, alpha, beta, rc and post
 abbrev pub IsClass : ℕ → Type 0

@@ -83,8 +83,8 @@ impl VersionPattern {
         ensures reads { Answers pattern_error_refusal result (read_pattern text.now) }
         ensures memory { (x : Record × Bool) → read_pattern text.now ≡ Ok x → is_packed x.0 ≡ true → IsOk result }
     {
-        if let Some(version) = read::parse_normal_version(text) {
-            return Ok(VersionPattern::verbatim(version));
+        if let Some((version, wildcard)) = read::parse_normal_pattern(text) {
+            return Ok(VersionPattern { version, wildcard });
         }
         let (version, wildcard) = read::parse_pattern(alloc, text)?;
         Ok(VersionPattern { version, wildcard })

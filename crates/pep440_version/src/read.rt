@@ -19,8 +19,8 @@ mod scan;
 mod suffix;
 
 use self::local::parse_local;
-use self::normal::parse_normal_star;
-pub(crate) use self::normal::parse_normal_version;
+pub(crate) use self::normal::parse_normal_pattern;
+use self::normal::parse_normal_version;
 use self::normal_parts::{NormalParts, parse_normal_parts};
 use self::number::{parse_number, parse_release_from, starts_with_number};
 use self::suffix::{parse_dev, parse_post, parse_pre};
@@ -148,7 +148,7 @@ fn build_star_version(alloc: Global, epoch: u64, release: Release) -> Result<Ver
 
 // The version of the parts of a normal one.
 #[inline(always)]
-fn build_normal_version(alloc: Global, parts: NormalParts) -> Result<Version, ErrorKind>
+fn build_from_parts(alloc: Global, parts: NormalParts) -> Result<Version, ErrorKind>
     requires { 0 < length parts.release }
     ensures reads { AnswersBy (λ v. v) result (Ok (from_parts parts.epoch parts.release parts.pre parts.post parts.dev [])) }
     ensures memory { is_packed (from_parts parts.epoch parts.release parts.pre parts.post parts.dev []) ≡ true → IsOk result }
@@ -172,7 +172,8 @@ fn parse_through_release(alloc: Global, text: &str) -> Result<(u64, Release, &st
     parse_epoch_and_release(alloc, skip_v(scan::skip_blanks(text)))
 }
 
-// The version that the string parses to, and whether a star follows.
+// The version that the string parses to, and whether a star follows, where the version is likely not packed.
+#[inline(never)]
 pub(crate) fn parse_pattern(
     alloc: Global,
     text: &str,
@@ -180,14 +181,10 @@ pub(crate) fn parse_pattern(
     ensures reads { Answers pattern_error_refusal result (read_pattern text.now) }
     ensures memory { (x : Record × Bool) → read_pattern text.now ≡ Ok x → is_packed x.0 ≡ true → IsOk result }
 {
-    if matches!(text.as_bytes(), [.., b'*']) {
-        if let Some(version) = parse_normal_star(text) {
-            return Ok((version, true));
-        }
-    } else if let Some(parts) = parse_normal_parts(text) {
-        return Ok((build_normal_version(alloc, parts)?, false));
+    match parse_normal_parts(text) {
+        Some(parts) => Ok((build_from_parts(alloc, parts)?, false)),
+        None => parse_whole_pattern(alloc, text),
     }
-    parse_whole_pattern(alloc, text)
 }
 
 // The same part by part, for any string.
@@ -232,7 +229,7 @@ impl Version {
         ensures memory { (r : Record) → read_version text.now ≡ Ok r → is_packed r ≡ true → IsOk result }
     {
         match parse_normal_parts(text) {
-            Some(parts) => Ok(build_normal_version(alloc, parts)?),
+            Some(parts) => Ok(build_from_parts(alloc, parts)?),
             None => Version::read_whole(alloc, text),
         }
     }

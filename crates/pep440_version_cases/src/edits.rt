@@ -1,5 +1,5 @@
 //! Lists of changes.
-use pep440_cases::{CaseError, change_argument, parse_version, printed};
+use pep440_cases::{CaseError, change_argument, parse_version, print_value};
 use pep440_change_words::WithSentinels;
 use pep440_version::{Change, ChangeError};
 use std::alloc::Global;
@@ -21,7 +21,7 @@ fn error_text(alloc: Global, error: ChangeError) -> Result<String, CaseError> {
         ChangeError::MaxNotAllowed(_) => "MaxNotAllowed",
         ChangeError::OutOfMemory => return Err(CaseError::OutOfMemory),
     };
-    let message = printed(alloc, &error)?;
+    let message = print_value(alloc, &error)?;
     Ok(format!(in alloc; "{name}: {message}")?)
 }
 
@@ -29,7 +29,7 @@ fn error_text(alloc: Global, error: ChangeError) -> Result<String, CaseError> {
 pub fn edit(alloc: Global, text: &str, words: &str) -> Result<String, CaseError> {
     let changes = changes(alloc, words)?;
     match parse_version(alloc, text)?.with_changes(alloc, changes.as_slice()) {
-        Ok(changed) => Ok(printed(alloc, &WithSentinels(&changed))?),
+        Ok(changed) => Ok(print_value(alloc, &WithSentinels(&changed))?),
         Err(error) => error_text(alloc, error),
     }
 }

@@ -1,5 +1,5 @@
 //! Errors: the kind with what it holds, and the message.
-use pep440_cases::{CaseError, equals_copy, printed};
+use pep440_cases::{CaseError, equals_copy, print_value};
 use pep440_version::{ErrorKind, PatternErrorKind, VersionParseError, VersionPatternParseError};
 use std::alloc::Global;
 
@@ -51,7 +51,7 @@ pub fn error_text(alloc: Global, error: &VersionParseError) -> Result<String, Ca
     }
     join(
         kind_text(alloc, error.kind())?,
-        printed(alloc, error)?.as_str(),
+        print_value(alloc, error)?.as_str(),
     )
 }
 
@@ -65,6 +65,6 @@ pub fn pattern_error_text(
     }
     join(
         pattern_kind_text(alloc, error.kind())?,
-        printed(alloc, error)?.as_str(),
+        print_value(alloc, error)?.as_str(),
     )
 }

@@ -1,6 +1,6 @@
 //! Parsers.
 use crate::errors::{error_text, pattern_error_text};
-use pep440_cases::{CaseError, equals_copy, printed};
+use pep440_cases::{CaseError, equals_copy, print_value};
 use pep440_version::{Version, VersionParseError, VersionPattern, VersionPatternParseError};
 use std::alloc::Global;
 
@@ -16,7 +16,7 @@ fn refusal(alloc: Global, error: VersionParseError) -> Result<String, CaseError>
 /// The normalized form, or the kind and the message of the error.
 pub fn parse(alloc: Global, text: &str) -> Result<String, CaseError> {
     match Version::from_str(alloc, text) {
-        Ok(version) => Ok(printed(alloc, &version)?),
+        Ok(version) => Ok(print_value(alloc, &version)?),
         Err(error) => refusal(alloc, error),
     }
 }
@@ -26,7 +26,7 @@ fn print_pattern(alloc: Global, pattern: &VersionPattern) -> Result<String, Case
     if !equals_copy(pattern)? {
         return Err(CaseError::Disagreement);
     }
-    let mut text = printed(alloc, pattern.version())?;
+    let mut text = print_value(alloc, pattern.version())?;
     if pattern.is_wildcard() {
         text.push_str(".*")?;
     }

@@ -1,5 +1,5 @@
 //! Parts of versions, and their words.
-use pep440_cases::{CaseError, copy, printed, version_argument};
+use pep440_cases::{CaseError, copy, print_value, version_argument};
 use pep440_change_words::WithSentinels;
 use pep440_version::{LocalSegment, Version, laws};
 use std::alloc::{AllocError, Global};
@@ -9,8 +9,8 @@ use std::fmt::Display;
 pub fn print(alloc: Global, text: &str) -> Result<String, CaseError> {
     let version = version_argument(alloc, text)?;
     let copy = copy(&version)?;
-    let text = printed(alloc, &WithSentinels(&version))?;
-    if copy != version || printed(alloc, &WithSentinels(&copy))? != text {
+    let text = print_value(alloc, &WithSentinels(&version))?;
+    if copy != version || print_value(alloc, &WithSentinels(&copy))? != text {
         return Err(CaseError::Disagreement);
     }
     Ok(text)

@@ -1,5 +1,5 @@
 //! The message of a list's error, the same whatever width and fill are asked for.
-ghost use Rattle.std.specs.Prelude.{◌≤◌, ◌++◌, codes, option_map, replicate, length, IsCharBoundary};
+ghost use Rattle.std.specs.Prelude.{◌<◌, ◌≤◌, ◌++◌, codes, option_map, replicate, length, IsCharBoundary};
 ghost use Rattle.std.specs.Fmt.{DisplaysStyledOnOk, WritesStyledOnOk};
 ghost use Rattle.pep440_rs.specs.Errors.{parse_kind_of, specifier_refusal_of};
 ghost use Rattle.pep440_rs.specs.ErrorTexts.{specifier_error_text};
@@ -13,20 +13,17 @@ use std::error::Error;
 use std::fmt;
 use unicode_width::UnicodeWidthStr;
 
-fn write_blanks<W: fmt::Write>(f: &mut fmt::Formatter<W>, count: usize) -> fmt::Result
-    ensures { WritesStyledOnOk W.write_str_gives f.old result (replicate count 32) f.new }
+// Writes an ASCII character this many times.
+fn write_times<W: fmt::Write>(
+    f: &mut fmt::Formatter<W>,
+    character: char,
+    count: usize,
+) -> fmt::Result
+    requires ascii { character < 128 }
+    ensures { WritesStyledOnOk W.write_str_gives f.old result (replicate count character) f.new }
 {
     for _i in 0..count {
-        f.write_str(" ")?;
-    }
-    Ok(())
-}
-
-fn write_carets<W: fmt::Write>(f: &mut fmt::Formatter<W>, count: usize) -> fmt::Result
-    ensures { WritesStyledOnOk W.write_str_gives f.old result (replicate count 94) f.new }
-{
-    for _i in 0..count {
-        f.write_str("^")?;
+        f.write_char(character)?;
     }
     Ok(())
 }
@@ -43,8 +40,8 @@ fn write_caret_line<W: fmt::Write>(
     requires stops { IsCharBoundary line.now stop }
     ensures { WritesStyledOnOk W.write_str_gives f.old result (caret_line line.now start stop) f.new }
 {
-    write_blanks(f, line[..start].width())?;
-    write_carets(f, line[start..stop].width())?;
+    write_times(f, ' ', line[..start].width())?;
+    write_times(f, '^', line[start..stop].width())?;
     f.write_str("\n")
 }
 

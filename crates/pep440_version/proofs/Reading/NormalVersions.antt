@@ -58,8 +58,8 @@ digit_more text rest i n inside d h =
       value = ap (digits_value 10) more ∙ digits_value_push 10 (d.first ∷ take i rest) (get_or rest i 0) ∙ (λ j. d.value j * 10 + digit_is (get_or rest i 0) h j);
     }
 
-pub number_ends : (text after rest : List ℕ) (i n : ℕ) → Digits text rest i n → n ≤ 2097151 → after ≡ drop i rest
-    → (digits : List ℕ) × IsNumber digits n × (n ≤ 2097151) × (text ≡ digits ++ after)
+pub number_ends : (text after rest : List ℕ) (i n : ℕ) → Digits text rest i n → n ≤ 2147483647 → after ≡ drop i rest
+    → (digits : List ℕ) × IsNumber digits n × (n ≤ 2147483647) × (text ≡ digits ++ after)
 number_ends text after rest i n d small end = (
   d.first ∷ take i rest,
   (omega arith, d.all, d.value, omega (arith, small)),
@@ -102,7 +102,7 @@ zeros_from n (suc (suc zero)) h = refl
 zeros_from n (suc (suc (suc zero))) h = refl
 zeros_from n (suc (suc (suc (suc k)))) h = refl
 
-pub one_number : (text rest : List ℕ) (n : ℕ) → ((digits : List ℕ) × IsNumber digits n × (n ≤ 2097151) × (text ≡ digits ++ rest)) → Released text rest 1 (n ∷ 0 ∷ 0 ∷ 0 ∷ [])
+pub one_number : (text rest : List ℕ) (n : ℕ) → ((digits : List ℕ) × IsNumber digits n × (n ≤ 2147483647) × (text ≡ digits ++ rest)) → Released text rest 1 (n ∷ 0 ∷ 0 ∷ 0 ∷ [])
 one_number text rest n h = record {
   pad_with_zeros = record { some = omega arith; few = omega arith; four = refl; zeros = zeros_from n };
   release = h.0;
@@ -111,7 +111,7 @@ one_number text rest n h = record {
 }
 
 pub number_more : (text rest after numbers : List ℕ) (count n : ℕ) → count < 4 → Released text rest count numbers
-    → ((digits : List ℕ) × IsNumber digits n × (n ≤ 2097151) × (rest ≡ 46 ∷ (digits ++ after))) → Released text after (count + 1) (set numbers count n)
+    → ((digits : List ℕ) × IsNumber digits n × (n ≤ 2147483647) × (rest ≡ 46 ∷ (digits ++ after))) → Released text after (count + 1) (set numbers count n)
 number_more text rest after numbers count n room r h =
     let inside : count < length numbers = omega (arith, r.pad_with_zeros.four) in
     record {

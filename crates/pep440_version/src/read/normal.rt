@@ -3,17 +3,20 @@
 ghost use Rattle.std.specs.Prelude.{◌≡◌, ◌≤◌, ◌++◌, ◌∷◌, ℕ, List, IfSome, false, take};
 ghost use Rattle.std.specs.Char.{is_ascii_digit};
 ghost use Rattle.pep440_version.specs.Grammar.{Derives, IsNumber, IsRelease, starts};
-ghost use Rattle.pep440_version.specs.Normal.{IsClass, IsPadded, IsSuffix, spelling};
-ghost use Rattle.pep440_version.specs.Patterns.{DerivesStar};
+ghost use Rattle.pep440_version.specs.Normal.{HasRelease, IsClass, IsPadded, IsSuffix, spelling};
+ghost use Rattle.pep440_version.specs.Patterns.{DerivesPattern, DerivesStar};
 
 use super::skip_v;
 use crate::packed::{ALPHA, BETA, DEV, MAX_SUFFIX_NUMBER, NONE, POST, Packed, RC};
 use crate::version::Version;
 
+// The greatest number that the short passes read. It has room for dates, which no word holds.
+const MAX_SMALL_NUMBER: u64 = 2147483647;
+
 // The number at the front, where it is small, and what follows it.
 #[inline(always)]
 pub(crate) fn parse_small_number(text: &[u8]) -> Option<(u64, &[u8])>
-    ensures number { IfSome result (λ x. (digits : List ℕ) × IsNumber digits x.0 × (x.0 ≤ 2097151) × (text.now ≡ digits ++ x.1.now)) }
+    ensures number { IfSome result (λ x. (digits : List ℕ) × IsNumber digits x.0 × (x.0 ≤ 2147483647) × (text.now ≡ digits ++ x.1.now)) }
     ensures ended { IfSome result (λ x. starts is_ascii_digit x.1.now ≡ false) }
 {
     let (first, rest) = text.split_first()?;
@@ -26,7 +29,7 @@ pub(crate) fn parse_small_number(text: &[u8]) -> Option<(u64, &[u8])>
             return Some((number, &rest[i..]));
         }
         number = number * 10 + u64::from(rest[i] - b'0');
-        if number > MAX_SUFFIX_NUMBER {
+        if number > MAX_SMALL_NUMBER {
             return None;
         }
     }
@@ -36,7 +39,7 @@ pub(crate) fn parse_small_number(text: &[u8]) -> Option<(u64, &[u8])>
 // The small number after a dot, and what follows it.
 #[inline(always)]
 fn parse_next_number(text: &[u8]) -> Option<(u64, &[u8])>
-    ensures { IfSome result (λ x. (digits : List ℕ) × IsNumber digits x.0 × (x.0 ≤ 2097151) × (text.now ≡ 46 ∷ (digits ++ x.1.now))) }
+    ensures { IfSome result (λ x. (digits : List ℕ) × IsNumber digits x.0 × (x.0 ≤ 2147483647) × (text.now ≡ 46 ∷ (digits ++ x.1.now))) }
 {
     match text {
         [b'.', rest @ ..] => parse_small_number(rest),
@@ -86,11 +89,43 @@ fn parse_normal_suffix(text: &[u8]) -> Option<(u64, u64)>
     }
     let (class, digits) = parse_class(text)?;
     let (number, rest) = parse_small_number(digits)?;
-    if rest.is_empty() {
+    if rest.is_empty() && number <= MAX_SUFFIX_NUMBER {
         Some((class, number))
     } else {
         None
     }
+}
+
+// The numbers that the text begins with, behind the letter v or not, how many there are, and what follows them.
+#[inline(always)]
+fn parse_normal_release(text: &str) -> Option<([u64; 4], usize, &[u8])>
+    ensures { IfSome result (λ x. HasRelease text.now x.0 x.1 x.2.now) }
+{
+    parse_small_release(skip_v(text).as_bytes())
+}
+
+// What the text of this release parses to, where the rest is a normal suffix or nothing; None says nothing.
+#[inline(always)]
+fn build_normal_version(text: &str, numbers: [u64; 4], count: usize, rest: &[u8]) -> Option<Version>
+    requires { HasRelease text.now numbers count rest.now }
+    ensures { IfSome result (λ v. Derives text.now v) }
+{
+    let (class, number) = parse_normal_suffix(rest)?;
+    let packed = Packed::of_suffix(numbers, count, class, number)?;
+    Some(Version::from_packed(packed))
+}
+
+// The release of the text alone, where the rest is a star; None says nothing.
+#[inline(always)]
+fn build_normal_star(text: &str, numbers: [u64; 4], count: usize, rest: &[u8]) -> Option<Version>
+    requires { HasRelease text.now numbers count rest.now }
+    ensures { IfSome result (DerivesStar text.now) }
+{
+    let [b'.', b'*'] = rest else {
+        return None;
+    };
+    let packed = Packed::of_suffix(numbers, count, NONE, 0)?;
+    Some(Version::from_packed(packed))
 }
 
 // What the text parses to, where it is of this form; None says nothing.
@@ -98,21 +133,19 @@ fn parse_normal_suffix(text: &[u8]) -> Option<(u64, u64)>
 pub(crate) fn parse_normal_version(text: &str) -> Option<Version>
     ensures { IfSome result (λ v. Derives text.now v) }
 {
-    let (numbers, count, rest) = parse_small_release(skip_v(text).as_bytes())?;
-    let (class, number) = parse_normal_suffix(rest)?;
-    let packed = Packed::of_suffix(numbers, count, class, number)?;
-    Some(Version::from_packed(packed))
+    let (numbers, count, rest) = parse_normal_release(text)?;
+    build_normal_version(text, numbers, count, rest)
 }
 
-// The release that the text has before a star, where it is of this form; None says nothing.
+// The same of a pattern, and whether a star follows.
 #[inline(always)]
-pub(crate) fn parse_normal_star(text: &str) -> Option<Version>
-    ensures { IfSome result (DerivesStar text.now) }
+pub(crate) fn parse_normal_pattern(text: &str) -> Option<(Version, bool)>
+    ensures { IfSome result (λ p. DerivesPattern text.now p.0 p.1) }
 {
-    let (numbers, count, rest) = parse_small_release(skip_v(text).as_bytes())?;
-    let [b'.', b'*'] = rest else {
-        return None;
-    };
-    let packed = Packed::of_suffix(numbers, count, NONE, 0)?;
-    Some(Version::from_packed(packed))
+    let (numbers, count, rest) = parse_normal_release(text)?;
+    if let Some(version) = build_normal_version(text, numbers, count, rest) {
+        return Some((version, false));
+    }
+    let version = build_normal_star(text, numbers, count, rest)?;
+    Some((version, true))
 }

@@ -1,3 +1,5 @@
+use Rattle.std.proofs.Common.{◌∙◌}
+use Rattle.pep440_c.proofs.Joining.{joined_more}
 use Rattle.pep440_c.proofs.Placed.{keys_more, stops_at}
 use Rattle.pep440_c.proofs.batch.sort_keys.Goals as goal
 
@@ -6,4 +8,6 @@ returns-in-Err c = stops_at c.args.texts.now c.loop-position.position _ c.in-Err
 
 pub loop-position-preserved : goal.loop-position-preserved
 loop-position-preserved c = keys_more c.args.texts.now c.loop-position.position _ c.loop-position.keys.bytes.items c.push.new.self.bytes.items c.loop-position.keys.ends.items c.push.new.self.ends.items
-    c.in-Ok.version c.loop-position-test.true c.in-Ok.ensures c.in_ok-push-in-Ok.ensures.bytes c.in_ok-push-in-Ok.ensures.ends c.loop-position.invariant
+    c.as_slice.result.now c.in-Ok.version c.loop-position-test.true c.in-Ok.ensures (c.as_slice.ensures.value ∙ c.in_ok-sort_key-in-Ok.ensures)
+    (λ l. joined_more l c.as_slice.result.now c.loop-position.keys.bytes.items c.push.new.self.bytes.items c.loop-position.keys.ends.items c.push.new.self.ends.items c.in_ok-push-in-Ok.ensures.bytes c.in_ok-push-in-Ok.ensures.ends)
+    c.loop-position.invariant

@@ -1,4 +1,4 @@
-use Rattle.std.proofs.Common.{◌≡◌, ◌∙◌, sym}
+use Rattle.std.proofs.Common.{◌∙◌, sym}
 use Rattle.pep440_pick.specs.RequirementReading.{listed_extras}
 use Rattle.pep440_pick.proofs.Extras.{closed_none, closed_some, extras_known, extras_unknown, prefix_lacks, no_bracket, unclosed}
 use Rattle.pep440_pick.proofs.read.extras_at.Goals as goal

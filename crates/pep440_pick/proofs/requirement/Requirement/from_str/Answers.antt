@@ -1,4 +1,4 @@
-use Rattle.std.proofs.Common.{refl, Ok, Err}
+use Rattle.std.proofs.Common.{Ok, Err}
 use Rattle.pep440_rs.proofs.Reading.Passed.{passed}
 use Rattle.pep440_pick.specs.Requirements.{RequirementAnswers, prefix_of, needed, requirement_refusal_of}
 use Rattle.pep440_pick.specs.RequirementGrammar.{RefusesRequirement}

@@ -15,4 +15,4 @@ pub loop-i-preserved : goal.loop-i-preserved
 loop-i-preserved c =
     let digit : is_ascii_digit (get_or c.in_ok-first.rest.now c.loop-i.i 0) ≡ true = sym c.is_ascii_digit-in-loop-i.ensures.value ∙ c.if-not-is_ascii_digit-2.false in
     let more = digit_more c.args.text.now c.in_ok-first.rest.now c.loop-i.i c.loop-i.number (omega arith) c.loop-i.invariant.1 digit in
-    (c.if-number-gt-MAX_SUFFIX_NUMBER.false, subst (λ v. Digits c.args.text.now c.in_ok-first.rest.now (c.loop-i.i + 1) (c.loop-i.number * 10 + v)) (sym c.from.ensures) more)
+    (c.if-number-gt-MAX_SMALL_NUMBER.false, subst (λ v. Digits c.args.text.now c.in_ok-first.rest.now (c.loop-i.i + 1) (c.loop-i.number * 10 + v)) (sym c.from.ensures) more)

@@ -1,0 +1,360 @@
+/* Versions of Python packages (PEP 440) in SQLite: sort keys for indexes, normal forms, matching, covers of lists of specifiers.
+
+   Each function is deterministic and innocuous, so it serves in an index on an expression and in a generated column. A version is a TEXT; any
+   other value, and a text that is no version, gives NULL (pep440_valid gives 0). A text that is no list of specifiers is an error that says why. */
+#include <string.h>
+
+#include <sqlite3ext.h>
+SQLITE_EXTENSION_INIT1
+
+#include "pep440.h"
+
+/* A call of the library that reads a string and writes bytes. */
+typedef uint8_t (*Writer)(const uint8_t *, size_t, uint8_t *, size_t, size_t *);
+
+/* A string as the library takes it. */
+typedef struct {
+    const uint8_t *bytes;
+    size_t length;
+} Text;
+
+/* What a call wrote: in `here` where that was enough, else in memory of SQLite's. */
+typedef struct {
+    uint8_t here[256];
+    uint8_t *bytes;
+    size_t length;
+} Written;
+
+/* A first call finds what most strings need; where that is not enough, a second one has the room that the first told. */
+static uint8_t write_all(Writer call, Text text, Written *out)
+{
+    out->bytes = out->here;
+    uint8_t status = call(text.bytes, text.length, out->bytes, sizeof out->here, &out->length);
+    if (status != PEP440_NO_ROOM)
+        return status;
+    size_t room = out->length;
+    out->bytes = sqlite3_malloc64(room);
+    return out->bytes == NULL ? PEP440_OUT_OF_MEMORY : call(text.bytes, text.length, out->bytes, room, &out->length);
+}
+
+static void release(Written *out)
+{
+    if (out->bytes != out->here)
+        sqlite3_free(out->bytes);
+}
+
+/* Whether the value is a TEXT. The library wants no null pointer, not even for an empty string. */
+static int is_text(sqlite3_value *value, Text *text)
+{
+    if (sqlite3_value_type(value) != SQLITE_TEXT)
+        return 0;
+    text->bytes = sqlite3_value_text(value);
+    text->length = (size_t)sqlite3_value_bytes(value);
+    return text->bytes != NULL;
+}
+
+/* Says in an error why the string is no list. The lines with the caret stand as the library writes them. */
+static void fail_list(sqlite3_context *context, Text list)
+{
+    Written why;
+    if (write_all(pep440_list_error, list, &why) == PEP440_OK)
+        sqlite3_result_error(context, (const char *)why.bytes, (int)why.length);
+    else
+        sqlite3_result_error_nomem(context);
+    release(&why);
+}
+
+/* The result of a call that reads a version: `blob` or text; NULL where it is no version. */
+static void give_written(sqlite3_context *context, sqlite3_value *value, Writer call, int blob)
+{
+    Text text;
+    Written out;
+    if (!is_text(value, &text))
+        return;
+    uint8_t status = write_all(call, text, &out);
+    if (status == PEP440_OUT_OF_MEMORY)
+        sqlite3_result_error_nomem(context);
+    else if (status == PEP440_OK && blob)
+        sqlite3_result_blob64(context, out.bytes, out.length, SQLITE_TRANSIENT);
+    else if (status == PEP440_OK)
+        sqlite3_result_text64(context, (const char *)out.bytes, out.length, SQLITE_TRANSIENT, SQLITE_UTF8);
+    release(&out);
+}
+
+/* pep440_key(v): bytes that sort as the versions do, and are equal exactly where the versions are. */
+static void key(sqlite3_context *context, int count, sqlite3_value **values)
+{
+    (void)count;
+    give_written(context, values[0], pep440_sort_key, 1);
+}
+
+/* pep440_normalize(v): the normal form. */
+static void normalize(sqlite3_context *context, int count, sqlite3_value **values)
+{
+    (void)count;
+    give_written(context, values[0], pep440_normalize, 0);
+}
+
+/* pep440_valid(v): whether v is a version, 1 or 0; NULL of NULL. */
+static void valid(sqlite3_context *context, int count, sqlite3_value **values)
+{
+    Text text;
+    size_t length;
+    uint8_t nothing[1], status = PEP440_INVALID_VERSION;
+    (void)count;
+    if (sqlite3_value_type(values[0]) == SQLITE_NULL)
+        return;
+    if (is_text(values[0], &text))
+        status = pep440_normalize(text.bytes, text.length, nothing, 0, &length);
+    if (status == PEP440_OUT_OF_MEMORY)
+        sqlite3_result_error_nomem(context);
+    else
+        sqlite3_result_int(context, status != PEP440_INVALID_VERSION);
+}
+
+/* pep440_compare(a, b): -1, 0 or 1 where a is below b, equal to it or above it. */
+static void compare(sqlite3_context *context, int count, sqlite3_value **values)
+{
+    Text left, right;
+    int8_t order;
+    (void)count;
+    if (!is_text(values[0], &left) || !is_text(values[1], &right))
+        return;
+    uint8_t status = pep440_compare(left.bytes, left.length, right.bytes, right.length, &order);
+    if (status == PEP440_OUT_OF_MEMORY)
+        sqlite3_result_error_nomem(context);
+    else if (status == PEP440_OK)
+        sqlite3_result_int(context, order);
+}
+
+/* pep440_is_prerelease(v): whether v is a pre-release or a developmental release, 1 or 0. */
+static void is_prerelease(sqlite3_context *context, int count, sqlite3_value **values)
+{
+    Text text;
+    uint8_t contained, prerelease;
+    (void)count;
+    if (!is_text(values[0], &text))
+        return;
+    uint8_t status = pep440_contains((const uint8_t *)"", 0, text.bytes, text.length, &contained, &prerelease);
+    if (status == PEP440_OUT_OF_MEMORY)
+        sqlite3_result_error_nomem(context);
+    else if (status == PEP440_OK)
+        sqlite3_result_int(context, prerelease);
+}
+
+/* pep440_match(specs, v): whether the list contains the version, 1 or 0. Pre-releases are versions like others. */
+static void match(sqlite3_context *context, int count, sqlite3_value **values)
+{
+    Text list, text;
+    uint8_t contained, prerelease;
+    (void)count;
+    if (!is_text(values[0], &list) || !is_text(values[1], &text))
+        return;
+    uint8_t status = pep440_contains(list.bytes, list.length, text.bytes, text.length, &contained, &prerelease);
+    if (status == PEP440_OUT_OF_MEMORY)
+        sqlite3_result_error_nomem(context);
+    else if (status == PEP440_INVALID_LIST)
+        fail_list(context, list);
+    else if (status == PEP440_OK)
+        sqlite3_result_int(context, contained);
+}
+
+/* ---- pep440_cover(specs): a table of intervals of keys, low and high, that hold each version which the list contains */
+
+enum { LOW, HIGH, SPECS };
+
+typedef struct {
+    sqlite3_vtab base;
+} Cover;
+
+/* The keys of an interval end where `ends` says; its low one comes first, then its high one. */
+typedef struct {
+    sqlite3_vtab_cursor base;
+    uint8_t *keys;
+    size_t *ends;
+    size_t count;
+    size_t at;
+} Intervals;
+
+static int cover_connect(sqlite3 *db, void *unused, int words, const char *const *names, sqlite3_vtab **table, char **error)
+{
+    (void)unused, (void)words, (void)names, (void)error;
+    int status = sqlite3_declare_vtab(db, "CREATE TABLE cover(low BLOB, high BLOB, specs HIDDEN)");
+    if (status != SQLITE_OK)
+        return status;
+    sqlite3_vtab_config(db, SQLITE_VTAB_INNOCUOUS);
+    Cover *made = sqlite3_malloc(sizeof *made);
+    if (made == NULL)
+        return SQLITE_NOMEM;
+    memset(made, 0, sizeof *made);
+    *table = &made->base;
+    return SQLITE_OK;
+}
+
+static int cover_disconnect(sqlite3_vtab *table)
+{
+    sqlite3_free(table);
+    return SQLITE_OK;
+}
+
+/* The list must be given: it is the one argument. */
+static int cover_best_index(sqlite3_vtab *table, sqlite3_index_info *info)
+{
+    (void)table;
+    for (int each = 0; each < info->nConstraint; each++) {
+        if (info->aConstraint[each].iColumn != SPECS || info->aConstraint[each].op != SQLITE_INDEX_CONSTRAINT_EQ)
+            continue;
+        if (!info->aConstraint[each].usable)
+            return SQLITE_CONSTRAINT;
+        info->aConstraintUsage[each].argvIndex = 1;
+        info->aConstraintUsage[each].omit = 1;
+        info->estimatedCost = 10;
+        info->estimatedRows = 2;
+        return SQLITE_OK;
+    }
+    return SQLITE_CONSTRAINT;
+}
+
+static int cover_open(sqlite3_vtab *table, sqlite3_vtab_cursor **cursor)
+{
+    (void)table;
+    Intervals *made = sqlite3_malloc(sizeof *made);
+    if (made == NULL)
+        return SQLITE_NOMEM;
+    memset(made, 0, sizeof *made);
+    *cursor = &made->base;
+    return SQLITE_OK;
+}
+
+static void forget(Intervals *found)
+{
+    sqlite3_free(found->keys);
+    sqlite3_free(found->ends);
+    found->keys = NULL;
+    found->ends = NULL;
+    found->count = found->at = 0;
+}
+
+static int cover_close(sqlite3_vtab_cursor *cursor)
+{
+    forget((Intervals *)cursor);
+    sqlite3_free(cursor);
+    return SQLITE_OK;
+}
+
+/* Says why there is no cover; what the table's message is, SQLite frees. */
+static int no_cover(sqlite3_vtab_cursor *cursor, Text list, uint8_t status)
+{
+    Written why;
+    if (status == PEP440_OUT_OF_MEMORY)
+        return SQLITE_NOMEM;
+    char **message = &cursor->pVtab->zErrMsg;
+    sqlite3_free(*message);
+    *message = NULL;
+    if (status == PEP440_NUMBER_AT_MAX) {
+        *message = sqlite3_mprintf("a bound of the cover would lie above 18446744073709551615");
+        return *message == NULL ? SQLITE_NOMEM : SQLITE_ERROR;
+    }
+    if (write_all(pep440_list_error, list, &why) == PEP440_OK)
+        *message = sqlite3_mprintf("%.*s", (int)why.length, (const char *)why.bytes);
+    release(&why);
+    return *message == NULL ? SQLITE_NOMEM : SQLITE_ERROR;
+}
+
+static int cover_filter(sqlite3_vtab_cursor *cursor, int number, const char *name, int count, sqlite3_value **values)
+{
+    Intervals *found = (Intervals *)cursor;
+    Text list;
+    size_t room, keys;
+    uint8_t nothing[1];
+    size_t none[1];
+    (void)number, (void)name, (void)count;
+    forget(found);
+    if (!is_text(values[0], &list))
+        return SQLITE_OK;
+    uint8_t status = pep440_cover_keys(list.bytes, list.length, nothing, 0, none, 0, &room, &keys);
+    if (status == PEP440_NO_ROOM) {
+        found->keys = sqlite3_malloc64(room + 1);
+        found->ends = sqlite3_malloc64(keys * sizeof *found->ends + 1);
+        if (found->keys == NULL || found->ends == NULL)
+            return SQLITE_NOMEM;
+        status = pep440_cover_keys(list.bytes, list.length, found->keys, room, found->ends, keys, &room, &keys);
+    }
+    if (status != PEP440_OK)
+        return no_cover(cursor, list, status);
+    found->count = keys / 2;
+    return SQLITE_OK;
+}
+
+static int cover_next(sqlite3_vtab_cursor *cursor)
+{
+    ((Intervals *)cursor)->at++;
+    return SQLITE_OK;
+}
+
+static int cover_eof(sqlite3_vtab_cursor *cursor)
+{
+    const Intervals *found = (const Intervals *)cursor;
+    return found->at >= found->count;
+}
+
+/* No low key is an empty blob, since each key is at least that; no high key is NULL. */
+static int cover_column(sqlite3_vtab_cursor *cursor, sqlite3_context *context, int column)
+{
+    const Intervals *found = (const Intervals *)cursor;
+    if (column == SPECS)
+        return SQLITE_OK;
+    size_t place = 2 * found->at + (column == HIGH);
+    size_t start = place == 0 ? 0 : found->ends[place - 1];
+    size_t length = found->ends[place] - start;
+    if (length != 0)
+        sqlite3_result_blob64(context, found->keys + start, length, SQLITE_TRANSIENT);
+    else if (column == LOW)
+        sqlite3_result_zeroblob(context, 0);
+    return SQLITE_OK;
+}
+
+static int cover_rowid(sqlite3_vtab_cursor *cursor, sqlite3_int64 *rowid)
+{
+    *rowid = (sqlite3_int64)((const Intervals *)cursor)->at;
+    return SQLITE_OK;
+}
+
+/* Without xCreate the table is there in each database, and nobody makes another of its kind. */
+static const sqlite3_module COVER = {
+    .iVersion = 0,
+    .xConnect = cover_connect,
+    .xBestIndex = cover_best_index,
+    .xDisconnect = cover_disconnect,
+    .xOpen = cover_open,
+    .xClose = cover_close,
+    .xFilter = cover_filter,
+    .xNext = cover_next,
+    .xEof = cover_eof,
+    .xColumn = cover_column,
+    .xRowid = cover_rowid,
+};
+
+/* SQLite finds this name for a file pep440.so: it drops digits. */
+__attribute__((visibility("default"))) int sqlite3_pep_init(sqlite3 *db, char **error, const sqlite3_api_routines *api)
+{
+    static const struct {
+        const char *name;
+        int arguments;
+        void (*call)(sqlite3_context *, int, sqlite3_value **);
+    } functions[] = {
+        {"pep440_key", 1, key},
+        {"pep440_normalize", 1, normalize},
+        {"pep440_valid", 1, valid},
+        {"pep440_compare", 2, compare},
+        {"pep440_is_prerelease", 1, is_prerelease},
+        {"pep440_match", 2, match},
+    };
+    const int flags = SQLITE_UTF8 | SQLITE_DETERMINISTIC | SQLITE_INNOCUOUS;
+    int status = SQLITE_OK;
+    (void)error;
+    SQLITE_EXTENSION_INIT2(api);
+    for (size_t each = 0; each < sizeof functions / sizeof *functions && status == SQLITE_OK; each++)
+        status = sqlite3_create_function_v2(db, functions[each].name, functions[each].arguments, flags, NULL, functions[each].call, NULL, NULL, NULL);
+    return status == SQLITE_OK ? sqlite3_create_module_v2(db, "pep440_cover", &COVER, NULL, NULL) : status;
+}

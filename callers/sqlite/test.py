@@ -1,0 +1,235 @@
+"""Holds the extension against the page, against itself without an index, and against refused memory: python3 test.py EXTENSION [PROGRAM|--small]
+
+EXTENSION is the built pep440.so; PROGRAM, if given, is `pep440`, whose `filter` must contain what `pep440_match` does. It wants a Python whose
+sqlite3 loads extensions. With --small there are fewer rows, and nothing is timed. The last line is `N passed, M failed`.
+"""
+import pathlib
+import random
+import re
+import sqlite3
+import subprocess
+import sys
+import tempfile
+import time
+
+HERE = pathlib.Path(__file__).resolve().parent
+SMALL = "--small" in sys.argv
+ROWS = 5_000 if SMALL else 1_000_000
+PROGRAM = sys.argv[2] if len(sys.argv) > 2 and not sys.argv[2].startswith("--") else None
+LISTS = ["", ">=1.0,<2.0,!=1.5.*", "==2.1.0+cu118", "<=2.1.0", "<1.0.post1,>=1.0", "~=1.4.2", "===1.10", "!=1.0", ">2.0,<1.0", "==1.*", ">1!0"]
+
+
+def database(file=":memory:"):
+    made = sqlite3.connect(file, isolation_level=None)
+    made.enable_load_extension(True)
+    made.load_extension(sys.argv[1])
+    return made
+
+
+def rows(db, query, *values):
+    return db.execute(query, values).fetchall()
+
+
+def value(db, query, *values):
+    return rows(db, query, *values)[0][0]
+
+
+def version(rng):
+    """A version as indexes have them: mostly plain, some with suffixes, some local, a few with an epoch or written in another way."""
+    text = ".".join(str(rng.randrange(limit)) for limit in (4, 12, 30)[: rng.choice((1, 2, 3, 3))])
+    kind = rng.randrange(12)
+    suffix = {0: f"rc{rng.randrange(3)}", 1: f".post{rng.randrange(3)}", 2: f".dev{rng.randrange(3)}", 3: f"+cu{rng.randrange(120)}", 4: f"a{rng.randrange(2)}.dev1"}
+    text += suffix.get(kind, "")
+    return f"1!{text}" if kind == 5 and rng.randrange(20) == 0 else f"V{text}" if kind == 6 else text
+
+
+def filled(count, file=":memory:"):
+    db = database(file)
+    db.execute("CREATE TABLE releases (id INTEGER PRIMARY KEY, version TEXT NOT NULL, key BLOB GENERATED ALWAYS AS (pep440_key(version)) STORED)")
+    rng = random.Random(20261123)
+    db.execute("BEGIN")
+    db.executemany("INSERT INTO releases (version) VALUES (?)", ((version(rng),) for _ in range(count)))
+    db.execute("COMMIT")
+    db.execute("CREATE INDEX by_key ON releases (key)")
+    db.execute("CREATE INDEX by_expression ON releases (pep440_normalize(version))")
+    return db
+
+
+def test_functions():
+    db = database()
+    wanted = [
+        ("pep440_normalize(' V1!1.0-Alpha.2-3.DEV+Ubuntu-01 ')", "1!1.0a2.post3.dev0+ubuntu.1"),
+        ("pep440_normalize('latest')", None),
+        ("pep440_normalize(NULL)", None),
+        ("pep440_normalize(1.10)", None),
+        ("pep440_normalize(X'312e30')", None),
+        ("pep440_valid('1.0')", 1),
+        ("pep440_valid('')", 0),
+        ("pep440_valid(1)", 0),
+        ("pep440_valid(NULL)", None),
+        ("pep440_is_prerelease('1.0.dev1')", 1),
+        ("pep440_is_prerelease('1.0.post1')", 0),
+        ("pep440_is_prerelease('x')", None),
+        ("pep440_compare('1.0', '1.0.0')", 0),
+        ("pep440_compare('1.0rc1', '1.0')", -1),
+        ("pep440_compare('1.0.post1', '1.0')", 1),
+        ("pep440_compare('1.0', 'x')", None),
+        ("pep440_match('>=1.0', '2.0rc1')", 1),
+        ("pep440_match('>=1.0', '0.9')", 0),
+        ("pep440_match('>=1.0', 'x')", None),
+        ("pep440_match('', '1.0')", 1),
+        ("pep440_key('1.0') = pep440_key('1.0.0')", 1),
+        ("pep440_key('1.9') < pep440_key('1.10')", 1),
+        ("typeof(pep440_key('1'))", "blob"),
+        ("(SELECT count(*) FROM pep440_cover('>2.0,<1.0'))", 0),
+        ("(SELECT count(*) FROM pep440_cover(NULL))", 0),
+        ("(SELECT low = X'' AND high IS NULL FROM pep440_cover(''))", 1),
+    ]
+    for expression, answer in wanted:
+        found = value(db, f"SELECT {expression}")
+        assert found == answer, (expression, found, answer)
+    # as many bytes as no buffer of the extension has
+    long = ".".join(map(str, range(5000)))
+    assert value(db, "SELECT pep440_normalize(?)", f" v{long} ") == long
+    assert value(db, "SELECT pep440_compare(?, ?)", long, long + ".1") == -1
+    return f"{len(wanted) + 2} rows"
+
+
+def test_errors():
+    db = database()
+    for query in ("SELECT pep440_match('>=1.0, =<2.0', '1.0')", "SELECT * FROM pep440_cover('>=1.0, =<2.0')"):
+        try:
+            rows(db, query)
+        except sqlite3.OperationalError as error:
+            assert "=<2.0" in str(error) and "^" in str(error), error
+        else:
+            raise AssertionError(query)
+    for query in ("SELECT * FROM pep440_cover('==18446744073709551615.*')", "SELECT * FROM pep440_cover", "CREATE VIRTUAL TABLE t USING pep440_cover"):
+        try:
+            rows(db, query)
+        except sqlite3.OperationalError as error:
+            assert str(error), query
+        else:
+            raise AssertionError(query)
+    return "5 errors"
+
+
+def test_page():
+    """Each query of the page gives what stands under it."""
+    db, count = database(), 0
+    for block in re.findall(r"```sql\n(.*?)```", (HERE / "README.md").read_text(encoding="utf-8"), re.S):
+        wanted = re.findall(r"^-- (.*)$", block, re.M)
+        if not wanted:
+            db.executescript(block)
+            continue
+        found = ["|".join(map(str, row)) for row in rows(db, re.sub(r"^--.*$", "", block, flags=re.M))]
+        assert found == wanted, (block, found)
+        count += 1
+    assert count == 10, count
+    return "10 queries"
+
+
+def plan_of(db, query, *values):
+    return " / ".join(row[3] for row in rows(db, "EXPLAIN QUERY PLAN " + query, *values))
+
+
+def test_index():
+    """Of each list: by the index and the cover, without an index, and by the program."""
+    db = filled(ROWS)
+    by_index = """SELECT version FROM pep440_cover(?1) JOIN releases INDEXED BY by_key ON key >= low AND (high IS NULL OR key < high)
+                  WHERE pep440_match(?1, version) ORDER BY key, id"""
+    alone = "SELECT version FROM releases NOT INDEXED WHERE pep440_match(?1, version) ORDER BY pep440_key(version), id"
+    plan = plan_of(db, by_index, "~=1.4.2")
+    assert "SEARCH releases USING INDEX by_key (key>?)" in plan, plan
+    found = 0
+    lines = "".join(text + "\n" for (text,) in rows(db, "SELECT version FROM releases ORDER BY id"))
+    for specs in LISTS:
+        one, other = rows(db, by_index, specs), rows(db, alone, specs)
+        assert one == other, specs
+        found += len(one)
+        if PROGRAM:
+            ran = subprocess.run([PROGRAM, "filter", specs], input=lines, capture_output=True, text=True, check=True)
+            assert sorted(ran.stdout.split("\n")[:-1]) == sorted(text.removeprefix("V") for (text,) in one), specs
+    return f"{len(LISTS)} lists over {ROWS} rows, {found} versions found, by an index as without" + (", and as `filter`" if PROGRAM else "")
+
+
+def test_speed():
+    """The newest ten, by the index and by sorting."""
+    if SMALL:
+        return "left out"
+    db = filled(200_000)
+    seconds = {}
+    for name, query in (
+        ("index", "SELECT version FROM releases ORDER BY key DESC LIMIT 10"),
+        ("none", "SELECT version FROM releases NOT INDEXED ORDER BY pep440_key(version) DESC LIMIT 10"),
+    ):
+        rows(db, query)
+        begun = time.perf_counter()
+        for _ in range(200 if name == "index" else 1):
+            found = rows(db, query)
+        seconds[name] = (time.perf_counter() - begun) / (200 if name == "index" else 1), [pair for (pair,) in found]
+    assert "by_key" in plan_of(db, "SELECT version FROM releases ORDER BY key DESC LIMIT 10")
+    ratio = seconds["none"][0] / seconds["index"][0]
+    assert ratio >= 1000, ratio
+    return f"ORDER BY with LIMIT is {ratio:.0f} times faster by the index"
+
+
+def turns_with_less_memory(file):
+    """In a process of its own: each query with SQLite's heap limited more and more, which cannot be taken back. Prints how many were out of memory."""
+    db = database(file)
+    long = ".".join(map(str, range(3000)))
+    queries = [
+        ("SELECT group_concat(pep440_normalize(version)) FROM releases", ()),
+        ("SELECT hex(pep440_key(?))", (long,)),
+        ("SELECT count(*) FROM pep440_cover(?1) JOIN releases ON key >= low AND (high IS NULL OR key < high) WHERE pep440_match(?1, version)", (">=1,!=1.5,!=1.7.*",)),
+        ("SELECT pep440_normalize(?)", (long,)),
+        ("UPDATE releases SET version = version || '.post' || pep440_match(?1, version) || substr(?2, 1, 0)", (">=0", long)),
+    ]
+    wanted = [rows(db, query, *values) for query, values in queries[:-1]]
+    out = 0
+    for limit in range(4_000_000, 60_000, -4_000):
+        try:
+            rows(db, f"PRAGMA hard_heap_limit={limit}")
+        except MemoryError:
+            break
+        for (query, values), answer in zip(queries, wanted):
+            try:
+                assert rows(db, query, *values) == answer, query
+            except MemoryError:
+                out += 1
+    try:
+        rows(db, *queries[-1])
+    except MemoryError:
+        print(out + 1)
+
+
+def test_memory():
+    """Each query gives what it gave, or says that memory is out; and no row changes."""
+    with tempfile.TemporaryDirectory() as work:
+        file = f"{work}/releases.db"
+        filled(300, file)
+        kept = rows(database(file), "SELECT * FROM releases")
+        ran = subprocess.run([sys.executable, __file__, sys.argv[1], "--less-memory", file], capture_output=True, text=True, check=False)
+        assert ran.returncode == 0 and ran.stdout.strip().isdigit() and int(ran.stdout) > 20, (ran.returncode, ran.stdout, ran.stderr[-300:])
+        assert rows(database(file), "SELECT * FROM releases") == kept
+        assert value(database(file), "PRAGMA integrity_check") == "ok"
+    return f"{ran.stdout.strip()} queries out of memory, the others as before, no row changed"
+
+
+def main():
+    if "--less-memory" in sys.argv:
+        turns_with_less_memory(sys.argv[-1])
+        return
+    failed = passed = 0
+    for name, test in [(name, test) for name, test in globals().items() if name.startswith("test_")]:
+        try:
+            print(f"sqlite: {name.removeprefix('test_')}: {test()}", flush=True)
+            passed += 1
+        except Exception as error:  # pylint: disable=broad-except
+            print(f"sqlite: {name.removeprefix('test_')}: FAILED: {type(error).__name__}: {error}", flush=True)
+            failed += 1
+    print(f"{passed} passed, {failed} failed")
+    sys.exit(bool(failed))
+
+
+main()

@@ -1,0 +1,8 @@
+use Rattle.std.proofs.Common.{take}
+use Rattle.std.specs.List.{flat_map}
+use Rattle.pep440_c.specs.Intervals.{interval_keys}
+use Rattle.pep440_c.specs.Joined.{Joins}
+use Rattle.pep440_c.proofs.intervals.join_intervals.Given as goal
+
+abbrev pub invariant-loop-interval : goal.invariant-loop-interval
+invariant-loop-interval l = Joins (flat_map interval_keys (take l.interval-index l.intervals)) l.found.bytes.items l.found.ends.items

@@ -1,0 +1,34 @@
+//! Strings one after the other, and where each of them ends.
+ghost use Rattle.std.specs.Prelude.{◌≡◌, ◌++◌, ◌∷◌, [], length, IfOk};
+ghost use Rattle.pep440_c.specs.Joined.{Joins};
+
+use std::alloc::{AllocError, Global};
+
+/// Strings one after the other, and where each of them ends.
+#[derive(Drop)]
+pub(crate) struct Joined {
+    pub(crate) bytes: Vec<u8>,
+    pub(crate) ends: Vec<usize>,
+}
+
+impl Joined {
+    /// No string, with room for the ends of so many.
+    pub(crate) fn with_capacity(alloc: Global, count: usize) -> Result<Joined, AllocError>
+        ensures { IfOk result (λ joined. Joins [] joined.bytes.items joined.ends.items) }
+    {
+        Ok(Joined {
+            bytes: Vec::new(alloc),
+            ends: Vec::with_capacity(alloc, count)?,
+        })
+    }
+
+    /// One more string.
+    pub(crate) fn push(&mut self, string: &[u8]) -> Result<(), AllocError>
+        ensures bytes { IfOk result (λ _. self.new.bytes.items ≡ self.old.bytes.items ++ string.now) }
+        ensures ends { IfOk result (λ _. self.new.ends.items ≡ self.old.ends.items ++ length self.new.bytes.items ∷ []) }
+    {
+        self.bytes.extend_from_slice(string)?;
+        self.ends.push(self.bytes.len())?;
+        Ok(())
+    }
+}

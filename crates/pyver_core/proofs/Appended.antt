@@ -1,0 +1,7 @@
+-- Bytes that were appended one after another.
+use Rattle.std.proofs.Common.{◌≡◌, ◌∙◌, ◌++◌, ℕ, List, ap, append_assoc}
+
+-- three parts, of which the one in the middle has another name
+pub three_appended : (a x y w z b c d : List ℕ) → b ≡ a ++ x → c ≡ b ++ w → w ≡ y → d ≡ c ++ z → d ≡ a ++ (x ++ (y ++ z))
+three_appended a x y w z b c d first second same third =
+    third ∙ ap (λ l. l ++ z) (second ∙ ap (λ l. l ++ w) first ∙ ap (λ l. (a ++ x) ++ l) same) ∙ ap (λ l. l ++ z) (append_assoc a x y) ∙ append_assoc a (x ++ y) z ∙ ap (λ l. a ++ l) (append_assoc x y z)

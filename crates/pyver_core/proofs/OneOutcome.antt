@@ -1,0 +1,65 @@
+-- There is at most one outcome of what is asked for.
+use Rattle.std.proofs.Common.{◌≡◌, ◌∙◌, ℕ, List, [], ◌∷◌, Bool, refl, sym, ap, subst}
+use Rattle.std.specs.List.{AllZip}
+use Rattle.pep440_rs.proofs.Reading.OneMeaning.{not_both_list, one_list, one_list_refusal}
+use Rattle.pep440_rs.specs.ListErrorTexts.{list_refusal_text}
+use Rattle.pep440_rs.specs.ListGrammar.{PieceRefusal}
+use Rattle.pep440_rs.specs.Specifiers.{Spec}
+use Rattle.pep440_version.proofs.Reading.Agreement.{one_record}
+use Rattle.pep440_version.proofs.Refusals.ExactlyOne.{not_both, one_refusal}
+use Rattle.pep440_version.specs.ErrorTexts.{refusal_text}
+use Rattle.pyver_core.specs.Comparisons.{Compares, comparison_outcome}
+use Rattle.pyver_core.specs.Matches.{Matches, MatchesBy, MatchesWord, MatchesWords, ReadsSpecifiers, SpecifiersReading, DenotesList, ListFails, word_outcome}
+use Rattle.pyver_core.specs.OneOutcome.{OutcomesOnce}
+use Rattle.pyver_core.specs.Outcomes.{Outcome, in_turn}
+use Rattle.pyver_core.specs.Readings.{Reading, Reads, Denotes, Fails}
+use Rattle.pyver_core.specs.Tasks.{Help, NameVersion, Compare, Match, Misused}
+use Rattle.pyver_core.specs.declared.allowed.MatchOptions.{MatchOptions}
+use Rattle.pyver_core.specs.declared.comparison.Comparison.{Comparison}
+
+reading_once : (text : List ℕ) (x y : Reading) → Reads text x → Reads text y → x ≡ y
+reading_once text (Denotes r) (Denotes q) h k = ap Denotes (one_record text r q h k)
+reading_once text (Denotes r) (Fails m) h (f, e, is) = absurd (not_both text r f h e)
+reading_once text (Fails m) (Denotes r) (f, e, is) h = absurd (not_both text r f h e)
+reading_once text (Fails m) (Fails n) (f, d, is) (g, e, so) = ap Fails (is ∙ ap refusal_text (one_refusal text f g d e) ∙ sym so)
+
+specifiers_once : (text : List ℕ) (x y : SpecifiersReading) → ReadsSpecifiers text x → ReadsSpecifiers text y → x ≡ y
+specifiers_once text (DenotesList l) (DenotesList m) h k = ap DenotesList (one_list text l m h k)
+specifiers_once text (DenotesList l) (ListFails n) h (f, e, is) = absurd (not_both_list text l f h e)
+specifiers_once text (ListFails m) (DenotesList l) (f, e, is) h = absurd (not_both_list text l f h e)
+specifiers_once text (ListFails m) (ListFails n) (f, d, is) (g, e, so) = ap ListFails (is ∙ ap (λ (x : PieceRefusal). list_refusal_text x text) (one_list_refusal text f g d e) ∙ sym so)
+
+compare_once : (left : List ℕ) (operator : Comparison) (right : List ℕ) (a b : Outcome) → Compares left operator right a → Compares left operator right b → a ≡ b
+compare_once left operator right a b (x, y, hx, hy, is) (u, v, hu, hv, so) =
+    is ∙ ap (λ (z : Reading). comparison_outcome left z operator right y) (reading_once left x u hx hu) ∙ ap (λ (z : Reading). comparison_outcome left u operator right z) (reading_once right y v hy hv) ∙ sym so
+
+word_once : (quiet takes : Bool) (list : List Spec) (word : List ℕ) (a b : Outcome) → MatchesWord quiet takes list word a → MatchesWord quiet takes list word b → a ≡ b
+word_once quiet takes list word a b (x, hx, is) (u, hu, so) = is ∙ ap (word_outcome quiet takes list word) (reading_once word x u hx hu) ∙ sym so
+
+all_once : {A B : Type 0} (R : A → B → Type 0) → ((t : A) (x y : B) → R t x → R t y → x ≡ y) → (texts : List A) (found there : List B) → AllZip R texts found → AllZip R texts there → found ≡ there
+all_once R once [] [] [] h g = refl
+all_once R once [] [] (y ∷ there) h g = absurd g
+all_once R once [] (x ∷ found) there h g = absurd h
+all_once R once (t ∷ texts) [] there h g = absurd h
+all_once R once (t ∷ texts) (x ∷ found) [] h g = absurd g
+all_once R once (t ∷ texts) (x ∷ found) (y ∷ there) h g =
+    let head = once t x y h.0 g.0 in
+    let tail = all_once R once texts found there h.1 g.1 in
+    λ i. head i ∷ tail i
+
+words_once : (quiet takes : Bool) (list : List Spec) (words : List (List ℕ)) (a b : Outcome) → MatchesWords quiet takes list words a → MatchesWords quiet takes list words b → a ≡ b
+words_once quiet takes list words a b (os, h, is) (ps, k, so) = is ∙ ap in_turn (all_once (MatchesWord quiet takes list) (word_once quiet takes list) words os ps h k) ∙ sym so
+
+by_once : (options : MatchOptions) (x : SpecifiersReading) (words : List (List ℕ)) (a b : Outcome) → MatchesBy options x words a → MatchesBy options x words b → a ≡ b
+by_once options (DenotesList list) words a b h k = words_once _ _ list words a b h k
+by_once options (ListFails message) words a b h k = h ∙ sym k
+
+match_once : (options : MatchOptions) (specifiers : List ℕ) (words : List (List ℕ)) (a b : Outcome) → Matches options specifiers words a → Matches options specifiers words b → a ≡ b
+match_once options specifiers words a b (x, hx, h) (u, hu, k) = by_once options x words a b h (subst (λ (z : SpecifiersReading). MatchesBy options z words b) (sym (specifiers_once specifiers x u hx hu)) k)
+
+pub outcomes_once : OutcomesOnce
+outcomes_once (Help topic) a b h k = h ∙ sym k
+outcomes_once NameVersion a b h k = h ∙ sym k
+outcomes_once (Compare left operator right) a b h k = compare_once left operator right a b h k
+outcomes_once (Match options specifiers words) a b h k = match_once options specifiers words a b h k
+outcomes_once (Misused message) a b h k = h ∙ sym k

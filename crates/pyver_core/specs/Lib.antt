@@ -1,0 +1,13 @@
+pub mod Escapes
+pub mod Nearest
+pub mod Messages
+pub mod Outcomes
+pub mod Readings
+pub mod Comparisons
+pub mod Prereleases
+pub mod Matches
+pub mod AnswerViews
+pub mod Tasks
+pub mod TaskViews
+pub mod Runs
+pub mod OneOutcome

@@ -1,0 +1,28 @@
+-- What a run writes on standard output and on standard error, and its status.
+use Rattle.std.specs.Prelude.{ℕ, List, [], ◌++◌, codes, max}
+use Rattle.std.specs.List.{fold}
+use Rattle.pyver_core.specs.Messages.{fault_message}
+
+pub record Outcome : Type 0 where
+  pub output : List ℕ
+  pub errors : List ℕ
+  pub status : ℕ
+
+abbrev pub no_outcome : Outcome
+no_outcome = record { output = []; errors = []; status = 0 }
+
+-- nothing is written
+abbrev pub silent : ℕ → Outcome
+silent status = record { output = []; errors = []; status = status }
+
+-- a word or a line is invalid
+abbrev pub fault : List ℕ → List ℕ → Outcome
+fault word reason = record { output = []; errors = fault_message word reason; status = 2 }
+
+-- first the one, then the other; the greater status
+abbrev pub followed_by : Outcome → Outcome → Outcome
+followed_by a b = record { output = a.output ++ b.output; errors = a.errors ++ b.errors; status = max a.status b.status }
+
+-- one after another
+abbrev pub in_turn : List Outcome → Outcome
+in_turn outcomes = fold followed_by no_outcome outcomes

@@ -1,0 +1,141 @@
+-- What the words of the program ask for, and what is written for it.
+use Rattle.std.specs.Prelude.{◌≡◌, ◌==◌, ◌&&◌, ◌||◌, ℕ, List, [], ◌∷◌, ◌++◌, Bool, true, false, Option, Some, None, bytes_eq, codes, length, nat_lt, if◌then◌else◌}
+use Rattle.pyver_core.specs.Comparisons.{Compares, comparison_of}
+use Rattle.pyver_core.specs.Matches.{Matches}
+use Rattle.pyver_core.specs.Messages.{help_hint, unknown_message, usage_message}
+use Rattle.pyver_core.specs.Outcomes.{Outcome}
+use Rattle.pyver_core.specs.declared.allowed.MatchOptions.{MatchOptions}
+use Rattle.pyver_core.specs.declared.comparison.Comparison.{Comparison}
+use Rattle.pyver_core.specs.declared.help.Topic.{Topic}
+use Rattle.pyver_core.specs.declared.help.Topic.TheVariants as topic
+use Rattle.pyver_core.specs.declared.help.TheConstants.{PROGRAM_HELP, COMPARE_HELP, MATCH_HELP, COMPARE_USAGE, MATCH_USAGE, PROGRAM_USAGE, VERSION_LINE}
+use Rattle.pyver_core.specs.declared.prerelease.Prereleases.TheVariants as prereleases
+
+-- what words ask for; a message where it is nothing
+pub data Task : Type 0 where
+  Help : Topic → Task
+  NameVersion : Task
+  Compare : List ℕ → Comparison → List ℕ → Task
+  Match : MatchOptions → List ℕ → List (List ℕ) → Task
+  Misused : List ℕ → Task
+
+-- ---- the names of the program
+
+abbrev pub command_names : List (List ℕ)
+command_names = codes "compare" ∷ (codes "match" ∷ (codes "--help" ∷ (codes "--version" ∷ [])))
+
+abbrev pub option_names : Topic → List (List ℕ)
+option_names topic.Program = codes "--help" ∷ []
+option_names topic.Compare = codes "--help" ∷ []
+option_names topic.Match = codes "--help" ∷ (codes "--quiet" ∷ (codes "--pre" ∷ (codes "--no-pre" ∷ [])))
+
+abbrev pub usage : Topic → List ℕ
+usage topic.Program = PROGRAM_USAGE.now
+usage topic.Compare = COMPARE_USAGE.now
+usage topic.Match = MATCH_USAGE.now
+
+abbrev pub help_text : Topic → List ℕ
+help_text topic.Program = PROGRAM_HELP.now
+help_text topic.Compare = COMPARE_HELP.now
+help_text topic.Match = MATCH_HELP.now
+
+-- ---- words
+
+abbrev pub is_help : List ℕ → Bool
+is_help word = bytes_eq word (codes "-h") || bytes_eq word (codes "--help")
+
+-- it begins with a dash and is more than one
+abbrev pub is_option : List ℕ → Bool
+is_option [] = false
+is_option (b ∷ rest) = (b == 45) && nat_lt 0 (length rest)
+
+abbrev pub wrong_option : Topic → List ℕ → Task
+wrong_option topic word = Misused (unknown_message (codes "option") word (option_names topic))
+
+-- too few words, or too many
+abbrev pub wrong_count : Topic → Task
+wrong_count topic = Misused (usage_message (usage topic))
+
+-- ---- `compare A OP B`
+
+abbrev pub comparison_names : List (List ℕ)
+comparison_names = codes "lt" ∷ (codes "le" ∷ (codes "eq" ∷ (codes "ne" ∷ (codes "ge" ∷ (codes "gt" ∷ [])))))
+
+abbrev pub compare_by : List ℕ → List ℕ → List ℕ → Option Comparison → Task
+compare_by left word right None = Misused (unknown_message (codes "operator") word comparison_names)
+compare_by left word right (Some operator) = Compare left operator right
+
+abbrev pub compare_words : List (List ℕ) → Task
+compare_words (left ∷ word ∷ right ∷ []) = compare_by left word right (comparison_of word)
+compare_words _ = wrong_count topic.Compare
+
+abbrev pub compare_task : List (List ℕ) → Task
+compare_task [] = wrong_count topic.Compare
+compare_task (word ∷ rest) =
+    if is_help word then Help topic.Compare
+    else if is_option word then wrong_option topic.Compare word
+    else compare_words (word ∷ rest)
+
+-- ---- `match [-q] [--pre | --no-pre] SPECS V..`
+
+abbrev pub match_operands : MatchOptions → List (List ℕ) → Task
+match_operands options (specifiers ∷ word ∷ rest) = Match options specifiers (word ∷ rest)
+match_operands options _ = wrong_count topic.Match
+
+-- the options with what the word sets, if it is an option that sets some
+abbrev pub match_option : MatchOptions → List ℕ → Option MatchOptions
+match_option options word =
+    if bytes_eq word (codes "-q") then Some (record options { quiet = true })
+    else if bytes_eq word (codes "--quiet") then Some (record options { quiet = true })
+    else if bytes_eq word (codes "--pre") then Some (record options { prereleases = prereleases.Always })
+    else if bytes_eq word (codes "--no-pre") then Some (record options { prereleases = prereleases.Never })
+    else None
+
+-- the words behind the options, where `--` may stand first
+abbrev pub match_rest : MatchOptions → List ℕ → List (List ℕ) → Task
+match_rest options word rest =
+    if bytes_eq word (codes "--") then match_operands options rest
+    else if is_option word then wrong_option topic.Match word
+    else match_operands options (word ∷ rest)
+
+-- what is done with the options, or what else where there are none
+abbrev pub by_option : Option MatchOptions → (MatchOptions → Task) → Task → Task
+by_option None with_options otherwise = otherwise
+by_option (Some options) with_options otherwise = with_options options
+
+-- options stand before the other words, and the last of those that contradict each other counts
+abbrev pub match_task : MatchOptions → List (List ℕ) → Task
+match_task options [] = wrong_count topic.Match
+match_task options (word ∷ rest) =
+    if is_help word then Help topic.Match
+    else by_option (match_option options word) (λ taken. match_task taken rest) (match_rest options word rest)
+
+abbrev pub no_match_options : MatchOptions
+no_match_options = record { quiet = false; prereleases = prereleases.Listed }
+
+-- ---- the program
+
+abbrev pub task_of : List (List ℕ) → Task
+task_of [] = wrong_count topic.Program
+task_of (word ∷ rest) =
+    if is_help word then Help topic.Program
+    else if bytes_eq word (codes "--version") then NameVersion
+    else if bytes_eq word (codes "compare") then compare_task rest
+    else if bytes_eq word (codes "match") then match_task no_match_options rest
+    else Misused (unknown_message (codes "command") word command_names)
+
+-- a text on standard output
+abbrev pub printed : List ℕ → Outcome
+printed text = record { output = text; errors = []; status = 0 }
+
+-- a message on standard error, of a wrong use
+abbrev pub misuse : List ℕ → Outcome
+misuse message = record { output = []; errors = message; status = 2 }
+
+-- what is written for a task
+abbrev pub IsOutcome : Task → Outcome → Type 0
+IsOutcome (Help about) o = o ≡ printed (help_text about)
+IsOutcome NameVersion o = o ≡ printed VERSION_LINE.now
+IsOutcome (Compare left operator right) o = Compares left operator right o
+IsOutcome (Match options specifiers words) o = Matches options specifiers words o
+IsOutcome (Misused message) o = o ≡ misuse message

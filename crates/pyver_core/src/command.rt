@@ -1,0 +1,184 @@
+// The command that words ask for, and what it writes.
+ghost use Rattle.std.specs.Prelude.{◌≡◌, ◌∷◌, IfOk, map, string_bytes};
+ghost use Rattle.pyver_core.specs.AnswerViews.{outcome_of};
+ghost use Rattle.pyver_core.specs.TaskViews.{task};
+ghost use Rattle.pyver_core.specs.Tasks.{IsOutcome, compare_task, compare_words, is_help, is_option, match_operands, match_option, match_rest, match_task, misuse, no_match_options, printed, task_of};
+ghost use Rattle.pyver_core.specs.TaskViews.{misuse_message};
+
+use crate::allowed::{MatchOptions, match_versions};
+use crate::answer::Answer;
+use crate::comparison::{Comparison, compare, parse_comparison};
+use crate::help::{Topic, VERSION_LINE, help};
+use crate::misuse::{Misuse, push_misuse};
+use crate::prerelease::Prereleases;
+use std::alloc::{AllocError, Global};
+
+/// What words ask for.
+#[derive(Clone, Copy)]
+pub(crate) enum Command<'a> {
+    Help(Topic),
+    Version,
+    Compare(&'a str, Comparison, &'a str),
+    Match(MatchOptions, &'a str, &'a [String]),
+    Misused(Misuse<'a>),
+}
+
+fn is_help(word: &str) -> bool
+    ensures { result ≡ is_help word.now }
+{
+    word == "-h" || word == "--help"
+}
+
+fn is_option(word: &str) -> bool
+    ensures { result ≡ is_option word.now }
+{
+    match word.as_bytes() {
+        [] => false,
+        [first, rest @ ..] => *first == b'-' && !rest.is_empty(),
+    }
+}
+
+fn parse_compare_words<'a>(words: &'a [String]) -> Command<'a>
+    ensures { task result ≡ compare_words (map string_bytes words.now) }
+{
+    match words {
+        [left, word, right] => match parse_comparison(word.as_str()) {
+            Some(operator) => Command::Compare(left.as_str(), operator, right.as_str()),
+            None => Command::Misused(Misuse::Comparison(word.as_str())),
+        },
+        _ => Command::Misused(Misuse::Count(Topic::Compare)),
+    }
+}
+
+fn parse_compare<'a>(words: &'a [String]) -> Command<'a>
+    ensures { task result ≡ compare_task (map string_bytes words.now) }
+{
+    match words {
+        [] => Command::Misused(Misuse::Count(Topic::Compare)),
+        [word, ..] => {
+            if is_help(word.as_str()) {
+                Command::Help(Topic::Compare)
+            } else if is_option(word.as_str()) {
+                Command::Misused(Misuse::Option(Topic::Compare, word.as_str()))
+            } else {
+                parse_compare_words(words)
+            }
+        }
+    }
+}
+
+fn parse_match_operands<'a>(options: MatchOptions, words: &'a [String]) -> Command<'a>
+    ensures { task result ≡ match_operands options (map string_bytes words.now) }
+{
+    match words {
+        [specifiers, versions @ ..] if !versions.is_empty() => {
+            Command::Match(options, specifiers.as_str(), versions)
+        }
+        _ => Command::Misused(Misuse::Count(Topic::Match)),
+    }
+}
+
+/// The options with what the word sets, if it is an option that sets some.
+fn parse_match_option(options: MatchOptions, word: &str) -> Option<MatchOptions>
+    ensures { result ≡ match_option options word.now }
+{
+    let mut options = options;
+    match word {
+        "-q" => options.quiet = true,
+        "--quiet" => options.quiet = true,
+        "--pre" => options.prereleases = Prereleases::Always,
+        "--no-pre" => options.prereleases = Prereleases::Never,
+        _ => return None,
+    }
+    Some(options)
+}
+
+/// The first word is no option that sets some.
+fn parse_match_rest<'a>(
+    options: MatchOptions,
+    word: &'a str,
+    rest: &'a [String],
+    words: &'a [String],
+) -> Command<'a>
+    requires { map string_bytes words.now ≡ word.now ∷ map string_bytes rest.now }
+    ensures { task result ≡ match_rest options word.now (map string_bytes rest.now) }
+{
+    if word == "--" {
+        parse_match_operands(options, rest)
+    } else if is_option(word) {
+        Command::Misused(Misuse::Option(Topic::Match, word))
+    } else {
+        parse_match_operands(options, words)
+    }
+}
+
+fn parse_match<'a>(words: &'a [String]) -> Command<'a>
+    ensures { task result ≡ match_task no_match_options (map string_bytes words.now) }
+{
+    let mut options = MatchOptions {
+        quiet: false,
+        prereleases: Prereleases::Listed,
+    };
+    let mut left = words;
+    while let [word, rest @ ..] = left {
+        if is_help(word.as_str()) {
+            return Command::Help(Topic::Match);
+        }
+        match parse_match_option(options, word.as_str()) {
+            Some(taken) => options = taken,
+            None => return parse_match_rest(options, word.as_str(), rest, left),
+        }
+        left = rest;
+    }
+    Command::Misused(Misuse::Count(Topic::Match))
+}
+
+impl<'a> Command<'a> {
+    /// The command that the words ask for.
+    pub(crate) fn parse(words: &'a [String]) -> Command<'a>
+        ensures { task result ≡ task_of (map string_bytes words.now) }
+    {
+        match words {
+            [] => Command::Misused(Misuse::Count(Topic::Program)),
+            [word, rest @ ..] => match word.as_str() {
+                "-h" => Command::Help(Topic::Program),
+                "--help" => Command::Help(Topic::Program),
+                "--version" => Command::Version,
+                "compare" => parse_compare(rest),
+                "match" => parse_match(rest),
+                other => Command::Misused(Misuse::Command(other)),
+            },
+        }
+    }
+
+    /// What it writes.
+    pub(crate) fn run(self, alloc: Global) -> Result<Answer, AllocError>
+        ensures { IfOk result (λ a. IsOutcome (task self.entry) (outcome_of a)) }
+    {
+        match self {
+            Command::Help(topic) => print_text(alloc, help(topic)),
+            Command::Version => print_text(alloc, VERSION_LINE),
+            Command::Compare(left, operator, right) => compare(alloc, left, operator, right),
+            Command::Match(options, specifiers, words) => {
+                match_versions(alloc, options, specifiers, words)
+            }
+            Command::Misused(misuse) => report_misuse(alloc, misuse),
+        }
+    }
+}
+
+fn print_text(alloc: Global, text: &str) -> Result<Answer, AllocError>
+    ensures { IfOk result (λ a. outcome_of a ≡ printed text.now) }
+{
+    let mut answer = Answer::silent(alloc, 0);
+    answer.output.extend_from_slice(text.as_bytes())?;
+    Ok(answer)
+}
+
+fn report_misuse(alloc: Global, why: Misuse<'_>) -> Result<Answer, AllocError>
+    ensures { IfOk result (λ a. outcome_of a ≡ misuse (misuse_message why.entry)) }
+{
+    let mut answer = Answer::silent(alloc, 2);
+    push_misuse(&mut answer.errors, why)?;
+    Ok(answer)
+}

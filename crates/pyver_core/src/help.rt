@@ -1,0 +1,85 @@
+// The help of the program and of its commands.
+ghost use Rattle.std.specs.Prelude.{◌≡◌};
+ghost use Rattle.pyver_core.specs.Tasks.{help_text, usage};
+
+/// What help is about.
+#[derive(Clone, Copy)]
+pub(crate) enum Topic {
+    Program,
+    Compare,
+    Match,
+}
+
+const PROGRAM_USAGE: &str = "pyver COMMAND [WORD]..";
+
+const COMPARE_USAGE: &str = "pyver compare A OP B";
+
+const MATCH_USAGE: &str = "pyver match [-q] [--pre | --no-pre] SPECS V..";
+
+pub(crate) const VERSION_LINE: &str = "pyver 0.2.0\n";
+
+const PROGRAM_HELP: &str = "usage: pyver COMMAND [WORD]..
+
+Python versions and version specifiers (PEP 440) for people and for shell scripts.
+
+commands:
+  compare A OP B     whether A stands so to B, by the exit status
+  match SPECS V..    which of the versions the specifiers allow
+
+'pyver COMMAND --help' tells more of a command. '--version' prints the program's version.
+The exit status is 0 for yes or done, 1 for no, 2 for a wrong use or an invalid version,
+3 where memory ran out and 4 where a write failed.
+
+examples:
+  pyver compare 1.9 lt 1.10 && echo older
+  pyver match '>=1.16,<2.0' 1.19
+";
+
+const COMPARE_HELP: &str = "usage: pyver compare A OP B
+
+Nothing is printed: the exit status is 0 where A stands so to B, and 1 where it does not.
+OP is lt, le, eq, ne, ge or gt, or <, <=, ==, !=, >= or > in quotes. Local parts count.
+
+examples:
+  pyver compare 1.9 lt 1.10 && echo older
+  pyver compare 1.0 '==' v1.0.0
+";
+
+const MATCH_HELP: &str = "usage: pyver match [-q] [--pre | --no-pre] SPECS V..
+
+Prints 'yes' or 'no', a tab and the version, a line for each. The exit status is 0 where all
+are allowed, 1 where one is not, and 2 where one is no version. '' allows any version.
+Pre-releases and dev releases are left out, unless a specifier other than != has such a version.
+
+options:
+  -q, --quiet  print nothing
+  --pre        allow pre-releases and dev releases too
+  --no-pre     allow none of them
+  --           all words after it are no options
+
+examples:
+  pyver match '>=1.16,<2.0' 1.19 2.0
+  pyver match -q --pre '>=2.0rc1' 2.0rc2 && echo allowed
+";
+
+/// What the help says.
+pub(crate) fn help(topic: Topic) -> &'static str
+    ensures { result.now ≡ help_text topic }
+{
+    match topic {
+        Topic::Program => PROGRAM_HELP,
+        Topic::Compare => COMPARE_HELP,
+        Topic::Match => MATCH_HELP,
+    }
+}
+
+/// The words that are to be given.
+pub(crate) fn usage(topic: Topic) -> &'static str
+    ensures { result.now ≡ usage topic }
+{
+    match topic {
+        Topic::Program => PROGRAM_USAGE,
+        Topic::Compare => COMPARE_USAGE,
+        Topic::Match => MATCH_USAGE,
+    }
+}

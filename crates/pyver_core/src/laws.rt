@@ -1,0 +1,7 @@
+//! What holds of the program's outcomes, as the contract of a function that does nothing.
+ghost use Rattle.pyver_core.specs.OneOutcome.{OutcomesOnce};
+
+/// Of what is asked for there is at most one outcome.
+pub fn outcomes_once()
+    ensures { OutcomesOnce }
+{}

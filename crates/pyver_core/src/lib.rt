@@ -1,0 +1,18 @@
+//! The program `pyver` as a function of its words, over any writers: what it prints for people and for shell scripts.
+#![tactic(auto)]
+
+mod allowed;
+mod answer;
+mod command;
+mod comparison;
+mod escape;
+mod help;
+pub mod laws;
+mod misuse;
+mod nearest;
+mod prerelease;
+mod program;
+mod reading;
+mod stream;
+
+pub use program::{refuse, run};

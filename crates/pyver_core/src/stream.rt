@@ -1,0 +1,46 @@
+// Writing whole, with no call made twice.
+ghost use Rattle.std.specs.Prelude.{OnOk};
+ghost use Rattle.std.specs.Io.KnownBytes.{Appends, Keeps};
+ghost use Rattle.pyver_core.specs.Runs.{WroteBeginning};
+
+use std::io::{ErrorKind, Write};
+
+/// Why not all was written.
+#[derive(Clone, Copy)]
+pub(crate) enum WriteFailure {
+    /// Nobody reads what is written.
+    BrokenPipe,
+    Other,
+}
+
+/// Writes all of it and flushes. Where a call failed or took no byte, a beginning was written.
+pub(crate) fn write_whole<W: Write>(writer: &mut W, bytes: &[u8]) -> Result<(), WriteFailure>
+    ensures whole { OnOk result (Appends (W.contents writer.old) (W.contents writer.new) bytes.now) }
+    ensures beginning { WroteBeginning (W.contents writer.old) (W.contents writer.new) bytes.now }
+{
+    let mut at = 0;
+    while at < bytes.len() {
+        match writer.write(&bytes[at..]) {
+            Ok(0) => return Err(WriteFailure::Other),
+            Ok(count) => at += count,
+            Err(error) => return Err(failure(error.kind())),
+        }
+    }
+    flush(writer)
+}
+
+fn flush<W: Write>(writer: &mut W) -> Result<(), WriteFailure>
+    ensures { Keeps (W.contents writer.old) (W.contents writer.new) }
+{
+    match writer.flush() {
+        Ok(()) => Ok(()),
+        Err(error) => Err(failure(error.kind())),
+    }
+}
+
+fn failure(kind: ErrorKind) -> WriteFailure {
+    match kind {
+        ErrorKind::BrokenPipe => WriteFailure::BrokenPipe,
+        _ => WriteFailure::Other,
+    }
+}
