@@ -43,7 +43,8 @@ enum {
     PEP440_OUT_OF_MEMORY = 3,
     PEP440_NO_ROOM = 4,
     PEP440_NUMBER_AT_MAX = 5, /* of a range or a cover alone: a bound would lie above 18446744073709551615 */
-    PEP440_NOT_PACKED = 7     /* of pep440_word alone: the version has no word; 6 is no status yet */
+    PEP440_NOT_COMPILED = 6,  /* bytes that are passed as compiled denote no version, or no list */
+    PEP440_NOT_PACKED = 7     /* of pep440_word alone: the version has no word */
 };
 
 /* A string of a batch. */
@@ -143,6 +144,48 @@ uint8_t pep440_range_keys(const uint8_t *list, size_t length, uint8_t *out, size
    by it is then asked of pep440_contains or pep440_filter. The range of pep440_range_keys may leave out versions that the list contains. */
 uint8_t pep440_cover_keys(const uint8_t *list, size_t length, uint8_t *out, size_t size, size_t *ends, size_t ends_size, size_t *written,
                           size_t *count);
+
+/* ---- compiled versions and lists: bytes made once of a string, which later calls take in place of it
+
+   Compiled bytes are plain bytes: keep them in memory, in a file or in a column, copy them, share them among threads, give them to another
+   process or machine. There is no handle, and nothing to free. Their first byte is a format, and the bytes of a format never change between
+   releases: what one release wrote each later one takes, and a format that a library does not know gets PEP440_NOT_COMPILED. So does whatever
+   else denotes no version (no list): cut, changed or chosen by an attacker, bytes are never read beyond their length.
+
+   Bytes denote at most one version or one list. Two strings have the same compiled bytes exactly where all parts of their versions are the
+   same, or all specifiers of their lists in the same order: `1.0` and ` v1.0` have the same bytes, and `1.0.0` has others, though the versions
+   are equal. The order of compiled bytes is not that of the versions: pep440_compare_compiled and pep440_sort_key_compiled have that.
+
+   A version takes ten bytes where it has a word (pep440_word), else 30, 8 for each number of its release and each suffix, and for each local
+   segment 9 and its letters; a list takes nine, and for each specifier one more than its version. No call below but the first two parses a
+   string. pep440_compare_compiled allocates nothing where the versions have words, nor does pep440_contains_compiled where the version and
+   those of the list have words and the list has no `===`.
+
+   Bytes that pep440_compile did not write may denote a version that no string denotes: one with a sentinel, as a bound of pep440_ranges has
+   one, or one whose local part has other characters. It is compared as such, and pep440_normalize_compiled writes `1.0` for `1.0~max0`, and
+   such a local part as it is. */
+
+/* Writes the compiled form of a version; `out` and `written` as for pep440_normalize. */
+uint8_t pep440_compile(const uint8_t *version, size_t length, uint8_t *out, size_t size, size_t *written);
+
+/* Writes the compiled form of a list of specifiers; `out` and `written` as for pep440_normalize. */
+uint8_t pep440_compile_list(const uint8_t *list, size_t length, uint8_t *out, size_t size, size_t *written);
+
+/* As pep440_normalize, of a compiled version. PEP440_NOT_COMPILED where the bytes denote none; so in each call below. */
+uint8_t pep440_normalize_compiled(const uint8_t *compiled, size_t length, uint8_t *out, size_t size, size_t *written);
+
+/* As pep440_normalize_list, of a compiled list. */
+uint8_t pep440_normalize_list_compiled(const uint8_t *compiled, size_t length, uint8_t *out, size_t size, size_t *written);
+
+/* As pep440_sort_key, of a compiled version. */
+uint8_t pep440_sort_key_compiled(const uint8_t *compiled, size_t length, uint8_t *out, size_t size, size_t *written);
+
+/* As pep440_compare, of two compiled versions. */
+uint8_t pep440_compare_compiled(const uint8_t *left, size_t left_length, const uint8_t *right, size_t right_length, int8_t *order);
+
+/* As pep440_contains, of a compiled list and a compiled version. */
+uint8_t pep440_contains_compiled(const uint8_t *list, size_t list_length, const uint8_t *version, size_t length, uint8_t *contained,
+                                 uint8_t *prerelease);
 
 /* ---- batches: many strings in one call */
 
