@@ -1,0 +1,2 @@
+//! The examples in the documentation of the ported crate, with no more than the crate's name changed.
+include!(concat!(env!("OUT_DIR"), "/examples.rs"));

@@ -1,0 +1,149 @@
+//! Packed versions: ten compiled bytes, a count of release numbers and a word.
+//!
+//! A word has the first release number in its top 16 bits, three more in 8 bits each, the class of the suffix in 3 bits and
+//! the suffix's number in 21. Words are ordered as their versions are.
+use crate::parts::Parts;
+use crate::{Prerelease, PrereleaseKind};
+use std::num::NonZeroU8;
+
+pub(crate) const FORMAT: u8 = 1;
+/// How many compiled bytes a packed version has.
+pub(crate) const LENGTH: usize = 10;
+
+const CLASS_MIN: u64 = 0;
+const CLASS_DEV: u64 = 1;
+const CLASS_ALPHA: u64 = 2;
+const CLASS_BETA: u64 = 3;
+const CLASS_RC: u64 = 4;
+const CLASS_FINAL: u64 = 5;
+const CLASS_POST: u64 = 6;
+const CLASS_MAX: u64 = 7;
+
+const NUMBER_BITS: u32 = 21;
+const NUMBER_MASK: u64 = (1 << NUMBER_BITS) - 1;
+const SHIFTS: [u32; 4] = [48, 40, 32, 24];
+const LIMITS: [u64; 4] = [0xffff, 0xff, 0xff, 0xff];
+
+/// The word and the count, and the release numbers of the word, so that a slice of them can be borrowed.
+#[derive(Clone, Copy)]
+pub(crate) struct Packed {
+    word: u64,
+    release: [u64; 4],
+    count: NonZeroU8,
+}
+
+impl Packed {
+    #[inline]
+    pub(crate) fn from_word(count: NonZeroU8, word: u64) -> Packed {
+        let release = [word >> SHIFTS[0], (word >> SHIFTS[1]) & 0xff, (word >> SHIFTS[2]) & 0xff, (word >> SHIFTS[3]) & 0xff];
+        Packed { word, release, count }
+    }
+
+    /// The packed version of these parts; None where they are not packed.
+    pub(crate) fn from_parts(parts: &Parts) -> Option<Packed> {
+        let count = NonZeroU8::new(u8::try_from(parts.release.len()).ok()?)?;
+        if parts.epoch != 0 || !parts.local.is_empty() || parts.release.len() > SHIFTS.len() {
+            return None;
+        }
+        let (class, number) = suffix(parts)?;
+        let mut word = class << NUMBER_BITS | number;
+        for (place, value) in parts.release.iter().enumerate() {
+            if *value > LIMITS[place] {
+                return None;
+            }
+            word |= value << SHIFTS[place];
+        }
+        Some(Packed::from_word(count, word))
+    }
+
+    pub(crate) fn to_parts(self) -> Parts {
+        Parts {
+            epoch: 0,
+            release: self.release().to_vec(),
+            pre: self.pre(),
+            post: self.post(),
+            dev: self.dev(),
+            min: self.min(),
+            max: self.max(),
+            local: Vec::new(),
+        }
+    }
+
+    #[inline]
+    pub(crate) fn to_bytes(self) -> [u8; LENGTH] {
+        let mut bytes = [0; LENGTH];
+        bytes[0] = FORMAT;
+        bytes[1] = self.count.get();
+        bytes[2..].copy_from_slice(&self.word.to_be_bytes());
+        bytes
+    }
+
+    #[inline]
+    pub(crate) fn word(&self) -> u64 {
+        self.word
+    }
+
+    #[inline]
+    pub(crate) fn release(&self) -> &[u64] {
+        &self.release[..usize::from(self.count.get())]
+    }
+
+    #[inline]
+    pub(crate) fn pre(self) -> Option<Prerelease> {
+        let kind = match self.class() {
+            CLASS_ALPHA => PrereleaseKind::Alpha,
+            CLASS_BETA => PrereleaseKind::Beta,
+            CLASS_RC => PrereleaseKind::Rc,
+            _ => return None,
+        };
+        Some(Prerelease { kind, number: self.word & NUMBER_MASK })
+    }
+
+    #[inline]
+    pub(crate) fn post(self) -> Option<u64> {
+        self.number_of(CLASS_POST)
+    }
+
+    #[inline]
+    pub(crate) fn dev(self) -> Option<u64> {
+        self.number_of(CLASS_DEV)
+    }
+
+    #[inline]
+    pub(crate) fn min(self) -> Option<u64> {
+        self.number_of(CLASS_MIN)
+    }
+
+    #[inline]
+    pub(crate) fn max(self) -> Option<u64> {
+        self.number_of(CLASS_MAX)
+    }
+
+    #[inline]
+    fn class(self) -> u64 {
+        self.word >> NUMBER_BITS & 7
+    }
+
+    #[inline]
+    fn number_of(self, class: u64) -> Option<u64> {
+        (self.class() == class).then_some(self.word & NUMBER_MASK)
+    }
+}
+
+/// The class and the number of the one suffix; None where there are more, or its number is too big.
+fn suffix(parts: &Parts) -> Option<(u64, u64)> {
+    let pre = parts.pre.map(|pre| match pre.kind {
+        PrereleaseKind::Alpha => (CLASS_ALPHA, pre.number),
+        PrereleaseKind::Beta => (CLASS_BETA, pre.number),
+        PrereleaseKind::Rc => (CLASS_RC, pre.number),
+    });
+    let with = |class: u64, number: Option<u64>| number.map(|number| (class, number));
+    let candidates =
+        [pre, with(CLASS_MIN, parts.min), with(CLASS_DEV, parts.dev), with(CLASS_POST, parts.post), with(CLASS_MAX, parts.max)];
+    let mut found = candidates.into_iter().flatten();
+    match (found.next(), found.next()) {
+        (None, _) => Some((CLASS_FINAL, 0)),
+        (Some((class, number)), None) if number <= NUMBER_MASK => Some((class, number)),
+        _ => None,
+    }
+}
