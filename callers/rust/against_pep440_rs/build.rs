@@ -22,7 +22,8 @@ fn examples(source: &str) -> Vec<String> {
 }
 
 fn write_examples(sources: &Path, out: &Path) {
-    let mut paths: Vec<PathBuf> = fs::read_dir(sources).expect("the peer's sources").map(|entry| entry.expect("a file").path()).collect();
+    let mut paths: Vec<PathBuf> =
+        fs::read_dir(sources).expect("the peer's sources").map(|entry| entry.expect("a file").path()).collect();
     paths.sort();
     let all: Vec<String> = paths.iter().flat_map(|path| examples(&fs::read_to_string(path).expect("a source"))).collect();
     let test = |(number, example): (usize, &String)| {

@@ -31,6 +31,8 @@ mod range;
 mod segment;
 mod specifier;
 mod specifiers;
+#[cfg(test)]
+mod tests;
 mod version;
 
 pub use error::{

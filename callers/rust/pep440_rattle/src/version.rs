@@ -306,10 +306,25 @@ impl Version {
     #[inline(never)]
     fn cmp_unpacked(&self, other: &Version) -> Ordering {
         let base = self.epoch().cmp(&other.epoch()).then_with(|| cmp_releases(self.release(), other.release()));
-        base.then_with(|| match (&self.form, &other.form) {
+        base.then_with(|| match (self.equal_word(), other.equal_word()) {
+            (Some(left), Some(right)) => left.cmp(&right),
+            _ => self.cmp_by_library(other),
+        })
+    }
+
+    fn cmp_by_library(&self, other: &Version) -> Ordering {
+        match (&self.form, &other.form) {
             (Form::Unpacked(left), Form::Unpacked(right)) => left.key().cmp(right.key()),
             _ => self.with_compiled(|left| other.with_compiled(|right| calls::compare(left, right))),
-        })
+        }
+    }
+
+    /// The word; of a version that has none, that of an equal one, if there is any.
+    fn equal_word(&self) -> Option<u64> {
+        match &self.form {
+            Form::Packed(packed) => Some(packed.word()),
+            Form::Unpacked(unpacked) => unpacked.equal_word,
+        }
     }
 }
 
@@ -373,12 +388,9 @@ impl Ord for Version {
 impl Hash for Version {
     /// Feeds the word of an equal packed version, where there is none the sort key.
     fn hash<H: Hasher>(&self, state: &mut H) {
-        match &self.form {
-            Form::Packed(packed) => packed.word().hash(state),
-            Form::Unpacked(unpacked) => match unpacked.equal_word {
-                Some(word) => word.hash(state),
-                None => unpacked.key().hash(state),
-            },
+        match (&self.form, self.equal_word()) {
+            (Form::Unpacked(unpacked), None) => unpacked.key().hash(state),
+            (_, word) => word.hash(state),
         }
     }
 }
