@@ -2,10 +2,9 @@
 //!
 //! A version that is not packed is 2 and its parts: each number is eight bytes, greatest first, a part that may be missing has
 //! a tag in front, and what repeats a count. A list is 3, a count, and each member: the rank of its operator, and its version.
-use crate::packed::{self, Packed};
+use crate::packed::{self, Count, Packed};
 use crate::parts::{Parts, Unpacked};
 use crate::{LocalSegment, Operator, Prerelease, PrereleaseKind, Version, VersionSpecifier};
-use std::num::NonZeroU8;
 
 const UNPACKED: u8 = 2;
 const LIST: u8 = 3;
@@ -69,7 +68,7 @@ fn read_packed(bytes: &[u8]) -> Option<Packed> {
     let [packed::FORMAT, count, word @ ..] = bytes else {
         return None;
     };
-    Some(Packed::from_word(NonZeroU8::new(*count)?, u64::from_be_bytes(word.try_into().ok()?)))
+    Some(Packed::from_word(Count::from_number(usize::from(*count))?, u64::from_be_bytes(word.try_into().ok()?)))
 }
 
 /// The members of the list that the bytes denote.

@@ -4,7 +4,6 @@
 //! the suffix's number in 21. Words are ordered as their versions are.
 use crate::parts::Parts;
 use crate::{Prerelease, PrereleaseKind};
-use std::num::NonZeroU8;
 
 pub(crate) const FORMAT: u8 = 1;
 /// How many compiled bytes a packed version has.
@@ -24,25 +23,48 @@ const NUMBER_MASK: u64 = (1 << NUMBER_BITS) - 1;
 const SHIFTS: [u32; 4] = [48, 40, 32, 24];
 const LIMITS: [u64; 4] = [0xffff, 0xff, 0xff, 0xff];
 
+/// How many numbers a packed release has.
+#[derive(Clone, Copy)]
+#[repr(u8)]
+pub(crate) enum Count {
+    One = 1,
+    Two,
+    Three,
+    Four,
+}
+
+impl Count {
+    #[inline]
+    pub(crate) fn from_number(number: usize) -> Option<Count> {
+        Some(match number {
+            1 => Count::One,
+            2 => Count::Two,
+            3 => Count::Three,
+            4 => Count::Four,
+            _ => return None,
+        })
+    }
+}
+
 /// The word and the count, and the release numbers of the word, so that a slice of them can be borrowed.
 #[derive(Clone, Copy)]
 pub(crate) struct Packed {
     word: u64,
     release: [u64; 4],
-    count: NonZeroU8,
+    count: Count,
 }
 
 impl Packed {
     #[inline]
-    pub(crate) fn from_word(count: NonZeroU8, word: u64) -> Packed {
+    pub(crate) fn from_word(count: Count, word: u64) -> Packed {
         let release = [word >> SHIFTS[0], (word >> SHIFTS[1]) & 0xff, (word >> SHIFTS[2]) & 0xff, (word >> SHIFTS[3]) & 0xff];
         Packed { word, release, count }
     }
 
     /// The packed version of these parts; None where they are not packed.
     pub(crate) fn from_parts(parts: &Parts) -> Option<Packed> {
-        let count = NonZeroU8::new(u8::try_from(parts.release.len()).ok()?)?;
-        if parts.epoch != 0 || !parts.local.is_empty() || parts.release.len() > SHIFTS.len() {
+        let count = Count::from_number(parts.release.len())?;
+        if parts.epoch != 0 || !parts.local.is_empty() {
             return None;
         }
         let (class, number) = suffix(parts)?;
@@ -73,7 +95,7 @@ impl Packed {
     pub(crate) fn to_bytes(self) -> [u8; LENGTH] {
         let mut bytes = [0; LENGTH];
         bytes[0] = FORMAT;
-        bytes[1] = self.count.get();
+        bytes[1] = self.count as u8;
         bytes[2..].copy_from_slice(&self.word.to_be_bytes());
         bytes
     }
@@ -85,7 +107,7 @@ impl Packed {
 
     #[inline]
     pub(crate) fn release(&self) -> &[u64] {
-        &self.release[..usize::from(self.count.get())]
+        &self.release[..self.count as usize]
     }
 
     #[inline]

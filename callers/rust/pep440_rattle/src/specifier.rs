@@ -5,6 +5,7 @@ use crate::{
     Operator, RangeError, Segment, Version, VersionPattern, VersionSpecifierBuildError, VersionSpecifierParseError,
     VersionSpecifiers,
 };
+use std::collections::HashSet;
 use std::fmt;
 use std::ops::Bound;
 use std::str::FromStr;
@@ -210,9 +211,10 @@ pub(crate) fn is_next_minor(low: &Version, high: &Version) -> bool {
     }
 }
 
-/// A character that the string does not have, which no specifier has, and which is no white space.
+/// A character that the string does not have. None of these is white space or stands in a specifier.
 fn unused_character(text: &str) -> char {
-    ('\u{e000}'..='\u{f8ff}').find(|candidate| !text.contains(*candidate)).expect("a specifier with 6400 private characters")
+    let used: HashSet<char> = text.chars().collect();
+    ('\u{e000}'..=char::MAX).find(|candidate| !used.contains(candidate)).unwrap_or('\u{e000}')
 }
 
 /// Why the list of this one string is no list, without what the library writes around it: its first words, the string, and

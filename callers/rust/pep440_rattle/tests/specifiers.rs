@@ -84,6 +84,9 @@ fn errors_of_specifiers() {
     for (text, wanted) in pairs {
         assert_eq!(text.parse::<VersionSpecifier>().unwrap_err().to_string(), wanted, "{text}");
     }
+    let private: String = ('\u{e000}'..='\u{f8ff}').collect();
+    let wanted = format!("after parsing `1`, found `,{private}`, which is not part of a valid version");
+    assert_eq!(format!("==1,{private}").parse::<VersionSpecifier>().unwrap_err().to_string(), wanted);
 }
 
 #[test]

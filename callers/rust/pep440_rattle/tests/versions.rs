@@ -150,7 +150,9 @@ fn parts() {
 fn setters() {
     let release = Version::new([1, 2, 3]);
     assert_eq!(release.to_string(), "1.2.3");
-    assert_eq!(Version::new(&[70_000, 2, 3, 4, 5]).to_string(), "70000.2.3.4.5");
+    let numbers = [70_000, 2, 3, 4, 5];
+    assert_eq!(Version::new(&numbers[1..]).to_string(), "2.3.4.5");
+    assert_eq!(Version::new(numbers).to_string(), "70000.2.3.4.5");
     let pre = Prerelease { kind: PrereleaseKind::Beta, number: 4 };
     let local = vec![LocalSegment::String("cu".to_owned()), LocalSegment::Number(118)];
     let full = release.clone().with_epoch(1).with_pre(Some(pre)).with_post(Some(5)).with_dev(Some(6)).with_local(local);
