@@ -31,6 +31,33 @@ static uint8_t sort_key(void) { return pep440_sort_key(TEXT("1.2.3"), out, sizeo
 static uint8_t sort_key_longer(void) { return pep440_sort_key(TEXT(LONGER), out, sizeof out, &written); }
 static uint8_t ranges(void) { return pep440_ranges(TEXT(LIST), out, sizeof out, &written); }
 
+
+/* Compiled forms, made once. */
+typedef struct {
+    uint8_t bytes[64];
+    size_t length;
+} Compiled;
+
+static Compiled compiled, next, list, one;
+
+#define OF(form) (form).bytes, (form).length
+static uint8_t compile(void) { return pep440_compile(TEXT("1.2.3"), out, sizeof out, &written); }
+static uint8_t compile_longer(void) { return pep440_compile(TEXT(LONGER), out, sizeof out, &written); }
+static uint8_t compile_list(void) { return pep440_compile_list(TEXT(LIST), out, sizeof out, &written); }
+static uint8_t normalize_compiled(void) { return pep440_normalize_compiled(OF(compiled), out, sizeof out, &written); }
+static uint8_t sort_key_compiled(void) { return pep440_sort_key_compiled(OF(compiled), out, sizeof out, &written); }
+static uint8_t compare_compiled(void) { return pep440_compare_compiled(OF(compiled), OF(next), &order); }
+static uint8_t contains_compiled(void) { return pep440_contains_compiled(OF(list), OF(compiled), &is, &early); }
+static uint8_t contains_compiled_one(void) { return pep440_contains_compiled(OF(one), OF(compiled), &is, &early); }
+
+static void compile_all(void)
+{
+    pep440_compile(TEXT("1.2.3"), compiled.bytes, sizeof compiled.bytes, &compiled.length);
+    pep440_compile(TEXT("1.2.4"), next.bytes, sizeof next.bytes, &next.length);
+    pep440_compile_list(TEXT(LIST), list.bytes, sizeof list.bytes, &list.length);
+    pep440_compile_list(TEXT(">=1.0"), one.bytes, sizeof one.bytes, &one.length);
+}
+
 static const struct {
     const char *name;
     uint8_t (*call)(void);
@@ -41,7 +68,15 @@ static const struct {
              {"contains", contains, PEP440_OK},             {"contains_one", contains_one, PEP440_OK},
              {"any_prerelease", any_prerelease, PEP440_OK}, {"parts_of", parts_of, PEP440_OK},
              {"sort_key", sort_key, PEP440_OK},             {"sort_key_longer", sort_key_longer, PEP440_OK},
-             {"ranges", ranges, PEP440_OK}};
+             {"ranges", ranges, PEP440_OK},
+             {"compile", compile, PEP440_OK},
+             {"compile_longer", compile_longer, PEP440_OK},
+             {"compile_list", compile_list, PEP440_OK},
+             {"normalize_compiled", normalize_compiled, PEP440_OK},
+             {"sort_key_compiled", sort_key_compiled, PEP440_OK},
+             {"compare_compiled", compare_compiled, PEP440_OK},
+             {"contains_compiled", contains_compiled, PEP440_OK},
+             {"contains_compiled_one", contains_compiled_one, PEP440_OK}};
 
 /* Versions of three numbers, scrambled: one in eight each with a pre-release, a post-release and a dev. */
 static pep440_string *some_texts(size_t how_many)
@@ -106,6 +141,7 @@ int main(int argc, char **argv)
 {
     struct timespec start, end;
     count = argc > 2 ? strtoul(argv[2], NULL, 10) : 0;
+    compile_all();
     if (argc < 3 || !run(argv[1], &start))
         return EXIT_FAILURE;
     clock_gettime(CLOCK_MONOTONIC, &end);

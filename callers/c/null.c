@@ -44,12 +44,27 @@ static void strings(void)
     hold(pep440_cover_keys(NONE, NONE, NONE, &written, &count) == PEP440_NO_ROOM && written == 0 && count == 2, "cover_keys");
 }
 
+static void compiled(void)
+{
+    uint8_t out[128], is, early;
+    int8_t order;
+    size_t written;
+    hold(pep440_compile(NONE, out, sizeof out, &written) == PEP440_INVALID_VERSION, "compile");
+    hold(pep440_compile_list(NONE, out, sizeof out, &written) == PEP440_OK && written == 9, "compile_list");
+    hold(pep440_normalize_compiled(NONE, out, sizeof out, &written) == PEP440_NOT_COMPILED, "normalize_compiled");
+    hold(pep440_normalize_list_compiled(NONE, out, sizeof out, &written) == PEP440_NOT_COMPILED, "normalize_list_compiled");
+    hold(pep440_sort_key_compiled(NONE, out, sizeof out, &written) == PEP440_NOT_COMPILED, "sort_key_compiled");
+    hold(pep440_compare_compiled(NONE, NONE, &order) == PEP440_NOT_COMPILED, "compare_compiled");
+    hold(pep440_contains_compiled(NONE, NONE, &is, &early) == PEP440_NOT_COMPILED, "contains_compiled");
+}
+
 static void buffers(void)
 {
     size_t written;
     pep440_parts parts;
     hold(pep440_normalize((const uint8_t *)"1.0", 3, NONE, &written) == PEP440_NO_ROOM && written == 3, "normalize, no buffer");
     hold(pep440_normalize_list(EMPTY, NONE, &written) == PEP440_OK && written == 0, "normalize_list, no buffer");
+    hold(pep440_compile((const uint8_t *)"1.0", 3, NONE, &written) == PEP440_NO_ROOM && written == 10, "compile, no buffer");
     hold(pep440_parts_of((const uint8_t *)"1.0", 3, &parts, NONE) == PEP440_NO_ROOM && parts.release_length == 2, "parts_of, no numbers");
 }
 
@@ -69,6 +84,7 @@ static void batches(void)
 int main(void)
 {
     strings();
+    compiled();
     buffers();
     batches();
     printf("null with length 0 is as empty in each place, %d wrong\n", wrong);

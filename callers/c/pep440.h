@@ -161,8 +161,9 @@ uint8_t pep440_cover_keys(const uint8_t *list, size_t length, uint8_t *out, size
    string. pep440_compare_compiled allocates nothing where the versions have words, nor does pep440_contains_compiled where the version and
    those of the list have words and the list has no `===`.
 
-   Bytes that no call wrote may denote a version with a sentinel, as a bound of pep440_ranges has one: it is compared as such, and
-   pep440_normalize_compiled writes `1.0` for `1.0~max0`. */
+   Bytes that pep440_compile did not write may denote a version that no string denotes: one with a sentinel, as a bound of pep440_ranges has
+   one, or one whose local part has other characters. It is compared as such, and pep440_normalize_compiled writes `1.0` for `1.0~max0`, and
+   such a local part as it is. */
 
 /* Writes the compiled form of a version; `out` and `written` as for pep440_normalize. */
 uint8_t pep440_compile(const uint8_t *version, size_t length, uint8_t *out, size_t size, size_t *written);

@@ -12,6 +12,8 @@
 enum { BOUND = 16 * 1024, STACK = 1 << 20, LONG = 1 << 16, MANY = 100000, FILL = 0xA5 };
 
 static pep440_string given, list;
+/* Their compiled forms; no bytes where there is none. */
+static pep440_string compiled, compiled_list;
 static pep440_string *strings;
 static uint8_t *out;
 static size_t *indices, *ends, written, at;
@@ -22,6 +24,8 @@ static int8_t order;
 
 #define GIVEN given.bytes, given.length
 #define LIST list.bytes, list.length
+#define COMPILED compiled.bytes, compiled.length
+#define COMPILED_LIST compiled_list.bytes, compiled_list.length
 #define OUT out, (size_t)LONG * 4, &written
 
 static void *normalize(void *unused) { pep440_normalize(GIVEN, OUT); return unused; }
@@ -50,6 +54,13 @@ static void *cover_keys(void *unused)
     pep440_cover_keys(LIST, out, (size_t)LONG * 64, ends, MANY, &written, &at);
     return unused;
 }
+static void *compile(void *unused) { pep440_compile(GIVEN, OUT); return unused; }
+static void *compile_list(void *unused) { pep440_compile_list(LIST, OUT); return unused; }
+static void *normalize_compiled(void *unused) { pep440_normalize_compiled(COMPILED, OUT); return unused; }
+static void *normalize_list_compiled(void *unused) { pep440_normalize_list_compiled(COMPILED_LIST, OUT); return unused; }
+static void *sort_key_compiled(void *unused) { pep440_sort_key_compiled(COMPILED, OUT); return unused; }
+static void *compare_compiled(void *unused) { pep440_compare_compiled(COMPILED, COMPILED, &order); return unused; }
+static void *contains_compiled(void *unused) { pep440_contains_compiled(COMPILED_LIST, COMPILED, &flag, &early); return unused; }
 static void *filter(void *unused) { pep440_filter(LIST, strings, MANY, out, MANY); return unused; }
 static void *sort(void *unused) { pep440_sort(strings, MANY, indices, MANY, &at); return unused; }
 static void *sort_keys(void *unused)
@@ -61,12 +72,30 @@ static void *sort_keys(void *unused)
 static const struct {
     const char *name;
     void *(*call)(void *);
-} CALLS[] = {{"normalize", normalize},           {"normalize_list", normalize_list}, {"version_error", version_error},
-             {"list_error", list_error},         {"compare", compare},               {"contains", contains},
-             {"any_prerelease", any_prerelease}, {"parts_of", parts_of},             {"sort_key", sort_key},
-             {"word", word},                     {"ranges", ranges},                 {"range_keys", range_keys},
-             {"cover_keys", cover_keys},         {"specifiers_of", specifiers_of},   {"filter", filter},
-             {"sort", sort},                     {"sort_keys", sort_keys}};
+} CALLS[] = {{"normalize", normalize},
+             {"normalize_list", normalize_list},
+             {"version_error", version_error},
+             {"list_error", list_error},
+             {"compare", compare},
+             {"contains", contains},
+             {"any_prerelease", any_prerelease},
+             {"parts_of", parts_of},
+             {"sort_key", sort_key},
+             {"word", word},
+             {"ranges", ranges},
+             {"range_keys", range_keys},
+             {"cover_keys", cover_keys},
+             {"specifiers_of", specifiers_of},
+             {"compile", compile},
+             {"compile_list", compile_list},
+             {"normalize_compiled", normalize_compiled},
+             {"normalize_list_compiled", normalize_list_compiled},
+             {"sort_key_compiled", sort_key_compiled},
+             {"compare_compiled", compare_compiled},
+             {"contains_compiled", contains_compiled},
+             {"filter", filter},
+             {"sort", sort},
+             {"sort_keys", sort_keys}};
 
 static uint8_t *stack;
 static void *(*call)(void *);
@@ -114,6 +143,17 @@ static pep440_string repeated(const char *start, const char *piece, size_t lengt
 
 static pep440_string of(const char *text) { return repeated(text, "", 0); }
 
+/* The compiled form of a version, or of a list. */
+static pep440_string compiled_of(uint8_t (*compiles)(const uint8_t *, size_t, uint8_t *, size_t, size_t *), pep440_string text)
+{
+    uint8_t *bytes;
+    size_t length = 0;
+    compiles(text.bytes, text.length, out, (size_t)LONG * 64, &length);
+    bytes = malloc(length + 1);
+    memcpy(bytes, out, length);
+    return (pep440_string){bytes, length};
+}
+
 static void make_strings(void)
 {
     strings = calloc(MANY, sizeof *strings);
@@ -133,12 +173,17 @@ int main(void)
     const pep440_string lists[] = {of(">=1.0"), of(">=1!2.3.4.5.6rc7.post8.dev9, !=1.5.*, ~=1!2.0"), repeated(">=1", ",>=1", LONG),
                                    repeated(">=1", ",!=1.*", LONG), repeated("===1", ".1", LONG), repeated(">=1", ",x", LONG),
                                    of("==18446744073709551615.*")};
+    pep440_string compiled_versions[sizeof versions / sizeof *versions], compiled_lists[sizeof lists / sizeof *lists];
     size_t most = 0;
     out = malloc((size_t)LONG * 64);
     release = calloc(LONG, sizeof *release);
     indices = calloc(MANY, sizeof *indices);
     ends = calloc(MANY, sizeof *ends);
     make_strings();
+    for (size_t v = 0; v < sizeof versions / sizeof *versions; v++)
+        compiled_versions[v] = compiled_of(pep440_compile, versions[v]);
+    for (size_t l = 0; l < sizeof lists / sizeof *lists; l++)
+        compiled_lists[l] = compiled_of(pep440_compile_list, lists[l]);
     for (size_t turn = 0; turn < sizeof CALLS / sizeof *CALLS; turn++) {
         size_t of_call = 0;
         int is_batch = turn + 3 >= sizeof CALLS / sizeof *CALLS;
@@ -149,10 +194,12 @@ int main(void)
                     continue;
                 given = versions[v];
                 list = lists[l];
+                compiled = compiled_versions[v];
+                compiled_list = compiled_lists[l];
                 bytes = stack_of(CALLS[turn].call);
                 of_call = bytes > of_call ? bytes : of_call;
             }
-        printf("%-16s %6zu bytes of stack\n", CALLS[turn].name, of_call);
+        printf("%-24s %6zu bytes of stack\n", CALLS[turn].name, of_call);
         most = of_call > most ? of_call : most;
     }
     printf("%zu bytes of stack at most, of %d\n", most, BOUND);

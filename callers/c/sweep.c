@@ -40,6 +40,14 @@ typedef struct {
     uint8_t is, early;
 } Answer;
 
+/* Compiled forms, made once before the sweep: of a version that is packed and of one that is not, of lists with and without `===`. */
+typedef struct {
+    uint8_t bytes[256];
+    size_t length;
+} Compiled;
+
+static Compiled packed, longer, list, packed_list;
+
 static size_t at;
 static const pep440_string TEXTS[] = {{TEXT("1.0+a.1")}, {TEXT("0.9")}, {TEXT(LONG)}, {TEXT("1.0.0")}, {TEXT("1.5rc1")}};
 static const pep440_string INVALID[] = {{TEXT("1.0+a.1")}, {TEXT("latest")}};
@@ -76,6 +84,32 @@ static uint8_t sort_keys(Answer *answer)
     return pep440_sort_keys(TEXTS, 5, answer->out, sizeof answer->out, answer->ends, 8, &answer->written, &at);
 }
 
+static uint8_t compile(Answer *answer) { return pep440_compile(TEXT(LONG), OUT); }
+static uint8_t compile_packed(Answer *answer) { return pep440_compile(TEXT("1.17"), OUT); }
+static uint8_t compile_invalid(Answer *answer) { return pep440_compile(TEXT("1.0prev"), OUT); }
+static uint8_t compile_list(Answer *answer) { return pep440_compile_list(TEXT(MEMBERS), OUT); }
+static uint8_t compile_no_list(Answer *answer) { return pep440_compile_list(TEXT(">=1.16; <2.0"), OUT); }
+#define OF(compiled) (compiled).bytes, (compiled).length
+static uint8_t normalize_compiled(Answer *answer) { return pep440_normalize_compiled(OF(longer), OUT); }
+static uint8_t normalize_not_compiled(Answer *answer) { return pep440_normalize_compiled(longer.bytes, longer.length - 1, OUT); }
+static uint8_t normalize_list_compiled(Answer *answer) { return pep440_normalize_list_compiled(OF(list), OUT); }
+static uint8_t normalize_list_not_compiled(Answer *answer) { return pep440_normalize_list_compiled(list.bytes, list.length - 1, OUT); }
+static uint8_t sort_key_compiled(Answer *answer) { return pep440_sort_key_compiled(OF(longer), OUT); }
+static uint8_t compare_compiled(Answer *answer) { return pep440_compare_compiled(OF(longer), OF(packed), &answer->order); }
+static uint8_t compare_packed(Answer *answer) { return pep440_compare_compiled(OF(packed), OF(packed), &answer->order); }
+static uint8_t contains_compiled(Answer *answer)
+{
+    return pep440_contains_compiled(OF(list), OF(longer), &answer->is, &answer->early);
+}
+static uint8_t contains_packed(Answer *answer)
+{
+    return pep440_contains_compiled(OF(packed_list), OF(packed), &answer->is, &answer->early);
+}
+static uint8_t contains_not_compiled(Answer *answer)
+{
+    return pep440_contains_compiled(OF(longer), OF(longer), &answer->is, &answer->early);
+}
+
 static const struct {
     const char *name;
     uint8_t (*call)(Answer *);
@@ -104,7 +138,26 @@ static const struct {
              {"filter", filter, PEP440_OK},
              {"sort", sort, PEP440_OK},
              {"sort, invalid", sort_invalid, PEP440_INVALID_VERSION},
-             {"sort_keys", sort_keys, PEP440_OK}};
+             {"sort_keys", sort_keys, PEP440_OK},
+             {"compile", compile, PEP440_OK},
+             {"compile, packed", compile_packed, PEP440_OK},
+             {"compile, invalid", compile_invalid, PEP440_INVALID_VERSION},
+             {"compile_list", compile_list, PEP440_OK},
+             {"compile_list, invalid", compile_no_list, PEP440_INVALID_LIST},
+             {"normalize_compiled", normalize_compiled, PEP440_OK},
+             {"normalize_compiled, other", normalize_not_compiled, PEP440_NOT_COMPILED},
+             {"normalize_list_compiled", normalize_list_compiled, PEP440_OK},
+             {"normalize_list_compiled, other", normalize_list_not_compiled, PEP440_NOT_COMPILED},
+             {"sort_key_compiled", sort_key_compiled, PEP440_OK},
+             {"compare_compiled", compare_compiled, PEP440_OK},
+             {"contains_compiled", contains_compiled, PEP440_OK},
+             {"contains_compiled, other", contains_not_compiled, PEP440_NOT_COMPILED}};
+
+/* Calls that allocate nothing. */
+static const struct {
+    const char *name;
+    uint8_t (*call)(Answer *);
+} WITHOUT[] = {{"compare_compiled, packed", compare_packed}, {"contains_compiled, packed", contains_packed}};
 
 /* Wrong results of this call; `failed` counts the allocations that failed. */
 static int sweep(uint8_t (*call)(Answer *), uint8_t wanted, int *failed)
@@ -129,13 +182,26 @@ static int sweep(uint8_t (*call)(Answer *), uint8_t wanted, int *failed)
     }
 }
 
+static int compile_all(void)
+{
+    return pep440_compile(TEXT("1.17"), packed.bytes, sizeof packed.bytes, &packed.length) ||
+           pep440_compile(TEXT(LONG), longer.bytes, sizeof longer.bytes, &longer.length) ||
+           pep440_compile_list(TEXT(MEMBERS), list.bytes, sizeof list.bytes, &list.length) ||
+           pep440_compile_list(TEXT(">=1.16, !=1.5.*, <2.0"), packed_list.bytes, sizeof packed_list.bytes, &packed_list.length);
+}
+
 int main(void)
 {
-    int all_failed = 0, all_wrong = 0;
+    int all_failed = 0, all_wrong = compile_all();
     for (size_t place = 0; place < sizeof CALLS / sizeof *CALLS; place++) {
         int failed = 0, wrong = sweep(CALLS[place].call, CALLS[place].wanted, &failed);
-        printf("%-24s %3d allocations failed in turn, %d wrong\n", CALLS[place].name, failed, wrong);
+        printf("%-32s %3d allocations failed in turn, %d wrong\n", CALLS[place].name, failed, wrong);
         all_failed += failed;
+        all_wrong += wrong;
+    }
+    for (size_t place = 0; place < sizeof WITHOUT / sizeof *WITHOUT; place++) {
+        int failed = 0, wrong = sweep(WITHOUT[place].call, PEP440_OK, &failed) + failed;
+        printf("%-32s %3d allocations failed in turn, %d wrong\n", WITHOUT[place].name, failed, wrong);
         all_wrong += wrong;
     }
     printf("%d allocations failed, %d wrong\n", all_failed, all_wrong);

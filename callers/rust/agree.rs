@@ -18,6 +18,7 @@ mod pep440 {
         InvalidList,
         OutOfMemory,
         NumberAtMax,
+        NotCompiled,
         NotPacked,
     }
 
@@ -94,6 +95,20 @@ mod pep440 {
         ) -> u8;
         fn pep440_compare(left: *const u8, left_length: usize, right: *const u8, right_length: usize, order: *mut i8) -> u8;
         fn pep440_contains(list: *const u8, list_length: usize, text: *const u8, length: usize, contained: *mut u8, prerelease: *mut u8) -> u8;
+        fn pep440_compile(text: *const u8, length: usize, out: *mut u8, room: usize, written: *mut usize) -> u8;
+        fn pep440_compile_list(list: *const u8, length: usize, out: *mut u8, room: usize, written: *mut usize) -> u8;
+        fn pep440_normalize_compiled(compiled: *const u8, length: usize, out: *mut u8, room: usize, written: *mut usize) -> u8;
+        fn pep440_normalize_list_compiled(compiled: *const u8, length: usize, out: *mut u8, room: usize, written: *mut usize) -> u8;
+        fn pep440_sort_key_compiled(compiled: *const u8, length: usize, out: *mut u8, room: usize, written: *mut usize) -> u8;
+        fn pep440_compare_compiled(left: *const u8, left_length: usize, right: *const u8, right_length: usize, order: *mut i8) -> u8;
+        fn pep440_contains_compiled(
+            list: *const u8,
+            list_length: usize,
+            compiled: *const u8,
+            length: usize,
+            contained: *mut u8,
+            prerelease: *mut u8,
+        ) -> u8;
         fn pep440_any_prerelease(list: *const u8, length: usize, any: *mut u8) -> u8;
         fn pep440_parts_of(text: *const u8, length: usize, parts: *mut Parts, release: *mut u64, room: usize) -> u8;
         fn pep440_filter(list: *const u8, list_length: usize, texts: *const Text, count: usize, marks: *mut u8, room: usize) -> u8;
@@ -119,12 +134,13 @@ mod pep440 {
             3 => Err(Error::OutOfMemory),
             4 => Ok(false),
             5 => Err(Error::NumberAtMax),
+            6 => Err(Error::NotCompiled),
             7 => Err(Error::NotPacked),
             _ => unreachable!("status {status}"),
         }
     }
 
-    fn written_by(call: Writes, text: &str) -> Result<Vec<u8>, Error> {
+    fn written_by(call: Writes, text: &[u8]) -> Result<Vec<u8>, Error> {
         let (mut out, mut written) = (vec![0; 64], 0);
         loop {
             // SAFETY: both slices lend as many bytes as are told, and a slice's pointer is never null.
@@ -142,27 +158,47 @@ mod pep440 {
     }
 
     pub fn normalize(text: &str) -> Result<String, Error> {
-        as_text(written_by(pep440_normalize, text))
+        as_text(written_by(pep440_normalize, text.as_bytes()))
     }
 
     pub fn normalize_list(list: &str) -> Result<String, Error> {
-        as_text(written_by(pep440_normalize_list, list))
+        as_text(written_by(pep440_normalize_list, list.as_bytes()))
     }
 
     pub fn version_error(text: &str) -> Result<String, Error> {
-        as_text(written_by(pep440_version_error, text))
+        as_text(written_by(pep440_version_error, text.as_bytes()))
     }
 
     pub fn list_error(list: &str) -> Result<String, Error> {
-        as_text(written_by(pep440_list_error, list))
+        as_text(written_by(pep440_list_error, list.as_bytes()))
     }
 
     pub fn ranges(list: &str) -> Result<String, Error> {
-        as_text(written_by(pep440_ranges, list))
+        as_text(written_by(pep440_ranges, list.as_bytes()))
     }
 
     pub fn sort_key(text: &str) -> Result<Vec<u8>, Error> {
-        written_by(pep440_sort_key, text)
+        written_by(pep440_sort_key, text.as_bytes())
+    }
+
+    pub fn compile(text: &str) -> Result<Vec<u8>, Error> {
+        written_by(pep440_compile, text.as_bytes())
+    }
+
+    pub fn compile_list(list: &str) -> Result<Vec<u8>, Error> {
+        written_by(pep440_compile_list, list.as_bytes())
+    }
+
+    pub fn normalize_compiled(compiled: &[u8]) -> Result<String, Error> {
+        as_text(written_by(pep440_normalize_compiled, compiled))
+    }
+
+    pub fn normalize_list_compiled(compiled: &[u8]) -> Result<String, Error> {
+        as_text(written_by(pep440_normalize_list_compiled, compiled))
+    }
+
+    pub fn sort_key_compiled(compiled: &[u8]) -> Result<Vec<u8>, Error> {
+        written_by(pep440_sort_key_compiled, compiled)
     }
 
     pub fn word(text: &str) -> Result<u64, Error> {
@@ -205,6 +241,12 @@ mod pep440 {
         Ok(order.cmp(&0))
     }
 
+    pub fn compare_compiled(left: &[u8], right: &[u8]) -> Result<Ordering, Error> {
+        let mut order = 0;
+        has_room(unsafe { pep440_compare_compiled(left.as_ptr(), left.len(), right.as_ptr(), right.len(), &mut order) })?;
+        Ok(order.cmp(&0))
+    }
+
     fn truth(number: u8) -> bool {
         assert!(number < 2, "a truth value is 0 or 1, not {number}");
         number == 1
@@ -214,6 +256,12 @@ mod pep440 {
     pub fn contains_and_early(list: &str, text: &str) -> Result<(bool, bool), Error> {
         let (mut contained, mut early) = (9, 9);
         has_room(unsafe { pep440_contains(list.as_ptr(), list.len(), text.as_ptr(), text.len(), &mut contained, &mut early) })?;
+        Ok((truth(contained), truth(early)))
+    }
+
+    pub fn contains_compiled(list: &[u8], compiled: &[u8]) -> Result<(bool, bool), Error> {
+        let (mut contained, mut early) = (9, 9);
+        has_room(unsafe { pep440_contains_compiled(list.as_ptr(), list.len(), compiled.as_ptr(), compiled.len(), &mut contained, &mut early) })?;
         Ok((truth(contained), truth(early)))
     }
 
@@ -366,6 +414,7 @@ fn same_readings(texts: &[String]) -> usize {
                 assert_eq!(pep440::parts_of(text), Err(Error::InvalidVersion));
                 assert_eq!(pep440::compare(text, "1"), Err(Error::InvalidVersion));
                 assert_eq!(pep440::contains(">=1", text), Err(Error::InvalidVersion));
+                assert_eq!(pep440::compile(text), Err(Error::InvalidVersion));
             }
         }
     }
@@ -411,6 +460,82 @@ fn same_words(versions: &[String]) -> usize {
     words.iter().flatten().count()
 }
 
+/// The compiled forms, over which each call returns what it returns of the strings.
+fn same_compiled(versions: &[String]) -> Vec<Vec<u8>> {
+    let compiled: Vec<Vec<u8>> = versions.iter().map(|text| pep440::compile(text).unwrap()).collect();
+    for (place, text) in versions.iter().enumerate() {
+        let bytes = &compiled[place];
+        assert_eq!(bytes.len() == 10, pep440::word(text).is_ok(), "{text}");
+        assert_eq!(pep440::normalize_compiled(bytes), pep440::normalize(text), "{text}");
+        assert_eq!(pep440::sort_key_compiled(bytes), pep440::sort_key(text), "{text}");
+        for step in [0, 1, 2, 1001] {
+            let other = (place + step) % versions.len();
+            assert_eq!(pep440::compare_compiled(bytes, &compiled[other]), pep440::compare(text, &versions[other]), "{text} {}", versions[other]);
+            assert_eq!(*bytes == compiled[other], pep440::normalize(text) == pep440::normalize(&versions[other]), "{text} {}", versions[other]);
+        }
+    }
+    compiled
+}
+
+/// Whether the bytes denote a version; else each call rejects them. Where they are not the compiled form of its normal form they denote
+/// another version, which no string denotes, as one with a sentinel.
+fn is_version(bytes: &[u8], list: &[u8]) -> bool {
+    let Ok(print) = pep440::normalize_compiled(bytes) else {
+        assert_eq!(pep440::normalize_compiled(bytes), Err(Error::NotCompiled), "{bytes:?}");
+        assert_eq!(pep440::sort_key_compiled(bytes), Err(Error::NotCompiled), "{bytes:?}");
+        assert_eq!(pep440::compare_compiled(bytes, bytes), Err(Error::NotCompiled), "{bytes:?}");
+        assert_eq!(pep440::contains_compiled(list, bytes), Err(Error::NotCompiled), "{bytes:?}");
+        return false;
+    };
+    match pep440::compile(&print) {
+        Ok(plain) if plain == bytes => {}
+        Ok(_) => assert_ne!(pep440::sort_key_compiled(bytes), pep440::sort_key(&print), "{print} {bytes:?}"),
+        Err(error) => assert_eq!(error, Error::InvalidVersion, "{print}"),
+    }
+    assert_eq!(pep440::compare_compiled(bytes, bytes), Ok(Ordering::Equal));
+    assert!(pep440::contains_compiled(list, bytes).is_ok());
+    true
+}
+
+/// Whether the bytes denote a list; else each call rejects them.
+fn is_list(bytes: &[u8], version: &[u8]) -> bool {
+    if let Err(error) = pep440::normalize_list_compiled(bytes) {
+        assert_eq!(error, Error::NotCompiled, "{bytes:?}");
+        assert_eq!(pep440::contains_compiled(bytes, version), Err(Error::NotCompiled), "{bytes:?}");
+        return false;
+    }
+    assert!(pep440::contains_compiled(bytes, version).is_ok());
+    true
+}
+
+/// Each change of one byte of the compiled forms, and bytes by chance: how many were tried, and how many denote something.
+fn same_changes(chance: &mut Chance, compiled: &[Vec<u8>], lists: &[Vec<u8>]) -> (usize, usize) {
+    let (mut tried, mut taken) = (0, 0);
+    let (version, list) = (compiled[0].clone(), lists[0].clone());
+    let mut ask = |bytes: &[u8]| {
+        tried += 2;
+        taken += usize::from(is_version(bytes, &list)) + usize::from(is_list(bytes, &version));
+    };
+    for bytes in compiled.iter().take(700).chain(lists.iter().take(300)) {
+        for place in 0..bytes.len() {
+            let mut changed = bytes.clone();
+            for value in [0, 1, 2, 3, 9, 127, 255, bytes[place].wrapping_add(1), bytes[place].wrapping_sub(1)] {
+                changed[place] = value;
+                ask(&changed);
+            }
+            ask(&bytes[..place]);
+        }
+    }
+    for _ in 0..200_000 {
+        let mut bytes: Vec<u8> = (0..chance.below(64)).map(|_| if chance.below(2) == 0 { 0 } else { chance.below(256) as u8 }).collect();
+        if let Some(format) = bytes.first_mut() {
+            *format = chance.below(5) as u8;
+        }
+        ask(&bytes);
+    }
+    (tried, taken)
+}
+
 fn same_errors(texts: &[String]) {
     let first = texts.iter().position(|text| pep440::normalize(text).is_err()).expect("some string is no version");
     assert_eq!(pep440::sort(texts), Err((Error::InvalidVersion, first)));
@@ -451,6 +576,7 @@ fn same_filters(chance: &mut Chance, texts: &[String]) -> usize {
                 assert_eq!(pep440::normalize_list(&list), Err(Error::InvalidList));
                 assert_eq!(pep440::specifiers_of(&list), Err(Error::InvalidList));
                 assert_eq!(pep440::contains(&list, "1"), Err(Error::InvalidList));
+                assert_eq!(pep440::compile_list(&list), Err(Error::InvalidList));
                 continue;
             }
         };
@@ -466,6 +592,9 @@ fn same_filters(chance: &mut Chance, texts: &[String]) -> usize {
             Ok(_) => same_intervals(&list, chunk),
             Err(error) => assert_eq!((error, pep440::range_keys(&list), pep440::cover_keys(&list)), (Error::NumberAtMax, Err(error), Err(error))),
         }
+        let compiled = pep440::compile_list(&list).unwrap();
+        assert_eq!(pep440::compile_list(&print).as_ref(), Ok(&compiled), "{list}");
+        assert_eq!(pep440::normalize_list_compiled(&compiled).as_ref(), Ok(&print), "{list}");
         let members: Vec<&str> = list.split(", ").filter(|member| !member.is_empty()).collect();
         for (text, mark) in chunk.iter().zip(&marks) {
             let wanted = match pep440::contains_and_early(&list, text) {
@@ -480,6 +609,8 @@ fn same_filters(chance: &mut Chance, texts: &[String]) -> usize {
             assert_eq!(*mark, wanted, "{list} {text}");
             if wanted != Mark::NotAVersion {
                 let parts = pep440::parts_of(text).unwrap().0;
+                let bytes = pep440::compile(text).unwrap();
+                assert_eq!(pep440::contains_compiled(&compiled, &bytes), pep440::contains_and_early(&list, text), "{list} {text}");
                 assert_eq!(pep440::contains_and_early(&list, text).unwrap().1, parts.pre_kind > 0 || parts.has_dev == 1, "{text}");
                 assert_eq!(members.iter().all(|member| pep440::contains(member, text).unwrap()), wanted != Mark::NoMatch, "{list} {text}");
             }
@@ -498,8 +629,11 @@ fn main() {
     let versions: Vec<String> = texts.iter().filter(|text| pep440::normalize(text).is_ok()).cloned().collect();
     same_orders(&versions);
     let packed = same_words(&versions);
+    let compiled = same_compiled(&versions);
     same_errors(&texts);
     let asked = same_filters(&mut chance, &texts);
+    let lists: Vec<Vec<u8>> = (0..1000).filter_map(|_| pep440::compile_list(&chance.list()).ok()).collect();
+    let (tried, taken) = same_changes(&mut chance, &compiled, &lists);
     let distinct: HashMap<Vec<u8>, &String> = pep440::sort_keys(&versions).unwrap().into_iter().zip(&versions).collect();
     assert_eq!(pep440::sort(&[]), Ok(vec![]));
     assert_eq!(pep440::compare("1.0", "1.0.0"), Ok(Ordering::Equal));
@@ -508,5 +642,6 @@ fn main() {
     assert_eq!(pep440::range_keys(">1,<1"), Ok(vec![]));
     assert_eq!(pep440::ranges("==18446744073709551615.*"), Err(Error::NumberAtMax));
     assert_eq!(pep440::ranges("=1.0"), Err(Error::InvalidList));
+    println!("{tried} readings of changed and random bytes: {taken} denote a version or a list, and these print as it; the others are rejected by each call");
     println!("{count} texts: {found} versions ({} distinct, {packed} with a word), {} invalid, {asked} asked of lists; both routes agree", distinct.len(), count - found);
 }

@@ -5,3 +5,4 @@ pub mod Once
 pub mod Words
 pub mod Keyed
 pub mod Membership
+pub mod Agreeing

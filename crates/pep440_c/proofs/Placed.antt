@@ -14,7 +14,7 @@ use Rattle.pep440_c.specs.Batches.{ArrangesPlaces, IsMark, MeansKeys, MeansPlace
 use Rattle.pep440_c.specs.Joined.{Joins}
 use Rattle.pep440_c.specs.Statuses.{Faults}
 use Rattle.pep440_c.specs.declared.texts.Fault.{Fault}
-use Rattle.pep440_c.specs.declared.texts.Fault.TheVariants.{InvalidVersion, InvalidList, NumberAtMax, OutOfMemory}
+use Rattle.pep440_c.specs.declared.texts.Fault.TheVariants.{InvalidVersion, InvalidList, NotCompiled, NumberAtMax, OutOfMemory}
 use Rattle.pep440_c.specs.declared.batch.BatchError.{BatchError}
 use Rattle.pep440_c.specs.Meaning.{MeansBytes, RefusesBytes}
 
@@ -91,6 +91,7 @@ stops_at texts i x InvalidVersion s versions inside is why all = subst (λ (t : 
     (refused_first texts i (get_or texts i x) versions inside (get_or_default texts i x (get_or texts i x) inside) why all)
 stops_at texts i x InvalidList s versions inside is why all = absurd why
 stops_at texts i x NumberAtMax s versions inside is why all = absurd why
+stops_at texts i x NotCompiled s versions inside is why all = absurd why
 stops_at texts i x OutOfMemory s versions inside is why all = subst (λ (t : BatchError). StopsAll (map (λ (y : Bor (List ℕ)). y.now) texts) t) (sym is) tt
 
 -- one more mark

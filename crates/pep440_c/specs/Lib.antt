@@ -4,4 +4,5 @@ pub mod Joined
 pub mod Answers
 pub mod Intervals
 pub mod Batches
+pub mod Compiled
 pub mod Room

@@ -1,6 +1,8 @@
 -- How a call ends: its status, and what it leaves in the caller's memory. 0 ok, 1 a version is invalid, 2 a list is invalid, 3 out of
--- memory, 4 too little room, 5 a bound lies above the greatest number, 7 a version is not packed.
+-- memory, 4 too little room, 5 a bound lies above the greatest number, 6 bytes are not compiled, 7 a version is not packed.
 use Rattle.std.specs.Prelude.{◌≡◌, ◌⊎◌, ◌≤◌, ◌<◌, ℕ, Bool, List, ◌++◌, drop, length, Result, Ok, Err, if◌then◌else◌}
+use Rattle.pep440_compiled.specs.declared.version.CompiledError.{CompiledError}
+use Rattle.pep440_compiled.specs.declared.version.CompiledError.TheVariants as compiled
 use Rattle.pep440_c.specs.declared.texts.Fault.{Fault}
 use Rattle.pep440_c.specs.declared.texts.Fault.TheVariants as fault
 
@@ -10,6 +12,12 @@ fault_status fault.InvalidVersion = 1
 fault_status fault.InvalidList = 2
 fault_status fault.OutOfMemory = 3
 fault_status fault.NumberAtMax = 5
+fault_status fault.NotCompiled = 6
+
+-- why a call over compiled bytes gives nothing
+abbrev pub fault_of_compiled : CompiledError → Fault
+fault_of_compiled compiled.NotCompiled = fault.NotCompiled
+fault_of_compiled compiled.OutOfMemory = fault.OutOfMemory
 
 -- a truth value as the number that C gets, 0 or 1 and no other
 abbrev pub flag : Bool → ℕ
@@ -26,6 +34,7 @@ module _ (version list range : Type 0) where
   Faults fault.InvalidList = list
   Faults fault.OutOfMemory = Unit {0}
   Faults fault.NumberAtMax = range
+  Faults fault.NotCompiled = ⊥
 
   -- what holds of what is given, or why nothing is
   abbrev pub Gives : {X : Type 0} → (X → Type 0) → Result X Fault → Type 0
@@ -39,6 +48,28 @@ module _ (version list range : Type 0) where
   -- a value of which this holds is put in the place of the caller's, or that stays
   abbrev pub Puts : {X : Type 0} → (X → Type 0) → X → X → ℕ → Type 0
   Puts P old new status = ((status ≡ 0) × P new) ⊎ ((new ≡ old) × Fails status)
+
+module _ (unread range : Type 0) where
+  -- why nothing is given of compiled bytes, where memory didn't run out: they denote no version or no list, or the list has no range
+  abbrev pub CompiledFaults : Fault → Type 0
+  CompiledFaults fault.InvalidVersion = ⊥
+  CompiledFaults fault.InvalidList = ⊥
+  CompiledFaults fault.OutOfMemory = Unit {0}
+  CompiledFaults fault.NumberAtMax = range
+  CompiledFaults fault.NotCompiled = unread
+
+  -- what holds of what is given, or why nothing is
+  abbrev pub GivesCompiled : {X : Type 0} → (X → Type 0) → Result X Fault → Type 0
+  GivesCompiled P (Ok x) = P x
+  GivesCompiled P (Err f) = CompiledFaults f
+
+  -- the status says why nothing is given
+  abbrev pub FailsCompiled : ℕ → Type 0
+  FailsCompiled status = (f : Fault) × CompiledFaults f × (status ≡ fault_status f)
+
+  -- a value of which this holds is put in the place of the caller's, or that stays
+  abbrev pub PutsCompiled : {X : Type 0} → (X → Type 0) → X → X → ℕ → Type 0
+  PutsCompiled P old new status = ((status ≡ 0) × P new) ⊎ ((new ≡ old) × FailsCompiled status)
 
 -- the items are written at the start of the caller's buffer, whose rest is unchanged; or it is too small, and unchanged
 abbrev pub PutsFront : {X : Type 0} → List X → List X → List X → ℕ → Type 0
@@ -58,3 +89,9 @@ abbrev pub PutsBytes : Type 0 → Type 0 → Type 0 → (List ℕ → Type 0) �
 PutsBytes version list range P old new old_written written status =
     ((bytes : List ℕ) × P bytes × (written ≡ length bytes) × PutsFront bytes old new status)
     ⊎ ((new ≡ old) × (written ≡ old_written) × Fails version list range status)
+
+-- so bytes that are found of compiled ones
+abbrev pub PutsCompiledBytes : Type 0 → Type 0 → (List ℕ → Type 0) → List ℕ → List ℕ → ℕ → ℕ → ℕ → Type 0
+PutsCompiledBytes unread range P old new old_written written status =
+    ((bytes : List ℕ) × P bytes × (written ≡ length bytes) × PutsFront bytes old new status)
+    ⊎ ((new ≡ old) × (written ≡ old_written) × FailsCompiled unread range status)

@@ -53,9 +53,8 @@ impl BatchError {
         ensures { result ≡ stop_at position fault }
     {
         match fault {
-            Fault::InvalidVersion | Fault::InvalidList | Fault::NumberAtMax => {
-                BatchError::InvalidAt(position)
-            }
+            Fault::InvalidVersion | Fault::InvalidList | Fault::NumberAtMax | Fault::NotCompiled =>
+                BatchError::InvalidAt(position),
             Fault::OutOfMemory => BatchError::OutOfMemory,
         }
     }

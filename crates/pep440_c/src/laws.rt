@@ -1,5 +1,5 @@
 //! What holds of the bytes of a caller, as contracts of functions that do nothing.
-ghost use Rattle.std.specs.Prelude.{◌≡◌, ◌⊎◌, ℕ, List, true};
+ghost use Rattle.std.specs.Prelude.{◌≡◌, ◌⊎◌, ◌↔◌, ℕ, ℤ, Bool, List, true};
 ghost use Rattle.std.specs.List.{list_any};
 ghost use Rattle.pep440_range_keys.specs.RangeKeys.{is_within, segment_interval};
 ghost use Rattle.pep440_ranges.specs.Segments.{contains};
@@ -11,7 +11,8 @@ ghost use Rattle.pep440_version.specs.Record.{Record};
 ghost use Rattle.pep440_version.specs.Key.{record_cmp};
 ghost use Rattle.std.specs.Ordering.{nat_cmp};
 ghost use Rattle.std.specs.Prelude.{Some};
-ghost use Rattle.pep440_c.specs.Answers.{Contains, HasNoRange, IsRangeText, TellsWord};
+ghost use Rattle.pep440_c.specs.Answers.{Contains, HasNoRange, IsKey, IsNormal, IsNormalList, IsOrder, IsPrerelease, IsRangeText, TellsWord};
+ghost use Rattle.pep440_c.specs.Compiled.{CompiledContains, CompiledKey, CompiledNormal, CompiledNormalList, CompiledOrder, CompiledPrerelease, DenotesNoList, DenotesNoVersion, IsCompiled, IsCompiledList};
 ghost use Rattle.pep440_c.specs.Intervals.{HasRange};
 ghost use Rattle.pep440_c.specs.Meaning.{MeansBytes, MeansListBytes, RefusesBytes, RefusesListBytes, TellsWhy, TellsWhyNoList};
 
@@ -51,4 +52,25 @@ pub fn words_are_ordered()
 pub fn keys_tell_membership()
     ensures range { (list text : List ℕ) (range : Segments) (r : Record) → HasRange range_of list range → MeansBytes text r → list_any (λ s. is_within (segment_interval s) (key_bytes r)) range ≡ contains record_cmp range r }
     ensures cover { (list text : List ℕ) (cover : Segments) (r : Record) → HasRange cover_of list cover → MeansBytes text r → Contains list text true → list_any (λ s. is_within (segment_interval s) (key_bytes r)) cover ≡ true }
+{}
+
+/// A string has one compiled form, which is never rejected; two strings have the same exactly where they denote the same
+/// version, all its parts, or the same list.
+pub fn compiled_once()
+    ensures one { (text a b : List ℕ) → IsCompiled text a → IsCompiled text b → a ≡ b }
+    ensures same { (s t a b : List ℕ) (r q : Record) → IsCompiled s a → IsCompiled t b → MeansBytes s r → MeansBytes t q → (a ≡ b) ↔ (r ≡ q) }
+    ensures taken { (text compiled : List ℕ) → IsCompiled text compiled → DenotesNoVersion compiled → ⊥ }
+    ensures one_list { (text a b : List ℕ) → IsCompiledList text a → IsCompiledList text b → a ≡ b }
+    ensures same_list { (s t a b : List ℕ) (l m : List Spec) → IsCompiledList s a → IsCompiledList t b → MeansListBytes s l → MeansListBytes t m → (a ≡ b) ↔ (l ≡ m) }
+    ensures taken_list { (text compiled : List ℕ) → IsCompiledList text compiled → DenotesNoList compiled → ⊥ }
+{}
+
+/// What a call finds of compiled bytes is what its call on strings finds of those that were compiled.
+pub fn compiled_calls_agree()
+    ensures normal { (text compiled bytes : List ℕ) → IsCompiled text compiled → CompiledNormal compiled bytes ↔ IsNormal text bytes }
+    ensures normal_list { (text compiled bytes : List ℕ) → IsCompiledList text compiled → CompiledNormalList compiled bytes ↔ IsNormalList text bytes }
+    ensures key { (text compiled bytes : List ℕ) → IsCompiled text compiled → CompiledKey compiled bytes ↔ IsKey text bytes }
+    ensures order { (left right a b : List ℕ) (number : ℤ) → IsCompiled left a → IsCompiled right b → CompiledOrder a b number ↔ IsOrder left right number }
+    ensures contains { (list text a b : List ℕ) (contained : Bool) → IsCompiledList list a → IsCompiled text b → CompiledContains a b contained ↔ Contains list text contained }
+    ensures prerelease { (text compiled : List ℕ) (early : Bool) → IsCompiled text compiled → CompiledPrerelease compiled early ↔ IsPrerelease text early }
 {}

@@ -2,7 +2,7 @@
 //!
 //! A string is bytes and how many there are. No call keeps a pointer, and none has a condition beyond its types. Each returns a status: 0
 //! ok, 1 a version is invalid, 2 a list is invalid, 3 out of memory, 4 too little room, 5 a bound of a range lies above the greatest number,
-//! 7 a version is not packed.
+//! 6 bytes that are passed as compiled are not, 7 a version is not packed.
 //! The header is `callers/c/pep440.h`.
 //!
 //! A call may allocate from `malloc`, and frees what it allocated before it returns. Where `malloc` fails it returns 3, and may be made
@@ -21,6 +21,8 @@ ghost use Rattle.pep440_c.specs.Statuses.{IsFlagOf, Puts, PutsBytes};
 
 mod batch;
 mod buffer;
+mod compiled;
+mod compiled_forms;
 mod intervals;
 mod joined;
 pub mod laws;
@@ -113,8 +115,8 @@ pub extern "C" fn pep440_list_error(
     put_text(texts::explain_list(alloc, list), out, written)
 }
 
-// The number that stands for an order.
-fn order_number(order: Ordering) -> i8
+/// The number that stands for an order.
+pub(crate) fn order_number(order: Ordering) -> i8
     ensures { result ≡ order_number order }
 {
     match order {

@@ -31,6 +31,8 @@ pub(crate) enum Fault {
     OutOfMemory,
     /// A bound of a range would need a number above the greatest.
     NumberAtMax,
+    /// Bytes denote no version or no list.
+    NotCompiled,
 }
 
 impl Fault {
@@ -43,6 +45,7 @@ impl Fault {
             Fault::InvalidList => 2,
             Fault::OutOfMemory => 3,
             Fault::NumberAtMax => 5,
+            Fault::NotCompiled => 6,
         }
     }
 }

@@ -1,0 +1,64 @@
+-- What each call returns that makes compiled bytes, or takes them.
+use Rattle.std.specs.Prelude.{◌≡◌, ◌⊎◌, ℕ, ℤ, List, Bool}
+use Rattle.pep440_compiled.specs.Lists.{DenotesList}
+use Rattle.pep440_compiled.specs.Version.{DenotesVersion}
+use Rattle.pep440_rs.specs.Lists.{list_print}
+use Rattle.pep440_rs.specs.Matching.{any_prerelease, list_matches}
+use Rattle.pep440_rs.specs.Specifiers.{Spec}
+use Rattle.pep440_sort_key.specs.Keys.{key_bytes}
+use Rattle.pep440_version.specs.Key.{record_cmp}
+use Rattle.pep440_version.specs.Print.{print}
+use Rattle.pep440_version.specs.Record.{Record}
+use Rattle.pep440_c.specs.Answers.{order_number}
+use Rattle.pep440_c.specs.Meaning.{MeansBytes, MeansListBytes}
+use Rattle.pep440_c.specs.Statuses.{FailsCompiled, IsFlagOf}
+
+-- ---- made of strings
+
+-- the compiled form of the version that the string denotes
+abbrev pub IsCompiled : List ℕ → List ℕ → Type 0
+IsCompiled text bytes = (r : Record) × MeansBytes text r × DenotesVersion bytes r
+
+-- the compiled form of the list that the string denotes
+abbrev pub IsCompiledList : List ℕ → List ℕ → Type 0
+IsCompiledList text bytes = (list : List Spec) × MeansListBytes text list × DenotesList bytes list
+
+-- ---- compiled bytes
+
+-- the bytes are no compiled version
+abbrev pub DenotesNoVersion : List ℕ → Type 0
+DenotesNoVersion bytes = (r : Record) → DenotesVersion bytes r → ⊥
+
+-- the bytes are no compiled list
+abbrev pub DenotesNoList : List ℕ → Type 0
+DenotesNoList bytes = (list : List Spec) → DenotesList bytes list → ⊥
+
+-- the normal form of the version
+abbrev pub CompiledNormal : List ℕ → List ℕ → Type 0
+CompiledNormal compiled bytes = (r : Record) × DenotesVersion compiled r × (bytes ≡ print r)
+
+-- the normal form of the list
+abbrev pub CompiledNormalList : List ℕ → List ℕ → Type 0
+CompiledNormalList compiled bytes = (list : List Spec) × DenotesList compiled list × (bytes ≡ list_print list)
+
+-- the sort key of the version
+abbrev pub CompiledKey : List ℕ → List ℕ → Type 0
+CompiledKey compiled bytes = (r : Record) × DenotesVersion compiled r × (bytes ≡ key_bytes r)
+
+-- the number that says how the left version compares with the right one
+abbrev pub CompiledOrder : List ℕ → List ℕ → ℤ → Type 0
+CompiledOrder left right number = (r q : Record) × DenotesVersion left r × DenotesVersion right q × (number ≡ order_number (record_cmp r q))
+
+-- whether the list contains the version
+abbrev pub CompiledContains : List ℕ → List ℕ → Bool → Type 0
+CompiledContains compiled_list compiled contained = (list : List Spec) × (r : Record) × DenotesList compiled_list list × DenotesVersion compiled r × (contained ≡ list_matches list r)
+
+-- whether the version is a pre-release or a developmental release
+abbrev pub CompiledPrerelease : List ℕ → Bool → Type 0
+CompiledPrerelease compiled early = (r : Record) × DenotesVersion compiled r × (early ≡ any_prerelease r)
+
+-- both truth values are written, or both numbers stay
+abbrev pub CompiledContainsAnswer : List ℕ → List ℕ → ℕ → ℕ → ℕ → ℕ → ℕ → Type 0
+CompiledContainsAnswer compiled_list compiled old contained old_prerelease prerelease status =
+    ((status ≡ 0) × IsFlagOf (CompiledContains compiled_list compiled) contained × IsFlagOf (CompiledPrerelease compiled) prerelease)
+    ⊎ ((contained ≡ old) × (prerelease ≡ old_prerelease) × FailsCompiled (DenotesNoList compiled_list ⊎ DenotesNoVersion compiled) ⊥ status)

@@ -1,0 +1,130 @@
+//! The calls over compiled versions and lists: bytes made once of a string, which these calls take in its place. No call but
+//! the first two parses a string.
+ghost use Rattle.std.specs.Prelude.{◌≡◌, ◌⊎◌, List};
+ghost use Rattle.std.specs.List.{All};
+ghost use Rattle.pep440_compiled.specs.Format.{DenotesPacked};
+ghost use Rattle.pep440_compiled.specs.Lists.{DenotesList, IsPackedMember};
+ghost use Rattle.pep440_rs.specs.Specifiers.{Spec};
+ghost use Rattle.pep440_version.specs.Record.{Record};
+ghost use Rattle.pep440_c.specs.Compiled.{CompiledContainsAnswer, CompiledKey, CompiledNormal, CompiledNormalList, CompiledOrder, DenotesNoList, DenotesNoVersion, IsCompiled, IsCompiledList};
+ghost use Rattle.pep440_c.specs.Meaning.{RefusesBytes, RefusesListBytes};
+ghost use Rattle.pep440_c.specs.Statuses.{PutsBytes, PutsCompiled, PutsCompiledBytes};
+
+use crate::buffer::{OK, flag, put_bytes, put_text};
+use crate::{compiled_forms, order_number};
+use std::alloc::Global;
+
+/// Writes the compiled form of the version.
+#[unsafe(no_mangle)]
+pub extern "C" fn pep440_compile(
+    alloc: Global,
+    text: &[u8],
+    out: &mut [u8],
+    written: &mut usize,
+) -> u8
+    ensures { PutsBytes (RefusesBytes text.now) ⊥ ⊥ (IsCompiled text.now) out.old out.new written.old written.new result }
+{
+    put_bytes(compiled_forms::compile(alloc, text), out, written)
+}
+
+/// Writes the compiled form of the list.
+#[unsafe(no_mangle)]
+pub extern "C" fn pep440_compile_list(
+    alloc: Global,
+    list: &[u8],
+    out: &mut [u8],
+    written: &mut usize,
+) -> u8
+    ensures { PutsBytes ⊥ (RefusesListBytes list.now) ⊥ (IsCompiledList list.now) out.old out.new written.old written.new result }
+{
+    put_bytes(compiled_forms::compile_list(alloc, list), out, written)
+}
+
+/// Writes the normal form of the compiled version (PEP 440, "Normalization"). Status 6 where the bytes denote none; so in
+/// each call below.
+#[unsafe(no_mangle)]
+pub extern "C" fn pep440_normalize_compiled(
+    alloc: Global,
+    compiled: &[u8],
+    out: &mut [u8],
+    written: &mut usize,
+) -> u8
+    ensures { PutsCompiledBytes (DenotesNoVersion compiled.now) ⊥ (CompiledNormal compiled.now) out.old out.new written.old written.new result }
+{
+    put_text(compiled_forms::normalize(alloc, compiled), out, written)
+}
+
+/// Writes the normal form of the compiled list.
+#[unsafe(no_mangle)]
+pub extern "C" fn pep440_normalize_list_compiled(
+    alloc: Global,
+    compiled: &[u8],
+    out: &mut [u8],
+    written: &mut usize,
+) -> u8
+    ensures { PutsCompiledBytes (DenotesNoList compiled.now) ⊥ (CompiledNormalList compiled.now) out.old out.new written.old written.new result }
+{
+    put_text(
+        compiled_forms::normalize_list(alloc, compiled),
+        out,
+        written,
+    )
+}
+
+/// Writes the sort key of the compiled version, as `pep440_sort_key`.
+#[unsafe(no_mangle)]
+pub extern "C" fn pep440_sort_key_compiled(
+    alloc: Global,
+    compiled: &[u8],
+    out: &mut [u8],
+    written: &mut usize,
+) -> u8
+    ensures { PutsCompiledBytes (DenotesNoVersion compiled.now) ⊥ (CompiledKey compiled.now) out.old out.new written.old written.new result }
+{
+    put_bytes(compiled_forms::make_key(alloc, compiled), out, written)
+}
+
+/// How the left compiled version compares with the right one: -1 below, 0 equal, 1 above (PEP 440, "Summary of permitted
+/// suffixes and relative ordering"). Allocates nothing where both are packed.
+#[unsafe(no_mangle)]
+pub extern "C" fn pep440_compare_compiled(
+    alloc: Global,
+    left: &[u8],
+    right: &[u8],
+    order: &mut i8,
+) -> u8
+    ensures found { PutsCompiled (DenotesNoVersion left.now ⊎ DenotesNoVersion right.now) ⊥ (CompiledOrder left.now right.now) order.old order.new result }
+    ensures memory { (r q : Record) → DenotesPacked left.now r → DenotesPacked right.now q → result ≡ 0 }
+{
+    match compiled_forms::compare(alloc, left, right) {
+        Ok(found) => {
+            *order = order_number(found);
+            OK
+        }
+        Err(fault) => fault.status(),
+    }
+}
+
+/// Whether the compiled list contains the compiled version, 1 or 0 (PEP 440, "Version specifiers"); and whether the version
+/// is a pre-release or a developmental release, 1 or 0 (PEP 440, "Handling of pre-releases"). Allocates nothing where the
+/// version and those of the list are packed and no operator is `===`.
+#[unsafe(no_mangle)]
+pub extern "C" fn pep440_contains_compiled(
+    alloc: Global,
+    list: &[u8],
+    compiled: &[u8],
+    contained: &mut u8,
+    prerelease: &mut u8,
+) -> u8
+    ensures found { CompiledContainsAnswer list.now compiled.now contained.old contained.new prerelease.old prerelease.new result }
+    ensures memory { (l : List Spec) (r : Record) → DenotesList list.now l → DenotesPacked compiled.now r → All IsPackedMember l → result ≡ 0 }
+{
+    match compiled_forms::contains(alloc, list, compiled) {
+        Ok((found, is_early)) => {
+            *contained = flag(found);
+            *prerelease = flag(is_early);
+            OK
+        }
+        Err(fault) => fault.status(),
+    }
+}
