@@ -63,19 +63,11 @@ impl Packed {
 
     /// The packed version of these parts; None where they are not packed.
     pub(crate) fn from_parts(parts: &Parts) -> Option<Packed> {
-        let count = Count::from_number(parts.release.len())?;
         if parts.epoch != 0 || !parts.local.is_empty() {
             return None;
         }
-        let (class, number) = suffix(parts)?;
-        let mut word = class << NUMBER_BITS | number;
-        for (place, value) in parts.release.iter().enumerate() {
-            if *value > LIMITS[place] {
-                return None;
-            }
-            word |= value << SHIFTS[place];
-        }
-        Some(Packed::from_word(count, word))
+        let suffixes = Suffixes { pre: parts.pre, post: parts.post, dev: parts.dev, min: parts.min, max: parts.max };
+        Some(Packed::from_word(Count::from_number(parts.release.len())?, word(&parts.release, suffixes)?))
     }
 
     pub(crate) fn to_parts(self) -> Parts {
@@ -152,16 +144,39 @@ impl Packed {
     }
 }
 
+/// What may follow a release.
+#[derive(Clone, Copy)]
+pub(crate) struct Suffixes {
+    pub(crate) pre: Option<Prerelease>,
+    pub(crate) post: Option<u64>,
+    pub(crate) dev: Option<u64>,
+    pub(crate) min: Option<u64>,
+    pub(crate) max: Option<u64>,
+}
+
+/// The word of a release of at most four numbers; None where a number is too big, or there is more than one suffix.
+pub(crate) fn word(release: &[u64], suffixes: Suffixes) -> Option<u64> {
+    let (class, number) = one_suffix(suffixes)?;
+    let mut word = class << NUMBER_BITS | number;
+    for ((value, limit), shift) in release.iter().zip(LIMITS).zip(SHIFTS) {
+        if *value > limit {
+            return None;
+        }
+        word |= value << shift;
+    }
+    Some(word)
+}
+
 /// The class and the number of the one suffix; None where there are more, or its number is too big.
-fn suffix(parts: &Parts) -> Option<(u64, u64)> {
-    let pre = parts.pre.map(|pre| match pre.kind {
+fn one_suffix(suffixes: Suffixes) -> Option<(u64, u64)> {
+    let pre = suffixes.pre.map(|pre| match pre.kind {
         PrereleaseKind::Alpha => (CLASS_ALPHA, pre.number),
         PrereleaseKind::Beta => (CLASS_BETA, pre.number),
         PrereleaseKind::Rc => (CLASS_RC, pre.number),
     });
     let with = |class: u64, number: Option<u64>| number.map(|number| (class, number));
-    let candidates =
-        [pre, with(CLASS_MIN, parts.min), with(CLASS_DEV, parts.dev), with(CLASS_POST, parts.post), with(CLASS_MAX, parts.max)];
+    let Suffixes { post, dev, min, max, .. } = suffixes;
+    let candidates = [pre, with(CLASS_MIN, min), with(CLASS_DEV, dev), with(CLASS_POST, post), with(CLASS_MAX, max)];
     let mut found = candidates.into_iter().flatten();
     match (found.next(), found.next()) {
         (None, _) => Some((CLASS_FINAL, 0)),

@@ -1,7 +1,7 @@
 //! The parts of a version, and versions that are not packed.
 use crate::bytes;
 use crate::calls;
-use crate::packed::Packed;
+use crate::packed::{self, Suffixes};
 use crate::{LocalSegment, Prerelease};
 use std::sync::OnceLock;
 
@@ -23,21 +23,21 @@ impl Parts {
         Parts { epoch: 0, release, pre: None, post: None, dev: None, min: None, max: None, local: Vec::new() }
     }
 
-    /// The word of a packed version that is equal to this one, if there is any: without zeros behind the fourth release
-    /// number, and without what a sentinel hides.
+    /// The word of a packed version that is equal to this one, which is not packed, if there is any: without zeros behind the
+    /// fourth release number, and without what a sentinel hides.
     fn equal_word(&self) -> Option<u64> {
-        if self.epoch != 0 || !self.local.is_empty() || self.release.iter().skip(4).any(|number| *number != 0) {
+        let (front, zeros) = self.release.split_at(self.release.len().min(4));
+        let has_sentinel = self.min.is_some() || self.max.is_some();
+        if zeros.is_empty() && !has_sentinel
+            || self.epoch != 0
+            || !self.local.is_empty()
+            || zeros.iter().any(|number| *number != 0)
+        {
             return None;
         }
-        let mut shorter = self.clone();
-        shorter.release.truncate(4);
-        if self.min.is_some() {
-            (shorter.pre, shorter.dev) = (None, None);
-        }
-        if self.max.is_some() {
-            shorter.post = None;
-        }
-        Packed::from_parts(&shorter).map(|packed| packed.word())
+        let (pre, dev) = if self.min.is_some() { (None, None) } else { (self.pre, self.dev) };
+        let post = if self.max.is_some() { None } else { self.post };
+        packed::word(front, Suffixes { pre, post, dev, min: self.min, max: self.max })
     }
 }
 
