@@ -194,7 +194,7 @@ impl Chance {
     }
 
     fn segments(&mut self) -> Vec<Result<u64, String>> {
-        let strings = ["a", "ubuntu", "UPPER", "1.2", "", "é"];
+        let strings = ["a", "ubuntu", "UPPER", "1.2", "", "é", "\0", "a\0", "a\0b"];
         (0..self.below(3))
             .map(|_| if self.one_in(2) { Ok(self.number()) } else { Err(self.one_of(&strings).to_owned()) })
             .collect()

@@ -107,8 +107,7 @@ fn ordered(chance: &mut Chance) -> Option<Case> {
     if chance.one_in(3) {
         // The same version in another spelling, or one change away.
         let changes = if chance.one_in(2) { vec![chance.change()] } else { Vec::new() };
-        let release: Vec<u64> =
-            left.release().iter().copied().chain(std::iter::repeat(0).take(chance.below(4) as usize)).collect();
+        let release: Vec<u64> = left.release().iter().copied().chain(std::iter::repeat_n(0, chance.below(4) as usize)).collect();
         right = ours::changed(left.clone().with_release(&release), &changes);
         right_theirs = theirs::changed(left_theirs.clone().with_release(&release), &changes);
     }

@@ -63,6 +63,11 @@ impl Unpacked {
         Unpacked { parts, compiled, equal_word, key: OnceLock::new() }
     }
 
+    /// Whether the sort key orders the version. A zero byte ends a string in a key, and no parsed version has one in a string.
+    pub(crate) fn is_ordered_by_key(&self) -> bool {
+        !self.parts.local.iter().any(|segment| matches!(segment, LocalSegment::String(text) if text.contains('\0')))
+    }
+
     /// The sort key, made by the library when it is first asked for.
     pub(crate) fn key(&self) -> &[u8] {
         self.key.get_or_init(|| calls::sort_key(&self.compiled, |key| key.into()))

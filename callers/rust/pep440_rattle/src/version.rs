@@ -312,9 +312,12 @@ impl Version {
         })
     }
 
+    /// By stored sort keys where both have one that orders them.
     fn cmp_by_library(&self, other: &Version) -> Ordering {
         match (&self.form, &other.form) {
-            (Form::Unpacked(left), Form::Unpacked(right)) => left.key().cmp(right.key()),
+            (Form::Unpacked(left), Form::Unpacked(right)) if left.is_ordered_by_key() && right.is_ordered_by_key() => {
+                left.key().cmp(right.key())
+            }
             _ => self.with_compiled(|left| other.with_compiled(|right| calls::compare(left, right))),
         }
     }

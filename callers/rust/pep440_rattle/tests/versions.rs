@@ -168,6 +168,18 @@ fn setters() {
     assert!(release.clone().with_min(Some(0)) < version("1.2.3.dev0") && release.with_min(Some(0)) > version("1.2.2.9"));
 }
 
+/// Local strings that no parsed version has.
+#[test]
+fn strings_with_zero_bytes() {
+    let with = |text: &str| Version::new([1]).with_local(vec![LocalSegment::String(text.to_owned()), LocalSegment::Number(1)]);
+    let ascending = ["", "\0", "\0\0", "a", "a\0", "a\0\u{1}", "a\0b", "a\u{1}", "b"].map(with);
+    for (left, low) in ascending.iter().enumerate() {
+        for (right, high) in ascending.iter().enumerate() {
+            assert_eq!((low.cmp(high), low == high), (left.cmp(&right), left == right), "{low:?} {high:?}");
+        }
+    }
+}
+
 #[test]
 fn panics() {
     let fails = |call: fn() -> Version| assert!(std::panic::catch_unwind(call).is_err());
