@@ -48,7 +48,9 @@ static void compiled(void)
 {
     uint8_t out[128], is, early;
     int8_t order;
-    size_t written;
+    size_t written, count;
+    uint64_t release[4];
+    pep440_parts parts;
     hold(pep440_compile(NONE, out, sizeof out, &written) == PEP440_INVALID_VERSION, "compile");
     hold(pep440_compile_list(NONE, out, sizeof out, &written) == PEP440_OK && written == 9, "compile_list");
     hold(pep440_normalize_compiled(NONE, out, sizeof out, &written) == PEP440_NOT_COMPILED, "normalize_compiled");
@@ -56,6 +58,9 @@ static void compiled(void)
     hold(pep440_sort_key_compiled(NONE, out, sizeof out, &written) == PEP440_NOT_COMPILED, "sort_key_compiled");
     hold(pep440_compare_compiled(NONE, NONE, &order) == PEP440_NOT_COMPILED, "compare_compiled");
     hold(pep440_contains_compiled(NONE, NONE, &is, &early) == PEP440_NOT_COMPILED, "contains_compiled");
+    hold(pep440_parts_of_compiled(NONE, &parts, release, 4) == PEP440_NOT_COMPILED, "parts_of_compiled");
+    hold(pep440_range_keys_compiled(NONE, NONE, NONE, &written, &count) == PEP440_NOT_COMPILED, "range_keys_compiled");
+    hold(pep440_cover_keys_compiled(NONE, NONE, NONE, &written, &count) == PEP440_NOT_COMPILED, "cover_keys_compiled");
 }
 
 static void buffers(void)
@@ -75,6 +80,9 @@ static void batches(void)
     size_t indices[1], ends[1], written, index;
     hold(pep440_filter(EMPTY, NONE, NONE) == PEP440_OK, "filter of none");
     hold(pep440_sort(NONE, NONE, &index) == PEP440_OK, "sort of none");
+    hold(pep440_sort_compiled(NONE, NONE, &index) == PEP440_OK, "sort_compiled of none");
+    hold(pep440_sort_compiled(one, 1, indices, 1, &index) == PEP440_NOT_COMPILED && index == 0, "sort_compiled of null");
+    hold(pep440_filter_compiled(NONE, NONE, NONE) == PEP440_NOT_COMPILED, "filter_compiled, list");
     hold(pep440_sort_keys(NONE, NONE, NONE, &written, &index) == PEP440_OK && written == 0, "sort_keys of none");
     hold(pep440_filter(EMPTY, one, 1, marks, 1) == PEP440_OK && marks[0] == PEP440_NOT_A_VERSION, "filter of null");
     hold(pep440_sort(one, 1, indices, 1, &index) == PEP440_INVALID_VERSION && index == 0, "sort of null");

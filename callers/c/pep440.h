@@ -18,7 +18,7 @@
 
    PEP440_NO_ROOM: the result needs more than the buffer has. It is not written; each call below says what is. PEP440_OUT_OF_MEMORY: malloc
    or realloc failed; the same call may be made again. With any status but PEP440_OK and PEP440_NO_ROOM nothing is written, except `index`
-   of the batches with PEP440_INVALID_VERSION. */
+   of the batches with PEP440_INVALID_VERSION or PEP440_NOT_COMPILED. */
 #ifndef PEP440_H
 #define PEP440_H
 
@@ -47,7 +47,7 @@ enum {
     PEP440_NOT_PACKED = 7     /* of pep440_word alone: the version has no word */
 };
 
-/* A string of a batch. */
+/* A string of a batch, or a compiled version of one. */
 typedef struct {
     const uint8_t *bytes;
     size_t length;
@@ -187,6 +187,17 @@ uint8_t pep440_compare_compiled(const uint8_t *left, size_t left_length, const u
 uint8_t pep440_contains_compiled(const uint8_t *list, size_t list_length, const uint8_t *version, size_t length, uint8_t *contained,
                                  uint8_t *prerelease);
 
+/* As pep440_parts_of, of a compiled version. */
+uint8_t pep440_parts_of_compiled(const uint8_t *compiled, size_t length, pep440_parts *parts, uint64_t *release, size_t size);
+
+/* As pep440_range_keys, of a compiled list. */
+uint8_t pep440_range_keys_compiled(const uint8_t *list, size_t length, uint8_t *out, size_t size, size_t *ends, size_t ends_size, size_t *written,
+                                   size_t *count);
+
+/* As pep440_cover_keys, of a compiled list. */
+uint8_t pep440_cover_keys_compiled(const uint8_t *list, size_t length, uint8_t *out, size_t size, size_t *ends, size_t ends_size, size_t *written,
+                                   size_t *count);
+
 /* ---- batches: many strings in one call */
 
 /* The mark of a string of a filter; the last is a match that is a pre-release or a developmental release. */
@@ -207,6 +218,13 @@ uint8_t pep440_sort(const pep440_string *strings, size_t count, size_t *indices,
    `ends_size` less than `count`) `written` is written, and `out` and `ends` are unchanged. */
 uint8_t pep440_sort_keys(const pep440_string *strings, size_t count, uint8_t *out, size_t size, size_t *ends, size_t ends_size,
                          size_t *written, size_t *index);
+
+/* As pep440_filter, of a compiled list and compiled versions: PEP440_NOT_A_VERSION is the mark of bytes that denote none. */
+uint8_t pep440_filter_compiled(const uint8_t *list, size_t list_length, const pep440_string *versions, size_t count, uint8_t *marks,
+                               size_t size);
+
+/* As pep440_sort, of compiled versions: with PEP440_NOT_COMPILED `index` is that of the first that denotes none. */
+uint8_t pep440_sort_compiled(const pep440_string *versions, size_t count, size_t *indices, size_t size, size_t *index);
 
 #ifdef __cplusplus
 }

@@ -14,7 +14,7 @@ enum { BOUND = 16 * 1024, STACK = 1 << 20, LONG = 1 << 16, MANY = 100000, FILL =
 static pep440_string given, list;
 /* Their compiled forms; no bytes where there is none. */
 static pep440_string compiled, compiled_list;
-static pep440_string *strings;
+static pep440_string *strings, *forms;
 static uint8_t *out;
 static size_t *indices, *ends, written, at;
 static uint64_t *release, packed;
@@ -61,6 +61,19 @@ static void *normalize_list_compiled(void *unused) { pep440_normalize_list_compi
 static void *sort_key_compiled(void *unused) { pep440_sort_key_compiled(COMPILED, OUT); return unused; }
 static void *compare_compiled(void *unused) { pep440_compare_compiled(COMPILED, COMPILED, &order); return unused; }
 static void *contains_compiled(void *unused) { pep440_contains_compiled(COMPILED_LIST, COMPILED, &flag, &early); return unused; }
+static void *parts_of_compiled(void *unused) { pep440_parts_of_compiled(COMPILED, &parts, release, LONG); return unused; }
+static void *range_keys_compiled(void *unused)
+{
+    pep440_range_keys_compiled(COMPILED_LIST, out, (size_t)LONG * 64, ends, MANY, &written, &at);
+    return unused;
+}
+static void *cover_keys_compiled(void *unused)
+{
+    pep440_cover_keys_compiled(COMPILED_LIST, out, (size_t)LONG * 64, ends, MANY, &written, &at);
+    return unused;
+}
+static void *filter_compiled(void *unused) { pep440_filter_compiled(COMPILED_LIST, forms, MANY, out, MANY); return unused; }
+static void *sort_compiled(void *unused) { pep440_sort_compiled(forms, MANY, indices, MANY, &at); return unused; }
 static void *filter(void *unused) { pep440_filter(LIST, strings, MANY, out, MANY); return unused; }
 static void *sort(void *unused) { pep440_sort(strings, MANY, indices, MANY, &at); return unused; }
 static void *sort_keys(void *unused)
@@ -93,6 +106,11 @@ static const struct {
              {"sort_key_compiled", sort_key_compiled},
              {"compare_compiled", compare_compiled},
              {"contains_compiled", contains_compiled},
+             {"parts_of_compiled", parts_of_compiled},
+             {"range_keys_compiled", range_keys_compiled},
+             {"cover_keys_compiled", cover_keys_compiled},
+             {"filter_compiled", filter_compiled},
+             {"sort_compiled", sort_compiled},
              {"filter", filter},
              {"sort", sort},
              {"sort_keys", sort_keys}};
@@ -157,12 +175,14 @@ static pep440_string compiled_of(uint8_t (*compiles)(const uint8_t *, size_t, ui
 static void make_strings(void)
 {
     strings = calloc(MANY, sizeof *strings);
+    forms = calloc(MANY, sizeof *forms);
     for (size_t index = 0; index < MANY; index++) {
         char text[64];
         size_t number = index * 7919 % 1000003;
         snprintf(text, sizeof text, "%zu.%zu.%zu.0.%zu%s", number % 5, number / 5 % 40, number / 200 % 30, number % 3,
                  index % 4 ? "" : "rc1+a.7");
         strings[index] = of(text);
+        forms[index] = compiled_of(pep440_compile, strings[index]);
     }
 }
 
@@ -186,7 +206,7 @@ int main(void)
         compiled_lists[l] = compiled_of(pep440_compile_list, lists[l]);
     for (size_t turn = 0; turn < sizeof CALLS / sizeof *CALLS; turn++) {
         size_t of_call = 0;
-        int is_batch = turn + 3 >= sizeof CALLS / sizeof *CALLS;
+        int is_batch = turn + 5 >= sizeof CALLS / sizeof *CALLS;
         for (size_t v = 0; v < sizeof versions / sizeof *versions; v++)
             for (size_t l = 0; l < sizeof lists / sizeof *lists; l++) {
                 size_t bytes;

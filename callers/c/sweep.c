@@ -110,6 +110,15 @@ static uint8_t contains_not_compiled(Answer *answer)
     return pep440_contains_compiled(OF(longer), OF(longer), &answer->is, &answer->early);
 }
 
+static uint8_t parts_of_compiled(Answer *answer) { return pep440_parts_of_compiled(OF(longer), &answer->parts, answer->release, 8); }
+static uint8_t range_keys_compiled(Answer *answer) { return pep440_range_keys_compiled(OF(list), KEYS); }
+static uint8_t range_keys_not_compiled(Answer *answer) { return pep440_range_keys_compiled(OF(longer), KEYS); }
+static uint8_t cover_keys_compiled(Answer *answer) { return pep440_cover_keys_compiled(OF(list), KEYS); }
+static pep440_string forms[3];
+static uint8_t filter_compiled(Answer *answer) { return pep440_filter_compiled(OF(list), forms, 3, answer->marks, 8); }
+static uint8_t sort_compiled(Answer *answer) { return pep440_sort_compiled(forms, 2, answer->places, 8, &at); }
+static uint8_t sort_not_compiled(Answer *answer) { return pep440_sort_compiled(forms, 3, answer->places, 8, &at); }
+
 static const struct {
     const char *name;
     uint8_t (*call)(Answer *);
@@ -151,7 +160,14 @@ static const struct {
              {"sort_key_compiled", sort_key_compiled, PEP440_OK},
              {"compare_compiled", compare_compiled, PEP440_OK},
              {"contains_compiled", contains_compiled, PEP440_OK},
-             {"contains_compiled, other", contains_not_compiled, PEP440_NOT_COMPILED}};
+             {"contains_compiled, other", contains_not_compiled, PEP440_NOT_COMPILED},
+             {"parts_of_compiled", parts_of_compiled, PEP440_OK},
+             {"range_keys_compiled", range_keys_compiled, PEP440_OK},
+             {"range_keys_compiled, other", range_keys_not_compiled, PEP440_NOT_COMPILED},
+             {"cover_keys_compiled", cover_keys_compiled, PEP440_OK},
+             {"filter_compiled", filter_compiled, PEP440_OK},
+             {"sort_compiled", sort_compiled, PEP440_OK},
+             {"sort_compiled, other", sort_not_compiled, PEP440_NOT_COMPILED}};
 
 /* Calls that allocate nothing. */
 static const struct {
@@ -184,10 +200,14 @@ static int sweep(uint8_t (*call)(Answer *), uint8_t wanted, int *failed)
 
 static int compile_all(void)
 {
-    return pep440_compile(TEXT("1.17"), packed.bytes, sizeof packed.bytes, &packed.length) ||
+    int failed = pep440_compile(TEXT("1.17"), packed.bytes, sizeof packed.bytes, &packed.length) ||
            pep440_compile(TEXT(LONG), longer.bytes, sizeof longer.bytes, &longer.length) ||
            pep440_compile_list(TEXT(MEMBERS), list.bytes, sizeof list.bytes, &list.length) ||
            pep440_compile_list(TEXT(">=1.16, !=1.5.*, <2.0"), packed_list.bytes, sizeof packed_list.bytes, &packed_list.length);
+    forms[0] = (pep440_string){longer.bytes, longer.length};
+    forms[1] = (pep440_string){packed.bytes, packed.length};
+    forms[2] = (pep440_string){list.bytes, list.length};
+    return failed;
 }
 
 int main(void)

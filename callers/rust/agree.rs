@@ -109,6 +109,29 @@ mod pep440 {
             contained: *mut u8,
             prerelease: *mut u8,
         ) -> u8;
+        fn pep440_parts_of_compiled(compiled: *const u8, length: usize, parts: *mut Parts, release: *mut u64, room: usize) -> u8;
+        fn pep440_range_keys_compiled(
+            list: *const u8,
+            length: usize,
+            out: *mut u8,
+            room: usize,
+            ends: *mut usize,
+            ends_room: usize,
+            written: *mut usize,
+            count: *mut usize,
+        ) -> u8;
+        fn pep440_cover_keys_compiled(
+            list: *const u8,
+            length: usize,
+            out: *mut u8,
+            room: usize,
+            ends: *mut usize,
+            ends_room: usize,
+            written: *mut usize,
+            count: *mut usize,
+        ) -> u8;
+        fn pep440_filter_compiled(list: *const u8, list_length: usize, forms: *const Text, count: usize, marks: *mut u8, room: usize) -> u8;
+        fn pep440_sort_compiled(forms: *const Text, count: usize, places: *mut usize, room: usize, at: *mut usize) -> u8;
         fn pep440_any_prerelease(list: *const u8, length: usize, any: *mut u8) -> u8;
         fn pep440_parts_of(text: *const u8, length: usize, parts: *mut Parts, release: *mut u64, room: usize) -> u8;
         fn pep440_filter(list: *const u8, list_length: usize, texts: *const Text, count: usize, marks: *mut u8, room: usize) -> u8;
@@ -208,7 +231,7 @@ mod pep440 {
         Ok(word)
     }
 
-    fn joined_by(call: Joins, text: &str) -> Result<Vec<Vec<u8>>, Error> {
+    fn joined_by(call: Joins, text: &[u8]) -> Result<Vec<Vec<u8>>, Error> {
         let (mut out, mut ends, mut written, mut count) = (vec![0; 8], vec![0; 2], 0, 0);
         loop {
             let (room, ends_room) = (out.len(), ends.len());
@@ -224,15 +247,23 @@ mod pep440 {
     }
 
     pub fn specifiers_of(list: &str) -> Result<Vec<Vec<u8>>, Error> {
-        joined_by(pep440_specifiers_of, list)
+        joined_by(pep440_specifiers_of, list.as_bytes())
     }
 
     pub fn range_keys(list: &str) -> Result<Vec<Vec<u8>>, Error> {
-        joined_by(pep440_range_keys, list)
+        joined_by(pep440_range_keys, list.as_bytes())
     }
 
     pub fn cover_keys(list: &str) -> Result<Vec<Vec<u8>>, Error> {
-        joined_by(pep440_cover_keys, list)
+        joined_by(pep440_cover_keys, list.as_bytes())
+    }
+
+    pub fn range_keys_compiled(list: &[u8]) -> Result<Vec<Vec<u8>>, Error> {
+        joined_by(pep440_range_keys_compiled, list)
+    }
+
+    pub fn cover_keys_compiled(list: &[u8]) -> Result<Vec<Vec<u8>>, Error> {
+        joined_by(pep440_cover_keys_compiled, list)
     }
 
     pub fn compare(left: &str, right: &str) -> Result<Ordering, Error> {
@@ -275,9 +306,11 @@ mod pep440 {
         Ok(truth(any))
     }
 
-    pub fn parts_of(text: &str) -> Result<(Parts, Vec<u64>), Error> {
+    type Tells = unsafe extern "C" fn(*const u8, usize, *mut Parts, *mut u64, usize) -> u8;
+
+    fn parts_by(call: Tells, text: &[u8]) -> Result<(Parts, Vec<u64>), Error> {
         let (mut parts, mut release) = (Parts::default(), vec![0; 2]);
-        while !has_room(unsafe { pep440_parts_of(text.as_ptr(), text.len(), &mut parts, release.as_mut_ptr(), release.len()) })? {
+        while !has_room(unsafe { call(text.as_ptr(), text.len(), &mut parts, release.as_mut_ptr(), release.len()) })? {
             assert!(parts.release_length > release.len(), "too little room, and no more is asked for");
             release.resize(parts.release_length, 0);
         }
@@ -285,15 +318,41 @@ mod pep440 {
         Ok((parts, release))
     }
 
-    fn lent(texts: &[String]) -> Vec<Text> {
-        texts.iter().map(|text| Text { bytes: text.as_ptr(), length: text.len() }).collect()
+    pub fn parts_of(text: &str) -> Result<(Parts, Vec<u64>), Error> {
+        parts_by(pep440_parts_of, text.as_bytes())
+    }
+
+    pub fn parts_of_compiled(compiled: &[u8]) -> Result<(Parts, Vec<u64>), Error> {
+        parts_by(pep440_parts_of_compiled, compiled)
+    }
+
+    fn lent<T: AsRef<[u8]>>(texts: &[T]) -> Vec<Text> {
+        texts.iter().map(|text| text.as_ref()).map(|text| Text { bytes: text.as_ptr(), length: text.len() }).collect()
+    }
+
+    fn marks(numbers: &[u8]) -> Vec<Mark> {
+        numbers.iter().map(|mark| [Mark::NoMatch, Mark::Match, Mark::NotAVersion, Mark::PrereleaseMatch][usize::from(*mark)]).collect()
     }
 
     pub fn filter(list: &str, texts: &[String]) -> Result<Vec<Mark>, Error> {
         let (lent, mut marks) = (lent(texts), vec![9; texts.len()]);
         let status = unsafe { pep440_filter(list.as_ptr(), list.len(), lent.as_ptr(), lent.len(), marks.as_mut_ptr(), marks.len()) };
         assert!(has_room(status)?, "there is room");
-        Ok(marks.iter().map(|mark| [Mark::NoMatch, Mark::Match, Mark::NotAVersion, Mark::PrereleaseMatch][usize::from(*mark)]).collect())
+        Ok(self::marks(&marks))
+    }
+
+    pub fn filter_compiled(list: &[u8], forms: &[Vec<u8>]) -> Result<Vec<Mark>, Error> {
+        let (lent, mut marks) = (lent(forms), vec![9; forms.len()]);
+        let status = unsafe { pep440_filter_compiled(list.as_ptr(), list.len(), lent.as_ptr(), lent.len(), marks.as_mut_ptr(), marks.len()) };
+        assert!(has_room(status)?, "there is room");
+        Ok(self::marks(&marks))
+    }
+
+    pub fn sort_compiled(forms: &[Vec<u8>]) -> Result<Vec<usize>, (Error, usize)> {
+        let (lent, mut places, mut at) = (lent(forms), vec![0; forms.len()], usize::MAX);
+        let status = unsafe { pep440_sort_compiled(lent.as_ptr(), lent.len(), places.as_mut_ptr(), places.len(), &mut at) };
+        assert!(has_room(status).map_err(|error| (error, at))?, "there is room");
+        Ok(places)
     }
 
     /// The places in the order of the versions, or the place of the first text that is none.
@@ -468,12 +527,17 @@ fn same_compiled(versions: &[String]) -> Vec<Vec<u8>> {
         assert_eq!(bytes.len() == 10, pep440::word(text).is_ok(), "{text}");
         assert_eq!(pep440::normalize_compiled(bytes), pep440::normalize(text), "{text}");
         assert_eq!(pep440::sort_key_compiled(bytes), pep440::sort_key(text), "{text}");
+        assert_eq!(pep440::parts_of_compiled(bytes), pep440::parts_of(text), "{text}");
         for step in [0, 1, 2, 1001] {
             let other = (place + step) % versions.len();
             assert_eq!(pep440::compare_compiled(bytes, &compiled[other]), pep440::compare(text, &versions[other]), "{text} {}", versions[other]);
             assert_eq!(*bytes == compiled[other], pep440::normalize(text) == pep440::normalize(&versions[other]), "{text} {}", versions[other]);
         }
     }
+    assert_eq!(pep440::sort_compiled(&compiled), pep440::sort(versions));
+    let mut others = compiled[..9].to_vec();
+    others[7].push(0);
+    assert_eq!(pep440::sort_compiled(&others), Err((Error::NotCompiled, 7)));
     compiled
 }
 
@@ -595,6 +659,10 @@ fn same_filters(chance: &mut Chance, texts: &[String]) -> usize {
         let compiled = pep440::compile_list(&list).unwrap();
         assert_eq!(pep440::compile_list(&print).as_ref(), Ok(&compiled), "{list}");
         assert_eq!(pep440::normalize_list_compiled(&compiled).as_ref(), Ok(&print), "{list}");
+        assert_eq!(pep440::range_keys_compiled(&compiled), pep440::range_keys(&list), "{list}");
+        assert_eq!(pep440::cover_keys_compiled(&compiled), pep440::cover_keys(&list), "{list}");
+        let forms: Vec<Vec<u8>> = chunk.iter().map(|text| pep440::compile(text).unwrap_or_default()).collect();
+        assert_eq!(pep440::filter_compiled(&compiled, &forms).as_ref(), Ok(&marks), "{list}");
         let members: Vec<&str> = list.split(", ").filter(|member| !member.is_empty()).collect();
         for (text, mark) in chunk.iter().zip(&marks) {
             let wanted = match pep440::contains_and_early(&list, text) {

@@ -4,13 +4,12 @@ use Rattle.std.proofs.lemmas.List.{get_or_default, length-map, length-take-le, m
 use Rattle.std.specs.List.{All, AllZip, enumerate_from}
 use Rattle.std.specs.List.Sorted.{IsPermutation, IsSorted, IsStable}
 use Rattle.std.specs.Ordering.{on}
-use Rattle.std.specs.Prelude.{IfOk, Result, Ok, Err, slice_get}
+use Rattle.std.specs.Prelude.{IfOk, IsSomeAnd, Result, Ok, Err, slice_get}
 use Rattle.std.specs.declared.cmp.Ordering.{Ordering}
-use Rattle.pep440_rs.specs.Specifiers.{Spec}
 use Rattle.pep440_sort_key.specs.Keys.{key_bytes}
 use Rattle.pep440_version.specs.Key.{record_cmp}
 use Rattle.pep440_version.specs.Record.{Record}
-use Rattle.pep440_c.specs.Batches.{ArrangesPlaces, IsMark, MeansKeys, MeansPlaced, FirstRefusedText, Sorts, StopsAll, stop_at}
+use Rattle.pep440_c.specs.Batches.{ArrangesPlaces, MeansKeys, MeansPlaced, Sorts, StopsAll, stop_at}
 use Rattle.pep440_c.specs.Joined.{Joins}
 use Rattle.pep440_c.specs.Statuses.{Faults}
 use Rattle.pep440_c.specs.declared.texts.Fault.{Fault}
@@ -34,11 +33,11 @@ each_more {A} Means texts i x found new a inside is means more all =
     subst (λ (l : List (List ℕ)). AllZip Means l new) (sym seen) (subst (λ (l : List A). AllZip Means (map now (take i texts) ++ now x ∷ []) l) (sym more) (all_more Means (map now (take i texts)) found (now x) a all means))
 
 -- what stands in one of two lists has its like in the other
-each_means : (texts : List (List ℕ)) (versions : List Record) → AllZip MeansBytes texts versions → All (λ text. (r : Record) × MeansBytes text r) texts
-each_means [] versions h k d lt = absurd (omega (arith, lt))
-each_means (t ∷ texts) [] h k d lt = absurd h
-each_means (t ∷ texts) (v ∷ versions) h zero d lt = (v, h.0)
-each_means (t ∷ texts) (v ∷ versions) h (suc k) d lt = each_means texts versions h.1 k d (omega (arith, lt))
+each_means : (Means : List ℕ → Record → Type 0) (texts : List (List ℕ)) (versions : List Record) → AllZip Means texts versions → All (λ text. (r : Record) × Means text r) texts
+each_means Means [] versions h k d lt = absurd (omega (arith, lt))
+each_means Means (t ∷ texts) [] h k d lt = absurd h
+each_means Means (t ∷ texts) (v ∷ versions) h zero d lt = (v, h.0)
+each_means Means (t ∷ texts) (v ∷ versions) h (suc k) d lt = each_means Means texts versions h.1 k d (omega (arith, lt))
 
 -- the item at a position
 at_position : {A B : Type 0} (f : A → B) (xs : List A) (i : ℕ) (x : A) → i < length xs → x ≡ get_or xs i x → slice_get (map f xs) i ≡ Some (f x)
@@ -47,12 +46,13 @@ at_position f (y ∷ xs) zero x inside is = ap (λ a. Some (f a)) (sym is)
 at_position f (y ∷ xs) (suc i) x inside is = at_position f xs i x (omega (arith, inside)) is
 
 -- the text at a place is refused, and those before it mean versions
-refused_first : (texts : List (Bor (List ℕ))) (i : ℕ) (x : Bor (List ℕ)) (versions : List Record) → i < length texts → x ≡ get_or texts i x → RefusesBytes x.now
-    → AllZip MeansBytes (map (λ t. t.now) (take i texts)) versions → FirstRefusedText (map (λ t. t.now) texts) i
-refused_first texts i x versions inside is why all = record {
-  refused = rw (at_position (λ t. t.now) texts i x inside is) why;
-  before = subst (λ l. All (λ text. (r : Record) × MeansBytes text r) l) (map_take i texts) (each_means (map (λ t. t.now) (take i texts)) versions all);
-}
+pub refused_first : (Means : List ℕ → Record → Type 0) (Refused : List ℕ → Type 0) (texts : List (Bor (List ℕ))) (i : ℕ) (x : Bor (List ℕ)) (versions : List Record) → i < length texts
+    → Refused (get_or texts i x).now → AllZip Means (map (λ t. t.now) (take i texts)) versions
+    → IsSomeAnd (slice_get (map (λ (t : Bor (List ℕ)). t.now) texts) i) Refused × All (λ text. (r : Record) × Means text r) (take i (map (λ (t : Bor (List ℕ)). t.now) texts))
+refused_first Means Refused texts i x versions inside why all = (
+  rw (at_position (λ t. t.now) texts i (get_or texts i x) inside (get_or_default texts i x (get_or texts i x) inside)) why,
+  subst (λ l. All (λ text. (r : Record) × Means text r) l) (map_take i texts) (each_means Means (map (λ t. t.now) (take i texts)) versions all),
+)
   where
     map_take : (i : ℕ) (texts : List (Bor (List ℕ))) → map (λ (t : Bor (List ℕ)). t.now) (take i texts) ≡ take i (map (λ (t : Bor (List ℕ)). t.now) texts)
     map_take zero texts = refl
@@ -65,22 +65,26 @@ placed_push n [] y = ap (λ (k : ℕ). (k, y) ∷ []) (omega arith)
 placed_push n (x ∷ xs) y = ap (λ (l : List (ℕ × Record)). (n, x) ∷ l) (placed_push (n + 1) xs y ∙ ap (λ (k : ℕ). enumerate_from (n + 1) xs ++ (k, y) ∷ []) (omega arith))
 
 -- each of two lists has as many as the other
-all_length : (texts : List (List ℕ)) (versions : List Record) → AllZip MeansBytes texts versions → length texts ≡ length versions
-all_length [] [] h = refl
-all_length [] (v ∷ versions) h = absurd h
-all_length (t ∷ texts) [] h = absurd h
-all_length (t ∷ texts) (v ∷ versions) h = let e = all_length texts versions h.1 in omega (arith, e)
+all_length : (Means : List ℕ → Record → Type 0) (texts : List (List ℕ)) (versions : List Record) → AllZip Means texts versions → length texts ≡ length versions
+all_length Means [] [] h = refl
+all_length Means [] (v ∷ versions) h = absurd h
+all_length Means (t ∷ texts) [] h = absurd h
+all_length Means (t ∷ texts) (v ∷ versions) h = let e = all_length Means texts versions h.1 in omega (arith, e)
+
+-- versions with their places, of texts that mean them so
+abbrev pub PlacedBy : (List ℕ → Record → Type 0) → List (List ℕ) → List (ℕ × Record) → Type 0
+PlacedBy Means texts given = (versions : List Record) × AllZip Means texts versions × (given ≡ enumerate_from 0 versions)
 
 pub placed_none : MeansPlaced [] []
 placed_none = ([], tt, refl)
 
-pub placed_more : (texts : List (Bor (List ℕ))) (i : ℕ) (x : Bor (List ℕ)) (pairs new : List (ℕ × Record)) (v : Record) → i < length texts → MeansBytes (get_or texts i x).now v → new ≡ pairs ++ (i, v) ∷ []
-    → MeansPlaced (map (λ t. t.now) (take i texts)) pairs → MeansPlaced (map (λ t. t.now) (take (i + 1) texts)) new
-placed_more texts i x pairs new v inside means more (versions, all, placed) =
+pub placed_more : (Means : List ℕ → Record → Type 0) (texts : List (Bor (List ℕ))) (i : ℕ) (x : Bor (List ℕ)) (pairs new : List (ℕ × Record)) (v : Record) → i < length texts → Means (get_or texts i x).now v
+    → new ≡ pairs ++ (i, v) ∷ [] → PlacedBy Means (map (λ t. t.now) (take i texts)) pairs → PlacedBy Means (map (λ t. t.now) (take (i + 1) texts)) new
+placed_more Means texts i x pairs new v inside means more (versions, all, placed) =
     let long : length versions ≡ i =
-    sym (all_length (map (λ (t : Bor (List ℕ)). t.now) (take i texts)) versions all) ∙ length-map (take i texts) (λ (t : Bor (List ℕ)). t.now) ∙ length-take-le i texts (omega (arith, inside)) in (
+    sym (all_length Means (map (λ (t : Bor (List ℕ)). t.now) (take i texts)) versions all) ∙ length-map (take i texts) (λ (t : Bor (List ℕ)). t.now) ∙ length-take-le i texts (omega (arith, inside)) in (
       versions ++ v ∷ [],
-      each_more MeansBytes texts i (get_or texts i x) versions (versions ++ v ∷ []) v inside (get_or_default texts i x (get_or texts i x) inside) means refl all,
+      each_more Means texts i (get_or texts i x) versions (versions ++ v ∷ []) v inside (get_or_default texts i x (get_or texts i x) inside) means refl all,
       more ∙ ap (λ (l : List (ℕ × Record)). l ++ (i, v) ∷ []) placed ∙ ap (λ (k : ℕ). enumerate_from 0 versions ++ (k, v) ∷ []) (omega (arith, long)) ∙ sym (placed_push 0 versions v),
     )
 
@@ -88,17 +92,17 @@ placed_more texts i x pairs new v inside means more (versions, all, placed) =
 pub stops_at : (texts : List (Bor (List ℕ))) (i : ℕ) (x : Bor (List ℕ)) (f : Fault) (s : BatchError) (versions : List Record) → i < length texts → s ≡ stop_at i f
     → Faults (RefusesBytes (get_or texts i x).now) ⊥ ⊥ f → AllZip MeansBytes (map (λ t. t.now) (take i texts)) versions → StopsAll (map (λ t. t.now) texts) s
 stops_at texts i x InvalidVersion s versions inside is why all = subst (λ (t : BatchError). StopsAll (map (λ (y : Bor (List ℕ)). y.now) texts) t) (sym is)
-    (refused_first texts i (get_or texts i x) versions inside (get_or_default texts i x (get_or texts i x) inside) why all)
+    (let both = refused_first MeansBytes RefusesBytes texts i x versions inside why all in record { refused = both.0; before = both.1 })
 stops_at texts i x InvalidList s versions inside is why all = absurd why
 stops_at texts i x NumberAtMax s versions inside is why all = absurd why
 stops_at texts i x NotCompiled s versions inside is why all = absurd why
 stops_at texts i x OutOfMemory s versions inside is why all = subst (λ (t : BatchError). StopsAll (map (λ (y : Bor (List ℕ)). y.now) texts) t) (sym is) tt
 
 -- one more mark
-pub marked_more : (list : List Spec) (texts : List (Bor (List ℕ))) (i : ℕ) (x : Bor (List ℕ)) (marks new : List ℕ) (m : ℕ) → i < length texts → IsMark list (get_or texts i x).now m → new ≡ marks ++ m ∷ []
-    → AllZip (IsMark list) (map (λ t. t.now) (take i texts)) marks → AllZip (IsMark list) (map (λ t. t.now) (take (i + 1) texts)) new
-marked_more list texts i x marks new m inside is more all =
-    each_more (IsMark list) texts i (get_or texts i x) marks new m inside (get_or_default texts i x (get_or texts i x) inside) is more all
+pub marked_more : (Marks : List ℕ → ℕ → Type 0) (texts : List (Bor (List ℕ))) (i : ℕ) (x : Bor (List ℕ)) (marks new : List ℕ) (m : ℕ) → i < length texts → Marks (get_or texts i x).now m → new ≡ marks ++ m ∷ []
+    → AllZip Marks (map (λ t. t.now) (take i texts)) marks → AllZip Marks (map (λ t. t.now) (take (i + 1) texts)) new
+marked_more Marks texts i x marks new m inside is more all =
+    each_more Marks texts i (get_or texts i x) marks new m inside (get_or_default texts i x (get_or texts i x) inside) is more all
 
 -- the places of the versions that the texts mean
 pub sorts : (texts : List (List ℕ)) (pairs : List (ℕ × Record)) (places : List ℕ) → MeansPlaced texts pairs → ArrangesPlaces pairs places → Sorts texts places

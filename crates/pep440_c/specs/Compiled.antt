@@ -1,17 +1,24 @@
 -- What each call returns that makes compiled bytes, or takes them.
-use Rattle.std.specs.Prelude.{◌≡◌, ◌⊎◌, ℕ, ℤ, List, Bool}
+use Rattle.std.specs.Prelude.{◌≡◌, ◌⊎◌, ℕ, ℤ, List, Bool, Option, Some, None}
+use Rattle.std.specs.List.{flat_map}
 use Rattle.pep440_compiled.specs.Lists.{DenotesList}
 use Rattle.pep440_compiled.specs.Version.{DenotesVersion}
+use Rattle.pep440_range_keys.specs.RangeKeys.{segment_interval}
+use Rattle.pep440_rs.specs.Bounds.{Segments, list_range}
 use Rattle.pep440_rs.specs.Lists.{list_print}
 use Rattle.pep440_rs.specs.Matching.{any_prerelease, list_matches}
 use Rattle.pep440_rs.specs.Specifiers.{Spec}
+use Rattle.pep440_rs.specs.declared.specifier.operator.Operator.{Operator}
 use Rattle.pep440_sort_key.specs.Keys.{key_bytes}
 use Rattle.pep440_version.specs.Key.{record_cmp}
 use Rattle.pep440_version.specs.Print.{print}
 use Rattle.pep440_version.specs.Record.{Record}
-use Rattle.pep440_c.specs.Answers.{order_number}
+use Rattle.pep440_c.specs.Answers.{TellsParts, order_number}
+use Rattle.pep440_c.specs.Intervals.{interval_keys}
+use Rattle.pep440_c.specs.Joined.{Joins}
 use Rattle.pep440_c.specs.Meaning.{MeansBytes, MeansListBytes}
-use Rattle.pep440_c.specs.Statuses.{FailsCompiled, IsFlagOf}
+use Rattle.pep440_c.specs.Statuses.{FailsCompiled, IsFlagOf, PutsFront}
+use Rattle.pep440_c.specs.declared.Parts.{Parts}
 
 -- ---- made of strings
 
@@ -62,3 +69,24 @@ abbrev pub CompiledContainsAnswer : List ℕ → List ℕ → ℕ → ℕ → �
 CompiledContainsAnswer compiled_list compiled old contained old_prerelease prerelease status =
     ((status ≡ 0) × IsFlagOf (CompiledContains compiled_list compiled) contained × IsFlagOf (CompiledPrerelease compiled) prerelease)
     ⊎ ((contained ≡ old) × (prerelease ≡ old_prerelease) × FailsCompiled (DenotesNoList compiled_list ⊎ DenotesNoVersion compiled) ⊥ status)
+
+-- the parts are reported, and the release is written at the start of the caller's numbers, or there are too few; or all stays
+abbrev pub CompiledPartsAnswer : List ℕ → Parts → Parts → List ℕ → List ℕ → ℕ → Type 0
+CompiledPartsAnswer compiled old parts old_release release status =
+    ((r : Record) × DenotesVersion compiled r × TellsParts r parts × PutsFront r.release old_release release status)
+    ⊎ ((parts ≡ old) × (release ≡ old_release) × FailsCompiled (DenotesNoVersion compiled) ⊥ status)
+
+-- ---- the keys of a range
+
+module _ (conversion : Operator → Record → Option Segments) where
+  -- the bytes are a compiled list, of which the conversion gives this range
+  abbrev pub CompiledRange : List ℕ → Segments → Type 0
+  CompiledRange compiled range = (list : List Spec) × DenotesList compiled list × (list_range conversion list ≡ Some range)
+
+  -- the bytes are a compiled list, of which it gives none, since a number that can't be raised would have to be
+  abbrev pub CompiledLacksRange : List ℕ → Type 0
+  CompiledLacksRange compiled = (list : List Spec) × DenotesList compiled list × (list_range conversion list ≡ None)
+
+  -- the keys of the segments of that range, in their order
+  abbrev pub CompiledIntervals : List ℕ → List ℕ → List ℕ → Type 0
+  CompiledIntervals compiled bytes ends = (range : Segments) × CompiledRange compiled range × Joins (flat_map (λ s. interval_keys (segment_interval s)) range) bytes ends

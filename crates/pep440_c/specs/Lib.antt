@@ -6,3 +6,4 @@ pub mod Intervals
 pub mod Batches
 pub mod Compiled
 pub mod Room
+pub mod CompiledBatches

@@ -95,3 +95,9 @@ abbrev pub PutsCompiledBytes : Type 0 → Type 0 → (List ℕ → Type 0) → L
 PutsCompiledBytes unread range P old new old_written written status =
     ((bytes : List ℕ) × P bytes × (written ≡ length bytes) × PutsFront bytes old new status)
     ⊎ ((new ≡ old) × (written ≡ old_written) × FailsCompiled unread range status)
+
+-- so strings that are found of compiled bytes
+abbrev pub PutsCompiledJoined : Type 0 → Type 0 → (List ℕ → List ℕ → Type 0) → List ℕ → List ℕ → List ℕ → List ℕ → ℕ → ℕ → ℕ → ℕ → ℕ → Type 0
+PutsCompiledJoined unread range P old new old_ends ends old_written written old_count count status =
+    ((bytes : List ℕ) × (places : List ℕ) × P bytes places × (written ≡ length bytes) × (count ≡ length places) × PutsBoth bytes places old new old_ends ends status)
+    ⊎ ((new ≡ old) × (ends ≡ old_ends) × (written ≡ old_written) × (count ≡ old_count) × FailsCompiled unread range status)

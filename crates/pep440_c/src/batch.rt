@@ -14,13 +14,13 @@ use pep440_sort_key::sort_key;
 use std::alloc::{AllocError, AllocFailed, Global};
 use std::cmp::Ordering;
 
-const NO_MATCH: u8 = 0;
+pub(crate) const NO_MATCH: u8 = 0;
 
-const MATCH: u8 = 1;
+pub(crate) const MATCH: u8 = 1;
 
-const NOT_A_VERSION: u8 = 2;
+pub(crate) const NOT_A_VERSION: u8 = 2;
 
-const PRERELEASE_MATCH: u8 = 3;
+pub(crate) const PRERELEASE_MATCH: u8 = 3;
 
 /// Why a batch is rejected.
 #[derive(Clone, Copy, Debug)]
@@ -131,8 +131,11 @@ fn collect_positions(alloc: Global, pairs: &[(usize, Version)]) -> Result<Vec<us
     Ok(found)
 }
 
-// The places of the versions in order, equal ones in the order given.
-fn sort_pairs(alloc: Global, pairs: Vec<(usize, Version)>) -> Result<Vec<usize>, AllocError>
+/// The places of the versions in order, equal ones in the order given.
+pub(crate) fn sort_pairs(
+    alloc: Global,
+    pairs: Vec<(usize, Version)>,
+) -> Result<Vec<usize>, AllocError>
     ensures { IfOk result (λ found. ArrangesPlaces pairs.items found.items) }
 {
     let mut sorted = pairs;

@@ -1,18 +1,28 @@
 //! The calls over compiled versions and lists: bytes made once of a string, which these calls take in its place. No call but
 //! the first two parses a string.
-ghost use Rattle.std.specs.Prelude.{◌≡◌, ◌⊎◌, List};
+ghost use Rattle.std.specs.Prelude.{◌≡◌, ◌⊎◌, List, map};
 ghost use Rattle.std.specs.List.{All};
 ghost use Rattle.pep440_compiled.specs.Format.{DenotesPacked};
 ghost use Rattle.pep440_compiled.specs.Lists.{DenotesList, IsPackedMember};
+ghost use Rattle.pep440_rs.specs.Bounds.{range_of};
+ghost use Rattle.pep440_rs.specs.Cover.{cover_of};
 ghost use Rattle.pep440_rs.specs.Specifiers.{Spec};
 ghost use Rattle.pep440_version.specs.Record.{Record};
-ghost use Rattle.pep440_c.specs.Compiled.{CompiledContainsAnswer, CompiledKey, CompiledNormal, CompiledNormalList, CompiledOrder, DenotesNoList, DenotesNoVersion, IsCompiled, IsCompiledList};
+ghost use Rattle.pep440_c.specs.Compiled.{CompiledContainsAnswer, CompiledIntervals, CompiledKey, CompiledLacksRange, CompiledNormal, CompiledNormalList, CompiledOrder, CompiledPartsAnswer, DenotesNoList, DenotesNoVersion, IsCompiled, IsCompiledList};
+ghost use Rattle.pep440_c.specs.CompiledBatches.{CompiledFilterAnswer, CompiledSortAnswer};
 ghost use Rattle.pep440_c.specs.Meaning.{RefusesBytes, RefusesListBytes};
-ghost use Rattle.pep440_c.specs.Statuses.{PutsBytes, PutsCompiled, PutsCompiledBytes};
+ghost use Rattle.pep440_c.specs.Statuses.{PutsBytes, PutsCompiled, PutsCompiledBytes, PutsCompiledJoined};
 
-use crate::buffer::{OK, flag, put_bytes, put_text};
-use crate::{compiled_forms, order_number};
+use crate::batch::BatchError;
+use crate::buffer::{OK, flag, put, put_bytes, put_joined, put_text};
+use crate::{
+    Parts, compiled_batch, compiled_forms, compiled_intervals, order_number, version_parts,
+};
 use std::alloc::Global;
+
+const OUT_OF_MEMORY: u8 = 3;
+
+const NOT_COMPILED: u8 = 6;
 
 /// Writes the compiled form of the version.
 #[unsafe(no_mangle)]
@@ -126,5 +136,103 @@ pub extern "C" fn pep440_contains_compiled(
             OK
         }
         Err(fault) => fault.status(),
+    }
+}
+
+/// Writes the parts of the compiled version, and the numbers of its release (PEP 440, "Public version identifiers").
+#[unsafe(no_mangle)]
+pub extern "C" fn pep440_parts_of_compiled(
+    alloc: Global,
+    compiled: &[u8],
+    parts: &mut Parts,
+    release: &mut [u64],
+) -> u8
+    ensures { CompiledPartsAnswer compiled.now parts.old parts.new release.old release.new result }
+{
+    match compiled_forms::read(alloc, compiled) {
+        Ok(version) => {
+            *parts = version_parts::parts_of(&version);
+            put(version.release(), release)
+        }
+        Err(fault) => fault.status(),
+    }
+}
+
+/// Writes the range of the compiled list as sort keys, as `pep440_range_keys`.
+#[unsafe(no_mangle)]
+pub extern "C" fn pep440_range_keys_compiled(
+    alloc: Global,
+    list: &[u8],
+    out: &mut [u8],
+    ends: &mut [usize],
+    written: &mut usize,
+    count: &mut usize,
+) -> u8
+    ensures { PutsCompiledJoined (DenotesNoList list.now) (CompiledLacksRange range_of list.now) (CompiledIntervals range_of list.now) out.old out.new ends.old ends.new written.old written.new count.old count.new result }
+{
+    put_joined(
+        compiled_intervals::to_range_keys(alloc, list),
+        out,
+        ends,
+        written,
+        count,
+    )
+}
+
+/// The same of the cover of the compiled list.
+#[unsafe(no_mangle)]
+pub extern "C" fn pep440_cover_keys_compiled(
+    alloc: Global,
+    list: &[u8],
+    out: &mut [u8],
+    ends: &mut [usize],
+    written: &mut usize,
+    count: &mut usize,
+) -> u8
+    ensures { PutsCompiledJoined (DenotesNoList list.now) (CompiledLacksRange cover_of list.now) (CompiledIntervals cover_of list.now) out.old out.new ends.old ends.new written.old written.new count.old count.new result }
+{
+    put_joined(
+        compiled_intervals::to_cover_keys(alloc, list),
+        out,
+        ends,
+        written,
+        count,
+    )
+}
+
+/// Writes a mark for each compiled version, as `pep440_filter`: 2 where the bytes denote none.
+#[unsafe(no_mangle)]
+pub extern "C" fn pep440_filter_compiled(
+    alloc: Global,
+    list: &[u8],
+    forms: &[&[u8]],
+    marks: &mut [u8],
+) -> u8
+    ensures { CompiledFilterAnswer list.now (map (λ t. t.now) forms.now) marks.old marks.new result }
+{
+    match compiled_batch::filter(alloc, list, forms) {
+        Ok(found) => put(found.as_slice(), marks),
+        Err(fault) => fault.status(),
+    }
+}
+
+/// Writes the positions of the compiled versions in the order of the versions, equal ones in the order given. With status 6
+/// `at` is the position of the first that denotes none.
+#[unsafe(no_mangle)]
+pub extern "C" fn pep440_sort_compiled(
+    alloc: Global,
+    forms: &[&[u8]],
+    places: &mut [usize],
+    at: &mut usize,
+) -> u8
+    ensures { CompiledSortAnswer (map (λ t. t.now) forms.now) places.old places.new at.old at.new result }
+{
+    match compiled_batch::sort(alloc, forms) {
+        Ok(found) => put(found.as_slice(), places),
+        Err(BatchError::InvalidAt(position)) => {
+            *at = position;
+            NOT_COMPILED
+        }
+        Err(BatchError::OutOfMemory) => OUT_OF_MEMORY,
     }
 }

@@ -3,6 +3,7 @@ ghost use Rattle.std.specs.Prelude.{◌≡◌, ◌⊎◌, List, IsOk, string_byt
 ghost use Rattle.std.specs.List.{All};
 ghost use Rattle.pep440_compiled.specs.Format.{DenotesPacked};
 ghost use Rattle.pep440_compiled.specs.Lists.{DenotesList, IsPackedMember};
+ghost use Rattle.pep440_compiled.specs.Version.{DenotesVersion};
 ghost use Rattle.pep440_rs.specs.Specifiers.{Spec};
 ghost use Rattle.pep440_version.specs.Record.{Record};
 ghost use Rattle.pep440_c.specs.Answers.{order_number};
@@ -10,8 +11,10 @@ ghost use Rattle.pep440_c.specs.Compiled.{CompiledContains, CompiledKey, Compile
 ghost use Rattle.pep440_c.specs.Meaning.{RefusesBytes, RefusesListBytes};
 ghost use Rattle.pep440_c.specs.Statuses.{Gives, GivesCompiled, fault_of_compiled};
 
-use crate::texts::{Fault, read, read_list};
+use crate::texts;
+use crate::texts::Fault;
 use pep440_compiled::{CompiledError, compile_version, read_version};
+use pep440_rs::Version;
 use std::alloc::Global;
 use std::cmp::Ordering;
 
@@ -26,11 +29,18 @@ impl From<CompiledError> for Fault {
     }
 }
 
+/// The version that the bytes denote.
+pub(crate) fn read(alloc: Global, compiled: &[u8]) -> Result<Version, Fault>
+    ensures { GivesCompiled (DenotesNoVersion compiled.now) ⊥ (DenotesVersion compiled.now) result }
+{
+    Ok(read_version(alloc, compiled)?)
+}
+
 /// The compiled form of a version.
 pub(crate) fn compile(alloc: Global, text: &[u8]) -> Result<Vec<u8>, Fault>
     ensures { Gives (RefusesBytes text.now) ⊥ ⊥ (λ compiled. IsCompiled text.now compiled.items) result }
 {
-    let version = read(alloc, text)?;
+    let version = texts::read(alloc, text)?;
     Ok(compile_version(alloc, &version)?)
 }
 
@@ -38,7 +48,7 @@ pub(crate) fn compile(alloc: Global, text: &[u8]) -> Result<Vec<u8>, Fault>
 pub(crate) fn compile_list(alloc: Global, text: &[u8]) -> Result<Vec<u8>, Fault>
     ensures { Gives ⊥ (RefusesListBytes text.now) ⊥ (λ compiled. IsCompiledList text.now compiled.items) result }
 {
-    let list = read_list(alloc, text)?;
+    let list = texts::read_list(alloc, text)?;
     Ok(pep440_compiled::compile_list(alloc, &list)?)
 }
 

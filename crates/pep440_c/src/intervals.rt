@@ -67,8 +67,8 @@ fn join_intervals(alloc: Global, intervals: &[KeyInterval]) -> Result<Joined, Al
     Ok(found)
 }
 
-// The keys of the segments, in their order.
-fn join_range(alloc: Global, range: &Ranges<Version>) -> Result<Joined, AllocError>
+/// The keys of the segments, in their order.
+pub(crate) fn join_range(alloc: Global, range: &Ranges<Version>) -> Result<Joined, AllocError>
     ensures { IfOk result (λ found. Joins (flat_map (λ s. interval_keys (segment_interval s)) range.now) found.bytes.items found.ends.items) }
 {
     let intervals = range_keys(alloc, range)?;

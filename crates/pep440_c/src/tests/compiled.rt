@@ -1,8 +1,11 @@
 //! The calls over compiled bytes, each where it returns a value and where it rejects bytes, with too little room, and with
 //! each allocation failing in turn.
+use crate::Parts;
 use crate::compiled::{
     pep440_compare_compiled, pep440_compile, pep440_compile_list, pep440_contains_compiled,
-    pep440_normalize_compiled, pep440_normalize_list_compiled, pep440_sort_key_compiled,
+    pep440_cover_keys_compiled, pep440_filter_compiled, pep440_normalize_compiled,
+    pep440_normalize_list_compiled, pep440_parts_of_compiled, pep440_range_keys_compiled,
+    pep440_sort_compiled, pep440_sort_key_compiled,
 };
 use std::alloc::Global;
 use std::test::Fail;
@@ -250,5 +253,147 @@ fn others_are_rejected(rt: HostRuntime) -> Result<(), Fail> {
     assert!(rt; pep440_contains_compiled(rt.alloc(), THREE, THREE, &mut is, &mut early) == 6);
     assert!(rt; pep440_contains_compiled(rt.alloc(), b"", b"", &mut is, &mut early) == 6);
     assert!(rt; is == 7 && early == 7);
+    Ok(())
+}
+
+// What is written to, and what was there before.
+#[derive(Drop)]
+struct Keys {
+    out: [u8; 24],
+    ends: [usize; 4],
+    written: usize,
+    count: usize,
+}
+
+fn ask_keys(alloc: Global, is_cover: bool, list: &[u8], keys: &mut Keys) -> u8 {
+    let (out, ends) = (&mut keys.out, &mut keys.ends);
+    if is_cover {
+        pep440_cover_keys_compiled(alloc, list, out, ends, &mut keys.written, &mut keys.count)
+    } else {
+        pep440_range_keys_compiled(alloc, list, out, ends, &mut keys.written, &mut keys.count)
+    }
+}
+
+// `<=1.0`; `!=1`; `==18446744073709551615.*`, above which no bound lies.
+const BELOW: &[u8] = &[
+    3, 0, 0, 0, 0, 0, 0, 0, 1, 7, 1, 2, 0, 1, 0, 0, 0, 0xa0, 0, 0,
+];
+
+const NOT_ONE: &[u8] = &[
+    3, 0, 0, 0, 0, 0, 0, 0, 1, 3, 1, 1, 0, 1, 0, 0, 0, 0xa0, 0, 0,
+];
+
+const AT_MAX: &[u8] = &[
+    3, 0, 0, 0, 0, 0, 0, 0, 1, 1, 2, 0, 0, 0, 0, 0, 0, 0, 0, 0, 0, 0, 0, 0, 0, 0, 1, 255, 255, 255,
+    255, 255, 255, 255, 255, 0, 0, 0, 0, 0, 0, 0, 0, 0, 0, 0, 0, 0,
+];
+
+// The key of `1.0`, with a byte behind it, and that of `1.0.post0.dev0`.
+const BEHIND_ONE: &[u8] = &[0, 2, 1, 0, 80, 0, 16, 0, 0];
+
+const ABOVE_ONE: &[u8] = &[0, 2, 1, 0, 80, 16, 0, 0];
+
+#[test]
+fn sweep_interval_keys(rt: HostRuntime) -> Result<(), Fail> {
+    for (is_cover, list, want_status, want, want_ends) in [
+        (false, BELOW, 0, BEHIND_ONE, [0, 9, 99, 99]),
+        (true, BELOW, 0, ABOVE_ONE, [0, 8, 99, 99]),
+        (false, THREE, 4, b"".as_slice(), [99; 4]),
+        (true, PACKED, 6, b"", [99; 4]),
+        (false, AT_MAX, 5, b"", [99; 4]),
+        (true, AT_MAX, 5, b"", [99; 4]),
+    ] {
+        let mut keys = Keys {
+            out: [9; 24],
+            ends: [99; 4],
+            written: 98,
+            count: 97,
+        };
+        let mut status = ask_keys(rt.alloc(), is_cover, list, &mut keys);
+        if status == 3 {
+            assert!(rt; keys.out == [9; 24] && keys.ends == [99; 4] && keys.written == 98);
+            status = ask_keys(rt.alloc(), is_cover, list, &mut keys);
+        }
+        assert!(rt; status == want_status && &keys.out[..want.len()] == want);
+        assert!(rt; keys.out[want.len()] == 9 && keys.ends == want_ends);
+    }
+    Ok(())
+}
+
+const NO_PARTS: Parts = Parts {
+    epoch: 9,
+    pre: 9,
+    post: 9,
+    dev: 9,
+    release_length: 9,
+    pre_kind: 9,
+    has_post: 9,
+    has_dev: 9,
+    has_local: 9,
+};
+
+#[test]
+fn sweep_parts_of(rt: HostRuntime) -> Result<(), Fail> {
+    let mut parts = NO_PARTS;
+    let mut release = [7; 2];
+    let mut status = pep440_parts_of_compiled(rt.alloc(), SUFFIXES, &mut parts, &mut release);
+    if status == 3 {
+        assert!(rt; parts.epoch == 9 && release == [7; 2]);
+        status = pep440_parts_of_compiled(rt.alloc(), SUFFIXES, &mut parts, &mut release);
+    }
+    assert!(rt; status == 0 && release == [1, 7]);
+    assert!(rt; parts.epoch == 0 && parts.release_length == 1 && parts.pre_kind == 3);
+    assert!(rt; parts.pre == 2 && parts.post == 3 && parts.dev == 4);
+    assert!(rt; parts.has_post == 1 && parts.has_dev == 1 && parts.has_local == 0);
+    Ok(())
+}
+
+#[test]
+fn little_room_for_parts(rt: HostRuntime) -> Result<(), Fail> {
+    let mut parts = NO_PARTS;
+    let mut release = [7; 2];
+    assert!(rt; pep440_parts_of_compiled(rt.alloc(), PACKED, &mut parts, &mut release) == 4);
+    assert!(rt; parts.epoch == 0 && parts.release_length == 3 && release == [7; 2]);
+    assert!(rt; pep440_parts_of_compiled(rt.alloc(), THREE, &mut parts, &mut release) == 6);
+    Ok(())
+}
+
+#[test]
+fn sweep_filter(rt: HostRuntime) -> Result<(), Fail> {
+    let forms: [&[u8]; 5] = [PACKED, FIFTH, SUFFIXES, b"1.2.3", EARLY];
+    let mut marks = [7u8; 6];
+    let mut status = pep440_filter_compiled(rt.alloc(), NOT_ONE, &forms, &mut marks);
+    if status == 3 {
+        assert!(rt; marks == [7u8; 6]);
+        status = pep440_filter_compiled(rt.alloc(), NOT_ONE, &forms, &mut marks);
+    }
+    assert!(rt; status == 0 && marks == [1, 1, 3, 2, 3, 7]);
+    Ok(())
+}
+
+#[test]
+fn sweep_sort(rt: HostRuntime) -> Result<(), Fail> {
+    let forms: [&[u8]; 5] = [EARLY, PACKED, LOCAL, SUFFIXES, LOCAL];
+    let mut places = [7; 6];
+    let mut at = 99;
+    let mut status = pep440_sort_compiled(rt.alloc(), &forms, &mut places, &mut at);
+    if status == 3 {
+        assert!(rt; places == [7; 6] && at == 99);
+        status = pep440_sort_compiled(rt.alloc(), &forms, &mut places, &mut at);
+    }
+    assert!(rt; status == 0 && places == [3, 2, 4, 1, 0, 7] && at == 99);
+    Ok(())
+}
+
+#[test]
+fn batches_with_others(rt: HostRuntime) -> Result<(), Fail> {
+    let forms: [&[u8]; 3] = [PACKED, b"1.2.3", b""];
+    let (mut places, mut at) = ([7; 3], 99);
+    assert!(rt; pep440_sort_compiled(rt.alloc(), &forms, &mut places, &mut at) == 6);
+    assert!(rt; at == 1 && places == [7; 3]);
+    let mut marks = [7u8; 2];
+    assert!(rt; pep440_filter_compiled(rt.alloc(), PACKED, &forms, &mut marks) == 6);
+    assert!(rt; pep440_filter_compiled(rt.alloc(), THREE, &forms, &mut marks) == 4);
+    assert!(rt; marks == [7u8; 2]);
     Ok(())
 }
