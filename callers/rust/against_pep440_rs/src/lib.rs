@@ -1,0 +1,7 @@
+//! What both programs share: the two crates, strings by chance, and the same view of the values of either crate.
+pub extern crate pep440_rs as peer;
+pub extern crate version_ranges;
+
+pub mod chance;
+pub mod departures;
+pub mod views;

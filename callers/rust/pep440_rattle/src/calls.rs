@@ -1,0 +1,167 @@
+//! The calls of the C library, each behind a safe function. This is the one module with `unsafe`.
+//!
+//! What the header asks of a caller holds of every call here: a slice's pointer is never null and has as many bytes as it
+//! says, what is written to is a local variable or a vector of this module, so it overlaps nothing else, and its type gives
+//! its alignment. The library has no state and keeps no pointer, so any thread may call.
+#![allow(unsafe_code)]
+
+use std::alloc::{handle_alloc_error, Layout};
+use std::cmp::Ordering;
+use std::mem::MaybeUninit;
+use std::slice;
+
+type Writer = unsafe extern "C" fn(*const u8, usize, *mut u8, usize, *mut usize) -> u8;
+
+unsafe extern "C" {
+    fn pep440_compile(version: *const u8, length: usize, out: *mut u8, size: usize, written: *mut usize) -> u8;
+    fn pep440_compile_list(list: *const u8, length: usize, out: *mut u8, size: usize, written: *mut usize) -> u8;
+    fn pep440_version_error(version: *const u8, length: usize, out: *mut u8, size: usize, written: *mut usize) -> u8;
+    fn pep440_list_error(list: *const u8, length: usize, out: *mut u8, size: usize, written: *mut usize) -> u8;
+    fn pep440_normalize_compiled(compiled: *const u8, length: usize, out: *mut u8, size: usize, written: *mut usize) -> u8;
+    fn pep440_normalize_list_compiled(compiled: *const u8, length: usize, out: *mut u8, size: usize, written: *mut usize) -> u8;
+    fn pep440_sort_key_compiled(compiled: *const u8, length: usize, out: *mut u8, size: usize, written: *mut usize) -> u8;
+    fn pep440_ranges(list: *const u8, length: usize, out: *mut u8, size: usize, written: *mut usize) -> u8;
+    fn pep440_compare_compiled(left: *const u8, left_length: usize, right: *const u8, right_length: usize, order: *mut i8) -> u8;
+    fn pep440_contains_compiled(
+        list: *const u8,
+        list_length: usize,
+        version: *const u8,
+        length: usize,
+        contained: *mut u8,
+        prerelease: *mut u8,
+    ) -> u8;
+}
+
+const OK: u8 = 0;
+const INVALID_VERSION: u8 = 1;
+const INVALID_LIST: u8 = 2;
+const OUT_OF_MEMORY: u8 = 3;
+const NO_ROOM: u8 = 4;
+const NUMBER_AT_MAX: u8 = 5;
+const NOT_COMPILED: u8 = 6;
+
+/// Why a call has no result.
+#[derive(Clone, Copy, Debug, PartialEq, Eq)]
+pub(crate) enum Refusal {
+    /// The string is no version, or no list.
+    Invalid,
+    /// A bound would lie above `u64::MAX`.
+    NumberAtMax,
+}
+
+/// What a status other than `OK` and `NO_ROOM` means. Out of memory ends the process, as in the standard library.
+#[cold]
+fn refusal(status: u8) -> Refusal {
+    match status {
+        INVALID_VERSION | INVALID_LIST => Refusal::Invalid,
+        NUMBER_AT_MAX => Refusal::NumberAtMax,
+        OUT_OF_MEMORY => handle_alloc_error(Layout::new::<u8>()),
+        NOT_COMPILED => panic!("the library rejects the compiled bytes of a value of this crate"),
+        _ => panic!("the library returns a status that its header does not name: {status}"),
+    }
+}
+
+/// As many bytes are written here before a vector is.
+const STACK: usize = 128;
+
+/// Calls `read` with what `call` writes of `input`.
+#[inline]
+fn written<T>(call: Writer, input: &[u8], read: impl FnOnce(&[u8]) -> T) -> Result<T, Refusal> {
+    let mut room = MaybeUninit::<[u8; STACK]>::uninit();
+    let mut length = 0;
+    // SAFETY: as the module says.
+    let status = unsafe { call(input.as_ptr(), input.len(), room.as_mut_ptr().cast(), STACK, &mut length) };
+    match status {
+        // SAFETY: with OK the call has written `length` bytes, at most STACK, to the start of `room`.
+        OK => Ok(read(unsafe { slice::from_raw_parts(room.as_ptr().cast(), length) })),
+        NO_ROOM => Ok(read(&written_to_heap(call, input, length)?)),
+        other => Err(refusal(other)),
+    }
+}
+
+/// What `call` writes of `input`, which needs `length` bytes.
+#[cold]
+fn written_to_heap(call: Writer, input: &[u8], length: usize) -> Result<Vec<u8>, Refusal> {
+    let mut room = Vec::<u8>::with_capacity(length);
+    let mut again = 0;
+    // SAFETY: as the module says; the vector has room for `length` bytes.
+    match unsafe { call(input.as_ptr(), input.len(), room.as_mut_ptr(), length, &mut again) } {
+        OK => {
+            assert!(again <= length, "the library writes more than there is room for");
+            // SAFETY: with OK the call has written the first `again` bytes of the vector's room.
+            unsafe { room.set_len(again) };
+            Ok(room)
+        }
+        NO_ROOM => panic!("the library needs more room for the same input"),
+        other => Err(refusal(other)),
+    }
+}
+
+fn as_text(bytes: &[u8]) -> &str {
+    std::str::from_utf8(bytes).expect("the library writes UTF-8")
+}
+
+/// Calls `read` with the compiled bytes of a version.
+#[inline]
+pub(crate) fn compile<T>(version: &str, read: impl FnOnce(&[u8]) -> T) -> Result<T, Refusal> {
+    written(pep440_compile, version.as_bytes(), read)
+}
+
+/// Calls `read` with the compiled bytes of a list.
+pub(crate) fn compile_list<T>(list: &str, read: impl FnOnce(&[u8]) -> T) -> Result<T, Refusal> {
+    written(pep440_compile_list, list.as_bytes(), read)
+}
+
+/// Why the string is no version; empty where it is one.
+pub(crate) fn version_error(version: &str) -> Box<str> {
+    written(pep440_version_error, version.as_bytes(), |bytes| as_text(bytes).into()).expect("any string has an answer")
+}
+
+/// Why the string is no list; empty where it is one.
+pub(crate) fn list_error(list: &str) -> Box<str> {
+    written(pep440_list_error, list.as_bytes(), |bytes| as_text(bytes).into()).expect("any string has an answer")
+}
+
+/// Calls `read` with the normalized form of a compiled version.
+pub(crate) fn normalize<T>(version: &[u8], read: impl FnOnce(&str) -> T) -> T {
+    written(pep440_normalize_compiled, version, |bytes| read(as_text(bytes))).expect("compiled bytes have a normalized form")
+}
+
+/// Calls `read` with the normalized form of a compiled list.
+pub(crate) fn normalize_list<T>(list: &[u8], read: impl FnOnce(&str) -> T) -> T {
+    written(pep440_normalize_list_compiled, list, |bytes| read(as_text(bytes))).expect("compiled bytes have a normalized form")
+}
+
+/// Calls `read` with the sort key of a compiled version.
+pub(crate) fn sort_key<T>(version: &[u8], read: impl FnOnce(&[u8]) -> T) -> T {
+    written(pep440_sort_key_compiled, version, read).expect("compiled bytes have a sort key")
+}
+
+/// Calls `read` with the range of a list, a line for each segment.
+pub(crate) fn ranges<T>(list: &str, read: impl FnOnce(&str) -> T) -> Result<T, Refusal> {
+    written(pep440_ranges, list.as_bytes(), |bytes| read(as_text(bytes)))
+}
+
+/// The order of two compiled versions.
+pub(crate) fn compare(left: &[u8], right: &[u8]) -> Ordering {
+    let mut order = 0;
+    // SAFETY: as the module says.
+    match unsafe { pep440_compare_compiled(left.as_ptr(), left.len(), right.as_ptr(), right.len(), &mut order) } {
+        OK => order.cmp(&0),
+        other => panic!("compiled versions have no order: {:?}", refusal(other)),
+    }
+}
+
+/// Whether a compiled list contains a compiled version.
+#[inline]
+pub(crate) fn contains(list: &[u8], version: &[u8]) -> bool {
+    let (mut contained, mut prerelease) = (0, 0);
+    // SAFETY: as the module says.
+    let status = unsafe {
+        pep440_contains_compiled(list.as_ptr(), list.len(), version.as_ptr(), version.len(), &mut contained, &mut prerelease)
+    };
+    match status {
+        OK => contained == 1,
+        other => panic!("a compiled list has no answer: {:?}", refusal(other)),
+    }
+}

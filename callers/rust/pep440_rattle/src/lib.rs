@@ -1,0 +1,48 @@
+//! Versions and specifiers of Python packages ([PEP 440](https://peps.python.org/pep-0440)), by a proved library.
+//!
+//! The names and the behaviour are those of the crate `pep440_rs` 0.7.3, but for the departures that the README lists.
+//! Parsing, normalized forms, order and matching are calls of the library `pep440`, whose functions are proved to do what
+//! PEP 440 says; this crate is tested, not proved.
+//!
+//! ```
+//! use pep440_rattle::{Version, VersionSpecifiers};
+//!
+//! let version: Version = "v1.19-Alpha.2".parse().unwrap();
+//! assert_eq!(version.to_string(), "1.19a2");
+//! let list: VersionSpecifiers = ">=1.16, <2.0".parse().unwrap();
+//! assert!(list.contains(&version));
+//! assert_eq!(
+//!     "1.0prev".parse::<Version>().unwrap_err().to_string(),
+//!     "after parsing `1.0pre`, found `v`, which is not part of a valid version"
+//! );
+//! ```
+//!
+//! Out of memory ends in [`std::alloc::handle_alloc_error`], as in the standard library.
+#![deny(unsafe_code)]
+
+mod bytes;
+mod calls;
+mod error;
+mod operator;
+mod packed;
+mod parts;
+mod pattern;
+mod range;
+mod segment;
+mod specifier;
+mod specifiers;
+#[cfg(test)]
+mod tests;
+mod version;
+
+pub use error::{
+    OperatorParseError, RangeError, VersionParseError, VersionPatternParseError, VersionSpecifierBuildError,
+    VersionSpecifierParseError, VersionSpecifiersParseError,
+};
+pub use operator::Operator;
+pub use pattern::VersionPattern;
+pub use range::Segment;
+pub use segment::{LocalSegment, Prerelease, PrereleaseKind};
+pub use specifier::VersionSpecifier;
+pub use specifiers::VersionSpecifiers;
+pub use version::{Version, MIN_VERSION};

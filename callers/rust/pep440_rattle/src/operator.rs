@@ -1,0 +1,111 @@
+//! The operators of specifiers.
+use crate::OperatorParseError;
+use std::fmt;
+use std::str::FromStr;
+
+/// An operator of a specifier (PEP 440, "Version specifiers"). A star form goes with a version and `.*`.
+#[derive(Clone, Copy, Debug, PartialEq, Eq, PartialOrd, Ord, Hash)]
+#[repr(u8)]
+pub enum Operator {
+    /// `==`, as in `==1.2.3`
+    Equal,
+    /// `==` with a star, as in `==1.2.*`
+    EqualStar,
+    /// `===`, which compares normalized forms
+    ExactEqual,
+    /// `!=`, as in `!=1.2.3`
+    NotEqual,
+    /// `!=` with a star, as in `!=1.2.*`
+    NotEqualStar,
+    /// `~=`, whose version has two release numbers or more
+    TildeEqual,
+    /// `<`
+    LessThan,
+    /// `<=`
+    LessThanEqual,
+    /// `>`
+    GreaterThan,
+    /// `>=`
+    GreaterThanEqual,
+}
+
+use Operator::*;
+
+/// In the order of the enum, which is that of their ranks in compiled lists.
+const ALL: [Operator; 10] =
+    [Equal, EqualStar, ExactEqual, NotEqual, NotEqualStar, TildeEqual, LessThan, LessThanEqual, GreaterThan, GreaterThanEqual];
+
+impl Operator {
+    /// The operator of the opposite meaning; None of `~=`, which has none. `===` gives `!=`, and that gives `==`.
+    pub fn negate(self) -> Option<Operator> {
+        Some(match self {
+            Equal | ExactEqual => NotEqual,
+            NotEqual => Equal,
+            EqualStar => NotEqualStar,
+            NotEqualStar => EqualStar,
+            LessThan => GreaterThanEqual,
+            LessThanEqual => GreaterThan,
+            GreaterThan => LessThanEqual,
+            GreaterThanEqual => LessThan,
+            TildeEqual => return None,
+        })
+    }
+
+    /// Whether the operator is a star form.
+    pub fn is_star(self) -> bool {
+        self.symbol_of().is_some()
+    }
+
+    /// The star form; None where there is none.
+    pub(crate) fn to_star(self) -> Option<Operator> {
+        ALL.into_iter().find(|star| star.symbol_of() == Some(self))
+    }
+
+    /// Whether the operator goes with a version that has a local part.
+    pub(crate) fn takes_local(self) -> bool {
+        matches!(self, Equal | NotEqual | ExactEqual)
+    }
+
+    pub(crate) fn from_rank(rank: u8) -> Option<Operator> {
+        ALL.get(usize::from(rank)).copied()
+    }
+
+    /// Of a star form the operator that is written.
+    fn symbol_of(self) -> Option<Operator> {
+        match self {
+            EqualStar => Some(Equal),
+            NotEqualStar => Some(NotEqual),
+            _ => None,
+        }
+    }
+
+    fn symbol(self) -> &'static str {
+        match self {
+            Equal | EqualStar => "==",
+            ExactEqual => "===",
+            NotEqual | NotEqualStar => "!=",
+            TildeEqual => "~=",
+            LessThan => "<",
+            LessThanEqual => "<=",
+            GreaterThan => ">",
+            GreaterThanEqual => ">=",
+        }
+    }
+}
+
+impl FromStr for Operator {
+    type Err = OperatorParseError;
+
+    /// The operator as it is written; never a star form, since the star follows the version.
+    fn from_str(symbol: &str) -> Result<Operator, OperatorParseError> {
+        let found = ALL.into_iter().find(|operator| !operator.is_star() && operator.symbol() == symbol);
+        found.ok_or_else(|| OperatorParseError::new(symbol))
+    }
+}
+
+impl fmt::Display for Operator {
+    /// The operator as it is written, without a star.
+    fn fmt(&self, f: &mut fmt::Formatter<'_>) -> fmt::Result {
+        f.write_str(self.symbol())
+    }
+}

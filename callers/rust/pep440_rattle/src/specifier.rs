@@ -1,0 +1,253 @@
+//! Specifiers: an operator and a version.
+use crate::bytes;
+use crate::calls;
+use crate::{
+    Operator, RangeError, Segment, Version, VersionPattern, VersionSpecifierBuildError, VersionSpecifierParseError,
+    VersionSpecifiers,
+};
+use std::collections::HashSet;
+use std::fmt;
+use std::ops::Bound;
+use std::str::FromStr;
+
+/// A specifier, as `>1.2.3`, `<=4!5.6.7a8.post9.dev0` or `==4.1.*`.
+///
+/// ```
+/// use pep440_rattle::{Version, VersionSpecifier};
+///
+/// let specifier: VersionSpecifier = "== 1.*".parse().unwrap();
+/// assert!(specifier.contains(&Version::new([1, 19])));
+/// assert_eq!(specifier.to_string(), "==1.*");
+/// ```
+#[derive(Clone, Debug, PartialEq, Eq, PartialOrd, Ord, Hash)]
+pub struct VersionSpecifier {
+    operator: Operator,
+    version: Version,
+}
+
+impl VersionSpecifier {
+    /// A specifier of these parts; no other call of the module makes one.
+    pub(crate) fn unchecked(operator: Operator, version: Version) -> VersionSpecifier {
+        VersionSpecifier { operator, version }
+    }
+
+    /// The specifier of an operator and a pattern, whose wildcard makes the operator a star form.
+    ///
+    /// # Errors
+    ///
+    /// Where the operator has no star form, and as [`VersionSpecifier::from_version`].
+    pub fn from_pattern(
+        operator: Operator,
+        version_pattern: VersionPattern,
+    ) -> Result<VersionSpecifier, VersionSpecifierBuildError> {
+        if !version_pattern.is_wildcard() {
+            return VersionSpecifier::from_version(operator, version_pattern.into_version());
+        }
+        let Some(star) = operator.to_star() else {
+            let text = format!("Operator {operator} cannot be used with a wildcard version specifier");
+            return Err(VersionSpecifierBuildError::new(text));
+        };
+        VersionSpecifier::from_version(star, version_pattern.into_version())
+    }
+
+    /// The specifier of an operator and a version.
+    ///
+    /// # Errors
+    ///
+    /// Where the version has a local part and the operator is none of `==`, `!=` and `===`, or the operator is `~=` and the
+    /// version has one release number.
+    pub fn from_version(operator: Operator, version: Version) -> Result<VersionSpecifier, VersionSpecifierBuildError> {
+        if version.is_local() && !operator.takes_local() {
+            let local: Vec<String> = version.local().iter().map(ToString::to_string).collect();
+            let text = format!(
+                "Operator {operator} is incompatible with versions containing non-empty local segments (`+{}`)",
+                local.join(".")
+            );
+            return Err(VersionSpecifierBuildError::new(text));
+        }
+        if operator == Operator::TildeEqual && version.release().len() < 2 {
+            let text = "The ~= operator requires at least two segments in the release version";
+            return Err(VersionSpecifierBuildError::new(text));
+        }
+        Ok(VersionSpecifier::unchecked(operator, version))
+    }
+
+    /// `==` and the version; nothing is checked.
+    pub fn equals_version(version: Version) -> VersionSpecifier {
+        VersionSpecifier::unchecked(Operator::Equal, version)
+    }
+
+    /// `==`, the version and `.*`; nothing is checked.
+    pub fn equals_star_version(version: Version) -> VersionSpecifier {
+        VersionSpecifier::unchecked(Operator::EqualStar, version)
+    }
+
+    /// `!=`, the version and `.*`; nothing is checked.
+    pub fn not_equals_star_version(version: Version) -> VersionSpecifier {
+        VersionSpecifier::unchecked(Operator::NotEqualStar, version)
+    }
+
+    /// `!=` and the version; nothing is checked.
+    pub fn not_equals_version(version: Version) -> VersionSpecifier {
+        VersionSpecifier::unchecked(Operator::NotEqual, version)
+    }
+
+    /// `>=` and the version; nothing is checked.
+    pub fn greater_than_equal_version(version: Version) -> VersionSpecifier {
+        VersionSpecifier::unchecked(Operator::GreaterThanEqual, version)
+    }
+
+    /// `>` and the version; nothing is checked.
+    pub fn greater_than_version(version: Version) -> VersionSpecifier {
+        VersionSpecifier::unchecked(Operator::GreaterThan, version)
+    }
+
+    /// `<=` and the version; nothing is checked.
+    pub fn less_than_equal_version(version: Version) -> VersionSpecifier {
+        VersionSpecifier::unchecked(Operator::LessThanEqual, version)
+    }
+
+    /// `<` and the version; nothing is checked.
+    pub fn less_than_version(version: Version) -> VersionSpecifier {
+        VersionSpecifier::unchecked(Operator::LessThan, version)
+    }
+
+    /// The operator.
+    pub fn operator(&self) -> &Operator {
+        &self.operator
+    }
+
+    /// The version, without the `.*` of a star form.
+    pub fn version(&self) -> &Version {
+        &self.version
+    }
+
+    /// The operator and the version.
+    pub fn into_parts(self) -> (Operator, Version) {
+        (self.operator, self.version)
+    }
+
+    /// Whether the version has a pre-release or a developmental part.
+    pub fn any_prerelease(&self) -> bool {
+        self.version.any_prerelease()
+    }
+
+    /// Whether the specifier contains the version (PEP 440, "Version specifiers"). Pre-releases are versions like others.
+    pub fn contains(&self, version: &Version) -> bool {
+        self.with_list(|list| version.with_compiled(|version| calls::contains(list, version)))
+    }
+
+    /// Whether there are versions that the specifier excludes for being too low.
+    pub fn has_lower_bound(&self) -> bool {
+        use Operator::*;
+        matches!(self.operator, Equal | EqualStar | ExactEqual | TildeEqual | GreaterThan | GreaterThanEqual)
+    }
+
+    /// The range of the specifier; see [`VersionSpecifiers::ranges`].
+    ///
+    /// # Errors
+    ///
+    /// As [`VersionSpecifiers::ranges`].
+    pub fn ranges(&self) -> Result<Vec<Segment>, RangeError> {
+        VersionSpecifiers::from(self.clone()).ranges()
+    }
+
+    /// Calls `read` with the compiled bytes of a list of this specifier alone.
+    fn with_list<T>(&self, read: impl FnOnce(&[u8]) -> T) -> T {
+        match self.version.packed() {
+            Some(packed) => read(&bytes::packed_member(self.operator, packed)),
+            None => read(&bytes::list(std::slice::from_ref(self))),
+        }
+    }
+
+    /// The specifiers that a range of releases is: one where it is one version or all of a release `1.2`, else one for each
+    /// bound. It is meant for bounds that are releases alone.
+    pub fn from_release_only_bounds(bounds: (&Bound<Version>, &Bound<Version>)) -> impl Iterator<Item = VersionSpecifier> {
+        let found = match bounds {
+            (Bound::Included(low), Bound::Included(high)) if low == high => {
+                [Some(VersionSpecifier::equals_version(low.clone())), None]
+            }
+            (Bound::Included(low), Bound::Excluded(high)) if is_next_minor(low, high) => {
+                [Some(VersionSpecifier::equals_star_version(low.clone())), None]
+            }
+            (low, high) => [VersionSpecifier::from_lower_bound(low), VersionSpecifier::from_upper_bound(high)],
+        };
+        found.into_iter().flatten()
+    }
+
+    /// The specifier of a lower bound; None where there is no bound.
+    ///
+    /// # Panics
+    ///
+    /// Where the version has a local part.
+    pub fn from_lower_bound(bound: &Bound<Version>) -> Option<VersionSpecifier> {
+        from_bound(bound, Operator::GreaterThanEqual, Operator::GreaterThan)
+    }
+
+    /// The specifier of an upper bound; None where there is no bound.
+    ///
+    /// # Panics
+    ///
+    /// Where the version has a local part.
+    pub fn from_upper_bound(bound: &Bound<Version>) -> Option<VersionSpecifier> {
+        from_bound(bound, Operator::LessThanEqual, Operator::LessThan)
+    }
+}
+
+fn from_bound(bound: &Bound<Version>, included: Operator, excluded: Operator) -> Option<VersionSpecifier> {
+    let (operator, version) = match bound {
+        Bound::Included(version) => (included, version),
+        Bound::Excluded(version) => (excluded, version),
+        Bound::Unbounded => return None,
+    };
+    Some(VersionSpecifier::from_version(operator, version.clone()).expect("a bound has no local part"))
+}
+
+/// Whether the first release is two numbers, and the second the same with the last one greater by one.
+pub(crate) fn is_next_minor(low: &Version, high: &Version) -> bool {
+    match (low.release(), high.release()) {
+        ([major, minor], [other, next]) => major == other && minor.checked_add(1) == Some(*next),
+        _ => false,
+    }
+}
+
+/// A character that the string does not have. None of these is white space or stands in a specifier.
+fn unused_character(text: &str) -> char {
+    let used: HashSet<char> = text.chars().collect();
+    ('\u{e000}'..=char::MAX).find(|candidate| !used.contains(candidate)).unwrap_or('\u{e000}')
+}
+
+/// Why the list of this one string is no list, without what the library writes around it: its first words, the string, and
+/// the carets under it.
+fn error_of_one(specifier: &str) -> Box<str> {
+    let whole = calls::list_error(specifier);
+    let inner = || {
+        let rest = whole.strip_prefix("Failed to parse version: ")?.strip_suffix('\n')?.trim_end_matches('^');
+        rest.strip_suffix('\n')?.strip_suffix(specifier)?.strip_suffix(":\n")
+    };
+    inner().unwrap_or(&whole).into()
+}
+
+impl FromStr for VersionSpecifier {
+    type Err = VersionSpecifierParseError;
+
+    /// Parses a specifier, as `>= 1.19`, `== 1.1.*` or `<=1!2012.2`.
+    fn from_str(specifier: &str) -> Result<VersionSpecifier, VersionSpecifierParseError> {
+        // The library reads lists: none of nothing, and more than one of a string with a comma, which no specifier has.
+        if specifier.contains(',') {
+            let instead = unused_character(specifier);
+            let text = error_of_one(&specifier.replace(',', &instead.to_string()));
+            return Err(VersionSpecifierParseError::new(text.replace(instead, ",")));
+        }
+        let asked = if specifier.is_empty() { " " } else { specifier };
+        let read = calls::compile_list(asked, bytes::read_list).ok().and_then(|mut members| members.pop());
+        read.ok_or_else(|| VersionSpecifierParseError::new(error_of_one(asked)))
+    }
+}
+
+impl fmt::Display for VersionSpecifier {
+    /// Writes the operator and the normalized version, as `==1.2.*`.
+    fn fmt(&self, f: &mut fmt::Formatter<'_>) -> fmt::Result {
+        self.with_list(|list| calls::normalize_list(list, |text| f.write_str(text)))
+    }
+}

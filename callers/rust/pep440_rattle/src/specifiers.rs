@@ -1,0 +1,186 @@
+//! Lists of specifiers.
+use crate::bytes;
+use crate::calls::{self, Refusal};
+use crate::range;
+use crate::specifier::is_next_minor;
+use crate::{RangeError, Segment, Version, VersionSpecifier, VersionSpecifiersParseError};
+use std::cmp::Ordering;
+use std::fmt;
+use std::hash::{Hash, Hasher};
+use std::ops::{Bound, Deref};
+use std::str::FromStr;
+
+/// A list of specifiers, as `>=2.1, <3`, in the order of their versions. It contains what each of them does.
+///
+/// ```
+/// use pep440_rattle::{Operator, VersionSpecifiers};
+///
+/// let list: VersionSpecifiers = "<2.0, >=1.16".parse().unwrap();
+/// assert_eq!(list.to_string(), ">=1.16, <2.0");
+/// assert_eq!(*list[1].operator(), Operator::LessThan);
+/// ```
+#[derive(Clone)]
+pub struct VersionSpecifiers {
+    members: Vec<VersionSpecifier>,
+    compiled: Box<[u8]>,
+}
+
+impl VersionSpecifiers {
+    /// The list without a specifier, which contains each version.
+    pub fn empty() -> VersionSpecifiers {
+        VersionSpecifiers::from_arranged(Vec::new())
+    }
+
+    /// The list of members, of which none has a version below that of the one before it.
+    fn from_arranged(members: Vec<VersionSpecifier>) -> VersionSpecifiers {
+        let compiled = bytes::list(&members).into();
+        VersionSpecifiers { members, compiled }
+    }
+
+    fn from_unsorted(mut members: Vec<VersionSpecifier>) -> VersionSpecifiers {
+        members.sort_by(|left, right| left.version().cmp(right.version()));
+        VersionSpecifiers::from_arranged(members)
+    }
+
+    /// Whether each specifier contains the version.
+    #[inline]
+    pub fn contains(&self, version: &Version) -> bool {
+        version.with_compiled(|version| calls::contains(&self.compiled, version))
+    }
+
+    /// Whether there is no specifier.
+    pub fn is_empty(&self) -> bool {
+        self.members.is_empty()
+    }
+
+    /// The range of the list: its segments in ascending order, none of which touches the next one. A bound may have a sentinel
+    /// ([`Version::min`], [`Version::max`]).
+    ///
+    /// A range goes by the order of versions, so it is not always what [`VersionSpecifiers::contains`] matches: `<=1.0`
+    /// contains `1.0+local`, which is above the end of its range.
+    ///
+    /// # Errors
+    ///
+    /// [`RangeError::NumberAtMax`] where a bound would need a number above `u64::MAX`; [`RangeError::NotParsed`] where a
+    /// member was made by a call that checks nothing, and no string denotes it.
+    pub fn ranges(&self) -> Result<Vec<Segment>, RangeError> {
+        calls::ranges(&self.to_string(), range::read_segments).map_err(|refusal| match refusal {
+            Refusal::Invalid => RangeError::NotParsed,
+            Refusal::NumberAtMax => RangeError::NumberAtMax,
+        })
+    }
+
+    /// The list that a sorted sequence of ranges of releases is: the outer bounds, and a specifier `!=` for a gap of one
+    /// version or of a release `1.2`. Other gaps are left out. It is meant for bounds that are releases alone.
+    pub fn from_release_only_bounds<'a>(
+        mut bounds: impl Iterator<Item = (&'a Bound<Version>, &'a Bound<Version>)>,
+    ) -> VersionSpecifiers {
+        let Some((first, mut end)) = bounds.next() else {
+            return VersionSpecifiers::empty();
+        };
+        let mut members = Vec::new();
+        for (lower, upper) in bounds {
+            members.extend(from_gap(end, lower));
+            end = upper;
+        }
+        members.extend(VersionSpecifier::from_release_only_bounds((first, end)));
+        VersionSpecifiers::from_unsorted(members)
+    }
+}
+
+/// The specifier that leaves out what lies between two segments; None where there is none.
+fn from_gap(end: &Bound<Version>, start: &Bound<Version>) -> Option<VersionSpecifier> {
+    match (end, start) {
+        (Bound::Excluded(end), Bound::Excluded(start)) if end == start => Some(VersionSpecifier::not_equals_version(end.clone())),
+        (Bound::Excluded(end), Bound::Included(start)) if is_next_minor(end, start) => {
+            Some(VersionSpecifier::not_equals_star_version(end.clone()))
+        }
+        _ => None,
+    }
+}
+
+impl FromStr for VersionSpecifiers {
+    type Err = VersionSpecifiersParseError;
+
+    /// Parses specifiers with commas between them; the empty string is the empty list.
+    fn from_str(list: &str) -> Result<VersionSpecifiers, VersionSpecifiersParseError> {
+        let read = |compiled: &[u8]| VersionSpecifiers { members: bytes::read_list(compiled), compiled: compiled.into() };
+        calls::compile_list(list, read).map_err(|_| VersionSpecifiersParseError::new(calls::list_error(list), list))
+    }
+}
+
+impl fmt::Display for VersionSpecifiers {
+    /// Writes the specifiers with a comma and a space between them.
+    fn fmt(&self, f: &mut fmt::Formatter<'_>) -> fmt::Result {
+        calls::normalize_list(&self.compiled, |text| f.write_str(text))
+    }
+}
+
+impl fmt::Debug for VersionSpecifiers {
+    fn fmt(&self, f: &mut fmt::Formatter<'_>) -> fmt::Result {
+        f.debug_tuple("VersionSpecifiers").field(&self.members).finish()
+    }
+}
+
+impl Deref for VersionSpecifiers {
+    type Target = [VersionSpecifier];
+
+    fn deref(&self) -> &[VersionSpecifier] {
+        &self.members
+    }
+}
+
+impl FromIterator<VersionSpecifier> for VersionSpecifiers {
+    fn from_iter<T: IntoIterator<Item = VersionSpecifier>>(members: T) -> VersionSpecifiers {
+        VersionSpecifiers::from_unsorted(members.into_iter().collect())
+    }
+}
+
+impl IntoIterator for VersionSpecifiers {
+    type Item = VersionSpecifier;
+    type IntoIter = std::vec::IntoIter<VersionSpecifier>;
+
+    fn into_iter(self) -> Self::IntoIter {
+        self.members.into_iter()
+    }
+}
+
+impl From<VersionSpecifier> for VersionSpecifiers {
+    fn from(specifier: VersionSpecifier) -> VersionSpecifiers {
+        VersionSpecifiers::from_arranged(vec![specifier])
+    }
+}
+
+impl Default for VersionSpecifiers {
+    fn default() -> VersionSpecifiers {
+        VersionSpecifiers::empty()
+    }
+}
+
+// The compiled bytes are no part of the value: those of equal lists may differ, as `==1.0` and `==1.0.0`.
+
+impl PartialEq for VersionSpecifiers {
+    fn eq(&self, other: &VersionSpecifiers) -> bool {
+        self.members == other.members
+    }
+}
+
+impl Eq for VersionSpecifiers {}
+
+impl PartialOrd for VersionSpecifiers {
+    fn partial_cmp(&self, other: &VersionSpecifiers) -> Option<Ordering> {
+        Some(self.cmp(other))
+    }
+}
+
+impl Ord for VersionSpecifiers {
+    fn cmp(&self, other: &VersionSpecifiers) -> Ordering {
+        self.members.cmp(&other.members)
+    }
+}
+
+impl Hash for VersionSpecifiers {
+    fn hash<H: Hasher>(&self, state: &mut H) {
+        self.members.hash(state);
+    }
+}
