@@ -1,4 +1,4 @@
-//! The program `pyver` as a function of its words, over any writers: what it prints for people and for shell scripts.
+//! The program `pyver` as a function of its words, over any reader and any writers: what it prints for people and for shell scripts.
 #![tactic(auto)]
 
 mod allowed;
