@@ -56,15 +56,29 @@ CREATE FUNCTION pep440_le_key(pep440, bytea) RETURNS boolean AS 'MODULE_PATHNAME
 CREATE FUNCTION pep440_eq_key(pep440, bytea) RETURNS boolean AS 'MODULE_PATHNAME', 'version_eq_key' LANGUAGE C IMMUTABLE STRICT PARALLEL SAFE;
 CREATE FUNCTION pep440_ge_key(pep440, bytea) RETURNS boolean AS 'MODULE_PATHNAME', 'version_ge_key' LANGUAGE C IMMUTABLE STRICT PARALLEL SAFE;
 CREATE FUNCTION pep440_gt_key(pep440, bytea) RETURNS boolean AS 'MODULE_PATHNAME', 'version_gt_key' LANGUAGE C IMMUTABLE STRICT PARALLEL SAFE;
+CREATE FUNCTION pep440_key_lt(bytea, pep440) RETURNS boolean AS 'MODULE_PATHNAME', 'key_lt_version' LANGUAGE C IMMUTABLE STRICT PARALLEL SAFE;
+CREATE FUNCTION pep440_key_le(bytea, pep440) RETURNS boolean AS 'MODULE_PATHNAME', 'key_le_version' LANGUAGE C IMMUTABLE STRICT PARALLEL SAFE;
+CREATE FUNCTION pep440_key_eq(bytea, pep440) RETURNS boolean AS 'MODULE_PATHNAME', 'key_eq_version' LANGUAGE C IMMUTABLE STRICT PARALLEL SAFE;
+CREATE FUNCTION pep440_key_ge(bytea, pep440) RETURNS boolean AS 'MODULE_PATHNAME', 'key_ge_version' LANGUAGE C IMMUTABLE STRICT PARALLEL SAFE;
+CREATE FUNCTION pep440_key_gt(bytea, pep440) RETURNS boolean AS 'MODULE_PATHNAME', 'key_gt_version' LANGUAGE C IMMUTABLE STRICT PARALLEL SAFE;
 CREATE FUNCTION pep440_cmp_key(pep440, bytea) RETURNS integer AS 'MODULE_PATHNAME', 'version_cmp_key' LANGUAGE C IMMUTABLE STRICT PARALLEL SAFE;
-CREATE OPERATOR < (LEFTARG = pep440, RIGHTARG = bytea, FUNCTION = pep440_lt_key, NEGATOR = >=, RESTRICT = scalarltsel, JOIN = scalarltjoinsel);
-CREATE OPERATOR <= (LEFTARG = pep440, RIGHTARG = bytea, FUNCTION = pep440_le_key, NEGATOR = >, RESTRICT = scalarlesel, JOIN = scalarlejoinsel);
-CREATE OPERATOR = (LEFTARG = pep440, RIGHTARG = bytea, FUNCTION = pep440_eq_key, RESTRICT = eqsel, JOIN = eqjoinsel);
-CREATE OPERATOR >= (LEFTARG = pep440, RIGHTARG = bytea, FUNCTION = pep440_ge_key, NEGATOR = <, RESTRICT = scalargesel, JOIN = scalargejoinsel);
-CREATE OPERATOR > (LEFTARG = pep440, RIGHTARG = bytea, FUNCTION = pep440_gt_key, NEGATOR = <=, RESTRICT = scalargtsel, JOIN = scalargtjoinsel);
+CREATE FUNCTION pep440_key_cmp(bytea, pep440) RETURNS integer AS 'MODULE_PATHNAME', 'key_cmp_version' LANGUAGE C IMMUTABLE STRICT PARALLEL SAFE;
+CREATE OPERATOR < (LEFTARG = pep440, RIGHTARG = bytea, FUNCTION = pep440_lt_key, COMMUTATOR = >, NEGATOR = >=, RESTRICT = scalarltsel, JOIN = scalarltjoinsel);
+CREATE OPERATOR <= (LEFTARG = pep440, RIGHTARG = bytea, FUNCTION = pep440_le_key, COMMUTATOR = >=, NEGATOR = >, RESTRICT = scalarlesel, JOIN = scalarlejoinsel);
+CREATE OPERATOR = (LEFTARG = pep440, RIGHTARG = bytea, FUNCTION = pep440_eq_key, COMMUTATOR = =, RESTRICT = eqsel, JOIN = eqjoinsel);
+CREATE OPERATOR >= (LEFTARG = pep440, RIGHTARG = bytea, FUNCTION = pep440_ge_key, COMMUTATOR = <=, NEGATOR = <, RESTRICT = scalargesel, JOIN = scalargejoinsel);
+CREATE OPERATOR > (LEFTARG = pep440, RIGHTARG = bytea, FUNCTION = pep440_gt_key, COMMUTATOR = <, NEGATOR = <=, RESTRICT = scalargtsel, JOIN = scalargtjoinsel);
+CREATE OPERATOR < (LEFTARG = bytea, RIGHTARG = pep440, FUNCTION = pep440_key_lt, COMMUTATOR = >, NEGATOR = >=, RESTRICT = scalarltsel, JOIN = scalarltjoinsel);
+CREATE OPERATOR <= (LEFTARG = bytea, RIGHTARG = pep440, FUNCTION = pep440_key_le, COMMUTATOR = >=, NEGATOR = >, RESTRICT = scalarlesel, JOIN = scalarlejoinsel);
+CREATE OPERATOR = (LEFTARG = bytea, RIGHTARG = pep440, FUNCTION = pep440_key_eq, COMMUTATOR = =, RESTRICT = eqsel, JOIN = eqjoinsel);
+CREATE OPERATOR >= (LEFTARG = bytea, RIGHTARG = pep440, FUNCTION = pep440_key_ge, COMMUTATOR = <=, NEGATOR = <, RESTRICT = scalargesel, JOIN = scalargejoinsel);
+CREATE OPERATOR > (LEFTARG = bytea, RIGHTARG = pep440, FUNCTION = pep440_key_gt, COMMUTATOR = <, NEGATOR = <=, RESTRICT = scalargtsel, JOIN = scalargtjoinsel);
 ALTER OPERATOR FAMILY pep440_ops USING btree ADD
-    OPERATOR 1 < (pep440, bytea), OPERATOR 2 <= (pep440, bytea), OPERATOR 3 = (pep440, bytea), OPERATOR 4 >= (pep440, bytea),
-    OPERATOR 5 > (pep440, bytea), FUNCTION 1 (pep440, bytea) pep440_cmp_key(pep440, bytea);
+    OPERATOR 1 < (pep440, bytea), OPERATOR 2 <= (pep440, bytea), OPERATOR 3 = (pep440, bytea), OPERATOR 4 >= (pep440, bytea), OPERATOR 5 > (pep440, bytea),
+    OPERATOR 1 < (bytea, pep440), OPERATOR 2 <= (bytea, pep440), OPERATOR 3 = (bytea, pep440), OPERATOR 4 >= (bytea, pep440), OPERATOR 5 > (bytea, pep440),
+    OPERATOR 1 < (bytea, bytea), OPERATOR 2 <= (bytea, bytea), OPERATOR 3 = (bytea, bytea), OPERATOR 4 >= (bytea, bytea), OPERATOR 5 > (bytea, bytea),
+    FUNCTION 1 (pep440, bytea) pep440_cmp_key(pep440, bytea), FUNCTION 1 (bytea, pep440) pep440_key_cmp(bytea, pep440),
+    FUNCTION 1 (bytea, bytea) byteacmp(bytea, bytea);
 
 -- ---- parts
 

@@ -110,14 +110,16 @@ Datum version_contained_by_support(PG_FUNCTION_ARGS)
 
 enum { NOT_KNOWN = -1 };
 
-static double intervals_selectivity(PlannerInfo *root, int relation, Node *version, const Cover *cover)
+/* Each interval has at least as many rows as one version has: the statistics see no narrow one. */
+static double intervals_selectivity(PlannerInfo *root, int relation, VariableStatData *variable, const Cover *cover)
 {
-    Oid type = exprType(version);
+    bool is_guess;
+    Oid type = exprType(variable->var);
     Oid family = lookup_type_cache(type, TYPECACHE_BTREE_OPFAMILY)->btree_opf;
-    double sum = 0;
+    double sum = 0, least = 1 / get_variable_numdistinct(variable, &is_guess);
     for (size_t each = 0; each < cover->count; each += 2) {
-        List *conditions = interval_conditions(family, version, type, cover_key(cover, each), cover_key(cover, each + 1));
-        sum += conditions == NIL ? 1 : clauselist_selectivity(root, conditions, relation, JOIN_INNER, NULL);
+        List *conditions = interval_conditions(family, variable->var, type, cover_key(cover, each), cover_key(cover, each + 1));
+        sum += conditions == NIL ? 1 : Max(least, clauselist_selectivity(root, conditions, relation, JOIN_INNER, NULL));
     }
     return sum;
 }
@@ -136,7 +138,7 @@ static double known_selectivity(PlannerInfo *root, List *arguments, int relation
     if (is_known && ((Const *)list)->constisnull)
         found = 0;
     else if (is_known && cover_of(specs_of(PG_DETOAST_DATUM_PACKED(((Const *)list)->constvalue)), &cover) == PEP440_OK)
-        found = intervals_selectivity(root, relation, variable.var, &cover);
+        found = intervals_selectivity(root, relation, &variable, &cover);
     ReleaseVariableStats(variable);
     return found;
 }

@@ -188,7 +188,7 @@ Datum version_valid(PG_FUNCTION_ARGS)
 static int compare_bytes(Bytes left, Bytes right)
 {
     int order = memcmp(left.bytes, right.bytes, Min(left.length, right.length));
-    return order != 0 ? order : (left.length > right.length) - (left.length < right.length);
+    return order != 0 ? (order > 0) - (order < 0) : (left.length > right.length) - (left.length < right.length);
 }
 
 static int order_of(FunctionCallInfo fcinfo)
@@ -200,14 +200,14 @@ static int order_of(FunctionCallInfo fcinfo)
     return order;
 }
 
-/* A version with a key alone, as a cover has it. */
-static int order_of_key(FunctionCallInfo fcinfo)
+/* A version and a key alone, as a cover has it: the version is the first argument, or the second one. */
+static int order_of_key(FunctionCallInfo fcinfo, int version_at)
 {
-    struct varlena *left = GET_STORED(0), *right = GET_STORED(1);
-    int order = compare_bytes(version_of(left).key, (Bytes){(const uint8_t *)VARDATA_ANY(right), VARSIZE_ANY_EXHDR(right)});
-    PG_FREE_IF_COPY(left, 0);
-    PG_FREE_IF_COPY(right, 1);
-    return order;
+    struct varlena *stored = GET_STORED(version_at), *key = GET_STORED(1 - version_at);
+    int order = compare_bytes(version_of(stored).key, (Bytes){(const uint8_t *)VARDATA_ANY(key), VARSIZE_ANY_EXHDR(key)});
+    PG_FREE_IF_COPY(stored, version_at);
+    PG_FREE_IF_COPY(key, 1 - version_at);
+    return version_at == 0 ? order : -order;
 }
 
 #define ORDER_FUNCTION(name, test) \
@@ -224,11 +224,16 @@ ORDER_FUNCTION(version_eq, order_of(fcinfo) == 0);
 ORDER_FUNCTION(version_ge, order_of(fcinfo) >= 0);
 ORDER_FUNCTION(version_gt, order_of(fcinfo) > 0);
 ORDER_FUNCTION(version_ne, order_of(fcinfo) != 0);
-ORDER_FUNCTION(version_lt_key, order_of_key(fcinfo) < 0);
-ORDER_FUNCTION(version_le_key, order_of_key(fcinfo) <= 0);
-ORDER_FUNCTION(version_eq_key, order_of_key(fcinfo) == 0);
-ORDER_FUNCTION(version_ge_key, order_of_key(fcinfo) >= 0);
-ORDER_FUNCTION(version_gt_key, order_of_key(fcinfo) > 0);
+ORDER_FUNCTION(version_lt_key, order_of_key(fcinfo, 0) < 0);
+ORDER_FUNCTION(key_lt_version, order_of_key(fcinfo, 1) < 0);
+ORDER_FUNCTION(version_le_key, order_of_key(fcinfo, 0) <= 0);
+ORDER_FUNCTION(key_le_version, order_of_key(fcinfo, 1) <= 0);
+ORDER_FUNCTION(version_eq_key, order_of_key(fcinfo, 0) == 0);
+ORDER_FUNCTION(key_eq_version, order_of_key(fcinfo, 1) == 0);
+ORDER_FUNCTION(version_ge_key, order_of_key(fcinfo, 0) >= 0);
+ORDER_FUNCTION(key_ge_version, order_of_key(fcinfo, 1) >= 0);
+ORDER_FUNCTION(version_gt_key, order_of_key(fcinfo, 0) > 0);
+ORDER_FUNCTION(key_gt_version, order_of_key(fcinfo, 1) > 0);
 
 PG_FUNCTION_INFO_V1(version_cmp);
 Datum version_cmp(PG_FUNCTION_ARGS)
@@ -239,7 +244,13 @@ Datum version_cmp(PG_FUNCTION_ARGS)
 PG_FUNCTION_INFO_V1(version_cmp_key);
 Datum version_cmp_key(PG_FUNCTION_ARGS)
 {
-    PG_RETURN_INT32(order_of_key(fcinfo));
+    PG_RETURN_INT32(order_of_key(fcinfo, 0));
+}
+
+PG_FUNCTION_INFO_V1(key_cmp_version);
+Datum key_cmp_version(PG_FUNCTION_ARGS)
+{
+    PG_RETURN_INT32(order_of_key(fcinfo, 1));
 }
 
 PG_FUNCTION_INFO_V1(version_smaller);
