@@ -54,13 +54,15 @@ Specs specs_of(const struct varlena *stored);
 struct varlena *read_version(Bytes text);
 struct varlena *read_specs(Bytes text);
 
-/* The keys of the list's cover; or PEP440_NUMBER_AT_MAX. Any other failure is an error. */
-uint8_t cover_of(Specs specs, Cover *cover);
+/* The keys of the cover of a compiled list; or PEP440_NUMBER_AT_MAX. Any other failure is an error. */
+uint8_t cover_of(Bytes list, Cover *cover);
 /* The key number `place` of a cover. */
 Bytes cover_key(const Cover *cover, size_t place);
 /* The lowest key of a cover, and the one above all of it; no bytes where there is no such bound. Nothing lies in an empty cover. */
 void ends_of_cover(const Cover *cover, Bytes *low, Bytes *high);
 struct varlena *make_bytea(Bytes bytes);
+/* As keys are compared: byte by byte, then the shorter one first. -1, 0 or 1. */
+int compare_bytes(Bytes left, Bytes right);
 
 #define GET_STORED(number) ((struct varlena *)PG_DETOAST_DATUM_PACKED(PG_GETARG_DATUM(number)))
 #define GET_VERSION(number) version_of(GET_STORED(number))

@@ -34,7 +34,7 @@ static List *constant_conditions(Oid family, Node *version, Oid type, const Cons
 {
     Cover cover;
     Bytes low, high;
-    if (list->constisnull || cover_of(specs_of(PG_DETOAST_DATUM_PACKED(list->constvalue)), &cover) != PEP440_OK)
+    if (list->constisnull || cover_of(specs_of(PG_DETOAST_DATUM_PACKED(list->constvalue)).compiled, &cover) != PEP440_OK)
         return NIL;
     ends_of_cover(&cover, &low, &high);
     return interval_conditions(family, version, type, low, high);
@@ -137,7 +137,7 @@ static double known_selectivity(PlannerInfo *root, List *arguments, int relation
     bool is_known = IsA(list, Const) && is_left == version_is_first;
     if (is_known && ((Const *)list)->constisnull)
         found = 0;
-    else if (is_known && cover_of(specs_of(PG_DETOAST_DATUM_PACKED(((Const *)list)->constvalue)), &cover) == PEP440_OK)
+    else if (is_known && cover_of(specs_of(PG_DETOAST_DATUM_PACKED(((Const *)list)->constvalue)).compiled, &cover) == PEP440_OK)
         found = intervals_selectivity(root, relation, &variable, &cover);
     ReleaseVariableStats(variable);
     return found;

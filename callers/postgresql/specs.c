@@ -100,59 +100,30 @@ Datum specs_to_text(PG_FUNCTION_ARGS)
     PG_RETURN_TEXT_P(cstring_to_text(server_text(GET_SPECS(0).normal)));
 }
 
-/* ---- matching */
-
-static bool contains(Specs specs, Version version)
-{
-    uint8_t contained, prerelease;
-    uint8_t status = pep440_contains_compiled(specs.compiled.bytes, specs.compiled.length, version.compiled.bytes, version.compiled.length,
-                                              &contained, &prerelease);
-    if (status != PEP440_OK)
-        fail(status);
-    return contained != 0;
-}
-
-PG_FUNCTION_INFO_V1(specs_contains);
-Datum specs_contains(PG_FUNCTION_ARGS)
-{
-    PG_RETURN_BOOL(contains(GET_SPECS(0), GET_VERSION(1)));
-}
-
-PG_FUNCTION_INFO_V1(version_contained_by);
-Datum version_contained_by(PG_FUNCTION_ARGS)
-{
-    PG_RETURN_BOOL(contains(GET_SPECS(1), GET_VERSION(0)));
-}
-
-/* Whether the list names a pre-release or a developmental release. */
-PG_FUNCTION_INFO_V1(specs_any_prerelease);
-Datum specs_any_prerelease(PG_FUNCTION_ARGS)
-{
-    Bytes normal = GET_SPECS(0).normal;
-    uint8_t any;
-    uint8_t status = pep440_any_prerelease(normal.bytes, normal.length, &any);
-    if (status != PEP440_OK)
-        fail(status);
-    PG_RETURN_BOOL(any != 0);
-}
-
 /* ---- covers */
 
-uint8_t cover_of(Specs specs, Cover *cover)
+/* The cover of all versions: one interval with no bound. */
+static Cover whole_cover(void)
+{
+    size_t *ends = palloc0(2 * sizeof *ends);
+    return (Cover){palloc0(1), ends, 2};
+}
+
+uint8_t cover_of(Bytes list, Cover *cover)
 {
     uint8_t nothing[1];
     size_t none[1], room, keys;
-    Bytes list = specs.compiled;
-    *cover = (Cover){nothing, none, 0};
     uint8_t status = pep440_cover_keys_compiled(list.bytes, list.length, nothing, 0, none, 0, &room, &keys);
-    uint8_t *written = palloc(status == PEP440_NO_ROOM ? room + 1 : 1);
-    size_t *ends = palloc(sizeof *ends * (status == PEP440_NO_ROOM ? keys + 1 : 1));
-    if (status == PEP440_NO_ROOM)
-        status = pep440_cover_keys_compiled(list.bytes, list.length, written, room, ends, keys, &room, &keys);
-    if (status == PEP440_OK)
-        *cover = (Cover){written, ends, keys};
-    else if (status != PEP440_NUMBER_AT_MAX)
+    if (status != PEP440_OK && status != PEP440_NO_ROOM && status != PEP440_NUMBER_AT_MAX)
         fail(status);
+    if (status == PEP440_NUMBER_AT_MAX)
+        return status;
+    uint8_t *written = palloc(room + 1);
+    size_t *ends = palloc(keys * sizeof *ends + 1);
+    status = pep440_cover_keys_compiled(list.bytes, list.length, written, room, ends, keys, &room, &keys);
+    if (status != PEP440_OK)
+        fail(status);
+    *cover = (Cover){written, ends, keys};
     return status;
 }
 
@@ -171,13 +142,115 @@ void ends_of_cover(const Cover *cover, Bytes *low, Bytes *high)
     *high = cover_key(cover, cover->count - 1);
 }
 
+/* ---- matching */
+
+/* The list of the last call, and its cover since it came a second time. */
+typedef struct {
+    Bytes list;
+    bool has_cover;
+    Cover cover;
+} Kept;
+
+static Kept *keep_list(FmgrInfo *function, Bytes list)
+{
+    Kept *kept = MemoryContextAllocZero(function->fn_mcxt, sizeof *kept + list.length);
+    kept->list = (Bytes){memcpy(kept + 1, list.bytes, list.length), list.length};
+    if (function->fn_extra != NULL) {
+        const Kept *last = function->fn_extra;
+        if (last->has_cover) {
+            pfree(unconstify(uint8_t *, last->cover.keys));
+            pfree(unconstify(size_t *, last->cover.ends));
+        }
+        pfree(function->fn_extra);
+    }
+    function->fn_extra = kept;
+    return kept;
+}
+
+static bool is_in_cover(const Cover *cover, Bytes key)
+{
+    size_t first = 0, end = cover->count / 2;
+    while (first < end) {
+        size_t middle = first + (end - first) / 2;
+        Bytes high = cover_key(cover, 2 * middle + 1);
+        if (compare_bytes(key, cover_key(cover, 2 * middle)) < 0)
+            end = middle;
+        else if (high.length != 0 && compare_bytes(key, high) >= 0)
+            first = middle + 1;
+        else
+            return true;
+    }
+    return false;
+}
+
+/* Whether the key of the version lies outside the list's cover; false where that is not known. So most versions need not be matched. */
+static bool is_outside(FmgrInfo *function, Bytes list, Bytes key)
+{
+    if (function == NULL)
+        return false;
+    Kept *kept = function->fn_extra;
+    if (kept == NULL || kept->list.length != list.length || memcmp(kept->list.bytes, list.bytes, list.length) != 0) {
+        keep_list(function, list);
+        return false;
+    }
+    if (!kept->has_cover) {
+        MemoryContext before = MemoryContextSwitchTo(function->fn_mcxt);
+        Cover cover;
+        if (cover_of(list, &cover) == PEP440_OK)
+            kept->cover = cover;
+        else
+            kept->cover = whole_cover();
+        kept->has_cover = true;
+        MemoryContextSwitchTo(before);
+    }
+    return !is_in_cover(&kept->cover, key);
+}
+
+static bool contains(FmgrInfo *function, Specs specs, Version version)
+{
+    uint8_t contained, prerelease;
+    if (is_outside(function, specs.compiled, version.key))
+        return false;
+    uint8_t status = pep440_contains_compiled(specs.compiled.bytes, specs.compiled.length, version.compiled.bytes, version.compiled.length,
+                                              &contained, &prerelease);
+    if (status != PEP440_OK)
+        fail(status);
+    return contained != 0;
+}
+
+PG_FUNCTION_INFO_V1(specs_contains);
+Datum specs_contains(PG_FUNCTION_ARGS)
+{
+    PG_RETURN_BOOL(contains(fcinfo->flinfo, GET_SPECS(0), GET_VERSION(1)));
+}
+
+PG_FUNCTION_INFO_V1(version_contained_by);
+Datum version_contained_by(PG_FUNCTION_ARGS)
+{
+    PG_RETURN_BOOL(contains(fcinfo->flinfo, GET_SPECS(1), GET_VERSION(0)));
+}
+
+/* Whether the list names a pre-release or a developmental release. */
+PG_FUNCTION_INFO_V1(specs_any_prerelease);
+Datum specs_any_prerelease(PG_FUNCTION_ARGS)
+{
+    Bytes normal = GET_SPECS(0).normal;
+    uint8_t any;
+    uint8_t status = pep440_any_prerelease(normal.bytes, normal.length, &any);
+    if (status != PEP440_OK)
+        fail(status);
+    PG_RETURN_BOOL(any != 0);
+}
+
+/* ---- what the planner calls, and who joins by keys */
+
 /* The two ends of the list's cover, as an index condition needs them: with no bound the lowest key, and one above all keys. Where the keys
    cannot be had, all keys lie between them. */
 static Datum end_of(FunctionCallInfo fcinfo, bool upper)
 {
     Cover cover;
     Bytes low = {ABOVE_ALL, 0}, high = {ABOVE_ALL, 0};
-    if (cover_of(GET_SPECS(0), &cover) == PEP440_OK)
+    if (cover_of(GET_SPECS(0).compiled, &cover) == PEP440_OK)
         ends_of_cover(&cover, &low, &high);
     if (high.length == 0)
         high = (Bytes){ABOVE_ALL, 1};
@@ -201,7 +274,7 @@ PG_FUNCTION_INFO_V1(specs_cover);
 Datum specs_cover(PG_FUNCTION_ARGS)
 {
     Cover cover;
-    if (cover_of(GET_SPECS(0), &cover) != PEP440_OK)
+    if (cover_of(GET_SPECS(0).compiled, &cover) != PEP440_OK)
         ereport(ERROR, (errcode(ERRCODE_NUMERIC_VALUE_OUT_OF_RANGE), errmsg("a bound of the cover would lie above 18446744073709551615")));
     InitMaterializedSRF(fcinfo, 0);
     ReturnSetInfo *result = (ReturnSetInfo *)fcinfo->resultinfo;

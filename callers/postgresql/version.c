@@ -185,7 +185,7 @@ Datum version_valid(PG_FUNCTION_ARGS)
 
 /* ---- order */
 
-static int compare_bytes(Bytes left, Bytes right)
+int compare_bytes(Bytes left, Bytes right)
 {
     int order = memcmp(left.bytes, right.bytes, Min(left.length, right.length));
     return order != 0 ? (order > 0) - (order < 0) : (left.length > right.length) - (left.length < right.length);
@@ -287,7 +287,7 @@ Datum version_hash_extended(PG_FUNCTION_ARGS)
     return hash;
 }
 
-/* ---- sorts: the first eight bytes of the key as a number, and the whole keys where these are equal */
+/* ---- sorts: a number that is made of the first bytes of the key, and the whole keys where these are equal */
 
 static int compare_stored(Datum left, Datum right, SortSupport unused)
 {
@@ -301,14 +301,16 @@ static int compare_stored(Datum left, Datum right, SortSupport unused)
     return order;
 }
 
+/* Nearly all versions have epoch 0, and their keys a first byte 0: the eight bytes behind it. All other keys are above, and get one number. */
 static Datum abbreviate(Datum original, SortSupport unused)
 {
     struct varlena *stored = PG_DETOAST_DATUM_PACKED(original);
     Bytes key = version_of(stored).key;
-    uint64 first = 0;
+    uint64 first = PG_UINT64_MAX;
     (void)unused;
-    for (size_t each = 0; each < sizeof first; each++)
-        first = first << 8 | (each < key.length ? key.bytes[each] : 0);
+    if (key.length > 0 && key.bytes[0] == 0)
+        for (size_t each = 1; each <= sizeof first; each++)
+            first = first << 8 | (each < key.length ? key.bytes[each] : 0);
     if ((Pointer)stored != DatumGetPointer(original))
         pfree(stored);
     return UInt64GetDatum(first);
