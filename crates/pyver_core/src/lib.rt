@@ -7,12 +7,16 @@ mod command;
 mod comparison;
 mod escape;
 mod help;
+mod json;
 pub mod laws;
 mod misuse;
 mod nearest;
+mod part;
 mod prerelease;
 mod program;
 mod reading;
+mod show;
+mod show_words;
 mod stream;
 
 pub use program::{refuse, run};
