@@ -1,5 +1,5 @@
 //! Runs of `pyver show`, with each request for memory refused in turn.
-use super::support::{Manner, Sink, split_words};
+use super::support::{After, Manner, Sink, Trickle, split_words};
 use pyver_core::run;
 use std::alloc::Global;
 use std::test::Fail;
@@ -83,7 +83,8 @@ const OBJECTS: [(&str, &str); 3] = [
 fn writes(alloc: Global, words: &[String], output: &str, errors: &str, status: u8) -> bool {
     let mut out = Sink::new(Manner::TakesAtMost(512));
     let mut err = Sink::new(Manner::TakesAtMost(512));
-    let ended = run(alloc, words, &mut out, &mut err);
+    let mut input = Trickle::new(b"never read", After::Fails);
+    let ended = run(alloc, words, &mut input, &mut out, &mut err);
     if ended == 3 {
         return out.bytes().is_empty() && err.bytes() == "pyver: out of memory\n".as_bytes();
     }
