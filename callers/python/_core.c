@@ -24,9 +24,11 @@ typedef struct {
     PyObject *key;
     PyObject *parts;
     PyObject *prints;
+    uint64_t word;     /* of a packed version: it stands as the version does */
     uint8_t *compiled; /* `few`, or a block of its own */
     size_t length;
     uint8_t few[16];
+    char is_packed;
 } Held;
 
 /* A specifier, or a set of them: its compiled list, which is NULL until `__init__` has read a string, and what was said of pre-releases. */
@@ -65,18 +67,11 @@ static int is_initialised(const Held *self)
     return self->text != NULL;
 }
 
-/* The bytes of a str or of a version's text, which live as long as it does. */
-static int view(PyObject *given, pep440_string *text)
+/* The bytes of a str, which live as long as it does. */
+static int view_str(PyObject *given, pep440_string *text)
 {
     Py_ssize_t length = 0;
-    const char *bytes;
-    if (PyObject_TypeCheck(given, HeldType) && !is_initialised((Held *)given))
-        return -1;
-    if (!PyUnicode_Check(str_of(given))) {
-        PyErr_Format(PyExc_TypeError, "expected a str or a Version, not %R", Py_TYPE(given));
-        return -1;
-    }
-    bytes = PyUnicode_AsUTF8AndSize(str_of(given), &length);
+    const char *bytes = PyUnicode_AsUTF8AndSize(given, &length);
     if (!bytes) {
         if (!PyErr_ExceptionMatches(PyExc_UnicodeEncodeError))
             return -1;
@@ -87,6 +82,17 @@ static int view(PyObject *given, pep440_string *text)
     text->bytes = (const uint8_t *)bytes;
     text->length = (size_t)length;
     return 0;
+}
+
+/* The same of a str or of a version's text. */
+static int view(PyObject *given, pep440_string *text)
+{
+    if (PyUnicode_Check(given))
+        return view_str(given, text);
+    if (PyObject_TypeCheck(given, HeldType))
+        return is_initialised((Held *)given) ? view_str(((Held *)given)->text, text) : -1;
+    PyErr_Format(PyExc_TypeError, "expected a str or a Version, not %R", Py_TYPE(given));
+    return -1;
 }
 
 typedef uint8_t (*Writer)(const uint8_t *, size_t, uint8_t *, size_t, size_t *);
@@ -155,39 +161,52 @@ static PyObject *raise_by(uint8_t status, PyObject *version, PyObject *list)
 
 /* ---- compiled forms */
 
+/* The first bytes of the forms (docs/PROMISES.md, "Compiled versions"): a packed version has ten bytes, the last eight of which are its word,
+   greatest byte first; a list has nine bytes, the last eight of which are the count of its members, and for each one its operator and its version. */
+enum { PACKED = 1, LIST = 3, LIST_HEAD = 9, MEMBER_HEAD = 10 };
+
+static const uint8_t EMPTY_LIST[LIST_HEAD] = {LIST}, ONE_MEMBER[LIST_HEAD] = {LIST, [LIST_HEAD - 1] = 1};
+
+static uint64_t word_of(const uint8_t *packed)
+{
+    uint64_t word = 0;
+    for (int place = 2; place < 10; place++)
+        word = word << 8 | packed[place];
+    return word;
+}
+
 /* Bytes that the library compiled, in `few` where these are enough. */
 typedef struct {
-    uint8_t *more;
+    uint8_t *bytes;
     size_t length;
     uint8_t few[1024];
 } Compiled;
 
-static const uint8_t *bytes_of(const Compiled *compiled) { return compiled->more ? compiled->more : compiled->few; }
-
-/* Compiles a string in one call: by the header a version or a specifier takes at most 40 bytes and 10 for each byte of its string. To be
-   dropped where the status is PEP440_OK. */
-static uint8_t compile(Writer call, pep440_string text, Compiled *compiled)
+static void drop_compiled(Compiled *compiled)
 {
-    size_t room = sizeof compiled->few;
-    uint8_t status;
-    compiled->more = NULL;
-    if (text.length > (room - 40) / 10) {
-        if (text.length > (SIZE_MAX - 40) / 10)
-            return PEP440_OUT_OF_MEMORY;
-        room = 40 + 10 * text.length;
-        compiled->more = malloc(room);
-        if (!compiled->more)
-            return PEP440_OUT_OF_MEMORY;
-    }
-    status = call(text.bytes, text.length, compiled->more ? compiled->more : compiled->few, room, &compiled->length);
-    if (status != PEP440_OK) {
-        free(compiled->more);
-        compiled->more = NULL;
-    }
-    return status;
+    if (compiled->bytes != compiled->few)
+        free(compiled->bytes);
 }
 
-static void drop_compiled(Compiled *compiled) { free(compiled->more); }
+/* Compiles a string in one call, and leaves room in front: by the header a version or a specifier takes at most 40 bytes and 10 for each byte of
+   its string. To be dropped where the status is PEP440_OK. */
+static uint8_t compile(Writer call, pep440_string text, size_t front, Compiled *compiled)
+{
+    size_t room = sizeof compiled->few, most = (SIZE_MAX - 40 - MEMBER_HEAD) / 10;
+    uint8_t status;
+    compiled->bytes = compiled->few;
+    if (text.length > (room - 40 - MEMBER_HEAD) / 10) {
+        room = 40 + MEMBER_HEAD + 10 * text.length;
+        compiled->bytes = text.length <= most ? malloc(room) : NULL;
+        if (!compiled->bytes)
+            return PEP440_OUT_OF_MEMORY;
+    }
+    status = call(text.bytes, text.length, compiled->bytes + front, room - front, &compiled->length);
+    compiled->length += front;
+    if (status != PEP440_OK)
+        drop_compiled(compiled);
+    return status;
+}
 
 /* A copy of the bytes: in `few`, or where they are more than `room`, in a block of its own. NULL where there is no memory. */
 static uint8_t *keep(const uint8_t *bytes, size_t length, uint8_t *few, size_t room)
@@ -196,20 +215,6 @@ static uint8_t *keep(const uint8_t *bytes, size_t length, uint8_t *few, size_t r
     if (kept)
         memcpy(kept, bytes, length);
     return kept;
-}
-
-/* The first bytes of the forms (docs/PROMISES.md, "Compiled versions"): a packed version has ten bytes, the last eight of which are its word,
-   greatest byte first; a list has nine bytes, the last eight of which are the count of its members, and for each one its operator and its version. */
-enum { PACKED = 1, LIST = 3, LIST_HEAD = 9, MEMBER_HEAD = 10 };
-
-static const uint8_t EMPTY_LIST[LIST_HEAD] = {LIST};
-
-static uint64_t word_of(const uint8_t *packed)
-{
-    uint64_t word = 0;
-    for (int place = 2; place < 10; place++)
-        word = word << 8 | packed[place];
-    return word;
 }
 
 /* What the call writes of compiled bytes, made into a bytes or a str. */
@@ -239,15 +244,15 @@ static int held_init(Held *self, PyObject *args, PyObject *named)
         PyErr_Format(PyExc_TypeError, "expected a str, not %R", Py_TYPE(given));
         return -1;
     }
-    if (view(given, &string) < 0)
+    if (view_str(given, &string) < 0)
         return -1;
-    status = compile(pep440_compile, string, &compiled);
+    status = compile(pep440_compile, string, 0, &compiled);
     if (status != PEP440_OK) {
         raise_by(status, given, NULL);
         return -1;
     }
     text = PyUnicode_FromObject(given); /* of a subclass of str the plain str */
-    kept = text ? keep(bytes_of(&compiled), compiled.length, few, sizeof few) : NULL;
+    kept = text ? keep(compiled.bytes, compiled.length, few, sizeof few) : NULL;
     drop_compiled(&compiled);
     if (!kept) {
         if (text)
@@ -260,6 +265,8 @@ static int held_init(Held *self, PyObject *args, PyObject *named)
     memcpy(self->few, few, sizeof few);
     self->compiled = kept == few ? self->few : kept;
     self->length = compiled.length;
+    self->is_packed = self->compiled[0] == PACKED;
+    self->word = self->is_packed ? word_of(self->compiled) : 0;
     self->text = text, self->key = NULL, self->parts = NULL, self->prints = NULL;
     free(old_block);
     for (int each = 0; each < 4; each++)
@@ -306,8 +313,8 @@ static PyObject *held_compare(PyObject *left, PyObject *right, int operation)
         Py_RETURN_NOTIMPLEMENTED;
     if (!is_initialised(one) || !is_initialised(other))
         return NULL;
-    if (one->compiled[0] == PACKED && other->compiled[0] == PACKED)
-        Py_RETURN_RICHCOMPARE(word_of(one->compiled), word_of(other->compiled), operation);
+    if (one->is_packed && other->is_packed)
+        Py_RETURN_RICHCOMPARE(one->word, other->word, operation);
     if (!key_of(one) || !key_of(other))
         return NULL;
     return PyObject_RichCompare(one->key, other->key, operation);
@@ -583,6 +590,48 @@ static int init_arguments(PyObject *args, PyObject *named, char *first, const ch
     return PyArg_ParseTupleAndKeywords(args, named, form, names, given, said) ? 0 : -1;
 }
 
+/* The operators that a version alone stands behind, and their bytes in a compiled list (docs/PROMISES.md, "Compiled versions"). */
+static const struct {
+    char bytes[3];
+    uint8_t code;
+} OPERATORS[] = {{">=", 9}, {"==", 0}, {"<=", 7}, {"!=", 3}, {"~=", 5}, {"<", 6}, {">", 8}, {"", 0}};
+
+/* Whether the version may stand behind the operator that begins so: one with a local part behind `==` and `!=` alone, one of a single number
+   not behind `~=`. */
+static int may_follow(uint8_t operator, const uint8_t *version, size_t length)
+{
+    pep440_parts parts;
+    uint64_t release[1];
+    uint8_t status;
+    if (version[0] == PACKED)
+        return operator != '~' || version[1] > 1;
+    status = pep440_parts_of_compiled(version, length, &parts, release, 1);
+    return (status == PEP440_OK || status == PEP440_NO_ROOM) && (operator != '~' || parts.release_length > 1) &&
+           (operator == '=' || operator == '!' || !parts.has_local);
+}
+
+/* Compiles a specifier as the list of it alone. Where a version stands behind an operator this is compiled, which takes a third of the time. All
+   else the library compiles as a list: `===`, a star, and what is none. Both make the same bytes (tested by tests/test_rows.py). */
+static uint8_t compile_specifier(pep440_string text, Compiled *compiled)
+{
+    size_t width = operator_width(text.bytes), place = 0;
+    pep440_string version = {text.bytes + width, text.length - width};
+    uint8_t status;
+    while (OPERATORS[place].bytes[0] && (OPERATORS[place].bytes[0] != text.bytes[0] || strlen(OPERATORS[place].bytes) != width))
+        place++;
+    if (!OPERATORS[place].bytes[0] || text.bytes[text.length - 1] == '*')
+        return compile(pep440_compile_list, text, 0, compiled);
+    status = compile(pep440_compile, version, MEMBER_HEAD, compiled);
+    if (status == PEP440_OK && may_follow(text.bytes[0], compiled->bytes + MEMBER_HEAD, compiled->length - MEMBER_HEAD)) {
+        memcpy(compiled->bytes, ONE_MEMBER, LIST_HEAD);
+        compiled->bytes[LIST_HEAD] = OPERATORS[place].code;
+        return PEP440_OK;
+    }
+    if (status == PEP440_OK)
+        drop_compiled(compiled);
+    return status == PEP440_OUT_OF_MEMORY ? status : compile(pep440_compile_list, text, 0, compiled);
+}
+
 static int specifier_init(Specifiers *self, PyObject *args, PyObject *named)
 {
     PyObject *given = NULL, *said = Py_None, *text, *print = NULL;
@@ -597,19 +646,19 @@ static int specifier_init(Specifiers *self, PyObject *args, PyObject *named)
         return -1;
     }
     text = given ? stripped(given) : PyUnicode_FromString("");
-    if (!text || view(text, &string) < 0) {
+    if (!text || view_str(text, &string) < 0) {
         Py_XDECREF(text);
         return -1;
     }
     if (!string.length || memchr(string.bytes, ',', string.length))
         PyErr_Format(InvalidSpecifier, "Invalid specifier: %R: it is not one specifier", given ? given : text);
-    else if ((status = compile(pep440_compile_list, string, &compiled)) == PEP440_INVALID_LIST)
+    else if ((status = compile_specifier(string, &compiled)) == PEP440_INVALID_LIST)
         raise_invalid(InvalidSpecifier, INVALID_SPECIFIER, given, text, pep440_list_error);
     else if (status != PEP440_OK)
         raise_by(status, NULL, text);
     else {
         print = joined(text, string.bytes, string.length);
-        done = print ? take(self, print, NULL, said, bytes_of(&compiled), compiled.length) : -1;
+        done = print ? take(self, print, NULL, said, compiled.bytes, compiled.length) : -1;
         drop_compiled(&compiled);
     }
     Py_DECREF(text);
@@ -730,6 +779,11 @@ static PyObject *get_prereleases(Specifiers *self, void *unused)
         return Py_NewRef(Py_None);
     allows = allows_prereleases(self);
     return allows < 0 ? NULL : PyBool_FromLong(allows);
+}
+
+static PyObject *get_compiled(Specifiers *self, void *unused)
+{
+    return is_compiled(self) ? PyBytes_FromStringAndSize((const char *)self->compiled, (Py_ssize_t)self->length) : NULL;
 }
 
 static PyObject *get_said(Specifiers *self, void *unused) { return is_compiled(self) ? Py_NewRef(self->said) : NULL; }
@@ -879,36 +933,26 @@ static int is_changed(Specifiers *self)
     return self->changed = (signed char)changed;
 }
 
-/* Whether all that the list has contains the item, and whether this is a pre-release. */
-static uint8_t ask(const uint8_t *list, size_t length, pep440_string item, int item_is_compiled, uint8_t *contained, uint8_t *early)
-{
-    Compiled compiled;
-    uint8_t status;
-    if (item_is_compiled)
-        return pep440_contains_compiled(list, length, item.bytes, item.length, contained, early);
-    status = compile(pep440_compile, item, &compiled);
-    if (status == PEP440_OK) {
-        status = pep440_contains_compiled(list, length, bytes_of(&compiled), compiled.length, contained, early);
-        drop_compiled(&compiled);
-    }
-    return status;
-}
-
 /* 1, 0, or -1 with an error. */
 static int contains(Specifiers *self, PyObject *item, PyObject *prereleases)
 {
+    const Held *version = (Held *)item;
     pep440_string string;
-    int is_held = PyObject_TypeCheck(item, HeldType);
+    Compiled compiled;
     uint8_t contained, early, status;
-    if (!is_held) {
+    if (PyObject_TypeCheck(item, HeldType)) {
+        if (!is_initialised(version))
+            return -1;
+        status = pep440_contains_compiled(self->compiled, self->length, version->compiled, version->length, &contained, &early);
+    } else {
         if (view(item, &string) < 0)
             return -1;
-    } else if (is_initialised((Held *)item)) {
-        string.bytes = ((Held *)item)->compiled;
-        string.length = ((Held *)item)->length;
-    } else
-        return -1;
-    status = ask(self->compiled, self->length, string, is_held, &contained, &early);
+        status = compile(pep440_compile, string, 0, &compiled);
+        if (status == PEP440_OK) {
+            status = pep440_contains_compiled(self->compiled, self->length, compiled.bytes, compiled.length, &contained, &early);
+            drop_compiled(&compiled);
+        }
+    }
     if (status != PEP440_OK) {
         raise_by(status, item, NULL);
         return -1;
@@ -1007,13 +1051,13 @@ static PyObject *item(const Batch *batch, size_t place) { return PyTuple_GetItem
 
 static int is_version(const Batch *batch, size_t place) { return PyObject_TypeCheck(item(batch, place), HeldType); }
 
-/* Copies the compiled forms of the versions, and lets their places in `texts` be these. */
+/* Lets the texts be copies of the compiled forms; each item is a version. */
 static int copy_compiled(Batch *batch)
 {
     size_t length = 1;
     uint8_t *end;
     for (size_t place = 0; place < batch->count; place++)
-        length += is_version(batch, place) ? ((Held *)item(batch, place))->length : 0;
+        length += ((Held *)item(batch, place))->length;
     batch->copies = end = PyMem_Malloc(length);
     if (!end) {
         PyErr_NoMemory();
@@ -1021,8 +1065,6 @@ static int copy_compiled(Batch *batch)
     }
     for (size_t place = 0; place < batch->count; place++) {
         const Held *version = (Held *)item(batch, place);
-        if (!is_version(batch, place))
-            continue;
         memcpy(end, version->compiled, version->length);
         batch->texts[place].bytes = end;
         batch->texts[place].length = version->length;
@@ -1055,16 +1097,15 @@ static int gather(PyObject *given, Batch *batch)
     return -1;
 }
 
-/* The mark of each item, as pep440_filter has it; of what is contained, a pre-release is left out unless it is asked for. */
-static uint8_t mark(const uint8_t *list, size_t length, const Batch *batch, int prereleases, uint8_t *marks)
+/* The marks of pep440_filter; of what is contained, a pre-release is left out unless it is asked for. */
+static uint8_t mark(const Batch *batch, const pep440_string *list, int is_compiled, int prereleases, uint8_t *marks)
 {
-    for (size_t place = 0; place < batch->count; place++) {
-        uint8_t contained, early, status = ask(list, length, batch->texts[place], marks[place], &contained, &early);
-        if (status != PEP440_OK && status != PEP440_INVALID_VERSION)
-            return status;
-        marks[place] = status != PEP440_OK ? PEP440_NOT_A_VERSION : contained && (prereleases || !early) ? PEP440_MATCH : PEP440_NO_MATCH;
-    }
-    return PEP440_OK;
+    uint8_t status = is_compiled ? pep440_filter_compiled(list->bytes, list->length, batch->texts, batch->count, marks, batch->count)
+                                 : pep440_filter(list->bytes, list->length, batch->texts, batch->count, marks, batch->count);
+    for (size_t place = 0; status == PEP440_OK && !prereleases && place < batch->count; place++)
+        if (marks[place] == PEP440_PRERELEASE_MATCH)
+            marks[place] = PEP440_NO_MATCH;
+    return status;
 }
 
 static PyObject *marked(const Batch *batch, const uint8_t *marks, int skip)
@@ -1073,37 +1114,72 @@ static PyObject *marked(const Batch *batch, const uint8_t *marks, int skip)
     for (size_t place = 0; kept && place < batch->count; place++) {
         if (marks[place] == PEP440_NOT_A_VERSION && !skip)
             raise_by(PEP440_INVALID_VERSION, item(batch, place), NULL);
-        else if (marks[place] != PEP440_MATCH || PyList_Append(kept, item(batch, place)) == 0)
+        else if (marks[place] == PEP440_NO_MATCH || marks[place] == PEP440_NOT_A_VERSION || PyList_Append(kept, item(batch, place)) == 0)
             continue;
         Py_CLEAR(kept);
     }
     return kept;
 }
 
+/* The list's string, for batches of strings: what the members print. */
+static PyObject *list_text(Specifiers *self)
+{
+    PyObject *comma, *texts, *each;
+    Py_ssize_t count;
+    if (self->text)
+        return self->text;
+    comma = PyUnicode_FromString(",");
+    texts = PySequence_List(self->members);
+    count = texts ? PyList_Size(texts) : 0;
+    for (Py_ssize_t place = 0; place < count; place++) {
+        each = Py_NewRef(((Specifiers *)PyList_GetItem(texts, place))->text);
+        PyList_SetItem(texts, place, each);
+    }
+    each = comma && texts ? kept_in(&self->text, PyUnicode_Join(comma, texts)) : NULL;
+    Py_XDECREF(comma);
+    Py_XDECREF(texts);
+    return each;
+}
+
+/* Copies the list for a batch: its bytes for versions, else its string. To be freed. */
+static uint8_t *copy_list(Specifiers *self, int is_compiled, pep440_string *list)
+{
+    uint8_t *copy;
+    if (is_compiled)
+        list->bytes = self->compiled, list->length = self->length;
+    else if (!list_text(self) || view_str(self->text, list) < 0)
+        return NULL;
+    copy = PyMem_Malloc(list->length + 1);
+    if (!copy)
+        PyErr_NoMemory();
+    else
+        memcpy(copy, list->bytes, list->length);
+    list->bytes = copy;
+    return copy;
+}
+
 /* _kept(items, prereleases, skip_invalid) */
 static PyObject *keep_contained(PyObject *self, PyObject *const *args, Py_ssize_t count)
 {
-    Specifiers *list = (Specifiers *)self;
     Batch batch;
-    uint8_t *marks = NULL, *bytes = NULL, status = PEP440_OUT_OF_MEMORY;
-    size_t length;
-    int prereleases, skip;
+    pep440_string list;
+    uint8_t *marks = NULL, *copy = NULL, status = PEP440_OUT_OF_MEMORY;
+    int prereleases, skip, by_compiled = 1;
     PyObject *kept;
-    if (!has_count("_kept", count, 3) || !is_compiled(list) || (prereleases = PyObject_IsTrue(args[1])) < 0 ||
+    if (!has_count("_kept", count, 3) || !is_compiled((Specifiers *)self) || (prereleases = PyObject_IsTrue(args[1])) < 0 ||
         (skip = PyObject_IsTrue(args[2])) < 0 || gather(args[0], &batch) < 0)
         return NULL;
-    length = list->length;
-    if (copy_compiled(&batch) == 0 && (marks = PyMem_Calloc(batch.count + 1, 1)) && (bytes = PyMem_Malloc(length))) {
-        memcpy(bytes, list->compiled, length);
-        for (size_t place = 0; place < batch.count; place++)
-            marks[place] = (uint8_t)is_version(&batch, place);
+    for (size_t place = 0; by_compiled && place < batch.count; place++)
+        by_compiled = is_version(&batch, place);
+    if ((!by_compiled || copy_compiled(&batch) == 0) && (copy = copy_list((Specifiers *)self, by_compiled, &list)) &&
+        (marks = PyMem_Calloc(batch.count + 1, 1))) {
         Py_BEGIN_ALLOW_THREADS
-        status = mark(bytes, length, &batch, prereleases, marks);
+        status = mark(&batch, &list, by_compiled, prereleases, marks);
         Py_END_ALLOW_THREADS
     }
     kept = status == PEP440_OK ? marked(&batch, marks, skip) : raise_by(status, NULL, NULL);
     PyMem_Free(marks);
-    PyMem_Free(bytes);
+    PyMem_Free(copy);
     drop(&batch);
     return kept;
 }
@@ -1192,6 +1268,17 @@ static PyObject *ranges(PyObject *module, PyObject *list)
     return made ? made : raise_by(status, NULL, list);
 }
 
+static PyObject *compile_list(PyObject *module, PyObject *list)
+{
+    pep440_string text;
+    uint8_t status;
+    PyObject *made;
+    if (view(list, &text) < 0)
+        return NULL;
+    made = written_by(pep440_compile_list, text, PyBytes_FromStringAndSize, &status);
+    return made ? made : raise_by(status, NULL, list);
+}
+
 static PyObject *make_members_of(PyObject *module, PyObject *class)
 {
     PyObject *old = member_class;
@@ -1219,7 +1306,8 @@ static PyMethodDef set_calls[] = {
 
 #define PRERELEASES \
     {"prereleases", (getter)get_prereleases, (setter)set_prereleases, "Whether pre-releases are allowed. May be set.", NULL}, \
-    {"_prereleases", (getter)get_said, (setter)set_prereleases, "What was said of pre-releases, or None.", NULL}
+    {"_prereleases", (getter)get_said, (setter)set_prereleases, "What was said of pre-releases, or None.", NULL}, \
+    {"_compiled", (getter)get_compiled, NULL, "The compiled list.", NULL}
 
 static PyGetSetDef specifier_values[] = {
     PRERELEASES,
@@ -1266,6 +1354,7 @@ static PyType_Spec set_spec = {"pep440_rattle._core.HeldSet", sizeof(Specifiers)
 
 static PyMethodDef calls[] = {
     {"ranges", ranges, METH_O, "The range of a list, a segment a line."},
+    {"compile_list", compile_list, METH_O, "The compiled list, of the string at once."},
     {"make_members_of", make_members_of, METH_O, "From now on the members of sets are of this class."},
     {"sort", sort, METH_O, "The items in the order of their versions."},
     {"sort_keys", sort_keys, METH_O, "The sort key of each item."},
