@@ -181,7 +181,7 @@ class Specifier(_core.HeldSpecifier, BaseSpecifier):
         is_by_name = cls.contains is not Specifier.contains
         cls._is_changed = is_by_name or any(getattr(cls, it) is not getattr(Specifier, it) for it in asked)
         if is_by_name and cls.__contains__ is Specifier.__contains__:
-            cls.__contains__ = _contains_by_name  # type: ignore[method-assign, assignment]
+            cls.__contains__ = _contains_by_name  # type: ignore[assignment]
 
     __hash__ = _core.HeldSpecifier.__hash__
 
@@ -280,7 +280,7 @@ class SpecifierSet(_core.HeldSet, BaseSpecifier):
         super().__init_subclass__(**named)
         cls._is_changed = cls.prereleases is not SpecifierSet.prereleases
         if cls.contains is not SpecifierSet.contains and cls.__contains__ is SpecifierSet.__contains__:
-            cls.__contains__ = _contains_by_name  # type: ignore[method-assign, assignment]
+            cls.__contains__ = _contains_by_name  # type: ignore[assignment]
 
     def __reduce__(self) -> tuple[object, ...]:
         return _restore_set, (type(self), tuple(self._specs), self._prereleases), self.__dict__ or None

@@ -24,7 +24,7 @@ def filter_texts(
     >>> filter_texts(">=1.0", ["1.0", "latest"], skip_invalid=True)
     ['1.0']
     """
-    several = specifiers if type(specifiers) in (Specifier, SpecifierSet) else SpecifierSet(str(specifiers))
+    several = SpecifierSet(str(specifiers)) if isinstance(specifiers, str) or specifiers._is_changed else specifiers
     return several._kept(texts, True, skip_invalid)
 
 
