@@ -10,9 +10,25 @@ use std::cmp::Ordering;
 use std::mem::MaybeUninit;
 use std::slice;
 
+/// The header's `pep440_parts`.
+#[derive(Clone, Copy, Default)]
+#[repr(C)]
+struct PartsOf {
+    epoch: u64,
+    pre: u64,
+    post: u64,
+    dev: u64,
+    release_length: usize,
+    pre_kind: u8,
+    has_post: u8,
+    has_dev: u8,
+    has_local: u8,
+}
+
 type Writer = unsafe extern "C" fn(*const u8, usize, *mut u8, usize, *mut usize) -> u8;
 
 unsafe extern "C" {
+    fn pep440_parts_of(version: *const u8, length: usize, parts: *mut PartsOf, release: *mut u64, size: usize) -> u8;
     fn pep440_compile(version: *const u8, length: usize, out: *mut u8, size: usize, written: *mut usize) -> u8;
     fn pep440_compile_list(list: *const u8, length: usize, out: *mut u8, size: usize, written: *mut usize) -> u8;
     fn pep440_version_error(version: *const u8, length: usize, out: *mut u8, size: usize, written: *mut usize) -> u8;
@@ -99,6 +115,37 @@ fn written_to_heap(call: Writer, input: &[u8], length: usize) -> Result<Vec<u8>,
 
 fn as_text(bytes: &[u8]) -> &str {
     std::str::from_utf8(bytes).expect("the library writes UTF-8")
+}
+
+/// The parts of a version without a local part, in the order of their names; a kind of 0 is no pre-release.
+pub(crate) struct PublicParts {
+    pub(crate) epoch: u64,
+    pub(crate) release: [u64; RELEASE],
+    pub(crate) release_length: usize,
+    pub(crate) pre_kind: u8,
+    pub(crate) pre: u64,
+    pub(crate) post: Option<u64>,
+    pub(crate) dev: Option<u64>,
+}
+
+/// As many release numbers are read with the parts.
+pub(crate) const RELEASE: usize = 8;
+
+/// The parts of a version; None where it has a local part or more than [`RELEASE`] release numbers.
+#[inline]
+pub(crate) fn public_parts(version: &str) -> Result<Option<PublicParts>, Refusal> {
+    let (mut parts, mut release) = (PartsOf::default(), [0; RELEASE]);
+    // SAFETY: as the module says; `PartsOf` is laid out as the header's struct.
+    let status = unsafe { pep440_parts_of(version.as_ptr(), version.len(), &mut parts, release.as_mut_ptr(), RELEASE) };
+    match status {
+        OK if parts.has_local == 0 => {}
+        OK | NO_ROOM => return Ok(None),
+        other => return Err(refusal(other)),
+    }
+    let PartsOf { epoch, pre, post, dev, release_length, pre_kind, has_post, has_dev, .. } = parts;
+    let post = (has_post == 1).then_some(post);
+    let dev = (has_dev == 1).then_some(dev);
+    Ok(Some(PublicParts { epoch, release, release_length, pre_kind, pre, post, dev }))
 }
 
 /// Calls `read` with the compiled bytes of a version.
