@@ -1,6 +1,6 @@
 //! Versions.
 use crate::bytes;
-use crate::calls::{self, PublicParts};
+use crate::calls::{self, PublicParts, Refusal};
 use crate::packed::{Packed, Suffixes};
 use crate::parts::{Parts, Unpacked};
 use crate::{LocalSegment, Prerelease, PrereleaseKind, VersionParseError};
@@ -76,6 +76,15 @@ impl Version {
         match Packed::from_parts(&parts) {
             Some(packed) => packed.into(),
             None => Unpacked::from_parts(parts).into(),
+        }
+    }
+
+    /// The version of the string; the error does not say why there is none.
+    #[inline]
+    pub(crate) fn parse(version: &str) -> Result<Version, Refusal> {
+        match calls::public_parts(version)? {
+            Some(parts) => Ok(Version::from_public(&parts)),
+            None => calls::compile(version, bytes::read_version),
         }
     }
 
@@ -356,12 +365,7 @@ impl FromStr for Version {
     /// Parses a version, as `1.19`, `1.0a1`, `1.0+abc.5` or `1!2012.2`; a wildcard is an error.
     #[inline]
     fn from_str(version: &str) -> Result<Version, VersionParseError> {
-        let parsed = match calls::public_parts(version) {
-            Ok(Some(parts)) => Ok(Version::from_public(&parts)),
-            Ok(None) => calls::compile(version, bytes::read_version),
-            Err(refusal) => Err(refusal),
-        };
-        parsed.map_err(|_| VersionParseError::new(calls::version_error(version)))
+        Version::parse(version).map_err(|_| VersionParseError::new(calls::version_error(version)))
     }
 }
 
