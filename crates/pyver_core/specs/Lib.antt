@@ -7,7 +7,11 @@ pub mod Comparisons
 pub mod Prereleases
 pub mod Matches
 pub mod AnswerViews
+pub mod InputLines
+pub mod Filters
 pub mod Tasks
 pub mod TaskViews
 pub mod Runs
+pub mod FilterSteps
+pub mod WorkViews
 pub mod OneOutcome
