@@ -1,5 +1,5 @@
 -- Lines that are filtered one after another, and what is written of them.
-use Rattle.std.proofs.Common.{◌≡◌, ◌∙◌, ◌+◌, ◌-◌, ◌==◌, ℕ, zero, suc, List, [], ◌∷◌, ◌++◌, Bool, false, cond, not, Option, length, take, refl, sym, ap, subst, arith, append_assoc, append-nil, length-append, if◌then◌else◌}
+use Rattle.std.proofs.Common.{◌≡◌, ◌∙◌, ◌+◌, ◌-◌, ◌==◌, ℕ, zero, suc, List, [], ◌∷◌, ◌++◌, false, cond, not, Option, length, take, refl, sym, ap, subst, arith, append_assoc, append-nil, length-append, if◌then◌else◌}
 use Rattle.std.proofs.KnownBytes.{Appends-nil, Appends-trans, Consumes-nil, Consumes-trans}
 use Rattle.std.proofs.lemmas.Grind.{flat_map-append}
 use Rattle.std.proofs.lemmas.List.Elements.{filter-append}
@@ -9,10 +9,9 @@ use Rattle.std.specs.Io.KnownBytes.{Appends, Consumes, IsAtEnd}
 use Rattle.std.specs.List.{AllZip, concat, filter, flat_map}
 use Rattle.pyver_core.proofs.InputLines.{all_append, cuts_all, cuts_more, no_newline_none, numbered_from-append, some_line}
 use Rattle.pyver_core.specs.FilterSteps.{Cuts, FilterFinishes, FilterStops, FinishesBy, Goes, Steps, StepsBy}
-use Rattle.pyver_core.specs.Filters.{Filters, IsRead, ReadLine, ReadsLine, fault_at, faults, filter_outcome, is_shown, shown}
+use Rattle.pyver_core.specs.Filters.{IsRead, ReadLine, ReadsLine, fault_at, faults, filter_outcome, is_shown, shown}
 use Rattle.pyver_core.specs.InputLines.{is_blank, lines, numbered, numbered_from}
 use Rattle.pyver_core.specs.Messages.{more_faults_message}
-use Rattle.pyver_core.specs.Outcomes.{Outcome}
 use Rattle.pyver_core.specs.Readings.{Reading}
 use Rattle.pyver_core.specs.Runs.{WroteBeginning}
 use Rattle.pyver_core.specs.declared.filter.FilterRule.{FilterRule}

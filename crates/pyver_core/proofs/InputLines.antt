@@ -1,6 +1,6 @@
 -- Lines of a text that grows byte by byte, and lines with their numbers.
-use Rattle.std.proofs.Common.{◌≡◌, ◌∙◌, ◌+◌, ◌-◌, ◌==◌, ◌<◌, ℕ, List, [], ◌∷◌, ◌++◌, Bool, false, not, length, take, map, get_or, refl, sym, ap, subst, arith, append_assoc, append-nil}
-use Rattle.std.specs.List.{All, AllZip, count_by, enumerate_from, filter}
+use Rattle.std.proofs.Common.{◌≡◌, ◌∙◌, ◌+◌, ◌==◌, ◌<◌, ℕ, List, [], ◌∷◌, ◌++◌, false, not, length, take, map, get_or, refl, sym, ap, subst, arith, append_assoc, append-nil}
+use Rattle.std.specs.List.{AllZip, enumerate_from, filter}
 use Rattle.std.proofs.lemmas.List.{map-append, take_more}
 use Rattle.std.proofs.lemmas.List.Elements.{All-nil, All-push, filter-append}
 use Rattle.std.proofs.lemmas.List.Splits.{length-slice_split, slice_split_at, slice_split_none}

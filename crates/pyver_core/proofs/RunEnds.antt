@@ -1,14 +1,14 @@
 -- How runs end, by what they wrote.
 use Rattle.std.proofs.Common.{◌≡◌, ◌⊎◌, ◌∙◌, ◌≤◌, ◌==◌, ℕ, List, [], ◌++◌, Bool, true, false, Option, cond, inl, inr, length, refl, sym, ap, subst, arith, append_assoc}
 use Rattle.std.proofs.KnownBytes.{Appends-nil, Appends-trans, Consumes-nil}
-use Rattle.std.specs.Io.KnownBytes.{Appends, Consumes, IsAtEnd}
+use Rattle.std.specs.Io.KnownBytes.{Appends, Consumes}
 use Rattle.pyver_core.specs.FilterSteps.{FilterFinishes, FilterStops}
 use Rattle.pyver_core.specs.Filters.{Filters, faults, filter_outcome, rule_of}
 use Rattle.pyver_core.specs.InputLines.{lines}
 use Rattle.pyver_core.specs.Matches.{DenotesList}
 use Rattle.pyver_core.specs.Outcomes.{Outcome}
-use Rattle.pyver_core.specs.Runs.{Ends, IsLast, IsStopped, WritesAnswer, WroteBeginning, memory_message}
-use Rattle.pyver_core.specs.Tasks.{Compare, Filter, Help, IsOutcome, Match, Misused, NameVersion, NeedsInput, Task, task_of}
+use Rattle.pyver_core.specs.Runs.{Ends, IsLast, WritesAnswer, WroteBeginning, memory_message}
+use Rattle.pyver_core.specs.Tasks.{Compare, Filter, Help, IsOutcome, Match, Misused, NameVersion, NeedsInput, Show, Task, task_of}
 use Rattle.pyver_core.specs.declared.filter.FilterRule.{FilterRule}
 
 -- before a line is read there is an outcome
@@ -18,6 +18,7 @@ first_outcome NameVersion n = absurd n
 first_outcome (Compare left operator right) n = absurd n
 first_outcome (Match options specifiers words) n = absurd n
 first_outcome (Filter options specifiers) n = (filter_outcome (rule_of options n.0) [], (DenotesList n.0, n.1, ([], tt, refl)))
+first_outcome (Show asked words) n = absurd n
 first_outcome (Misused message) n = absurd n
 
 zero_or_two : (b : Bool) → cond b 0 2 ≤ 2

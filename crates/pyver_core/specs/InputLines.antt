@@ -1,5 +1,5 @@
 -- The lines of an input that are read: those that are not blank, with their numbers.
-use Rattle.std.specs.Prelude.{ℕ, ◌==◌, ◌&&◌, List, [], ◌∷◌, Bool, map, not, if◌then◌else◌}
+use Rattle.std.specs.Prelude.{ℕ, ◌==◌, ◌&&◌, List, ◌∷◌, Bool, map, not, if◌then◌else◌}
 use Rattle.std.specs.Char.{is_ascii_whitespace}
 use Rattle.std.specs.List.{enumerate_from, filter, list_all, slice_split}
 use Rattle.std.specs.Str.Lines.{strip_carriage_return}

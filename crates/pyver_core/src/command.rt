@@ -15,6 +15,8 @@ use crate::filter::{FilterOptions, FilterRule};
 use crate::help::{Topic, VERSION_LINE, help};
 use crate::misuse::{Misuse, push_misuse};
 use crate::prerelease::{Prereleases, takes_prereleases};
+use crate::show::{ShowFormat, show_versions};
+use crate::show_words::parse_show;
 use std::alloc::{AllocError, Global};
 
 /// What words ask for.
@@ -25,6 +27,7 @@ pub(crate) enum Command<'a> {
     Compare(&'a str, Comparison, &'a str),
     Match(MatchOptions, &'a str, &'a [String]),
     Filter(FilterOptions, &'a str),
+    Show(ShowFormat, &'a [String]),
     Misused(Misuse<'a>),
 }
 
@@ -37,13 +40,13 @@ pub(crate) enum Work {
     Filter(FilterRule),
 }
 
-fn is_help(word: &str) -> bool
+pub(crate) fn is_help(word: &str) -> bool
     ensures { result ≡ is_help word.now }
 {
     word == "-h" || word == "--help"
 }
 
-fn is_option(word: &str) -> bool
+pub(crate) fn is_option(word: &str) -> bool
     ensures { result ≡ is_option word.now }
 {
     match word.as_bytes() {
@@ -225,6 +228,7 @@ impl<'a> Command<'a> {
                 "compare" => parse_compare(rest),
                 "match" => parse_match(rest),
                 "filter" => parse_filter(rest),
+                "show" => parse_show(rest),
                 other => Command::Misused(Misuse::Command(other)),
             },
         }
@@ -244,6 +248,9 @@ impl<'a> Command<'a> {
                 Ok(Work::Answer(match_versions(alloc, options, specifiers, words)?))
             }
             Command::Filter(options, specifiers) => start_filter(alloc, options, specifiers),
+            Command::Show(format, words) => {
+                Ok(Work::Answer(show_versions(alloc, format, words)?))
+            }
             Command::Misused(misuse) => Ok(Work::Answer(report_misuse(alloc, misuse)?)),
         }
     }

@@ -9,13 +9,17 @@ mod escape;
 mod filter;
 mod filter_input;
 mod help;
+mod json;
 pub mod laws;
 mod lines;
 mod misuse;
 mod nearest;
+mod part;
 mod prerelease;
 mod program;
 mod reading;
+mod show;
+mod show_words;
 mod stream;
 
 pub use program::{refuse, run};

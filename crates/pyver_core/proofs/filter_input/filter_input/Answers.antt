@@ -1,4 +1,4 @@
-use Rattle.std.proofs.Common.{◌<◌, List, ℕ, [], length, subst, take, arith}
+use Rattle.std.proofs.Common.{[], subst, take, arith}
 use Rattle.std.proofs.KnownBytes.{Consumes-kept, Consumes-nil}
 use Rattle.std.specs.Io.KnownBytes.{Consumes}
 use Rattle.pyver_core.proofs.Filtering.{finishes, goes_none, goes_more, stops_finishing, stops_reading, stops_writing}
@@ -58,7 +58,7 @@ pub loop-preserved : goal.loop-preserved
 loop-preserved g c =
     let steps = c.in-Ok-push_bytes.ensures.steps in (
       goes_more _ _ _ c.args.rule.now c.args.input.now c.loop.input c.read.new.self c.args.out.now c.loop.out c.write_both-in-loop.new.out c.args.err.now c.loop.err c.write_both-in-loop.new.err c.loop.state c.push_bytes.new.self
-      c.loop.line.items _ steps.0 c.push_bytes.new.line.items c.clear.new.self c.loop.invariant.0 c.in-Ok.ensures.bytes.0 steps.1 steps.2 (rw c.as_slice-in-loop.ensures.value at c.in_default-write_both-2.ensures.whole.0)
-      (rw c.as_slice-in-loop-2.ensures.value at c.in_default-write_both-2.ensures.whole.1) c.clear.ensures.counts.0 c.clear.ensures.counts.1 c.clear.ensures.nothing.0 c.clear.ensures.nothing.1,
+          c.loop.line.items _ steps.0 c.push_bytes.new.line.items c.clear.new.self c.loop.invariant.0 c.in-Ok.ensures.bytes.0 steps.1 steps.2 (rw c.as_slice-in-loop.ensures.value at c.in_default-write_both-2.ensures.whole.0)
+          (rw c.as_slice-in-loop-2.ensures.value at c.in_default-write_both-2.ensures.whole.1) c.clear.ensures.counts.0 c.clear.ensures.counts.1 c.clear.ensures.nothing.0 c.clear.ensures.nothing.1,
       omega (arith, c.clear.ensures.counts.0, c.in-Ok-push_bytes.ensures.count, c.loop.invariant.1, c.in-Ok.ensures.bound),
     )

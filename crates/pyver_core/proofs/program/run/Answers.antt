@@ -1,5 +1,5 @@
 use Rattle.std.proofs.Common.{refl, subst}
-use Rattle.pyver_core.proofs.RunEnds.{ends_at_once, ends_by_answer, ends_by_filter, ends_by_stop}
+use Rattle.pyver_core.proofs.RunEnds.{ends_at_once, ends_by_answer, ends_by_stop}
 use Rattle.pyver_core.specs.AnswerViews.{outcome_of}
 use Rattle.pyver_core.specs.TaskViews.{task}
 use Rattle.pyver_core.specs.WorkViews.{IsWork}
