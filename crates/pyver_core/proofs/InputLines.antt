@@ -5,7 +5,7 @@ use Rattle.std.proofs.lemmas.List.{map-append, take_more}
 use Rattle.std.proofs.lemmas.List.Elements.{All-nil, All-push, filter-append}
 use Rattle.std.proofs.lemmas.List.Splits.{length-slice_split, slice_split_at, slice_split_none}
 use Rattle.pyver_core.specs.FilterSteps.{Cuts, HasNoNewline}
-use Rattle.pyver_core.specs.InputLines.{is_blank, lines, numbered, numbered_from}
+use Rattle.pyver_core.specs.InputLines.{is_blank, input_lines, numbered, numbered_lines_from}
 
 -- ---- the lines of a text
 
@@ -13,35 +13,35 @@ pub no_newline_none : HasNoNewline []
 no_newline_none = All-nil (λ b. (b == 10) ≡ false)
 
 pub cuts_none : (line : List ℕ) → HasNoNewline line → Cuts (line ++ []) [] line
-cuts_none line one = record { all = λ rest. ap (λ t. lines (t ++ rest)) (append-nil line); one = one }
+cuts_none line one = record { all = λ rest. ap (λ t. input_lines (t ++ rest)) (append-nil line); one = one }
 
 -- one byte more
 pub cuts_byte : (text : List ℕ) (ended : List (List ℕ)) (line : List ℕ) (b : ℕ) → (b == 10) ≡ false → Cuts text ended line → Cuts (text ++ b ∷ []) ended (line ++ b ∷ [])
 cuts_byte text ended line b other k = record {
-  all = λ rest. ap lines (append_assoc text (b ∷ []) rest) ∙ k.all (b ∷ rest) ∙ ap (λ t. ended ++ lines t) (sym (append_assoc line (b ∷ []) rest));
+  all = λ rest. ap input_lines (append_assoc text (b ∷ []) rest) ∙ k.all (b ∷ rest) ∙ ap (λ t. ended ++ input_lines t) (sym (append_assoc line (b ∷ []) rest));
   one = All-push (λ x. (x == 10) ≡ false) line b k.one other;
 }
 
 -- a newline more
 pub cuts_newline : (text : List ℕ) (ended : List (List ℕ)) (line : List ℕ) → Cuts text ended line → Cuts (text ++ 10 ∷ []) (ended ++ line ∷ []) []
 cuts_newline text ended line k = record {
-  all = λ rest. ap lines (append_assoc text (10 ∷ []) rest) ∙ k.all (10 ∷ rest) ∙ ap (λ t. ended ++ t) (slice_split_at (λ b. b == 10) line 10 rest k.one refl) ∙ sym (append_assoc ended (line ∷ []) (lines rest));
+  all = λ rest. ap input_lines (append_assoc text (10 ∷ []) rest) ∙ k.all (10 ∷ rest) ∙ ap (λ t. ended ++ t) (slice_split_at (λ b. b == 10) line 10 rest k.one refl) ∙ sym (append_assoc ended (line ∷ []) (input_lines rest));
   one = no_newline_none;
 }
 
 -- the one and then the other
 pub cuts_more : (text : List ℕ) (ended : List (List ℕ)) (line more : List ℕ) (later : List (List ℕ)) (next : List ℕ) → Cuts text ended line → Cuts (line ++ more) later next → Cuts (text ++ more) (ended ++ later) next
 cuts_more text ended line more later next k m = record {
-  all = λ rest. ap lines (append_assoc text more rest) ∙ k.all (more ++ rest) ∙ ap (λ t. ended ++ t) (ap lines (sym (append_assoc line more rest)) ∙ m.all rest) ∙ sym (append_assoc ended later (lines (next ++ rest)));
+  all = λ rest. ap input_lines (append_assoc text more rest) ∙ k.all (more ++ rest) ∙ ap (λ t. ended ++ t) (ap input_lines (sym (append_assoc line more rest)) ∙ m.all rest) ∙ sym (append_assoc ended later (input_lines (next ++ rest)));
   one = m.one;
 }
 
 -- the line that has begun ends with the text
-pub cuts_all : (text : List ℕ) (ended : List (List ℕ)) (line : List ℕ) → Cuts text ended line → lines (text ++ []) ≡ (ended ++ line ∷ []) ++ []
-cuts_all text ended line k = k.all [] ∙ ap (λ t. ended ++ lines t) (append-nil line) ∙ ap (λ t. ended ++ t) (slice_split_none (λ b. b == 10) line k.one) ∙ sym (append-nil (ended ++ line ∷ []))
+pub cuts_all : (text : List ℕ) (ended : List (List ℕ)) (line : List ℕ) → Cuts text ended line → input_lines (text ++ []) ≡ (ended ++ line ∷ []) ++ []
+cuts_all text ended line k = k.all [] ∙ ap (λ t. ended ++ input_lines t) (append-nil line) ∙ ap (λ t. ended ++ t) (slice_split_none (λ b. b == 10) line k.one) ∙ sym (append-nil (ended ++ line ∷ []))
 
 -- there is a line in any text
-pub some_line : (text : List ℕ) → lines text ≡ [] → ⊥
+pub some_line : (text : List ℕ) → input_lines text ≡ [] → ⊥
 some_line text e = absurd (omega (arith, length-slice_split (λ b. b == 10) text, ap length e))
 
 -- the bytes before the index and that at it
@@ -65,11 +65,11 @@ enumerate_from-append : {X : Type 0} (n : ℕ) (xs ys : List X) → enumerate_fr
 enumerate_from-append n [] ys = ap (λ m. enumerate_from m ys) (omega arith)
 enumerate_from-append n (x ∷ xs) ys = ap (λ l. (n, x) ∷ l) (enumerate_from-append (n + 1) xs ys ∙ ap (λ m. enumerate_from (n + 1) xs ++ enumerate_from m ys) (omega arith))
 
-pub numbered_from-append : (n m : ℕ) (xs ys : List (List ℕ)) → m ≡ n + length xs → numbered_from n (xs ++ ys) ≡ numbered_from n xs ++ numbered_from m ys
-numbered_from-append n m xs ys e =
+pub numbered_lines_from-append : (n m : ℕ) (xs ys : List (List ℕ)) → m ≡ n + length xs → numbered_lines_from n (xs ++ ys) ≡ numbered_lines_from n xs ++ numbered_lines_from m ys
+numbered_lines_from-append n m xs ys e =
     let test = λ (line : ℕ × List ℕ). not (is_blank line.1) in
     ap (λ l. filter test (map numbered l)) (enumerate_from-append n xs ys) ∙ ap (filter test) (map-append numbered (enumerate_from n xs) (enumerate_from (n + length xs) ys))
-    ∙ filter-append test (map numbered (enumerate_from n xs)) (map numbered (enumerate_from (n + length xs) ys)) ∙ ap (λ k. numbered_from n xs ++ numbered_from k ys) (sym e)
+    ∙ filter-append test (map numbered (enumerate_from n xs)) (map numbered (enumerate_from (n + length xs) ys)) ∙ ap (λ k. numbered_lines_from n xs ++ numbered_lines_from k ys) (sym e)
 
 pub all_append : {A B : Type 0} (R : A → B → Type 0) (xs : List A) (ys : List B) (us : List A) (vs : List B) → AllZip R xs ys → AllZip R us vs → AllZip R (xs ++ us) (ys ++ vs)
 all_append R [] [] us vs h k = k

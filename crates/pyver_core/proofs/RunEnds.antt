@@ -4,7 +4,7 @@ use Rattle.std.proofs.KnownBytes.{Appends-nil, Appends-trans, Consumes-nil}
 use Rattle.std.specs.Io.KnownBytes.{Appends, Consumes}
 use Rattle.pyver_core.specs.FilterSteps.{FilterFinishes, FilterStops}
 use Rattle.pyver_core.specs.Filters.{Filters, faults, filter_outcome, rule_of}
-use Rattle.pyver_core.specs.InputLines.{lines}
+use Rattle.pyver_core.specs.InputLines.{input_lines}
 use Rattle.pyver_core.specs.Matches.{DenotesList}
 use Rattle.pyver_core.specs.Outcomes.{Outcome}
 use Rattle.pyver_core.specs.Runs.{Ends, IsLast, WritesAnswer, WroteBeginning, memory_message}
@@ -54,7 +54,7 @@ module _ {R W E : Type 0} (remaining : R → Option (List ℕ)) (contents : W �
   ends_by_answer o needless is same (inl k) = record {
     known = inl (omega (arith, k.0));
     unread = λ _. same;
-    finished = λ _. record { read = []; consumed = subst (λ r. Consumes (remaining reader) (remaining r) []) (sym same) (Consumes-nil (remaining reader)); end = λ n. absurd (needless n); outcome = o; is = is (lines []); written = k.1 };
+    finished = λ _. record { read = []; consumed = subst (λ r. Consumes (remaining reader) (remaining r) []) (sym same) (Consumes-nil (remaining reader)); end = λ n. absurd (needless n); outcome = o; is = is (input_lines []); written = k.1 };
     stopped = λ n _. absurd (needless n);
     memory = λ _ e. absurd (omega (arith, k.0, e));
     failed = λ _ e. failed_low e k.0;
@@ -88,11 +88,11 @@ module _ {R W E : Type 0} (remaining : R → Option (List ℕ)) (contents : W �
   pub ends_by_filter : (rule : FilterRule) → NeedsInput (task_of words) → ((texts : List (List ℕ)) (o : Outcome) → Filters rule texts o → IsOutcome (task_of words) texts o)
       → FilterFinishes remaining contents error_contents rule reader reader' out out' err err' status → Ends contents error_contents remaining words reader reader' out out' err err' status
   ends_by_filter rule needs is k =
-      let low : status ≤ 2 = subst (λ n. n ≤ 2) (sym k.ended) (filtered_status rule (lines k.read) k.outcome k.is) in
+      let low : status ≤ 2 = subst (λ n. n ≤ 2) (sym k.ended) (filtered_status rule (input_lines k.read) k.outcome k.is) in
       record {
         known = inl (omega (arith, low));
         unread = λ needless. absurd (needless needs);
-        finished = λ _. record { read = k.read; consumed = k.consumed; end = λ _. k.end; outcome = k.outcome; is = is (lines k.read) k.outcome k.is; written = record { output = k.output; errors = k.errors; ended = k.ended } };
+        finished = λ _. record { read = k.read; consumed = k.consumed; end = λ _. k.end; outcome = k.outcome; is = is (input_lines k.read) k.outcome k.is; written = record { output = k.output; errors = k.errors; ended = k.ended } };
         stopped = λ _ high. absurd (high low);
         memory = λ needless _. absurd (needless needs);
         failed = λ needless _. absurd (needless needs);
@@ -137,7 +137,7 @@ module _ {R W E : Type 0} (remaining : R → Option (List ℕ)) (contents : W �
       read = [];
       consumed = subst (λ r. Consumes (remaining reader) (remaining r) []) (sym same) (Consumes-nil (remaining reader));
       front = [];
-      rest = lines [];
+      rest = input_lines [];
       split = refl;
       whole = λ none. absurd (omega (arith, ap length none));
       outcome = o.0;

@@ -5,8 +5,8 @@ use Rattle.std.specs.List.{enumerate_from, filter, list_all, slice_split}
 use Rattle.std.specs.Str.Lines.{strip_carriage_return}
 
 -- the lines of the input: they end at a newline or at the end
-abbrev pub lines : List ℕ → List (List ℕ)
-lines input = slice_split (λ b. b == 10) input
+abbrev pub input_lines : List ℕ → List (List ℕ)
+input_lines input = slice_split (λ b. b == 10) input
 
 -- without a byte order mark at the start
 abbrev pub without_mark : List ℕ → List ℕ
@@ -22,5 +22,5 @@ abbrev pub is_blank : List ℕ → Bool
 is_blank text = list_all is_ascii_whitespace text
 
 -- the lines that are not blank, with their numbers, of which the first is this
-abbrev pub numbered_from : ℕ → List (List ℕ) → List (ℕ × List ℕ)
-numbered_from first texts = filter (λ (line : ℕ × List ℕ). not (is_blank line.1)) (map numbered (enumerate_from first texts))
+abbrev pub numbered_lines_from : ℕ → List (List ℕ) → List (ℕ × List ℕ)
+numbered_lines_from first texts = filter (λ (line : ℕ × List ℕ). not (is_blank line.1)) (map numbered (enumerate_from first texts))

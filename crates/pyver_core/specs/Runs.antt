@@ -1,7 +1,7 @@
 -- How a run of the program may end.
 use Rattle.std.specs.Prelude.{◌≡◌, ◌⊎◌, ◌≤◌, ℕ, List, [], ◌++◌, Option, codes}
 use Rattle.std.specs.Io.KnownBytes.{Appends, Consumes, IsAtEnd}
-use Rattle.pyver_core.specs.InputLines.{lines}
+use Rattle.pyver_core.specs.InputLines.{input_lines}
 use Rattle.pyver_core.specs.Outcomes.{Outcome}
 use Rattle.pyver_core.specs.Tasks.{IsOutcome, NeedsInput, task_of}
 
@@ -58,7 +58,7 @@ module _ {W E : Type 0} (contents : W → Option (List ℕ)) (error_contents : E
       pub consumed : Consumes (remaining reader) (remaining reader') read
       pub end : NeedsInput (task_of words) → IsAtEnd (remaining reader')
       pub outcome : Outcome
-      pub is : IsOutcome (task_of words) (lines read) outcome
+      pub is : IsOutcome (task_of words) (input_lines read) outcome
       pub written : IsWritten outcome out out' err err' status
 
     -- A run stopped: of the first lines of what was read a beginning was written, and behind the errors the last message
@@ -68,7 +68,7 @@ module _ {W E : Type 0} (contents : W → Option (List ℕ)) (error_contents : E
       pub consumed : Consumes (remaining reader) (remaining reader') read
       pub front : List (List ℕ)
       pub rest : List (List ℕ)
-      pub split : lines read ≡ front ++ rest
+      pub split : input_lines read ≡ front ++ rest
       pub whole : rest ≡ [] → IsAtEnd (remaining reader')
       pub outcome : Outcome
       pub is : IsOutcome (task_of words) front outcome
