@@ -29,7 +29,7 @@ static void hold_text(const uint8_t *out, size_t written, const char *wanted)
 
 static void normalize_and_explain(void)
 {
-    uint8_t out[256];
+    uint8_t out[256], star;
     size_t written, count, ends[4];
     hold(pep440_normalize(TEXT(" V1!1.0-Alpha.2-3.DEV+Ubuntu-01 "), out, sizeof out, &written) == PEP440_OK, "normalize");
     hold_text(out, written, "1!1.0a2.post3.dev0+ubuntu.1");
@@ -48,6 +48,14 @@ static void normalize_and_explain(void)
     hold(pep440_specifiers_of(TEXT("!=1.5.* ,>=1.16"), out, sizeof out, ends, 4, &written, &count) == PEP440_OK && count == 4, "specifiers_of");
     hold_text(out, written, "!=1.5.*>=1.16");
     hold(ends[0] == 2 && ends[1] == 7 && ends[2] == 9 && ends[3] == 13, "operator, version, operator, version");
+    hold(pep440_specifier(TEXT("!="), TEXT("01.5.*"), out, sizeof out, &written) == PEP440_OK, "specifier");
+    hold_text(out, written, "!=1.5.*");
+    hold(pep440_specifier(TEXT(">="), TEXT("1.5.*"), out, sizeof out, &written) == PEP440_INVALID_LIST, "no star after >=");
+    hold(pep440_specifier(TEXT("~="), TEXT("latest"), out, sizeof out, &written) == PEP440_INVALID_VERSION, "no version after ~=");
+    hold(pep440_pattern(TEXT("1.5.0.*"), out, sizeof out, &written, &star) == PEP440_OK && star == 1, "a pattern");
+    hold_text(out, written, "1.5.0");
+    hold(pep440_pattern(TEXT("v1.5"), out, sizeof out, &written, &star) == PEP440_OK && star == 0, "a pattern without a star");
+    hold(pep440_pattern(TEXT("1.5a1.*"), out, sizeof out, &written, &star) == PEP440_INVALID_VERSION, "no star after a pre-release");
     hold(pep440_list_error(TEXT(">=1.16; <2.0"), out, sizeof out, &written) == PEP440_OK && written > 0, "why no list");
     printf("%.*s", (int)written, (const char *)out);
 }

@@ -30,6 +30,9 @@ static void strings(void)
     hold(pep440_word(NONE, &word) == PEP440_INVALID_VERSION, "word");
     hold(pep440_version_error(NONE, out, sizeof out, &written) == PEP440_OK && written > 0, "version_error");
     hold(pep440_parts_of(NONE, &parts, release, 4) == PEP440_INVALID_VERSION, "parts_of");
+    hold(pep440_specifier(NONE, (const uint8_t *)"1", 1, out, sizeof out, &written) == PEP440_INVALID_LIST, "specifier, operator");
+    hold(pep440_specifier((const uint8_t *)">=", 2, NONE, out, sizeof out, &written) == PEP440_INVALID_VERSION, "specifier, version");
+    hold(pep440_pattern(NONE, out, sizeof out, &written, &is) == PEP440_INVALID_VERSION, "pattern");
     hold(pep440_compare(NONE, (const uint8_t *)"1", 1, &order) == PEP440_INVALID_VERSION, "compare, left");
     hold(pep440_compare((const uint8_t *)"1", 1, NONE, &order) == PEP440_INVALID_VERSION, "compare, right");
     /* An empty list is one without a specifier, and contains each version. */

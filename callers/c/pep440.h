@@ -39,7 +39,7 @@ uint32_t pep440_version_of_library(void);
 enum {
     PEP440_OK = 0,
     PEP440_INVALID_VERSION = 1, /* a string is no version */
-    PEP440_INVALID_LIST = 2,    /* a string is no list of specifiers */
+    PEP440_INVALID_LIST = 2,    /* a string is no list of specifiers, or an operator and a version are no specifier */
     PEP440_OUT_OF_MEMORY = 3,
     PEP440_NO_ROOM = 4,
     PEP440_NUMBER_AT_MAX = 5, /* of a range or a cover alone: a bound would lie above 18446744073709551615 */
@@ -67,6 +67,19 @@ uint8_t pep440_normalize_list(const uint8_t *list, size_t length, uint8_t *out, 
    than the strings) `written` and `count` are written, and `out` and `ends` are unchanged. */
 uint8_t pep440_specifiers_of(const uint8_t *list, size_t length, uint8_t *out, size_t size, size_t *ends, size_t ends_size, size_t *written,
                              size_t *count);
+
+/* Writes the specifier of an operator and a version, as `>=1.16`, as pep440_normalize_list prints it; `out` and `written` as for
+   pep440_normalize. For `==` and `!=` the version may end with `.*`. The operator is parsed first, and no blank stands beside it.
+   PEP440_INVALID_LIST where it is none of `==`, `!=`, `<=`, `>=`, `<`, `>`, `~=` and `===`, or does not go with the version: `.*` with another
+   operator, a local part with another one than `==`, `!=` and `===`, `~=` with a single release number. PEP440_INVALID_VERSION where `version`
+   is no version, with `.*` or without. */
+uint8_t pep440_specifier(const uint8_t *operator_string, size_t operator_length, const uint8_t *version, size_t length, uint8_t *out, size_t size,
+                         size_t *written);
+
+/* Writes the normalized form of the version of a pattern, as `1.5` of `1.5.*` and of `1.5`, and to `star` whether `.*` follows it, 1 or 0; `out`
+   and `written` as for pep440_normalize. With PEP440_NO_ROOM `star` is written too. PEP440_INVALID_VERSION where it is no version, or `.*`
+   follows more than epoch and release, as in `1.0a1.*`. */
+uint8_t pep440_pattern(const uint8_t *pattern, size_t length, uint8_t *out, size_t size, size_t *written, uint8_t *star);
 
 /* Writes why a string is no version, in words, and 0 bytes where it is one; `out` and `written` as for pep440_normalize. */
 uint8_t pep440_version_error(const uint8_t *version, size_t length, uint8_t *out, size_t size, size_t *written);

@@ -44,6 +44,8 @@ static void *specifiers_of(void *unused)
     pep440_specifiers_of(LIST, out, (size_t)LONG * 64, ends, MANY, &written, &at);
     return unused;
 }
+static void *specifier(void *unused) { pep440_specifier((const uint8_t *)"==", 2, GIVEN, OUT); return unused; }
+static void *pattern(void *unused) { pep440_pattern(GIVEN, OUT, &flag); return unused; }
 static void *range_keys(void *unused)
 {
     pep440_range_keys(LIST, out, (size_t)LONG * 64, ends, MANY, &written, &at);
@@ -99,6 +101,8 @@ static const struct {
              {"range_keys", range_keys},
              {"cover_keys", cover_keys},
              {"specifiers_of", specifiers_of},
+             {"specifier", specifier},
+             {"pattern", pattern},
              {"compile", compile},
              {"compile_list", compile_list},
              {"normalize_compiled", normalize_compiled},

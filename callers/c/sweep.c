@@ -72,6 +72,12 @@ static uint8_t ranges_at_max(Answer *answer) { return pep440_ranges(TEXT(">=1.0,
 static uint8_t ranges_no_list(Answer *answer) { return pep440_ranges(TEXT(">=1.0, =2"), OUT); }
 #define KEYS answer->out, sizeof answer->out, answer->ends, 8, &answer->written, &answer->count
 static uint8_t specifiers_of(Answer *answer) { return pep440_specifiers_of(TEXT(MEMBERS), KEYS); }
+static uint8_t specifier(Answer *answer) { return pep440_specifier(TEXT("!="), TEXT("1!1.2.3.4.5.6.*"), OUT); }
+static uint8_t specifier_no_operator(Answer *answer) { return pep440_specifier(TEXT("=<"), TEXT(LONG), OUT); }
+static uint8_t specifier_no_pair(Answer *answer) { return pep440_specifier(TEXT(">="), TEXT(LONG), OUT); }
+static uint8_t specifier_invalid(Answer *answer) { return pep440_specifier(TEXT(">="), TEXT("1.0prev"), OUT); }
+static uint8_t pattern(Answer *answer) { return pep440_pattern(TEXT("1!1.2.3.4.5.6.*"), OUT, &answer->is); }
+static uint8_t pattern_invalid(Answer *answer) { return pep440_pattern(TEXT("1.2.3.4.5.6a1.*"), OUT, &answer->is); }
 static uint8_t range_keys(Answer *answer) { return pep440_range_keys(TEXT(MEMBERS), KEYS); }
 static uint8_t range_keys_at_max(Answer *answer) { return pep440_range_keys(TEXT(">=1.0, ==18446744073709551615.*"), KEYS); }
 static uint8_t cover_keys(Answer *answer) { return pep440_cover_keys(TEXT(MEMBERS), KEYS); }
@@ -140,6 +146,12 @@ static const struct {
              {"ranges, at max", ranges_at_max, PEP440_NUMBER_AT_MAX},
              {"ranges, no list", ranges_no_list, PEP440_INVALID_LIST},
              {"specifiers_of", specifiers_of, PEP440_OK},
+             {"specifier", specifier, PEP440_OK},
+             {"specifier, no operator", specifier_no_operator, PEP440_INVALID_LIST},
+             {"specifier, no pair", specifier_no_pair, PEP440_INVALID_LIST},
+             {"specifier, invalid", specifier_invalid, PEP440_INVALID_VERSION},
+             {"pattern", pattern, PEP440_OK},
+             {"pattern, invalid", pattern_invalid, PEP440_INVALID_VERSION},
              {"range_keys", range_keys, PEP440_OK},
              {"range_keys, at max", range_keys_at_max, PEP440_NUMBER_AT_MAX},
              {"cover_keys", cover_keys, PEP440_OK},

@@ -7,7 +7,7 @@ The wheel has the static library in it, the first of these that is there:
     libpep440.a of the release's library archive, where pkg-config finds `pep440`.
 
 CC and CFLAGS in the environment are the C compiler (cc) and what else it is to be passed. The source archive has pep440.h beside _core.c, and
-the licence; the rest lies as in the repository.
+the licence; it wants a library archive of a release, and no toolchain. The rest lies as in the repository.
 """
 import base64
 import gzip
@@ -71,7 +71,7 @@ def archives():
 
 
 def compile_extension(out):
-    """Compiles and links _core.c; of what the libraries define, nothing is left to see from outside."""
+    """Compiles and links _core.c with what it includes; of what the libraries define, nothing is left to see from outside."""
     include = [sysconfig.get_path("include"), sysconfig.get_path("platinclude"), str(HEADER.parent)]
     command = [
         *shlex.split(os.environ.get("CC", "cc")),
@@ -160,7 +160,7 @@ def build_wheel(wheel_directory, config_settings=None, metadata_directory=None):
 
 def sources():
     """The files of the source archive, by their names in it."""
-    names = ["README.md", "_core.c", "build_backend.py", "pyproject.toml"]
+    names = ["README.md", "build_backend.py", "pyproject.toml", *sorted(path.name for path in HERE.glob("_*.[ch]"))]
     folders = [HERE / "src" / PACKAGE, HERE / "tests"]
     paths = [path for folder in folders for path in sorted(folder.iterdir()) if path.suffix in (".py", ".pyi", ".typed", ".c")]
     files = {name: (HERE / name).read_bytes() for name in names} | {str(path.relative_to(HERE)): path.read_bytes() for path in paths}

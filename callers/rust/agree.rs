@@ -83,6 +83,16 @@ mod pep440 {
             written: *mut usize,
             count: *mut usize,
         ) -> u8;
+        fn pep440_specifier(
+            operator: *const u8,
+            operator_length: usize,
+            version: *const u8,
+            length: usize,
+            out: *mut u8,
+            room: usize,
+            written: *mut usize,
+        ) -> u8;
+        fn pep440_pattern(pattern: *const u8, length: usize, out: *mut u8, room: usize, written: *mut usize, star: *mut u8) -> u8;
         fn pep440_cover_keys(
             list: *const u8,
             length: usize,
@@ -248,6 +258,30 @@ mod pep440 {
 
     pub fn specifiers_of(list: &str) -> Result<Vec<Vec<u8>>, Error> {
         joined_by(pep440_specifiers_of, list.as_bytes())
+    }
+
+    /// Buffers grow to what is asked for; the call is made again in them.
+    fn grown(call: impl Fn(&mut [u8], &mut usize) -> u8) -> Result<String, Error> {
+        let (mut out, mut written) = (vec![0; 8], 0);
+        while !has_room(call(&mut out, &mut written))? {
+            assert!(written > out.len(), "too little room, and no more is asked for");
+            out.resize(written, 0);
+        }
+        out.truncate(written);
+        as_text(Ok(out))
+    }
+
+    pub fn specifier(operator: &str, version: &str) -> Result<String, Error> {
+        grown(|out, written| unsafe {
+            pep440_specifier(operator.as_ptr(), operator.len(), version.as_ptr(), version.len(), out.as_mut_ptr(), out.len(), written)
+        })
+    }
+
+    /// The version of a pattern, and whether `.*` follows it.
+    pub fn pattern(text: &str) -> Result<(String, bool), Error> {
+        let star = std::cell::Cell::new(9);
+        let version = grown(|out, written| unsafe { pep440_pattern(text.as_ptr(), text.len(), out.as_mut_ptr(), out.len(), written, star.as_ptr()) })?;
+        Ok((version, truth(star.get())))
     }
 
     pub fn range_keys(list: &str) -> Result<Vec<Vec<u8>>, Error> {
@@ -627,6 +661,45 @@ fn same_intervals(list: &str, texts: &[String]) {
     }
 }
 
+/// Operator and version of each member of a list make the member again, and its version is a pattern; a star for each other
+/// operator is rejected.
+fn same_specifiers(list: &str) {
+    let texts: Vec<String> = pep440::specifiers_of(list).unwrap().into_iter().map(|text| String::from_utf8(text).unwrap()).collect();
+    for pair in texts.chunks(2) {
+        let (operator, version) = (&pair[0], &pair[1]);
+        assert_eq!(pep440::specifier(operator, version), Ok(pair.concat()), "{list}");
+        let plain = version.strip_suffix(".*");
+        assert_eq!(pep440::pattern(version), Ok((plain.unwrap_or(version).to_string(), plain.is_some())), "{list}");
+        if plain.is_none() && !["==", "!="].contains(&operator.as_str()) {
+            assert!(pep440::specifier(operator, &format!("{version}.*")).is_err(), "{list}");
+        }
+        assert_eq!(pep440::specifier(&operator[..1], version).is_ok(), ["<", ">"].contains(&&operator[..1]), "{list}");
+    }
+}
+
+/// What a string is as a pattern: without a star that is what it is as a version. A specifier of it is the operator and the pattern.
+/// How many have a star.
+fn same_patterns(texts: &[String]) -> usize {
+    let mut stars = 0;
+    for text in texts.iter().flat_map(|text| [text.clone(), format!("{text}.*")]) {
+        let normal = pep440::normalize(&text);
+        match pep440::pattern(&text) {
+            Ok((version, true)) => {
+                assert_eq!((normal, pep440::normalize(text.strip_suffix(".*").unwrap()).as_ref()), (Err(Error::InvalidVersion), Ok(&version)), "{text}");
+                assert_eq!(pep440::specifier("!=", &text), Ok(format!("!={version}.*")), "{text}");
+                assert_eq!(pep440::specifier("~=", &text), Err(Error::InvalidList), "{text}");
+                stars += 1;
+            }
+            found => {
+                assert_eq!(found, normal.clone().map(|version| (version, false)), "{text}");
+                assert_eq!(pep440::specifier("===", &text), normal.map(|version| format!("==={version}")), "{text}");
+            }
+        }
+        assert_eq!(pep440::specifier("=", &text), Err(Error::InvalidList), "{text}");
+    }
+    stars
+}
+
 /// How many candidates were asked of lists.
 fn same_filters(chance: &mut Chance, texts: &[String]) -> usize {
     let mut asked = 0;
@@ -649,6 +722,7 @@ fn same_filters(chance: &mut Chance, texts: &[String]) -> usize {
         assert_eq!(pep440::normalize_list(&print).as_ref(), Ok(&print));
         let members: Vec<String> = pep440::specifiers_of(&list).unwrap().chunks(2).map(|pair| String::from_utf8(pair.concat()).unwrap()).collect();
         assert_eq!(members.join(", "), print);
+        same_specifiers(&list);
         assert_eq!(pep440::filter(&print, chunk).as_ref(), Ok(&marks), "{list}");
         assert_eq!(pep440::any_prerelease(&list), pep440::any_prerelease(&print));
         assert_eq!(pep440::ranges(&list), pep440::ranges(&print), "{list}");
@@ -699,6 +773,7 @@ fn main() {
     let packed = same_words(&versions);
     let compiled = same_compiled(&versions);
     same_errors(&texts);
+    let stars = same_patterns(&texts);
     let asked = same_filters(&mut chance, &texts);
     let lists: Vec<Vec<u8>> = (0..1000).filter_map(|_| pep440::compile_list(&chance.list()).ok()).collect();
     let (tried, taken) = same_changes(&mut chance, &compiled, &lists);
@@ -711,5 +786,5 @@ fn main() {
     assert_eq!(pep440::ranges("==18446744073709551615.*"), Err(Error::NumberAtMax));
     assert_eq!(pep440::ranges("=1.0"), Err(Error::InvalidList));
     println!("{tried} readings of changed and random bytes: {taken} denote a version or a list, and these print as it; the others are rejected by each call");
-    println!("{count} texts: {found} versions ({} distinct, {packed} with a word), {} invalid, {asked} asked of lists; both routes agree", distinct.len(), count - found);
+    println!("{count} texts: {found} versions ({} distinct, {packed} with a word, {stars} of patterns with a star), {} invalid, {asked} asked of lists; both routes agree", distinct.len(), count - found);
 }

@@ -142,21 +142,66 @@ static void is_prerelease(sqlite3_context *context, int count, sqlite3_value **v
         sqlite3_result_int(context, prerelease);
 }
 
+/* A compiled list, which SQLite keeps for a statement. */
+typedef struct {
+    size_t length;
+    uint8_t bytes[];
+} Compiled;
+
+/* The list of the first argument, compiled once a statement where it is the same in each row. Sets `made` to what the caller must give to keep_list;
+   null, and the result an error, where there is none. */
+static const Compiled *compiled_list(sqlite3_context *context, sqlite3_value *value, Compiled **made)
+{
+    const Compiled *kept = sqlite3_get_auxdata(context, 0);
+    Text list;
+    Written out;
+    *made = NULL;
+    if (kept != NULL || !is_text(value, &list))
+        return kept;
+    uint8_t status = write_all(pep440_compile_list, list, &out);
+    if (status == PEP440_OK)
+        *made = sqlite3_malloc64(sizeof **made + out.length);
+    if (status == PEP440_INVALID_LIST)
+        fail_list(context, list);
+    else if (*made == NULL)
+        sqlite3_result_error_nomem(context);
+    else {
+        (*made)->length = out.length;
+        memcpy((*made)->bytes, out.bytes, out.length);
+    }
+    release(&out);
+    return *made;
+}
+
+/* SQLite frees it, at once if it cannot keep it. */
+static void keep_list(sqlite3_context *context, Compiled *made)
+{
+    if (made != NULL)
+        sqlite3_set_auxdata(context, 0, made, sqlite3_free);
+}
+
 /* pep440_match(specs, v): whether the list contains the version, 1 or 0. Pre-releases are versions like others. */
 static void match(sqlite3_context *context, int count, sqlite3_value **values)
 {
-    Text list, text;
+    Compiled *made;
+    Text text;
+    Written version;
     uint8_t contained, prerelease;
     (void)count;
-    if (!is_text(values[0], &list) || !is_text(values[1], &text))
+    if (sqlite3_value_type(values[1]) == SQLITE_NULL)
         return;
-    uint8_t status = pep440_contains(list.bytes, list.length, text.bytes, text.length, &contained, &prerelease);
-    if (status == PEP440_OUT_OF_MEMORY)
-        sqlite3_result_error_nomem(context);
-    else if (status == PEP440_INVALID_LIST)
-        fail_list(context, list);
-    else if (status == PEP440_OK)
-        sqlite3_result_int(context, contained);
+    const Compiled *list = compiled_list(context, values[0], &made);
+    if (list != NULL && is_text(values[1], &text)) {
+        uint8_t status = write_all(pep440_compile, text, &version);
+        if (status == PEP440_OK)
+            status = pep440_contains_compiled(list->bytes, list->length, version.bytes, version.length, &contained, &prerelease);
+        if (status == PEP440_OUT_OF_MEMORY)
+            sqlite3_result_error_nomem(context);
+        else if (status == PEP440_OK)
+            sqlite3_result_int(context, contained);
+        release(&version);
+    }
+    keep_list(context, made);
 }
 
 /* ---- pep440_cover(specs): a table of intervals of keys, low and high, that hold each version which the list contains */

@@ -181,7 +181,7 @@ class Threads(unittest.TestCase):
 # What runs where requests for memory are refused: each call answers rightly or raises MemoryError, and then answers rightly.
 REFUSED = """
 import ctypes, sys
-from pep440_rattle import InvalidSpecifier, InvalidVersion, SpecifierSet, Version, filter_texts, sort_keys, sort_texts, _core
+from pep440_rattle import InvalidSpecifier, InvalidVersion, Specifier, SpecifierSet, Version, filter_texts, sort_keys, sort_texts, _core
 arm, refused = ctypes.CDLL(None).refuse_arm, ctypes.CDLL(None).refuse_came
 long = "V1!1.2.3.4.5.6-Alpha.2-3.DEV+Ubuntu-01.long.local.part"
 texts = [long, "1.0+b", "1.0", "0.9rc1", "1.0+a"] * 40
@@ -195,8 +195,10 @@ def refusal(call, text, error):
 calls = [
     lambda: Version(long).sort_key, lambda: str(Version(long)), lambda: Version(long)._parts, lambda: Version(longest).release[-1], lambda: str(Version(longest)),
     lambda: refusal(Version, "1.0prev", InvalidVersion), lambda: refusal(SpecifierSet, ">=1.0;<2", InvalidSpecifier),
-    lambda: _core.normalize_list(members, members), lambda: _core.ranges(members), lambda: _core.contains(members, "1.17", False),
-    lambda: filter_texts(members, texts), lambda: _core.filter(">=0", texts, False, False), lambda: sort_texts(texts), lambda: sort_keys(texts),
+    lambda: str(Specifier("== " + long)), lambda: SpecifierSet(members)._specs, lambda: _core.ranges(members), lambda: hash(Specifier("~=" + longest)),
+    lambda: SpecifierSet(members).contains("1.17", False), lambda: SpecifierSet(">=1.0a1,!=" + long).contains(longest + "rc1"),
+    lambda: SpecifierSet(members).contains(Version(long)), lambda: filter_texts(">=0", [Version(it) for it in texts]),
+    lambda: filter_texts(members, texts), lambda: list(SpecifierSet(">=0").filter(texts, False)), lambda: sort_texts(texts), lambda: sort_keys(texts),
     lambda: sort_keys([longest] * 3), lambda: refusal(sort_texts, texts + ["x"], InvalidVersion),
 ]
 def attempt(call, number):

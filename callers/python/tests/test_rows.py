@@ -5,6 +5,7 @@ import random
 import sqlite3
 import unittest
 
+import peer
 from pep440_rattle import _core
 from pep440_rattle import Bound, InvalidSpecifier, InvalidVersion, Specifier, SpecifierSet, Version, filter_texts, parse, sort_keys, sort_texts
 
@@ -141,6 +142,29 @@ class Specifiers(unittest.TestCase):
             _core.ranges("=1.0")
         self.assertEqual(Specifier(">=1.0").ranges(), [(Bound(Version("1.0"), True, ""), None)])
         self.assertEqual(SpecifierSet("<2.0").ranges()[0][1], Bound(Version("2.0"), False, "min0"))
+
+    def test_compiled_forms(self):
+        # a specifier whose version alone was compiled has the bytes that the library makes of it as a list, and the same ones are refused
+        def compiled(call, text):
+            try:
+                return call(text)
+            except InvalidSpecifier:
+                return None
+
+        random.seed(440)
+        texts = [peer.some_piece() for _ in range(20_000)] + [f"{operator}{version}" for operator in peer.OPERATORS for version in PRINTS]
+        texts += [operator + blanks + "1!1.0+u" + blanks for operator in peer.OPERATORS for blanks in " \t\n\f\r\v\x1c\u00a0"]
+        texts += [f"{operator}1{release}{suffix}" for operator in peer.OPERATORS for release in ("", ".0", ".1.2.3.4.5") for suffix in ("", "+u", ".*", "a1.dev2")]
+        kinds = {None: 0, True: 0}
+        for text in texts:
+            if "," in text or not text.strip():
+                continue
+            of_list = compiled(_core.compile_list, text.strip())
+            self.assertEqual(compiled(lambda it: Specifier(it)._compiled, text), of_list, repr(text))
+            kinds[of_list and True] += 1
+            if of_list:
+                self.assertEqual(SpecifierSet(f"{text}, >=0.1, <7")._compiled, _core.compile_list(f"{text.strip()}, >=0.1, <7"), repr(text))
+        self.assertGreater(min(kinds.values()), 1000, kinds)
 
     def test_sets(self):
         several = SpecifierSet([Specifier(">=1.0"), Specifier("!=1.5")])

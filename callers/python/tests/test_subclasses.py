@@ -1,13 +1,15 @@
 """Classes of a user's own over these, as programs that use `packaging` have them, and what looks at the classes themselves."""
 import copy
+import gc
 import inspect
 import pickle
 import subprocess
 import sys
 import unittest
+import weakref
 
 import pep440_rattle
-from pep440_rattle import InvalidVersion, Specifier, SpecifierSet, Version
+from pep440_rattle import InvalidSpecifier, InvalidVersion, Specifier, SpecifierSet, Version
 from pep440_rattle.specifiers import BaseSpecifier
 from pep440_rattle.version import _cmpkey, _parse_letter_version, _TrimmedRelease
 
@@ -84,6 +86,7 @@ class Versions(unittest.TestCase):
         version = Short("1!2.3.4rc1+u")
         self.assertEqual((str(version), version.public, version.base_version), ("1!2.3rc1+u", "1!2.3rc1", "1!2.3"))
         self.assertEqual(version, Version("1!2.3.4rc1+u"))
+        self.assertEqual((version.minor, version.micro, version.is_prerelease), (3, 0, True))
         for text, wanted in {"1.0.0": "1", "0.0": "0", "1!1.0.10.0.post1.dev2": "1!1.0.10.post1.dev2"}.items():
             self.assertEqual(str(_TrimmedRelease(text)), wanted)
 
@@ -135,6 +138,90 @@ class Specifiers(unittest.TestCase):
         self.assertTrue(mine.contains("1.0"))
         with self.assertRaises(TypeError):
             BaseSpecifier()
+
+    def test_prereleases_of_its_own(self):
+        class Open(Specifier):
+            prereleases = True
+
+        class Shut(SpecifierSet):
+            prereleases = False
+
+        self.assertTrue("1.1a1" in Open(">=1.0") and Open(">=1.0").contains("1.1a1"))
+        self.assertTrue(SpecifierSet([Open(">=1.0")]).contains("1.1a1"))
+        self.assertEqual(list(Open(">=1.0").filter(["0.9", "1.1a1"])), ["1.1a1"])
+        self.assertFalse("1.1a1" in Shut(">=1.0a1") or Shut(">=1.0a1").contains("1.1a1"))
+        self.assertTrue(Shut(">=1.0a1").contains("1.1a1", prereleases=True))
+
+    def test_contains_of_its_own(self):
+        class Never(SpecifierSet):
+            def contains(self, item, prereleases=None, installed=None):
+                return False and super().contains(item, prereleases, installed)
+
+        class Always(Specifier):
+            def contains(self, item, prereleases=None):
+                return super().contains(item, prereleases) or True
+
+        self.assertFalse("1.0" in Never(">=1.0"))
+        self.assertTrue("0.5" in Always(">=1.0") and "0.5" in SpecifierSet([Always(">=1.0")]))
+        self.assertEqual(list(Always(">=1.0").filter(["0.5"])), ["0.5"])
+
+    def test_arguments(self):
+        several, one = SpecifierSet(">=1.0"), Specifier(">=1.0")
+        for it in (several, one):
+            self.assertTrue(it.contains(item="1.1a1", prereleases=True) and it.contains("1.1a1", True) and not it.contains(item="1.1a1"))
+            for call in (lambda: it.contains(), lambda: it.contains("1", item="1"), lambda: it.contains("1", other=1), lambda: it.contains("1", 1, 1, 1)):
+                with self.assertRaises(TypeError):
+                    call()
+            with self.assertRaises(TypeError):
+                1 in it
+        self.assertTrue(several.contains("1.1a1", True, True))
+        with self.assertRaises(TypeError):
+            one.contains("1.1a1", True, True)
+        self.assertEqual(str(inspect.signature(SpecifierSet.contains)), "(self, /, item, prereleases=None, installed=None)")
+        for call in (lambda: Specifier(">=1", True, 1), lambda: Specifier(text=">=1"), lambda: SpecifierSet([1]), lambda: Specifier(1)):
+            with self.assertRaises(TypeError):
+                call()
+        self.assertEqual((Specifier(spec=">=1", prereleases=True).prereleases, SpecifierSet(specifiers=[">=1"]).prereleases), (True, False))
+
+    def test_init_again_and_without(self):
+        several, one = SpecifierSet(">=1.0,<2"), Specifier(">= 1.0")
+        self.assertEqual((len(several), hash(one), one.operator), (2, hash(Specifier(">=1.0")), ">="))
+        several.__init__("==1!7.*,==1!7.1.2.3.4.5+local")
+        one.__init__("!=3.1a1", prereleases=True)
+        self.assertEqual((str(several), "1!7.1.2.3.4.5+local" in several, "1.5" in several), ("==1!7.*,==1!7.1.2.3.4.5+local", True, False))
+        self.assertEqual((str(one), one.operator, one.prereleases, one == Specifier("!=3.1a1")), ("!=3.1a1", "!=", True, True))
+        with self.assertRaises(InvalidSpecifier):
+            several.__init__("x")
+        self.assertEqual(len(several), 2)
+        for kind in (Specifier, SpecifierSet):
+            for call in (str, hash, len, list, repr, lambda it: it.contains("1"), lambda it: "1" in it, lambda it: it.prereleases, lambda it: it == it, lambda it: list(it.filter([]))):
+                with self.assertRaises((AttributeError, TypeError)):
+                    call(kind.__new__(kind))
+            with self.assertRaises(AttributeError):
+                SpecifierSet([Specifier.__new__(Specifier)])
+
+    def test_attributes_and_cycles(self):
+        one = Specifier(">=1.0")
+        several = SpecifierSet([one])
+        one.several, several.note = several, "mine"
+        for again in (copy.deepcopy(several), pickle.loads(pickle.dumps(several))):
+            self.assertEqual((again, again.note, next(iter(again)).several), (several, "mine", several))
+        gone = weakref.ref(several)
+        del one, several, again
+        gc.collect()
+        self.assertIsNone(gone())
+
+    def test_a_member_that_changes(self):
+        several = SpecifierSet(">=1.0,!=2.0a1")
+        self.assertFalse(several.contains("1.1a1"))
+        member = next(iter(several))
+        member.prereleases = True
+        self.assertTrue(several.contains("1.1a1"))
+        member.prereleases = None
+        self.assertFalse(several.contains("1.1a1"))
+        self.assertTrue(SpecifierSet(">=1.0,<=2.0a1").contains("1.1a1"))
+        with self.assertRaises(AttributeError):
+            del several.prereleases
 
     def test_a_name_of_its_own(self):
         class Named(Specifier):

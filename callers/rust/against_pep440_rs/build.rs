@@ -48,5 +48,6 @@ fn main() {
     }
     write_examples(&peer.join("upstream/src"), &out.join("examples.rs"));
     println!("cargo::rerun-if-changed={}", peer.join("upstream/src").display());
+    println!("cargo::rustc-env=PEER_SOURCES={}", peer.join("upstream/src").display());
     println!("cargo::rustc-link-search=all={}", target.join("release/deps").display());
 }

@@ -6,3 +6,4 @@ pub mod Words
 pub mod Keyed
 pub mod Membership
 pub mod Agreeing
+pub mod Combined

@@ -18,7 +18,7 @@ use Rattle.pep440_c.proofs.Refused.{no_list_text, no_text}
 use Rattle.pep440_c.specs.Answers.{HasNoRange, IsRangeText}
 use Rattle.pep440_c.specs.Meaning.{MeansBytes, MeansListBytes, RefusesBytes, RefusesListBytes, TellsWhy, TellsWhyNoList}
 
-no_utf8 : (bytes : List ℕ) → is_utf8 bytes ≡ false → ¬ IsUtf8 bytes
+pub no_utf8 : (bytes : List ℕ) → is_utf8 bytes ≡ false → ¬ IsUtf8 bytes
 no_utf8 bytes is utf8 = cc (sym (is_utf8-from_IsUtf8 bytes utf8) ∙ is)
 
 -- ---- versions

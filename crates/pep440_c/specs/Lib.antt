@@ -7,3 +7,4 @@ pub mod Batches
 pub mod Compiled
 pub mod Room
 pub mod CompiledBatches
+pub mod Patterns

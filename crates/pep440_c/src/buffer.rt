@@ -30,8 +30,8 @@ pub(crate) fn put<T: Copy>(items: &[T], out: &mut [T]) -> u8
     OK
 }
 
-// The same of bytes, and reports how many they are.
-fn put_and_count(bytes: &[u8], out: &mut [u8], written: &mut usize) -> u8
+/// The same of bytes, and reports how many they are.
+pub(crate) fn put_and_count(bytes: &[u8], out: &mut [u8], written: &mut usize) -> u8
     ensures counted { written.new ≡ length bytes.now }
     ensures put { PutsFront bytes.now out.old out.new result }
 {

@@ -14,6 +14,7 @@ ghost use Rattle.std.specs.Prelude.{Some};
 ghost use Rattle.pep440_c.specs.Answers.{Contains, HasNoRange, IsKey, IsNormal, IsNormalList, IsOrder, IsPrerelease, IsRangeText, TellsWord};
 ghost use Rattle.pep440_c.specs.Compiled.{CompiledContains, CompiledKey, CompiledNormal, CompiledNormalList, CompiledOrder, CompiledPrerelease, DenotesNoList, DenotesNoVersion, IsCompiled, IsCompiledList};
 ghost use Rattle.pep440_c.specs.Intervals.{HasRange};
+ghost use Rattle.pep440_c.specs.Patterns.{IsSpecifier, MeansPattern, RefusesOperand, RefusesOperator, RefusesPatternBytes};
 ghost use Rattle.pep440_c.specs.Meaning.{MeansBytes, MeansListBytes, RefusesBytes, RefusesListBytes, TellsWhy, TellsWhyNoList};
 
 /// Bytes denote one version, or are invalid with one error, and never both.
@@ -52,6 +53,22 @@ pub fn words_are_ordered()
 pub fn keys_tell_membership()
     ensures range { (list text : List ℕ) (range : Segments) (r : Record) → HasRange range_of list range → MeansBytes text r → list_any (λ s. is_within (segment_interval s) (key_bytes r)) range ≡ contains record_cmp range r }
     ensures cover { (list text : List ℕ) (cover : Segments) (r : Record) → HasRange cover_of list cover → MeansBytes text r → Contains list text true → list_any (λ s. is_within (segment_interval s) (key_bytes r)) cover ≡ true }
+{}
+
+/// Bytes denote one pattern, or are invalid, and never both.
+pub fn patterns_once()
+    ensures one { (bytes : List ℕ) (r q : Record) (s t : Bool) → MeansPattern bytes r s → MeansPattern bytes q t → (r ≡ q) × (s ≡ t) }
+    ensures either { (bytes : List ℕ) → ((r : Record) × (s : Bool) × MeansPattern bytes r s) ⊎ RefusesPatternBytes bytes }
+    ensures never_both { (bytes : List ℕ) (r : Record) (s : Bool) → MeansPattern bytes r s → RefusesPatternBytes bytes → ⊥ }
+{}
+
+/// An operator and a pattern make one specifier, or the operator is rejected, or the pattern is, and never two of these.
+pub fn specifiers_once()
+    ensures one { (operator version a b : List ℕ) → IsSpecifier operator version a → IsSpecifier operator version b → a ≡ b }
+    ensures either { (operator version : List ℕ) → ((bytes : List ℕ) × IsSpecifier operator version bytes) ⊎ (RefusesOperator operator version ⊎ RefusesOperand operator version) }
+    ensures never_both { (operator version bytes : List ℕ) → IsSpecifier operator version bytes → RefusesOperator operator version → ⊥ }
+    ensures never_without { (operator version bytes : List ℕ) → IsSpecifier operator version bytes → RefusesOperand operator version → ⊥ }
+    ensures one_error { (operator version : List ℕ) → RefusesOperator operator version → RefusesOperand operator version → ⊥ }
 {}
 
 /// A string has one compiled form, which is never rejected; two strings have the same exactly where they denote the same

@@ -17,6 +17,7 @@ ghost use Rattle.pep440_c.specs.Batches.{FilterMarks, KeysAnswer, SortAnswer};
 ghost use Rattle.pep440_c.specs.Intervals.{LacksRange, TellsIntervals};
 ghost use Rattle.pep440_c.specs.Joined.{PutsJoined};
 ghost use Rattle.pep440_c.specs.Meaning.{RefusesBytes, RefusesListBytes};
+ghost use Rattle.pep440_c.specs.Patterns.{IsSpecifier, PatternAnswer, RefusesOperand, RefusesOperator};
 ghost use Rattle.pep440_c.specs.Statuses.{IsFlagOf, Puts, PutsBytes};
 
 mod batch;
@@ -29,13 +30,16 @@ mod intervals;
 mod joined;
 pub mod laws;
 mod members;
+mod patterns;
 #[cfg(test)]
 mod tests;
 mod texts;
 mod version_parts;
 
 use crate::batch::BatchError;
-use crate::buffer::{NOT_PACKED, OK, flag, put, put_both, put_bytes, put_joined, put_text};
+use crate::buffer::{
+    NOT_PACKED, OK, flag, put, put_and_count, put_both, put_bytes, put_joined, put_text,
+};
 use std::alloc::Global;
 use std::cmp::Ordering;
 
@@ -89,6 +93,46 @@ pub extern "C" fn pep440_specifiers_of(
     ensures { PutsJoined ⊥ (RefusesListBytes list.now) ⊥ (TellsMembers list.now) out.old out.new ends.old ends.new written.old written.new count.old count.new result }
 {
     put_joined(members::to_members(alloc, list), out, ends, written, count)
+}
+
+/// Writes the specifier of an operator and a version, as its list prints it; the version may end with `.*` for `==` and
+/// `!=` (PEP 440, "Version specifiers"). The operator is parsed first. Status 2 where it is none, or does not go with the
+/// version: `.*` or a local part where it allows none, or `~=` before a single release number.
+#[unsafe(no_mangle)]
+pub extern "C" fn pep440_specifier(
+    alloc: Global,
+    operator: &[u8],
+    version: &[u8],
+    out: &mut [u8],
+    written: &mut usize,
+) -> u8
+    ensures { PutsBytes (RefusesOperand operator.now version.now) (RefusesOperator operator.now version.now) ⊥ (IsSpecifier operator.now version.now) out.old out.new written.old written.new result }
+{
+    put_text(
+        patterns::to_specifier(alloc, operator, version),
+        out,
+        written,
+    )
+}
+
+/// Writes the normal form of the version of a pattern, and whether `.*` follows it, 1 or 0 (PEP 440, "Version matching").
+#[unsafe(no_mangle)]
+pub extern "C" fn pep440_pattern(
+    alloc: Global,
+    pattern: &[u8],
+    out: &mut [u8],
+    written: &mut usize,
+    star: &mut u8,
+) -> u8
+    ensures { PatternAnswer pattern.now out.old out.new written.old written.new star.old star.new result }
+{
+    match patterns::normalize(alloc, pattern) {
+        Ok((text, is_wildcard)) => {
+            *star = flag(is_wildcard);
+            put_and_count(text.as_bytes(), out, written)
+        }
+        Err(fault) => fault.status(),
+    }
 }
 
 /// Writes why the string is no version; nothing where it is one.

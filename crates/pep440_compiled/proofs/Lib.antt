@@ -3,3 +3,4 @@ pub mod Exact
 pub mod Leading
 pub mod Seen
 pub mod Whole
+pub mod Shown

@@ -1,5 +1,6 @@
 pub mod Format
 pub mod Lists
 pub mod OptionalParts
+pub mod PackedWord
 pub mod Parts
 pub mod Version

@@ -9,6 +9,7 @@ ghost use Rattle.pep440_version.specs.Print.{print};
 ghost use Rattle.pep440_version.specs.Record.{Record};
 
 use crate::version::{CompiledError, read_version};
+use crate::words::{cmp_words, read_word};
 use std::alloc::Global;
 use std::cmp::Ordering;
 
@@ -17,6 +18,19 @@ use std::cmp::Ordering;
 ///
 /// Allocates only for versions that are not packed, and may then return `OutOfMemory`.
 pub fn compare(alloc: Global, a: &[u8], b: &[u8]) -> Result<Ordering, CompiledError>
+    ensures ok { IfOk result (λ ordering. (r : Record) × (q : Record) × DenotesVersion a.now r × DenotesVersion b.now q × (ordering ≡ record_cmp r q)) }
+    ensures err { IfErr result (λ e. e ≡ NotCompiled → ((r : Record) → DenotesVersion a.now r → ⊥) ⊎ ((r : Record) → DenotesVersion b.now r → ⊥)) }
+    ensures memory { (r q : Record) → DenotesPacked a.now r → DenotesPacked b.now q → IsOk result }
+{
+    if let (Some(first), Some(second)) = (read_word(a), read_word(b)) {
+        return Ok(cmp_words(first, second));
+    }
+    compare_versions(alloc, a, b)
+}
+
+// The same of any versions.
+#[inline(never)]
+fn compare_versions(alloc: Global, a: &[u8], b: &[u8]) -> Result<Ordering, CompiledError>
     ensures ok { IfOk result (λ ordering. (r : Record) × (q : Record) × DenotesVersion a.now r × DenotesVersion b.now q × (ordering ≡ record_cmp r q)) }
     ensures err { IfErr result (λ e. e ≡ NotCompiled → ((r : Record) → DenotesVersion a.now r → ⊥) ⊎ ((r : Record) → DenotesVersion b.now r → ⊥)) }
     ensures memory { (r q : Record) → DenotesPacked a.now r → DenotesPacked b.now q → IsOk result }

@@ -22,6 +22,7 @@ mod parts;
 mod tests;
 mod unpacked;
 mod version;
+mod words;
 
 pub use calls::{compare, normalize, sort_key};
 pub use list::{compile_list, contains, normalize_list, read_list};

@@ -6,6 +6,7 @@ ghost use Rattle.pep440_version.specs.Record.{Record};
 ghost use Rattle.pep440_version.specs.Word.{is_packed};
 
 use crate::bytes::{from_bytes, to_bytes};
+use crate::words::{cmp_words, read_word};
 use pep440_version::Version;
 use pep440_version::words::{from_word, to_word};
 use std::cmp::Ordering;
@@ -53,7 +54,8 @@ pub fn compare_packed(a: &[u8], b: &[u8]) -> Result<Ordering, NotCompiled>
     ensures ok { IfOk result (λ ordering. (r : Record) × (q : Record) × DenotesPacked a.now r × DenotesPacked b.now q × (ordering ≡ record_cmp r q)) }
     ensures err { IfErr result (λ _. ((r : Record) → DenotesPacked a.now r → ⊥) ⊎ ((r : Record) → DenotesPacked b.now r → ⊥)) }
 {
-    let first = read_packed(a)?;
-    let second = read_packed(b)?;
-    Ok(first.cmp(&second))
+    let (Some(first), Some(second)) = (read_word(a), read_word(b)) else {
+        return Err(NotCompiled);
+    };
+    Ok(cmp_words(first, second))
 }

@@ -1,5 +1,5 @@
 //! Runs of `pyver` over writers of its own kind, with each request for memory refused in turn.
-use super::support::{Manner, Sink, split_words};
+use super::support::{After, Manner, Sink, Trickle, split_words};
 use pyver_core::run;
 use std::alloc::Global;
 use std::test::Fail;
@@ -30,11 +30,15 @@ const RUNS: [(&str, &str, &str, u8); 10] = [
     ),
 ];
 
-// Whether a run writes this, or says that memory is out.
+// Whether a run writes this, or says that memory is out, and reads nothing.
 fn writes(alloc: Global, words: &[String], output: &str, errors: &str, status: u8) -> bool {
     let mut out = Sink::new(Manner::TakesAtMost(7));
     let mut err = Sink::new(Manner::TakesAtMost(512));
-    let ended = run(alloc, words, &mut out, &mut err);
+    let mut input = Trickle::new(b"never read", After::Fails);
+    let ended = run(alloc, words, &mut input, &mut out, &mut err);
+    if input.calls != 0 {
+        return false;
+    }
     if ended == 3 {
         return out.bytes().is_empty() && err.bytes() == LACK.as_bytes();
     }
@@ -62,7 +66,8 @@ const OUTPUTS: [(Manner, &str); 3] = [
 fn tells_failed_write(alloc: Global, words: &[String], manner: Manner, front: &str) -> bool {
     let mut out = Sink::new(manner);
     let mut err = Sink::new(Manner::TakesAtMost(512));
-    match run(alloc, words, &mut out, &mut err) {
+    let mut input = Trickle::new(b"", After::End);
+    match run(alloc, words, &mut input, &mut out, &mut err) {
         3 => out.bytes().is_empty() && err.bytes() == LACK.as_bytes(),
         4 => out.bytes() == front.as_bytes() && err.bytes() == "pyver: a write failed\n".as_bytes(),
         _ => false,
@@ -84,7 +89,8 @@ fn sweep_errors_that_fail(rt: HostRuntime) -> Result<(), Fail> {
     let words = split_words(rt.alloc(), "match|>=1.0|x")?;
     let mut out = Sink::new(Manner::TakesAtMost(512));
     let mut err = Sink::new(Manner::FailsPast(5));
-    let ended = run(rt.alloc(), words.as_slice(), &mut out, &mut err);
+    let mut input = Trickle::new(b"", After::End);
+    let ended = run(rt.alloc(), words.as_slice(), &mut input, &mut out, &mut err);
     assert!(rt; ended == 4 || ended == 3, "the status");
     assert!(rt; out.bytes().is_empty(), "nothing is answered");
     assert!(rt;

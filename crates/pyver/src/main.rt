@@ -1,4 +1,4 @@
-//! The program `pyver`: its arguments, standard output and standard error.
+//! The program `pyver`: its arguments, standard input, standard output and standard error.
 #![tactic(auto)]
 
 use pyver_core::{refuse, run};
@@ -29,6 +29,7 @@ fn main(rt: HostRuntime) -> ExitCode {
     let status = run(
         rt.alloc(),
         words.as_slice(),
+        &mut rt.stdin(),
         &mut rt.stdout(),
         &mut rt.stderr(),
     );

@@ -1,6 +1,10 @@
 -- Bytes that were appended one after another.
 use Rattle.std.proofs.Common.{◌≡◌, ◌∙◌, ◌++◌, ℕ, List, ap, append_assoc}
 
+-- one part more, in front of the others
+pub appended_more : (a x y b c : List ℕ) → b ≡ a ++ x → c ≡ b ++ y → c ≡ a ++ (x ++ y)
+appended_more a x y b c first rest = rest ∙ ap (λ l. l ++ y) first ∙ append_assoc a x y
+
 -- three parts, of which the one in the middle has another name
 pub three_appended : (a x y w z b c d : List ℕ) → b ≡ a ++ x → c ≡ b ++ w → w ≡ y → d ≡ c ++ z → d ≡ a ++ (x ++ (y ++ z))
 three_appended a x y w z b c d first second same third =

@@ -13,9 +13,11 @@ use Rattle.pyver_core.specs.Matches.{Matches, MatchesBy, MatchesWord, MatchesWor
 use Rattle.pyver_core.specs.OneOutcome.{OutcomesOnce}
 use Rattle.pyver_core.specs.Outcomes.{Outcome, in_turn}
 use Rattle.pyver_core.specs.Readings.{Reading, Reads, Denotes, Fails}
-use Rattle.pyver_core.specs.Tasks.{Help, NameVersion, Compare, Match, Misused}
+use Rattle.pyver_core.specs.Shows.{Shows, ShowsWord, show_outcome}
+use Rattle.pyver_core.specs.Tasks.{Help, NameVersion, Compare, Match, Show, Misused}
 use Rattle.pyver_core.specs.declared.allowed.MatchOptions.{MatchOptions}
 use Rattle.pyver_core.specs.declared.comparison.Comparison.{Comparison}
+use Rattle.pyver_core.specs.declared.show.ShowFormat.{ShowFormat}
 
 reading_once : (text : List ℕ) (x y : Reading) → Reads text x → Reads text y → x ≡ y
 reading_once text (Denotes r) (Denotes q) h k = ap Denotes (one_record text r q h k)
@@ -57,9 +59,16 @@ by_once options (ListFails message) words a b h k = h ∙ sym k
 match_once : (options : MatchOptions) (specifiers : List ℕ) (words : List (List ℕ)) (a b : Outcome) → Matches options specifiers words a → Matches options specifiers words b → a ≡ b
 match_once options specifiers words a b (x, hx, h) (u, hu, k) = by_once options x words a b h (subst (λ (z : SpecifiersReading). MatchesBy options z words b) (sym (specifiers_once specifiers x u hx hu)) k)
 
+show_word_once : (format : ShowFormat) (word : List ℕ) (a b : Outcome) → ShowsWord format word a → ShowsWord format word b → a ≡ b
+show_word_once format word a b (x, hx, is) (u, hu, so) = is ∙ ap (show_outcome format word) (reading_once word x u hx hu) ∙ sym so
+
+show_once : (format : ShowFormat) (words : List (List ℕ)) (a b : Outcome) → Shows format words a → Shows format words b → a ≡ b
+show_once format words a b (os, h, is) (ps, k, so) = is ∙ ap in_turn (all_once (ShowsWord format) (show_word_once format) words os ps h k) ∙ sym so
+
 pub outcomes_once : OutcomesOnce
 outcomes_once (Help topic) a b h k = h ∙ sym k
 outcomes_once NameVersion a b h k = h ∙ sym k
 outcomes_once (Compare left operator right) a b h k = compare_once left operator right a b h k
 outcomes_once (Match options specifiers words) a b h k = match_once options specifiers words a b h k
+outcomes_once (Show format words) a b h k = show_once format words a b h k
 outcomes_once (Misused message) a b h k = h ∙ sym k

@@ -6,6 +6,9 @@ pub mod Readings
 pub mod Comparisons
 pub mod Prereleases
 pub mod Matches
+pub mod Parts
+pub mod JsonObjects
+pub mod Shows
 pub mod AnswerViews
 pub mod Tasks
 pub mod TaskViews

@@ -1,7 +1,7 @@
 -- What the program's commands say, apart from where they lie in memory.
 use Rattle.std.specs.Prelude.{ℕ, List, codes, map, string_bytes}
 use Rattle.pyver_core.specs.Messages.{unknown_message, usage_message}
-use Rattle.pyver_core.specs.Tasks.{Task, Help, NameVersion, Compare, Match, Misused, command_names, comparison_names, option_names, usage}
+use Rattle.pyver_core.specs.Tasks.{Task, Help, NameVersion, Compare, Match, Show, Misused, command_names, comparison_names, option_names, part_names, usage}
 use Rattle.pyver_core.specs.declared.command.Command.{Command}
 use Rattle.pyver_core.specs.declared.command.Command.TheVariants as command
 use Rattle.pyver_core.specs.declared.misuse.Misuse.{Misuse}
@@ -11,6 +11,7 @@ abbrev pub misuse_message : Misuse → List ℕ
 misuse_message (misuse.Command word) = unknown_message (codes "command") word.now command_names
 misuse_message (misuse.Option topic word) = unknown_message (codes "option") word.now (option_names topic)
 misuse_message (misuse.Comparison word) = unknown_message (codes "operator") word.now comparison_names
+misuse_message (misuse.Part word) = unknown_message (codes "part") word.now part_names
 misuse_message (misuse.Count topic) = usage_message (usage topic)
 
 abbrev pub task : Command → Task
@@ -18,4 +19,5 @@ task (command.Help topic) = Help topic
 task command.Version = NameVersion
 task (command.Compare left comparison right) = Compare left.now comparison right.now
 task (command.Match options specifiers words) = Match options specifiers.now (map string_bytes words.now)
+task (command.Show asked words) = Show asked (map string_bytes words.now)
 task (command.Misused why) = Misused (misuse_message why)

@@ -1,15 +1,20 @@
 -- What the words of the program ask for, and what is written for it.
-use Rattle.std.specs.Prelude.{◌≡◌, ◌==◌, ◌&&◌, ◌||◌, ℕ, List, [], ◌∷◌, ◌++◌, Bool, true, false, Option, Some, None, bytes_eq, codes, length, nat_lt, if◌then◌else◌}
+use Rattle.std.specs.Prelude.{◌≡◌, ◌==◌, ◌&&◌, ◌||◌, ℕ, List, [], ◌∷◌, Bool, true, false, Option, Some, None, bytes_eq, codes, length, nat_lt, if◌then◌else◌}
 use Rattle.pyver_core.specs.Comparisons.{Compares, comparison_of}
 use Rattle.pyver_core.specs.Matches.{Matches}
-use Rattle.pyver_core.specs.Messages.{help_hint, unknown_message, usage_message}
+use Rattle.pyver_core.specs.Messages.{unknown_message, usage_message}
 use Rattle.pyver_core.specs.Outcomes.{Outcome}
+use Rattle.pyver_core.specs.Parts.{part_of}
+use Rattle.pyver_core.specs.Shows.{Shows}
 use Rattle.pyver_core.specs.declared.allowed.MatchOptions.{MatchOptions}
 use Rattle.pyver_core.specs.declared.comparison.Comparison.{Comparison}
 use Rattle.pyver_core.specs.declared.help.Topic.{Topic}
 use Rattle.pyver_core.specs.declared.help.Topic.TheVariants as topic
-use Rattle.pyver_core.specs.declared.help.TheConstants.{PROGRAM_HELP, COMPARE_HELP, MATCH_HELP, COMPARE_USAGE, MATCH_USAGE, PROGRAM_USAGE, VERSION_LINE}
+use Rattle.pyver_core.specs.declared.help.TheConstants.{PROGRAM_HELP, COMPARE_HELP, MATCH_HELP, SHOW_HELP, COMPARE_USAGE, MATCH_USAGE, SHOW_USAGE, PROGRAM_USAGE, VERSION_LINE}
+use Rattle.pyver_core.specs.declared.part.VersionPart.{VersionPart}
 use Rattle.pyver_core.specs.declared.prerelease.Prereleases.TheVariants as prereleases
+use Rattle.pyver_core.specs.declared.show.ShowFormat.{ShowFormat}
+use Rattle.pyver_core.specs.declared.show.ShowFormat.TheVariants as format
 
 -- what words ask for; a message where it is nothing
 pub data Task : Type 0 where
@@ -17,27 +22,31 @@ pub data Task : Type 0 where
   NameVersion : Task
   Compare : List ℕ → Comparison → List ℕ → Task
   Match : MatchOptions → List ℕ → List (List ℕ) → Task
+  Show : ShowFormat → List (List ℕ) → Task
   Misused : List ℕ → Task
 
 -- ---- the names of the program
 
 abbrev pub command_names : List (List ℕ)
-command_names = codes "compare" ∷ (codes "match" ∷ (codes "--help" ∷ (codes "--version" ∷ [])))
+command_names = codes "compare" ∷ (codes "match" ∷ (codes "show" ∷ (codes "--help" ∷ (codes "--version" ∷ []))))
 
 abbrev pub option_names : Topic → List (List ℕ)
 option_names topic.Program = codes "--help" ∷ []
 option_names topic.Compare = codes "--help" ∷ []
 option_names topic.Match = codes "--help" ∷ (codes "--quiet" ∷ (codes "--pre" ∷ (codes "--no-pre" ∷ [])))
+option_names topic.Show = codes "--help" ∷ (codes "--part" ∷ (codes "--json" ∷ []))
 
 abbrev pub usage : Topic → List ℕ
 usage topic.Program = PROGRAM_USAGE.now
 usage topic.Compare = COMPARE_USAGE.now
 usage topic.Match = MATCH_USAGE.now
+usage topic.Show = SHOW_USAGE.now
 
 abbrev pub help_text : Topic → List ℕ
 help_text topic.Program = PROGRAM_HELP.now
 help_text topic.Compare = COMPARE_HELP.now
 help_text topic.Match = MATCH_HELP.now
+help_text topic.Show = SHOW_HELP.now
 
 -- ---- words
 
@@ -113,6 +122,37 @@ match_task options (word ∷ rest) =
 abbrev pub no_match_options : MatchOptions
 no_match_options = record { quiet = false; prereleases = prereleases.Listed }
 
+-- ---- `show [--part PART | --json] V..`
+
+abbrev pub part_names : List (List ℕ)
+part_names = codes "epoch" ∷ (codes "release" ∷ (codes "major" ∷ (codes "minor" ∷ (codes "micro" ∷ (codes "pre" ∷ (codes "post" ∷ (codes "dev" ∷ (codes "local" ∷ (codes "public" ∷ (codes "base" ∷ []))))))))))
+
+abbrev pub show_operands : ShowFormat → List (List ℕ) → Task
+show_operands asked [] = wrong_count topic.Show
+show_operands asked (word ∷ rest) = Show asked (word ∷ rest)
+
+-- the words behind the options, where `--` may stand first
+abbrev pub show_rest : ShowFormat → List ℕ → List (List ℕ) → Task
+show_rest asked word rest =
+    if bytes_eq word (codes "--") then show_operands asked rest
+    else if is_option word then wrong_option topic.Show word
+    else show_operands asked (word ∷ rest)
+
+-- what is done with the part that the word names, if it names one
+abbrev pub by_part : List ℕ → Option VersionPart → (VersionPart → Task) → Task
+by_part word None with_part = Misused (unknown_message (codes "part") word part_names)
+by_part word (Some part) with_part = with_part part
+
+-- options stand before the versions, and the last one counts; None where the name of a part has to stand next
+abbrev pub show_task : Option ShowFormat → List (List ℕ) → Task
+show_task asked [] = wrong_count topic.Show
+show_task None (name ∷ rest) = by_part name (part_of name) (λ part. show_task (Some (format.Part part)) rest)
+show_task (Some asked) (word ∷ rest) =
+    if is_help word then Help topic.Show
+    else if bytes_eq word (codes "--json") then show_task (Some format.Json) rest
+    else if bytes_eq word (codes "--part") then show_task None rest
+    else show_rest asked word rest
+
 -- ---- the program
 
 abbrev pub task_of : List (List ℕ) → Task
@@ -122,6 +162,7 @@ task_of (word ∷ rest) =
     else if bytes_eq word (codes "--version") then NameVersion
     else if bytes_eq word (codes "compare") then compare_task rest
     else if bytes_eq word (codes "match") then match_task no_match_options rest
+    else if bytes_eq word (codes "show") then show_task (Some format.Normal) rest
     else Misused (unknown_message (codes "command") word command_names)
 
 -- a text on standard output
@@ -138,4 +179,5 @@ IsOutcome (Help about) o = o ≡ printed (help_text about)
 IsOutcome NameVersion o = o ≡ printed VERSION_LINE.now
 IsOutcome (Compare left operator right) o = Compares left operator right o
 IsOutcome (Match options specifiers words) o = Matches options specifiers words o
+IsOutcome (Show asked words) o = Shows asked words o
 IsOutcome (Misused message) o = o ≡ misuse message

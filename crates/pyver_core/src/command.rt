@@ -11,6 +11,8 @@ use crate::comparison::{Comparison, compare, parse_comparison};
 use crate::help::{Topic, VERSION_LINE, help};
 use crate::misuse::{Misuse, push_misuse};
 use crate::prerelease::Prereleases;
+use crate::show::{ShowFormat, show_versions};
+use crate::show_words::parse_show;
 use std::alloc::{AllocError, Global};
 
 /// What words ask for.
@@ -20,16 +22,17 @@ pub(crate) enum Command<'a> {
     Version,
     Compare(&'a str, Comparison, &'a str),
     Match(MatchOptions, &'a str, &'a [String]),
+    Show(ShowFormat, &'a [String]),
     Misused(Misuse<'a>),
 }
 
-fn is_help(word: &str) -> bool
+pub(crate) fn is_help(word: &str) -> bool
     ensures { result ≡ is_help word.now }
 {
     word == "-h" || word == "--help"
 }
 
-fn is_option(word: &str) -> bool
+pub(crate) fn is_option(word: &str) -> bool
     ensures { result ≡ is_option word.now }
 {
     match word.as_bytes() {
@@ -146,6 +149,7 @@ impl<'a> Command<'a> {
                 "--version" => Command::Version,
                 "compare" => parse_compare(rest),
                 "match" => parse_match(rest),
+                "show" => parse_show(rest),
                 other => Command::Misused(Misuse::Command(other)),
             },
         }
@@ -162,6 +166,7 @@ impl<'a> Command<'a> {
             Command::Match(options, specifiers, words) => {
                 match_versions(alloc, options, specifiers, words)
             }
+            Command::Show(format, words) => show_versions(alloc, format, words),
             Command::Misused(misuse) => report_misuse(alloc, misuse),
         }
     }

@@ -8,6 +8,7 @@ pub(crate) enum Topic {
     Program,
     Compare,
     Match,
+    Show,
 }
 
 const PROGRAM_USAGE: &str = "pyver COMMAND [WORD]..";
@@ -15,6 +16,8 @@ const PROGRAM_USAGE: &str = "pyver COMMAND [WORD]..";
 const COMPARE_USAGE: &str = "pyver compare A OP B";
 
 const MATCH_USAGE: &str = "pyver match [-q] [--pre | --no-pre] SPECS V..";
+
+const SHOW_USAGE: &str = "pyver show [--part PART | --json] V..";
 
 pub(crate) const VERSION_LINE: &str = "pyver 0.2.0\n";
 
@@ -25,6 +28,7 @@ Python versions and version specifiers (PEP 440) for people and for shell script
 commands:
   compare A OP B     whether A stands so to B, by the exit status
   match SPECS V..    which of the versions the specifiers allow
+  show V..           versions in normal form, or their parts
 
 'pyver COMMAND --help' tells more of a command. '--version' prints the program's version.
 The exit status is 0 for yes or done, 1 for no, 2 for a wrong use or an invalid version,
@@ -33,6 +37,7 @@ The exit status is 0 for yes or done, 1 for no, 2 for a wrong use or an invalid 
 examples:
   pyver compare 1.9 lt 1.10 && echo older
   pyver match '>=1.16,<2.0' 1.19
+  pyver show --part major 1.19
 ";
 
 const COMPARE_HELP: &str = "usage: pyver compare A OP B
@@ -62,6 +67,25 @@ examples:
   pyver match -q --pre '>=2.0rc1' 2.0rc2 && echo allowed
 ";
 
+const SHOW_HELP: &str = "usage: pyver show [--part PART | --json] V..
+
+Prints the normal form of each version, or what the option asks for, a line for each. The exit
+status is 0, or 2 where one is no version: that is reported, and the others are printed.
+PART is epoch, release, major, minor, micro, pre, post, dev, local, public or base. public is
+all but the local part, base is epoch and release. The line of an absent pre, post, dev or
+local is empty; an epoch, a minor or a micro that is not written is 0.
+
+options:
+  --part PART  print a part alone
+  --json       print all parts as a JSON object, numbers above 2^53 as strings
+  --           all words after it are no options
+
+examples:
+  pyver show v1.0-RC.1
+  pyver show --part minor 1.19.2
+  pyver show --json 1.0rc1 2.0+local.1
+";
+
 /// What the help says.
 pub(crate) fn help(topic: Topic) -> &'static str
     ensures { result.now ≡ help_text topic }
@@ -70,6 +94,7 @@ pub(crate) fn help(topic: Topic) -> &'static str
         Topic::Program => PROGRAM_HELP,
         Topic::Compare => COMPARE_HELP,
         Topic::Match => MATCH_HELP,
+        Topic::Show => SHOW_HELP,
     }
 }
 
@@ -81,5 +106,6 @@ pub(crate) fn usage(topic: Topic) -> &'static str
         Topic::Program => PROGRAM_USAGE,
         Topic::Compare => COMPARE_USAGE,
         Topic::Match => MATCH_USAGE,
+        Topic::Show => SHOW_USAGE,
     }
 }

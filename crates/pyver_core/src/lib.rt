@@ -1,4 +1,4 @@
-//! The program `pyver` as a function of its words, over any writers: what it prints for people and for shell scripts.
+//! The program `pyver` as a function of its words, over any reader and any writers: what it prints for people and for shell scripts.
 #![tactic(auto)]
 
 mod allowed;
@@ -7,12 +7,16 @@ mod command;
 mod comparison;
 mod escape;
 mod help;
+mod json;
 pub mod laws;
 mod misuse;
 mod nearest;
+mod part;
 mod prerelease;
 mod program;
 mod reading;
+mod show;
+mod show_words;
 mod stream;
 
 pub use program::{refuse, run};

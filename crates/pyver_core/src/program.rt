@@ -1,11 +1,11 @@
-// The program over any writers.
+// The program over any reader and any writers.
 ghost use Rattle.std.specs.Prelude.{◌≡◌, ◌⊎◌, ◌≤◌, map, string_bytes};
 ghost use Rattle.pyver_core.specs.Runs.{Ends, WroteBeginning, memory_message, write_message};
 
 use crate::command::Command;
 use crate::stream::{WriteFailure, write_whole};
 use std::alloc::Global;
-use std::io::Write;
+use std::io::{Read, Write};
 
 const MEMORY: &str = "pyver: out of memory\n";
 
@@ -34,9 +34,17 @@ fn report_failure<E: Write>(failure: WriteFailure, err: &mut E) -> u8
     failure_status(failure)
 }
 
-/// Runs the command of the words and returns the status of the process: answers go to `out` and faults to `err`.
-pub fn run<W: Write, E: Write>(alloc: Global, words: &[String], out: &mut W, err: &mut E) -> u8
-    ensures { Ends W.contents E.contents (map string_bytes words.now) out.old out.new err.old err.new result }
+/// Runs the command of the words and returns the status of the process: answers go to `out` and faults to `err`. No
+/// command reads `input`.
+pub fn run<R: Read, W: Write, E: Write>(
+    alloc: Global,
+    words: &[String],
+    input: &mut R,
+    out: &mut W,
+    err: &mut E,
+) -> u8
+    ensures ends { Ends W.contents E.contents (map string_bytes words.now) out.old out.new err.old err.new result }
+    ensures unread { input.new ≡ input.old }
 {
     let Ok(answer) = Command::parse(words).run(alloc) else {
         return refuse(err);

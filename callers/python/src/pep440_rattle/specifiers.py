@@ -25,10 +25,6 @@ __all__ = ["BaseSpecifier", "Bound", "InvalidSpecifier", "Specifier", "Specifier
 UnparsedVersion = Union[Version, str]
 UnparsedVersionVar = TypeVar("UnparsedVersionVar", bound=UnparsedVersion)
 
-# The operators beside which a version that is a pre-release allows pre-releases: all but `!=`, since who excludes one does not ask for any.
-_NAMING = frozenset(("===", "==", "~=", ">=", "<=", ">", "<"))
-
-
 class Bound(NamedTuple):
     """An end of a segment of versions."""
 
@@ -128,11 +124,36 @@ class BaseSpecifier(metaclass=abc.ABCMeta):
         return [_segment_of(line) for line in _core.ranges(str(self)).splitlines() if line != "empty"]
 
 
-class Specifier(BaseSpecifier):
+def _restore_specifier(kind: type[Specifier], text: str, prereleases: bool | None) -> Specifier:
+    """A copy of a specifier of a class whose `__init__` may take anything."""
+    specifier = kind.__new__(kind)
+    Specifier.__init__(specifier, text, prereleases)
+    return specifier
+
+
+def _restore_set(kind: type[SpecifierSet], members: tuple[Specifier, ...], prereleases: bool | None) -> SpecifierSet:
+    """A copy of a set of a class whose `__init__` may take anything."""
+    several = kind.__new__(kind)
+    SpecifierSet.__init__(several, members, prereleases)
+    return several
+
+
+def _contains_by_name(self: Specifier | SpecifierSet, item: UnparsedVersion) -> bool:
+    """Whether it contains the version, and `prereleases` allows it."""
+    return self.contains(item)
+
+
+class Specifier(_core.HeldSpecifier, BaseSpecifier):
     """One specifier, as `>=1.0`.
 
-    Raises `InvalidSpecifier`, with the reason, where the text is none. `prereleases` says whether pre-releases are allowed; None leaves it to
-    the version: allowed where it is one itself.
+    Raises `InvalidSpecifier`, with the reason, where the string is none. `prereleases` says whether pre-releases are allowed; None leaves it to
+    the version: allowed where it is one itself. The string is parsed once: the specifier holds what the library compiled of it.
+
+    >>> specifier = Specifier("!= 2.1.*")
+    >>> specifier.operator, specifier.version
+    ('!=', '2.1.*')
+    >>> Specifier(">2.1").contains("3.0rc1"), Specifier(">2.1").contains("3.0rc1", prereleases=True)
+    (False, True)
     """
 
     # The operators, where pip looks for them, and what a subclass names its own comparison: `_compare_equal` and the like.
@@ -146,11 +167,8 @@ class Specifier(BaseSpecifier):
         ">": "greater_than",
         "===": "arbitrary",
     }
-    # Whether this is a class with a comparison or with properties of its own.
+    # Whether this is a class with a comparison or with properties of its own, for which `_contains` answers.
     _is_changed = False
-
-    # How often `prereleases` of some specifier was set, so that a set knows when to ask its members again.
-    _times_set = 0
 
     # Regular expressions for other modules of `packaging` and for tools; nothing here uses them.
     _operator_regex_str = r"(?P<operator>~=|===?|!=|<=?|>=?)"
@@ -159,72 +177,19 @@ class Specifier(BaseSpecifier):
 
     def __init_subclass__(cls, **named: object) -> None:
         super().__init_subclass__(**named)
-        asked = ["operator", "version", "__str__", "contains", "_get_operator", *map("_compare_{}".format, cls._operators.values())]
-        cls._is_changed = any(getattr(cls, it) is not getattr(Specifier, it) for it in asked)
+        asked = ["operator", "version", "prereleases", "__str__", "_get_operator", *map("_compare_{}".format, cls._operators.values())]
+        is_by_name = cls.contains is not Specifier.contains
+        cls._is_changed = is_by_name or any(getattr(cls, it) is not getattr(Specifier, it) for it in asked)
+        if is_by_name and cls.__contains__ is Specifier.__contains__:
+            cls.__contains__ = _contains_by_name  # type: ignore[assignment]
 
-    def __init__(self, spec: str = "", prereleases: bool | None = None) -> None:
-        if not isinstance(spec, str):
-            raise TypeError(f"expected a str, not {type(spec)!r}")
-        text = spec.strip()
-        if "," in text or not text:
-            raise InvalidSpecifier(f"Invalid specifier: {spec!r}: it is not one specifier")
-        _core.normalize_list(text, spec)
-        # by now an operator stands in front, of one to three characters, all but `<` and `>` with a `=` at their ends
-        width = 3 if text.startswith("===") else 2 if text[1] == "=" else 1
-        self._spec = text[:width], text[width:].lstrip()
-        self._prereleases = prereleases
-        self._canonical: tuple[str, object] | None = None
+    __hash__ = _core.HeldSpecifier.__hash__
 
-    @property
-    def operator(self) -> str:
-        """The operator.
-
-        >>> Specifier("~= 2.1").operator
-        '~='
-        """
-        return self._spec[0]
-
-    @property
-    def version(self) -> str:
-        """The version as it was written, with its star.
-
-        >>> Specifier("!= 2.1.*").version
-        '2.1.*'
-        """
-        return self._spec[1]
-
-    @property  # type: ignore[override]
-    def prereleases(self) -> bool:
-        """Whether pre-releases are allowed. May be set."""
-        if self._prereleases is not None:
-            return self._prereleases
-        return self.operator in _NAMING and not self.version.endswith(".*") and Version(self.version).is_prerelease
-
-    @prereleases.setter
-    def prereleases(self, value: bool | None) -> None:
-        self._prereleases = value
-        Specifier._times_set += 1
+    def __reduce__(self) -> tuple[object, ...]:
+        return _restore_specifier, (type(self), "".join(self._spec), self._prereleases), self.__dict__ or None
 
     def __repr__(self) -> str:
         return _shown(self)
-
-    def __str__(self) -> str:
-        return "".join(self._spec)
-
-    @property
-    def _canonical_spec(self) -> tuple[str, object]:
-        """What tells two specifiers apart: versions that are equal are one, but for `~=`, where zeros at the end count."""
-        if self._canonical is None:
-            operator, version = self._spec
-            if version.endswith(".*"):
-                self._canonical = operator, version
-            else:
-                held = Version(version)
-                self._canonical = operator, str(held) if operator == "~=" else held
-        return self._canonical
-
-    def __hash__(self) -> int:
-        return hash(self._canonical_spec)
 
     def __eq__(self, other: object) -> bool:
         """Whether both say the same; `prereleases` is not looked at.
@@ -241,21 +206,11 @@ class Specifier(BaseSpecifier):
             return NotImplemented
         return self._canonical_spec == other._canonical_spec
 
-    def contains(self, item: UnparsedVersion, prereleases: bool | None = None) -> bool:
-        """Whether the version is contained; a pre-release only where `prereleases`, or else the attribute of that name, allows it.
-
-        >>> Specifier(">2.1").contains("3.0rc1"), Specifier(">2.1").contains("3.0rc1", prereleases=True)
-        (False, True)
-        """
+    def _contains(self, item: UnparsedVersion, prereleases: bool | None, _: object) -> bool:
+        """Whether the version is contained, by what a subclass has of its own."""
         allowed = self.prereleases if prereleases is None else prereleases
-        if not self._is_changed:
-            return _core.contains("".join(self._spec), item, allowed)
         version = _version_of(item)
         return (allowed or not version.is_prerelease) and self._get_operator(self.operator)(version, self.version)
-
-    def __contains__(self, item: UnparsedVersion) -> bool:
-        """Whether it contains the version, and `prereleases` allows it."""
-        return self.contains(item)
 
     def filter(self, iterable: Iterable[UnparsedVersionVar], prereleases: bool | None = None) -> Iterator[UnparsedVersionVar]:
         """The items that are contained, in their order. With no word on pre-releases these are given where nothing else is contained.
@@ -265,13 +220,13 @@ class Specifier(BaseSpecifier):
         """
         items = tuple(iterable)
         if prereleases is not None:
-            return iter(self._kept(items, prereleases))
-        return iter(self._kept(items, self.prereleases) or self._kept(items, True))
+            return iter(self._filtered(items, prereleases))
+        return iter(self._filtered(items, self.prereleases) or self._filtered(items, True))
 
-    def _kept(self, items: tuple[UnparsedVersionVar, ...], prereleases: bool) -> list[UnparsedVersionVar]:
+    def _filtered(self, items: tuple[UnparsedVersionVar, ...], prereleases: bool) -> list[UnparsedVersionVar]:
         if self._is_changed:
             return [it for it in items if self.contains(it, prereleases)]
-        return _core.filter("".join(self._spec), items, prereleases, False)
+        return self._kept(items, prereleases, False)
 
     # ---- a comparison for each operator, which a subclass may have its own of
 
@@ -280,67 +235,55 @@ class Specifier(BaseSpecifier):
         return comparison
 
     def _compare_compatible(self, prospective: Version, spec: str) -> bool:
-        return _core.contains(f"~={spec}", prospective, True)
+        return Specifier(f"~={spec}").contains(prospective, True)
 
     def _compare_equal(self, prospective: Version, spec: str) -> bool:
-        return _core.contains(f"=={spec}", prospective, True)
+        return Specifier(f"=={spec}").contains(prospective, True)
 
     def _compare_not_equal(self, prospective: Version, spec: str) -> bool:
-        return _core.contains(f"!={spec}", prospective, True)
+        return Specifier(f"!={spec}").contains(prospective, True)
 
     def _compare_less_than_equal(self, prospective: Version, spec: str) -> bool:
-        return _core.contains(f"<={spec}", prospective, True)
+        return Specifier(f"<={spec}").contains(prospective, True)
 
     def _compare_greater_than_equal(self, prospective: Version, spec: str) -> bool:
-        return _core.contains(f">={spec}", prospective, True)
+        return Specifier(f">={spec}").contains(prospective, True)
 
     def _compare_less_than(self, prospective: Version, spec: str) -> bool:
-        return _core.contains(f"<{spec}", prospective, True)
+        return Specifier(f"<{spec}").contains(prospective, True)
 
     def _compare_greater_than(self, prospective: Version, spec: str) -> bool:
-        return _core.contains(f">{spec}", prospective, True)
+        return Specifier(f">{spec}").contains(prospective, True)
 
     def _compare_arbitrary(self, prospective: Version, spec: str) -> bool:
-        return _core.contains(f"==={spec}", prospective, True)
+        return Specifier(f"==={spec}").contains(prospective, True)
 
 
-class SpecifierSet(BaseSpecifier):
-    """Specifiers that all are to hold, as `>=1.0, !=1.5.*`; a text with commas, or an iterable of `Specifier`.
+_core.make_members_of(Specifier)
 
-    Raises `InvalidSpecifier`, with the reason, where a piece of the text is no specifier; empty pieces are passed over. `prereleases` says whether
-    pre-releases are allowed; None leaves it to the members: allowed where one of them allows it.
+
+class SpecifierSet(_core.HeldSet, BaseSpecifier):
+    """Specifiers that all are to hold, as `>=1.0, !=1.5.*`; a string with commas, or an iterable of `Specifier`.
+
+    Raises `InvalidSpecifier`, with the reason, where a piece of the string is no specifier; empty pieces are passed over. `prereleases` says whether
+    pre-releases are allowed; None leaves it to the members: allowed where one of them allows it. Each piece is parsed once: the set holds what the
+    library compiled of all.
+
+    >>> SpecifierSet(">2.1,<4").contains("3.0rc1"), SpecifierSet(">2.1,<4").contains("3.0rc1", prereleases=True)
+    (False, True)
     """
 
-    def __init__(self, specifiers: str | Iterable[Specifier] = "", prereleases: bool | None = None) -> None:
-        pieces: Iterable[str | Specifier] = specifiers
-        if isinstance(specifiers, str):
-            pieces = filter(None, map(str.strip, specifiers.split(",")))
-        self._hold(frozenset(each if isinstance(each, Specifier) else Specifier(each) for each in pieces), prereleases)
+    # Whether this is a class with properties of its own, for which `_contains` answers.
+    _is_changed = False
 
-    def _hold(self, specs: frozenset[Specifier], prereleases: bool | None) -> None:
-        self._specs = specs
-        self._text = ",".join(sorted(map(str, specs)))
-        self._is_changed = any(each._is_changed for each in specs)
-        self._prereleases = prereleases
-        self._of_members: bool | None = None
-        self._asked_at = -1
+    def __init_subclass__(cls, **named: object) -> None:
+        super().__init_subclass__(**named)
+        cls._is_changed = cls.prereleases is not SpecifierSet.prereleases
+        if cls.contains is not SpecifierSet.contains and cls.__contains__ is SpecifierSet.__contains__:
+            cls.__contains__ = _contains_by_name  # type: ignore[assignment]
 
-    def __setstate__(self, state: dict[str, object]) -> None:
-        self.__dict__.update(state, _asked_at=-1)
-
-    @property
-    def prereleases(self) -> bool | None:
-        """Whether pre-releases are allowed; None where nothing was said and there is no member. May be set."""
-        if self._prereleases is not None:
-            return self._prereleases
-        if self._asked_at != Specifier._times_set:
-            self._of_members = any(each.prereleases for each in self._specs) if self._specs else None
-            self._asked_at = Specifier._times_set
-        return self._of_members
-
-    @prereleases.setter
-    def prereleases(self, value: bool | None) -> None:
-        self._prereleases = value
+    def __reduce__(self) -> tuple[object, ...]:
+        return _restore_set, (type(self), tuple(self._specs), self._prereleases), self.__dict__ or None
 
     def __repr__(self) -> str:
         return _shown(self)
@@ -351,7 +294,7 @@ class SpecifierSet(BaseSpecifier):
         >>> str(SpecifierSet(">2.1, !=2.2.*"))
         '!=2.2.*,>2.1'
         """
-        return self._text
+        return ",".join(sorted(map(str, self._specs)))
 
     def __hash__(self) -> int:
         return hash(self._specs)
@@ -383,9 +326,7 @@ class SpecifierSet(BaseSpecifier):
         said = {each._prereleases for each in (self, other)} - {None}
         if len(said) > 1:
             raise ValueError("one set allows pre-releases expressly, and the other forbids them")
-        both = SpecifierSet()
-        both._hold(self._specs | other._specs, said.pop() if said else None)
-        return both
+        return SpecifierSet(self._specs | other._specs, said.pop() if said else None)
 
     def __len__(self) -> int:
         return len(self._specs)
@@ -393,26 +334,13 @@ class SpecifierSet(BaseSpecifier):
     def __iter__(self) -> Iterator[Specifier]:
         return iter(self._specs)
 
-    def contains(self, item: UnparsedVersion, prereleases: bool | None = None, installed: bool | None = None) -> bool:
-        """Whether each member contains the version; a pre-release only where `prereleases`, or else the attribute of that name, allows it.
-
-        Where `installed` is true, an allowed pre-release is asked for by its base version.
-
-        >>> SpecifierSet(">2.1,<4").contains("3.0rc1"), SpecifierSet(">2.1,<4").contains("3.0rc1", prereleases=True)
-        (False, True)
-        """
+    def _contains(self, item: UnparsedVersion, prereleases: bool | None, installed: bool | None) -> bool:
+        """Whether the version is contained, by what the members' subclasses have of their own; and the base version of an installed one."""
         allowed = self.prereleases if prereleases is None else prereleases
-        if installed and allowed:
-            version = _version_of(item)
-            item = version.base_version if version.is_prerelease else version
-        if self._is_changed:
-            version = _version_of(item)
-            return (bool(allowed) or not version.is_prerelease) and all(each.contains(version, allowed) for each in self._specs)
-        return _core.contains(self._text, item, allowed)
-
-    def __contains__(self, item: UnparsedVersion) -> bool:
-        """Whether it contains the version, and `prereleases` allows it."""
-        return self.contains(item)
+        version = _version_of(item)
+        if installed and allowed and version.is_prerelease:
+            version = Version(version.base_version)
+        return (bool(allowed) or not version.is_prerelease) and all(each.contains(version, allowed) for each in self._specs)
 
     def filter(self, iterable: Iterable[UnparsedVersionVar], prereleases: bool | None = None) -> Iterator[UnparsedVersionVar]:
         """The items that each member contains, in their order. Of a set with no member, with no word on pre-releases, these are given
@@ -422,9 +350,9 @@ class SpecifierSet(BaseSpecifier):
         ([], ['3.0rc1'])
         """
         allowed = self.prereleases if prereleases is None else prereleases
-        if self._is_changed:
+        if self._is_changed or any(each._is_changed for each in self._specs):
             return iter([it for it in iterable if self.contains(it, bool(allowed))])
         if self._specs or allowed is not None:
-            return iter(_core.filter(self._text, iterable, allowed, False))
+            return iter(self._kept(iterable, allowed, False))
         items = tuple(iterable)
-        return iter(_core.filter("", items, False, False) or items)
+        return iter(self._kept(items, False, False) or items)

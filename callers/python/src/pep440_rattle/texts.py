@@ -24,7 +24,8 @@ def filter_texts(
     >>> filter_texts(">=1.0", ["1.0", "latest"], skip_invalid=True)
     ['1.0']
     """
-    return _core.filter(str(SpecifierSet(specifiers) if isinstance(specifiers, str) else specifiers), texts, True, skip_invalid)
+    several = SpecifierSet(str(specifiers)) if isinstance(specifiers, str) or specifiers._is_changed else specifiers
+    return several._kept(texts, True, skip_invalid)
 
 
 def sort_texts(texts: Iterable[UnparsedVersionVar]) -> list[UnparsedVersionVar]:

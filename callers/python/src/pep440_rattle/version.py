@@ -9,6 +9,7 @@ True
 from __future__ import annotations
 
 import re
+from collections.abc import Callable
 from typing import NamedTuple, TypeVar, Union
 
 from . import _core
@@ -51,6 +52,62 @@ class _Version(NamedTuple):
 _PRINTED = ("epoch", "release", "pre", "post", "dev", "local")
 
 
+# ---- what a subclass with properties or a print of its own has in place of what the version holds
+
+
+def _public(version: Version) -> str:
+    """The version without its local part, as a string."""
+    return str(version).partition("+")[0]
+
+
+def _base_version(version: Version) -> str:
+    """Epoch and release, as a string."""
+    release = ".".join(map(str, version.release))
+    return f"{version.epoch}!{release}" if version.epoch else release
+
+
+def _is_prerelease(version: Version) -> bool:
+    """Whether it is a pre-release or a developmental release."""
+    return version.pre is not None or version.dev is not None
+
+
+def _is_postrelease(version: Version) -> bool:
+    """Whether it is a post-release."""
+    return version.post is not None
+
+
+def _is_devrelease(version: Version) -> bool:
+    """Whether it is a developmental release."""
+    return version.dev is not None
+
+
+def _major(version: Version) -> int:
+    """The first number of the release."""
+    return version.release[0]
+
+
+def _minor(version: Version) -> int:
+    """The second number of the release, 0 where there is none."""
+    return version.release[1] if len(version.release) > 1 else 0
+
+
+def _micro(version: Version) -> int:
+    """The third number of the release, 0 where there is none."""
+    return version.release[2] if len(version.release) > 2 else 0
+
+
+_DERIVED: dict[str, Callable[[Version], object]] = {
+    "public": _public,
+    "base_version": _base_version,
+    "is_prerelease": _is_prerelease,
+    "is_postrelease": _is_postrelease,
+    "is_devrelease": _is_devrelease,
+    "major": _major,
+    "minor": _minor,
+    "micro": _micro,
+}
+
+
 def _compose(version: Version) -> str:
     """The string of these properties, for subclasses that have one of their own."""
     parts = [version.base_version]
@@ -75,10 +132,16 @@ def _restore(kind: type[_AnyVersion], text: str) -> _AnyVersion:
 class Version(_core.Held):
     """A version, read from a string.
 
-    Versions are compared, hashed and sorted by their sort keys, which are held. The parts are read where they are first asked for.
+    The string is parsed once: versions hold what the library compiled of it, and by that they are compared, hashed and matched. Parts and
+    prints are held once they were asked for.
 
-    >>> Version("1!2.0-Beta.3+Ubuntu.1")
-    <Version('1!2.0b3+ubuntu.1')>
+    >>> version = Version("1!2.1.0-Beta.3+Ubuntu-01")
+    >>> version
+    <Version('1!2.1.0b3+ubuntu.1')>
+    >>> version.epoch, version.release, version.pre, version.post, version.dev, version.local
+    (1, (2, 1, 0), ('b', 3), None, None, 'ubuntu.1')
+    >>> version.public, version.base_version, version.is_prerelease
+    ('1!2.1.0b3', '1!2.1.0', True)
 
     Raises `InvalidVersion`, with the reason, where the string is no version.
     """
@@ -87,9 +150,15 @@ class Version(_core.Held):
 
     def __init_subclass__(cls, **named: object) -> None:
         super().__init_subclass__(**named)
+        is_changed = any(getattr(cls, it) is not getattr(Version, it) for it in _PRINTED)
         # a subclass that has such a property prints it, unless it prints itself
-        if cls.__str__ is Version.__str__ and any(getattr(cls, it) is not getattr(Version, it) for it in _PRINTED):
+        if is_changed and cls.__str__ is Version.__str__:
             cls.__str__ = _compose  # type: ignore[assignment]
+        # and what is made of these properties, or of what it prints, is made anew
+        if is_changed or cls.__str__ is not Version.__str__:
+            for name, it in _DERIVED.items():
+                if getattr(cls, name) is getattr(Version, name):
+                    setattr(cls, name, property(it, doc=it.__doc__))
 
     def __repr__(self) -> str:
         return f"<Version('{self}')>"
@@ -103,104 +172,13 @@ class Version(_core.Held):
 
     @property
     def _version(self) -> _Version:
-        epoch, release, pre, post, dev, _ = self._parts
-        local = _parse_local_version(self._normal.partition("+")[2] or None)
+        epoch, release, pre, post, dev = self._parts
+        local = _parse_local_version(Version.local.__get__(self))
         return _Version(epoch, release, None if dev is None else ("dev", dev), pre, None if post is None else ("post", post), local)
 
     @_version.setter
     def _version(self, parts: _Version) -> None:
         Version.__init__(self, _text_of(*parts))
-
-    @property
-    def epoch(self) -> int:
-        """The epoch, 0 where there is none.
-
-        >>> Version("1!2.0").epoch
-        1
-        """
-        return self._parts[0]
-
-    @property
-    def release(self) -> tuple[int, ...]:
-        """The numbers of the release, zeros at its end included.
-
-        >>> Version("2.1.0rc1").release
-        (2, 1, 0)
-        """
-        return self._parts[1]
-
-    @property
-    def pre(self) -> tuple[str, int] | None:
-        """The kind of pre-release (`a`, `b` or `rc`) and its number, or None.
-
-        >>> Version("1.0-alpha.3").pre
-        ('a', 3)
-        """
-        return self._parts[2]
-
-    @property
-    def post(self) -> int | None:
-        """The number of the post-release, or None."""
-        return self._parts[3]
-
-    @property
-    def dev(self) -> int | None:
-        """The number of the developmental release, or None."""
-        return self._parts[4]
-
-    @property
-    def local(self) -> str | None:
-        """The local part, or None.
-
-        >>> Version("1.0+Ubuntu-01").local
-        'ubuntu.1'
-        """
-        return self._normal.partition("+")[2] if self._parts[5] else None
-
-    @property
-    def public(self) -> str:
-        """The version without its local part, as text."""
-        return str(self).partition("+")[0]
-
-    @property
-    def base_version(self) -> str:
-        """Epoch and release, as text.
-
-        >>> Version("1!2.0rc1.post1+x").base_version
-        '1!2.0'
-        """
-        release = ".".join(map(str, self.release))
-        return f"{self.epoch}!{release}" if self.epoch else release
-
-    @property
-    def is_prerelease(self) -> bool:
-        """Whether it is a pre-release or a developmental release."""
-        return self.pre is not None or self.dev is not None
-
-    @property
-    def is_postrelease(self) -> bool:
-        """Whether it is a post-release."""
-        return self.post is not None
-
-    @property
-    def is_devrelease(self) -> bool:
-        """Whether it is a developmental release."""
-        return self.dev is not None
-
-    @property
-    def major(self) -> int:
-        """The first number of the release."""
-        return self.release[0]
-
-    @property
-    def minor(self) -> int:
-        """The second number of the release, 0 where there is none."""
-        return self.release[1] if len(self.release) > 1 else 0
-
-    @property
-    def micro(self) -> int:
-        """The third number of the release, 0 where there is none."""
-        return self.release[2] if len(self.release) > 2 else 0
 
 
 def parse(version: str) -> Version:

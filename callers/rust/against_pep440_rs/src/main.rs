@@ -6,11 +6,9 @@
 use against_pep440_rs::chance::Chance;
 use against_pep440_rs::departures;
 use against_pep440_rs::version_ranges::Ranges;
-use against_pep440_rs::views::{ours, theirs};
+use against_pep440_rs::views::{hash, ours, theirs};
 use std::cmp::Ordering;
-use std::collections::hash_map::DefaultHasher;
 use std::collections::BTreeMap;
-use std::hash::{Hash, Hasher};
 use std::panic::catch_unwind;
 
 /// What a case compares: the call with its arguments, and both results.
@@ -93,12 +91,6 @@ fn changed(chance: &mut Chance) -> Option<Case> {
     }
     let is_refused = catch_unwind(|| ours::change(mine, &change)).is_err();
     case("setter that panics", asked, is_refused, true)
-}
-
-fn hash<T: Hash>(value: &T) -> u64 {
-    let mut hasher = DefaultHasher::new();
-    value.hash(&mut hasher);
-    hasher.finish()
 }
 
 fn ordered(chance: &mut Chance) -> Option<Case> {
@@ -248,6 +240,8 @@ fn one(chance: &mut Chance) -> Option<Case> {
 
 /// What has no argument.
 fn constants() -> Option<Case> {
+    ours::traits();
+    theirs::traits();
     let empty = (ours::VersionSpecifiers::empty(), ours::VersionSpecifiers::default());
     let empty_theirs = (theirs::VersionSpecifiers::empty(), theirs::VersionSpecifiers::default());
     let ours =

@@ -1,5 +1,8 @@
 //! The same view of the values of either crate: what its calls return, as strings.
 
+use std::collections::hash_map::DefaultHasher;
+use std::hash::{Hash, Hasher};
+
 /// A call of a setter.
 #[derive(Clone, Debug)]
 pub enum Change {
@@ -16,13 +19,55 @@ pub enum Change {
     Max(Option<u64>),
 }
 
+/// What a hasher makes of the value.
+pub fn hash<T: Hash>(value: &T) -> u64 {
+    let mut hasher = DefaultHasher::new();
+    value.hash(&mut hasher);
+    hasher.finish()
+}
+
 macro_rules! views {
     ($name:ident, $krate:path) => {
         pub mod $name {
-            use super::Change;
+            use super::{hash, Change};
             pub use it::*;
-            use std::ops::Bound;
+            use std::error::Error;
+            use std::fmt::{Debug, Display};
+            use std::hash::Hash;
+            use std::ops::{Bound, Deref};
+            use std::str::FromStr;
             use $krate as it;
+
+            /// Each trait of each type: what lacks one does not compile.
+            pub fn traits() {
+                fn value<T: Clone + Debug + Eq + Hash + Send + Sync + Unpin + 'static>() {}
+                fn ordered<T: Ord>() {}
+                fn copied<T: Copy>() {}
+                fn shown<T: Display>() {}
+                fn parsed<T: FromStr<Err = E>, E: Error>() {}
+                fn error<T: Error + Clone + Eq + Send + Sync + Unpin + 'static>() {}
+                fn list<T>()
+                where
+                    T: Default + FromIterator<VersionSpecifier> + From<VersionSpecifier>,
+                    T: Deref<Target = [VersionSpecifier]> + IntoIterator<Item = VersionSpecifier>,
+                {
+                }
+                fn lazy<T: Deref<Target = Version>>(_: &'static T) {}
+                (value::<Version>(), ordered::<Version>(), shown::<Version>(), parsed::<Version, VersionParseError>());
+                (value::<VersionPattern>(), parsed::<VersionPattern, VersionPatternParseError>());
+                (value::<Operator>(), ordered::<Operator>(), shown::<Operator>(), parsed::<Operator, OperatorParseError>());
+                (value::<VersionSpecifier>(), ordered::<VersionSpecifier>(), shown::<VersionSpecifier>());
+                (value::<VersionSpecifiers>(), ordered::<VersionSpecifiers>(), shown::<VersionSpecifiers>());
+                (list::<VersionSpecifiers>(), parsed::<VersionSpecifiers, VersionSpecifiersParseError>());
+                (value::<Prerelease>(), ordered::<Prerelease>(), copied::<Prerelease>(), shown::<Prerelease>());
+                (value::<PrereleaseKind>(), ordered::<PrereleaseKind>(), copied::<PrereleaseKind>(), shown::<PrereleaseKind>());
+                (value::<LocalSegment>(), ordered::<LocalSegment>(), shown::<LocalSegment>(), copied::<Operator>());
+                (error::<VersionParseError>(), error::<VersionPatternParseError>(), error::<OperatorParseError>());
+                (error::<VersionSpecifierBuildError>(), error::<VersionSpecifiersParseError>());
+                let _: fn(VersionParseError) -> VersionPatternParseError = From::from;
+                let _: fn(&str) -> Result<VersionSpecifier, <VersionSpecifier as FromStr>::Err> = FromStr::from_str;
+                lazy(&MIN_VERSION);
+            }
 
             pub fn version(text: &str) -> Option<Version> {
                 text.parse().ok()
@@ -64,11 +109,13 @@ macro_rules! views {
                 let mut sorted = version.local().to_vec();
                 sorted.sort();
                 let shown: Vec<String> = sorted.iter().map(|segment| segment.to_string()).collect();
+                let hashes: Vec<u64> = sorted.iter().map(hash).collect();
                 format!(
-                    "{shown:?} {:?}",
+                    "{shown:?} {hashes:?} {:?}",
                     version.pre().map(|pre| (
                         pre.to_string(),
                         pre.kind.to_string(),
+                        (hash(&pre), hash(&pre.kind)),
                         pre > Prerelease { kind: PrereleaseKind::Beta, number: 1 }
                     ))
                 )
@@ -103,8 +150,8 @@ macro_rules! views {
                         pattern.is_wildcard(),
                         pattern.version(),
                         pattern == verbatim,
-                        pattern == wildcard
-                    )
+                        pattern == wildcard,
+                    ) + &pattern.into_version().to_string()
                 })
             }
 
@@ -117,7 +164,8 @@ macro_rules! views {
                     let again: VersionSpecifiers = list.iter().rev().cloned().collect();
                     let one: Vec<String> =
                         list.first().map(|first| VersionSpecifiers::from(first.clone()).to_string()).into_iter().collect();
-                    format!("{} {} {one:?}", show_list(&list), show_list(&again))
+                    format!("{} {} {one:?} ", show_list(&list), show_list(&again))
+                        + &list.into_iter().map(|member| member.to_string()).collect::<String>()
                 })
             }
 
@@ -132,10 +180,11 @@ macro_rules! views {
 
             pub fn show_operator(operator: Operator) -> String {
                 format!(
-                    "{operator} {operator:?} {:?} {} {}",
+                    "{operator} {operator:?} {:?} {} {} {}",
                     operator.negate(),
                     operator.is_star(),
-                    operator > Operator::NotEqual
+                    operator > Operator::NotEqual,
+                    hash(&operator)
                 )
             }
 

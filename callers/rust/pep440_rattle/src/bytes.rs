@@ -141,12 +141,7 @@ impl<'a> Rest<'a> {
     }
 
     fn prerelease(&mut self) -> Option<Prerelease> {
-        let kind = match self.byte() {
-            0 => return None,
-            1 => PrereleaseKind::Alpha,
-            2 => PrereleaseKind::Beta,
-            _ => PrereleaseKind::Rc,
-        };
+        let kind = PrereleaseKind::from_tag(self.byte())?;
         Some(Prerelease { kind, number: self.number() })
     }
 

@@ -6,15 +6,33 @@
 #![allow(unsafe_code)]
 
 use std::alloc::{handle_alloc_error, Layout};
+use std::cell::Cell;
 use std::cmp::Ordering;
 use std::mem::MaybeUninit;
 use std::slice;
 
+/// The header's `pep440_parts`.
+#[derive(Clone, Copy, Default)]
+#[repr(C)]
+struct PartsOf {
+    epoch: u64,
+    pre: u64,
+    post: u64,
+    dev: u64,
+    release_length: usize,
+    pre_kind: u8,
+    has_post: u8,
+    has_dev: u8,
+    has_local: u8,
+}
+
 type Writer = unsafe extern "C" fn(*const u8, usize, *mut u8, usize, *mut usize) -> u8;
 
 unsafe extern "C" {
+    fn pep440_parts_of(version: *const u8, length: usize, parts: *mut PartsOf, release: *mut u64, size: usize) -> u8;
     fn pep440_compile(version: *const u8, length: usize, out: *mut u8, size: usize, written: *mut usize) -> u8;
     fn pep440_compile_list(list: *const u8, length: usize, out: *mut u8, size: usize, written: *mut usize) -> u8;
+    fn pep440_pattern(pattern: *const u8, length: usize, out: *mut u8, size: usize, written: *mut usize, star: *mut u8) -> u8;
     fn pep440_version_error(version: *const u8, length: usize, out: *mut u8, size: usize, written: *mut usize) -> u8;
     fn pep440_list_error(list: *const u8, length: usize, out: *mut u8, size: usize, written: *mut usize) -> u8;
     fn pep440_normalize_compiled(compiled: *const u8, length: usize, out: *mut u8, size: usize, written: *mut usize) -> u8;
@@ -67,25 +85,32 @@ const STACK: usize = 128;
 /// Calls `read` with what `call` writes of `input`.
 #[inline]
 fn written<T>(call: Writer, input: &[u8], read: impl FnOnce(&[u8]) -> T) -> Result<T, Refusal> {
+    // SAFETY: as the module says; `out` has room for `size` bytes.
+    written_by(|out, size, length| unsafe { call(input.as_ptr(), input.len(), out, size, length) }, read)
+}
+
+/// Calls `read` with what `call` writes, which is given room for some bytes and writes how many it has written or needs.
+#[inline]
+fn written_by<T>(mut call: impl FnMut(*mut u8, usize, &mut usize) -> u8, read: impl FnOnce(&[u8]) -> T) -> Result<T, Refusal> {
     let mut room = MaybeUninit::<[u8; STACK]>::uninit();
     let mut length = 0;
-    // SAFETY: as the module says.
-    let status = unsafe { call(input.as_ptr(), input.len(), room.as_mut_ptr().cast(), STACK, &mut length) };
-    match status {
-        // SAFETY: with OK the call has written `length` bytes, at most STACK, to the start of `room`.
-        OK => Ok(read(unsafe { slice::from_raw_parts(room.as_ptr().cast(), length) })),
-        NO_ROOM => Ok(read(&written_to_heap(call, input, length)?)),
+    match call(room.as_mut_ptr().cast(), STACK, &mut length) {
+        OK => {
+            assert!(length <= STACK, "the library writes more than there is room for");
+            // SAFETY: with OK the call has written `length` bytes, at most STACK, to the start of `room`.
+            Ok(read(unsafe { slice::from_raw_parts(room.as_ptr().cast(), length) }))
+        }
+        NO_ROOM => Ok(read(&written_to_heap(&mut call, length)?)),
         other => Err(refusal(other)),
     }
 }
 
-/// What `call` writes of `input`, which needs `length` bytes.
+/// What `call` writes, which needs `length` bytes.
 #[cold]
-fn written_to_heap(call: Writer, input: &[u8], length: usize) -> Result<Vec<u8>, Refusal> {
+fn written_to_heap(call: &mut dyn FnMut(*mut u8, usize, &mut usize) -> u8, length: usize) -> Result<Vec<u8>, Refusal> {
     let mut room = Vec::<u8>::with_capacity(length);
     let mut again = 0;
-    // SAFETY: as the module says; the vector has room for `length` bytes.
-    match unsafe { call(input.as_ptr(), input.len(), room.as_mut_ptr(), length, &mut again) } {
+    match call(room.as_mut_ptr(), length, &mut again) {
         OK => {
             assert!(again <= length, "the library writes more than there is room for");
             // SAFETY: with OK the call has written the first `again` bytes of the vector's room.
@@ -101,10 +126,51 @@ fn as_text(bytes: &[u8]) -> &str {
     std::str::from_utf8(bytes).expect("the library writes UTF-8")
 }
 
+/// The parts of a version without a local part, in the order of their names; a kind of 0 is no pre-release.
+pub(crate) struct PublicParts {
+    pub(crate) epoch: u64,
+    pub(crate) release: [u64; RELEASE],
+    pub(crate) release_length: usize,
+    pub(crate) pre_kind: u8,
+    pub(crate) pre: u64,
+    pub(crate) post: Option<u64>,
+    pub(crate) dev: Option<u64>,
+}
+
+/// As many release numbers are read with the parts.
+pub(crate) const RELEASE: usize = 8;
+
+/// The parts of a version; None where it has a local part or more than [`RELEASE`] release numbers.
+#[inline]
+pub(crate) fn public_parts(version: &str) -> Result<Option<PublicParts>, Refusal> {
+    let (mut parts, mut release) = (PartsOf::default(), [0; RELEASE]);
+    // SAFETY: as the module says; `PartsOf` is laid out as the header's struct.
+    let status = unsafe { pep440_parts_of(version.as_ptr(), version.len(), &mut parts, release.as_mut_ptr(), RELEASE) };
+    match status {
+        OK if parts.has_local == 0 => {}
+        OK | NO_ROOM => return Ok(None),
+        other => return Err(refusal(other)),
+    }
+    let PartsOf { epoch, pre, post, dev, release_length, pre_kind, has_post, has_dev, .. } = parts;
+    let post = (has_post == 1).then_some(post);
+    let dev = (has_dev == 1).then_some(dev);
+    Ok(Some(PublicParts { epoch, release, release_length, pre_kind, pre, post, dev }))
+}
+
 /// Calls `read` with the compiled bytes of a version.
 #[inline]
 pub(crate) fn compile<T>(version: &str, read: impl FnOnce(&[u8]) -> T) -> Result<T, Refusal> {
     written(pep440_compile, version.as_bytes(), read)
+}
+
+/// Calls `read` with the normalized form of the version of a pattern, and with whether `.*` follows it.
+pub(crate) fn pattern<T>(pattern: &str, read: impl FnOnce(&str, bool) -> T) -> Result<T, Refusal> {
+    let star = Cell::new(0);
+    written_by(
+        // SAFETY: as the module says; `out` has room for `size` bytes.
+        |out, size, length| unsafe { pep440_pattern(pattern.as_ptr(), pattern.len(), out, size, length, star.as_ptr()) },
+        |bytes| read(as_text(bytes), star.get() == 1),
+    )
 }
 
 /// Calls `read` with the compiled bytes of a list.

@@ -37,6 +37,12 @@ text_errors! {
     VersionSpecifierBuildError
 }
 
+impl From<VersionParseError> for VersionPatternParseError {
+    fn from(error: VersionParseError) -> VersionPatternParseError {
+        VersionPatternParseError { text: error.text }
+    }
+}
+
 /// Why a string is no list of specifiers.
 #[derive(Clone, Debug, PartialEq, Eq)]
 pub struct VersionSpecifiersParseError {
@@ -89,7 +95,7 @@ impl fmt::Display for OperatorParseError {
 pub enum RangeError {
     /// A bound would need a number above `u64::MAX`, as the end of `==18446744073709551615.*`.
     NumberAtMax,
-    /// The normalized form of the list does not parse, since a member was made by a call that checks nothing.
+    /// The normalized form of the list is that of no list, or of another one, since a member was made by a call that checks nothing.
     NotParsed,
 }
 

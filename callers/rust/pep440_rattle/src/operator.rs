@@ -5,7 +5,6 @@ use std::str::FromStr;
 
 /// An operator of a specifier (PEP 440, "Version specifiers"). A star form goes with a version and `.*`.
 #[derive(Clone, Copy, Debug, PartialEq, Eq, PartialOrd, Ord, Hash)]
-#[repr(u8)]
 pub enum Operator {
     /// `==`, as in `==1.2.3`
     Equal,

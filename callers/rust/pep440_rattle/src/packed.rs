@@ -63,11 +63,20 @@ impl Packed {
 
     /// The packed version of these parts; None where they are not packed.
     pub(crate) fn from_parts(parts: &Parts) -> Option<Packed> {
-        if parts.epoch != 0 || !parts.local.is_empty() {
+        if !parts.local.is_empty() {
             return None;
         }
         let suffixes = Suffixes { pre: parts.pre, post: parts.post, dev: parts.dev, min: parts.min, max: parts.max };
-        Some(Packed::from_word(Count::from_number(parts.release.len())?, word(&parts.release, suffixes)?))
+        Packed::from_public(parts.epoch, &parts.release, suffixes)
+    }
+
+    /// The same of a version without a local part.
+    #[inline]
+    pub(crate) fn from_public(epoch: u64, release: &[u64], suffixes: Suffixes) -> Option<Packed> {
+        if epoch != 0 {
+            return None;
+        }
+        Some(Packed::from_word(Count::from_number(release.len())?, word(release, suffixes)?))
     }
 
     pub(crate) fn to_parts(self) -> Parts {
@@ -155,6 +164,7 @@ pub(crate) struct Suffixes {
 }
 
 /// The word of a release of at most four numbers; None where a number is too big, or there is more than one suffix.
+#[inline]
 pub(crate) fn word(release: &[u64], suffixes: Suffixes) -> Option<u64> {
     let (class, number) = one_suffix(suffixes)?;
     let mut word = class << NUMBER_BITS | number;
@@ -168,19 +178,19 @@ pub(crate) fn word(release: &[u64], suffixes: Suffixes) -> Option<u64> {
 }
 
 /// The class and the number of the one suffix; None where there are more, or its number is too big.
+#[inline]
 fn one_suffix(suffixes: Suffixes) -> Option<(u64, u64)> {
-    let pre = suffixes.pre.map(|pre| match pre.kind {
-        PrereleaseKind::Alpha => (CLASS_ALPHA, pre.number),
-        PrereleaseKind::Beta => (CLASS_BETA, pre.number),
-        PrereleaseKind::Rc => (CLASS_RC, pre.number),
-    });
-    let with = |class: u64, number: Option<u64>| number.map(|number| (class, number));
-    let Suffixes { post, dev, min, max, .. } = suffixes;
-    let candidates = [pre, with(CLASS_MIN, min), with(CLASS_DEV, dev), with(CLASS_POST, post), with(CLASS_MAX, max)];
-    let mut found = candidates.into_iter().flatten();
-    match (found.next(), found.next()) {
-        (None, _) => Some((CLASS_FINAL, 0)),
-        (Some((class, number)), None) if number <= NUMBER_MASK => Some((class, number)),
-        _ => None,
-    }
+    let Suffixes { pre, post, dev, min, max } = suffixes;
+    let (class, number) = match (pre, post, dev, min, max) {
+        (None, None, None, None, None) => (CLASS_FINAL, 0),
+        (Some(Prerelease { kind: PrereleaseKind::Alpha, number }), None, None, None, None) => (CLASS_ALPHA, number),
+        (Some(Prerelease { kind: PrereleaseKind::Beta, number }), None, None, None, None) => (CLASS_BETA, number),
+        (Some(Prerelease { kind: PrereleaseKind::Rc, number }), None, None, None, None) => (CLASS_RC, number),
+        (None, Some(number), None, None, None) => (CLASS_POST, number),
+        (None, None, Some(number), None, None) => (CLASS_DEV, number),
+        (None, None, None, Some(number), None) => (CLASS_MIN, number),
+        (None, None, None, None, Some(number)) => (CLASS_MAX, number),
+        _ => return None,
+    };
+    (number <= NUMBER_MASK).then_some((class, number))
 }

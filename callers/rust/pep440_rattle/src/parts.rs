@@ -23,6 +23,12 @@ impl Parts {
         Parts { epoch: 0, release, pre: None, post: None, dev: None, min: None, max: None, local: Vec::new() }
     }
 
+    /// The parts of a version without a local part.
+    pub(crate) fn from_public(epoch: u64, release: &[u64], suffixes: Suffixes) -> Parts {
+        let Suffixes { pre, post, dev, min, max } = suffixes;
+        Parts { epoch, release: release.to_vec(), pre, post, dev, min, max, local: Vec::new() }
+    }
+
     /// The word of a packed version that is equal to this one, which is not packed, if there is any: without zeros behind the
     /// fourth release number, and without what a sentinel hides.
     fn equal_word(&self) -> Option<u64> {

@@ -1,5 +1,5 @@
 //! Versions that may have `.*` behind them.
-use crate::{Version, VersionPatternParseError};
+use crate::{calls, Version, VersionPatternParseError};
 use std::str::FromStr;
 
 /// What stands behind an operator: a version, as `1.2.3`, or one with a wildcard, as `1.2.*`.
@@ -42,17 +42,16 @@ const HAS_WILDCARD: &str = "wildcards are not allowed in a version";
 impl FromStr for VersionPattern {
     type Err = VersionPatternParseError;
 
+    /// Parses a version, or one of epoch and release with `.*` behind it, as `1.2.*`.
     fn from_str(pattern: &str) -> Result<VersionPattern, VersionPatternParseError> {
-        let error = match pattern.parse::<Version>() {
-            Ok(version) => return Ok(VersionPattern::verbatim(version)),
-            Err(error) => error.to_string(),
-        };
-        if error != HAS_WILDCARD {
-            return Err(VersionPatternParseError::new(error));
+        if let Ok(version) = Version::parse(pattern) {
+            return Ok(VersionPattern::verbatim(version));
         }
-        // What stands before the first `.*` is a version; so there is no other `.*` before the one at the end.
-        let version = pattern.strip_suffix(".*").and_then(|version| version.parse().ok());
-        let version = version.ok_or_else(|| VersionPatternParseError::new("wildcards in versions must be at the end"))?;
-        Ok(VersionPattern::wildcard(version))
+        let found =
+            calls::pattern(pattern, |text, wildcard| Some(VersionPattern { version: Version::parse(text).ok()?, wildcard }));
+        found.map(|found| found.expect("the library wrote this version")).map_err(|_| match &*calls::version_error(pattern) {
+            HAS_WILDCARD => VersionPatternParseError::new("wildcards in versions must be at the end"),
+            other => VersionPatternParseError::new(other),
+        })
     }
 }

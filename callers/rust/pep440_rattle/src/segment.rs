@@ -22,6 +22,19 @@ pub enum PrereleaseKind {
     Rc,
 }
 
+impl PrereleaseKind {
+    /// The kind by its number in compiled bytes and in the C interface; None of 0.
+    #[inline]
+    pub(crate) fn from_tag(tag: u8) -> Option<PrereleaseKind> {
+        Some(match tag {
+            0 => return None,
+            1 => PrereleaseKind::Alpha,
+            2 => PrereleaseKind::Beta,
+            _ => PrereleaseKind::Rc,
+        })
+    }
+}
+
 impl fmt::Display for PrereleaseKind {
     fn fmt(&self, f: &mut fmt::Formatter<'_>) -> fmt::Result {
         f.write_str(match self {

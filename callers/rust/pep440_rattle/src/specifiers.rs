@@ -64,7 +64,12 @@ impl VersionSpecifiers {
     /// [`RangeError::NumberAtMax`] where a bound would need a number above `u64::MAX`; [`RangeError::NotParsed`] where a
     /// member was made by a call that checks nothing, and no string denotes it.
     pub fn ranges(&self) -> Result<Vec<Segment>, RangeError> {
-        calls::ranges(&self.to_string(), range::read_segments).map_err(|refusal| match refusal {
+        let text = self.to_string();
+        // What is printed lacks sentinels, and letters of a local part may be folded where it is parsed.
+        if !calls::compile_list(&text, |compiled| *compiled == *self.compiled).is_ok_and(|is_same| is_same) {
+            return Err(RangeError::NotParsed);
+        }
+        calls::ranges(&text, range::read_segments).map_err(|refusal| match refusal {
             Refusal::Invalid => RangeError::NotParsed,
             Refusal::NumberAtMax => RangeError::NumberAtMax,
         })

@@ -1,9 +1,9 @@
 //! Versions.
 use crate::bytes;
-use crate::calls;
-use crate::packed::Packed;
+use crate::calls::{self, PublicParts, Refusal};
+use crate::packed::{Packed, Suffixes};
 use crate::parts::{Parts, Unpacked};
-use crate::{LocalSegment, Prerelease, VersionParseError};
+use crate::{LocalSegment, Prerelease, PrereleaseKind, VersionParseError};
 use std::borrow::Borrow;
 use std::cmp::Ordering;
 use std::fmt;
@@ -76,6 +76,27 @@ impl Version {
         match Packed::from_parts(&parts) {
             Some(packed) => packed.into(),
             None => Unpacked::from_parts(parts).into(),
+        }
+    }
+
+    /// The version of the string; the error does not say why there is none.
+    #[inline]
+    pub(crate) fn parse(version: &str) -> Result<Version, Refusal> {
+        match calls::public_parts(version)? {
+            Some(parts) => Ok(Version::from_public(&parts)),
+            None => calls::compile(version, bytes::read_version),
+        }
+    }
+
+    #[inline]
+    fn from_public(parts: &PublicParts) -> Version {
+        let PublicParts { epoch, release, release_length, pre_kind, pre, post, dev } = *parts;
+        let release = &release[..release_length];
+        let pre = PrereleaseKind::from_tag(pre_kind).map(|kind| Prerelease { kind, number: pre });
+        let suffixes = Suffixes { pre, post, dev, min: None, max: None };
+        match Packed::from_public(epoch, release, suffixes) {
+            Some(packed) => packed.into(),
+            None => Unpacked::from_parts(Parts::from_public(epoch, release, suffixes)).into(),
         }
     }
 
@@ -344,7 +365,7 @@ impl FromStr for Version {
     /// Parses a version, as `1.19`, `1.0a1`, `1.0+abc.5` or `1!2012.2`; a wildcard is an error.
     #[inline]
     fn from_str(version: &str) -> Result<Version, VersionParseError> {
-        calls::compile(version, bytes::read_version).map_err(|_| VersionParseError::new(calls::version_error(version)))
+        Version::parse(version).map_err(|_| VersionParseError::new(calls::version_error(version)))
     }
 }
 

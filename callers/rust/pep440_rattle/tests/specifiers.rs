@@ -1,5 +1,7 @@
 //! Specifiers and lists: PEP 440, "Version specifiers", and what this crate says of its calls.
-use pep440_rattle::{Operator, RangeError, Version, VersionPattern, VersionSpecifier, VersionSpecifiers};
+use pep440_rattle::{
+    Operator, RangeError, Version, VersionPattern, VersionPatternParseError, VersionSpecifier, VersionSpecifiers,
+};
 use std::ops::Bound;
 
 fn version(text: &str) -> Version {
@@ -100,6 +102,7 @@ fn patterns() {
     for text in ["1.*.2", "1.*.*", "1.* "] {
         assert_eq!(error(text), "wildcards in versions must be at the end", "{text}");
     }
+    assert_eq!("1.0x".parse::<Version>().map_err(VersionPatternParseError::from).unwrap_err().to_string(), error("1.0x"));
     assert_eq!(error("1.0a1.*"), "after parsing `1.0a1`, found `.*`, which is not part of a valid version");
 }
 
@@ -115,6 +118,8 @@ fn checked_and_unchecked() {
     assert_eq!(odd.to_string(), ">=1.0+local");
     assert!(odd.contains(&version("1.0+local.1")) && !odd.contains(&version("1.0")));
     assert_eq!(odd.ranges(), Err(RangeError::NotParsed));
+    let hidden = VersionSpecifier::greater_than_equal_version(version("1.0").with_min(Some(0)));
+    assert_eq!((hidden.to_string(), hidden.ranges()), (">=1.0".to_owned(), Err(RangeError::NotParsed)));
     assert!(specifier(">1.0rc1").any_prerelease() && !specifier(">1.0").any_prerelease());
     assert!(specifier("==1.0").has_lower_bound() && !specifier("!=1.0").has_lower_bound());
 }

@@ -1,0 +1,136 @@
+/* What a version is made of: functions that return a part of it. */
+#include "extension.h"
+
+/* The numbers of a version are below 2^64, so they are no bigint. */
+static Datum make_numeric(uint64_t number)
+{
+    char digits[24];
+    if (number <= PG_INT64_MAX)
+        return NumericGetDatum(int64_to_numeric((int64)number));
+    snprintf(digits, sizeof digits, UINT64_FORMAT, number);
+    return DirectFunctionCall3(numeric_in, CStringGetDatum(digits), ObjectIdGetDatum(InvalidOid), Int32GetDatum(-1));
+}
+
+/* All parts but the numbers of the release. */
+static pep440_parts parts_of(FunctionCallInfo fcinfo)
+{
+    Bytes compiled = GET_VERSION(0).compiled;
+    pep440_parts parts;
+    uint64_t none[1];
+    uint8_t status = pep440_parts_of_compiled(compiled.bytes, compiled.length, &parts, none, 0);
+    if (status != PEP440_OK && status != PEP440_NO_ROOM)
+        fail(status);
+    return parts;
+}
+
+PG_FUNCTION_INFO_V1(version_epoch);
+Datum version_epoch(PG_FUNCTION_ARGS)
+{
+    return make_numeric(parts_of(fcinfo).epoch);
+}
+
+PG_FUNCTION_INFO_V1(version_release);
+Datum version_release(PG_FUNCTION_ARGS)
+{
+    Bytes compiled = GET_VERSION(0).compiled;
+    pep440_parts parts = parts_of(fcinfo);
+    size_t count = parts.release_length;
+    uint64_t *numbers = palloc(count * sizeof *numbers);
+    Datum *items = palloc(count * sizeof *items);
+    uint8_t status = pep440_parts_of_compiled(compiled.bytes, compiled.length, &parts, numbers, count);
+    if (status != PEP440_OK)
+        fail(status);
+    for (size_t each = 0; each < count; each++)
+        items[each] = make_numeric(numbers[each]);
+    PG_RETURN_ARRAYTYPE_P(construct_array(items, (int)count, NUMERICOID, -1, false, TYPALIGN_INT));
+}
+
+PG_FUNCTION_INFO_V1(version_pre_kind);
+Datum version_pre_kind(PG_FUNCTION_ARGS)
+{
+    static const char *const words[] = {[PEP440_ALPHA] = "a", [PEP440_BETA] = "b", [PEP440_RC] = "rc"};
+    pep440_parts parts = parts_of(fcinfo);
+    if (parts.pre_kind == PEP440_NO_PRE)
+        PG_RETURN_NULL();
+    PG_RETURN_TEXT_P(cstring_to_text(words[parts.pre_kind]));
+}
+
+PG_FUNCTION_INFO_V1(version_pre);
+Datum version_pre(PG_FUNCTION_ARGS)
+{
+    pep440_parts parts = parts_of(fcinfo);
+    if (parts.pre_kind == PEP440_NO_PRE)
+        PG_RETURN_NULL();
+    return make_numeric(parts.pre);
+}
+
+PG_FUNCTION_INFO_V1(version_post);
+Datum version_post(PG_FUNCTION_ARGS)
+{
+    pep440_parts parts = parts_of(fcinfo);
+    if (!parts.has_post)
+        PG_RETURN_NULL();
+    return make_numeric(parts.post);
+}
+
+PG_FUNCTION_INFO_V1(version_dev);
+Datum version_dev(PG_FUNCTION_ARGS)
+{
+    pep440_parts parts = parts_of(fcinfo);
+    if (!parts.has_dev)
+        PG_RETURN_NULL();
+    return make_numeric(parts.dev);
+}
+
+PG_FUNCTION_INFO_V1(version_is_prerelease);
+Datum version_is_prerelease(PG_FUNCTION_ARGS)
+{
+    pep440_parts parts = parts_of(fcinfo);
+    PG_RETURN_BOOL(parts.pre_kind != PEP440_NO_PRE || parts.has_dev);
+}
+
+/* The normal form in front of `+`, and what is behind it; no such part has no bytes. */
+static void split_local(Bytes normal, Bytes *public_part, Bytes *local)
+{
+    const uint8_t *plus = memchr(normal.bytes, '+', normal.length);
+    size_t length = plus == NULL ? normal.length : (size_t)(plus - normal.bytes);
+    *public_part = (Bytes){normal.bytes, length};
+    *local = plus == NULL ? (Bytes){normal.bytes, 0} : (Bytes){plus + 1, normal.length - length - 1};
+}
+
+PG_FUNCTION_INFO_V1(version_local);
+Datum version_local(PG_FUNCTION_ARGS)
+{
+    Bytes public_part, local;
+    split_local(GET_VERSION(0).normal, &public_part, &local);
+    if (local.length == 0)
+        PG_RETURN_NULL();
+    PG_RETURN_TEXT_P(cstring_to_text(server_text(local)));
+}
+
+PG_FUNCTION_INFO_V1(version_public);
+Datum version_public(PG_FUNCTION_ARGS)
+{
+    Bytes public_part, local;
+    split_local(GET_VERSION(0).normal, &public_part, &local);
+    PG_RETURN_POINTER(read_version(public_part));
+}
+
+/* Epoch and release: of the normal form the digits and marks before the first letter or `+`; `.post` and `.dev` leave a dot. */
+PG_FUNCTION_INFO_V1(version_base);
+Datum version_base(PG_FUNCTION_ARGS)
+{
+    Bytes normal = GET_VERSION(0).normal;
+    size_t length = 0;
+    while (length < normal.length && memchr("0123456789.!", normal.bytes[length], 12) != NULL)
+        length++;
+    while (length > 0 && normal.bytes[length - 1] == '.')
+        length--;
+    PG_RETURN_POINTER(read_version((Bytes){normal.bytes, length}));
+}
+
+PG_FUNCTION_INFO_V1(version_key);
+Datum version_key(PG_FUNCTION_ARGS)
+{
+    PG_RETURN_BYTEA_P(make_bytea(GET_VERSION(0).key));
+}

@@ -1,0 +1,125 @@
+-- Versions of Python packages (PEP 440), ordered as the standard orders them, and lists of specifiers.
+\echo Use "CREATE EXTENSION pep440" to load this file. \quit
+
+-- ---- the type of a version
+
+CREATE TYPE pep440;
+CREATE FUNCTION pep440_in(cstring) RETURNS pep440 AS 'MODULE_PATHNAME', 'version_in' LANGUAGE C IMMUTABLE STRICT PARALLEL SAFE;
+CREATE FUNCTION pep440_out(pep440) RETURNS cstring AS 'MODULE_PATHNAME', 'version_out' LANGUAGE C IMMUTABLE STRICT PARALLEL SAFE;
+CREATE FUNCTION pep440_recv(internal) RETURNS pep440 AS 'MODULE_PATHNAME', 'version_recv' LANGUAGE C IMMUTABLE STRICT PARALLEL SAFE;
+CREATE FUNCTION pep440_send(pep440) RETURNS bytea AS 'MODULE_PATHNAME', 'version_send' LANGUAGE C IMMUTABLE STRICT PARALLEL SAFE;
+CREATE TYPE pep440 (INPUT = pep440_in, OUTPUT = pep440_out, RECEIVE = pep440_recv, SEND = pep440_send, STORAGE = main);
+COMMENT ON TYPE pep440 IS 'version of a Python package';
+
+CREATE FUNCTION pep440(text) RETURNS pep440 AS 'MODULE_PATHNAME', 'version_from_text' LANGUAGE C IMMUTABLE STRICT PARALLEL SAFE;
+CREATE FUNCTION text(pep440) RETURNS text AS 'MODULE_PATHNAME', 'version_to_text' LANGUAGE C IMMUTABLE STRICT PARALLEL SAFE;
+CREATE CAST (text AS pep440) WITH FUNCTION pep440(text) AS ASSIGNMENT;
+CREATE CAST (pep440 AS text) WITH FUNCTION text(pep440) AS ASSIGNMENT;
+CREATE FUNCTION pep440_valid(text) RETURNS boolean AS 'MODULE_PATHNAME', 'version_valid' LANGUAGE C IMMUTABLE STRICT PARALLEL SAFE;
+
+-- ---- order
+
+CREATE FUNCTION pep440_lt(pep440, pep440) RETURNS boolean AS 'MODULE_PATHNAME', 'version_lt' LANGUAGE C IMMUTABLE STRICT PARALLEL SAFE;
+CREATE FUNCTION pep440_le(pep440, pep440) RETURNS boolean AS 'MODULE_PATHNAME', 'version_le' LANGUAGE C IMMUTABLE STRICT PARALLEL SAFE;
+CREATE FUNCTION pep440_eq(pep440, pep440) RETURNS boolean AS 'MODULE_PATHNAME', 'version_eq' LANGUAGE C IMMUTABLE STRICT PARALLEL SAFE;
+CREATE FUNCTION pep440_ge(pep440, pep440) RETURNS boolean AS 'MODULE_PATHNAME', 'version_ge' LANGUAGE C IMMUTABLE STRICT PARALLEL SAFE;
+CREATE FUNCTION pep440_gt(pep440, pep440) RETURNS boolean AS 'MODULE_PATHNAME', 'version_gt' LANGUAGE C IMMUTABLE STRICT PARALLEL SAFE;
+CREATE FUNCTION pep440_ne(pep440, pep440) RETURNS boolean AS 'MODULE_PATHNAME', 'version_ne' LANGUAGE C IMMUTABLE STRICT PARALLEL SAFE;
+CREATE FUNCTION pep440_cmp(pep440, pep440) RETURNS integer AS 'MODULE_PATHNAME', 'version_cmp' LANGUAGE C IMMUTABLE STRICT PARALLEL SAFE;
+CREATE FUNCTION pep440_sortsupport(internal) RETURNS void AS 'MODULE_PATHNAME', 'version_sortsupport' LANGUAGE C IMMUTABLE STRICT PARALLEL SAFE;
+CREATE FUNCTION pep440_hash(pep440) RETURNS integer AS 'MODULE_PATHNAME', 'version_hash' LANGUAGE C IMMUTABLE STRICT PARALLEL SAFE;
+CREATE FUNCTION pep440_hash_extended(pep440, bigint) RETURNS bigint AS 'MODULE_PATHNAME', 'version_hash_extended' LANGUAGE C IMMUTABLE STRICT PARALLEL SAFE;
+
+CREATE OPERATOR < (LEFTARG = pep440, RIGHTARG = pep440, FUNCTION = pep440_lt, COMMUTATOR = >, NEGATOR = >=, RESTRICT = scalarltsel, JOIN = scalarltjoinsel);
+CREATE OPERATOR <= (LEFTARG = pep440, RIGHTARG = pep440, FUNCTION = pep440_le, COMMUTATOR = >=, NEGATOR = >, RESTRICT = scalarlesel, JOIN = scalarlejoinsel);
+CREATE OPERATOR = (LEFTARG = pep440, RIGHTARG = pep440, FUNCTION = pep440_eq, COMMUTATOR = =, NEGATOR = <>, RESTRICT = eqsel, JOIN = eqjoinsel, HASHES, MERGES);
+CREATE OPERATOR >= (LEFTARG = pep440, RIGHTARG = pep440, FUNCTION = pep440_ge, COMMUTATOR = <=, NEGATOR = <, RESTRICT = scalargesel, JOIN = scalargejoinsel);
+CREATE OPERATOR > (LEFTARG = pep440, RIGHTARG = pep440, FUNCTION = pep440_gt, COMMUTATOR = <, NEGATOR = <=, RESTRICT = scalargtsel, JOIN = scalargtjoinsel);
+CREATE OPERATOR <> (LEFTARG = pep440, RIGHTARG = pep440, FUNCTION = pep440_ne, COMMUTATOR = <>, NEGATOR = =, RESTRICT = neqsel, JOIN = neqjoinsel);
+
+CREATE OPERATOR CLASS pep440_ops DEFAULT FOR TYPE pep440 USING btree AS
+    OPERATOR 1 <, OPERATOR 2 <=, OPERATOR 3 =, OPERATOR 4 >=, OPERATOR 5 >,
+    FUNCTION 1 pep440_cmp(pep440, pep440), FUNCTION 2 pep440_sortsupport(internal);
+CREATE OPERATOR CLASS pep440_ops DEFAULT FOR TYPE pep440 USING hash AS
+    OPERATOR 1 =, FUNCTION 1 pep440_hash(pep440), FUNCTION 2 pep440_hash_extended(pep440, bigint);
+
+CREATE FUNCTION pep440_smaller(pep440, pep440) RETURNS pep440 AS 'MODULE_PATHNAME', 'version_smaller' LANGUAGE C IMMUTABLE STRICT PARALLEL SAFE;
+CREATE FUNCTION pep440_larger(pep440, pep440) RETURNS pep440 AS 'MODULE_PATHNAME', 'version_larger' LANGUAGE C IMMUTABLE STRICT PARALLEL SAFE;
+CREATE AGGREGATE min(pep440) (SFUNC = pep440_smaller, STYPE = pep440, COMBINEFUNC = pep440_smaller, SORTOP = <, PARALLEL = SAFE);
+CREATE AGGREGATE max(pep440) (SFUNC = pep440_larger, STYPE = pep440, COMBINEFUNC = pep440_larger, SORTOP = >, PARALLEL = SAFE);
+
+-- ---- versions beside sort keys: the keys of a cover are bounds, not always keys of versions
+
+CREATE FUNCTION pep440_key(pep440) RETURNS bytea AS 'MODULE_PATHNAME', 'version_key' LANGUAGE C IMMUTABLE STRICT PARALLEL SAFE;
+CREATE FUNCTION pep440_lt_key(pep440, bytea) RETURNS boolean AS 'MODULE_PATHNAME', 'version_lt_key' LANGUAGE C IMMUTABLE STRICT PARALLEL SAFE;
+CREATE FUNCTION pep440_le_key(pep440, bytea) RETURNS boolean AS 'MODULE_PATHNAME', 'version_le_key' LANGUAGE C IMMUTABLE STRICT PARALLEL SAFE;
+CREATE FUNCTION pep440_eq_key(pep440, bytea) RETURNS boolean AS 'MODULE_PATHNAME', 'version_eq_key' LANGUAGE C IMMUTABLE STRICT PARALLEL SAFE;
+CREATE FUNCTION pep440_ge_key(pep440, bytea) RETURNS boolean AS 'MODULE_PATHNAME', 'version_ge_key' LANGUAGE C IMMUTABLE STRICT PARALLEL SAFE;
+CREATE FUNCTION pep440_gt_key(pep440, bytea) RETURNS boolean AS 'MODULE_PATHNAME', 'version_gt_key' LANGUAGE C IMMUTABLE STRICT PARALLEL SAFE;
+CREATE FUNCTION pep440_key_lt(bytea, pep440) RETURNS boolean AS 'MODULE_PATHNAME', 'key_lt_version' LANGUAGE C IMMUTABLE STRICT PARALLEL SAFE;
+CREATE FUNCTION pep440_key_le(bytea, pep440) RETURNS boolean AS 'MODULE_PATHNAME', 'key_le_version' LANGUAGE C IMMUTABLE STRICT PARALLEL SAFE;
+CREATE FUNCTION pep440_key_eq(bytea, pep440) RETURNS boolean AS 'MODULE_PATHNAME', 'key_eq_version' LANGUAGE C IMMUTABLE STRICT PARALLEL SAFE;
+CREATE FUNCTION pep440_key_ge(bytea, pep440) RETURNS boolean AS 'MODULE_PATHNAME', 'key_ge_version' LANGUAGE C IMMUTABLE STRICT PARALLEL SAFE;
+CREATE FUNCTION pep440_key_gt(bytea, pep440) RETURNS boolean AS 'MODULE_PATHNAME', 'key_gt_version' LANGUAGE C IMMUTABLE STRICT PARALLEL SAFE;
+CREATE FUNCTION pep440_cmp_key(pep440, bytea) RETURNS integer AS 'MODULE_PATHNAME', 'version_cmp_key' LANGUAGE C IMMUTABLE STRICT PARALLEL SAFE;
+CREATE FUNCTION pep440_key_cmp(bytea, pep440) RETURNS integer AS 'MODULE_PATHNAME', 'key_cmp_version' LANGUAGE C IMMUTABLE STRICT PARALLEL SAFE;
+CREATE OPERATOR < (LEFTARG = pep440, RIGHTARG = bytea, FUNCTION = pep440_lt_key, COMMUTATOR = >, NEGATOR = >=, RESTRICT = scalarltsel, JOIN = scalarltjoinsel);
+CREATE OPERATOR <= (LEFTARG = pep440, RIGHTARG = bytea, FUNCTION = pep440_le_key, COMMUTATOR = >=, NEGATOR = >, RESTRICT = scalarlesel, JOIN = scalarlejoinsel);
+CREATE OPERATOR = (LEFTARG = pep440, RIGHTARG = bytea, FUNCTION = pep440_eq_key, COMMUTATOR = =, RESTRICT = eqsel, JOIN = eqjoinsel);
+CREATE OPERATOR >= (LEFTARG = pep440, RIGHTARG = bytea, FUNCTION = pep440_ge_key, COMMUTATOR = <=, NEGATOR = <, RESTRICT = scalargesel, JOIN = scalargejoinsel);
+CREATE OPERATOR > (LEFTARG = pep440, RIGHTARG = bytea, FUNCTION = pep440_gt_key, COMMUTATOR = <, NEGATOR = <=, RESTRICT = scalargtsel, JOIN = scalargtjoinsel);
+CREATE OPERATOR < (LEFTARG = bytea, RIGHTARG = pep440, FUNCTION = pep440_key_lt, COMMUTATOR = >, NEGATOR = >=, RESTRICT = scalarltsel, JOIN = scalarltjoinsel);
+CREATE OPERATOR <= (LEFTARG = bytea, RIGHTARG = pep440, FUNCTION = pep440_key_le, COMMUTATOR = >=, NEGATOR = >, RESTRICT = scalarlesel, JOIN = scalarlejoinsel);
+CREATE OPERATOR = (LEFTARG = bytea, RIGHTARG = pep440, FUNCTION = pep440_key_eq, COMMUTATOR = =, RESTRICT = eqsel, JOIN = eqjoinsel);
+CREATE OPERATOR >= (LEFTARG = bytea, RIGHTARG = pep440, FUNCTION = pep440_key_ge, COMMUTATOR = <=, NEGATOR = <, RESTRICT = scalargesel, JOIN = scalargejoinsel);
+CREATE OPERATOR > (LEFTARG = bytea, RIGHTARG = pep440, FUNCTION = pep440_key_gt, COMMUTATOR = <, NEGATOR = <=, RESTRICT = scalargtsel, JOIN = scalargtjoinsel);
+ALTER OPERATOR FAMILY pep440_ops USING btree ADD
+    OPERATOR 1 < (pep440, bytea), OPERATOR 2 <= (pep440, bytea), OPERATOR 3 = (pep440, bytea), OPERATOR 4 >= (pep440, bytea), OPERATOR 5 > (pep440, bytea),
+    OPERATOR 1 < (bytea, pep440), OPERATOR 2 <= (bytea, pep440), OPERATOR 3 = (bytea, pep440), OPERATOR 4 >= (bytea, pep440), OPERATOR 5 > (bytea, pep440),
+    OPERATOR 1 < (bytea, bytea), OPERATOR 2 <= (bytea, bytea), OPERATOR 3 = (bytea, bytea), OPERATOR 4 >= (bytea, bytea), OPERATOR 5 > (bytea, bytea),
+    FUNCTION 1 (pep440, bytea) pep440_cmp_key(pep440, bytea), FUNCTION 1 (bytea, pep440) pep440_key_cmp(bytea, pep440),
+    FUNCTION 1 (bytea, bytea) byteacmp(bytea, bytea);
+
+-- ---- parts
+
+CREATE FUNCTION pep440_epoch(pep440) RETURNS numeric AS 'MODULE_PATHNAME', 'version_epoch' LANGUAGE C IMMUTABLE STRICT PARALLEL SAFE;
+CREATE FUNCTION pep440_release(pep440) RETURNS numeric[] AS 'MODULE_PATHNAME', 'version_release' LANGUAGE C IMMUTABLE STRICT PARALLEL SAFE;
+CREATE FUNCTION pep440_pre_kind(pep440) RETURNS text AS 'MODULE_PATHNAME', 'version_pre_kind' LANGUAGE C IMMUTABLE STRICT PARALLEL SAFE;
+CREATE FUNCTION pep440_pre(pep440) RETURNS numeric AS 'MODULE_PATHNAME', 'version_pre' LANGUAGE C IMMUTABLE STRICT PARALLEL SAFE;
+CREATE FUNCTION pep440_post(pep440) RETURNS numeric AS 'MODULE_PATHNAME', 'version_post' LANGUAGE C IMMUTABLE STRICT PARALLEL SAFE;
+CREATE FUNCTION pep440_dev(pep440) RETURNS numeric AS 'MODULE_PATHNAME', 'version_dev' LANGUAGE C IMMUTABLE STRICT PARALLEL SAFE;
+CREATE FUNCTION pep440_local(pep440) RETURNS text AS 'MODULE_PATHNAME', 'version_local' LANGUAGE C IMMUTABLE STRICT PARALLEL SAFE;
+CREATE FUNCTION pep440_is_prerelease(pep440) RETURNS boolean AS 'MODULE_PATHNAME', 'version_is_prerelease' LANGUAGE C IMMUTABLE STRICT PARALLEL SAFE;
+CREATE FUNCTION pep440_public(pep440) RETURNS pep440 AS 'MODULE_PATHNAME', 'version_public' LANGUAGE C IMMUTABLE STRICT PARALLEL SAFE;
+CREATE FUNCTION pep440_base(pep440) RETURNS pep440 AS 'MODULE_PATHNAME', 'version_base' LANGUAGE C IMMUTABLE STRICT PARALLEL SAFE;
+
+-- ---- lists of specifiers
+
+CREATE TYPE pep440_specs;
+CREATE FUNCTION pep440_specs_in(cstring) RETURNS pep440_specs AS 'MODULE_PATHNAME', 'specs_in' LANGUAGE C IMMUTABLE STRICT PARALLEL SAFE;
+CREATE FUNCTION pep440_specs_out(pep440_specs) RETURNS cstring AS 'MODULE_PATHNAME', 'specs_out' LANGUAGE C IMMUTABLE STRICT PARALLEL SAFE;
+CREATE FUNCTION pep440_specs_recv(internal) RETURNS pep440_specs AS 'MODULE_PATHNAME', 'specs_recv' LANGUAGE C IMMUTABLE STRICT PARALLEL SAFE;
+CREATE FUNCTION pep440_specs_send(pep440_specs) RETURNS bytea AS 'MODULE_PATHNAME', 'specs_send' LANGUAGE C IMMUTABLE STRICT PARALLEL SAFE;
+CREATE TYPE pep440_specs (INPUT = pep440_specs_in, OUTPUT = pep440_specs_out, RECEIVE = pep440_specs_recv, SEND = pep440_specs_send, STORAGE = extended);
+COMMENT ON TYPE pep440_specs IS 'list of version specifiers';
+
+CREATE FUNCTION pep440_specs(text) RETURNS pep440_specs AS 'MODULE_PATHNAME', 'specs_from_text' LANGUAGE C IMMUTABLE STRICT PARALLEL SAFE;
+CREATE FUNCTION text(pep440_specs) RETURNS text AS 'MODULE_PATHNAME', 'specs_to_text' LANGUAGE C IMMUTABLE STRICT PARALLEL SAFE;
+CREATE CAST (text AS pep440_specs) WITH FUNCTION pep440_specs(text) AS ASSIGNMENT;
+CREATE CAST (pep440_specs AS text) WITH FUNCTION text(pep440_specs) AS ASSIGNMENT;
+CREATE FUNCTION pep440_any_prerelease(pep440_specs) RETURNS boolean AS 'MODULE_PATHNAME', 'specs_any_prerelease' LANGUAGE C IMMUTABLE STRICT PARALLEL SAFE;
+
+CREATE FUNCTION pep440_cover_start(pep440_specs) RETURNS bytea AS 'MODULE_PATHNAME', 'specs_cover_start' LANGUAGE C IMMUTABLE STRICT PARALLEL SAFE;
+CREATE FUNCTION pep440_cover_end(pep440_specs) RETURNS bytea AS 'MODULE_PATHNAME', 'specs_cover_end' LANGUAGE C IMMUTABLE STRICT PARALLEL SAFE;
+CREATE FUNCTION pep440_cover(specs pep440_specs, OUT low bytea, OUT high bytea) RETURNS SETOF record AS 'MODULE_PATHNAME', 'specs_cover' LANGUAGE C IMMUTABLE STRICT PARALLEL SAFE ROWS 2;
+
+CREATE FUNCTION pep440_specs_contains_support(internal) RETURNS internal AS 'MODULE_PATHNAME', 'specs_contains_support' LANGUAGE C STRICT;
+CREATE FUNCTION pep440_specs_contains_selectivity(internal, oid, internal, integer) RETURNS float8 AS 'MODULE_PATHNAME', 'specs_contains_selectivity' LANGUAGE C STABLE STRICT PARALLEL SAFE;
+CREATE FUNCTION pep440_version_contained_by_support(internal) RETURNS internal AS 'MODULE_PATHNAME', 'version_contained_by_support' LANGUAGE C STRICT;
+CREATE FUNCTION pep440_version_contained_by_selectivity(internal, oid, internal, integer) RETURNS float8 AS 'MODULE_PATHNAME', 'version_contained_by_selectivity' LANGUAGE C STABLE STRICT PARALLEL SAFE;
+CREATE FUNCTION pep440_specs_contains(pep440_specs, pep440) RETURNS boolean AS 'MODULE_PATHNAME', 'specs_contains' LANGUAGE C IMMUTABLE STRICT PARALLEL SAFE SUPPORT pep440_specs_contains_support;
+CREATE FUNCTION pep440_version_contained_by(pep440, pep440_specs) RETURNS boolean AS 'MODULE_PATHNAME', 'version_contained_by' LANGUAGE C IMMUTABLE STRICT PARALLEL SAFE SUPPORT pep440_version_contained_by_support;
+CREATE OPERATOR @> (LEFTARG = pep440_specs, RIGHTARG = pep440, FUNCTION = pep440_specs_contains, COMMUTATOR = <@,
+    RESTRICT = pep440_specs_contains_selectivity, JOIN = contjoinsel);
+CREATE OPERATOR <@ (LEFTARG = pep440, RIGHTARG = pep440_specs, FUNCTION = pep440_version_contained_by, COMMUTATOR = @>,
+    RESTRICT = pep440_version_contained_by_selectivity, JOIN = contjoinsel);

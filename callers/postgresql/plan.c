@@ -1,0 +1,165 @@
+/* What the planner asks: which condition an index on the versions can serve for `specs @> version`, and how many rows that is.
+
+   The condition is `version >= low AND version < high`, with the ends of the list's cover. It holds for each version that the list contains, and
+   maybe for others, so the server rechecks each row by matching. */
+#include "extension.h"
+
+/* `version OPERATOR key`, or null where the operator family has no such operator. */
+static Expr *make_bound(Oid family, Node *version, Oid type, StrategyNumber strategy, Expr *key)
+{
+    Oid operator = get_opfamily_member(family, type, BYTEAOID, (int16)strategy);
+    return OidIsValid(operator) ? make_opclause(operator, BOOLOID, false, (Expr *)version, key, InvalidOid, InvalidOid) : NULL;
+}
+
+static Expr *make_key(Bytes key)
+{
+    return (Expr *)makeConst(BYTEAOID, -1, InvalidOid, -1, PointerGetDatum(make_bytea(key)), false, false);
+}
+
+/* The conditions of an interval; no list where neither end has a bound, or an operator is missing. */
+static List *interval_conditions(Oid family, Node *version, Oid type, Bytes low, Bytes high)
+{
+    List *found = NIL;
+    Expr *above = low.length == 0 ? NULL : make_bound(family, version, type, BTGreaterEqualStrategyNumber, make_key(low));
+    Expr *below = high.length == 0 ? NULL : make_bound(family, version, type, BTLessStrategyNumber, make_key(high));
+    if (above != NULL)
+        found = lappend(found, above);
+    if (below != NULL)
+        found = lappend(found, below);
+    return found;
+}
+
+/* A list that is known: the keys stand in the plan. */
+static List *constant_conditions(Oid family, Node *version, Oid type, const Const *list)
+{
+    Cover cover;
+    Bytes low, high;
+    if (list->constisnull || cover_of(specs_of(PG_DETOAST_DATUM_PACKED(list->constvalue)).compiled, &cover) != PEP440_OK)
+        return NIL;
+    ends_of_cover(&cover, &low, &high);
+    return interval_conditions(family, version, type, low, high);
+}
+
+/* A call of a function of the extension that takes the list and returns a key. */
+static Expr *make_call(Oid beside, const char *name, Node *list)
+{
+    Oid type = exprType(list);
+    List *names = list_make2(makeString(get_namespace_name(get_func_namespace(beside))), makeString(pstrdup(name)));
+    Oid function = LookupFuncName(names, 1, &type, true);
+    if (!OidIsValid(function))
+        return NULL;
+    return (Expr *)makeFuncExpr(function, BYTEAOID, list_make1(list), InvalidOid, InvalidOid, COERCE_EXPLICIT_CALL);
+}
+
+/* A list that is not known yet, as in a join: the keys are found when it is. */
+static List *later_conditions(Oid family, Node *version, Oid type, Node *list, Oid beside)
+{
+    Expr *low = make_call(beside, "pep440_cover_start", list), *high = make_call(beside, "pep440_cover_end", list);
+    if (low == NULL || high == NULL)
+        return NIL;
+    Expr *above = make_bound(family, version, type, BTGreaterEqualStrategyNumber, low);
+    Expr *below = make_bound(family, version, type, BTLessStrategyNumber, high);
+    return above == NULL || below == NULL ? NIL : list_make2(above, below);
+}
+
+static List *index_conditions(const SupportRequestIndexCondition *request, bool version_is_first)
+{
+    List *arguments;
+    if (request->index->relam != BTREE_AM_OID)
+        return NIL;
+    if (IsA(request->node, OpExpr))
+        arguments = ((OpExpr *)request->node)->args;
+    else if (IsA(request->node, FuncExpr))
+        arguments = ((FuncExpr *)request->node)->args;
+    else
+        return NIL;
+    if (list_length(arguments) != 2 || request->indexarg != (version_is_first ? 0 : 1))
+        return NIL;
+    Node *version = list_nth(arguments, request->indexarg), *list = list_nth(arguments, 1 - request->indexarg);
+    Oid type = exprType(version);
+    if (IsA(list, Const))
+        return constant_conditions(request->opfamily, version, type, (Const *)list);
+    if (!is_pseudo_constant_for_index(request->root, list, request->index))
+        return NIL;
+    return later_conditions(request->opfamily, version, type, list, request->funcid);
+}
+
+static Node *support(FunctionCallInfo fcinfo, bool version_is_first)
+{
+    Node *asked = (Node *)PG_GETARG_POINTER(0);
+    if (!IsA(asked, SupportRequestIndexCondition))
+        return NULL;
+    SupportRequestIndexCondition *request = (SupportRequestIndexCondition *)asked;
+    request->lossy = true;
+    return (Node *)index_conditions(request, version_is_first);
+}
+
+PG_FUNCTION_INFO_V1(specs_contains_support);
+Datum specs_contains_support(PG_FUNCTION_ARGS)
+{
+    PG_RETURN_POINTER(support(fcinfo, false));
+}
+
+PG_FUNCTION_INFO_V1(version_contained_by_support);
+Datum version_contained_by_support(PG_FUNCTION_ARGS)
+{
+    PG_RETURN_POINTER(support(fcinfo, true));
+}
+
+/* ---- how many rows: the sum over the intervals of the cover, by what is known of the column */
+
+enum { NOT_KNOWN = -1 };
+
+/* Each interval has at least as many rows as one version has: the statistics see no narrow one. */
+static double intervals_selectivity(PlannerInfo *root, int relation, VariableStatData *variable, const Cover *cover)
+{
+    bool is_guess;
+    Oid type = exprType(variable->var);
+    Oid family = lookup_type_cache(type, TYPECACHE_BTREE_OPFAMILY)->btree_opf;
+    double sum = 0, least = 1 / get_variable_numdistinct(variable, &is_guess);
+    for (size_t each = 0; each < cover->count; each += 2) {
+        List *conditions = interval_conditions(family, variable->var, type, cover_key(cover, each), cover_key(cover, each + 1));
+        sum += conditions == NIL ? 1 : Max(least, clauselist_selectivity(root, conditions, relation, JOIN_INNER, NULL));
+    }
+    return sum;
+}
+
+/* Of a column of versions and a list that is known. */
+static double known_selectivity(PlannerInfo *root, List *arguments, int relation, bool version_is_first)
+{
+    VariableStatData variable;
+    Node *list;
+    bool is_left;
+    Cover cover;
+    double found = NOT_KNOWN;
+    if (!get_restriction_variable(root, arguments, relation, &variable, &list, &is_left))
+        return NOT_KNOWN;
+    bool is_known = IsA(list, Const) && is_left == version_is_first;
+    if (is_known && ((Const *)list)->constisnull)
+        found = 0;
+    else if (is_known && cover_of(specs_of(PG_DETOAST_DATUM_PACKED(((Const *)list)->constvalue)).compiled, &cover) == PEP440_OK)
+        found = intervals_selectivity(root, relation, &variable, &cover);
+    ReleaseVariableStats(variable);
+    return found;
+}
+
+static Datum selectivity(FunctionCallInfo fcinfo, bool version_is_first)
+{
+    double found = known_selectivity((PlannerInfo *)PG_GETARG_POINTER(0), (List *)PG_GETARG_POINTER(2), PG_GETARG_INT32(3), version_is_first);
+    if (found == NOT_KNOWN)
+        found = DEFAULT_RANGE_INEQ_SEL;
+    CLAMP_PROBABILITY(found);
+    PG_RETURN_FLOAT8(found);
+}
+
+PG_FUNCTION_INFO_V1(specs_contains_selectivity);
+Datum specs_contains_selectivity(PG_FUNCTION_ARGS)
+{
+    return selectivity(fcinfo, false);
+}
+
+PG_FUNCTION_INFO_V1(version_contained_by_selectivity);
+Datum version_contained_by_selectivity(PG_FUNCTION_ARGS)
+{
+    return selectivity(fcinfo, true);
+}

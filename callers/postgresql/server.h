@@ -1,0 +1,27 @@
+/* The server's headers. They do not keep the warnings that this extension is built with, so none is given for them. */
+#pragma GCC system_header
+
+#include "postgres.h"
+
+#include "access/amapi.h"
+#include "access/stratnum.h"
+#include "catalog/pg_am_d.h"
+#include "catalog/pg_type_d.h"
+#include "common/hashfn.h"
+#include "fmgr.h"
+#include "funcapi.h"
+#include "libpq/pqformat.h"
+#include "mb/pg_wchar.h"
+#include "nodes/makefuncs.h"
+#include "nodes/nodeFuncs.h"
+#include "nodes/pathnodes.h"
+#include "nodes/supportnodes.h"
+#include "optimizer/optimizer.h"
+#include "parser/parse_func.h"
+#include "utils/array.h"
+#include "utils/builtins.h"
+#include "utils/lsyscache.h"
+#include "utils/numeric.h"
+#include "utils/selfuncs.h"
+#include "utils/sortsupport.h"
+#include "utils/typcache.h"

@@ -1,0 +1,472 @@
+"""Holds the extension against real servers: python3 test.py FOLDER PREFIX [PROGRAM] [--small]
+
+FOLDER has `bin`, the programs of a server in which the extension is installed; `src`, where it was built; and `refuse.so`, built of refuse.c. The servers
+run there as an ordinary user, on a socket, and are ended. PREFIX is that of the C library; PROGRAM, if given, is `pep440`, whose `filter` must print
+what `@>` finds. With --small there are fewer rows, and nothing is timed. The last line is `N passed, M failed`.
+"""
+import ctypes
+import os
+import pathlib
+import random
+import re
+import resource
+import subprocess
+import sys
+
+from libpq import Connection, Refused
+
+HERE = pathlib.Path(__file__).resolve().parent
+WORDS = [word for word in sys.argv[1:] if not word.startswith("--")]
+FOLDER, PREFIX, PROGRAM = pathlib.Path(WORDS[0]), WORDS[1], (WORDS + [None])[2]
+SMALL = "--small" in sys.argv
+ROWS = 20_000 if SMALL else 1_000_000
+STRINGS = 10_000
+LISTS = ["", ">=1.0,<2.0,!=1.5.*", "==2.1.0+cu118", "<=2.1.0", "<1.0.post1,>=1.0", "~=1.4.2", "===1.10", "!=1.0", ">2.0,<1.0", "==1.*", ">1!0", ">=3.11.29", "==3.9.post1,!=3.9"]
+NARROW = ["==2.1.0+cu118", "~=1.4.2", "<1.0.post1,>=1.0", ">2.0,<1.0", ">1!0", ">=3.11.29", "==3.9.post1,!=3.9"]
+NO_INDEX = "SET enable_indexscan = off; SET enable_indexonlyscan = off; SET enable_bitmapscan = off;"
+NO_TABLE = "SET enable_seqscan = off;"
+OUT_OF_MEMORY = "53200"
+USER = ["setpriv", "--reuid=nobody", "--regid=nogroup", "--clear-groups"] if os.geteuid() == 0 else []
+
+
+class Server:
+    """A server of its own, in a folder of its own."""
+
+    def __init__(self, name):
+        self.folder = FOLDER / name
+        self.data = self.folder / "data"
+        self.log = self.folder / "log"
+        subprocess.run(USER + ["mkdir", str(self.folder)], check=True)
+        self.run("initdb", "-D", self.data, "-U", "tester", "-E", "UTF8", "--locale=C.UTF-8", "--no-sync")
+
+    def run(self, program, *words, environment=None, limit=None):
+        def limited():
+            if limit:
+                resource.setrlimit(resource.RLIMIT_AS, (limit, limit))
+
+        command = USER + [str(FOLDER / "bin" / program), *map(str, words)]
+        output = (self.folder / "output") if program == "pg_ctl" else None
+        with open(output or os.devnull, "wb") as file:
+            ran = subprocess.run(command, cwd=FOLDER, env={**os.environ, "LC_ALL": "C", **(environment or {})}, preexec_fn=limited, check=False,
+                                 stdout=file if output else subprocess.PIPE, stderr=subprocess.STDOUT)
+        assert ran.returncode == 0, (program, ran.stdout, output and output.read_text())
+        return ran.stdout
+
+    def start(self, environment=None, limit=None):
+        settings = f"-c listen_addresses= -c unix_socket_directories={self.folder} -c fsync=off -c shared_buffers=64MB -c max_wal_size=4GB -c jit=off"
+        self.run("pg_ctl", "-D", self.data, "-l", self.log, "-w", "-s", "-o", settings, "start", environment=environment, limit=limit)
+
+    def stop(self):
+        if (self.data / "postmaster.pid").exists():
+            self.run("pg_ctl", "-D", self.data, "-w", "-s", "-m", "fast", "stop")
+
+    def where(self, database="postgres"):
+        return f"host={self.folder} user=tester dbname={database}"
+
+    def connect(self, database="postgres"):
+        return Connection(self.where(database))
+
+    def environment(self, database="postgres"):
+        return {"PGHOST": str(self.folder), "PGUSER": "tester", "PGDATABASE": database}
+
+    def is_sound(self):
+        """Whether no process of the server ended as none should."""
+        found = re.findall(r"^.*(?:terminated by signal|PANIC|TRAP|server process .* exited).*$", self.log.read_text(errors="replace"), re.M)
+        assert not found, found
+        return True
+
+
+def version(rng):
+    """A version as indexes have them: mostly plain, some with suffixes, some local, a few with an epoch or written in another way."""
+    text = ".".join(str(rng.randrange(limit)) for limit in (4, 12, 30)[: rng.choice((1, 2, 3, 3))])
+    kind = rng.randrange(12)
+    suffix = {0: f"rc{rng.randrange(3)}", 1: f".post{rng.randrange(3)}", 2: f".dev{rng.randrange(3)}", 3: f"+cu{rng.randrange(120)}", 4: f"a{rng.randrange(2)}.dev1"}
+    text += suffix.get(kind, "")
+    return f"1!{text}" if kind == 5 and rng.randrange(20) == 0 else f"V{text}" if kind == 6 else text
+
+
+def fill(server):
+    """The table of all tests: what was written, and the version."""
+    rng = random.Random(20261123)
+    lines = FOLDER / "lines"
+    lines.write_text("".join(version(rng) + "\n" for _ in range(ROWS)))
+    db = server.connect()
+    db.rows("CREATE EXTENSION pep440")
+    db.rows('CREATE TABLE releases (id serial, written text COLLATE "C", version pep440 GENERATED ALWAYS AS (pep440(written)) STORED)')
+    db.rows(f"COPY releases (written) FROM '{lines}'")
+    db.rows("CREATE INDEX by_version ON releases (version)")
+    db.rows("CREATE INDEX by_hash ON releases USING hash (version)")
+    db.rows("VACUUM ANALYZE releases")
+    db.close()
+
+
+def plan_of(db, query):
+    return "\n".join(line for (line,) in db.rows("EXPLAIN (COSTS OFF) " + query))
+
+
+# ---- what a running server is asked
+
+
+def test_installcheck(server):
+    ran = subprocess.run(USER + ["make", "-s", "installcheck", f"PG_CONFIG={FOLDER}/bin/pg_config", f"PEP440={PREFIX}"], cwd=FOLDER / "src",
+                         env={**os.environ, **server.environment()}, capture_output=True, text=True, check=False)
+    differences = FOLDER / "src" / "regression.diffs"
+    assert ran.returncode == 0, differences.read_text()[:2000] if differences.exists() else ran.stdout + ran.stderr
+    return re.search(r"All \d+ tests passed", ran.stdout)[0]
+
+
+def test_page(server):
+    """Each query of the page gives what stands under it."""
+    server.connect().rows("CREATE DATABASE page")
+    db, count = server.connect("page"), 0
+    db.rows("CREATE EXTENSION pep440")
+    for block in re.findall(r"```sql\n(.*?)```", (HERE / "README.md").read_text(encoding="utf-8"), re.S):
+        for query in re.findall(r"(?:^[^-\n].*\n)+(?:^-- .*\n)*", block, re.M):
+            wanted = re.findall(r"^-- (.*)$", query, re.M)
+            found = ["|".join(value or "" for value in row) for row in db.rows(re.sub(r"^-- .*$", "", query, flags=re.M))]
+            assert not wanted or found == wanted, (query, found)
+            count += bool(wanted)
+    db.close()
+    assert count == 11, count
+    return f"{count} queries"
+
+
+def copied(db, query, name):
+    """What the query gives, as COPY writes it."""
+    file = db.folder / name
+    db.rows(f"COPY ({query}) TO '{file}'")
+    return file.read_bytes()
+
+
+def test_lists(server):
+    """Of each list: by the index, without one, and by the program."""
+    db = server.connect()
+    db.folder, found = server.folder, 0
+    lines = (FOLDER / "lines").read_bytes()
+    for specs in LISTS:
+        query = f"SELECT version FROM releases WHERE '{specs}' @> version ORDER BY version, id"
+        other = f"SELECT version FROM releases WHERE version <@ '{specs}' ORDER BY version, id"
+        db.rows(NO_INDEX)
+        alone = copied(db, query, "alone")
+        assert "by_version" not in plan_of(db, query), specs
+        db.rows("RESET ALL")
+        if specs in NARROW:
+            plan = plan_of(db, query)
+            assert "by_version" in plan and re.search(r"Index Cond: \(+version >=", plan) and " @> version" in plan, plan
+        db.rows(NO_TABLE)
+        assert copied(db, query, "by_index") == alone == copied(db, other, "by_index"), specs
+        assert "by_version" in plan_of(db, query), specs
+        db.rows("RESET ALL")
+        found += alone.count(b"\n")
+        if PROGRAM:
+            ran = subprocess.run([PROGRAM, "filter", specs], input=lines, capture_output=True, check=True)
+            assert ran.stdout == alone, specs
+    db.close()
+    return f"{len(LISTS)} lists over {ROWS} rows, {found} versions found, by the index as without" + (", and as `filter`" if PROGRAM else "")
+
+
+def test_order(server):
+    """Comparisons, equality by both indexes, the ends, and distinct ones: by an index and without."""
+    db = server.connect()
+    queries = ["SELECT count(*), pep440_key(min(version)), pep440_key(max(version)) FROM releases", "SELECT version FROM releases ORDER BY version DESC, id LIMIT 20",
+               "SELECT count(*) FROM (SELECT DISTINCT version FROM releases) AS distinct_ones", "SELECT pep440_key(version) FROM releases ORDER BY version LIMIT 1 OFFSET 5000"]
+    rng = random.Random(7)
+    for _ in range(60):
+        one, other = version(rng), version(rng)
+        queries += [f"SELECT count(*), sum(id) FROM releases WHERE version {operator} '{one}'" for operator in ("<", "<=", "=", ">=", ">")]
+        queries.append(f"SELECT count(*), sum(id) FROM releases WHERE version >= '{one}' AND version < '{other}'")
+    for query in queries:
+        answers = []
+        for setting in ("", NO_TABLE, NO_INDEX):
+            db.rows("RESET ALL;" + setting)
+            answers.append(db.rows(query))
+        assert answers[0] == answers[1] == answers[2], (query, answers)
+    db.rows("RESET ALL; DROP INDEX by_version;" + NO_TABLE)
+    for _ in range(60):
+        query = f"SELECT count(*), sum(id) FROM releases WHERE version = '{version(rng)}'"
+        assert "by_hash" in plan_of(db, query)
+        by_hash = db.rows(query)
+        assert by_hash == db.rows(NO_INDEX + "SET enable_seqscan = on;" + query) and db.rows("RESET ALL;" + NO_TABLE + "SELECT 1"), query
+    db.rows("RESET ALL; CREATE INDEX by_version ON releases (version); ANALYZE releases")
+    db.close()
+    return f"{len(queries)} queries by an index as without, 60 by the hash index"
+
+
+def test_joins(server):
+    """Lists in a table: a nested loop over the index finds what a join without one does."""
+    db = server.connect()
+    db.rows("CREATE TABLE lists (specs pep440_specs)")
+    for specs in LISTS:
+        db.rows(f"INSERT INTO lists SELECT '{specs}' WHERE '{specs}' <> ''")
+    db.rows("ANALYZE lists")
+    query = "SELECT specs::text, count(*), pep440_key(min(version)), pep440_key(max(version)), sum(r.id) FROM lists JOIN releases r ON specs @> version GROUP BY 1 ORDER BY 1"
+    db.rows(NO_TABLE)
+    plan = plan_of(db, query)
+    assert "pep440_cover_start" in plan and "pep440_cover_end" in plan, plan
+    by_index = db.rows(query)
+    assert by_index == db.rows("RESET ALL;" + NO_INDEX + query)
+    merged = "SELECT count(*) FROM (SELECT version FROM releases WHERE id <= 3000) a JOIN (SELECT version FROM releases WHERE id > 3000 AND id <= 9000) b USING (version)"
+    counts = set()
+    for off in (("hash", "merge"), ("hash", "nest"), ("merge", "nest")):
+        names = {"hash": "enable_hashjoin", "merge": "enable_mergejoin", "nest": "enable_nestloop"}
+        db.rows("RESET ALL;" + "".join(f"SET {names[word]} = off;" for word in off))
+        counts.add(db.value(merged))
+    assert len(counts) == 1, counts
+    db.close()
+    return f"{len(by_index)} lists joined; hash, merge and nested loop joins agree"
+
+
+def test_dump(server):
+    """A dump that is restored, and a copy in binary form, have the same rows."""
+    all_rows = "SELECT md5(string_agg(id || ' ' || version || ' ' || encode(pep440_key(version), 'hex'), ',' ORDER BY id)), count(*) FROM releases"
+    lists = "SELECT string_agg(specs::text || encode(pep440_specs_send(specs), 'hex'), ' ' ORDER BY specs::text) FROM lists"
+    db = server.connect()
+    wanted, wanted_lists = db.rows(all_rows), db.rows(lists)
+    db.rows(f"COPY (SELECT id, version FROM releases) TO '{server.folder}/binary' (FORMAT binary)")
+    db.rows(f"CREATE TABLE taken (id int, version pep440); COPY taken FROM '{server.folder}/binary' (FORMAT binary)")
+    assert db.rows(all_rows.replace("releases", "taken")) == wanted
+    db.rows("DROP TABLE taken")
+    db.rows("CREATE DATABASE restored")
+    dump = server.folder / "dump"
+    server.run("pg_dump", "-Fc", "-Z1", "-h", server.folder, "-U", "tester", "-f", dump, "postgres")
+    server.run("pg_restore", "-e", "-h", server.folder, "-U", "tester", "-d", "restored", dump)
+    restored = server.connect("restored")
+    assert restored.rows(all_rows) == wanted and restored.rows(lists) == wanted_lists
+    assert "by_version" in plan_of(restored, "SELECT version FROM releases ORDER BY version LIMIT 3")
+    restored.close()
+    db.rows("DROP DATABASE restored")
+    db.close()
+    return f"{wanted[0][1]} rows restored, and copied in binary form"
+
+
+def test_parallel(server):
+    db = server.connect()
+    queries = ["SELECT count(*), sum(id) FROM releases WHERE '>=1.0,<2.0,!=1.5.*' @> version", "SELECT pep440_key(max(version)), pep440_key(min(version)) FROM releases WHERE id % 3 = 0",
+               "SELECT md5(string_agg(v, ',')) FROM (SELECT version::text AS v FROM releases ORDER BY version, id) AS sorted"]
+    for query in queries:
+        db.rows("RESET ALL; SET max_parallel_workers_per_gather = 0;" + NO_INDEX)
+        alone = db.rows(query)
+        db.rows("SET max_parallel_workers_per_gather = 3; SET parallel_setup_cost = 0; SET parallel_tuple_cost = 0; SET min_parallel_table_scan_size = 0")
+        plan = plan_of(db, query)
+        assert "Workers Planned" in plan and "Parallel Seq Scan" in plan, plan
+        assert db.rows(query) == alone, query
+    db.close()
+    return f"{len(queries)} queries in parallel as alone"
+
+
+def test_encodings(server):
+    """In a database of another encoding: versions as ever, and a reason that is written in it."""
+    db = server.connect()
+    db.rows("CREATE DATABASE latin ENCODING 'LATIN1' LC_COLLATE 'C' LC_CTYPE 'C' TEMPLATE template0")
+    other = server.connect("latin")
+    other.rows("CREATE EXTENSION pep440; SET client_encoding = 'UTF8'")
+    assert other.value("SELECT ' v1.0+A '::pep440") == "1.0+a"
+    for text in ("1.0+é", "é"):
+        try:
+            other.rows(f"SELECT '{text}'::pep440")
+        except Refused as error:
+            assert error.code == "22P02" and text in str(error), error
+        else:
+            raise AssertionError(text)
+    other.close()
+    db.close()
+    return "LATIN1"
+
+
+def library():
+    found = ctypes.CDLL(f"{PREFIX}/lib/libpep440.so.0")
+    room, written = ctypes.create_string_buffer(100_000), ctypes.c_size_t()
+
+    def normal(call, text):
+        status = getattr(found, call)(text, ctypes.c_size_t(len(text)), room, ctypes.c_size_t(len(room)), ctypes.byref(written))
+        return room.raw[: written.value].decode() if status == 0 else None
+
+    return normal
+
+
+def changed(rng, text):
+    """The bytes with some changed, left out or put in."""
+    text = bytearray(text)
+    for _ in range(rng.randrange(1, 4)):
+        place = rng.randrange(len(text) + 1)
+        text[place : place + rng.randrange(2)] = rng.choice((b"", bytes([rng.randrange(256)]), rng.choice([b".", b"1", b"+", b"rc", b"!", b" ", b","])))
+    return bytes(text)
+
+
+def random_bytes(rng, valid):
+    kind = rng.randrange(4)
+    if kind == 0:
+        return rng.randbytes(rng.randrange(60))
+    text = b"\1" + valid.encode()
+    if kind == 1:
+        return text[: rng.randrange(len(text) + 1)]
+    return text if rng.randrange(5) == 0 else changed(rng, text)
+
+
+def test_receive(server):
+    """Random bytes in binary form: what the library takes as the text of a version is that version, all else an error."""
+    db, normal, rng, taken = server.connect(), library(), random.Random(440), 0
+    kinds = [("pep440", "pep440_normalize", lambda: version(rng)), ("pep440_specs", "pep440_normalize_list", lambda: f"{rng.choice(['>=', '==', '~=', '!=', '<'])}{version(rng)}" + rng.choice(["", ",!=1.5.*"]))]
+    for kind, call, make in kinds:
+        number = int(db.value(f"SELECT '{kind}'::regtype::oid"))
+        for _ in range(STRINGS):
+            given = random_bytes(rng, make())
+            wanted = normal(call, given[1:]) if given[:1] == b"\1" and b"\0" not in given else None
+            try:
+                ((found,),) = db.with_binary("SELECT $1", number, given)
+            except Refused as error:
+                assert error.code in ("22P02", "22P03", "22021", "08P01", "54000"), (given, error)
+                found = None
+            assert found == wanted, (given, found, wanted)
+            taken += found is not None
+    db.close()
+    assert server.is_sound() and taken > 1000, taken
+    return f"{STRINGS} byte strings for each type, {taken} taken, the others errors"
+
+
+def milliseconds(db, query):
+    return float(re.search(r"Execution Time: ([\d.]+)", "\n".join(line for (line,) in db.rows("EXPLAIN (ANALYZE, TIMING OFF) " + query)))[1])
+
+
+def least(db, turns, *queries):
+    """Of each query the least time, where they take turns."""
+    times = [[milliseconds(db, query) for query in queries] for _ in range(turns)]
+    return [min(column) for column in zip(*times)]
+
+
+def test_speed(server):
+    if SMALL:
+        return "left out"
+    db = server.connect()
+    db.rows("SET max_parallel_workers_per_gather = 0; SET work_mem = '1GB'")
+    newest = "SELECT version FROM releases ORDER BY version DESC LIMIT 10"
+    (by_index,) = least(db, 50, newest)
+    db.rows(NO_INDEX)
+    (without,) = least(db, 5, newest)
+    versions, texts = least(db, 7, "SELECT version FROM releases ORDER BY version", "SELECT written FROM releases ORDER BY written")
+    ratios = [f"ORDER BY with LIMIT {without / by_index:.0f} times faster by the index", f"a full sort takes {versions / texts:.2f} of that of the texts"]
+    matches = []
+    for specs in (">=1.0", ">=1.0,<2.0,!=1.5.*", "~=1.4.2"):
+        match, like = least(db, 7, f"SELECT count(*) FROM releases WHERE '{specs}' @> version", "SELECT count(*) FROM releases WHERE written LIKE '%a%'")
+        matches.append(match / like)
+        ratios.append(f"`{specs}` over all rows {matches[-1]:.2f} of a LIKE")
+    db.close()
+    assert without / by_index >= 1000 and versions <= texts and max(matches) <= 2, ratios
+    return "; ".join(ratios)
+
+
+# ---- refused memory, in servers of their own
+
+SMALL_TABLE = "CREATE TABLE kept (id int, version pep440); CREATE INDEX ON kept (version);"
+QUERIES = [
+    "SELECT ' 1!1.0.300-rc1.post2+Ubuntu-1 '::text::pep440",
+    "SELECT count(*) FROM kept WHERE '>=1.0,!=1.5.*,!=1!2.0+a' @> version",
+    "SELECT count(*) FROM kept WHERE version <@ '===1!2.300rc1.post1+ubuntu.7'::text::pep440_specs",
+    "SELECT pep440_release(v), pep440_pre(v), pep440_local(v), pep440_public(v), pep440_base(v), v::text FROM (SELECT '1!1.2.3rc4.post5+u'::text::pep440 AS v) AS one",
+    "SELECT count(*), count(high), bool_and(high IS NULL OR low < high) FROM pep440_cover('!=1.5,!=1.7.*,!=2.0+a')",
+    "SELECT string_agg(version::text, ' ' ORDER BY version) FROM kept",
+    "UPDATE kept SET version = (version::text || '.dev1')::pep440 WHERE version <@ '>=1,!=1.5+a' AND version::text !~ 'dev|[+]' RETURNING version",
+]
+
+
+def outcome(db, query):
+    """The rows, or None where memory was refused."""
+    try:
+        return db.rows(query)
+    except Refused as error:
+        assert error.code == OUT_OF_MEMORY, error
+        return None
+
+
+def refuse_each(server, query, own):
+    """Each request of the query refused in a backend of its own, the first 400: it gives its rows or says that memory is out, and no row changes."""
+    counter = server.connect()
+    counter.rows("BEGIN")
+    counter.rows(f"SELECT refuse(0, {own})")
+    wanted = counter.rows(query)
+    requests = int(counter.value("SELECT requests()"))
+    counter.rows("ROLLBACK")
+    kept, refused = counter.rows("SELECT id, version FROM kept ORDER BY id"), 0
+    for number in range(1, min(requests, 400) + 1):
+        db = server.connect()
+        db.rows("BEGIN")
+        db.rows(f"SELECT refuse({number}, {own})")
+        found = outcome(db, query)
+        assert found in (None, wanted), (query, number, found)
+        refused += found is None
+        db.rows("ROLLBACK")
+        db.rows("SELECT requests()")
+        db.rows("BEGIN")
+        assert db.rows(query) == wanted, (query, number)
+        db.close()
+    assert counter.rows("SELECT id, version FROM kept ORDER BY id") == kept
+    counter.close()
+    return refused
+
+
+def test_refused(unused):
+    """A preloaded allocator refuses request N of a backend."""
+    server, refused = Server("refusing"), {}
+    try:
+        server.start(environment={"LD_PRELOAD": str(FOLDER / "refuse.so")})
+        db = server.connect()
+        db.rows("CREATE EXTENSION pep440;" + SMALL_TABLE)
+        db.rows(f"CREATE FUNCTION refuse(bigint, boolean) RETURNS void AS '{FOLDER}/refuse.so' LANGUAGE C STRICT")
+        db.rows(f"CREATE FUNCTION requests() RETURNS bigint AS '{FOLDER}/refuse.so' LANGUAGE C STRICT")
+        rng = random.Random(5)
+        db.rows("INSERT INTO kept VALUES " + ",".join(f"({row}, '{version(rng)}')" for row in range(40)))
+        db.rows("INSERT INTO kept VALUES (40, '1!2.300rc1.post1+ubuntu.7'); ANALYZE kept")
+        db.close()
+        for own in ("true", "false"):
+            refused[own] = sum(refuse_each(server, query, own) for query in QUERIES)
+        assert server.is_sound() and min(refused.values()) > 50, refused
+    finally:
+        server.stop()
+    return f"{refused['true']} requests of the library and {refused['false']} of a backend refused: errors, and no row changed"
+
+
+def test_limited(unused):
+    """A server that may have little memory."""
+    server = Server("limited")
+    try:
+        server.start(limit=600_000_000)
+        db = server.connect()
+        db.rows("CREATE EXTENSION pep440;" + SMALL_TABLE)
+        db.rows("INSERT INTO kept SELECT n, ('1!' || n || '.300rc1+ubuntu.' || n % 7)::pep440 FROM generate_series(1, 3000) AS n")
+        kept = db.rows("SELECT md5(string_agg(version::text, ' ' ORDER BY id)) FROM kept")
+        refused = 0
+        big = "(SELECT count(*) FROM (SELECT array_agg(a.version) AS all_of FROM kept a, generate_series(1, %d)) AS one WHERE all_of IS NOT NULL)"
+        for times in (1, 300, 1000, 4000):
+            query = f"UPDATE kept SET version = (version::text || '.' || {big % times})::pep440 WHERE '>=1!0' @> version"
+            db.rows("BEGIN")
+            refused += outcome(db, query) is None
+            db.rows("ROLLBACK")
+            assert db.rows("SELECT md5(string_agg(version::text, ' ' ORDER BY id)) FROM kept") == kept
+        db.close()
+        assert server.is_sound() and 1 <= refused <= 3, refused
+    finally:
+        server.stop()
+    return f"{refused} of 4 queries out of memory, and no row changed"
+
+
+def main():
+    failed = passed = 0
+    server = Server("server")
+    try:
+        server.start()
+        fill(server)
+        for name, test in [(name, test) for name, test in globals().items() if name.startswith("test_")]:
+            try:
+                print(f"postgresql: {name.removeprefix('test_')}: {test(server)}", flush=True)
+                passed += 1
+            except Exception as error:  # pylint: disable=broad-except
+                print(f"postgresql: {name.removeprefix('test_')}: FAILED: {type(error).__name__}: {error}", flush=True)
+                failed += 1
+        server.is_sound()
+    finally:
+        server.stop()
+    print(f"{passed} passed, {failed} failed")
+    sys.exit(bool(failed))
+
+
+main()

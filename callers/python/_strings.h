@@ -1,0 +1,197 @@
+/* Strings to the library and its results back: bytes of a str, compiled forms, exceptions of a status. */
+
+static PyObject *InvalidVersion, *InvalidSpecifier;
+static PyTypeObject *HeldType, *HeldSpecifierType, *HeldSetType;
+
+/* A version: its string as it was given, its compiled form, and what was asked for before: its sort key, its parts, and its prints
+   (normalized, public, base, local). `text` is NULL until `__init__` has read a string. */
+typedef struct {
+    PyObject_HEAD
+    PyObject *text;
+    PyObject *key;
+    PyObject *parts;
+    PyObject *prints;
+    uint64_t word;     /* of a packed version: it stands as the version does */
+    uint8_t *compiled; /* `few`, or a block of its own */
+    size_t length;
+    uint8_t few[16];
+    char is_packed;
+} Held;
+
+/* ---- texts in, answers out */
+
+/* What stands for a str with a lone surrogate, which has no UTF-8: no version and no list has this character. */
+static const uint8_t NO_TEXT[] = "\xEF\xBF\xBD";
+
+static PyObject *str_of(PyObject *given)
+{
+    return PyObject_TypeCheck(given, HeldType) ? ((Held *)given)->text : given;
+}
+
+/* Whether `__init__` has read a string; else an exception is set. A subclass may ask before it has called it. */
+static int is_initialised(const Held *self)
+{
+    if (!self->text)
+        PyErr_Format(PyExc_AttributeError, "%R was made without Version.__init__", Py_TYPE((PyObject *)self));
+    return self->text != NULL;
+}
+
+/* The bytes of a str, which live as long as it does. */
+static int view_str(PyObject *given, pep440_string *text)
+{
+    Py_ssize_t length = 0;
+    const char *bytes = PyUnicode_AsUTF8AndSize(given, &length);
+    if (!bytes) {
+        if (!PyErr_ExceptionMatches(PyExc_UnicodeEncodeError))
+            return -1;
+        PyErr_Clear();
+        bytes = (const char *)NO_TEXT;
+        length = sizeof NO_TEXT - 1;
+    }
+    text->bytes = (const uint8_t *)bytes;
+    text->length = (size_t)length;
+    return 0;
+}
+
+/* The same of a str or of a version's text. */
+static int view(PyObject *given, pep440_string *text)
+{
+    if (PyUnicode_Check(given))
+        return view_str(given, text);
+    if (PyObject_TypeCheck(given, HeldType))
+        return is_initialised((Held *)given) ? view_str(((Held *)given)->text, text) : -1;
+    PyErr_Format(PyExc_TypeError, "expected a str or a Version, not %R", Py_TYPE(given));
+    return -1;
+}
+
+typedef uint8_t (*Writer)(const uint8_t *, size_t, uint8_t *, size_t, size_t *);
+typedef PyObject *(*Maker)(const char *, Py_ssize_t);
+
+/* What the call writes, made into a bytes or a str. NULL where the status is not PEP440_OK, or with an error set. */
+static PyObject *written_by(Writer call, pep440_string text, Maker make, uint8_t *status)
+{
+    uint8_t few[256], *more;
+    size_t written = 0;
+    PyObject *made = NULL;
+    *status = call(text.bytes, text.length, few, sizeof few, &written);
+    if (*status == PEP440_OK)
+        return make((const char *)few, (Py_ssize_t)written);
+    if (*status != PEP440_NO_ROOM)
+        return NULL;
+    more = PyMem_Malloc(written);
+    *status = more ? call(text.bytes, text.length, more, written, &written) : PEP440_OUT_OF_MEMORY;
+    if (*status == PEP440_OK)
+        made = make((const char *)more, (Py_ssize_t)written);
+    PyMem_Free(more);
+    return made;
+}
+
+/* A str of lines without the end of the last one. */
+static PyObject *lines_of(const char *bytes, Py_ssize_t length)
+{
+    return PyUnicode_FromStringAndSize(bytes, length > 0 && bytes[length - 1] == '\n' ? length - 1 : length);
+}
+
+static const char INVALID_VERSION[] = "Invalid version: %R: %U", INVALID_SPECIFIER[] = "Invalid specifier: %R\n%U";
+
+/* Raises the exception, which quotes one string and says why the other one, that was read, is invalid. */
+static PyObject *raise_invalid(PyObject *error, const char *form, PyObject *quoted, PyObject *given, Writer why)
+{
+    pep440_string text;
+    uint8_t status = PEP440_OK;
+    PyObject *reason;
+    if (view(given, &text) < 0)
+        return NULL;
+    reason = text.bytes == NO_TEXT ? PyUnicode_FromString("it has a lone surrogate")
+                                   : written_by(why, text, lines_of, &status);
+    if (reason)
+        PyErr_Format(error, form, str_of(quoted), reason);
+    else if (!PyErr_Occurred())
+        PyErr_NoMemory();
+    Py_XDECREF(reason);
+    return NULL;
+}
+
+/* Raises the exception of the status, unless one is set already; the version or the list that no such status is about may be NULL. */
+static PyObject *raise_by(uint8_t status, PyObject *version, PyObject *list)
+{
+    if (PyErr_Occurred())
+        return NULL;
+    if (status == PEP440_INVALID_VERSION && version)
+        return raise_invalid(InvalidVersion, INVALID_VERSION, version, version, pep440_version_error);
+    if (status == PEP440_INVALID_LIST && list)
+        return raise_invalid(InvalidSpecifier, INVALID_SPECIFIER, list, list, pep440_list_error);
+    if (status == PEP440_NUMBER_AT_MAX && list)
+        return PyErr_Format(PyExc_OverflowError, "no ranges of %R: a bound lies above 18446744073709551615", str_of(list));
+    if (status == PEP440_OUT_OF_MEMORY)
+        return PyErr_NoMemory();
+    return PyErr_Format(PyExc_SystemError, "pep440: no such status here: %d", (int)status);
+}
+
+/* ---- compiled forms */
+
+/* The first bytes of the forms (docs/PROMISES.md, "Compiled versions"): a packed version has ten bytes, the last eight of which are its word,
+   greatest byte first; a list has nine bytes, the last eight of which are the count of its members, and for each one its operator and its version. */
+enum { PACKED = 1, LIST = 3, LIST_HEAD = 9, MEMBER_HEAD = 10 };
+
+static const uint8_t EMPTY_LIST[LIST_HEAD] = {LIST}, ONE_MEMBER[LIST_HEAD] = {LIST, [LIST_HEAD - 1] = 1};
+
+static uint64_t word_of(const uint8_t *packed)
+{
+    uint64_t word = 0;
+    for (int place = 2; place < 10; place++)
+        word = word << 8 | packed[place];
+    return word;
+}
+
+/* Bytes that the library compiled, in `few` where these are enough. */
+typedef struct {
+    uint8_t *bytes;
+    size_t length;
+    uint8_t few[1024];
+} Compiled;
+
+static void drop_compiled(Compiled *compiled)
+{
+    if (compiled->bytes != compiled->few)
+        free(compiled->bytes);
+}
+
+/* Compiles a string in one call, and leaves room in front: by the header a version or a specifier takes at most 40 bytes and 10 for each byte of
+   its string. To be dropped where the status is PEP440_OK. */
+static uint8_t compile(Writer call, pep440_string text, size_t front, Compiled *compiled)
+{
+    size_t room = sizeof compiled->few, most = (SIZE_MAX - 40 - MEMBER_HEAD) / 10;
+    uint8_t status;
+    compiled->bytes = compiled->few;
+    if (text.length > (room - 40 - MEMBER_HEAD) / 10) {
+        room = 40 + MEMBER_HEAD + 10 * text.length;
+        compiled->bytes = text.length <= most ? malloc(room) : NULL;
+        if (!compiled->bytes)
+            return PEP440_OUT_OF_MEMORY;
+    }
+    status = call(text.bytes, text.length, compiled->bytes + front, room - front, &compiled->length);
+    compiled->length += front;
+    if (status != PEP440_OK)
+        drop_compiled(compiled);
+    return status;
+}
+
+/* A copy of the bytes: in `few`, or where they are more than `room`, in a block of its own. NULL where there is no memory. */
+static uint8_t *keep(const uint8_t *bytes, size_t length, uint8_t *few, size_t room)
+{
+    uint8_t *kept = length <= room ? few : malloc(length);
+    if (kept)
+        memcpy(kept, bytes, length);
+    return kept;
+}
+
+/* What the call writes of compiled bytes, made into a bytes or a str. */
+static PyObject *made_of(Writer call, const uint8_t *compiled, size_t length, Maker make)
+{
+    pep440_string bytes = {compiled, length};
+    uint8_t status;
+    PyObject *made = written_by(call, bytes, make, &status);
+    return made ? made : raise_by(status, NULL, NULL);
+}
+

@@ -1,0 +1,250 @@
+/* The type of versions. */
+
+/* Reads the string, also where one was read before. The old one stays where this one is no version. */
+static int held_init(Held *self, PyObject *args, PyObject *named)
+{
+    static char *names[] = {"version", NULL};
+    PyObject *given = NULL, *text = NULL, *old[4];
+    pep440_string string;
+    Compiled compiled;
+    uint8_t few[sizeof self->few], *kept, *old_block, status;
+    if (!named && PyTuple_Size(args) == 1)
+        given = PyTuple_GetItem(args, 0);
+    else if (!PyArg_ParseTupleAndKeywords(args, named, "O:Version", names, &given))
+        return -1;
+    if (!PyUnicode_Check(given)) {
+        PyErr_Format(PyExc_TypeError, "expected a str, not %R", Py_TYPE(given));
+        return -1;
+    }
+    if (view_str(given, &string) < 0)
+        return -1;
+    status = compile(pep440_compile, string, 0, &compiled);
+    if (status != PEP440_OK) {
+        raise_by(status, given, NULL);
+        return -1;
+    }
+    text = PyUnicode_FromObject(given); /* of a subclass of str the plain str */
+    kept = text ? keep(compiled.bytes, compiled.length, few, sizeof few) : NULL;
+    drop_compiled(&compiled);
+    if (!kept) {
+        if (text)
+            PyErr_NoMemory();
+        Py_XDECREF(text);
+        return -1;
+    }
+    old[0] = self->text, old[1] = self->key, old[2] = self->parts, old[3] = self->prints;
+    old_block = self->compiled == self->few ? NULL : self->compiled;
+    if (kept == few)
+        memcpy(self->few, few, compiled.length);
+    self->compiled = kept == few ? self->few : kept;
+    self->length = compiled.length;
+    self->is_packed = self->compiled[0] == PACKED;
+    self->word = self->is_packed ? word_of(self->compiled) : 0;
+    self->text = text, self->key = NULL, self->parts = NULL, self->prints = NULL;
+    free(old_block);
+    for (int each = 0; each < 4; each++)
+        Py_XDECREF(old[each]);
+    return 0;
+}
+
+static void held_free(Held *self)
+{
+    PyTypeObject *type = Py_TYPE(self);
+    freefunc free_it = (freefunc)PyType_GetSlot(type, Py_tp_free);
+    Py_XDECREF(self->text);
+    Py_XDECREF(self->key);
+    Py_XDECREF(self->parts);
+    Py_XDECREF(self->prints);
+    if (self->compiled != self->few)
+        free(self->compiled);
+    free_it(self);
+    Py_DECREF(type);
+}
+
+/* Keeps what was made where nothing is kept yet, and gives what is kept, borrowed. */
+static PyObject *kept_in(PyObject **where, PyObject *made)
+{
+    PyObject *old = *where;
+    if (made) {
+        *where = made;
+        Py_XDECREF(old);
+    }
+    return made;
+}
+
+static PyObject *key_of(Held *self)
+{
+    if (self->key || !is_initialised(self))
+        return self->key;
+    return kept_in(&self->key, made_of(pep440_sort_key_compiled, self->compiled, self->length, PyBytes_FromStringAndSize));
+}
+
+static PyObject *held_compare(PyObject *left, PyObject *right, int operation)
+{
+    Held *one = (Held *)left, *other = (Held *)right; /* the left one is a version, since its type has this call */
+    if (Py_TYPE(right) != Py_TYPE(left) && !PyObject_TypeCheck(right, HeldType))
+        Py_RETURN_NOTIMPLEMENTED;
+    if (!is_initialised(one) || !is_initialised(other))
+        return NULL;
+    if (one->is_packed && other->is_packed)
+        Py_RETURN_RICHCOMPARE(one->word, other->word, operation);
+    if (!key_of(one) || !key_of(other))
+        return NULL;
+    return PyObject_RichCompare(one->key, other->key, operation);
+}
+
+static Py_hash_t held_hash(Held *self)
+{
+    PyObject *key = key_of(self);
+    return key ? PyObject_Hash(key) : -1;
+}
+
+/* The part of a normalized form up to the end, or None where there is none; the form itself where it is the whole of it. */
+static PyObject *piece(PyObject *normal, const char *start, size_t length, size_t whole)
+{
+    return length == whole ? Py_NewRef(normal) : PyUnicode_FromStringAndSize(start, (Py_ssize_t)length);
+}
+
+/* (normalized, public, base, local): before the first `+` stands the public one, behind it the local part; epoch and release end before the
+   first letter, and before the point of a `.post` or a `.dev`. */
+static PyObject *prints_of(PyObject *normal)
+{
+    Py_ssize_t size = 0;
+    const char *bytes = PyUnicode_AsUTF8AndSize(normal, &size), *plus;
+    size_t length = (size_t)size, public_length, base = 0;
+    if (!bytes)
+        return NULL;
+    plus = memchr(bytes, '+', length);
+    public_length = plus ? (size_t)(plus - bytes) : length;
+    while (base < public_length && (bytes[base] == '.' || bytes[base] == '!' || (bytes[base] >= '0' && bytes[base] <= '9')))
+        base++;
+    while (base && bytes[base - 1] == '.')
+        base--;
+    return Py_BuildValue("ONNN", normal, piece(normal, bytes, public_length, length), piece(normal, bytes, base, length),
+                         plus ? PyUnicode_FromStringAndSize(plus + 1, (Py_ssize_t)(length - public_length - 1)) : Py_NewRef(Py_None));
+}
+
+static PyObject *read_prints(Held *self)
+{
+    PyObject *normal = made_of(pep440_normalize_compiled, self->compiled, self->length, PyUnicode_FromStringAndSize), *prints = NULL;
+    if (normal) /* the string that was given, where it is the same */
+        prints = prints_of(PyUnicode_Compare(normal, self->text) == 0 ? self->text : normal);
+    Py_XDECREF(normal);
+    return prints;
+}
+
+enum { NORMAL, PUBLIC, BASE, LOCAL };
+
+static PyObject *get_print(Held *self, void *place)
+{
+    if (!self->prints && !(is_initialised(self) && kept_in(&self->prints, read_prints(self))))
+        return NULL;
+    return Py_XNewRef(PyTuple_GetItem(self->prints, (Py_ssize_t)(intptr_t)place));
+}
+
+static PyObject *held_str(Held *self) { return get_print(self, (void *)NORMAL); }
+
+static PyObject *number_or_none(uint8_t is_there, uint64_t number)
+{
+    return is_there ? PyLong_FromUnsignedLongLong(number) : Py_NewRef(Py_None);
+}
+
+/* (epoch, release, pre, post, dev) */
+static PyObject *tuple_of(const pep440_parts *parts, const uint64_t *release)
+{
+    static const char *const KINDS[] = {NULL, "a", "b", "rc"};
+    Py_ssize_t count = (Py_ssize_t)parts->release_length;
+    PyObject *numbers = PyTuple_New(count), *pre;
+    for (Py_ssize_t place = 0; numbers && place < count; place++) {
+        PyObject *number = PyLong_FromUnsignedLongLong(release[place]);
+        if (!number || PyTuple_SetItem(numbers, place, number) < 0)
+            Py_CLEAR(numbers);
+    }
+    if (!numbers)
+        return NULL;
+    pre = parts->pre_kind == PEP440_NO_PRE ? Py_NewRef(Py_None) : Py_BuildValue("sK", KINDS[parts->pre_kind], (unsigned long long)parts->pre);
+    return Py_BuildValue("KNNNN", (unsigned long long)parts->epoch, numbers, pre, number_or_none(parts->has_post, parts->post),
+                         number_or_none(parts->has_dev, parts->dev));
+}
+
+static PyObject *read_parts(Held *self)
+{
+    pep440_parts parts;
+    uint64_t few[16], *more = NULL;
+    uint8_t status = pep440_parts_of_compiled(self->compiled, self->length, &parts, few, 16);
+    PyObject *made = NULL;
+    if (status == PEP440_NO_ROOM) {
+        more = PyMem_Calloc(parts.release_length, sizeof *more);
+        status = more ? pep440_parts_of_compiled(self->compiled, self->length, &parts, more, parts.release_length) : PEP440_OUT_OF_MEMORY;
+    }
+    if (status == PEP440_OK)
+        made = tuple_of(&parts, more ? more : few);
+    PyMem_Free(more);
+    return made ? made : raise_by(status, NULL, NULL);
+}
+
+enum { EPOCH, RELEASE, PRE, POST, DEV };
+
+/* A part, borrowed; NULL with an error set. */
+static PyObject *part_of(Held *self, Py_ssize_t place)
+{
+    if (!self->parts && !(is_initialised(self) && kept_in(&self->parts, read_parts(self))))
+        return NULL;
+    return PyTuple_GetItem(self->parts, place);
+}
+
+static PyObject *get_part(Held *self, void *place) { return Py_XNewRef(part_of(self, (Py_ssize_t)(intptr_t)place)); }
+
+static PyObject *get_parts(Held *self, void *unused) { return part_of(self, EPOCH) ? Py_NewRef(self->parts) : NULL; }
+
+static PyObject *get_has_part(Held *self, void *place)
+{
+    PyObject *part = part_of(self, (Py_ssize_t)(intptr_t)place);
+    return part ? PyBool_FromLong(part != Py_None) : NULL;
+}
+
+static PyObject *get_is_prerelease(Held *self, void *unused)
+{
+    PyObject *pre = part_of(self, PRE);
+    return pre ? PyBool_FromLong(pre != Py_None || part_of(self, DEV) != Py_None) : NULL;
+}
+
+static PyObject *get_number(Held *self, void *place)
+{
+    PyObject *release = part_of(self, RELEASE);
+    if (!release)
+        return NULL;
+    return (intptr_t)place < PyTuple_Size(release) ? Py_NewRef(PyTuple_GetItem(release, (Py_ssize_t)(intptr_t)place)) : PyLong_FromLong(0);
+}
+
+static PyObject *get_key(Held *self, void *unused) { return Py_XNewRef(key_of(self)); }
+
+static PyObject *get_text(Held *self, void *unused) { return is_initialised(self) ? Py_NewRef(self->text) : NULL; }
+
+static PyGetSetDef held_values[] = {
+    {"_text", (getter)get_text, NULL, "The string as it was given.", NULL},
+    {"_parts", (getter)get_parts, NULL, "(epoch, release, pre, post, dev)", NULL},
+    {"sort_key", (getter)get_key, NULL,
+     "Bytes that stand as the versions do: less, equal or greater. They may be stored, and compared by whatever compares bytes.", NULL},
+    {"epoch", (getter)get_part, NULL, "The epoch, 0 where there is none.", (void *)EPOCH},
+    {"release", (getter)get_part, NULL, "The numbers of the release, zeros at its end included.", (void *)RELEASE},
+    {"pre", (getter)get_part, NULL, "The kind of pre-release (`a`, `b` or `rc`) and its number, or None.", (void *)PRE},
+    {"post", (getter)get_part, NULL, "The number of the post-release, or None.", (void *)POST},
+    {"dev", (getter)get_part, NULL, "The number of the developmental release, or None.", (void *)DEV},
+    {"local", (getter)get_print, NULL, "The local part, or None.", (void *)LOCAL},
+    {"public", (getter)get_print, NULL, "The version without its local part, as a string.", (void *)PUBLIC},
+    {"base_version", (getter)get_print, NULL, "Epoch and release, as a string.", (void *)BASE},
+    {"is_prerelease", (getter)get_is_prerelease, NULL, "Whether it is a pre-release or a developmental release.", NULL},
+    {"is_postrelease", (getter)get_has_part, NULL, "Whether it is a post-release.", (void *)POST},
+    {"is_devrelease", (getter)get_has_part, NULL, "Whether it is a developmental release.", (void *)DEV},
+    {"major", (getter)get_number, NULL, "The first number of the release.", (void *)0},
+    {"minor", (getter)get_number, NULL, "The second number of the release, 0 where there is none.", (void *)1},
+    {"micro", (getter)get_number, NULL, "The third number of the release, 0 where there is none.", (void *)2},
+    {NULL, NULL, NULL, NULL, NULL}};
+
+static PyType_Slot held_slots[] = {{Py_tp_new, PyType_GenericNew}, {Py_tp_init, held_init},           {Py_tp_dealloc, held_free},
+                                   {Py_tp_hash, held_hash},        {Py_tp_richcompare, held_compare}, {Py_tp_str, held_str},
+                                   {Py_tp_getset, held_values},    {Py_tp_doc, "Held(version)\n--\n\nA version, compiled."}, {0, NULL}};
+
+static PyType_Spec held_spec = {"pep440_rattle._core.Held", sizeof(Held), 0, Py_TPFLAGS_DEFAULT | Py_TPFLAGS_BASETYPE, held_slots};
+

@@ -1,0 +1,98 @@
+//! The README's table names each public function, trait, field and variant of the ported crate, and the cases call each function that is offered.
+use std::collections::BTreeSet;
+use std::fs;
+
+const README: &str = include_str!("../../pep440_rattle/README.md");
+const CALLS: &str = concat!(include_str!("../src/views.rs"), include_str!("../src/main.rs"));
+
+/// A name of the ported crate, and the type that has it; none of a function or static of the crate itself.
+type Item = (String, String);
+
+fn words(text: &str) -> impl Iterator<Item = &str> {
+    text.split(|letter: char| !(letter.is_alphanumeric() || letter == '_')).filter(|word| !word.is_empty())
+}
+
+/// The first word after `before`, where the line begins with that.
+fn word_after<'a>(line: &'a str, before: &str) -> Option<&'a str> {
+    line.strip_prefix(before).and_then(|rest| words(rest).next())
+}
+
+/// The trait and the type of the first line of an impl, `From` with what it takes; the trait is empty where there is none.
+fn trait_and_type(line: &str) -> Option<Item> {
+    let rest = line.strip_prefix("impl")?.trim_end_matches(" {");
+    let rest = if rest.starts_with('<') { rest.split_once('>')?.1 } else { rest }.trim();
+    let Some((named, of)) = rest.split_once(" for ") else { return Some((String::new(), words(rest).next()?.to_owned())) };
+    let last = named.rsplit("::").next()?;
+    let named = if last.starts_with("From<") { last } else { words(last).next()? };
+    Some((named.to_owned(), if of.starts_with("Ranges") { of } else { words(of).next()? }.to_owned()))
+}
+
+/// What is public in a source of the ported crate.
+fn items(source: &str) -> Vec<Item> {
+    let (mut found, mut derived, mut open, mut is_enum) = (Vec::new(), Vec::new(), String::new(), false);
+    for line in source.lines() {
+        if let Some(rest) = line.strip_prefix("#[derive(") {
+            derived = words(rest).map(str::to_owned).collect();
+        } else if let Some(name) = word_after(line, "pub struct ").or(word_after(line, "pub enum ")) {
+            (open, is_enum) = (name.to_owned(), line.starts_with("pub enum "));
+            found.extend(derived.drain(..).map(|each| (open.clone(), each)));
+        } else if let Some((named, of)) = trait_and_type(line) {
+            (open, is_enum) = (of, false);
+            found.extend((!named.is_empty()).then(|| (open.clone(), named)));
+        } else if let Some(name) = word_after(line, "pub fn ").or(word_after(line, "pub static ")) {
+            found.push((String::new(), name.to_owned()));
+        } else if let Some(name) = word_after(line, "    pub fn ").or(word_after(line, "    pub ")) {
+            found.extend((!line.contains("pub(crate)")).then(|| (open.clone(), name.to_owned())));
+        } else if is_enum && line.starts_with("    ") && line[4..].starts_with(char::is_uppercase) {
+            found.extend(words(line).next().map(|name| (open.clone(), name.to_owned())));
+        } else if line == "}" {
+            (open, is_enum) = (String::new(), false);
+        } else if !line.starts_with('#') && !line.starts_with(' ') && !line.starts_with(')') {
+            derived.clear();
+        }
+    }
+    found
+}
+
+/// The public names: of the crate, and those of the private types left out.
+fn surface() -> BTreeSet<Item> {
+    let source = |name: &str| fs::read_to_string(format!("{}/{name}.rs", env!("PEER_SOURCES"))).expect("a source");
+    let root = source("lib");
+    let exported: BTreeSet<&str> =
+        root.split("pub use").skip(1).flat_map(|text| words(text.split(';').next().unwrap())).collect();
+    let is_public = |(of, name): &Item| {
+        let taken = name.strip_prefix("From<").map(|rest| rest.trim_end_matches('>'));
+        (of.is_empty() && exported.contains(name.as_str()) || of.starts_with("Ranges") || exported.contains(of.as_str()))
+            && taken.is_none_or(|taken| exported.contains(taken))
+    };
+    ["version", "version_specifier", "version_ranges"].iter().flat_map(|name| items(&source(name))).filter(is_public).collect()
+}
+
+/// The names in the first cell of each row, and the second cell.
+fn rows() -> Vec<(BTreeSet<&'static str>, &'static str)> {
+    let table = README.split("\n## Beside").nth(1).expect("a section with the table");
+    let cells = table.lines().filter_map(|line| line.strip_prefix("| `")?.strip_suffix(" |")?.split_once(" | "));
+    let names = |cell: &'static str| cell.split('`').step_by(2).flat_map(|name| name.split("::")).collect();
+    cells.map(|(first, second)| (names(first), second)).collect()
+}
+
+#[test]
+fn table_names_each_item() {
+    let (rows, surface) = (rows(), surface());
+    let has = |names: &BTreeSet<&str>, (of, name): &Item| {
+        let stronger = ["PartialEq", "PartialOrd"].contains(&name.as_str()).then(|| &name[7..]);
+        (of.is_empty() || names.contains(of.as_str()))
+            && (names.contains(name.as_str()) || stronger.is_some_and(|it| names.contains(it)))
+    };
+    let missing: Vec<&Item> = surface.iter().filter(|item| !rows.iter().any(|(names, _)| has(names, item))).collect();
+    assert!(missing.is_empty(), "in no row: {missing:?}");
+    let is_called = |(of, name): &Item| {
+        let is_offered =
+            rows.iter().any(|(names, said)| has(names, &(of.clone(), name.clone())) && !said.starts_with("not offered"));
+        !is_offered || !name.starts_with(char::is_lowercase) || words(CALLS).any(|word| word == name)
+    };
+    let uncalled: Vec<&Item> = surface.iter().filter(|item| !is_called(item)).collect();
+    assert!(uncalled.is_empty(), "in no case: {uncalled:?}");
+    println!("{} names of the ported crate in {} rows", surface.len(), rows.len());
+    assert!(surface.len() > 100, "the sources are not read: {surface:?}");
+}

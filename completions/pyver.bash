@@ -1,0 +1,25 @@
+# Completions of pyver for bash: `. pyver.bash`, or the file as `pyver` among bash-completion's.
+_pyver() {
+    local word=${COMP_WORDS[COMP_CWORD]} before=${COMP_WORDS[COMP_CWORD - 1]} words=
+    case $COMP_CWORD,${COMP_WORDS[1]} in
+        1,*) words='compare match show --help --version' ;;
+        *,compare)
+            case $COMP_CWORD in
+                2) words='--help' ;;
+                3) words='lt le eq ne ge gt' ;;
+            esac
+            ;;
+        *,match) words='--help -q --quiet --pre --no-pre' ;;
+        *,show)
+            case $before in
+                --part) words='epoch release major minor micro pre post dev local public base' ;;
+                *) words='--help --part --json' ;;
+            esac
+            ;;
+    esac
+    COMPREPLY=()
+    while IFS= read -r word; do
+        COMPREPLY+=("$word")
+    done < <(compgen -W "$words" -- "$word")
+}
+complete -F _pyver pyver

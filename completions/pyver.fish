@@ -1,0 +1,16 @@
+# Completions of pyver for fish: this file among fish's completions.
+complete -c pyver -f
+complete -c pyver -l help -d 'print the help'
+complete -c pyver -n __fish_use_subcommand -l version -d 'print the version of the program'
+
+complete -c pyver -n __fish_use_subcommand -a compare -d 'whether A stands so to B, by the exit status'
+complete -c pyver -n '__fish_seen_subcommand_from compare; and test (count (commandline -opc)) -eq 3' -a 'lt le eq ne ge gt'
+
+complete -c pyver -n __fish_use_subcommand -a match -d 'which of the versions the specifiers allow'
+complete -c pyver -n '__fish_seen_subcommand_from match' -s q -l quiet -d 'print nothing'
+complete -c pyver -n '__fish_seen_subcommand_from match' -l pre -d 'allow pre-releases and dev releases too'
+complete -c pyver -n '__fish_seen_subcommand_from match' -l no-pre -d 'allow no pre-releases and no dev releases'
+
+complete -c pyver -n __fish_use_subcommand -a show -d 'versions in normal form, or their parts'
+complete -c pyver -n '__fish_seen_subcommand_from show' -l part -x -a 'epoch release major minor micro pre post dev local public base' -d 'print a part alone'
+complete -c pyver -n '__fish_seen_subcommand_from show' -l json -d 'print all parts as a JSON object'
