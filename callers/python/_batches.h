@@ -5,7 +5,7 @@ typedef struct {
     PyObject *held; /* the strings of versions */
     size_t count;
     pep440_string *texts;
-    uint8_t *copies; /* the compiled forms of versions, where `by_compiled` */
+    uint8_t *copies; /* the compiled forms of the items, where the texts are these */
 } Batch;
 
 static void drop(Batch *batch)
@@ -25,52 +25,60 @@ static int copy_compiled(Batch *batch)
 {
     size_t length = 1;
     uint8_t *end;
-    for (size_t place = 0; place < batch->count; place++)
-        length += ((Held *)item(batch, place))->length;
-    batch->copies = end = PyMem_Malloc(length);
-    if (!end) {
-        PyErr_NoMemory();
-        return -1;
-    }
     for (size_t place = 0; place < batch->count; place++) {
+        if (!is_initialised((Held *)item(batch, place)))
+            return -1;
+        length += ((Held *)item(batch, place))->length;
+    }
+    batch->copies = end = PyMem_Malloc(length);
+    for (size_t place = 0; end && place < batch->count; place++) {
         const Held *version = (Held *)item(batch, place);
         memcpy(end, version->compiled, version->length);
         batch->texts[place].bytes = end;
         batch->texts[place].length = version->length;
         end += version->length;
     }
-    return 0;
+    if (!end)
+        PyErr_NoMemory();
+    return end ? 0 : -1;
 }
 
-/* Takes the string of each item. */
-static int gather(PyObject *given, Batch *batch)
+/* Lets the texts be those of the items, of which the versions' are held. */
+static int hold_texts(Batch *batch)
 {
+    batch->held = PyList_New(0);
+    for (size_t place = 0; batch->held && place < batch->count; place++)
+        if (view(item(batch, place), &batch->texts[place]) < 0 ||
+            (is_version(batch, place) && PyList_Append(batch->held, str_of(item(batch, place))) < 0))
+            return -1;
+    return batch->held ? 0 : -1;
+}
+
+/* Takes the compiled form of each item where all are versions and the call is for these, else the string of each. */
+static int gather(PyObject *given, int may_be_compiled, Batch *batch)
+{
+    size_t versions = 0;
     memset(batch, 0, sizeof *batch);
     batch->items = PySequence_Tuple(given);
-    batch->held = batch->items ? PyList_New(0) : NULL;
-    if (!batch->held) {
-        drop(batch);
+    if (!batch->items)
         return -1;
-    }
     batch->count = (size_t)PyTuple_Size(batch->items);
+    while (may_be_compiled && versions < batch->count && is_version(batch, versions))
+        versions++;
     batch->texts = PyMem_Calloc(batch->count + 1, sizeof *batch->texts); /* never a null pointer, also of no text */
     if (!batch->texts)
         PyErr_NoMemory();
-    for (size_t place = 0; batch->texts && place < batch->count; place++)
-        if (view(item(batch, place), &batch->texts[place]) < 0 ||
-            (is_version(batch, place) && PyList_Append(batch->held, str_of(item(batch, place))) < 0))
-            break;
-    if (!PyErr_Occurred())
+    else if ((may_be_compiled && versions == batch->count ? copy_compiled(batch) : hold_texts(batch)) == 0)
         return 0;
     drop(batch);
     return -1;
 }
 
 /* The marks of pep440_filter; of what is contained, a pre-release is left out unless it is asked for. */
-static uint8_t mark(const Batch *batch, const pep440_string *list, int is_compiled, int prereleases, uint8_t *marks)
+static uint8_t mark(const Batch *batch, const pep440_string *list, int prereleases, uint8_t *marks)
 {
-    uint8_t status = is_compiled ? pep440_filter_compiled(list->bytes, list->length, batch->texts, batch->count, marks, batch->count)
-                                 : pep440_filter(list->bytes, list->length, batch->texts, batch->count, marks, batch->count);
+    uint8_t status = batch->copies ? pep440_filter_compiled(list->bytes, list->length, batch->texts, batch->count, marks, batch->count)
+                                   : pep440_filter(list->bytes, list->length, batch->texts, batch->count, marks, batch->count);
     for (size_t place = 0; status == PEP440_OK && !prereleases && place < batch->count; place++)
         if (marks[place] == PEP440_PRERELEASE_MATCH)
             marks[place] = PEP440_NO_MATCH;
@@ -133,17 +141,15 @@ static PyObject *keep_contained(PyObject *self, PyObject *const *args, Py_ssize_
     Batch batch;
     pep440_string list;
     uint8_t *marks = NULL, *copy = NULL, status = PEP440_OUT_OF_MEMORY;
-    int prereleases, skip, by_compiled = 1;
+    int prereleases, skip;
     PyObject *kept;
     if (!has_count("_kept", count, 3) || !is_compiled((Specifiers *)self) || (prereleases = PyObject_IsTrue(args[1])) < 0 ||
-        (skip = PyObject_IsTrue(args[2])) < 0 || gather(args[0], &batch) < 0)
+        (skip = PyObject_IsTrue(args[2])) < 0 || gather(args[0], 1, &batch) < 0)
         return NULL;
-    for (size_t place = 0; by_compiled && place < batch.count; place++)
-        by_compiled = is_version(&batch, place);
-    if ((!by_compiled || copy_compiled(&batch) == 0) && (copy = copy_list((Specifiers *)self, by_compiled, &list)) &&
-        (marks = PyMem_Calloc(batch.count + 1, 1))) {
+    copy = copy_list((Specifiers *)self, batch.copies != NULL, &list);
+    if (copy && (marks = PyMem_Calloc(batch.count + 1, 1))) {
         Py_BEGIN_ALLOW_THREADS
-        status = mark(&batch, &list, by_compiled, prereleases, marks);
+        status = mark(&batch, &list, prereleases, marks);
         Py_END_ALLOW_THREADS
     }
     kept = status == PEP440_OK ? marked(&batch, marks, skip) : raise_by(status, NULL, NULL);
@@ -168,16 +174,17 @@ static PyObject *sort(PyObject *module, PyObject *given)
     size_t *places, at = 0;
     uint8_t status = PEP440_OUT_OF_MEMORY;
     PyObject *sorted;
-    if (gather(given, &batch) < 0)
+    if (gather(given, 1, &batch) < 0)
         return NULL;
     places = PyMem_Calloc(batch.count + 1, sizeof *places);
     if (places) {
         Py_BEGIN_ALLOW_THREADS
-        status = pep440_sort(batch.texts, batch.count, places, batch.count, &at);
+        status = batch.copies ? pep440_sort_compiled(batch.texts, batch.count, places, batch.count, &at)
+                              : pep440_sort(batch.texts, batch.count, places, batch.count, &at);
         Py_END_ALLOW_THREADS
     }
     sorted = status == PEP440_OK ? in_places(&batch, places)
-                                       : raise_by(status, status == PEP440_INVALID_VERSION ? item(&batch, at) : NULL, NULL);
+                                 : raise_by(status, status == PEP440_INVALID_VERSION ? item(&batch, at) : NULL, NULL);
     PyMem_Free(places);
     drop(&batch);
     return sorted;
@@ -201,7 +208,7 @@ static PyObject *sort_keys(PyObject *module, PyObject *given)
     uint8_t *keys = NULL, status = PEP440_NO_ROOM;
     size_t *ends, at = 0, room = 0, written = 0;
     PyObject *list;
-    if (gather(given, &batch) < 0)
+    if (gather(given, 0, &batch) < 0)
         return NULL;
     ends = PyMem_Calloc(batch.count + 1, sizeof *ends);
     written = 24 * batch.count + 1; /* most keys are shorter; the first call tells where they are not */
@@ -217,7 +224,7 @@ static PyObject *sort_keys(PyObject *module, PyObject *given)
         }
     }
     list = status == PEP440_OK ? in_pieces(keys, ends, batch.count)
-                                     : raise_by(status, status == PEP440_INVALID_VERSION ? item(&batch, at) : NULL, NULL);
+                               : raise_by(status, status == PEP440_INVALID_VERSION ? item(&batch, at) : NULL, NULL);
     PyMem_Free(keys);
     PyMem_Free(ends);
     drop(&batch);

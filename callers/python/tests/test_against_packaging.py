@@ -86,6 +86,10 @@ class AgainstPackaging(unittest.TestCase):
             wanted = sorted(texts, key=self.their_version.Version)
             self.assertEqual(sorted(texts, key=our_version.Version), wanted)
             self.assertEqual(sort_texts(texts), wanted)
+            held = [our_version.Version(it) for it in texts]
+            self.assertEqual([it._text for it in sort_texts(held)], wanted)
+            mixed = [it if place % 2 else our_version.Version(it) for place, it in enumerate(texts)]
+            self.assertEqual([getattr(it, "_text", it) for it in sort_texts(mixed)], wanted)
             keys = sort_keys(texts)
             self.assertEqual(keys, [our_version.Version(it).sort_key for it in texts])
             self.assertEqual([it for _, _, it in sorted(zip(keys, range(len(keys)), texts))], wanted)
@@ -206,9 +210,11 @@ class AgainstPackaging(unittest.TestCase):
         self.cases["candidates"] += 1
 
     def ask_all(self, ours, theirs, texts):
+        held = [our_version.Version(it) for it in texts]
         for prereleases in (None, True, False):
             wanted = list(theirs.filter(texts, prereleases))
             self.assertEqual(list(ours.filter(iter(texts), prereleases)), wanted, (texts, prereleases))
+            self.assertEqual([it._text for it in ours.filter(held, prereleases)], wanted, (texts, prereleases))
             for member in theirs:
                 mine = our_specifiers.Specifier(str(member))
                 again = self.their_specifiers.Specifier(str(member))

@@ -66,10 +66,21 @@ class Departures(unittest.TestCase):
         mine.note = "mine"
         self.assertEqual((copy.deepcopy(mine).note, mine), ("mine", version))
 
+    def test_properties(self):
+        class Later(Version):
+            pass
+
+        self.assertFalse(hasattr(Version.release, "fget"))
+        Later.release = property(lambda self: (7,))
+        self.assertEqual((Later("1.0").release, Later("1.0").base_version), ((7,), "1.0"))
+
     def test_private_names(self):
         self.assertFalse(hasattr(Version, "_regex") or hasattr(pep440_rattle.specifiers, "_version_split"))
         self.assertEqual(Version("1.0")._key, Version("1.0").sort_key)
         self.assertIsInstance(Version("1.0"), pep440_rattle.version._BaseVersion)
+        for it, name in ((Specifier(">=1.0"), "_spec"), (SpecifierSet(">=1.0"), "_specs")):
+            with self.assertRaises(AttributeError):
+                setattr(it, name, getattr(it, name))
         self.assertEqual(set(Specifier._operators), {"==", "!=", "<=", ">=", "<", ">", "~=", "==="})
         self.assertEqual(Version("1!2.0rc1.post2.dev3+u-1")._version, (1, (2, 0), ("dev", 3), ("rc", 1), ("post", 2), ("u", 1)))
 

@@ -1,5 +1,5 @@
 -- What compiled bytes denote is what the string denotes that they were made of.
-use Rattle.std.proofs.Common.{◌≡◌, ◌∙◌, ℕ, ℤ, List, Bool, sym, ap, subst}
+use Rattle.std.proofs.Common.{◌≡◌, ◌∙◌, ℕ, ℤ, List, Bool, sym, ap, subst, inl, inr}
 use Rattle.std.specs.Prelude.{◌↔◌}
 use Rattle.pep440_compiled.proofs.Seen.{same_list}
 use Rattle.pep440_compiled.proofs.Whole.{compiled_again}
@@ -12,7 +12,10 @@ use Rattle.pep440_version.specs.Record.{Record}
 use Rattle.pep440_c.proofs.Once.{one_bytes_list, one_version}
 use Rattle.pep440_c.specs.Answers.{Contains, IsOrder, order_number}
 use Rattle.pep440_c.specs.Compiled.{CompiledContains, CompiledOrder, DenotesNoList, DenotesNoVersion, IsCompiled, IsCompiledList}
-use Rattle.pep440_c.specs.Meaning.{MeansBytes, MeansListBytes}
+use Rattle.pep440_c.specs.Meaning.{MeansBytes, MeansListBytes, RefusesBytes}
+use Rattle.pep440_c.specs.Statuses.{Faults, PutsBytes}
+use Rattle.pep440_c.specs.declared.texts.Fault.{Fault}
+use Rattle.pep440_c.specs.declared.texts.Fault.TheVariants as fault
 
 one_compiled : (bytes : List ℕ) (r q : Record) → DenotesVersion bytes r → DenotesVersion bytes q → r ≡ q
 one_compiled bytes r q d e = compiled_again r q d.stored e.stored (sym d.same ∙ e.same)
@@ -73,3 +76,17 @@ of_match list text a b contained (l, means, denotes) (r, also, again) = (
   λ (m, q, first, second, is). (l, r, means, also, is ∙ (λ i. list_matches (same_list a m l first denotes i) (one_compiled b q r second again i))),
   λ (m, q, first, second, is). (l, r, denotes, again, is ∙ (λ i. list_matches (one_bytes_list list m l first means i) (one_version text q r second also i))),
 )
+
+-- ---- what is put of the compiled form of a version is that of the string that denotes it
+
+only_memory : (version : Type 0) (f : Fault) → Faults ⊥ ⊥ ⊥ f → Faults version ⊥ ⊥ f
+only_memory version fault.InvalidVersion why = absurd why
+only_memory version fault.InvalidList why = why
+only_memory version fault.OutOfMemory why = why
+only_memory version fault.NumberAtMax why = why
+only_memory version fault.NotCompiled why = why
+
+pub compiled_of : (text : List ℕ) (r : Record) (old new : List ℕ) (old_written written status : ℕ) → MeansBytes text r
+    → PutsBytes ⊥ ⊥ ⊥ (λ bytes. DenotesVersion bytes r) old new old_written written status → PutsBytes (RefusesBytes text) ⊥ ⊥ (IsCompiled text) old new old_written written status
+compiled_of text r old new old_written written status means (inl (bytes, denotes, count, put)) = inl (bytes, (r, means, denotes), count, put)
+compiled_of text r old new old_written written status means (inr (same, kept, (f, why, is))) = inr (same, kept, (f, only_memory (RefusesBytes text) f why, is))

@@ -4,6 +4,7 @@ ghost use Rattle.std.specs.Prelude.{◌≡◌, ◌⊎◌, List, map};
 ghost use Rattle.std.specs.List.{All};
 ghost use Rattle.pep440_compiled.specs.Format.{DenotesPacked};
 ghost use Rattle.pep440_compiled.specs.Lists.{DenotesList, IsPackedMember};
+ghost use Rattle.pep440_compiled.specs.Version.{DenotesVersion};
 ghost use Rattle.pep440_rs.specs.Bounds.{range_of};
 ghost use Rattle.pep440_rs.specs.Cover.{cover_of};
 ghost use Rattle.pep440_rs.specs.Specifiers.{Spec};
@@ -14,10 +15,12 @@ ghost use Rattle.pep440_c.specs.Meaning.{RefusesBytes, RefusesListBytes};
 ghost use Rattle.pep440_c.specs.Statuses.{PutsBytes, PutsCompiled, PutsCompiledBytes, PutsCompiledJoined};
 
 use crate::batch::BatchError;
-use crate::buffer::{OK, flag, put, put_bytes, put_joined, put_text};
+use crate::buffer::{OK, flag, put, put_and_count, put_bytes, put_joined, put_text};
 use crate::{
-    Parts, compiled_batch, compiled_forms, compiled_intervals, order_number, version_parts,
+    Parts, compiled_batch, compiled_forms, compiled_intervals, order_number, texts, version_parts,
 };
+use pep440_compiled::compile_packed;
+use pep440_rs::Version;
 use std::alloc::Global;
 
 const OUT_OF_MEMORY: u8 = 3;
@@ -34,7 +37,20 @@ pub extern "C" fn pep440_compile(
 ) -> u8
     ensures { PutsBytes (RefusesBytes text.now) ⊥ ⊥ (IsCompiled text.now) out.old out.new written.old written.new result }
 {
-    put_bytes(compiled_forms::compile(alloc, text), out, written)
+    match texts::read(alloc, text) {
+        Ok(version) => put_compiled(alloc, &version, out, written),
+        Err(fault) => fault.status(),
+    }
+}
+
+// Writes the compiled form of the version. Of a packed one that allocates nothing.
+fn put_compiled(alloc: Global, version: &Version, out: &mut [u8], written: &mut usize) -> u8
+    ensures { PutsBytes ⊥ ⊥ ⊥ (λ compiled. DenotesVersion compiled version.now) out.old out.new written.old written.new result }
+{
+    match compile_packed(version) {
+        Some(packed) => put_and_count(&packed, out, written),
+        None => put_bytes(compiled_forms::compile(alloc, version), out, written),
+    }
 }
 
 /// Writes the compiled form of the list.

@@ -7,8 +7,8 @@ ghost use Rattle.pep440_compiled.specs.Version.{DenotesVersion};
 ghost use Rattle.pep440_rs.specs.Specifiers.{Spec};
 ghost use Rattle.pep440_version.specs.Record.{Record};
 ghost use Rattle.pep440_c.specs.Answers.{order_number};
-ghost use Rattle.pep440_c.specs.Compiled.{CompiledContains, CompiledKey, CompiledNormal, CompiledNormalList, CompiledOrder, CompiledPrerelease, DenotesNoList, DenotesNoVersion, IsCompiled, IsCompiledList};
-ghost use Rattle.pep440_c.specs.Meaning.{RefusesBytes, RefusesListBytes};
+ghost use Rattle.pep440_c.specs.Compiled.{CompiledContains, CompiledKey, CompiledNormal, CompiledNormalList, CompiledOrder, CompiledPrerelease, DenotesNoList, DenotesNoVersion, IsCompiledList};
+ghost use Rattle.pep440_c.specs.Meaning.{RefusesListBytes};
 ghost use Rattle.pep440_c.specs.Statuses.{Gives, GivesCompiled, fault_of_compiled};
 
 use crate::texts;
@@ -37,11 +37,10 @@ pub(crate) fn read(alloc: Global, compiled: &[u8]) -> Result<Version, Fault>
 }
 
 /// The compiled form of a version.
-pub(crate) fn compile(alloc: Global, text: &[u8]) -> Result<Vec<u8>, Fault>
-    ensures { Gives (RefusesBytes text.now) ⊥ ⊥ (λ compiled. IsCompiled text.now compiled.items) result }
+pub(crate) fn compile(alloc: Global, version: &Version) -> Result<Vec<u8>, Fault>
+    ensures { Gives ⊥ ⊥ ⊥ (λ compiled. DenotesVersion compiled.items version.now) result }
 {
-    let version = texts::read(alloc, text)?;
-    Ok(compile_version(alloc, &version)?)
+    Ok(compile_version(alloc, version)?)
 }
 
 /// The compiled form of a list.

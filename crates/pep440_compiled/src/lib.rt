@@ -22,6 +22,8 @@ mod parts;
 mod tests;
 mod unpacked;
 mod version;
+mod word_list;
+mod word_matching;
 mod words;
 
 pub use calls::{compare, normalize, sort_key};

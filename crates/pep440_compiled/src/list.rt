@@ -17,6 +17,8 @@ ghost use Rattle.pep440_version.specs.Word.{is_packed};
 use crate::members::{prove_members_stored, push_member, read_member};
 use crate::parts::{push_number, read_number};
 use crate::version::{CompiledError, read_version};
+use crate::word_list::contains_word;
+use crate::words::read_word;
 use pep440_rs::{VersionSpecifier, VersionSpecifiers};
 use pep440_version::Version;
 use std::alloc::{AllocError, Global};
@@ -42,7 +44,7 @@ pub fn compile_list(alloc: Global, list: &VersionSpecifiers) -> Result<Vec<u8>, 
 }
 
 // How many members there are, and what follows the count.
-fn read_count(bytes: &[u8]) -> Option<(u64, &[u8])>
+pub(crate) fn read_count(bytes: &[u8]) -> Option<(u64, &[u8])>
     ensures some { IfSome result (λ p. Fits p.0 × (bytes.now ≡ 3 ∷ eight_bytes p.0 ++ p.1.now)) }
     ensures none { IfNone result ((list : List Spec) → DenotesList bytes.now list → ⊥) }
 {
@@ -156,6 +158,21 @@ fn contains_version(alloc: Global, list: &[u8], version: &Version) -> Result<boo
 ///
 /// Allocates only for versions that are not packed and for members with `===`, and may then return `OutOfMemory`.
 pub fn contains(alloc: Global, list: &[u8], version: &[u8]) -> Result<bool, CompiledError>
+    ensures ok { IfOk result (λ b. (l : List Spec) × (r : Record) × DenotesList list.now l × DenotesVersion version.now r × (b ≡ list_matches l r)) }
+    ensures err { IfErr result (λ e. e ≡ NotCompiled → ((l : List Spec) → DenotesList list.now l → ⊥) ⊎ ((r : Record) → DenotesVersion version.now r → ⊥)) }
+    ensures memory { (l : List Spec) (r : Record) → DenotesList list.now l → DenotesPacked version.now r → All IsPackedMember l → IsOk result }
+{
+    if let Some(candidate) = read_word(version) {
+        if let Some(contained) = contains_word(list, candidate) {
+            return Ok(contained);
+        }
+    }
+    contains_any(alloc, list, version)
+}
+
+// The same of any versions.
+#[inline(never)]
+fn contains_any(alloc: Global, list: &[u8], version: &[u8]) -> Result<bool, CompiledError>
     ensures ok { IfOk result (λ b. (l : List Spec) × (r : Record) × DenotesList list.now l × DenotesVersion version.now r × (b ≡ list_matches l r)) }
     ensures err { IfErr result (λ e. e ≡ NotCompiled → ((l : List Spec) → DenotesList list.now l → ⊥) ⊎ ((r : Record) → DenotesVersion version.now r → ⊥)) }
     ensures memory { (l : List Spec) (r : Record) → DenotesList list.now l → DenotesPacked version.now r → All IsPackedMember l → IsOk result }

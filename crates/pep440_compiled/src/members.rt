@@ -30,7 +30,7 @@ fn operator_to_byte(operator: Operator) -> u8
 }
 
 // None of a byte that is no operator's.
-fn operator_from_byte(byte: u8) -> Option<Operator>
+pub(crate) fn operator_from_byte(byte: u8) -> Option<Operator>
     ensures some { IfSome result (λ o. operator_rank o ≡ byte) }
     ensures none { IfNone result ((s : Spec) → operator_rank s.operator ≡ byte → ⊥) }
 {

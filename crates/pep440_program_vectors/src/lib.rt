@@ -11,6 +11,8 @@ mod long;
 #[cfg(test)]
 mod pyver;
 #[cfg(test)]
+mod pyver_filter;
+#[cfg(test)]
 mod pyver_show;
 #[cfg(test)]
 mod requirements;

@@ -83,7 +83,7 @@ const OBJECTS: [(&str, &str); 3] = [
 fn writes(alloc: Global, words: &[String], output: &str, errors: &str, status: u8) -> bool {
     let mut out = Sink::new(Manner::TakesAtMost(512));
     let mut err = Sink::new(Manner::TakesAtMost(512));
-    let mut input = Trickle::new(b"never read", After::Fails);
+    let mut input = Trickle::new(b"", After::End);
     let ended = run(alloc, words, &mut input, &mut out, &mut err);
     if ended == 3 {
         return out.bytes().is_empty() && err.bytes() == "pyver: out of memory\n".as_bytes();

@@ -1,5 +1,5 @@
 -- There is at most one outcome of what is asked for.
-use Rattle.std.proofs.Common.{◌≡◌, ◌∙◌, ℕ, List, [], ◌∷◌, Bool, refl, sym, ap, subst}
+use Rattle.std.proofs.Common.{◌≡◌, ◌∙◌, ℕ, List, [], ◌∷◌, Bool, inl, inr, refl, sym, ap, subst}
 use Rattle.std.specs.List.{AllZip}
 use Rattle.pep440_rs.proofs.Reading.OneMeaning.{not_both_list, one_list, one_list_refusal}
 use Rattle.pep440_rs.specs.ListErrorTexts.{list_refusal_text}
@@ -9,14 +9,18 @@ use Rattle.pep440_version.proofs.Reading.Agreement.{one_record}
 use Rattle.pep440_version.proofs.Refusals.ExactlyOne.{not_both, one_refusal}
 use Rattle.pep440_version.specs.ErrorTexts.{refusal_text}
 use Rattle.pyver_core.specs.Comparisons.{Compares, comparison_outcome}
+use Rattle.pyver_core.specs.Filters.{Filters, FiltersBy, FiltersLines, IsRead, ReadLine, ReadsLine, filter_outcome, rule_of}
+use Rattle.pyver_core.specs.InputLines.{numbered_from}
 use Rattle.pyver_core.specs.Matches.{Matches, MatchesBy, MatchesWord, MatchesWords, ReadsSpecifiers, SpecifiersReading, DenotesList, ListFails, word_outcome}
 use Rattle.pyver_core.specs.OneOutcome.{OutcomesOnce}
 use Rattle.pyver_core.specs.Outcomes.{Outcome, in_turn}
 use Rattle.pyver_core.specs.Readings.{Reading, Reads, Denotes, Fails}
 use Rattle.pyver_core.specs.Shows.{Shows, ShowsWord, show_outcome}
-use Rattle.pyver_core.specs.Tasks.{Help, NameVersion, Compare, Match, Show, Misused}
+use Rattle.pyver_core.specs.Tasks.{Help, NameVersion, Compare, Match, Filter, Show, Misused}
 use Rattle.pyver_core.specs.declared.allowed.MatchOptions.{MatchOptions}
 use Rattle.pyver_core.specs.declared.comparison.Comparison.{Comparison}
+use Rattle.pyver_core.specs.declared.filter.FilterOptions.{FilterOptions}
+use Rattle.pyver_core.specs.declared.filter.FilterRule.{FilterRule}
 use Rattle.pyver_core.specs.declared.show.ShowFormat.{ShowFormat}
 
 reading_once : (text : List ℕ) (x y : Reading) → Reads text x → Reads text y → x ≡ y
@@ -49,6 +53,18 @@ all_once R once (t ∷ texts) (x ∷ found) (y ∷ there) h g =
     let tail = all_once R once texts found there h.1 g.1 in
     λ i. head i ∷ tail i
 
+line_once : (text : List ℕ) (x y : Reading) → ReadsLine text x → ReadsLine text y → x ≡ y
+line_once text x y (inl (bad, is)) (inl (also, so)) = is ∙ sym so
+line_once text x y (inl (bad, is)) (inr (utf8, k)) = absurd (bad utf8)
+line_once text x y (inr (utf8, h)) (inl (bad, so)) = absurd (bad utf8)
+line_once text x y (inr (utf8, h)) (inr (again, k)) = reading_once text x y h k
+
+is_read_once : (line : ℕ × List ℕ) (x y : ReadLine) → IsRead line x → IsRead line y → x ≡ y
+is_read_once line x y h k =
+    let lines_same = h.0 ∙ sym k.0 in
+    let readings = line_once line.1 x.reading y.reading h.1 k.1 in
+    λ i. record { line = lines_same i; reading = readings i }
+
 words_once : (quiet takes : Bool) (list : List Spec) (words : List (List ℕ)) (a b : Outcome) → MatchesWords quiet takes list words a → MatchesWords quiet takes list words b → a ≡ b
 words_once quiet takes list words a b (os, h, is) (ps, k, so) = is ∙ ap in_turn (all_once (MatchesWord quiet takes list) (word_once quiet takes list) words os ps h k) ∙ sym so
 
@@ -59,6 +75,16 @@ by_once options (ListFails message) words a b h k = h ∙ sym k
 match_once : (options : MatchOptions) (specifiers : List ℕ) (words : List (List ℕ)) (a b : Outcome) → Matches options specifiers words a → Matches options specifiers words b → a ≡ b
 match_once options specifiers words a b (x, hx, h) (u, hu, k) = by_once options x words a b h (subst (λ (z : SpecifiersReading). MatchesBy options z words b) (sym (specifiers_once specifiers x u hx hu)) k)
 
+filters_once : (rule : FilterRule) (texts : List (List ℕ)) (a b : Outcome) → Filters rule texts a → Filters rule texts b → a ≡ b
+filters_once rule texts a b (es, h, is) (fs, k, so) = is ∙ ap (filter_outcome rule) (all_once IsRead is_read_once (numbered_from 1 texts) es fs h k) ∙ sym so
+
+filter_by_once : (options : FilterOptions) (x : SpecifiersReading) (texts : List (List ℕ)) (a b : Outcome) → FiltersBy options x texts a → FiltersBy options x texts b → a ≡ b
+filter_by_once options (DenotesList list) texts a b h k = filters_once (rule_of options list) texts a b h k
+filter_by_once options (ListFails message) texts a b h k = h ∙ sym k
+
+filter_once : (options : FilterOptions) (specifiers : List ℕ) (texts : List (List ℕ)) (a b : Outcome) → FiltersLines options specifiers texts a → FiltersLines options specifiers texts b → a ≡ b
+filter_once options specifiers texts a b (x, hx, h) (u, hu, k) = filter_by_once options x texts a b h (subst (λ (z : SpecifiersReading). FiltersBy options z texts b) (sym (specifiers_once specifiers x u hx hu)) k)
+
 show_word_once : (format : ShowFormat) (word : List ℕ) (a b : Outcome) → ShowsWord format word a → ShowsWord format word b → a ≡ b
 show_word_once format word a b (x, hx, is) (u, hu, so) = is ∙ ap (show_outcome format word) (reading_once word x u hx hu) ∙ sym so
 
@@ -66,9 +92,10 @@ show_once : (format : ShowFormat) (words : List (List ℕ)) (a b : Outcome) → 
 show_once format words a b (os, h, is) (ps, k, so) = is ∙ ap in_turn (all_once (ShowsWord format) (show_word_once format) words os ps h k) ∙ sym so
 
 pub outcomes_once : OutcomesOnce
-outcomes_once (Help topic) a b h k = h ∙ sym k
-outcomes_once NameVersion a b h k = h ∙ sym k
-outcomes_once (Compare left operator right) a b h k = compare_once left operator right a b h k
-outcomes_once (Match options specifiers words) a b h k = match_once options specifiers words a b h k
-outcomes_once (Show format words) a b h k = show_once format words a b h k
-outcomes_once (Misused message) a b h k = h ∙ sym k
+outcomes_once (Help topic) texts a b h k = h ∙ sym k
+outcomes_once NameVersion texts a b h k = h ∙ sym k
+outcomes_once (Compare left operator right) texts a b h k = compare_once left operator right a b h k
+outcomes_once (Match options specifiers words) texts a b h k = match_once options specifiers words a b h k
+outcomes_once (Filter options specifiers) texts a b h k = filter_once options specifiers texts a b h k
+outcomes_once (Show format words) texts a b h k = show_once format words a b h k
+outcomes_once (Misused message) texts a b h k = h ∙ sym k

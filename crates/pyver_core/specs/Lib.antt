@@ -10,7 +10,11 @@ pub mod Parts
 pub mod JsonObjects
 pub mod Shows
 pub mod AnswerViews
+pub mod InputLines
+pub mod Filters
 pub mod Tasks
 pub mod TaskViews
 pub mod Runs
+pub mod FilterSteps
+pub mod WorkViews
 pub mod OneOutcome

@@ -1,11 +1,20 @@
 -- The messages on standard error, each a line of its own; what is quoted is escaped.
-use Rattle.std.specs.Prelude.{ℕ, List, [], ◌∷◌, ◌++◌, Option, Some, None, codes}
+use Rattle.std.specs.Prelude.{ℕ, ◌==◌, List, [], ◌++◌, Option, Some, None, codes, if◌then◌else◌}
+use Rattle.std.specs.Fmt.{decimal}
 use Rattle.pyver_core.specs.Escapes.{escaped}
 use Rattle.pyver_core.specs.Nearest.{nearest}
 
 -- why a word is not what it has to be: the word and the reason
 abbrev pub fault_message : List ℕ → List ℕ → List ℕ
 fault_message word reason = codes "pyver: '" ++ (escaped word ++ (codes "': " ++ (escaped reason ++ codes "\n")))
+
+-- why a line of standard input is no version
+abbrev pub line_fault_message : ℕ → List ℕ → List ℕ
+line_fault_message number reason = codes "pyver: -: line " ++ (decimal number ++ (codes ": " ++ (escaped reason ++ codes "\n")))
+
+-- how many more invalid lines there are
+abbrev pub more_faults_message : ℕ → List ℕ
+more_faults_message count = if count == 0 then [] else codes "pyver: -: more invalid lines: " ++ (decimal count ++ codes "\n")
 
 -- the right word that is nearest, where one is near
 abbrev pub hint : Option (List ℕ) → List ℕ

@@ -1,5 +1,5 @@
 -- What a run writes on standard output and on standard error, and its status.
-use Rattle.std.specs.Prelude.{ℕ, List, [], ◌++◌, codes, max}
+use Rattle.std.specs.Prelude.{ℕ, List, [], ◌++◌, max}
 use Rattle.std.specs.List.{fold}
 use Rattle.pyver_core.specs.Messages.{fault_message}
 

@@ -1,7 +1,7 @@
 -- What the program's commands say, apart from where they lie in memory.
 use Rattle.std.specs.Prelude.{ℕ, List, codes, map, string_bytes}
 use Rattle.pyver_core.specs.Messages.{unknown_message, usage_message}
-use Rattle.pyver_core.specs.Tasks.{Task, Help, NameVersion, Compare, Match, Show, Misused, command_names, comparison_names, option_names, part_names, usage}
+use Rattle.pyver_core.specs.Tasks.{Task, Help, NameVersion, Compare, Match, Filter, Show, Misused, command_names, comparison_names, option_names, part_names, usage}
 use Rattle.pyver_core.specs.declared.command.Command.{Command}
 use Rattle.pyver_core.specs.declared.command.Command.TheVariants as command
 use Rattle.pyver_core.specs.declared.misuse.Misuse.{Misuse}
@@ -19,5 +19,6 @@ task (command.Help topic) = Help topic
 task command.Version = NameVersion
 task (command.Compare left comparison right) = Compare left.now comparison right.now
 task (command.Match options specifiers words) = Match options specifiers.now (map string_bytes words.now)
+task (command.Filter options specifiers) = Filter options specifiers.now
 task (command.Show asked words) = Show asked (map string_bytes words.now)
 task (command.Misused why) = Misused (misuse_message why)

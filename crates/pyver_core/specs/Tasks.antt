@@ -1,6 +1,9 @@
 -- What the words of the program ask for, and what is written for it.
 use Rattle.std.specs.Prelude.{◌≡◌, ◌==◌, ◌&&◌, ◌||◌, ℕ, List, [], ◌∷◌, Bool, true, false, Option, Some, None, bytes_eq, codes, length, nat_lt, if◌then◌else◌}
+use Rattle.pep440_rs.specs.ListGrammar.{DerivesList}
+use Rattle.pep440_rs.specs.Specifiers.{Spec}
 use Rattle.pyver_core.specs.Comparisons.{Compares, comparison_of}
+use Rattle.pyver_core.specs.Filters.{FiltersLines}
 use Rattle.pyver_core.specs.Matches.{Matches}
 use Rattle.pyver_core.specs.Messages.{unknown_message, usage_message}
 use Rattle.pyver_core.specs.Outcomes.{Outcome}
@@ -8,9 +11,10 @@ use Rattle.pyver_core.specs.Parts.{part_of}
 use Rattle.pyver_core.specs.Shows.{Shows}
 use Rattle.pyver_core.specs.declared.allowed.MatchOptions.{MatchOptions}
 use Rattle.pyver_core.specs.declared.comparison.Comparison.{Comparison}
+use Rattle.pyver_core.specs.declared.filter.FilterOptions.{FilterOptions}
 use Rattle.pyver_core.specs.declared.help.Topic.{Topic}
 use Rattle.pyver_core.specs.declared.help.Topic.TheVariants as topic
-use Rattle.pyver_core.specs.declared.help.TheConstants.{PROGRAM_HELP, COMPARE_HELP, MATCH_HELP, SHOW_HELP, COMPARE_USAGE, MATCH_USAGE, SHOW_USAGE, PROGRAM_USAGE, VERSION_LINE}
+use Rattle.pyver_core.specs.declared.help.TheConstants.{PROGRAM_HELP, COMPARE_HELP, MATCH_HELP, FILTER_HELP, SHOW_HELP, COMPARE_USAGE, MATCH_USAGE, FILTER_USAGE, SHOW_USAGE, PROGRAM_USAGE, VERSION_LINE}
 use Rattle.pyver_core.specs.declared.part.VersionPart.{VersionPart}
 use Rattle.pyver_core.specs.declared.prerelease.Prereleases.TheVariants as prereleases
 use Rattle.pyver_core.specs.declared.show.ShowFormat.{ShowFormat}
@@ -22,30 +26,34 @@ pub data Task : Type 0 where
   NameVersion : Task
   Compare : List ℕ → Comparison → List ℕ → Task
   Match : MatchOptions → List ℕ → List (List ℕ) → Task
+  Filter : FilterOptions → List ℕ → Task
   Show : ShowFormat → List (List ℕ) → Task
   Misused : List ℕ → Task
 
 -- ---- the names of the program
 
 abbrev pub command_names : List (List ℕ)
-command_names = codes "compare" ∷ (codes "match" ∷ (codes "show" ∷ (codes "--help" ∷ (codes "--version" ∷ []))))
+command_names = codes "compare" ∷ (codes "match" ∷ (codes "filter" ∷ (codes "show" ∷ (codes "--help" ∷ (codes "--version" ∷ [])))))
 
 abbrev pub option_names : Topic → List (List ℕ)
 option_names topic.Program = codes "--help" ∷ []
 option_names topic.Compare = codes "--help" ∷ []
 option_names topic.Match = codes "--help" ∷ (codes "--quiet" ∷ (codes "--pre" ∷ (codes "--no-pre" ∷ [])))
+option_names topic.Filter = codes "--help" ∷ (codes "--invert-match" ∷ (codes "--pre" ∷ (codes "--no-pre" ∷ [])))
 option_names topic.Show = codes "--help" ∷ (codes "--part" ∷ (codes "--json" ∷ []))
 
 abbrev pub usage : Topic → List ℕ
 usage topic.Program = PROGRAM_USAGE.now
 usage topic.Compare = COMPARE_USAGE.now
 usage topic.Match = MATCH_USAGE.now
+usage topic.Filter = FILTER_USAGE.now
 usage topic.Show = SHOW_USAGE.now
 
 abbrev pub help_text : Topic → List ℕ
 help_text topic.Program = PROGRAM_HELP.now
 help_text topic.Compare = COMPARE_HELP.now
 help_text topic.Match = MATCH_HELP.now
+help_text topic.Filter = FILTER_HELP.now
 help_text topic.Show = SHOW_HELP.now
 
 -- ---- words
@@ -108,7 +116,7 @@ match_rest options word rest =
     else match_operands options (word ∷ rest)
 
 -- what is done with the options, or what else where there are none
-abbrev pub by_option : Option MatchOptions → (MatchOptions → Task) → Task → Task
+abbrev pub by_option : {A : Type 0} → Option A → (A → Task) → Task → Task
 by_option None with_options otherwise = otherwise
 by_option (Some options) with_options otherwise = with_options options
 
@@ -121,6 +129,38 @@ match_task options (word ∷ rest) =
 
 abbrev pub no_match_options : MatchOptions
 no_match_options = record { quiet = false; prereleases = prereleases.Listed }
+
+-- ---- `filter [-v] [--pre | --no-pre] SPECS`
+
+abbrev pub filter_operands : FilterOptions → List (List ℕ) → Task
+filter_operands options (specifiers ∷ []) = Filter options specifiers
+filter_operands options _ = wrong_count topic.Filter
+
+-- the options with what the word sets, if it is an option that sets some
+abbrev pub filter_option : FilterOptions → List ℕ → Option FilterOptions
+filter_option options word =
+    if bytes_eq word (codes "-v") then Some (record options { inverted = true })
+    else if bytes_eq word (codes "--invert-match") then Some (record options { inverted = true })
+    else if bytes_eq word (codes "--pre") then Some (record options { prereleases = prereleases.Always })
+    else if bytes_eq word (codes "--no-pre") then Some (record options { prereleases = prereleases.Never })
+    else None
+
+-- the words behind the options, where `--` may stand first
+abbrev pub filter_rest : FilterOptions → List ℕ → List (List ℕ) → Task
+filter_rest options word rest =
+    if bytes_eq word (codes "--") then filter_operands options rest
+    else if is_option word then wrong_option topic.Filter word
+    else filter_operands options (word ∷ rest)
+
+-- options stand before the list, and the last of those that contradict each other counts
+abbrev pub filter_task : FilterOptions → List (List ℕ) → Task
+filter_task options [] = wrong_count topic.Filter
+filter_task options (word ∷ rest) =
+    if is_help word then Help topic.Filter
+    else by_option (filter_option options word) (λ taken. filter_task taken rest) (filter_rest options word rest)
+
+abbrev pub no_filter_options : FilterOptions
+no_filter_options = record { inverted = false; prereleases = prereleases.Listed }
 
 -- ---- `show [--part PART | --json] V..`
 
@@ -162,6 +202,7 @@ task_of (word ∷ rest) =
     else if bytes_eq word (codes "--version") then NameVersion
     else if bytes_eq word (codes "compare") then compare_task rest
     else if bytes_eq word (codes "match") then match_task no_match_options rest
+    else if bytes_eq word (codes "filter") then filter_task no_filter_options rest
     else if bytes_eq word (codes "show") then show_task (Some format.Normal) rest
     else Misused (unknown_message (codes "command") word command_names)
 
@@ -173,11 +214,17 @@ printed text = record { output = text; errors = []; status = 0 }
 abbrev pub misuse : List ℕ → Outcome
 misuse message = record { output = []; errors = message; status = 2 }
 
--- what is written for a task
-abbrev pub IsOutcome : Task → Outcome → Type 0
-IsOutcome (Help about) o = o ≡ printed (help_text about)
-IsOutcome NameVersion o = o ≡ printed VERSION_LINE.now
-IsOutcome (Compare left operator right) o = Compares left operator right o
-IsOutcome (Match options specifiers words) o = Matches options specifiers words o
-IsOutcome (Show asked words) o = Shows asked words o
-IsOutcome (Misused message) o = o ≡ misuse message
+-- what is written for a task, where the input has these lines
+abbrev pub IsOutcome : Task → List (List ℕ) → Outcome → Type 0
+IsOutcome (Help about) texts o = o ≡ printed (help_text about)
+IsOutcome NameVersion texts o = o ≡ printed VERSION_LINE.now
+IsOutcome (Compare left operator right) texts o = Compares left operator right o
+IsOutcome (Match options specifiers words) texts o = Matches options specifiers words o
+IsOutcome (Filter options specifiers) texts o = FiltersLines options specifiers texts o
+IsOutcome (Show asked words) texts o = Shows asked words o
+IsOutcome (Misused message) texts o = o ≡ misuse message
+
+-- `filter` with a valid list reads the input, and nothing else does
+abbrev pub NeedsInput : Task → Type 0
+NeedsInput (Filter options specifiers) = (list : List Spec) × DerivesList specifiers list
+NeedsInput _ = ⊥

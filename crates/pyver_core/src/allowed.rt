@@ -48,7 +48,7 @@ pub(crate) fn read_specifiers(alloc: Global, text: &str) -> Result<SpecifiersRea
     }
 }
 
-fn push_list_fault(answer: &mut Answer, message: &str) -> Result<(), AllocError>
+pub(crate) fn push_list_fault(answer: &mut Answer, message: &str) -> Result<(), AllocError>
     ensures { IfOk result (λ _. outcome_of answer.new ≡ followed_by (outcome_of answer.old) (list_fault message.now)) }
 {
     answer.errors.extend_from_slice(b"pyver: ")?;

@@ -2,15 +2,19 @@
 ghost use Rattle.std.specs.Prelude.{◌≡◌, ◌∷◌, IfOk, map, string_bytes};
 ghost use Rattle.pyver_core.specs.AnswerViews.{outcome_of};
 ghost use Rattle.pyver_core.specs.TaskViews.{task};
-ghost use Rattle.pyver_core.specs.Tasks.{IsOutcome, compare_task, compare_words, is_help, is_option, match_operands, match_option, match_rest, match_task, misuse, no_match_options, printed, task_of};
+ghost use Rattle.pyver_core.specs.Tasks.{Filter, compare_task, compare_words, filter_operands, filter_option, filter_rest, filter_task, is_help, is_option, match_operands, match_option, match_rest, match_task, misuse, no_filter_options, no_match_options, printed, task_of};
 ghost use Rattle.pyver_core.specs.TaskViews.{misuse_message};
+ghost use Rattle.pyver_core.specs.WorkViews.{IsWork};
 
-use crate::allowed::{MatchOptions, match_versions};
+use crate::allowed::{
+    MatchOptions, SpecifiersReading, match_versions, push_list_fault, read_specifiers,
+};
 use crate::answer::Answer;
 use crate::comparison::{Comparison, compare, parse_comparison};
+use crate::filter::{FilterOptions, FilterRule};
 use crate::help::{Topic, VERSION_LINE, help};
 use crate::misuse::{Misuse, push_misuse};
-use crate::prerelease::Prereleases;
+use crate::prerelease::{Prereleases, takes_prereleases};
 use crate::show::{ShowFormat, show_versions};
 use crate::show_words::parse_show;
 use std::alloc::{AllocError, Global};
@@ -22,8 +26,18 @@ pub(crate) enum Command<'a> {
     Version,
     Compare(&'a str, Comparison, &'a str),
     Match(MatchOptions, &'a str, &'a [String]),
+    Filter(FilterOptions, &'a str),
     Show(ShowFormat, &'a [String]),
     Misused(Misuse<'a>),
+}
+
+/// What is to be done for a command.
+#[derive(Drop)]
+pub(crate) enum Work {
+    /// Nothing but to write this.
+    Answer(Answer),
+    /// To read the input, whose lines are filtered so.
+    Filter(FilterRule),
 }
 
 pub(crate) fn is_help(word: &str) -> bool
@@ -136,6 +150,70 @@ fn parse_match<'a>(words: &'a [String]) -> Command<'a>
     Command::Misused(Misuse::Count(Topic::Match))
 }
 
+fn parse_filter_operands<'a>(options: FilterOptions, words: &'a [String]) -> Command<'a>
+    ensures { task result ≡ filter_operands options (map string_bytes words.now) }
+{
+    match words {
+        [specifiers] => Command::Filter(options, specifiers.as_str()),
+        _ => Command::Misused(Misuse::Count(Topic::Filter)),
+    }
+}
+
+/// The options with what the word sets, if it is an option that sets some.
+fn parse_filter_option(options: FilterOptions, word: &str) -> Option<FilterOptions>
+    ensures { result ≡ filter_option options word.now }
+{
+    let mut options = options;
+    match word {
+        "-v" => options.inverted = true,
+        "--invert-match" => options.inverted = true,
+        "--pre" => options.prereleases = Prereleases::Always,
+        "--no-pre" => options.prereleases = Prereleases::Never,
+        _ => return None,
+    }
+    Some(options)
+}
+
+/// The first word is no option that sets some.
+fn parse_filter_rest<'a>(
+    options: FilterOptions,
+    word: &'a str,
+    rest: &'a [String],
+    words: &'a [String],
+) -> Command<'a>
+    requires { map string_bytes words.now ≡ word.now ∷ map string_bytes rest.now }
+    ensures { task result ≡ filter_rest options word.now (map string_bytes rest.now) }
+{
+    if word == "--" {
+        parse_filter_operands(options, rest)
+    } else if is_option(word) {
+        Command::Misused(Misuse::Option(Topic::Filter, word))
+    } else {
+        parse_filter_operands(options, words)
+    }
+}
+
+fn parse_filter<'a>(words: &'a [String]) -> Command<'a>
+    ensures { task result ≡ filter_task no_filter_options (map string_bytes words.now) }
+{
+    let mut options = FilterOptions {
+        inverted: false,
+        prereleases: Prereleases::Listed,
+    };
+    let mut left = words;
+    while let [word, rest @ ..] = left {
+        if is_help(word.as_str()) {
+            return Command::Help(Topic::Filter);
+        }
+        match parse_filter_option(options, word.as_str()) {
+            Some(taken) => options = taken,
+            None => return parse_filter_rest(options, word.as_str(), rest, left),
+        }
+        left = rest;
+    }
+    Command::Misused(Misuse::Count(Topic::Filter))
+}
+
 impl<'a> Command<'a> {
     /// The command that the words ask for.
     pub(crate) fn parse(words: &'a [String]) -> Command<'a>
@@ -149,25 +227,52 @@ impl<'a> Command<'a> {
                 "--version" => Command::Version,
                 "compare" => parse_compare(rest),
                 "match" => parse_match(rest),
+                "filter" => parse_filter(rest),
                 "show" => parse_show(rest),
                 other => Command::Misused(Misuse::Command(other)),
             },
         }
     }
 
-    /// What it writes.
-    pub(crate) fn run(self, alloc: Global) -> Result<Answer, AllocError>
-        ensures { IfOk result (λ a. IsOutcome (task self.entry) (outcome_of a)) }
+    /// What is to be done for it.
+    pub(crate) fn run(self, alloc: Global) -> Result<Work, AllocError>
+        ensures { IfOk result (λ w. IsWork (task self.entry) w) }
     {
         match self {
-            Command::Help(topic) => print_text(alloc, help(topic)),
-            Command::Version => print_text(alloc, VERSION_LINE),
-            Command::Compare(left, operator, right) => compare(alloc, left, operator, right),
-            Command::Match(options, specifiers, words) => {
-                match_versions(alloc, options, specifiers, words)
+            Command::Help(topic) => Ok(Work::Answer(print_text(alloc, help(topic))?)),
+            Command::Version => Ok(Work::Answer(print_text(alloc, VERSION_LINE)?)),
+            Command::Compare(left, operator, right) => {
+                Ok(Work::Answer(compare(alloc, left, operator, right)?))
             }
-            Command::Show(format, words) => show_versions(alloc, format, words),
-            Command::Misused(misuse) => report_misuse(alloc, misuse),
+            Command::Match(options, specifiers, words) => {
+                Ok(Work::Answer(match_versions(alloc, options, specifiers, words)?))
+            }
+            Command::Filter(options, specifiers) => start_filter(alloc, options, specifiers),
+            Command::Show(format, words) => {
+                Ok(Work::Answer(show_versions(alloc, format, words)?))
+            }
+            Command::Misused(misuse) => Ok(Work::Answer(report_misuse(alloc, misuse)?)),
+        }
+    }
+}
+
+/// `filter SPECS`: the rule, or why SPECS is no list.
+fn start_filter(alloc: Global, options: FilterOptions, specifiers: &str) -> Result<Work, AllocError>
+    ensures { IfOk result (λ w. IsWork (Filter options specifiers.now) w) }
+{
+    match read_specifiers(alloc, specifiers)? {
+        SpecifiersReading::Specifiers(list) => {
+            let takes = takes_prereleases(options.prereleases, &list);
+            Ok(Work::Filter(FilterRule {
+                inverted: options.inverted,
+                takes,
+                list,
+            }))
+        }
+        SpecifiersReading::Invalid(message) => {
+            let mut answer = Answer::silent(alloc, 0);
+            push_list_fault(&mut answer, message.as_str())?;
+            Ok(Work::Answer(answer))
         }
     }
 }

@@ -8,6 +8,7 @@ pub(crate) enum Topic {
     Program,
     Compare,
     Match,
+    Filter,
     Show,
 }
 
@@ -16,6 +17,8 @@ const PROGRAM_USAGE: &str = "pyver COMMAND [WORD]..";
 const COMPARE_USAGE: &str = "pyver compare A OP B";
 
 const MATCH_USAGE: &str = "pyver match [-q] [--pre | --no-pre] SPECS V..";
+
+const FILTER_USAGE: &str = "pyver filter [-v] [--pre | --no-pre] SPECS";
 
 const SHOW_USAGE: &str = "pyver show [--part PART | --json] V..";
 
@@ -28,15 +31,17 @@ Python versions and version specifiers (PEP 440) for people and for shell script
 commands:
   compare A OP B     whether A stands so to B, by the exit status
   match SPECS V..    which of the versions the specifiers allow
+  filter SPECS       the lines of standard input whose version the specifiers allow
   show V..           versions in normal form, or their parts
 
 'pyver COMMAND --help' tells more of a command. '--version' prints the program's version.
 The exit status is 0 for yes or done, 1 for no, 2 for a wrong use or an invalid version,
-3 where memory ran out and 4 where a write failed.
+3 where memory ran out and 4 where a read or a write failed.
 
 examples:
   pyver compare 1.9 lt 1.10 && echo older
   pyver match '>=1.16,<2.0' 1.19
+  pyver filter '>=1.0,<2.0' < versions.txt
   pyver show --part major 1.19
 ";
 
@@ -67,6 +72,26 @@ examples:
   pyver match -q --pre '>=2.0rc1' 2.0rc2 && echo allowed
 ";
 
+const FILTER_HELP: &str = "usage: pyver filter [-v] [--pre | --no-pre] SPECS
+
+Prints the lines of standard input whose version the specifiers allow, as they were written and as
+they come. '' allows any version. Blank lines are dropped, and so are a byte order mark before the
+first line and a carriage return at the end of a line. Each invalid line is named on standard error,
+the first 20 and then how many more there are, and the exit status is 2 at the end.
+Pre-releases and dev releases are left out, unless a specifier other than != has such a version.
+They are left out too where nothing else is allowed: that is not known before the last line.
+
+options:
+  -v, --invert-match  print the other lines, but no invalid ones
+  --pre               allow pre-releases and dev releases too
+  --no-pre            allow none of them
+  --                  all words after it are no options
+
+examples:
+  pyver filter '>=1.0,<2.0,!=1.5.*' < versions.txt
+  git tag | pyver filter --pre '' 2> /dev/null
+";
+
 const SHOW_HELP: &str = "usage: pyver show [--part PART | --json] V..
 
 Prints the normal form of each version, or what the option asks for, a line for each. The exit
@@ -94,6 +119,7 @@ pub(crate) fn help(topic: Topic) -> &'static str
         Topic::Program => PROGRAM_HELP,
         Topic::Compare => COMPARE_HELP,
         Topic::Match => MATCH_HELP,
+        Topic::Filter => FILTER_HELP,
         Topic::Show => SHOW_HELP,
     }
 }
@@ -106,6 +132,7 @@ pub(crate) fn usage(topic: Topic) -> &'static str
         Topic::Program => PROGRAM_USAGE,
         Topic::Compare => COMPARE_USAGE,
         Topic::Match => MATCH_USAGE,
+        Topic::Filter => FILTER_USAGE,
         Topic::Show => SHOW_USAGE,
     }
 }

@@ -1,13 +1,18 @@
 // The program over any reader and any writers.
-ghost use Rattle.std.specs.Prelude.{◌≡◌, ◌⊎◌, ◌≤◌, map, string_bytes};
-ghost use Rattle.pyver_core.specs.Runs.{Ends, WroteBeginning, memory_message, write_message};
+ghost use Rattle.std.specs.Prelude.{◌≡◌, ◌⊎◌, ◌≤◌, List, ℕ, map, string_bytes};
+ghost use Rattle.pyver_core.specs.AnswerViews.{outcome_of};
+ghost use Rattle.pyver_core.specs.Runs.{Ends, IsLast, WritesAnswer, WroteBeginning, memory_message, write_message};
 
-use crate::command::Command;
-use crate::stream::{WriteFailure, write_whole};
+use crate::answer::Answer;
+use crate::command::{Command, Work};
+use crate::filter_input::filter_input;
+use crate::stream::{Stop, WriteFailure, write_whole};
 use std::alloc::Global;
 use std::io::{Read, Write};
 
 const MEMORY: &str = "pyver: out of memory\n";
+
+const READ: &str = "pyver: a read failed\n";
 
 const WRITE: &str = "pyver: a write failed\n";
 
@@ -24,31 +29,21 @@ fn failure_status(failure: WriteFailure) -> u8
 fn report_failure<E: Write>(failure: WriteFailure, err: &mut E) -> u8
     ensures status { (result ≡ 4) ⊎ (result ≡ 141) }
     ensures written { WroteBeginning (E.contents err.old) (E.contents err.new) write_message }
+    ensures last { (message : List ℕ) × IsLast result message × WroteBeginning (E.contents err.old) (E.contents err.new) message }
 {
     match failure {
-        WriteFailure::BrokenPipe => {}
+        WriteFailure::BrokenPipe => 141,
         WriteFailure::Other => {
             let _ = write_whole(err, WRITE.as_bytes());
+            4
         }
     }
-    failure_status(failure)
 }
 
-/// Runs the command of the words and returns the status of the process: answers go to `out` and faults to `err`. No
-/// command reads `input`.
-pub fn run<R: Read, W: Write, E: Write>(
-    alloc: Global,
-    words: &[String],
-    input: &mut R,
-    out: &mut W,
-    err: &mut E,
-) -> u8
-    ensures ends { Ends W.contents E.contents (map string_bytes words.now) out.old out.new err.old err.new result }
-    ensures unread { input.new ≡ input.old }
+/// Writes an answer and returns the status.
+fn write_answer<W: Write, E: Write>(answer: &Answer, out: &mut W, err: &mut E) -> u8
+    ensures { WritesAnswer W.contents E.contents (outcome_of answer.now) out.old out.new err.old err.new result }
 {
-    let Ok(answer) = Command::parse(words).run(alloc) else {
-        return refuse(err);
-    };
     if let Err(failure) = write_whole(out, answer.output.as_slice()) {
         return report_failure(failure, err);
     }
@@ -56,6 +51,42 @@ pub fn run<R: Read, W: Write, E: Write>(
         return failure_status(failure);
     }
     answer.status
+}
+
+/// Writes why a run stopped, where somebody reads that, and returns the status.
+fn report_stop<E: Write>(stop: Stop, err: &mut E) -> u8
+    ensures { (message : List ℕ) × IsLast result message × WroteBeginning (E.contents err.old) (E.contents err.new) message }
+{
+    match stop {
+        Stop::OutOfMemory => refuse(err),
+        Stop::Read => {
+            let _ = write_whole(err, READ.as_bytes());
+            4
+        }
+        Stop::Output(failure) => report_failure(failure, err),
+        Stop::Errors(failure) => failure_status(failure),
+    }
+}
+
+/// Runs the command of the words and returns the status of the process: answers go to `out` and faults to `err`. Only
+/// `filter` with a valid list reads `input`.
+pub fn run<R: Read, W: Write, E: Write>(
+    alloc: Global,
+    words: &[String],
+    input: &mut R,
+    out: &mut W,
+    err: &mut E,
+) -> u8
+    ensures { Ends W.contents E.contents R.remaining (map string_bytes words.now) input.old input.new out.old out.new err.old err.new result }
+{
+    match Command::parse(words).run(alloc) {
+        Ok(Work::Answer(answer)) => write_answer(&answer, out, err),
+        Ok(Work::Filter(rule)) => match filter_input(alloc, &rule, input, out, err) {
+            Ok(status) => status,
+            Err(stop) => report_stop(stop, err),
+        },
+        Err(_) => refuse(err),
+    }
 }
 
 /// Writes that memory ran out, without allocating, and returns the status of the process, 3.

@@ -44,3 +44,34 @@ fn failure(kind: ErrorKind) -> WriteFailure {
         _ => WriteFailure::Other,
     }
 }
+
+/// Why a run stopped before its end.
+#[derive(Clone, Copy)]
+pub(crate) enum Stop {
+    OutOfMemory,
+    Read,
+    /// A write of the output.
+    Output(WriteFailure),
+    /// A write of the errors, after the output.
+    Errors(WriteFailure),
+}
+
+/// Writes the output and then the errors. Where a call failed or took no byte, a beginning of each was written.
+pub(crate) fn write_both<W: Write, E: Write>(
+    out: &mut W,
+    err: &mut E,
+    output: &[u8],
+    errors: &[u8],
+) -> Result<(), Stop>
+    ensures whole { OnOk result (Appends (W.contents out.old) (W.contents out.new) output.now × Appends (E.contents err.old) (E.contents err.new) errors.now) }
+    ensures output { WroteBeginning (W.contents out.old) (W.contents out.new) output.now }
+    ensures errors { WroteBeginning (E.contents err.old) (E.contents err.new) errors.now }
+{
+    if let Err(failure) = write_whole(out, output) {
+        return Err(Stop::Output(failure));
+    }
+    if let Err(failure) = write_whole(err, errors) {
+        return Err(Stop::Errors(failure));
+    }
+    Ok(())
+}

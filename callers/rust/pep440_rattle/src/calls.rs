@@ -26,6 +26,13 @@ struct PartsOf {
     has_local: u8,
 }
 
+/// The header's `pep440_string`.
+#[repr(C)]
+struct PointerAndLength {
+    bytes: *const u8,
+    length: usize,
+}
+
 type Writer = unsafe extern "C" fn(*const u8, usize, *mut u8, usize, *mut usize) -> u8;
 
 unsafe extern "C" {
@@ -40,6 +47,14 @@ unsafe extern "C" {
     fn pep440_sort_key_compiled(compiled: *const u8, length: usize, out: *mut u8, size: usize, written: *mut usize) -> u8;
     fn pep440_ranges(list: *const u8, length: usize, out: *mut u8, size: usize, written: *mut usize) -> u8;
     fn pep440_compare_compiled(left: *const u8, left_length: usize, right: *const u8, right_length: usize, order: *mut i8) -> u8;
+    fn pep440_filter_compiled(
+        list: *const u8,
+        list_length: usize,
+        versions: *const PointerAndLength,
+        count: usize,
+        marks: *mut u8,
+        size: usize,
+    ) -> u8;
     fn pep440_contains_compiled(
         list: *const u8,
         list_length: usize,
@@ -229,5 +244,24 @@ pub(crate) fn contains(list: &[u8], version: &[u8]) -> bool {
     match status {
         OK => contained == 1,
         other => panic!("a compiled list has no answer: {:?}", refusal(other)),
+    }
+}
+
+/// The marks of a version that the list does not contain, and of one that it does.
+const NO_MATCH: u8 = 0;
+const MATCH: u8 = 1;
+const PRERELEASE_MATCH: u8 = 3;
+
+/// As [`contains`], by a filter of one version. It reads the list into memory, but the version once and not twice: so it is
+/// faster for versions that are not packed.
+pub(crate) fn filter_one(list: &[u8], version: &[u8]) -> bool {
+    let (versions, mut mark) = (PointerAndLength { bytes: version.as_ptr(), length: version.len() }, NO_MATCH);
+    // SAFETY: as the module says; `PointerAndLength` is laid out as the header's struct, and there is one, and room for one mark.
+    let status = unsafe { pep440_filter_compiled(list.as_ptr(), list.len(), &versions, 1, &mut mark, 1) };
+    match (status, mark) {
+        (OK, NO_MATCH) => false,
+        (OK, MATCH | PRERELEASE_MATCH) => true,
+        (OK, _) => panic!("compiled bytes are no version"),
+        (other, _) => panic!("a compiled list has no answer: {:?}", refusal(other)),
     }
 }

@@ -134,7 +134,7 @@ impl VersionSpecifier {
 
     /// Whether the specifier contains the version (PEP 440, "Version specifiers"). Pre-releases are versions like others.
     pub fn contains(&self, version: &Version) -> bool {
-        self.with_list(|list| version.with_compiled(|version| calls::contains(list, version)))
+        self.with_list(|list| version.is_in(list))
     }
 
     /// Whether there are versions that the specifier excludes for being too low.

@@ -45,7 +45,7 @@ impl VersionSpecifiers {
     /// Whether each specifier contains the version.
     #[inline]
     pub fn contains(&self, version: &Version) -> bool {
-        version.with_compiled(|version| calls::contains(&self.compiled, version))
+        version.is_in(&self.compiled)
     }
 
     /// Whether there is no specifier.

@@ -130,6 +130,15 @@ impl Version {
         }
     }
 
+    /// Whether the compiled list contains the version.
+    #[inline]
+    pub(crate) fn is_in(&self, list: &[u8]) -> bool {
+        match &self.form {
+            Form::Packed(packed) => calls::contains(list, &packed.to_bytes()),
+            Form::Unpacked(unpacked) => calls::filter_one(list, &unpacked.compiled),
+        }
+    }
+
     /// Whether there is a pre-release or a developmental part.
     #[inline]
     pub fn any_prerelease(&self) -> bool {

@@ -1,0 +1,9 @@
+use Rattle.std.proofs.Common.{◌∙◌, refl, sym}
+use Rattle.pyver_core.proofs.Filtering.{steps_line}
+use Rattle.pyver_core.specs.AnswerViews.{reading_of}
+use Rattle.pyver_core.proofs.filter.FilterState.push_line.Goals as goal
+
+pub returns : goal.returns
+returns c =
+    steps_line c.args.rule.now c.args.line.now c.args.self.now _ c.push_reading.new.self c.line_text-text.result.now (reading_of c.in_ok-reading.reading) c.line_text-text.ensures (sym c.is_blank.ensures ∙ c.if-is_blank.false)
+    c.in_ok-reading.ensures refl refl refl refl c.in_ok-push_reading.ensures

@@ -1,0 +1,21 @@
+use Rattle.std.proofs.Common.{refl, subst}
+use Rattle.pyver_core.proofs.RunEnds.{ends_at_once, ends_by_answer, ends_by_stop}
+use Rattle.pyver_core.specs.AnswerViews.{outcome_of}
+use Rattle.pyver_core.specs.TaskViews.{task}
+use Rattle.pyver_core.specs.WorkViews.{IsWork}
+use Rattle.pyver_core.specs.declared.command.Work.TheVariants as work
+use Rattle.pyver_core.proofs.program.run.Goals as goal
+
+pub returns-in-Ok-Answer : goal.returns-in-Ok-Answer
+returns-in-Ok-Answer g c =
+    let is = subst (λ t. IsWork t (work.Answer c.in-Ok-Answer.answer)) c.parse.ensures (subst (λ w. IsWork (task c.parse.result) w) c.in-Ok-Answer.field-0-is c.in-Ok-Answer.ensures) in
+    ends_by_answer _ _ _ _ c.args.input.now c.args.input.now c.args.out.now c.write_answer.new.out c.args.err.now c.write_answer.new.err c.write_answer.result (outcome_of c.in-Ok-Answer.answer) is.0 is.1 refl c.write_answer.ensures
+
+pub returns-in-Ok-Filter : goal.returns-in-Ok-Filter
+returns-in-Ok-Filter g c =
+    let is = subst (λ t. IsWork t (work.Filter c.in-Ok-Filter.rule)) c.parse.ensures (subst (λ w. IsWork (task c.parse.result) w) c.in-Ok-Filter.field-0-is c.in-Ok-Filter.ensures) in
+    ends_by_stop _ _ _ _ c.args.input.now c.filter_input.new.input c.args.out.now c.filter_input.new.out c.args.err.now c.report_stop.new.err c.report_stop.result c.in-Ok-Filter.rule c.filter_input.new.err c.report_stop.ensures.0 is.0 is.1
+    c.in-Err-filter_input.ensures.stopped c.report_stop.ensures.1 c.report_stop.ensures.2
+
+pub returns : goal.returns
+returns g c = ends_at_once _ _ _ _ c.args.input.now c.args.input.now c.args.out.now c.args.out.now c.args.err.now c.refuse.new.err c.refuse.result refl refl c.refuse.ensures.status c.refuse.ensures.written
