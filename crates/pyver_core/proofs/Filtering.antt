@@ -7,10 +7,10 @@ use Rattle.std.proofs.lemmas.List.Folds.{concat-append}
 use Rattle.std.proofs.Math.Seq.{take-nil}
 use Rattle.std.specs.Io.KnownBytes.{Appends, Consumes, IsAtEnd}
 use Rattle.std.specs.List.{AllZip, concat, filter, flat_map}
-use Rattle.pyver_core.proofs.InputLines.{all_append, cuts_all, cuts_more, no_newline_none, numbered_lines_from-append, some_line}
+use Rattle.pyver_core.proofs.InputLines.{all_append, cuts_all, cuts_more, no_newline_none, filled_lines_from-append, some_line}
 use Rattle.pyver_core.specs.FilterSteps.{Cuts, FilterFinishes, FilterStops, FinishesBy, Goes, Steps, StepsBy}
-use Rattle.pyver_core.specs.Filters.{IsRead, ReadLine, ReadsLine, fault_at, faults, filter_outcome, is_shown, filtered_text}
-use Rattle.pyver_core.specs.InputLines.{is_blank, input_lines, numbered, numbered_lines_from}
+use Rattle.pyver_core.specs.Filters.{IsRead, ReadLine, ReadsLine, fault_at, faults, filter_outcome, is_shown, printed_lines}
+use Rattle.pyver_core.specs.InputLines.{is_blank, input_lines, numbered, filled_lines_from}
 use Rattle.pyver_core.specs.Messages.{more_faults_message}
 use Rattle.pyver_core.specs.Readings.{Reading}
 use Rattle.pyver_core.specs.Runs.{WroteBeginning}
@@ -19,8 +19,8 @@ use Rattle.pyver_core.specs.declared.filter.FilterState.{FilterState}
 
 -- ---- what is asked for by some lines and then by others
 
-filtered_text-append : (rule : FilterRule) (xs ys : List ReadLine) → filtered_text rule (xs ++ ys) ≡ filtered_text rule xs ++ filtered_text rule ys
-filtered_text-append rule xs ys =
+printed_lines-append : (rule : FilterRule) (xs ys : List ReadLine) → printed_lines rule (xs ++ ys) ≡ printed_lines rule xs ++ printed_lines rule ys
+printed_lines-append rule xs ys =
     let test = λ (x : ReadLine). is_shown rule x.reading in
     let print = λ (x : ReadLine). x.line.1 ++ 10 ∷ [] in
     ap (flat_map print) (filter-append test xs ys) ∙ flat_map-append print (filter test xs) (filter test ys)
@@ -56,10 +56,10 @@ steps_none rule a = record {
 pub steps_more : (rule : FilterRule) (xs ys : List (List ℕ)) (a b c : FilterState) → Steps rule xs a b → Steps rule ys b c → Steps rule (xs ++ ys) a c
 steps_more rule xs ys a b c k m = record {
   found = k.found ++ m.found;
-  are = subst (λ l. AllZip IsRead l (k.found ++ m.found)) (sym (numbered_lines_from-append (a.line_count + 1) (b.line_count + 1) xs ys (omega (arith, k.line_count)))) (all_append IsRead _ k.found _ m.found k.are m.are);
+  are = subst (λ l. AllZip IsRead l (k.found ++ m.found)) (sym (filled_lines_from-append (a.line_count + 1) (b.line_count + 1) xs ys (omega (arith, k.line_count)))) (all_append IsRead _ k.found _ m.found k.are m.are);
   line_count = omega (arith, k.line_count, m.line_count, length-append xs ys);
   fault_count = omega (arith, k.fault_count, m.fault_count, length-faults k.found m.found);
-  output = m.output ∙ ap (λ t. t ++ filtered_text rule m.found) k.output ∙ append_assoc a.output.items (filtered_text rule k.found) (filtered_text rule m.found) ∙ ap (λ t. a.output.items ++ t) (sym (filtered_text-append rule k.found m.found));
+  output = m.output ∙ ap (λ t. t ++ printed_lines rule m.found) k.output ∙ append_assoc a.output.items (printed_lines rule k.found) (printed_lines rule m.found) ∙ ap (λ t. a.output.items ++ t) (sym (printed_lines-append rule k.found m.found));
   errors = m.errors ∙ ap (λ t. t ++ concat (take (20 - b.fault_count) (faults m.found))) k.errors ∙ append_assoc a.errors.items _ _
       ∙ ap (λ t. a.errors.items ++ t) (sym (first-append (20 - a.fault_count) (20 - b.fault_count) k.found m.found (omega (arith, k.fault_count))));
 }
@@ -71,13 +71,13 @@ pub steps_line : (rule : FilterRule) (line : List ℕ) (a mid b : FilterState) (
 steps_line rule line a mid b text x is filled reads count fault output errors k =
     let n = a.line_count + 1 in
     let e : ReadLine = record { line = (mid.line_count, text); reading = x } in
-    let left : numbered_lines_from n (line ∷ []) ≡ (n, text) ∷ [] = ap (λ (p : ℕ × List ℕ). filter (λ (l : ℕ × List ℕ). not (is_blank l.1)) (p ∷ [])) (sym is) ∙ ap (λ b. cond (not b) ((n, text) ∷ []) []) filled in
+    let left : filled_lines_from n (line ∷ []) ≡ (n, text) ∷ [] = ap (λ (p : ℕ × List ℕ). filter (λ (l : ℕ × List ℕ). not (is_blank l.1)) (p ∷ [])) (sym is) ∙ ap (λ b. cond (not b) ((n, text) ∷ []) []) filled in
     record {
       found = e ∷ [];
       are = subst (λ l. AllZip IsRead l (e ∷ [])) (sym left) ((ap (λ m. (m, text)) count, reads), tt);
       line_count = k.line_count ∙ count;
       fault_count = k.fault_count ∙ ap (λ m. m + length (faults (e ∷ []))) fault;
-      output = k.output ∙ ap (λ t. t ++ filtered_text rule (e ∷ [])) output;
+      output = k.output ∙ ap (λ t. t ++ printed_lines rule (e ∷ [])) output;
       errors = k.errors ∙ ap (λ t. t ++ concat (take (20 - mid.fault_count) (faults (e ∷ [])))) errors ∙ ap (λ m. a.errors.items ++ concat (take (20 - m) (faults (e ∷ [])))) fault;
     }
 
@@ -115,11 +115,11 @@ module _ {R W E : Type 0} (remaining : R → Option (List ℕ)) (contents : W �
   }
 
   module _ (rule : FilterRule) (reader reader' reader'' : R) (out out' out'' : W) (err err' err'' : E) (state next : FilterState) (line : List ℕ) where
-    found_more : (texts : List (List ℕ)) (g : Goes remaining contents error_contents rule reader reader' out out' err err' state line) (s : Steps rule texts state next) → AllZip IsRead (numbered_lines_from 1 (g.ended ++ texts)) (g.found ++ s.found)
-    found_more texts g s = subst (λ l. AllZip IsRead l (g.found ++ s.found)) (sym (numbered_lines_from-append 1 (state.line_count + 1) g.ended texts (omega (arith, g.line_count)))) (all_append IsRead _ g.found _ s.found g.are s.are)
+    found_more : (texts : List (List ℕ)) (g : Goes remaining contents error_contents rule reader reader' out out' err err' state line) (s : Steps rule texts state next) → AllZip IsRead (filled_lines_from 1 (g.ended ++ texts)) (g.found ++ s.found)
+    found_more texts g s = subst (λ l. AllZip IsRead l (g.found ++ s.found)) (sym (filled_lines_from-append 1 (state.line_count + 1) g.ended texts (omega (arith, g.line_count)))) (all_append IsRead _ g.found _ s.found g.are s.are)
 
-    shown_more : (texts : List (List ℕ)) (g : Goes remaining contents error_contents rule reader reader' out out' err err' state line) (s : Steps rule texts state next) → filtered_text rule (g.found ++ s.found) ≡ filtered_text rule g.found ++ next.output.items
-    shown_more texts g s = filtered_text-append rule g.found s.found ∙ ap (λ t. filtered_text rule g.found ++ t) (sym (s.output ∙ ap (λ t. t ++ filtered_text rule s.found) g.no_output))
+    printed_more : (texts : List (List ℕ)) (g : Goes remaining contents error_contents rule reader reader' out out' err err' state line) (s : Steps rule texts state next) → printed_lines rule (g.found ++ s.found) ≡ printed_lines rule g.found ++ next.output.items
+    printed_more texts g s = printed_lines-append rule g.found s.found ∙ ap (λ t. printed_lines rule g.found ++ t) (sym (s.output ∙ ap (λ t. t ++ printed_lines rule s.found) g.no_output))
 
     faults_more : (texts : List (List ℕ)) (g : Goes remaining contents error_contents rule reader reader' out out' err err' state line) (s : Steps rule texts state next)
         → concat (take 20 (faults (g.found ++ s.found))) ≡ concat (take 20 (faults g.found)) ++ next.errors.items
@@ -144,7 +144,7 @@ module _ {R W E : Type 0} (remaining : R → Option (List ℕ)) (contents : W �
       are = found_more texts g s;
       line_count = omega (arith, count, s.line_count, g.line_count, length-append g.ended texts);
       fault_count = fault ∙ count_more texts g s;
-      output = subst (Appends (contents out) (contents out'')) (sym (shown_more texts g s)) (Appends-trans (contents out) (contents out') (contents out'') (filtered_text rule g.found) next.output.items g.output output);
+      output = subst (Appends (contents out) (contents out'')) (sym (printed_more texts g s)) (Appends-trans (contents out) (contents out') (contents out'') (printed_lines rule g.found) next.output.items g.output output);
       errors = subst (Appends (error_contents err) (error_contents err'')) (sym (faults_more texts g s))
           (Appends-trans (error_contents err) (error_contents err') (error_contents err'') (concat (take 20 (faults g.found))) next.errors.items g.errors errors);
       no_output = no_output;
@@ -163,7 +163,7 @@ module _ {R W E : Type 0} (remaining : R → Option (List ℕ)) (contents : W �
       whole = λ none. absurd (some_line (line ++ bytes) none);
       outcome = filter_outcome rule g.found;
       is = (g.found, g.are, refl);
-      output = wrote_front _ _ (filtered_text rule g.found) [] _ g.output (sym (append-nil (filtered_text rule g.found)));
+      output = wrote_front _ _ (printed_lines rule g.found) [] _ g.output (sym (append-nil (printed_lines rule g.found)));
       errors = wrote_front _ _ (concat (take 20 (faults g.found))) (more_faults_message (length (faults g.found) - 20)) _ g.errors refl;
     }
 
@@ -180,15 +180,15 @@ module _ {R W E : Type 0} (remaining : R → Option (List ℕ)) (contents : W �
       whole = λ none. absurd (some_line (begun ++ []) none);
       outcome = filter_outcome rule (g.found ++ s.found);
       is = (g.found ++ s.found, found_more texts g s, refl);
-      output = began _ _ _ (filtered_text rule g.found) next.output.items [] _ g.output output (shown_more texts g s ∙ sym (append-nil (filtered_text rule g.found ++ next.output.items)));
+      output = began _ _ _ (printed_lines rule g.found) next.output.items [] _ g.output output (printed_more texts g s ∙ sym (append-nil (printed_lines rule g.found ++ next.output.items)));
       errors = began _ _ _ (concat (take 20 (faults g.found))) next.errors.items (more_faults_message (length (faults (g.found ++ s.found)) - 20)) _ g.errors errors (ap (λ t. t ++ more_faults_message (length (faults (g.found ++ s.found)) - 20)) (faults_more texts g s));
     }
 
   module _ (rule : FilterRule) (reader reader' reader'' : R) (out out' out'' : W) (err err' err'' : E) (state next : FilterState) (line : List ℕ) (status : ℕ) where
     last_output : (g : Goes remaining contents error_contents rule reader reader' out out' err err' state line) (f : FinishesBy rule line state next status)
-        → filtered_text rule (g.found ++ f.step.found) ≡ filtered_text rule g.found ++ next.output.items
+        → printed_lines rule (g.found ++ f.step.found) ≡ printed_lines rule g.found ++ next.output.items
     last_output g f =
-        shown_more rule reader reader' reader'' out out' out'' err err' err'' state f.last line (line ∷ []) g f.step ∙ ap (λ t. filtered_text rule g.found ++ t) (sym f.output)
+        printed_more rule reader reader' reader'' out out' out'' err err' err'' state f.last line (line ∷ []) g f.step ∙ ap (λ t. printed_lines rule g.found ++ t) (sym f.output)
 
     last_errors : (g : Goes remaining contents error_contents rule reader reader' out out' err err' state line) (f : FinishesBy rule line state next status)
         → concat (take 20 (faults (g.found ++ f.step.found))) ++ more_faults_message (length (faults (g.found ++ f.step.found)) - 20) ≡ concat (take 20 (faults g.found)) ++ next.errors.items
@@ -199,7 +199,7 @@ module _ {R W E : Type 0} (remaining : R → Option (List ℕ)) (contents : W �
         ∙ ap (λ t. first ++ t)
         (ap (λ n. f.last.errors.items ++ more_faults_message (n - 20)) (sym (count_more rule reader reader' reader'' out out' out'' err err' err'' state f.last line (line ∷ []) g f.step)) ∙ sym f.errors)
 
-    last_found : (g : Goes remaining contents error_contents rule reader reader' out out' err err' state line) (f : FinishesBy rule line state next status) → AllZip IsRead (numbered_lines_from 1 (g.ended ++ line ∷ [])) (g.found ++ f.step.found)
+    last_found : (g : Goes remaining contents error_contents rule reader reader' out out' err err' state line) (f : FinishesBy rule line state next status) → AllZip IsRead (filled_lines_from 1 (g.ended ++ line ∷ [])) (g.found ++ f.step.found)
     last_found g f = found_more rule reader reader' reader'' out out' out'' err err' err'' state f.last line (line ∷ []) g f.step
 
     -- the input ended, and all was written
@@ -213,10 +213,10 @@ module _ {R W E : Type 0} (remaining : R → Option (List ℕ)) (contents : W �
       outcome = filter_outcome rule (g.found ++ f.step.found);
       is = (
         g.found ++ f.step.found,
-        subst (λ l. AllZip IsRead (numbered_lines_from 1 l) (g.found ++ f.step.found)) (sym (cuts_all g.read g.ended line g.cut ∙ append-nil (g.ended ++ line ∷ []))) (last_found g f),
+        subst (λ l. AllZip IsRead (filled_lines_from 1 l) (g.found ++ f.step.found)) (sym (cuts_all g.read g.ended line g.cut ∙ append-nil (g.ended ++ line ∷ []))) (last_found g f),
         refl,
       );
-      output = subst (Appends (contents out) (contents out'')) (sym (last_output g f)) (Appends-trans (contents out) (contents out') (contents out'') (filtered_text rule g.found) next.output.items g.output output);
+      output = subst (Appends (contents out) (contents out'')) (sym (last_output g f)) (Appends-trans (contents out) (contents out') (contents out'') (printed_lines rule g.found) next.output.items g.output output);
       errors = subst (Appends (error_contents err) (error_contents err'')) (sym (last_errors g f))
           (Appends-trans (error_contents err) (error_contents err') (error_contents err'') (concat (take 20 (faults g.found))) next.errors.items g.errors errors);
       ended = f.ended ∙ ap (λ n. if n == 0 then 0 else 2) (count_more rule reader reader' reader'' out out' out'' err err' err'' state f.last line (line ∷ []) g f.step);
@@ -235,6 +235,6 @@ module _ {R W E : Type 0} (remaining : R → Option (List ℕ)) (contents : W �
       whole = λ _. end;
       outcome = filter_outcome rule (g.found ++ f.step.found);
       is = (g.found ++ f.step.found, last_found g f, refl);
-      output = began _ _ _ (filtered_text rule g.found) next.output.items [] _ g.output output (last_output g f ∙ sym (append-nil (filtered_text rule g.found ++ next.output.items)));
+      output = began _ _ _ (printed_lines rule g.found) next.output.items [] _ g.output output (last_output g f ∙ sym (append-nil (printed_lines rule g.found ++ next.output.items)));
       errors = began _ _ _ (concat (take 20 (faults g.found))) next.errors.items [] _ g.errors errors (last_errors g f ∙ sym (append-nil (concat (take 20 (faults g.found)) ++ next.errors.items)));
     }

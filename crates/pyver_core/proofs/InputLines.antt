@@ -5,7 +5,7 @@ use Rattle.std.proofs.lemmas.List.{map-append, take_more}
 use Rattle.std.proofs.lemmas.List.Elements.{All-nil, All-push, filter-append}
 use Rattle.std.proofs.lemmas.List.Splits.{length-slice_split, slice_split_at, slice_split_none}
 use Rattle.pyver_core.specs.FilterSteps.{Cuts, HasNoNewline}
-use Rattle.pyver_core.specs.InputLines.{is_blank, input_lines, numbered, numbered_lines_from}
+use Rattle.pyver_core.specs.InputLines.{is_blank, input_lines, numbered, filled_lines_from}
 
 -- ---- the lines of a text
 
@@ -65,11 +65,11 @@ enumerate_from-append : {X : Type 0} (n : ℕ) (xs ys : List X) → enumerate_fr
 enumerate_from-append n [] ys = ap (λ m. enumerate_from m ys) (omega arith)
 enumerate_from-append n (x ∷ xs) ys = ap (λ l. (n, x) ∷ l) (enumerate_from-append (n + 1) xs ys ∙ ap (λ m. enumerate_from (n + 1) xs ++ enumerate_from m ys) (omega arith))
 
-pub numbered_lines_from-append : (n m : ℕ) (xs ys : List (List ℕ)) → m ≡ n + length xs → numbered_lines_from n (xs ++ ys) ≡ numbered_lines_from n xs ++ numbered_lines_from m ys
-numbered_lines_from-append n m xs ys e =
+pub filled_lines_from-append : (n m : ℕ) (xs ys : List (List ℕ)) → m ≡ n + length xs → filled_lines_from n (xs ++ ys) ≡ filled_lines_from n xs ++ filled_lines_from m ys
+filled_lines_from-append n m xs ys e =
     let test = λ (line : ℕ × List ℕ). not (is_blank line.1) in
     ap (λ l. filter test (map numbered l)) (enumerate_from-append n xs ys) ∙ ap (filter test) (map-append numbered (enumerate_from n xs) (enumerate_from (n + length xs) ys))
-    ∙ filter-append test (map numbered (enumerate_from n xs)) (map numbered (enumerate_from (n + length xs) ys)) ∙ ap (λ k. numbered_lines_from n xs ++ numbered_lines_from k ys) (sym e)
+    ∙ filter-append test (map numbered (enumerate_from n xs)) (map numbered (enumerate_from (n + length xs) ys)) ∙ ap (λ k. filled_lines_from n xs ++ filled_lines_from k ys) (sym e)
 
 pub all_append : {A B : Type 0} (R : A → B → Type 0) (xs : List A) (ys : List B) (us : List A) (vs : List B) → AllZip R xs ys → AllZip R us vs → AllZip R (xs ++ us) (ys ++ vs)
 all_append R [] [] us vs h k = k

@@ -10,7 +10,7 @@ use Rattle.pep440_version.proofs.Refusals.ExactlyOne.{not_both, one_refusal}
 use Rattle.pep440_version.specs.ErrorTexts.{refusal_text}
 use Rattle.pyver_core.specs.Comparisons.{Compares, comparison_outcome}
 use Rattle.pyver_core.specs.Filters.{Filters, FiltersBy, FiltersLines, IsRead, ReadLine, ReadsLine, filter_outcome, rule_of}
-use Rattle.pyver_core.specs.InputLines.{numbered_lines_from}
+use Rattle.pyver_core.specs.InputLines.{filled_lines_from}
 use Rattle.pyver_core.specs.Matches.{Matches, MatchesBy, MatchesWord, MatchesWords, ReadsSpecifiers, SpecifiersReading, DenotesList, ListFails, word_outcome}
 use Rattle.pyver_core.specs.OneOutcome.{OutcomesOnce}
 use Rattle.pyver_core.specs.Outcomes.{Outcome, in_turn}
@@ -76,7 +76,7 @@ match_once : (options : MatchOptions) (specifiers : List ℕ) (words : List (Lis
 match_once options specifiers words a b (x, hx, h) (u, hu, k) = by_once options x words a b h (subst (λ (z : SpecifiersReading). MatchesBy options z words b) (sym (specifiers_once specifiers x u hx hu)) k)
 
 filters_once : (rule : FilterRule) (texts : List (List ℕ)) (a b : Outcome) → Filters rule texts a → Filters rule texts b → a ≡ b
-filters_once rule texts a b (es, h, is) (fs, k, so) = is ∙ ap (filter_outcome rule) (all_once IsRead is_read_once (numbered_lines_from 1 texts) es fs h k) ∙ sym so
+filters_once rule texts a b (es, h, is) (fs, k, so) = is ∙ ap (filter_outcome rule) (all_once IsRead is_read_once (filled_lines_from 1 texts) es fs h k) ∙ sym so
 
 filter_by_once : (options : FilterOptions) (x : SpecifiersReading) (texts : List (List ℕ)) (a b : Outcome) → FiltersBy options x texts a → FiltersBy options x texts b → a ≡ b
 filter_by_once options (DenotesList list) texts a b h k = filters_once (rule_of options list) texts a b h k

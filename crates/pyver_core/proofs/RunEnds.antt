@@ -50,7 +50,7 @@ told_more a b c xs message wrote k = record {
 module _ {R W E : Type 0} (remaining : R → Option (List ℕ)) (contents : W → Option (List ℕ)) (error_contents : E → Option (List ℕ)) (words : List (List ℕ)) (reader reader' : R) (out out' : W) (err err' : E) (status : ℕ) where
   -- an answer that needs no input
   pub ends_by_answer : (o : Outcome) → ¬ NeedsInput (task_of words) → ((texts : List (List ℕ)) → IsOutcome (task_of words) texts o) → reader' ≡ reader → WritesAnswer contents error_contents o out out' err err' status
-      → Ends contents error_contents remaining words reader reader' out out' err err' status
+      → Ends remaining contents error_contents words reader reader' out out' err err' status
   ends_by_answer o needless is same (inl k) = record {
     known = inl (omega (arith, k.0));
     unread = λ _. same;
@@ -86,7 +86,7 @@ module _ {R W E : Type 0} (remaining : R → Option (List ℕ)) (contents : W �
 
   -- the whole input was filtered
   pub ends_by_filter : (rule : FilterRule) → NeedsInput (task_of words) → ((texts : List (List ℕ)) (o : Outcome) → Filters rule texts o → IsOutcome (task_of words) texts o)
-      → FilterFinishes remaining contents error_contents rule reader reader' out out' err err' status → Ends contents error_contents remaining words reader reader' out out' err err' status
+      → FilterFinishes remaining contents error_contents rule reader reader' out out' err err' status → Ends remaining contents error_contents words reader reader' out out' err err' status
   ends_by_filter rule needs is k =
       let low : status ≤ 2 = subst (λ n. n ≤ 2) (sym k.ended) (filtered_status rule (input_lines k.read) k.outcome k.is) in
       record {
@@ -101,7 +101,7 @@ module _ {R W E : Type 0} (remaining : R → Option (List ℕ)) (contents : W �
   -- a run stopped, and then the last message was written
   pub ends_by_stop : (rule : FilterRule) (told : E) (message : List ℕ) → NeedsInput (task_of words) → ((texts : List (List ℕ)) (o : Outcome) → Filters rule texts o → IsOutcome (task_of words) texts o)
       → FilterStops remaining contents error_contents rule reader reader' out out' err told → IsLast status message → WroteBeginning (error_contents told) (error_contents err') message
-      → Ends contents error_contents remaining words reader reader' out out' err err' status
+      → Ends remaining contents error_contents words reader reader' out out' err err' status
   ends_by_stop rule told message needs is k last wrote = record {
     known = last_known status message last;
     unread = λ needless. absurd (needless needs);
@@ -128,7 +128,7 @@ module _ {R W E : Type 0} (remaining : R → Option (List ℕ)) (contents : W �
   }
 
   -- memory ran out before anything was read or written
-  pub ends_at_once : reader' ≡ reader → out' ≡ out → status ≡ 3 → WroteBeginning (error_contents err) (error_contents err') memory_message → Ends contents error_contents remaining words reader reader' out out' err err' status
+  pub ends_at_once : reader' ≡ reader → out' ≡ out → status ≡ 3 → WroteBeginning (error_contents err) (error_contents err') memory_message → Ends remaining contents error_contents words reader reader' out out' err err' status
   ends_at_once same kept three wrote = record {
     known = inl (omega (arith, three));
     unread = λ _. same;

@@ -2,8 +2,8 @@
 use Rattle.std.specs.Prelude.{◌≡◌, ℕ, ◌+◌, ◌-◌, ◌==◌, List, [], ◌∷◌, ◌++◌, Option, false, length, take, if◌then◌else◌}
 use Rattle.std.specs.Io.KnownBytes.{Appends, Consumes, IsAtEnd}
 use Rattle.std.specs.List.{All, AllZip, concat}
-use Rattle.pyver_core.specs.Filters.{Filters, IsRead, ReadLine, faults, filtered_text}
-use Rattle.pyver_core.specs.InputLines.{input_lines, numbered_lines_from}
+use Rattle.pyver_core.specs.Filters.{Filters, IsRead, ReadLine, faults, printed_lines}
+use Rattle.pyver_core.specs.InputLines.{filled_lines_from, input_lines}
 use Rattle.pyver_core.specs.Messages.{more_faults_message}
 use Rattle.pyver_core.specs.Outcomes.{Outcome}
 use Rattle.pyver_core.specs.Runs.{WroteBeginning}
@@ -21,17 +21,17 @@ pub record Cuts (text : List ℕ) (ended : List (List ℕ)) (line : List ℕ) : 
 -- from one state to another by these lines
 pub record Steps (rule : FilterRule) (ended : List (List ℕ)) (a b : FilterState) : Type 0 where
   pub found : List ReadLine
-  pub are : AllZip IsRead (numbered_lines_from (a.line_count + 1) ended) found
+  pub are : AllZip IsRead (filled_lines_from (a.line_count + 1) ended) found
   pub line_count : b.line_count ≡ a.line_count + length ended
   pub fault_count : b.fault_count ≡ a.fault_count + length (faults found)
-  pub output : b.output.items ≡ a.output.items ++ filtered_text rule found
+  pub output : b.output.items ≡ a.output.items ++ printed_lines rule found
   pub errors : b.errors.items ≡ a.errors.items ++ concat (take (20 - a.fault_count) (faults found))
 
 -- by one line, that is read so
 pub record StepsBy (rule : FilterRule) (x : ReadLine) (a b : FilterState) : Type 0 where
   pub line_count : b.line_count ≡ a.line_count
   pub fault_count : b.fault_count ≡ a.fault_count + length (faults (x ∷ []))
-  pub output : b.output.items ≡ a.output.items ++ filtered_text rule (x ∷ [])
+  pub output : b.output.items ≡ a.output.items ++ printed_lines rule (x ∷ [])
   pub errors : b.errors.items ≡ a.errors.items ++ concat (take (20 - a.fault_count) (faults (x ∷ [])))
 
 -- by the last line, and the end of the messages
@@ -50,10 +50,10 @@ module _ {R W E : Type 0} (remaining : R → Option (List ℕ)) (contents : W �
     pub ended : List (List ℕ)
     pub cut : Cuts read ended line
     pub found : List ReadLine
-    pub are : AllZip IsRead (numbered_lines_from 1 ended) found
+    pub are : AllZip IsRead (filled_lines_from 1 ended) found
     pub line_count : state.line_count ≡ length ended
     pub fault_count : state.fault_count ≡ length (faults found)
-    pub output : Appends (contents out) (contents out') (filtered_text rule found)
+    pub output : Appends (contents out) (contents out') (printed_lines rule found)
     pub errors : Appends (error_contents err) (error_contents err') (concat (take 20 (faults found)))
     pub no_output : state.output.items ≡ []
     pub no_errors : state.errors.items ≡ []

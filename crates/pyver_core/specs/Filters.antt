@@ -3,7 +3,7 @@ use Rattle.std.specs.Prelude.{◌≡◌, ◌⊎◌, ℕ, ◌-◌, ◌==◌, List
 use Rattle.std.specs.List.{AllZip, concat, filter, flat_map}
 use Rattle.std.specs.Str.{IsUtf8}
 use Rattle.pep440_rs.specs.Specifiers.{Spec}
-use Rattle.pyver_core.specs.InputLines.{numbered_lines_from}
+use Rattle.pyver_core.specs.InputLines.{filled_lines_from}
 use Rattle.pyver_core.specs.Matches.{DenotesList, ListFails, ReadsSpecifiers, SpecifiersReading, list_fault}
 use Rattle.pyver_core.specs.Messages.{line_fault_message, more_faults_message}
 use Rattle.pyver_core.specs.Outcomes.{Outcome, followed_by, no_outcome}
@@ -30,8 +30,8 @@ is_shown rule (Denotes r) = if rule.inverted then not (allows rule.takes rule.li
 is_shown rule (Fails reason) = false
 
 -- the lines that are printed, in the order of the input
-abbrev pub filtered_text : FilterRule → List ReadLine → List ℕ
-filtered_text rule found = flat_map (λ (x : ReadLine). x.line.1 ++ codes "\n") (filter (λ (x : ReadLine). is_shown rule x.reading) found)
+abbrev pub printed_lines : FilterRule → List ReadLine → List ℕ
+printed_lines rule found = flat_map (λ (x : ReadLine). x.line.1 ++ codes "\n") (filter (λ (x : ReadLine). is_shown rule x.reading) found)
 
 -- the message of an invalid line
 abbrev pub fault_at : ℕ → Reading → List (List ℕ)
@@ -44,14 +44,14 @@ faults found = flat_map (λ (x : ReadLine). fault_at x.line.0 x.reading) found
 -- the first 20 invalid lines are named, and then how many more there are
 abbrev pub filter_outcome : FilterRule → List ReadLine → Outcome
 filter_outcome rule found = record {
-  output = filtered_text rule found;
+  output = printed_lines rule found;
   errors = concat (take 20 (faults found)) ++ more_faults_message (length (faults found) - 20);
   status = if length (faults found) == 0 then 0 else 2;
 }
 
 -- what is written of the lines
 abbrev pub Filters : FilterRule → List (List ℕ) → Outcome → Type 0
-Filters rule texts o = (found : List ReadLine) × AllZip IsRead (numbered_lines_from 1 texts) found × (o ≡ filter_outcome rule found)
+Filters rule texts o = (found : List ReadLine) × AllZip IsRead (filled_lines_from 1 texts) found × (o ≡ filter_outcome rule found)
 
 abbrev pub rule_of : FilterOptions → List Spec → FilterRule
 rule_of options list = record { inverted = options.inverted; takes = takes_prereleases options.prereleases list; list = list }

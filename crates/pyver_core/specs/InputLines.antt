@@ -22,5 +22,5 @@ abbrev pub is_blank : List ℕ → Bool
 is_blank text = list_all is_ascii_whitespace text
 
 -- the lines that are not blank, with their numbers, of which the first is this
-abbrev pub numbered_lines_from : ℕ → List (List ℕ) → List (ℕ × List ℕ)
-numbered_lines_from first texts = filter (λ (line : ℕ × List ℕ). not (is_blank line.1)) (map numbered (enumerate_from first texts))
+abbrev pub filled_lines_from : ℕ → List (List ℕ) → List (ℕ × List ℕ)
+filled_lines_from first texts = filter (λ (line : ℕ × List ℕ). not (is_blank line.1)) (map numbered (enumerate_from first texts))

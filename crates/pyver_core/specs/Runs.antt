@@ -27,8 +27,7 @@ IsLast status message = ((status ≡ 3) × (message ≡ memory_message))
     ⊎ ((status ≡ 4) × ((message ≡ read_message) ⊎ ((message ≡ write_message) ⊎ (message ≡ []))))
     ⊎ ((status ≡ 141) × (message ≡ []))
 
--- What a run does with its reader and its writers. `contents` and `error_contents` are the bytes that each writer holds,
--- `remaining` those that the reader has left.
+-- What a run does with its writers. `contents` and `error_contents` are the bytes that each holds.
 module _ {W E : Type 0} (contents : W → Option (List ℕ)) (error_contents : E → Option (List ℕ)) where
   -- standard output took a beginning, and then standard error one of the message or nothing
   pub record IsCutOutput (outcome : Outcome) (out out' : W) (err err' : E) : Type 0 where
@@ -51,47 +50,48 @@ module _ {W E : Type 0} (contents : W → Option (List ℕ)) (error_contents : E
   WritesAnswer outcome out out' err err' status = ((status ≤ 2) × IsWritten outcome out out' err err' status)
       ⊎ (((status ≡ 4) ⊎ (status ≡ 141)) × (IsCutOutput outcome out out' err err' ⊎ IsCutErrors outcome out out' err err'))
 
-  module _ {R : Type 0} (remaining : R → Option (List ℕ)) where
-    -- all was written of the lines that were read, which are those of the whole input where the task needs it
-    pub record IsFinished (words : List (List ℕ)) (reader reader' : R) (out out' : W) (err err' : E) (status : ℕ) : Type 0 where
-      pub read : List ℕ
-      pub consumed : Consumes (remaining reader) (remaining reader') read
-      pub end : NeedsInput (task_of words) → IsAtEnd (remaining reader')
-      pub outcome : Outcome
-      pub is : IsOutcome (task_of words) (input_lines read) outcome
-      pub written : IsWritten outcome out out' err err' status
+-- What a run does with its reader too. `remaining` are the bytes that it has left.
+module _ {R W E : Type 0} (remaining : R → Option (List ℕ)) (contents : W → Option (List ℕ)) (error_contents : E → Option (List ℕ)) where
+  -- all was written of the lines that were read, which are those of the whole input where the task needs it
+  pub record IsFinished (words : List (List ℕ)) (reader reader' : R) (out out' : W) (err err' : E) (status : ℕ) : Type 0 where
+    pub read : List ℕ
+    pub consumed : Consumes (remaining reader) (remaining reader') read
+    pub end : NeedsInput (task_of words) → IsAtEnd (remaining reader')
+    pub outcome : Outcome
+    pub is : IsOutcome (task_of words) (input_lines read) outcome
+    pub written : IsWritten contents error_contents outcome out out' err err' status
 
-    -- A run stopped: of the first lines of what was read a beginning was written, and behind the errors the last message
-    -- or a beginning of it. All lines are meant only where the input ended.
-    pub record IsStopped (words : List (List ℕ)) (reader reader' : R) (out out' : W) (err err' : E) (status : ℕ) : Type 0 where
-      pub read : List ℕ
-      pub consumed : Consumes (remaining reader) (remaining reader') read
-      pub front : List (List ℕ)
-      pub rest : List (List ℕ)
-      pub split : input_lines read ≡ front ++ rest
-      pub whole : rest ≡ [] → IsAtEnd (remaining reader')
-      pub outcome : Outcome
-      pub is : IsOutcome (task_of words) front outcome
-      pub output : WroteBeginning (contents out) (contents out') outcome.output
-      pub told : List ℕ
-      pub untold : List ℕ
-      pub errors_are : outcome.errors ≡ told ++ untold
-      pub message : List ℕ
-      pub last : IsLast status message
-      pub errors : WroteBeginning (error_contents err) (error_contents err') (told ++ message)
+  -- A run stopped: of the first lines of what was read a beginning was written, and behind the errors the last message
+  -- or a beginning of it. All lines are meant only where the input ended.
+  pub record IsStopped (words : List (List ℕ)) (reader reader' : R) (out out' : W) (err err' : E) (status : ℕ) : Type 0 where
+    pub read : List ℕ
+    pub consumed : Consumes (remaining reader) (remaining reader') read
+    pub front : List (List ℕ)
+    pub rest : List (List ℕ)
+    pub split : input_lines read ≡ front ++ rest
+    pub whole : rest ≡ [] → IsAtEnd (remaining reader')
+    pub outcome : Outcome
+    pub is : IsOutcome (task_of words) front outcome
+    pub output : WroteBeginning (contents out) (contents out') outcome.output
+    pub told : List ℕ
+    pub untold : List ℕ
+    pub errors_are : outcome.errors ≡ told ++ untold
+    pub message : List ℕ
+    pub last : IsLast status message
+    pub errors : WroteBeginning (error_contents err) (error_contents err') (told ++ message)
 
-    -- a write of the answer failed, where nothing is read
-    pub record IsCut (words : List (List ℕ)) (out out' : W) (err err' : E) : Type 0 where
-      pub outcome : Outcome
-      pub is : IsOutcome (task_of words) [] outcome
-      pub cut : IsCutOutput outcome out out' err err' ⊎ IsCutErrors outcome out out' err err'
+  -- a write of the answer failed, where nothing is read
+  pub record IsCut (words : List (List ℕ)) (out out' : W) (err err' : E) : Type 0 where
+    pub outcome : Outcome
+    pub is : IsOutcome (task_of words) [] outcome
+    pub cut : IsCutOutput contents error_contents outcome out out' err err' ⊎ IsCutErrors contents error_contents outcome out out' err err'
 
-    -- By its status, what a run wrote: 3 where memory ran out, 4 where a read or a write failed, 141 where nobody reads.
-    -- Without an input nothing is written before memory ran out.
-    pub record Ends (words : List (List ℕ)) (reader reader' : R) (out out' : W) (err err' : E) (status : ℕ) : Type 0 where
-      pub known : (status ≤ 4) ⊎ (status ≡ 141)
-      pub unread : ¬ NeedsInput (task_of words) → reader' ≡ reader
-      pub finished : status ≤ 2 → IsFinished words reader reader' out out' err err' status
-      pub stopped : NeedsInput (task_of words) → ¬ (status ≤ 2) → IsStopped words reader reader' out out' err err' status
-      pub memory : ¬ NeedsInput (task_of words) → status ≡ 3 → (out' ≡ out) × WroteBeginning (error_contents err) (error_contents err') memory_message
-      pub failed : ¬ NeedsInput (task_of words) → (status ≡ 4) ⊎ (status ≡ 141) → IsCut words out out' err err'
+  -- By its status, what a run wrote: 3 where memory ran out, 4 where a read or a write failed, 141 where nobody reads.
+  -- Without an input nothing is written before memory ran out.
+  pub record Ends (words : List (List ℕ)) (reader reader' : R) (out out' : W) (err err' : E) (status : ℕ) : Type 0 where
+    pub known : (status ≤ 4) ⊎ (status ≡ 141)
+    pub unread : ¬ NeedsInput (task_of words) → reader' ≡ reader
+    pub finished : status ≤ 2 → IsFinished words reader reader' out out' err err' status
+    pub stopped : NeedsInput (task_of words) → ¬ (status ≤ 2) → IsStopped words reader reader' out out' err err' status
+    pub memory : ¬ NeedsInput (task_of words) → status ≡ 3 → (out' ≡ out) × WroteBeginning (error_contents err) (error_contents err') memory_message
+    pub failed : ¬ NeedsInput (task_of words) → (status ≡ 4) ⊎ (status ≡ 141) → IsCut words out out' err err'

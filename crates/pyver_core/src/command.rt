@@ -2,7 +2,7 @@
 ghost use Rattle.std.specs.Prelude.{◌≡◌, ◌∷◌, IfOk, map, string_bytes};
 ghost use Rattle.pyver_core.specs.AnswerViews.{outcome_of};
 ghost use Rattle.pyver_core.specs.TaskViews.{task};
-ghost use Rattle.pyver_core.specs.Tasks.{Filter, compare_task, compare_words, filter_operands, filter_option, filter_rest, filter_task, is_help, is_option, match_operands, match_option, match_rest, match_task, misuse, no_filter_options, no_match_options, printed, task_of};
+ghost use Rattle.pyver_core.specs.Tasks.{Filter, compare_task, compare_words, is_help, is_option, match_operands, match_option, match_rest, match_task, misuse, no_match_options, printed, task_of};
 ghost use Rattle.pyver_core.specs.TaskViews.{misuse_message};
 ghost use Rattle.pyver_core.specs.WorkViews.{IsWork};
 
@@ -12,6 +12,7 @@ use crate::allowed::{
 use crate::answer::Answer;
 use crate::comparison::{Comparison, compare, parse_comparison};
 use crate::filter::{FilterOptions, FilterRule};
+use crate::filter_words::parse_filter;
 use crate::help::{Topic, VERSION_LINE, help};
 use crate::misuse::{Misuse, push_misuse};
 use crate::prerelease::{Prereleases, takes_prereleases};
@@ -148,70 +149,6 @@ fn parse_match<'a>(words: &'a [String]) -> Command<'a>
         left = rest;
     }
     Command::Misused(Misuse::Count(Topic::Match))
-}
-
-fn parse_filter_operands<'a>(options: FilterOptions, words: &'a [String]) -> Command<'a>
-    ensures { task result ≡ filter_operands options (map string_bytes words.now) }
-{
-    match words {
-        [specifiers] => Command::Filter(options, specifiers.as_str()),
-        _ => Command::Misused(Misuse::Count(Topic::Filter)),
-    }
-}
-
-/// The options with what the word sets, if it is an option that sets some.
-fn parse_filter_option(options: FilterOptions, word: &str) -> Option<FilterOptions>
-    ensures { result ≡ filter_option options word.now }
-{
-    let mut options = options;
-    match word {
-        "-v" => options.inverted = true,
-        "--invert-match" => options.inverted = true,
-        "--pre" => options.prereleases = Prereleases::Always,
-        "--no-pre" => options.prereleases = Prereleases::Never,
-        _ => return None,
-    }
-    Some(options)
-}
-
-/// The first word is no option that sets some.
-fn parse_filter_rest<'a>(
-    options: FilterOptions,
-    word: &'a str,
-    rest: &'a [String],
-    words: &'a [String],
-) -> Command<'a>
-    requires { map string_bytes words.now ≡ word.now ∷ map string_bytes rest.now }
-    ensures { task result ≡ filter_rest options word.now (map string_bytes rest.now) }
-{
-    if word == "--" {
-        parse_filter_operands(options, rest)
-    } else if is_option(word) {
-        Command::Misused(Misuse::Option(Topic::Filter, word))
-    } else {
-        parse_filter_operands(options, words)
-    }
-}
-
-fn parse_filter<'a>(words: &'a [String]) -> Command<'a>
-    ensures { task result ≡ filter_task no_filter_options (map string_bytes words.now) }
-{
-    let mut options = FilterOptions {
-        inverted: false,
-        prereleases: Prereleases::Listed,
-    };
-    let mut left = words;
-    while let [word, rest @ ..] = left {
-        if is_help(word.as_str()) {
-            return Command::Help(Topic::Filter);
-        }
-        match parse_filter_option(options, word.as_str()) {
-            Some(taken) => options = taken,
-            None => return parse_filter_rest(options, word.as_str(), rest, left),
-        }
-        left = rest;
-    }
-    Command::Misused(Misuse::Count(Topic::Filter))
 }
 
 impl<'a> Command<'a> {

@@ -8,6 +8,7 @@ mod comparison;
 mod escape;
 mod filter;
 mod filter_input;
+mod filter_words;
 mod help;
 mod json;
 pub mod laws;

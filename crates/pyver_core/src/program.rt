@@ -77,7 +77,7 @@ pub fn run<R: Read, W: Write, E: Write>(
     out: &mut W,
     err: &mut E,
 ) -> u8
-    ensures { Ends W.contents E.contents R.remaining (map string_bytes words.now) input.old input.new out.old out.new err.old err.new result }
+    ensures { Ends R.remaining W.contents E.contents (map string_bytes words.now) input.old input.new out.old out.new err.old err.new result }
 {
     match Command::parse(words).run(alloc) {
         Ok(Work::Answer(answer)) => write_answer(&answer, out, err),
