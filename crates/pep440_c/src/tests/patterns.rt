@@ -2,40 +2,57 @@
 use crate::{pep440_pattern, pep440_specifier};
 use std::test::Fail;
 
-// An operator, a version, the status, and what is printed. Six release numbers do not fit into one word.
-const SPECIFIERS: [(&[u8], &[u8], u8, &[u8]); 19] = [
-    (b">=", b"1.16", 0, b">=1.16"),
-    (b"==", b" v01.5.*", 0, b"==1.5.*"),
-    (b"!=", b"1.2.3.4.5.6.*", 0, b"!=1.2.3.4.5.6.*"),
-    (b"~=", b"1.4.5-Alpha.4 ", 0, b"~=1.4.5a4"),
-    (b"===", b"1.0+Ubuntu-01", 0, b"===1.0+ubuntu.1"),
-    (b"<", b"1.2.3.4.5.6", 0, b"<1.2.3.4.5.6"),
-    (b"=", b"1.0", 2, b""),
-    (b"", b"1.0", 2, b""),
-    (b" ==", b"1.0", 2, b""),
-    (b"==\xff", b"1.0", 2, b""),
-    (b"=<", b"latest", 2, b""),
-    (b">=", b"1.2.3.4.5.6.*", 2, b""),
-    (b"===", b"1.0.*", 2, b""),
-    (b">", b"1.0+local", 2, b""),
-    (b"~=", b"1", 2, b""),
-    (b">=", b"1.2.3.4.5.6x", 1, b""),
-    (b"==", b"1.0a1.*", 1, b""),
-    (b"==", b"1.0\xff", 1, b""),
-    (b">=", b"18446744073709551616", 1, b""),
+// An operator, a version, and what is printed. Six release numbers do not fit into one word.
+const SPECIFIERS: [(&[u8], &[u8], &[u8]); 6] = [
+    (b">=", b"1.16", b">=1.16"),
+    (b"==", b" v01.5.*", b"==1.5.*"),
+    (b"!=", b"1.2.3.4.5.6.*", b"!=1.2.3.4.5.6.*"),
+    (b"~=", b"1.4.5-Alpha.4 ", b"~=1.4.5a4"),
+    (b"===", b"1.0+Ubuntu-01", b"===1.0+ubuntu.1"),
+    (b"<", b"1.2.3.4.5.6", b"<1.2.3.4.5.6"),
 ];
 
 #[test]
 fn sweep_specifier(rt: HostRuntime) -> Result<(), Fail> {
-    for (operator, version, want_status, want) in SPECIFIERS {
+    for (operator, version, want) in SPECIFIERS {
         let (mut out, mut written) = ([7; 24], 99);
         let mut status = pep440_specifier(rt.alloc(), operator, version, &mut out, &mut written);
         if status == 3 {
             assert!(rt; out == [7; 24] && written == 99);
             status = pep440_specifier(rt.alloc(), operator, version, &mut out, &mut written);
         }
-        assert!(rt; status == want_status && &out[..want.len()] == want && out[want.len()] == 7);
-        assert!(rt; written == if status == 0 { want.len() } else { 99 });
+        assert!(rt; status == 0 && written == want.len());
+        assert!(rt; out.starts_with(want) && out.get(written) == Some(&7));
+    }
+    Ok(())
+}
+
+// The same where there is no such specifier, and the status.
+const NO_SPECIFIERS: [(&[u8], &[u8], u8); 13] = [
+    (b"=", b"1.0", 2),
+    (b"", b"1.0", 2),
+    (b" ==", b"1.0", 2),
+    (b"==\xff", b"1.0", 2),
+    (b"=<", b"latest", 2),
+    (b">=", b"1.2.3.4.5.6.*", 2),
+    (b"===", b"1.0.*", 2),
+    (b">", b"1.0+local", 2),
+    (b"~=", b"1", 2),
+    (b">=", b"1.2.3.4.5.6x", 1),
+    (b"==", b"1.0a1.*", 1),
+    (b"==", b"1.0\xff", 1),
+    (b">=", b"18446744073709551616", 1),
+];
+
+#[test]
+fn sweep_no_specifier(rt: HostRuntime) -> Result<(), Fail> {
+    for (operator, version, want) in NO_SPECIFIERS {
+        let (mut out, mut written) = ([7; 24], 99);
+        let mut status = pep440_specifier(rt.alloc(), operator, version, &mut out, &mut written);
+        if status == 3 {
+            status = pep440_specifier(rt.alloc(), operator, version, &mut out, &mut written);
+        }
+        assert!(rt; status == want && out == [7; 24] && written == 99);
     }
     Ok(())
 }
