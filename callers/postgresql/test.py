@@ -26,7 +26,7 @@ NARROW = ["==2.1.0+cu118", "~=1.4.2", "<1.0.post1,>=1.0", ">2.0,<1.0", ">1!0", "
 NO_INDEX = "SET enable_indexscan = off; SET enable_indexonlyscan = off; SET enable_bitmapscan = off;"
 NO_TABLE = "SET enable_seqscan = off;"
 OUT_OF_MEMORY = "53200"
-USER = ["setpriv", "--reuid=nobody", "--regid=nogroup", "--clear-groups"] if os.geteuid() == 0 else []
+USER = ["setpriv", "--reuid=postgres", "--regid=postgres", "--clear-groups"] if os.geteuid() == 0 else []
 
 
 class Server:
@@ -379,7 +379,7 @@ def outcome(db, query):
 
 
 def refuse_each(server, query, own):
-    """Each request of the query refused in a backend of its own, the first 400: it gives its rows or says that memory is out, and no row changes."""
+    """Each request of the query refused in a backend of its own (a hundred of many): it gives its rows or says that memory is out, and no row changes."""
     counter = server.connect()
     counter.rows("LOAD 'pep440'")
     counter.rows("BEGIN")
@@ -388,7 +388,7 @@ def refuse_each(server, query, own):
     requests = int(counter.value("SELECT requests()"))
     counter.rows("ROLLBACK")
     kept, refused = counter.rows("SELECT id, version FROM kept ORDER BY id"), 0
-    for number in range(1, min(requests, 400) + 1):
+    for number in range(1, requests + 1, 1 + requests // 100):
         db = server.connect()
         db.rows("LOAD 'pep440'")
         db.rows("BEGIN")
