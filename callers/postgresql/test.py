@@ -1,8 +1,8 @@
-"""Holds the extension against real servers: python3 test.py FOLDER PREFIX [PROGRAM] [--small]
+"""Holds the extension against real servers: python3 test.py FOLDER PREFIX [PROGRAM] [--small] [--only=NAME]
 
 FOLDER has `bin`, the programs of a server in which the extension is installed; `src`, where it was built; and `refuse.so`, built of refuse.c. The servers
 run there as an ordinary user, on a socket, and are ended. PREFIX is that of the C library; PROGRAM, if given, is `pep440`, whose `filter` must print
-what `@>` finds. With --small there are fewer rows, and nothing is timed. The last line is `N passed, M failed`.
+what `@>` finds. With --small there are fewer rows, and nothing is timed; --only=NAME runs one test. The last line is `N passed, M failed`.
 """
 import ctypes
 import os
@@ -458,7 +458,8 @@ def main():
     try:
         server.start()
         fill(server)
-        for name, test in [(name, test) for name, test in globals().items() if name.startswith("test_")]:
+        only = [f"test_{word[7:]}" for word in sys.argv if word.startswith("--only=")]
+        for name, test in [(name, test) for name, test in globals().items() if name.startswith("test_") and (not only or name in only)]:
             try:
                 print(f"postgresql: {name.removeprefix('test_')}: {test(server)}", flush=True)
                 passed += 1
