@@ -109,22 +109,30 @@ static Cover whole_cover(void)
     return (Cover){palloc0(1), ends, 2};
 }
 
-uint8_t cover_of(Bytes list, Cover *cover)
+/* A call that writes keys of intervals. */
+typedef uint8_t (*Intervals)(const uint8_t *, size_t, uint8_t *, size_t, size_t *, size_t, size_t *, size_t *);
+
+static uint8_t intervals_of(Intervals call, Bytes list, Cover *cover)
 {
     uint8_t nothing[1];
     size_t none[1], room, keys;
-    uint8_t status = pep440_cover_keys_compiled(list.bytes, list.length, nothing, 0, none, 0, &room, &keys);
-    if (status != PEP440_OK && status != PEP440_NO_ROOM && status != PEP440_NUMBER_AT_MAX)
-        fail(status);
+    uint8_t status = call(list.bytes, list.length, nothing, 0, none, 0, &room, &keys);
     if (status == PEP440_NUMBER_AT_MAX)
         return status;
+    if (status != PEP440_OK && status != PEP440_NO_ROOM)
+        fail(status);
     uint8_t *written = palloc(room + 1);
     size_t *ends = palloc(keys * sizeof *ends + 1);
-    status = pep440_cover_keys_compiled(list.bytes, list.length, written, room, ends, keys, &room, &keys);
+    status = call(list.bytes, list.length, written, room, ends, keys, &room, &keys);
     if (status != PEP440_OK)
         fail(status);
     *cover = (Cover){written, ends, keys};
     return status;
+}
+
+uint8_t cover_of(Bytes list, Cover *cover)
+{
+    return intervals_of(pep440_cover_keys_compiled, list, cover);
 }
 
 Bytes cover_key(const Cover *cover, size_t place)
@@ -144,27 +152,62 @@ void ends_of_cover(const Cover *cover, Bytes *low, Bytes *high)
 
 /* ---- matching */
 
-/* The list of the last call, and its cover since it came a second time. */
+/* The list of the last call; and, since it came a second time, its cover, and the intervals in which each version without a local part is contained. */
 typedef struct {
     Bytes list;
-    bool has_cover;
+    bool is_known;
     Cover cover;
+    Cover contained;
 } Kept;
 
-static Kept *keep_list(FmgrInfo *function, Bytes list)
+static void free_cover(const Cover *cover)
 {
-    Kept *kept = MemoryContextAllocZero(function->fn_mcxt, sizeof *kept + list.length);
+    pfree(unconstify(uint8_t *, cover->keys));
+    pfree(unconstify(size_t *, cover->ends));
+}
+
+static void keep_list(FmgrInfo *function, Bytes list)
+{
+    Kept *kept = MemoryContextAllocZero(function->fn_mcxt, sizeof *kept + list.length), *last = function->fn_extra;
     kept->list = (Bytes){memcpy(kept + 1, list.bytes, list.length), list.length};
-    if (function->fn_extra != NULL) {
-        const Kept *last = function->fn_extra;
-        if (last->has_cover) {
-            pfree(unconstify(uint8_t *, last->cover.keys));
-            pfree(unconstify(size_t *, last->cover.ends));
-        }
-        pfree(function->fn_extra);
+    if (last != NULL && last->is_known) {
+        free_cover(&last->cover);
+        free_cover(&last->contained);
     }
+    if (last != NULL)
+        pfree(last);
     function->fn_extra = kept;
-    return kept;
+}
+
+/* Whether the range of the list holds no version without a local part that the list does not contain (docs/PROMISES.md, "Conversions into
+   ranges"): so it is where no operator is `===`, which goes by the normal form, or `>`, whose range holds post-releases too. */
+static bool is_decided_by_range(Bytes normal)
+{
+    uint8_t *bytes = palloc(normal.length + 1);
+    size_t *ends = palloc((normal.length + 1) * sizeof *ends), room, count;
+    bool is_decided = pep440_specifiers_of(normal.bytes, normal.length, bytes, normal.length, ends, normal.length, &room, &count) == PEP440_OK;
+    for (size_t each = 0; is_decided && each < count; each += 2) {
+        size_t start = each == 0 ? 0 : ends[each - 1], length = ends[each] - start;
+        is_decided = !(length == 3 || (length == 1 && bytes[start] == '>'));
+    }
+    pfree(bytes);
+    pfree(ends);
+    return is_decided;
+}
+
+/* Finds the intervals of a list that came again, in the memory that the function keeps. */
+static void know_list(FmgrInfo *function, Kept *kept, Specs specs)
+{
+    MemoryContext before = MemoryContextSwitchTo(function->fn_mcxt);
+    Cover cover, contained;
+    if (cover_of(specs.compiled, &cover) != PEP440_OK)
+        cover = whole_cover();
+    if (!is_decided_by_range(specs.normal) || intervals_of(pep440_range_keys_compiled, specs.compiled, &contained) != PEP440_OK)
+        contained = (Cover){palloc(1), palloc(sizeof(size_t)), 0};
+    kept->cover = cover;
+    kept->contained = contained;
+    kept->is_known = true;
+    MemoryContextSwitchTo(before);
 }
 
 static bool is_in_cover(const Cover *cover, Bytes key)
@@ -183,34 +226,31 @@ static bool is_in_cover(const Cover *cover, Bytes key)
     return false;
 }
 
-/* Whether the key of the version lies outside the list's cover; false where that is not known. So most versions need not be matched. */
-static bool is_outside(FmgrInfo *function, Bytes list, Bytes key)
+/* What is known of the list, if it is that of the last call too. */
+static const Kept *known_list(FmgrInfo *function, Specs specs)
 {
+    Kept *kept = function == NULL ? NULL : function->fn_extra;
+    Bytes list = specs.compiled;
     if (function == NULL)
-        return false;
-    Kept *kept = function->fn_extra;
+        return NULL;
     if (kept == NULL || kept->list.length != list.length || memcmp(kept->list.bytes, list.bytes, list.length) != 0) {
         keep_list(function, list);
-        return false;
+        return NULL;
     }
-    if (!kept->has_cover) {
-        MemoryContext before = MemoryContextSwitchTo(function->fn_mcxt);
-        Cover cover;
-        if (cover_of(list, &cover) == PEP440_OK)
-            kept->cover = cover;
-        else
-            kept->cover = whole_cover();
-        kept->has_cover = true;
-        MemoryContextSwitchTo(before);
-    }
-    return !is_in_cover(&kept->cover, key);
+    if (!kept->is_known)
+        know_list(function, kept, specs);
+    return kept;
 }
 
+/* Most versions are told by their keys; the library tells the others. */
 static bool contains(FmgrInfo *function, Specs specs, Version version)
 {
     uint8_t contained, prerelease;
-    if (is_outside(function, specs.compiled, version.key))
+    const Kept *known = known_list(function, specs);
+    if (known != NULL && !is_in_cover(&known->cover, version.key))
         return false;
+    if (known != NULL && memchr(version.normal.bytes, '+', version.normal.length) == NULL && is_in_cover(&known->contained, version.key))
+        return true;
     uint8_t status = pep440_contains_compiled(specs.compiled.bytes, specs.compiled.length, version.compiled.bytes, version.compiled.length,
                                               &contained, &prerelease);
     if (status != PEP440_OK)

@@ -1,8 +1,8 @@
-"""Holds the extension against real servers: python3 test.py FOLDER PREFIX [PROGRAM] [--small]
+"""Holds the extension against real servers: python3 test.py FOLDER PREFIX [PROGRAM] [--small] [--only=NAME]
 
 FOLDER has `bin`, the programs of a server in which the extension is installed; `src`, where it was built; and `refuse.so`, built of refuse.c. The servers
 run there as an ordinary user, on a socket, and are ended. PREFIX is that of the C library; PROGRAM, if given, is `pep440`, whose `filter` must print
-what `@>` finds. With --small there are fewer rows, and nothing is timed. The last line is `N passed, M failed`.
+what `@>` finds. With --small there are fewer rows, and nothing is timed; --only=NAME runs one test. The last line is `N passed, M failed`.
 """
 import ctypes
 import os
@@ -21,12 +21,12 @@ FOLDER, PREFIX, PROGRAM = pathlib.Path(WORDS[0]), WORDS[1], (WORDS + [None])[2]
 SMALL = "--small" in sys.argv
 ROWS = 20_000 if SMALL else 1_000_000
 STRINGS = 10_000
-LISTS = ["", ">=1.0,<2.0,!=1.5.*", "==2.1.0+cu118", "<=2.1.0", "<1.0.post1,>=1.0", "~=1.4.2", "===1.10", "!=1.0", ">2.0,<1.0", "==1.*", ">1!0", ">=3.11.29", "==3.9.post1,!=3.9"]
-NARROW = ["==2.1.0+cu118", "~=1.4.2", "<1.0.post1,>=1.0", ">2.0,<1.0", ">1!0", ">=3.11.29", "==3.9.post1,!=3.9"]
+LISTS = ["", ">=1.0,<2.0,!=1.5.*", "==2.1.0+cu118", "<=2.1.0", "<1.0.post1,>=1.0", "~=1.4.2", "===1.10", "!=1.0", ">2.0,<1.0", "==1.*", ">1!0", ">=4.29.100", "==3.9.post1,!=3.9"]
+NARROW = ["==2.1.0+cu118", "~=1.4.2", "<1.0.post1,>=1.0", ">2.0,<1.0", ">1!0", ">=4.29.100", "==3.9.post1,!=3.9"]
 NO_INDEX = "SET enable_indexscan = off; SET enable_indexonlyscan = off; SET enable_bitmapscan = off;"
 NO_TABLE = "SET enable_seqscan = off;"
 OUT_OF_MEMORY = "53200"
-USER = ["setpriv", "--reuid=nobody", "--regid=nogroup", "--clear-groups"] if os.geteuid() == 0 else []
+USER = ["setpriv", "--reuid=postgres", "--regid=postgres", "--clear-groups"] if os.geteuid() == 0 else []
 
 
 class Server:
@@ -78,7 +78,7 @@ class Server:
 
 def version(rng):
     """A version as indexes have them: mostly plain, some with suffixes, some local, a few with an epoch or written in another way."""
-    text = ".".join(str(rng.randrange(limit)) for limit in (4, 12, 30)[: rng.choice((1, 2, 3, 3))])
+    text = ".".join(str(rng.randrange(limit)) for limit in (5, 30, 150)[: rng.choice((1, 2, 3, 3))])
     kind = rng.randrange(12)
     suffix = {0: f"rc{rng.randrange(3)}", 1: f".post{rng.randrange(3)}", 2: f".dev{rng.randrange(3)}", 3: f"+cu{rng.randrange(120)}", 4: f"a{rng.randrange(2)}.dev1"}
     text += suffix.get(kind, "")
@@ -379,23 +379,26 @@ def outcome(db, query):
 
 
 def refuse_each(server, query, own):
-    """Each request of the query refused in a backend of its own, the first 400: it gives its rows or says that memory is out, and no row changes."""
+    """Each request of the query refused in a backend of its own (a hundred of many): it gives its rows or says that memory is out, and no row changes."""
     counter = server.connect()
+    counter.rows("LOAD 'pep440'")
     counter.rows("BEGIN")
     counter.rows(f"SELECT refuse(0, {own})")
     wanted = counter.rows(query)
     requests = int(counter.value("SELECT requests()"))
     counter.rows("ROLLBACK")
     kept, refused = counter.rows("SELECT id, version FROM kept ORDER BY id"), 0
-    for number in range(1, min(requests, 400) + 1):
+    for number in range(1, requests + 1, 1 + requests // 100):
         db = server.connect()
+        db.rows("LOAD 'pep440'")
         db.rows("BEGIN")
         db.rows(f"SELECT refuse({number}, {own})")
         found = outcome(db, query)
         assert found in (None, wanted), (query, number, found)
         refused += found is None
-        db.rows("ROLLBACK")
-        db.rows("SELECT requests()")
+        for query_after in ("ROLLBACK", "SELECT requests()"):
+            if outcome(db, query_after) is None:
+                db.rows(query_after)
         db.rows("BEGIN")
         assert db.rows(query) == wanted, (query, number)
         db.close()
@@ -455,7 +458,8 @@ def main():
     try:
         server.start()
         fill(server)
-        for name, test in [(name, test) for name, test in globals().items() if name.startswith("test_")]:
+        only = [f"test_{word[7:]}" for word in sys.argv if word.startswith("--only=")]
+        for name, test in [(name, test) for name, test in globals().items() if name.startswith("test_") and (not only or name in only)]:
             try:
                 print(f"postgresql: {name.removeprefix('test_')}: {test(server)}", flush=True)
                 passed += 1
