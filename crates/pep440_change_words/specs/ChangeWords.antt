@@ -1,4 +1,4 @@
--- What a change word asks for: a field, `=` and the value that it gets, or one of two words that stand alone.
+-- The change that a word denotes: a field, `=` and the field's new value, or one of two words without a value.
 use Rattle.std.specs.Prelude.{ℕ, ◌^◌, ◌==◌, ◌&&◌, List, [], ◌∷◌, Bool, length, drop, codes, bytes_eq, nat_lt, Option, Some, None, option_and_then, if◌then◌else◌}
 use Rattle.std.specs.Option.{option_map, option_or}
 use Rattle.std.specs.Char.{is_ascii_digit, is_ascii_alphanumeric}
@@ -16,44 +16,44 @@ use Rattle.pep440_version.specs.Record.{LocalSegmentValue}
 abbrev pub is_run : (ℕ → Bool) → List ℕ → Bool
 is_run test text = nat_lt 0 (length text) && list_all test text
 
--- one or more digits, zeros may lead, with a value that fits
+-- one or more digits, with leading zeros or without, whose value is below 2^64
 abbrev pub number_of : List ℕ → Option ℕ
 number_of text = if is_run is_ascii_digit text && nat_lt (digits_value 10 text) (2 ^ 64) then Some (digits_value 10 text) else None
 
--- one or more ASCII letters and digits: a number where they are digits whose value fits, else a text in lower case
+-- one or more ASCII letters and digits: a number if they are digits whose value fits, else a string in lower case
 abbrev pub local_segment_of : List ℕ → Option LocalSegmentValue
 local_segment_of text = if is_run is_ascii_alphanumeric text then Some (parse_segment text) else None
 
--- what follows the spelling, where the text begins with it
+-- what follows the prefix, if the string has it
 abbrev pub after : List ℕ → List ℕ → Option (List ℕ)
 after spelling text = if starts_with nat_eq text spelling then Some (drop (length spelling) text) else None
 
--- the spelling of a kind, and a number
+-- the spelling of a kind, then a number
 abbrev pub parse_prerelease_of_kind : PrereleaseKind → List ℕ → List ℕ → Option Prerelease
 parse_prerelease_of_kind kind spelling text = option_map (λ n. record { kind = kind; number = n }) (option_and_then number_of (after spelling text))
 
--- `a`, `b` or `rc`, and a number
+-- `a`, `b` or `rc`, then a number
 abbrev pub prerelease_of : List ℕ → Option Prerelease
 prerelease_of text = option_or (parse_prerelease_of_kind Alpha (codes "a") text) (option_or (parse_prerelease_of_kind Beta (codes "b") text) (parse_prerelease_of_kind Rc (codes "rc") text))
 
--- nothing for none, or a value
+-- the empty string for None, else a value
 abbrev pub or_none : {A : Type 0} → (List ℕ → Option A) → List ℕ → Option (Option A)
 or_none read text = if length text == 0 then Some None else option_map Some (read text)
 
--- all of them, if each is one
+-- the values of all items, if each item has one
 abbrev pub all_of : {X A : Type 0} → (X → Option A) → List X → Option (List A)
 all_of read [] = Some []
 all_of read (x ∷ rest) = option_and_then (λ a. option_map (λ others. a ∷ others) (all_of read rest)) (read x)
 
--- the pieces between the dots; nothing has none
+-- the pieces between the dots; the empty string has none
 abbrev pub pieces_of : List ℕ → List (List ℕ)
 pieces_of text = if length text == 0 then [] else slice_split (λ b. b == 46) text
 
--- nothing, or items joined by `.`
+-- items joined by `.`, or the empty string
 abbrev pub dotted_of : {A : Type 0} → (List ℕ → Option A) → List ℕ → Option (List A)
 dotted_of read text = all_of read (pieces_of text)
 
--- the change of a field to the value that the text writes
+-- the change that gives a field the value of the string
 abbrev pub field_change : List ℕ → List ℕ → Option Edit
 field_change field value =
     if bytes_eq field (codes "release") then option_map Release (dotted_of number_of value)
@@ -73,9 +73,10 @@ bare_change word =
     else if bytes_eq word (codes "without-local") then Some WithoutLocal
     else None
 
+-- the byte `=`
 abbrev pub is_equals : ℕ → Bool
 is_equals b = b == 61
 
--- the change that a word asks for, cut at its first `=` if it has one
+-- the change of a word, split at its first `=` if it has one
 abbrev pub change_of : List ℕ → Option Edit
 change_of word = if nat_lt (position_or_len is_equals word) (length word) then field_change (before_first is_equals word) (after_first is_equals word) else bare_change word

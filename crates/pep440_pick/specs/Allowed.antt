@@ -14,6 +14,6 @@ use Rattle.pep440_pick.specs.RequirementGrammar.{Needed}
 abbrev pub lists_of : List ℕ → List Needed → List (List Spec)
 lists_of name requirements = map (λ (n : Needed). n.specifiers) (filter (λ (n : Needed). same_name n.name name) requirements)
 
--- the range holds what the range of each of the lists holds, none of which is rejected
+-- the range holds exactly what the range of each of the lists holds; the conversion of none of them fails
 abbrev pub HoldsAllowed : List (List Spec) → Segments → Type 0
 HoldsAllowed lists range = (v : Record) → contains record_cmp range v ≡ list_all (λ list. option_map_or (λ r. contains record_cmp r v) (list_range range_of list) false) lists

@@ -13,11 +13,11 @@ is_name_byte b = is_ascii_alphanumeric b || is_separator b
 abbrev pub is_name : List ℕ → Bool
 is_name text = list_all is_name_byte text && (starts is_ascii_alphanumeric text && ends is_ascii_alphanumeric text)
 
--- the name with each run of `.`, `-` and `_` as one `-`, and letters in lower case
+-- the name in lower case, with each run of `.`, `-` and `_` as one `-`
 abbrev pub normal : List ℕ → List ℕ
 normal [] = []
 normal (b ∷ rest) = if is_separator b then (if starts is_separator rest then normal rest else 45 ∷ normal rest) else to_ascii_lowercase b ∷ normal rest
 
--- the two are equal but for case and for runs of separators
+-- two names are equal but for case and runs of separators
 abbrev pub same_name : List ℕ → List ℕ → Bool
 same_name one other = bytes_eq (normal one) (normal other)

@@ -11,8 +11,8 @@ use Rattle.pep440_version.specs.Record.{Record}
 abbrev pub all_contain : List (List Spec) → Record → Bool
 all_contain lists v = list_all (λ list. list_matches list v) lists
 
--- the candidate at this place is contained, those before it that are contained are below it, and those behind it that are
--- contained are not above it
+-- the candidate at this index is contained, is above those before it that are contained, and is not below those after it that
+-- are contained
 pub record IsNewest (lists : List (List Spec)) (candidates : List Record) (position : ℕ) : Type 0 where
   pub before : List Record
   pub version : Record
@@ -23,7 +23,7 @@ pub record IsNewest (lists : List (List Spec)) (candidates : List Record) (posit
   pub above : All (λ v. IsTrue (all_contain lists v) → IsTrue (is_lt (record_cmp v version))) before
   pub greatest : All (λ v. IsTrue (all_contain lists v) → IsTrue (is_le (record_cmp v version))) after
 
--- the place of the newest, or none where no candidate is contained
+-- the index of the newest candidate, or None if no candidate is contained
 abbrev pub Newest : List (List Spec) → List Record → Option ℕ → Type 0
 Newest lists candidates None = All (λ v. IsTrue (not (all_contain lists v))) candidates
 Newest lists candidates (Some position) = IsNewest lists candidates position

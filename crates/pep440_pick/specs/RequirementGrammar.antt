@@ -23,15 +23,15 @@ trim_blanks text = trimmed_end (past is_ascii_whitespace text)
 
 -- ---- the parts of a text
 
--- the byte stands somewhere in the string
+-- the string has this byte
 abbrev pub has_byte : ℕ → List ℕ → Bool
 has_byte b text = list_any (λ x. x == b) text
 
--- the string begins with the byte
+-- the string begins with this byte
 abbrev pub opens : ℕ → List ℕ → Bool
 opens b text = starts (λ x. x == b) text
 
--- a string in four parts, each but the last as long as can be: blanks, a name, blanks, and the rest
+-- the string is split into blanks, a name, blanks and the rest, each but the last as long as possible
 pub record RequirementParts (text : List ℕ) : Type 0 where
   pub before : List ℕ
   pub name : List ℕ
@@ -42,21 +42,21 @@ pub record RequirementParts (text : List ℕ) : Type 0 where
   pub name_run : IsRun is_name_byte name (between ++ rest)
   pub between_run : IsRun is_ascii_whitespace between rest
 
--- blanks alone are no extras, and else names stand between commas, with blanks around them
+-- blanks alone are no extras; otherwise names stand between commas, with blanks around them
 abbrev pub AreExtras : List ℕ → List (List ℕ) → Type 0
 AreExtras inside extras = ((list_all is_ascii_whitespace inside ≡ true) × (extras ≡ []))
     ⊎ ((extras ≡ map trim_blanks (pieces inside)) × (list_all is_name extras ≡ true))
 
--- the string is `[`, inside up to the first `]`, and behind
+-- the string is `[`, what is inside up to the first `]`, and the rest
 abbrev pub IsBracketed : List ℕ → List ℕ → List ℕ → Type 0
 IsBracketed text inside behind = (text ≡ 91 ∷ (inside ++ (93 ∷ behind))) × (has_byte 93 inside ≡ false)
 
--- the string has these extras in brackets at its front, or none and no bracket, and then behind
+-- the string begins with these extras in brackets, or has neither extras nor a bracket; then comes the rest
 abbrev pub HasExtras : List ℕ → List (List ℕ) → List ℕ → Type 0
 HasExtras text extras behind = ((opens 91 text ≡ false) × (extras ≡ []) × (behind ≡ text))
     ⊎ ((inside : List ℕ) × IsBracketed text inside behind × AreExtras inside extras)
 
--- the string, without blanks at its ends, is the string of a list, or that in parentheses
+-- the string without blanks at its ends is a list, with or without parentheses
 abbrev pub HasList : List ℕ → List ℕ → Type 0
 HasList text list = ((opens 40 (trim_blanks text) ≡ false) × (list ≡ trim_blanks text))
     ⊎ ((inner : List ℕ) × (trim_blanks text ≡ 40 ∷ (inner ++ 41 ∷ [])) × (list ≡ trim_blanks inner))
@@ -68,7 +68,7 @@ pub record HasNoMarkerOrUrl (text : List ℕ) : Type 0 where
   pub marker : has_byte 59 text ≡ false
   pub url : has_byte 64 text ≡ false
 
--- the string has this name, these extras and this string of a list
+-- the string has this name, these extras, and this string for its list
 pub record HasFront (text name : List ℕ) (extras : List (List ℕ)) (list : List ℕ) : Type 0 where
   pub plain : HasNoMarkerOrUrl text
   pub decomposition : RequirementParts text
@@ -97,7 +97,7 @@ pub data RequirementRefusal : Type 0 where
   Unclosed : RequirementRefusal
   Specifiers : (list : List ℕ) → PieceRefusal → RequirementRefusal
 
--- asked in this order: each speaks of a string of which none before it holds
+-- the reasons in the order in which they are tried: each holds only where none before it does
 abbrev pub RefusesRequirement : List ℕ → RequirementRefusal → Type 0
 RefusesRequirement text Marker = has_byte 59 text ≡ true
 RefusesRequirement text Url = (has_byte 59 text ≡ false) × (has_byte 64 text ≡ true)

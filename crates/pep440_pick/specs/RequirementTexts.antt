@@ -7,7 +7,7 @@ use Rattle.pep440_pick.specs.Requirements.{requirement_refusal_of}
 use Rattle.pep440_pick.specs.declared.error.RequirementError.{RequirementError}
 use Rattle.pep440_pick.specs.declared.error.RequirementError.TheVariants as error
 
--- the message of a refusal
+-- the message of a reason
 abbrev pub requirement_refusal_text : RequirementRefusal → List ℕ
 requirement_refusal_text Marker = codes "markers are not supported"
 requirement_refusal_text Url = codes "URLs are not supported"

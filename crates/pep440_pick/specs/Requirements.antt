@@ -1,4 +1,4 @@
--- What a requirement and its error say, apart from where they lie in memory.
+-- The values of a requirement and of its error, apart from their address in memory.
 use Rattle.std.specs.Prelude.{◌≡◌, ℕ, List, Option, option_map, Some, None, Result, Ok, Err, IfSome, map, string_bytes}
 use Rattle.pep440_rs.specs.ListAnswers.{line_of, list_kind_of}
 use Rattle.pep440_rs.specs.ListErrors.{list_refusal_of}
@@ -15,7 +15,7 @@ use Rattle.pep440_pick.specs.declared.requirement.Requirement.{Requirement}
 abbrev pub needed : Requirement → Needed
 needed r = record { name = string_bytes r.name; extras = map string_bytes r.extras.items; specifiers = r.specifiers }
 
--- the refusal, or none where memory ran out
+-- the reason of an error, or None if memory ran out
 abbrev pub requirement_refusal_of : RequirementError → Option RequirementRefusal
 requirement_refusal_of error.Marker = Some Marker
 requirement_refusal_of error.Url = Some Url
@@ -25,11 +25,11 @@ requirement_refusal_of error.Unclosed = Some Unclosed
 requirement_refusal_of (error.Specifiers e) = option_map (λ f. Specifiers (line_of e) f) (list_refusal_of (list_kind_of e))
 requirement_refusal_of error.OutOfMemory = None
 
--- out of memory is said by the last kind, and not inside another
+-- out of memory is the outer error's own kind, never inside another
 abbrev pub IsRequirementLifted : RequirementError → Type 0
 IsRequirementLifted e = requirement_refusal_of e ≡ None → e ≡ error.OutOfMemory
 
--- the answer is this outcome, unless memory ran out
+-- the result is this outcome, unless memory ran out
 abbrev pub RequirementAnswers : Result Requirement RequirementError → Result Needed RequirementRefusal → Type 0
 RequirementAnswers (Ok r) outcome = outcome ≡ Ok (needed r)
 RequirementAnswers (Err e) outcome = IfSome (requirement_refusal_of e) (λ f. outcome ≡ Err f)

@@ -23,32 +23,35 @@ is_below_key key other = is_lt (slice_cmp nat_cmp key other)
 abbrev pub is_within : Interval → List ℕ → Bool
 is_within interval key = option_map_or (λ low. not (is_below_key key low)) interval.0 true && option_map_or (λ high. is_below_key key high) interval.1 true
 
--- of a start: its key, with a zero byte behind it if the version is excluded
+-- the key of a start, with a zero byte appended if its version is excluded
 abbrev pub low_key : Bound Record → Option (List ℕ)
 low_key (Included v) = Some (key_bytes v)
 low_key (Excluded v) = Some (key_bytes v ++ 0 ∷ [])
 low_key Unbounded = None
 
--- of an end: its key, with a zero byte behind it if the version is included
+-- the key of an end, with a zero byte appended if its version is included
 abbrev pub high_key : Bound Record → Option (List ℕ)
 high_key (Included v) = Some (key_bytes v ++ 0 ∷ [])
 high_key (Excluded v) = Some (key_bytes v)
 high_key Unbounded = None
 
+-- the low key of the start and the high key of the end
 abbrev pub segment_interval : Segment Record → Interval
 segment_interval s = (low_key s.0, high_key s.1)
 
 -- ---- what is presupposed, and what then holds
 
--- the bound's version has a sort key that tells it apart
+-- the bound's version is one that sort keys distinguish (`IsKeyed`)
 abbrev pub IsKeyedBound : Bound Record → Type 0
 IsKeyedBound (Included v) = IsKeyed v
 IsKeyedBound (Excluded v) = IsKeyed v
 IsKeyedBound Unbounded = Unit {0}
 
+-- so is each bound of the segment
 abbrev pub IsKeyedSegment : Segment Record → Type 0
 IsKeyedSegment s = IsKeyedBound s.0 × IsKeyedBound s.1
 
+-- so is each bound of the range
 abbrev pub HasKeys : List (Segment Record) → Type 0
 HasKeys range = All IsKeyedSegment range
 

@@ -13,19 +13,19 @@ flipped_bound (Excluded x) = Included x
 flipped_bound Unbounded = Unbounded
 
 module _ {V : Type 0} (cmp : V → V → Ordering) where
-  -- v isn't before the start
+  -- the value is not before the start
   abbrev pub is_from_start : Bound V → V → Bool
   is_from_start (Included x) v = is_le (cmp x v)
   is_from_start (Excluded x) v = is_lt (cmp x v)
   is_from_start Unbounded v = true
 
-  -- v isn't past the end
+  -- the value is not after the end
   abbrev pub is_up_to_end : Bound V → V → Bool
   is_up_to_end (Included x) v = is_le (cmp v x)
   is_up_to_end (Excluded x) v = is_lt (cmp v x)
   is_up_to_end Unbounded v = true
 
-  -- a start and an end: one is unbounded, the start is below the end, or both are included and equal
+  -- a start and an end that enclose something: one is unbounded, the start is below the end, or both are included and equal
   abbrev pub is_valid : Bound V → Bound V → Bool
   is_valid Unbounded end = true
   is_valid (Included x) Unbounded = true
@@ -35,7 +35,7 @@ module _ {V : Type 0} (cmp : V → V → Ordering) where
   is_valid (Excluded x) (Included y) = is_lt (cmp x y)
   is_valid (Excluded x) (Excluded y) = is_lt (cmp x y)
 
-  -- an end and the next start: the end is below the start, or both are excluded and equal
+  -- an end and the next start do not touch: the end is below the start, or both are excluded and equal
   abbrev pub is_apart : Bound V → Bound V → Bool
   is_apart Unbounded start = false
   is_apart (Included x) Unbounded = false
@@ -45,7 +45,7 @@ module _ {V : Type 0} (cmp : V → V → Ordering) where
   is_apart (Excluded x) (Included y) = is_lt (cmp x y)
   is_apart (Excluded x) (Excluded y) = is_le (cmp x y)
 
-  -- two starts: b is the greater, and of equal values an excluded start is greater than an included one
+  -- the start a is before the start b; of equal values an included start is before an excluded one
   abbrev pub starts_before : Bound V → Bound V → Bool
   starts_before a Unbounded = false
   starts_before Unbounded (Included y) = true
@@ -55,7 +55,7 @@ module _ {V : Type 0} (cmp : V → V → Ordering) where
   starts_before (Excluded x) (Included y) = is_lt (cmp x y)
   starts_before (Excluded x) (Excluded y) = is_lt (cmp x y)
 
-  -- two ends: a is the lesser, and of equal values an excluded end is less than an included one
+  -- the end a is before the end b; of equal values an excluded end is before an included one
   abbrev pub ends_before : Bound V → Bound V → Bool
   ends_before Unbounded b = false
   ends_before (Included x) Unbounded = true

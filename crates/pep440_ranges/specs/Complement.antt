@@ -23,7 +23,7 @@ module _ {V : Type 0} where
   gaps_after end [] = gap_after end
   gaps_after end (s ∷ ss) = (flipped_bound end, flipped_bound s.0) ∷ gaps_after s.1 ss
 
-  -- the gaps before, between and after the segments, and all where there is no segment
+  -- the gaps before, between and after the segments; the whole line if there is no segment
   abbrev pub gaps : List (Segment V) → List (Segment V)
   gaps [] = (Unbounded, Unbounded) ∷ []
   gaps (s ∷ ss) = gap_before s.0 ++ gaps_after s.1 ss

@@ -6,10 +6,11 @@ use Rattle.pep440_ranges.specs.Bounds.{is_valid, starts_before, ends_before}
 use Rattle.pep440_ranges.specs.Segments.{Segment}
 
 module _ {V : Type 0} (cmp : V → V → Ordering) where
-  -- what two segments share: the greater start and the lesser end, of two alike that of s
+  -- what two segments share: the later start and the earlier end, of two alike that of s
   abbrev pub overlap : Segment V → Segment V → Segment V
   overlap s t = (if starts_before cmp s.0 t.0 then t.0 else s.0, if ends_before cmp t.1 s.1 then t.1 else s.1)
 
+  -- the segment's bounds enclose something
   abbrev pub is_valid_segment : Segment V → Bool
   is_valid_segment s = is_valid cmp s.0 s.1
 

@@ -15,27 +15,26 @@ use Rattle.pep440_version.specs.Record.{Record, from_release, epoch_and_release}
 
 -- ---- what is presupposed of the versions
 
--- a version without local part and without marks
+-- a version without local part and sentinels
 pub record HasNoLocalOrSentinel (v : Record) : Type 0 where
   pub local : v.local ≡ []
   pub min : v.min ≡ None
   pub max : v.max ≡ None
 
--- the version is one that a specifier's string can have beside the operator: beside a star a release with its epoch, and
--- beside an operator that allows no local part one without it
+-- a string can have this version beside the operator: beside a star only epoch and release, and a local part only beside `==`,
+-- `!=` and `===`
 pub record HasOperand (s : Spec) : Type 0 where
   pub star : IsTrue (is_star s.operator) → s.version ≡ epoch_and_release s.version.epoch s.version.release
   pub plain : IsTrue (not (allows_local s.operator)) → HasNoLocalOrSentinel s.version
 
--- no suffix stands on which range and matching part. For `<`: the two differ in epoch or release, or s isn't
--- a post-release, or it has pre or dev. For `>`: they differ so, or v isn't a post-release, or s is one or has
--- neither pre nor dev
+-- range and matching do not differ by suffixes. For `<`: the versions differ in epoch or release, or s is no post-release, or s
+-- has pre or dev. For `>`: they differ so, or v is no post-release, or s is one or has neither pre nor dev
 abbrev pub IsSuffixComparable : Operator → Record → Record → Type 0
 IsSuffixComparable LessThan s v = IsTrue (not (same_release s v) || not (is_some s.post) || any_prerelease s)
 IsSuffixComparable GreaterThan s v = IsTrue (not (same_release s v) || not (is_some v.post) || (is_some s.post || not (any_prerelease s)))
 IsSuffixComparable _ s v = Unit {0}
 
--- range and matching of the specifier can be compared at v
+-- the premises under which range and matching of the specifier agree at v
 pub record IsCandidate (s : Spec) (v : Record) : Type 0 where
   pub operator : s.operator ≢ ExactEqual
   pub plain : HasNoLocalOrSentinel v
@@ -45,7 +44,7 @@ pub record IsCandidate (s : Spec) (v : Record) : Type 0 where
 abbrev pub IsReleaseOnly : Record → Type 0
 IsReleaseOnly v = v ≡ from_release v.release
 
--- specifier and candidate are releases alone, and the operator isn't `===`
+-- specifier and candidate are releases alone, and the operator is not `===`
 pub record IsReleaseComparable (s : Spec) (v : Record) : Type 0 where
   pub operator : s.operator ≢ ExactEqual
   pub operand : IsReleaseOnly s.version
@@ -59,7 +58,7 @@ module _ (IsComparable : Spec → Record → Type 0) where
   abbrev pub Agrees : Spec → Segments → Type 0
   Agrees s range = (v : Record) → IsComparable s v → contains record_cmp range v ≡ matches s.operator s.version v
 
-  -- of a list: where each member can be compared
+  -- the range holds exactly what the list contains, where each member agrees at the version
   abbrev pub ListAgrees : List Spec → Segments → Type 0
   ListAgrees members range = (v : Record) → All (λ m. IsComparable m v) members → contains record_cmp range v ≡ list_matches members v
 
@@ -69,7 +68,7 @@ module _ (IsComparable : Spec → Record → Type 0) where
 abbrev pub HoldsOnlyMatches : Spec → Segments → Type 0
 HoldsOnlyMatches s range = s.operator ≡ LessThan → (v : Record) → HasNoLocalOrSentinel v → IsTrue (contains record_cmp range v) → IsTrue (matches s.operator s.version v)
 
--- and the range of `>` holds all that matches
+-- whatever the suffixes, the range of `>` holds all that matches
 abbrev pub HoldsAllMatches : Spec → Segments → Type 0
 HoldsAllMatches s range = s.operator ≡ GreaterThan → (v : Record) → HasNoLocalOrSentinel v → IsTrue (matches s.operator s.version v) → IsTrue (contains record_cmp range v)
 
@@ -86,18 +85,18 @@ abbrev pub HasFewSegments : List Spec → Segments → Type 0
 HasFewSegments members range = length range ≤ 1 + count_by (λ m. is_exclusion m.operator) members
 
 module _ (conversion : Operator → Record → Option Segments) where
-  -- the segments are valid and apart
+  -- the segments are valid, and each is apart from the next
   abbrev pub GivesRanges : Type 0
   GivesRanges = (op : Operator) (s : Record) (range : Segments) → conversion op s ≡ Some range → IsRange record_cmp range
 
-  -- at most one segment, and at most two of an exclusion
+  -- one segment at most; of an exclusion two at most
   abbrev pub GivesFew : Type 0
   GivesFew = (op : Operator) (s : Record) (range : Segments) → conversion op s ≡ Some range → length range ≤ (if is_exclusion op then 2 else 1)
 
-  -- the range of a list holds what the range of each member holds, none of which is rejected
+  -- a version lies in the range of the list exactly if it lies in the range of each member; no member fails
   abbrev pub HoldsInEach : List Spec → Segments → Type 0
   HoldsInEach members range = (v : Record) → contains record_cmp range v ≡ list_all (λ m. option_map_or (λ r. contains record_cmp r v) (conversion m.operator m.version) false) members
 
-  -- the list has no range exactly where some member has none
+  -- the conversion of a list fails exactly if that of some member does
   abbrev pub RefusedByAMember : List Spec → Type 0
   RefusedByAMember members = (list_range conversion members ≡ None) ↔ Any (λ m. conversion m.operator m.version ≡ None) members

@@ -1,4 +1,4 @@
--- How the members of a list stand: by version, and equal ones in the order that they were given.
+-- How the members of a list are arranged: by version, equal ones in the order given.
 use Rattle.std.specs.Prelude.{List}
 use Rattle.std.specs.List.Sorted.{IsPermutation, IsSorted, IsStable}
 use Rattle.std.specs.Ordering.{on}
@@ -14,13 +14,13 @@ version_cmp = on (λ (s : Spec). s.version) record_cmp
 abbrev pub IsArranged : List Spec → Type 0
 IsArranged list = IsSorted version_cmp list
 
--- list is the arrangement of what was given, by this order: nothing is lost or made, it never falls, and equal items keep the
--- order in which they were given
+-- the list is the arrangement of the given items by this order: none is lost or made, the order never falls, and equal items
+-- keep their order
 pub record ArrangesBy {A : Type 0} (cmp : A → A → Ordering) (given list : List A) : Type 0 where
   pub same : IsPermutation given list
   pub rises : IsSorted cmp list
   pub stable : IsStable cmp given list
 
--- list is the arrangement of the members
+-- the list is the arrangement of the members by version
 abbrev pub Arranges : List Spec → List Spec → Type 0
 Arranges = ArrangesBy version_cmp

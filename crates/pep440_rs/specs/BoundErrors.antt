@@ -1,4 +1,4 @@
--- What a call returns that makes a specifier of a bound.
+-- The results of calls that make a specifier of a bound.
 use Rattle.std.specs.Prelude.{Option, Some, None, Result}
 use Rattle.pep440_version.specs.Errors.{Answers}
 use Rattle.pep440_rs.specs.Build.{BuildRefusal}
@@ -7,7 +7,7 @@ use Rattle.pep440_rs.specs.Specifiers.{Spec}
 use Rattle.pep440_rs.specs.declared.bounds.error.BoundError.{BoundError}
 use Rattle.pep440_rs.specs.declared.bounds.error.BoundError.TheVariants as bound
 
--- the refusal, or none where memory ran out
+-- the reason of an error, or None if memory ran out
 abbrev pub bound_refusal_of : BoundError → Option BuildRefusal
 bound_refusal_of (bound.Build e) = Some (build_refusal_of (build_kind_of e))
 bound_refusal_of bound.OutOfMemory = None

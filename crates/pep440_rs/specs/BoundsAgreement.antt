@@ -19,25 +19,25 @@ IsReleaseBound (Included v) = IsReleaseOnly v
 IsReleaseBound (Excluded v) = IsReleaseOnly v
 IsReleaseBound Unbounded = Unit {0}
 
+-- both bounds of the pair are releases alone
 abbrev pub IsReleasePair : Segment Record → Type 0
 IsReleasePair p = IsReleaseBound p.0 × IsReleaseBound p.1
 
--- an end and the next start: nothing lies from the start to the end, so the end is below the start, or equal to it and
--- not both are included
+-- nothing lies in both of two neighbouring pairs: the end is below the next start, or equal to it and not both are included
 abbrev pub is_followed : Bound Record → Bound Record → Bool
 is_followed end start = not (is_valid record_cmp start end)
 
--- the pairs are valid segments, each followed by the next, and there is one
+-- there is a pair, each pair is a valid segment, and each is followed by the next
 abbrev pub IsOrdered : List (Segment Record) → Type 0
 IsOrdered [] = ⊥
 IsOrdered (p ∷ []) = IsTrue (is_valid record_cmp p.0 p.1)
 IsOrdered (p ∷ q ∷ pairs) = IsTrue (is_valid record_cmp p.0 p.1) × IsTrue (is_followed p.1 q.0) × IsOrdered (q ∷ pairs)
 
--- the gap between an end and a start has nothing in it, or gives a member
+-- the gap between an end and the next start is empty, or some member excludes it
 abbrev pub is_known_gap : Bound Record → Bound Record → Bool
 is_known_gap end start = not (is_valid record_cmp (flipped_bound end) (flipped_bound start)) || not (length (gap_members end start) == 0)
 
--- so is each gap of the list
+-- each gap of the list is such a gap
 abbrev pub KnowsGaps : List (Segment Record) → Type 0
 KnowsGaps (p ∷ q ∷ pairs) = IsTrue (is_known_gap p.1 q.0) × KnowsGaps (q ∷ pairs)
 KnowsGaps pairs = Unit {0}
@@ -52,6 +52,6 @@ MatchesWithin p members = (v : Record) → IsReleaseOnly v → list_matches memb
 abbrev pub HoldsWithin : List (Segment Record) → List Spec → Type 0
 HoldsWithin pairs members = (v : Record) → IsReleaseOnly v → IsTrue (contains record_cmp pairs v) → IsTrue (list_matches members v)
 
--- and no other release
+-- the members together contain no other release
 abbrev pub HoldsOnlyWithin : List (Segment Record) → List Spec → Type 0
 HoldsOnlyWithin pairs members = (v : Record) → IsReleaseOnly v → list_matches members v ≡ contains record_cmp pairs v

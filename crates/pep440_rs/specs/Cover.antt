@@ -20,33 +20,35 @@ use Rattle.pep440_version.specs.declared.prerelease.PrereleaseKind.TheVariants.{
 
 -- ---- the least version above one and its local versions
 
--- above the last dev number, by post and pre: the same without dev, or the least alpha where only dev stands there
+-- the least version after all dev numbers of s, by its post and pre: s without dev, or, where it has only a dev, the first dev
+-- release of its first alpha
 abbrev pub after_devs : Record → Option ℕ → Option Prerelease → Record
 after_devs s None None = record s { pre = Some (record { kind = Alpha; number = 0 }); dev = Some 0 }
 after_devs s None (Some p) = record s { dev = None }
 after_devs s (Some n) pre = record s { dev = None }
 
--- by dev, post and pre: the next dev number, or the first developmental release of the next post-release; above the last
--- post-release is the sentinel max
+-- the least version after s and its local versions, by its dev, post and pre: with the next dev number; else the first dev
+-- release of the next post-release; after the last post-release the sentinel max
 abbrev pub after_locals : Record → Option ℕ → Option ℕ → Option Prerelease → Record
 after_locals s (Some d) post pre = option_map_or (λ n. record s { dev = Some n }) (next_number d) (after_devs s post pre)
 after_locals s None (Some p) pre = option_map_or (λ n. record s { post = Some n; dev = Some 0 }) (next_number p) (record s { post = None; max = Some 0 })
 after_locals s None None pre = record s { post = Some 0; dev = Some 0 }
 
+-- the least version after s and its local versions
 abbrev pub next_public : Record → Record
 next_public s = after_locals s s.dev s.post s.pre
 
 -- ---- by operator
 
--- `==`: a version with a local part alone, and another with its local versions
+-- the range of `==`: the version alone if it has a local part, else the version and its local versions
 abbrev pub with_locals : Record → Segments
 with_locals s = if has_local s then alone s else from_to s (next_public s)
 
--- below the first developmental release of this post-release, without the pre-releases of its release
+-- what lies below the first dev release of this post-release, without the pre-releases of its release
 abbrev pub below_post : Record → Option ℕ → Segments
 below_post release post = overlaps record_cmp (gaps (from_to (record release { min = Some 0 }) release)) ((Unbounded, Excluded (record release { post = post; dev = Some 0 })) ∷ [])
 
--- `<`: a post-release that has neither pre nor dev lets the lesser post-releases and the release itself be
+-- the cover of `<`: below a post-release that has neither pre nor dev, it keeps the lesser post-releases and the release itself
 abbrev pub less_cover : Record → Segments
 less_cover s = if is_some s.post && not (any_prerelease s) then below_post (epoch_and_release s.epoch s.release) s.post else less s
 
@@ -73,10 +75,10 @@ IsDenoted v = (text : List ℕ) × Derives text v
 abbrev pub IsCoverable : Spec → Type 0
 IsCoverable s = HasOperand s × IsDenoted s.version
 
--- every version that the specifier contains
+-- the cover holds every version that the specifier contains
 abbrev pub Covers : Spec → Segments → Type 0
 Covers s cover = (v : Record) → IsDenoted v → IsTrue (matches s.operator s.version v) → IsTrue (contains record_cmp cover v)
 
--- every version that the list contains
+-- the cover holds every version that the list contains
 abbrev pub ListCovers : List Spec → Segments → Type 0
 ListCovers members cover = (v : Record) → IsDenoted v → IsTrue (list_matches members v) → IsTrue (contains record_cmp cover v)

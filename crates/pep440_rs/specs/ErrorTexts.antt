@@ -1,4 +1,4 @@
--- The messages of the errors. Of an operator that is not ASCII nothing is said; no reader of specifiers returns one.
+-- The messages of the errors. Nothing is stated of an operator that is not ASCII; no parser of specifiers returns one.
 use Rattle.std.specs.Prelude.{ℕ, List, [], ◌∷◌, ◌++◌, Option, Some, None, codes, if◌then◌else◌}
 use Rattle.std.specs.Fmt.{debug_escape}
 use Rattle.std.specs.Char.{is_ascii}
@@ -11,13 +11,14 @@ use Rattle.pep440_rs.specs.SpecifierGrammar.{SpecifierRefusal, MissingOperator, 
 use Rattle.pep440_rs.specs.declared.range.error.RangeError.{RangeError}
 use Rattle.pep440_rs.specs.declared.range.error.RangeError.TheVariants as range
 
+-- the message of why an operator and a version make no specifier
 abbrev pub build_text : BuildRefusal → List ℕ
 build_text (OperatorLocalCombo o r) = codes "Operator " ++ (operator_text o ++ (codes " is incompatible with versions containing non-empty local segments (`+"
     ++ (dotted segment_print r.local ++ codes "`)")))
 build_text (OperatorWithStar o) = codes "Operator " ++ (operator_text o ++ codes " cannot be used with a wildcard version specifier")
 build_text CompatibleRelease = codes "The ~= operator requires at least two segments in the release version"
 
--- the message of a refusal; a string that is no operator stands in quotes, as Rust's debug form writes it
+-- the message of a reason; a string that is no operator is quoted as by Rust's Debug
 abbrev pub specifier_refusal_text : SpecifierRefusal → List ℕ
 specifier_refusal_text MissingOperator = codes "Unexpected end of version specifier, expected operator"
 specifier_refusal_text (InvalidOperator got) = codes "no such comparison operator " ++ ((34 ∷ (flat_map (debug_escape 34) got ++ 34 ∷ [])) ++ codes ", must be one of ~= == != <= >= < > ===")
@@ -26,12 +27,12 @@ specifier_refusal_text (InvalidVersion f) = pattern_refusal_text f
 specifier_refusal_text (InvalidSpecifier b) = build_text b
 specifier_refusal_text (InvalidTrailing rest) = codes "Trailing `" ++ (rest ++ codes "` is not allowed")
 
--- the message of an operator's error by the string that is no operator; without one memory ran out
+-- the message of an operator's error, which quotes the string that is no operator; without one, memory ran out
 abbrev pub operator_error_text : Option (List ℕ) → Option (List ℕ)
 operator_error_text None = Some (codes "out of memory")
 operator_error_text (Some got) = if list_all is_ascii got then Some (specifier_refusal_text (InvalidOperator got)) else None
 
--- the message of an error by its refusal; without one memory ran out
+-- the message of an error by its reason; without one, memory ran out
 abbrev pub specifier_error_text : Option SpecifierRefusal → Option (List ℕ)
 specifier_error_text None = Some (codes "out of memory")
 specifier_error_text (Some (InvalidOperator got)) = operator_error_text (Some got)

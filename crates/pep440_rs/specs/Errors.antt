@@ -1,4 +1,4 @@
--- What an error says, apart from where it lies in memory.
+-- What an error reports, apart from its address in memory.
 use Rattle.std.specs.Prelude.{◌≡◌, ℕ, List, Option, option_map, Some, None, Result, Ok, Err, string_bytes, IfSome}
 use Rattle.pep440_version.specs.Errors.{Answers, pattern_kind_of, pattern_refusal_of}
 use Rattle.pep440_rs.specs.Build.{BuildRefusal, OperatorLocalCombo, OperatorWithStar, CompatibleRelease}
@@ -14,30 +14,34 @@ use Rattle.pep440_rs.specs.declared.specifier.error.ParseErrorKind.{ParseErrorKi
 use Rattle.pep440_rs.specs.declared.specifier.error.ParseErrorKind.TheVariants as parse
 use Rattle.pep440_rs.specs.declared.specifier.error.VersionSpecifierParseError.{VersionSpecifierParseError}
 
+-- the kind of an operator's error
 abbrev pub operator_kind_of : OperatorParseError → OperatorErrorKind
 operator_kind_of e = e.kind
 
--- the string that is no operator, or none where memory ran out
+-- the string that is no operator, or None if memory ran out
 abbrev pub unknown_of : OperatorErrorKind → Option (List ℕ)
 unknown_of (operator.Unknown got) = Some (string_bytes got)
 unknown_of operator.OutOfMemory = None
 
+-- the kind of an error of building a specifier
 abbrev pub build_kind_of : VersionSpecifierBuildError → BuildErrorKind
 build_kind_of e = e.kind
 
+-- the reason that such a kind stands for
 abbrev pub build_refusal_of : BuildErrorKind → BuildRefusal
 build_refusal_of (build.OperatorLocalCombo o v) = OperatorLocalCombo o v
 build_refusal_of (build.OperatorWithStar o) = OperatorWithStar o
 build_refusal_of build.CompatibleRelease = CompatibleRelease
 
--- what was built is what the rules give
+-- the result is what the build rules give
 abbrev pub Builds : Result Spec VersionSpecifierBuildError → Result Spec BuildRefusal → Type 0
 Builds = Answers (λ e. Some (build_refusal_of (build_kind_of e)))
 
+-- the kind of a specifier's parse error
 abbrev pub parse_kind_of : VersionSpecifierParseError → ParseErrorKind
 parse_kind_of e = e.kind
 
--- the refusal, or none where memory ran out
+-- the reason of an error, or None if memory ran out
 abbrev pub specifier_refusal_of : ParseErrorKind → Option SpecifierRefusal
 specifier_refusal_of parse.MissingOperator = Some MissingOperator
 specifier_refusal_of (parse.InvalidOperator e) = option_map InvalidOperator (unknown_of (operator_kind_of e))
@@ -47,7 +51,7 @@ specifier_refusal_of (parse.InvalidSpecifier e) = Some (InvalidSpecifier (build_
 specifier_refusal_of (parse.InvalidTrailing rest) = Some (InvalidTrailing (string_bytes rest))
 specifier_refusal_of parse.OutOfMemory = None
 
--- out of memory is said by the last kind, and not inside another
+-- out of memory is the outer error's own kind, never inside another
 abbrev pub IsLifted : ParseErrorKind → Type 0
 IsLifted kind = specifier_refusal_of kind ≡ None → kind ≡ parse.OutOfMemory
 
@@ -56,6 +60,6 @@ abbrev pub SpecifierGives : Result Spec ParseErrorKind → Result Spec Specifier
 SpecifierGives (Ok s) read = read ≡ Ok s
 SpecifierGives (Err kind) read = IfSome (specifier_refusal_of kind) (λ f. read ≡ Err f) × IsLifted kind
 
--- the same of the public reader
+-- the public parser returns what the grammar and the reasons give, unless memory ran out
 abbrev pub SpecifierAnswers : Result Spec VersionSpecifierParseError → Result Spec SpecifierRefusal → Type 0
 SpecifierAnswers = Answers (λ e. specifier_refusal_of (parse_kind_of e))

@@ -1,4 +1,4 @@
--- What a list's reader answers.
+-- What the parser of lists returns.
 use Rattle.std.specs.Prelude.{◌≡◌, ℕ, List, [], Result, Ok, Err, string_bytes, IfSome}
 use Rattle.pep440_version.specs.Errors.{Answers}
 use Rattle.pep440_rs.specs.Arrangement.{Arranges}
@@ -9,18 +9,20 @@ use Rattle.pep440_rs.specs.declared.list.error.SpecifiersErrorKind.{SpecifiersEr
 use Rattle.pep440_rs.specs.declared.list.error.SpecifiersErrorKind.TheVariants.{Piece, OutOfMemory}
 use Rattle.pep440_rs.specs.declared.list.error.VersionSpecifiersParseError.{VersionSpecifiersParseError}
 
+-- the kind of a list's parse error
 abbrev pub list_kind_of : VersionSpecifiersParseError → SpecifiersErrorKind
 list_kind_of e = e.kind
 
+-- the string that an error holds
 abbrev pub line_of : VersionSpecifiersParseError → List ℕ
 line_of e = string_bytes e.line
 
--- the whole string of a refused piece, and nothing where memory ran out
+-- the whole string if a piece is invalid; the empty string if memory ran out
 abbrev pub line_for : List ℕ → SpecifiersErrorKind → List ℕ
 line_for text (Piece error start stop) = text
 line_for text OutOfMemory = []
 
--- the answer is this outcome, unless memory ran out
+-- the result is this outcome, unless memory ran out
 abbrev pub ListAnswers : Result (List Spec) VersionSpecifiersParseError → Result (List Spec) PieceRefusal → Type 0
 ListAnswers = Answers (λ e. list_refusal_of (list_kind_of e))
 

@@ -1,4 +1,4 @@
--- What the kind of a list's error says, apart from where it lies in memory.
+-- What the kind of a list's error reports, apart from its address in memory.
 use Rattle.std.specs.Prelude.{◌≡◌, ◌≤◌, ◌+◌, ℕ, List, Option, option_map, None, Result, Ok, Err, IfSome, IsCharBoundary, length}
 use Rattle.pep440_rs.specs.Errors.{parse_kind_of, specifier_refusal_of}
 use Rattle.pep440_rs.specs.ListGrammar.{PieceRefusal}
@@ -7,12 +7,12 @@ use Rattle.pep440_rs.specs.Specifiers.{Spec}
 use Rattle.pep440_rs.specs.declared.list.error.SpecifiersErrorKind.{SpecifiersErrorKind}
 use Rattle.pep440_rs.specs.declared.list.error.SpecifiersErrorKind.TheVariants.{Piece, OutOfMemory}
 
--- the refusal, or none where memory ran out
+-- the reason of an error, or None if memory ran out
 abbrev pub list_refusal_of : SpecifiersErrorKind → Option PieceRefusal
 list_refusal_of (Piece error start stop) = option_map (λ f. record { error = f; start = start; stop = stop }) (specifier_refusal_of (parse_kind_of error))
 list_refusal_of OutOfMemory = None
 
--- where the piece begins and ends
+-- where the piece begins and ends, in bytes
 abbrev pub span_of : SpecifiersErrorKind → ℕ × ℕ
 span_of (Piece error start stop) = (start, stop)
 span_of OutOfMemory = (0, 0)
@@ -23,7 +23,7 @@ pub record IsSpan (text : List ℕ) (kind : SpecifiersErrorKind) : Type 0 where
   pub starts : IsCharBoundary text (span_of kind).0
   pub stops : IsCharBoundary text (span_of kind).1
 
--- out of memory is said by the last kind, and not inside another
+-- out of memory is the outer error's own kind, never inside another
 abbrev pub IsListLifted : SpecifiersErrorKind → Type 0
 IsListLifted kind = list_refusal_of kind ≡ None → kind ≡ OutOfMemory
 

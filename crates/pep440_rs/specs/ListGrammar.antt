@@ -15,13 +15,13 @@ abbrev pub DerivesList : List ℕ → List Spec → Type 0
 DerivesList text list = ((text ≡ []) × (list ≡ []))
     ⊎ ((0 < length text) × (members : List Spec) × AllZip DerivesSpecifier (pieces text) members × Arranges members list)
 
--- why a string is no list: the refusal of a piece, and where the piece lies in the string, in bytes
+-- why a string is no list: the reason of a piece, and where the piece begins and ends, in bytes
 pub record PieceRefusal : Type 0 where
   pub error : SpecifierRefusal
   pub start : ℕ
   pub stop : ℕ
 
--- the first piece that is rejected: those before it mean specifiers; it begins behind them, each with the comma after it
+-- the first invalid piece decides: all pieces before it denote specifiers, and it begins after them and their commas
 pub record RefusesList (text : List ℕ) (f : PieceRefusal) : Type 0 where
   pub some : 0 < length text
   pub before : List (List ℕ)

@@ -5,14 +5,15 @@ use Rattle.std.specs.List.{flat_map}
 use Rattle.std.specs.declared.cmp.Ordering.{Ordering}
 use Rattle.pep440_rs.specs.Specifiers.{Spec, spec_cmp, spec_print}
 
--- the prints of the members, with this string between them
+-- the normalized forms of the members, joined by this separator
 abbrev pub joined : List ℕ → List Spec → List ℕ
 joined between [] = []
 joined between (s ∷ rest) = spec_print s ++ flat_map (λ t. between ++ spec_print t) rest
 
+-- the normalized form of a list: its members, joined by `, `
 abbrev pub list_print : List Spec → List ℕ
 list_print list = joined (codes ", ") list
 
--- member by member, and a beginning of a longer list is less
+-- lists are compared member by member, a prefix below a longer list
 abbrev pub list_cmp : List Spec → List Spec → Ordering
 list_cmp = slice_cmp spec_cmp

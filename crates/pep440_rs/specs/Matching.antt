@@ -38,10 +38,11 @@ has_prefix s prefix v = (v.epoch == s.epoch) && begins_with v.release prefix
 abbrev pub any_prerelease : Record → Bool
 any_prerelease r = is_some r.pre || is_some r.dev
 
+-- there is a local part
 abbrev pub has_local : Record → Bool
 has_local r = not (length r.local == 0)
 
--- what of v is compared: v, without its local part if s has none
+-- the version that is compared: v, without its local part if s has none
 abbrev pub candidate : Record → Record → Record
 candidate s v = if has_local s then v else record v { local = [] }
 
@@ -51,12 +52,12 @@ candidate s v = if has_local s then v else record v { local = [] }
 abbrev pub is_early : Record → Record → Bool
 is_early s v = same_release s v && not (any_prerelease s) && any_prerelease v
 
--- v is of the very release that s names, and either a post-release, which s isn't, or compared with its local part
+-- v is of the very release that s names, and is a post-release where s is none, or is compared with its local part
 abbrev pub is_late : Record → Record → Bool
 is_late s v = same_release s v && ((is_some v.post && not (is_some s.post)) || has_local (candidate s v))
 
--- "Version matching", "Version exclusion", "Inclusive ordered comparison", "Arbitrary equality",
--- "Compatible release" and "Exclusive ordered comparison"
+-- the operator's condition on s and v (PEP 440, "Version matching", "Version exclusion", "Inclusive ordered comparison",
+-- "Arbitrary equality", "Compatible release" and "Exclusive ordered comparison")
 abbrev pub matches : Operator → Record → Record → Bool
 matches Equal s v = is_eq (record_cmp (candidate s v) s)
 matches NotEqual s v = not (is_eq (record_cmp (candidate s v) s))
@@ -71,6 +72,6 @@ matches GreaterThan s v = is_gt (record_cmp (candidate s v) s) && not (is_late s
 
 -- ---- lists
 
--- each member contains v
+-- every member matches v
 abbrev pub list_matches : List Spec → Record → Bool
 list_matches members v = list_all (λ m. matches m.operator m.version v) members

@@ -18,12 +18,12 @@ use Rattle.pep440_rs.specs.declared.specifier.operator.Operator.{Operator}
 abbrev pub is_operator_char : ℕ → Bool
 is_operator_char c = (c == 61) || (c == 33) || (c == 126) || (c == 60) || (c == 62)
 
--- part passes the test and goes on as long as can be, where rest follows
+-- the part passes the test and is as long as possible before the rest
 abbrev pub IsRun : (ℕ → Bool) → List ℕ → List ℕ → Type 0
 IsRun test part rest = (list_all test part ≡ true) × (starts test rest ≡ false)
 
--- the characters of a string in six parts, each but the last as long as can be: blanks, an operator, blanks, a version,
--- blanks, and the rest
+-- a string is split into blanks, operator characters, blanks, other characters, blanks and the rest, each but the last as long
+-- as possible
 pub record SpecifierParts (text : List ℕ) : Type 0 where
   pub before : List ℕ
   pub operator : List ℕ
@@ -38,7 +38,7 @@ pub record SpecifierParts (text : List ℕ) : Type 0 where
   pub version_run : IsRun is_not_whitespace version (after ++ rest)
   pub after_run : IsRun is_whitespace after rest
 
--- the operator and the version of a cut: the operator is one, and the version means a record, with a star or without
+-- the operator and the version of such a split are valid
 pub record ReadsParts {text : List ℕ} (c : SpecifierParts text) (o : Operator) (r : Record) (star : Bool) : Type 0 where
   pub operator : Spells (encode_utf8_all c.operator) o
   pub version : DerivesPattern (encode_utf8_all c.version) r star
@@ -61,7 +61,7 @@ pub data SpecifierRefusal : Type 0 where
   InvalidSpecifier : BuildRefusal → SpecifierRefusal
   InvalidTrailing : (rest : List ℕ) → SpecifierRefusal
 
--- asked in this order: each speaks of a string of which none before it holds
+-- the reasons in the order in which they are tried: each holds only where none before it does
 abbrev pub RefusesSpecifier : List ℕ → SpecifierRefusal → Type 0
 RefusesSpecifier text MissingOperator = (c : SpecifierParts text) × (c.operator ≡ [])
 RefusesSpecifier text (InvalidOperator got) = (c : SpecifierParts text) × (0 < length c.operator) × (got ≡ encode_utf8_all c.operator) × ((o : Operator) → Spells got o → ⊥)

@@ -90,6 +90,7 @@ impl VersionSpecifier {
     /// `from_version` (PEP 440, "Version matching" and "Version exclusion").
     ///
     /// Allocates nothing.
+    #[inline(always)]
     pub fn from_pattern(
         operator: Operator,
         pattern: VersionPattern,

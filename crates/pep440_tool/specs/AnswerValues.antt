@@ -1,4 +1,4 @@
--- What the program's own types say, apart from where they lie in memory.
+-- The values of the program's own types, apart from their address in memory.
 use Rattle.std.specs.Prelude.{map, Result, string_bytes}
 use Rattle.pep440_tool.specs.declared.command.Command.{Command}
 use Rattle.pep440_tool.specs.declared.command.Command.TheVariants as command
@@ -8,6 +8,7 @@ use Rattle.pep440_tool.specs.Answers.{ToolAnswer}
 use Rattle.pep440_tool.specs.CommandErrors.{HoldsOrStops}
 use Rattle.pep440_tool.specs.Commands.{Asked, Show, Compare, Match, Edit, Range, Filter, Pick, Usage}
 
+-- the bytes of the output, and the status
 abbrev pub answer_value : Answer → ToolAnswer
 answer_value a = record { output = a.output.items; status = a.status }
 

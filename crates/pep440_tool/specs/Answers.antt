@@ -29,48 +29,48 @@ pub record ToolAnswer : Type 0 where
   pub output : List ℕ
   pub status : ℕ
 
--- a result: the strings, each as a line
+-- status 0 and each string as a line
 abbrev pub shown_lines : List (List ℕ) → ToolAnswer
 shown_lines texts = record { output = lines_of texts; status = 0 }
 
--- a result: the string as a line
+-- status 0 and the string as a line
 abbrev pub shown : List ℕ → ToolAnswer
 shown text = record { output = line text; status = 0 }
 
--- an error: the fault's message as a line
+-- status 1 and the error's message as a line
 abbrev pub refused : List ℕ → ToolAnswer
 refused text = record { output = line (codes "error: " ++ text); status = 1 }
 
--- an error: the message of a list's fault ends its own lines
+-- status 1 and the message of a list's error, which has line ends of its own
 abbrev pub refused_list : List ℕ → ToolAnswer
 refused_list text = record { output = codes "error: " ++ text; status = 1 }
 
--- no such command, or a wrong number of words
+-- status 2 and the usage line: no such command, or a wrong number of words
 abbrev pub usage_answer : ToolAnswer
 usage_answer = record { output = usage_text; status = 2 }
 
 -- ---- words that mean something, or are refused
 
--- the answer says why the word is no version
+-- the answer is the error of a word that is no version
 abbrev pub RefusesWord : List ℕ → ToolAnswer → Type 0
 RefusesWord word a = (f : Refusal) × Refuses word f × (a ≡ refused (refusal_text f))
 
--- the word means a version of which this holds, or the answer says why it means none
+-- the word denotes a version of which this holds, or the answer is its error
 abbrev pub ReadsVersion : List ℕ → (Record → Type 0) → ToolAnswer → Type 0
 ReadsVersion word Then a = ((r : Record) × Derives word r × Then r) ⊎ RefusesWord word a
 
--- the answer says why the word is no list
+-- the answer is the error of a word that is no list
 abbrev pub RefusesListWord : List ℕ → ToolAnswer → Type 0
 RefusesListWord word a = (f : PieceRefusal) × RefusesList word f × (a ≡ refused_list (list_refusal_text f word))
 
--- the word means a list of which this holds, or the answer says why it means none
+-- the word denotes a list of which this holds, or the answer is its error
 abbrev pub ReadsList : List ℕ → (List Spec → Type 0) → ToolAnswer → Type 0
 ReadsList word Then a = ((list : List Spec) × DerivesList word list × Then list) ⊎ RefusesListWord word a
 
 -- ---- texts with their numbers, one after another
 
 module _ {A : Type 0} (Means : ℕ × List ℕ → A → Type 0) (RejectsText : ℕ × List ℕ → ToolAnswer → Type 0) where
-  -- the answer says why the first string that means nothing does not
+  -- the answer is the error of the first invalid string
   pub record RejectsFirst (texts : List (ℕ × List ℕ)) (a : ToolAnswer) : Type 0 where
     pub before : List (ℕ × List ℕ)
     pub text : ℕ × List ℕ
@@ -80,7 +80,7 @@ module _ {A : Type 0} (Means : ℕ × List ℕ → A → Type 0) (RejectsText : 
     pub means : AllZip Means before found
     pub why : RejectsText text a
 
-  -- each string means something, and of these in order this holds; or the answer rejects the first that means nothing
+  -- all strings are valid, and this holds of their values in order; or the answer is the error of the first invalid one
   abbrev pub ReadsEach : List (ℕ × List ℕ) → (List A → Type 0) → ToolAnswer → Type 0
   ReadsEach texts Then a = ((found : List A) × AllZip Means texts found × Then found) ⊎ RejectsFirst texts a
 
@@ -90,54 +90,59 @@ module _ {A : Type 0} (Means : ℕ × List ℕ → A → Type 0) (RejectsText : 
 abbrev pub ShowAnswer : List ℕ → ToolAnswer → Type 0
 ShowAnswer text a = ReadsVersion text (λ r. a ≡ shown (print r)) a
 
+-- `<`, `=` or `>`
 abbrev pub sign_of : Ordering → List ℕ
 sign_of Less = codes "<"
 sign_of Equal = codes "="
 sign_of Greater = codes ">"
 
--- `compare A B`: how A compares with B; A is read first
+-- `compare A B`: the order of A and B; A is parsed first
 abbrev pub CompareAnswer : List ℕ → List ℕ → ToolAnswer → Type 0
 CompareAnswer left right a = ReadsVersion left (λ r. ReadsVersion right (λ q. a ≡ shown (sign_of (record_cmp r q))) a) a
 
--- the version that was reached, or the change that can't be made
+-- the changed version with its sentinels, or the error of the first change that cannot be made
 abbrev pub edited_answer : Result Record ChangeError → ToolAnswer
 edited_answer (Ok r) = shown (print_with_sentinels r)
 edited_answer (Err e) = refused (change_error_text e)
 
 -- ---- texts of errors with their numbers
 
+-- the message of an invalid candidate: `candidate`, its number and the reason
 abbrev pub candidate_fault_text : ℕ → List ℕ → List ℕ
 candidate_fault_text number fault = codes "candidate " ++ (decimal number ++ (codes ": " ++ fault))
 
+-- the message of an invalid line: `line`, its number and the reason
 abbrev pub line_fault_text : ℕ → List ℕ → List ℕ
 line_fault_text number fault = codes "line " ++ (decimal number ++ (codes ": " ++ fault))
 
+-- the message of a word that is no change, with its number
 abbrev pub not_a_change_text : ℕ → List ℕ
 not_a_change_text position = codes "change " ++ (decimal position ++ codes ": not a change")
 
--- a word asks for a change
+-- the word denotes this change
 abbrev pub AsksChange : ℕ × List ℕ → Edit → Type 0
 AsksChange word edit = change_of word.1 ≡ Some edit
 
--- the answer says which word asks for none
+-- the answer is the error of the first word that denotes no change
 abbrev pub RejectsChange : ℕ × List ℕ → ToolAnswer → Type 0
 RejectsChange word a = (change_of word.1 ≡ None) × (a ≡ refused (not_a_change_text word.0))
 
--- `edit V CHANGE..`: V is read, then all the words, and then the changes are made
+-- `edit V CHANGE..`: V is parsed, then all words, and then the changes are made
 abbrev pub EditAnswer : List ℕ → List (List ℕ) → ToolAnswer → Type 0
 EditAnswer text words a = ReadsVersion text (λ r. ReadsEach AsksChange RejectsChange (enumerate_from 1 words) (λ edits. a ≡ edited_answer (apply_edits 1 r edits)) a) a
 
 -- ---- lists of specifiers
 
+-- `yes` or `no`
 abbrev pub yes_or_no : Bool → List ℕ
 yes_or_no true = codes "yes"
 yes_or_no false = codes "no"
 
--- `match SPECS V`: whether the list contains the version; SPECS is read first
+-- `match SPECS V`: whether the list contains V; SPECS is parsed first
 abbrev pub MatchAnswer : List ℕ → List ℕ → ToolAnswer → Type 0
 MatchAnswer specifiers text a = ReadsList specifiers (λ list. ReadsVersion text (λ r. a ≡ shown (yes_or_no (list_matches list r))) a) a
 
--- the range's lines, or that a number would have to be raised that can't be
+-- the lines of the range, or the error that a number cannot be raised
 abbrev pub range_answer : Option Segments → ToolAnswer
 range_answer (Some range) = record { output = range_lines range; status = 0 }
 range_answer None = refused (range_error_text NumberAtMax)

@@ -1,10 +1,10 @@
--- What words ask for, and the answer to it.
+-- The command that the words of a call name, and its answer.
 use Rattle.std.specs.Prelude.{◌≡◌, ℕ, List, [], ◌∷◌, Bool, true, false, codes, bytes_eq, if◌then◌else◌}
 use Rattle.pep440_tool.specs.Answers.{ToolAnswer, CompareAnswer, EditAnswer, MatchAnswer, RangeAnswer, ShowAnswer, usage_answer}
 use Rattle.pep440_tool.specs.Lines.{FilterAnswer}
 use Rattle.pep440_tool.specs.Picks.{PickAnswer}
 
--- what words ask for; the usage line where there is no such command, or the number of words is wrong
+-- a command with its words, or that the usage line is wanted
 pub data Asked : Type 0 where
   Show : List ℕ → Asked
   Compare : List ℕ → List ℕ → Asked
@@ -15,28 +15,31 @@ pub data Asked : Type 0 where
   Pick : List ℕ → List (List ℕ) → Asked
   Usage : Asked
 
--- a command of one word, of two, of one and any number more, and of one and at least one more
+-- a command of exactly one word; otherwise usage
 abbrev pub one : (List ℕ → Asked) → List (List ℕ) → Asked
 one command [] = Usage
 one command (a ∷ []) = command a
 one command (a ∷ b ∷ rest) = Usage
 
+-- a command of exactly two words; otherwise usage
 abbrev pub two : (List ℕ → List ℕ → Asked) → List (List ℕ) → Asked
 two command [] = Usage
 two command (a ∷ []) = Usage
 two command (a ∷ b ∷ []) = command a b
 two command (a ∷ b ∷ c ∷ rest) = Usage
 
+-- a command of one word or more; otherwise usage
 abbrev pub one_or_more : (List ℕ → List (List ℕ) → Asked) → List (List ℕ) → Asked
 one_or_more command [] = Usage
 one_or_more command (a ∷ rest) = command a rest
 
+-- a command of two words or more; otherwise usage
 abbrev pub one_and_some : (List ℕ → List (List ℕ) → Asked) → List (List ℕ) → Asked
 one_and_some command [] = Usage
 one_and_some command (a ∷ []) = Usage
 one_and_some command (a ∷ b ∷ rest) = command a (b ∷ rest)
 
--- a command and the words after it
+-- the command that a name and its words ask for
 abbrev pub asked_by : List ℕ → List (List ℕ) → Asked
 asked_by command words =
     if bytes_eq command (codes "show") then one Show words
@@ -48,11 +51,12 @@ asked_by command words =
     else if bytes_eq command (codes "pick") then one_and_some Pick words
     else Usage
 
+-- the command that the words ask for, of which the first is its name
 abbrev pub asked : List (List ℕ) → Asked
 asked [] = Usage
 asked (command ∷ words) = asked_by command words
 
--- the answer to what is asked, with these bytes as the input
+-- the answer to the command, with these bytes as the input
 abbrev pub IsAnswer : Asked → List ℕ → ToolAnswer → Type 0
 IsAnswer (Show v) input a = ShowAnswer v a
 IsAnswer (Compare v w) input a = CompareAnswer v w a

@@ -1,4 +1,4 @@
--- What `filter` prints: the versions that the lines of the input mean, those that the list contains, in order.
+-- The output of `filter`: the versions of the input's lines that the list contains, in ascending order.
 use Rattle.std.specs.Prelude.{◌≡◌, ◌⊎◌, ◌==◌, ◌||◌, ℕ, List, Bool, codes, map, not}
 use Rattle.std.specs.List.{enumerate_from, filter, list_all, slice_split}
 use Rattle.std.specs.Str.{IsUtf8}
@@ -19,41 +19,44 @@ use Rattle.pep440_tool.specs.Answers.{ReadsEach, ReadsList, ToolAnswer, line_fau
 abbrev pub lines : List ℕ → List (List ℕ)
 lines input = slice_split (λ b. b == 10) input
 
--- tab, form feed, carriage return and space
+-- a tab, form feed, carriage return or space
 abbrev pub is_line_blank : ℕ → Bool
 is_line_blank b = (b == 9) || ((b == 12) || ((b == 13) || (b == 32)))
 
--- blanks alone, or nothing
+-- a line of blanks alone, or an empty one
 abbrev pub is_skipped : List ℕ → Bool
 is_skipped text = list_all is_line_blank text
 
--- lines that are not skipped, with their numbers, of which the first is this
+-- the lines that are not skipped, each with its number, counted from this number
 abbrev pub numbered_from : ℕ → List (List ℕ) → List (ℕ × List ℕ)
 numbered_from first texts = filter (λ (line : ℕ × List ℕ). not (is_skipped line.1)) (enumerate_from first texts)
 
+-- the lines that are not skipped, each with its number, counted from 1
 abbrev pub numbered_lines : List ℕ → List (ℕ × List ℕ)
 numbered_lines input = numbered_from 1 (lines input)
 
 -- ---- lines that mean something, or are rejected
 
+-- the line is UTF-8 and denotes this value
 abbrev pub LineMeans : {A : Type 0} → (List ℕ → A → Type 0) → ℕ × List ℕ → A → Type 0
 LineMeans Means line x = IsUtf8 line.1 × Means line.1 x
 
--- the answer says why a line means nothing: it is not UTF-8, or for a reason that has this answer at its number
+-- the answer is the error of a line: not UTF-8, or the reason for which it denotes nothing, with its number
 abbrev pub RejectsLine : {F : Type 0} → (List ℕ → F → Type 0) → (ℕ → F → ToolAnswer) → ℕ × List ℕ → ToolAnswer → Type 0
 RejectsLine {F} Refuses answer_at line a = ((¬ IsUtf8 line.1) × (a ≡ refused (line_fault_text line.0 (codes "not UTF-8"))))
     ⊎ (IsUtf8 line.1 × ((f : F) × Refuses line.1 f × (a ≡ answer_at line.0 f)))
 
 -- ---- versions
 
+-- the error of a line that is no version
 abbrev pub refused_version : ℕ → Refusal → ToolAnswer
 refused_version number f = refused (line_fault_text number (refusal_text f))
 
--- those that the list contains are shown in order, a line each
+-- the answer has the versions that the list contains, a line each, in ascending order
 abbrev pub ShowsContained : List Spec → List Record → ToolAnswer → Type 0
 ShowsContained list found a = (shown : List Record) × ArrangesBy record_cmp (filter (list_matches list) found) shown × (a ≡ shown_lines (map print shown))
 
--- `filter SPECS`: SPECS is read, and then the lines of the input
+-- `filter SPECS`: SPECS is parsed, and then the lines of the input
 abbrev pub FilterAnswer : List ℕ → List ℕ → ToolAnswer → Type 0
 FilterAnswer specifiers input a =
     ReadsList specifiers (λ list. ReadsEach (LineMeans Derives) (RejectsLine Refuses refused_version) (numbered_lines input) (λ found. ShowsContained list found a) a) a

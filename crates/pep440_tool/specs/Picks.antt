@@ -1,4 +1,4 @@
--- What `pick` prints: the newest of the candidates, by the lists of the lines whose name is the one that is asked for.
+-- The output of `pick`: the newest candidate that the lists of the requirement lines of that name contain.
 use Rattle.std.specs.Prelude.{◌≡◌, ◌⊎◌, ℕ, List, Bool, true, false, codes, Option, option_and_then, slice_get, if◌then◌else◌}
 use Rattle.std.specs.List.{enumerate_from}
 use Rattle.std.specs.Option.{option_map_or}
@@ -17,34 +17,36 @@ use Rattle.pep440_tool.specs.Lines.{LineMeans, RejectsLine, numbered_lines}
 
 -- ---- candidates
 
+-- the candidate denotes this version
 abbrev pub CandidateMeans : ℕ × List ℕ → Record → Type 0
 CandidateMeans text r = Derives text.1 r
 
--- the answer says why the candidate is no version
+-- the answer is the error of a candidate that is no version
 abbrev pub RejectsCandidate : ℕ × List ℕ → ToolAnswer → Type 0
 RejectsCandidate text a = (f : Refusal) × Refuses text.1 f × (a ≡ refused (candidate_fault_text text.0 (refusal_text f)))
 
 -- ---- requirements
 
+-- the requirement is invalid by its list of specifiers
 abbrev pub is_of_list : RequirementRefusal → Bool
 is_of_list (Specifiers list f) = true
 is_of_list _ = false
 
--- the message of a list's fault ends its own lines
+-- the error of an invalid requirement; the message of a list's error has line ends of its own
 abbrev pub refused_requirement : ℕ → RequirementRefusal → ToolAnswer
 refused_requirement number f = let text = line_fault_text number (requirement_refusal_text f) in if is_of_list f then refused_list text else refused text
 
 -- ---- the answer
 
--- the print of the version at the place, or `none`
+-- the normalized form of the version at the index, or `none`
 abbrev pub newest_text : List Record → Option ℕ → List ℕ
 newest_text candidates position = option_map_or print (option_and_then (slice_get candidates) position) (codes "none")
 
--- the newest by the lists of the lines of that name
+-- the answer is the newest candidate by the lists of the lines of that name
 abbrev pub ShowsNewest : List ℕ → List Record → List Needed → ToolAnswer → Type 0
 ShowsNewest name candidates found a = (position : Option ℕ) × Newest (lists_of name found) candidates position × (a ≡ shown (newest_text candidates position))
 
--- `pick NAME V..`: NAME is a name, then the candidates are read, and then the lines of the input
+-- `pick NAME V..`: NAME is checked, then the candidates are parsed, and then the lines of the input
 abbrev pub PickAnswer : List ℕ → List (List ℕ) → List ℕ → ToolAnswer → Type 0
 PickAnswer name texts input a = ((is_name name ≡ false) × (a ≡ refused (codes "name: not a valid name")))
     ⊎ ((is_name name ≡ true) × ReadsEach CandidateMeans RejectsCandidate (enumerate_from 1 texts) (λ candidates.

@@ -1,25 +1,24 @@
--- How a run of the program may end.
+-- How a run of the program may end. `remaining` are the bytes that the reader has left, `contents` those that the writer holds.
 use Rattle.std.specs.Prelude.{◌≡◌, ℕ, ◌≤◌, ◌⊎◌, Bool, true, false, List, [], ◌++◌, Option}
 use Rattle.std.specs.Io.KnownBytes.{Consumes, Appends, IsAtEnd}
 use Rattle.pep440_tool.specs.Answers.{ToolAnswer}
 use Rattle.pep440_tool.specs.Commands.{IsAnswer, asked, reads_input}
 use Rattle.pep440_tool.specs.Texts.{memory_text}
 
--- a beginning of `all` was written, which may be nothing or the whole
+-- a prefix of `all` was written, which may be empty or the whole
 pub record WroteFront (old new : Option (List ℕ)) (all : List ℕ) : Type 0 where
   pub prefix : List ℕ
   pub rest : List ℕ
   pub wrote : Appends old new prefix
   pub whole : all ≡ prefix ++ rest
 
--- What a run does with its reader and its writer. `remaining` and `contents` are the bytes that a reader has left and that a writer holds.
 module _ {R W : Type 0} (remaining : R → Option (List ℕ)) (contents : W → Option (List ℕ)) where
-  -- the whole input was read, where the words want it, and nothing was read elsewhere
+  -- a command that needs the input has read all of it; any other has read nothing
   abbrev pub TookInput : Bool → R → R → List ℕ → Type 0
   TookInput true old new input = Consumes (remaining old) (remaining new) input × IsAtEnd (remaining new)
   TookInput false old new input = (input ≡ []) × (new ≡ old)
 
-  -- the answer was written, and its status is the result
+  -- the whole answer was written, and the result is its status
   pub record IsAnswered (words : List (List ℕ)) (reader reader' : R) (writer writer' : W) (status : ℕ) : Type 0 where
     pub input : List ℕ
     pub took : TookInput (reads_input (asked words)) reader reader' input
@@ -28,7 +27,7 @@ module _ {R W : Type 0} (remaining : R → Option (List ℕ)) (contents : W → 
     pub wrote : Appends (contents writer) (contents writer') answer.output
     pub ended : status ≡ answer.status
 
-  -- a beginning of the answer was written, once the input was read
+  -- a prefix of the answer was written, after the input was read
   pub record IsCutAnswer (words : List (List ℕ)) (reader reader' : R) (writer writer' : W) : Type 0 where
     pub input : List ℕ
     pub took : TookInput (reads_input (asked words)) reader reader' input
@@ -36,7 +35,7 @@ module _ {R W : Type 0} (remaining : R → Option (List ℕ)) (contents : W → 
     pub is : IsAnswer (asked words) input answer
     pub wrote : WroteFront (contents writer) (contents writer') answer.output
 
-  -- by its status, what a run read and wrote
+  -- what a run has read and written, by its status
   pub record RunEnds (words : List (List ℕ)) (reader reader' : R) (writer writer' : W) (status : ℕ) : Type 0 where
     pub known : status ≤ 4
     pub answered : status ≤ 2 → IsAnswered words reader reader' writer writer' status

@@ -10,8 +10,10 @@ line text = text ++ 10 ∷ []
 abbrev pub lines_of : List (List ℕ) → List ℕ
 lines_of texts = flat_map line texts
 
+-- the usage line
 abbrev pub usage_text : List ℕ
 usage_text = codes "usage: pep440 show V / compare A B / match SPECS V / edit V CHANGE.. / range SPECS / filter SPECS / pick NAME V..\n"
 
+-- the line `error: out of memory`
 abbrev pub memory_text : List ℕ
 memory_text = codes "error: out of memory\n"

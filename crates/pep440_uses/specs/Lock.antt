@@ -1,4 +1,4 @@
--- What a line of a lock file means, `NAME; LIST; VERSION`, and which lines are broken.
+-- What a line of a lock file holds, `NAME; LIST; VERSION`, and which lines are broken.
 use Rattle.std.specs.Prelude.{ℕ, List, Bool, filter, map, not, string_bytes, IfSome}
 use Rattle.pep440_version.specs.Errors.{error_refusal}
 use Rattle.pep440_version.specs.Refusals.{Refuses}

@@ -11,7 +11,7 @@ use Rattle.pep440_version.specs.Record.{Record}
 abbrev pub collect_contained : List Spec → List Record → List Record
 collect_contained list versions = filter (list_matches list) versions
 
--- one of them: those before it are not above it, and those behind it are below it; so of equal ones it is the last
+-- one of the versions: those before it are not above it, and those after it are below it; so it is the last of equal ones
 pub record IsLastGreatest (versions : List Record) (v : Record) : Type 0 where
   pub before : List Record
   pub after : List Record
@@ -19,7 +19,7 @@ pub record IsLastGreatest (versions : List Record) (v : Record) : Type 0 where
   pub greatest : All (λ w. is_gt (record_cmp w v) ≡ false) before
   pub above : All (λ w. IsTrue (is_lt (record_cmp w v))) after
 
--- none exactly where there are no versions
+-- the greatest of the versions, or None if there are none
 abbrev pub LastGreatest : List Record → Option Record → Type 0
 LastGreatest versions None = versions ≡ []
 LastGreatest versions (Some v) = IsLastGreatest versions v

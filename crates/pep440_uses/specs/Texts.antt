@@ -6,6 +6,7 @@ use Rattle.pep440_version.specs.Refusals.{Refusal, Refuses}
 use Rattle.pep440_uses.specs.declared.untrusted.Verdict.{Verdict}
 use Rattle.pep440_uses.specs.declared.untrusted.Verdict.TheVariants.{Accepted, Refused}
 
+-- the string denotes this version, or is invalid with this message
 abbrev pub Tells : List ℕ → Verdict → Type 0
 Tells text (Accepted v) = Derives text v
 Tells text (Refused reason) = (f : Refusal) × Refuses text f × (string_bytes reason ≡ refusal_text f)

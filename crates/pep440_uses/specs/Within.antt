@@ -5,6 +5,6 @@ use Rattle.pep440_rs.specs.Bounds.{Segments}
 use Rattle.pep440_version.specs.Key.{record_cmp}
 use Rattle.pep440_version.specs.Record.{Record}
 
--- those that the range holds, if there is one
+-- the versions that the range holds, in order
 abbrev pub held : Option Segments → List Record → Option (List Record)
 held range versions = option_map (λ r. filter (contains record_cmp r) versions) range

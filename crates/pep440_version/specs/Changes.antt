@@ -1,5 +1,4 @@
--- Changes of a version: each replaces its one field. A list of changes is their fold, or the position of the
--- first that cannot be applied to the version reached by then.
+-- Changes of a version: each replaces one field. A list of changes is applied in order, up to the first that cannot be applied.
 use Rattle.std.specs.Prelude.{ℕ, ◌+◌, ◌==◌, ◌||◌, List, [], ◌∷◌, length, is_some, Option, Result, Ok, Err, if◌then◌else◌, map}
 use Rattle.pep440_version.specs.declared.change.Change.{Change}
 use Rattle.pep440_version.specs.declared.change.Change.TheVariants as change
@@ -22,6 +21,7 @@ pub data Edit : Type 0 where
   Min : Option ℕ → Edit
   Max : Option ℕ → Edit
 
+-- the change that a value of the enum stands for
 abbrev pub edit : Change → Edit
 edit (change.Release numbers) = Release numbers.items
 edit (change.Epoch n) = Epoch n
@@ -34,7 +34,7 @@ edit change.OnlyRelease = OnlyRelease
 edit (change.Min n) = Min n
 edit (change.Max n) = Max n
 
--- one change, at its position
+-- the record after one change, or the error with the position of the change
 abbrev pub apply_edit : ℕ → Record → Edit → Result Record ChangeError
 apply_edit position r (Release numbers) = if length numbers == 0 then Err (error.EmptyRelease position) else Ok (record r { release = numbers })
 apply_edit position r (Epoch n) = Ok (record r { epoch = n })
@@ -47,12 +47,12 @@ apply_edit position r OnlyRelease = Ok (from_release r.release)
 apply_edit position r (Min n) = if is_some r.pre || is_some r.dev then Err (error.MinNotAllowed position) else Ok (record r { min = n })
 apply_edit position r (Max n) = if is_some r.post || is_some r.dev then Err (error.MaxNotAllowed position) else Ok (record r { max = n })
 
--- what follows a change that could be applied
+-- the next change, if those before it could be made
 abbrev pub then_edit : Result Record ChangeError → (Record → Result Record ChangeError) → Result Record ChangeError
 then_edit (Ok r) next = next r
 then_edit (Err e) next = Err e
 
--- the changes in order, the first at this position
+-- the record after all changes in order, of which the first has this position
 abbrev pub apply_edits : ℕ → Record → List Edit → Result Record ChangeError
 apply_edits position r [] = Ok r
 apply_edits position r (c ∷ rest) = then_edit (apply_edit position r c) (λ q. apply_edits (position + 1) q rest)

@@ -6,7 +6,7 @@ use Rattle.pep440_version.specs.declared.change.ChangeError.{ChangeError}
 use Rattle.pep440_version.specs.declared.change.ChangeError.TheVariants as change
 use Rattle.pep440_version.specs.Refusals.{Refusal, Wildcard, NumberTooBig, NoLeadingNumber, NoLeadingReleaseNumber, LocalEmpty, UnexpectedEnd, PatternRefusal, OfVersion, WildcardNotTrailing}
 
--- the message of a refusal
+-- the message of a reason
 abbrev pub refusal_text : Refusal → List ℕ
 refusal_text Wildcard = codes "wildcards are not allowed in a version"
 refusal_text (NumberTooBig digits) = codes "expected number less than or equal to 18446744073709551615, but number found in \"" ++ (digits ++ codes "\" exceeds it")
@@ -16,23 +16,24 @@ refusal_text (LocalEmpty c) = codes "found a `" ++ (encode_utf8 c ++ (codes "` i
     ++ (encode_utf8 c ++ codes "`")))
 refusal_text (UnexpectedEnd version remaining) = codes "after parsing `" ++ (version ++ (codes "`, found `" ++ (remaining ++ codes "`, which is not part of a valid version")))
 
--- the message of an error by its refusal; without one it is out of memory, and nothing is stated of a number that is not digits
+-- the message of an error by its reason; without one, memory ran out. None for a number that is not ASCII digits
 abbrev pub error_text : Option Refusal → Option (List ℕ)
 error_text None = Some (codes "out of memory")
 error_text (Some (NumberTooBig digits)) = if list_all is_ascii_digit digits then Some (refusal_text (NumberTooBig digits)) else None
 error_text (Some f) = Some (refusal_text f)
 
+-- the message of why a string is no pattern
 abbrev pub pattern_refusal_text : PatternRefusal → List ℕ
 pattern_refusal_text (OfVersion f) = refusal_text f
 pattern_refusal_text WildcardNotTrailing = codes "wildcards in versions must be at the end"
 
--- a refusal of the version has the message of the version's error
+-- the message of a pattern's error; that of its version's error where the version is invalid
 abbrev pub pattern_error_text : Option PatternRefusal → Option (List ℕ)
 pattern_error_text None = error_text None
 pattern_error_text (Some (OfVersion f)) = error_text (Some f)
 pattern_error_text (Some WildcardNotTrailing) = Some (pattern_refusal_text WildcardNotTrailing)
 
--- the position of a change, and why it cannot be applied
+-- the message of a change that cannot be made: its position and the cause
 abbrev pub change_error_text : ChangeError → List ℕ
 change_error_text (change.EmptyRelease position) = codes "change " ++ (decimal position ++ codes ": a release needs at least one number")
 change_error_text (change.MinNotAllowed position) = codes "change " ++ (decimal position ++ codes ": min is not allowed on pre-release or dev versions")

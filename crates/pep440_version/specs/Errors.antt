@@ -10,11 +10,11 @@ use Rattle.pep440_version.specs.declared.error.VersionPatternParseError.{Version
 use Rattle.pep440_version.specs.Reading.{Read}
 use Rattle.pep440_version.specs.Refusals.{PatternRefusal, OfVersion, WildcardNotTrailing, Refusal, Wildcard, NumberTooBig, NoLeadingNumber, NoLeadingReleaseNumber, LocalEmpty, UnexpectedEnd}
 
--- why a string is not a version
+-- the kind of an error
 abbrev pub kind_of : VersionParseError → ErrorKind
 kind_of e = e.kind
 
--- the refusal, or none if out of memory
+-- the reason that a kind stands for, or None if memory ran out
 abbrev pub refusal_of : ErrorKind → Option Refusal
 refusal_of kind.Wildcard = Some Wildcard
 refusal_of (kind.NumberTooBig bytes) = Some (NumberTooBig bytes.items)
@@ -24,23 +24,24 @@ refusal_of (kind.LocalEmpty c) = Some (LocalEmpty c)
 refusal_of (kind.UnexpectedEnd v r) = Some (UnexpectedEnd (string_bytes v) (string_bytes r))
 refusal_of kind.OutOfMemory = None
 
--- the refusal that an error reports, or none if out of memory
+-- the reason of an error, or None if memory ran out
 abbrev pub error_refusal : VersionParseError → Option Refusal
 error_refusal e = refusal_of (kind_of e)
 
--- why a string is not a pattern
+-- the kind of a pattern's error
 abbrev pub pattern_kind_of : VersionPatternParseError → PatternErrorKind
 pattern_kind_of e = e.kind
 
--- the refusal of a pattern, or none if out of memory
+-- the reason that a pattern's kind stands for, or None if memory ran out
 abbrev pub pattern_refusal_of : PatternErrorKind → Option PatternRefusal
 pattern_refusal_of (pattern.Version e) = option_map OfVersion (refusal_of (kind_of e))
 pattern_refusal_of pattern.WildcardNotTrailing = Some WildcardNotTrailing
 
+-- the reason of a pattern's error, or None if memory ran out
 abbrev pub pattern_error_refusal : VersionPatternParseError → Option PatternRefusal
 pattern_error_refusal e = pattern_refusal_of (pattern_kind_of e)
 
--- a parser returns what reading gives, unless out of memory; `refusal` is what an error reports
+-- a parser returns what the reading gives, unless memory ran out; `refusal` is the reason of an error
 abbrev pub Answers : {X E F : Type 0} → (E → Option F) → Result X E → Result X F → Type 0
 Answers refusal (Ok x) read = read ≡ Ok x
 Answers refusal (Err e) read = IfSome (refusal e) (λ f. read ≡ Err f)

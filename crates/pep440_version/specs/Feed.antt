@@ -29,7 +29,7 @@ abbrev pub feed_segment : LocalSegmentValue → HashWrites
 feed_segment (Text t) = u64 0 ++ u64 (length t) ++ (t ∷ [])
 feed_segment (Number n) = u64 1 ++ u64 n
 
--- how many items, and each of them
+-- the count of the items, then each of them
 abbrev pub feed_items : {A : Type 0} → (A → HashWrites) → List A → HashWrites
 feed_items feed_item items = u64 (length items) ++ flat_map feed_item items
 
@@ -41,9 +41,10 @@ feed_key k = u64 k.epoch ++ feed_items u64 (trim k.release) ++ feed_stage k.stag
 abbrev pub feed : Record → HashWrites
 feed r = feed_key (key r)
 
--- a kind by its rank, and a pre-release as its kind and number
+-- a kind by its rank
 abbrev pub feed_kind : PrereleaseKind → HashWrites
 feed_kind k = u64 (kind_rank k)
 
+-- a pre-release by its kind, then its number
 abbrev pub feed_prerelease : Prerelease → HashWrites
 feed_prerelease p = feed_kind p.kind ++ u64 p.number

@@ -23,11 +23,11 @@ AreBlanks text = list_all is_ascii_whitespace text ≡ true
 abbrev pub is_v : ℕ → Bool
 is_v b = (b == 118) || (b == 86)
 
--- nothing, or the letter v (PEP 440, "Preceding v character")
+-- the letter v, or nothing (PEP 440, "Preceding v character")
 abbrev pub IsLeadingV : List ℕ → Type 0
 IsLeadingV text = (text ≡ []) ⊎ (text ≡ codes "v") ⊎ (text ≡ codes "V")
 
--- one or more digits, zeros may lead, with a value that fits (PEP 440, "Integer Normalization")
+-- one or more digits, with leading zeros or without, whose value is below 2^64 (PEP 440, "Integer Normalization")
 abbrev pub IsNumber : List ℕ → ℕ → Type 0
 IsNumber digits n = (0 < length digits) × (list_all is_ascii_digit digits ≡ true) × (digits_value 10 digits ≡ n) × Fits n
 
@@ -57,27 +57,27 @@ IsCount text n = ((text ≡ []) × (n ≡ 0)) ⊎ IsNumber text n
 abbrev pub Spellings : Type 0 → Type 0
 Spellings A = List (List ℕ × A)
 
--- PEP 440, "Pre-release spelling"
+-- the spellings of pre-releases (PEP 440, "Pre-release spelling")
 abbrev pub pre_spellings : Spellings PrereleaseKind
 pre_spellings = (codes "alpha", Alpha) ∷ (codes "a", Alpha) ∷ (codes "beta", Beta) ∷ (codes "b", Beta)
     ∷ (codes "rc", Rc) ∷ (codes "c", Rc) ∷ (codes "preview", Rc) ∷ (codes "pre", Rc) ∷ []
 
--- PEP 440, "Post release spelling"
+-- the spellings of post-releases (PEP 440, "Post release spelling")
 abbrev pub post_spellings : Spellings (Unit {0})
 post_spellings = (codes "post", tt) ∷ (codes "rev", tt) ∷ (codes "r", tt) ∷ []
 
--- PEP 440, "Development release separators"
+-- the spelling of dev releases (PEP 440, "Development release separators")
 abbrev pub dev_spellings : Spellings (Unit {0})
 dev_spellings = (codes "dev", tt) ∷ []
 
--- a word of the table, in any case, and what it stands for
+-- a word of the table, in any case, and what the word stands for
 abbrev pub IsSpelling : {A : Type 0} → Spellings A → List ℕ → A → Type 0
 IsSpelling [] word a = ⊥
 IsSpelling (s ∷ rest) word a = ((map to_ascii_lowercase word ≡ s.0) × (a ≡ s.1)) ⊎ IsSpelling rest word a
 
--- a part that is spelled: separator, spelling, separator, count, where all but the spelling may be missing;
--- what comes after the part is given. A separator directly after the spelling belongs to the part, and so do
--- digits that then stand there: so the part `-RC_2` is `-`, `RC`, `_` and `2`, and stands for Rc and 2; `rc` alone, for Rc and 0.
+-- a spelled part: separator, spelling, separator, count, of which all but the spelling may be absent; what follows the part is
+-- given. A separator directly after the spelling belongs to the part, and so do digits that then follow: so `-RC_2` is `-`,
+-- `RC`, `_` and `2`, and stands for Rc and 2; `rc` alone stands for Rc and 0.
 pub record IsSpelled {A : Type 0} (table : Spellings A) (part after : List ℕ) (a : A) (n : ℕ) : Type 0 where
   pub before : List ℕ
   pub word : List ℕ
@@ -106,12 +106,12 @@ abbrev pub IsDev : List ℕ → List ℕ → Option ℕ → Type 0
 IsDev part after None = part ≡ []
 IsDev part after (Some n) = IsSpelled dev_spellings part after tt n
 
--- digits alone, whose value fits
+-- digits alone, whose value is below 2^64
 abbrev pub is_numeral : List ℕ → Bool
 is_numeral text = list_all is_ascii_digit text && nat_lt (digits_value 10 text) (2 ^ 64)
 
--- a numeral is a number, and every other segment is its lower-cased string (PEP 440, "Local version
--- identifiers", "Case sensitivity")
+-- the value of a segment: a numeral is a number, every other segment its lower-cased string (PEP 440, "Local version
+-- identifiers" and "Case sensitivity")
 abbrev pub parse_segment : List ℕ → LocalSegmentValue
 parse_segment text = if is_numeral text then Number (digits_value 10 text) else Text (map to_ascii_lowercase text)
 
@@ -130,8 +130,8 @@ abbrev pub IsLocal : List ℕ → List LocalSegmentValue → Type 0
 IsLocal part [] = part ≡ []
 IsLocal part (s ∷ rest) = (text : List ℕ) × AreSegments text (s ∷ rest) × (part ≡ codes "+" ++ text)
 
--- the string denotes the record: it is split into blanks w1, the letter v, epoch e, release n, pre p, post q, dev d, local l
--- and blanks w2
+-- the string denotes the record: it splits into blanks w1, the letter v, epoch e, release n, pre p, post q, dev d, local l and
+-- blanks w2
 pub record Derives (text : List ℕ) (r : Record) : Type 0 where
   pub w1 : List ℕ
   pub v : List ℕ

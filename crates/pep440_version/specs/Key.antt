@@ -10,7 +10,7 @@ use Rattle.pep440_version.specs.declared.prerelease.PrereleaseKind.TheVariants.{
 use Rattle.pep440_version.specs.declared.prerelease.Prerelease.{Prerelease}
 use Rattle.pep440_version.specs.Record.{Record, LocalSegmentValue, Text, Number}
 
--- which of the stages of a release a version stands in; pre-releases by kind, then by number
+-- the stage of a version within its release; a pre-release has its kind and number
 pub data Stage : Type 0 where
   Min : Stage
   Dev : Stage
@@ -39,26 +39,26 @@ pub record Key : Type 0 where
 
 -- ---- the key of a record
 
--- min, pre, dev, post and max: a min hides pre and dev, and a dev counts here where it stands alone
+-- the stage, by min, pre, dev, post and max: a min hides pre and dev, and a dev counts here only if it stands alone
 abbrev pub stage_of : Option ℕ → Option Prerelease → Option ℕ → Option ℕ → Option ℕ → Stage
 stage_of (Some n) pre dev post max = Min
 stage_of None (Some p) dev post max = Pre p.kind p.number
 stage_of None None (Some d) None None = Dev
 stage_of None None dev post max = Final
 
--- max and post
+-- the post part, by max and post
 abbrev pub post_of : Option ℕ → Option ℕ → PostPart
 post_of (Some m) post = PostTop m
 post_of None (Some p) = PostAt p
 post_of None None = NoPost
 
--- min and dev
+-- the dev part, by min and dev
 abbrev pub dev_of : Option ℕ → Option ℕ → DevPart
 dev_of (Some n) dev = DevAt n
 dev_of None (Some d) = DevAt d
 dev_of None None = NoDev
 
--- the parts of the key, each from the fields that it rests on
+-- the key of a record: stage, post and dev beside epoch, release and local part
 abbrev pub key : Record → Key
 key r = record {
   epoch = r.epoch;
@@ -113,11 +113,11 @@ segment_cmp (Text s) (Number n) = Less
 segment_cmp (Number m) (Text t) = Greater
 segment_cmp (Number m) (Number n) = nat_cmp m n
 
--- a beginning of a longer local is less
+-- local parts are compared segment by segment, a prefix below a longer one
 abbrev pub local_cmp : List LocalSegmentValue → List LocalSegmentValue → Ordering
 local_cmp = slice_cmp segment_cmp
 
--- part by part
+-- keys are compared part by part
 abbrev pub key_cmp : Key → Key → Ordering
 key_cmp = then_cmp (on (λ (k : Key). k.epoch) nat_cmp) (then_cmp (on (λ (k : Key). k.release) release_cmp)
     (then_cmp (on (λ (k : Key). stage_rank k.stage) rank_cmp) (then_cmp (on (λ (k : Key). post_rank k.post) rank_cmp)
@@ -145,6 +145,6 @@ base_cmp r q = ordering_then (nat_cmp r.epoch q.epoch) (release_cmp r.release q.
 abbrev pub suffix_cmp : Record → Record → Ordering
 suffix_cmp r q = ordering_then (stage_cmp (key r).stage (key q).stage) (ordering_then (post_cmp (key r).post (key q).post) (dev_cmp (key r).dev (key q).dev))
 
--- the kind, then the number
+-- pre-releases are compared by kind, then by number
 abbrev pub prerelease_cmp : Prerelease → Prerelease → Ordering
 prerelease_cmp = on (λ (p : Prerelease). (kind_rank p.kind, p.number)) rank_cmp

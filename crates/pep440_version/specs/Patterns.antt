@@ -8,8 +8,8 @@ use Rattle.pep440_version.specs.Grammar.{Derives}
 use Rattle.pep440_version.specs.Key.{record_cmp}
 use Rattle.pep440_version.specs.Record.{Record, epoch_and_release}
 
--- the string denotes the record with a star: `.*` follows a prefix that denotes it, has epoch and release alone, and ends
--- without blanks
+-- the string denotes the record with a star: a prefix without blanks at its end denotes the record, which has epoch and release
+-- alone, and `.*` follows
 abbrev pub DerivesStar : List ℕ → Record → Type 0
 DerivesStar text r = (prefix : List ℕ) × (h : Derives prefix r) × (text ≡ prefix ++ codes ".*") × (h.w2 ≡ []) × (r ≡ epoch_and_release r.epoch r.release)
 
@@ -22,6 +22,6 @@ DerivesPattern text r false = Derives text r
 abbrev pub pattern_eq : Record × Bool → Record × Bool → Bool
 pattern_eq = eq_of_both (on (λ (p : Record × Bool). p.0) (eq_by_cmp record_cmp)) (on (λ (p : Record × Bool). p.1) beq)
 
--- the version, and whether a star follows
+-- a hasher gets the version, then whether a star follows
 abbrev pub feed_pattern : Record × Bool → HashWrites
 feed_pattern p = feed p.0 ++ u64 (if p.1 then 1 else 0)

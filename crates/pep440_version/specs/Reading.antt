@@ -1,5 +1,4 @@
--- How numbers and releases are read, from the left: a second view of the grammar, with the fault of a text
--- that is none.
+-- How numbers and releases are read, from the left: a second view of the grammar, with the reason of an invalid string.
 use Rattle.std.specs.Prelude.{◌≡◌, ◌++◌, length, ℕ, zero, suc, ◌^◌, ◌==◌, ◌&&◌, Bool, List, [], ◌∷◌, take, drop, Result, Ok, Err, if◌then◌else◌, nat_lt}
 use Rattle.std.specs.Char.{is_ascii_digit}
 use Rattle.std.specs.List.{prefix_len}
@@ -21,6 +20,7 @@ abbrev pub ◌>>=◌ : {A B : Type 0} → Result A Refusal → (A → Result B R
 abbrev pub lead : (ℕ → Bool) → List ℕ → List ℕ
 lead test text = take (prefix_len test text) text
 
+-- what follows the longest prefix that passes the test
 abbrev pub past : (ℕ → Bool) → List ℕ → List ℕ
 past test text = drop (prefix_len test text) text
 

@@ -10,6 +10,7 @@ pub data LocalSegmentValue : Type 0 where
   Text : List ℕ → LocalSegmentValue
   Number : ℕ → LocalSegmentValue
 
+-- the parts of a version, each absent or present; numbers are natural numbers
 pub record Record : Type 0 where
   pub epoch : ℕ
   pub release : List ℕ
@@ -20,15 +21,16 @@ pub record Record : Type 0 where
   pub min : Option ℕ
   pub max : Option ℕ
 
--- a number of the crate
+-- a number below 2^64
 abbrev pub Fits : ℕ → Type 0
 Fits n = n < 2 ^ 64
 
+-- a number that fits, or any string
 abbrev pub SegmentFits : LocalSegmentValue → Type 0
 SegmentFits (Text t) = Unit {0}
 SegmentFits (Number n) = Fits n
 
--- the records that versions denote: each number fits, and there is a release
+-- the records of versions: each number fits, and the release is not empty
 pub record IsRecord (r : Record) : Type 0 where
   pub epoch : Fits r.epoch
   pub some : 0 < length r.release
@@ -40,11 +42,11 @@ pub record IsRecord (r : Record) : Type 0 where
   pub min : IfSome r.min Fits
   pub max : IfSome r.max Fits
 
--- a release alone
+-- the record of a release alone
 abbrev pub from_release : List ℕ → Record
 from_release numbers = record { epoch = 0; release = numbers; pre = None; post = None; dev = None; local = []; min = None; max = None }
 
--- a record of epoch and release alone
+-- the record with its epoch and release alone
 abbrev pub epoch_and_release : ℕ → List ℕ → Record
 epoch_and_release epoch release = record (from_release release) { epoch = epoch }
 
@@ -52,6 +54,6 @@ epoch_and_release epoch release = record (from_release release) { epoch = epoch 
 abbrev pub from_parts : ℕ → List ℕ → Option Prerelease → Option ℕ → Option ℕ → List LocalSegmentValue → Record
 from_parts epoch release pre post dev local = record { epoch = epoch; release = release; pre = pre; post = post; dev = dev; local = local; min = None; max = None }
 
--- `0a0.dev0`
+-- the record of `0a0.dev0`
 abbrev pub zero_alpha_dev : Record
 zero_alpha_dev = record (from_release (0 ∷ [])) { pre = Some (record { kind = Alpha; number = 0 }); dev = Some 0 }

@@ -27,16 +27,16 @@ ends test [] = false
 ends test (b ∷ []) = test b
 ends test (b ∷ c ∷ rest) = ends test (c ∷ rest)
 
--- blanks and the letter v, each as long as can be, and then rest
+-- blanks and the letter v, each as long as possible, and then the rest
 abbrev pub Opens : List ℕ → List ℕ → Type 0
 Opens text rest = (w1 v : List ℕ) × (text ≡ w1 ++ (v ++ rest)) × AreBlanks w1 × IsLeadingV v × (starts is_ascii_whitespace (v ++ rest) ≡ false) × (v ≡ [] → starts is_v rest ≡ false)
 
--- digits of a value above the limit, with no digit before or after them
+-- digits with a value of 2^64 or more, with no digit before or after them
 abbrev pub IsBigRun : List ℕ → List ℕ → List ℕ → Type 0
 IsBigRun prefix digits rest = (list_all is_ascii_digit digits ≡ true) × (2 ^ 64 ≤ digits_value 10 digits)
     × (ends is_ascii_digit prefix ≡ false) × (starts is_ascii_digit rest ≡ false)
 
--- epoch, release and a star, and then rest
+-- epoch, release and a star, and then the rest
 abbrev pub HasStar : List ℕ → List ℕ → Type 0
 HasStar text rest = (e n release : List ℕ) × (epoch : ℕ) × Opens text (e ++ (n ++ (codes ".*" ++ rest))) × IsEpoch e epoch × IsRelease n release
 
@@ -51,7 +51,7 @@ pub record IsLongest (text prefix rest : List ℕ) : Type 0 where
 abbrev pub IsPrecursor : Record → ℕ → Type 0
 IsPrecursor r c = ((c ≡ 43) × (length r.local ≡ 0)) ⊎ ((is_separator c ≡ true) × (0 < length r.local))
 
--- every kind but the last
+-- the reasons of every kind but the last
 abbrev pub RefusesEarlier : List ℕ → Refusal → Type 0
 RefusesEarlier text Wildcard = (rest : List ℕ) × HasStar text rest
 RefusesEarlier text (NumberTooBig digits) = (prefix rest : List ℕ) × (r : Record) × (text ≡ prefix ++ (digits ++ rest)) × IsBigRun prefix digits rest
@@ -62,12 +62,12 @@ RefusesEarlier text (LocalEmpty c) = (prefix rest : List ℕ) × (r : Record) ×
     × IsPrecursor r c × (starts is_ascii_alphanumeric rest ≡ false)
 RefusesEarlier text (UnexpectedEnd version remaining) = ⊥
 
--- the last kind where no other holds
+-- the reason of an invalid string; it is of the last kind where no other holds
 abbrev pub Refuses : List ℕ → Refusal → Type 0
 Refuses text (UnexpectedEnd version remaining) = (0 < length remaining) × IsLongest text version remaining × ((f : Refusal) → RefusesEarlier text f → ⊥)
 Refuses text f = RefusesEarlier text f
 
--- why a pattern string is rejected: a star at the end is no reason
+-- the reason of a string that is no pattern: a star at its end is no reason
 abbrev pub RefusesPattern : List ℕ → PatternRefusal → Type 0
 RefusesPattern text WildcardNotTrailing = (rest : List ℕ) × (0 < length rest) × HasStar text rest
 RefusesPattern text (OfVersion Wildcard) = ⊥

@@ -10,12 +10,12 @@ use Rattle.pep440_version.specs.Record.{Record, LocalSegmentValue, Text, Number}
 abbrev pub is_lower : ℕ → Bool
 is_lower b = is_ascii_digit b || is_ascii_lowercase b
 
--- a number, or a string of lower-case ASCII letters and digits that would not be read as a number
+-- a number, or a string of lower-case ASCII letters and digits that does not parse as a number
 abbrev pub SegmentRereads : LocalSegmentValue → Type 0
 SegmentRereads (Text t) = (0 < length t) × (list_all is_lower t ≡ true) × (is_numeral t ≡ false)
 SegmentRereads (Number n) = Unit {0}
 
--- the normalized form of the record denotes the record
+-- the normalized form of the record parses back to it
 pub record RoundTrips (r : Record) : Type 0 where
   pub no_min : r.min ≡ None
   pub no_max : r.max ≡ None

@@ -1,7 +1,7 @@
 -- A release without the zeros at its end, which the order and the hash do not see.
 use Rattle.std.specs.Prelude.{ℕ, ◌==◌, List, [], ◌∷◌, if◌then◌else◌}
 
--- x before a release that has no zeros at its end
+-- the number before a release that has no zeros at its end
 abbrev pub prepend_trimmed : ℕ → List ℕ → List ℕ
 prepend_trimmed x [] = if x == 0 then [] else x ∷ []
 prepend_trimmed x (y ∷ ys) = x ∷ y ∷ ys

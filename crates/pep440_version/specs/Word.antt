@@ -4,8 +4,8 @@ use Rattle.pep440_version.specs.declared.prerelease.Prerelease.{Prerelease}
 use Rattle.pep440_version.specs.Key.{kind_rank}
 use Rattle.pep440_version.specs.Record.{Record}
 
--- of min, dev, pre, post and max the one that is there: its class (min 0, dev 1, Alpha 2, Beta 3, Rc 4, post 6,
--- max 7), and its number; class 5 where there is none of them, and None where there are two or more
+-- the one suffix of min, dev, pre, post and max: its class (min 0, dev 1, Alpha 2, Beta 3, Rc 4, post 6, max 7) and its number;
+-- class 5 if there is none, None if there are two or more
 abbrev pub suffix_of : Option ℕ → Option ℕ → Option Prerelease → Option ℕ → Option ℕ → Option (ℕ × ℕ)
 suffix_of (Some n) None None None None = Some (0, n)
 suffix_of None (Some n) None None None = Some (1, n)
@@ -15,7 +15,7 @@ suffix_of None None None (Some n) None = Some (6, n)
 suffix_of None None None None (Some n) = Some (7, n)
 suffix_of min dev pre post max = None
 
--- the class and the number of a record's suffix
+-- the class and the number of a record's suffix, or None if it has two or more
 abbrev pub suffix : Record → Option (ℕ × ℕ)
 suffix r = suffix_of r.min r.dev r.pre r.post r.max
 

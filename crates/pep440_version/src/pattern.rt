@@ -96,6 +96,7 @@ impl VersionPattern {
     /// Allocates only if the version is not packed, or for the strings in an error. Every other string is rejected
     /// with exactly one `PatternErrorKind`; only if an allocation failed the kind may be `OutOfMemory` of `Version`
     /// instead.
+    #[inline(always)]
     pub fn from_str(alloc: Global, text: &str) -> Result<VersionPattern, VersionPatternParseError>
         // Ok has what the string denotes.
         ensures found { IfOk result (λ p. DerivesPattern text.now p.0 p.1) }

@@ -133,6 +133,7 @@ impl Operator {
     /// form. Any other string is rejected as `Unknown`.
     ///
     /// Allocates only for `Unknown`, and may then return `OutOfMemory` in its place.
+    #[inline(always)]
     pub fn from_str(alloc: Global, text: &str) -> Result<Operator, OperatorParseError>
         // What is returned is written so.
         ensures found { IfOk result (λ o. Spells text.now o) }
