@@ -11,7 +11,7 @@ use Rattle.pep440_rs.specs.declared.specifier.operator.Operator.TheVariants.{Exa
 use Rattle.pep440_version.specs.Record.{Fits}
 use Rattle.pep440_version.specs.Word.{is_packed}
 
--- the place of the operator in the enum, and the bytes of the version
+-- the position of the operator in its enum, and the bytes of the version
 abbrev pub member_bytes : Spec → List ℕ
 member_bytes s = operator_rank s.operator ∷ compiled_bytes s.version
 
@@ -24,7 +24,7 @@ pub record IsStoredMember (s : Spec) : Type 0 where
   pub valid : IsSpec s
   pub version : IsStored s.version
 
--- the bytes are those of this list: no member's version is below that of the one before it
+-- the bytes are those of this list, whose versions never fall
 pub record DenotesList (bytes : List ℕ) (list : List Spec) : Type 0 where
   pub members : All IsStoredMember list
   pub count : Fits (length list)

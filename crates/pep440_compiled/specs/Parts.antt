@@ -24,7 +24,7 @@ abbrev pub optional_number : Option ℕ → List ℕ
 optional_number None = 0 ∷ []
 optional_number (Some n) = 1 ∷ eight_bytes n
 
--- 1, the length of a text, and the text; or 2 and a number
+-- 1, the length of a string, and the string; or 2 and a number
 abbrev pub tagged_segment : LocalSegmentValue → List ℕ
 tagged_segment (Text t) = 1 ∷ eight_bytes (length t) ++ t
 tagged_segment (Number n) = 2 ∷ eight_bytes n
@@ -33,6 +33,6 @@ tagged_segment (Number n) = 2 ∷ eight_bytes n
 abbrev pub optional_parts : Record → List ℕ
 optional_parts r = optional_prerelease r.pre ++ (optional_number r.post ++ (optional_number r.dev ++ (optional_number r.min ++ optional_number r.max)))
 
--- the format byte 2, epoch, release, the parts that may be missing, and local
+-- the format byte 2, epoch, release, the parts that may be absent, and the local part
 abbrev pub unpacked_bytes : Record → List ℕ
 unpacked_bytes r = 2 ∷ eight_bytes r.epoch ++ (counted eight_bytes r.release ++ (optional_parts r ++ counted tagged_segment r.local))

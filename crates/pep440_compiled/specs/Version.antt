@@ -7,12 +7,12 @@ use Rattle.pep440_compiled.specs.Parts.{unpacked_bytes}
 use Rattle.pep440_version.specs.Record.{Fits, IsRecord, LocalSegmentValue, Number, Record, Text}
 use Rattle.pep440_version.specs.Word.{is_packed}
 
--- a text that a string can hold, or a number of the crate
+-- bytes that a string can hold, or a number that fits
 abbrev pub IsStorable : LocalSegmentValue → Type 0
 IsStorable (Text t) = IsUtf8 t × Fits (length t)
 IsStorable (Number n) = Fits n
 
--- a packed version has packed bytes alone
+-- the bytes of any version: packed bytes if it is packed, else unpacked ones
 abbrev pub compiled_bytes : Record → List ℕ
 compiled_bytes r = if is_packed r then packed_bytes r else unpacked_bytes r
 

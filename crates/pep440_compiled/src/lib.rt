@@ -27,6 +27,6 @@ mod word_matching;
 mod words;
 
 pub use calls::{compare, normalize, sort_key};
-pub use list::{compile_list, contains, normalize_list, read_list};
+pub use list::{compile_list, contains, contains_version, normalize_list, read_list};
 pub use packed::{NotCompiled, compare_packed, compile_packed, read_packed};
 pub use version::{CompiledError, compile_version, read_version};

@@ -18,7 +18,7 @@ use crate::members::{prove_members_stored, push_member, read_member};
 use crate::parts::{push_number, read_number};
 use crate::version::{CompiledError, read_version};
 use crate::word_list::contains_word;
-use crate::words::read_word;
+use crate::words::{read_word, to_packed_word};
 use pep440_rs::{VersionSpecifier, VersionSpecifiers};
 use pep440_version::Version;
 use std::alloc::{AllocError, Global};
@@ -130,8 +130,9 @@ fn contains_too(
     }
 }
 
-// Whether the list that the bytes denote contains the version.
-fn contains_version(alloc: Global, list: &[u8], version: &Version) -> Result<bool, CompiledError>
+// Whether the list that the bytes denote contains the version, by reading one member after the other.
+#[inline(never)]
+fn contains_by_members(alloc: Global, list: &[u8], version: &Version) -> Result<bool, CompiledError>
     ensures ok { IfOk result (λ b. (l : List Spec) × DenotesList list.now l × (b ≡ list_matches l version.now)) }
     ensures err { IfErr result (λ e. e ≡ NotCompiled → (l : List Spec) → DenotesList list.now l → ⊥) }
     ensures memory { (l : List Spec) → DenotesList list.now l → All IsPackedMember l → IsOk result }
@@ -151,6 +152,27 @@ fn contains_version(alloc: Global, list: &[u8], version: &Version) -> Result<boo
         return Err(CompiledError::NotCompiled);
     }
     Ok(contained)
+}
+
+/// Whether the list that the bytes denote contains the version, as `VersionSpecifiers::contains` (PEP 440, "Version
+/// specifiers"); `NotCompiled` where they denote none.
+///
+/// Allocates only for members whose version is not packed and for those with `===`, and may then return `OutOfMemory`.
+pub fn contains_version(
+    alloc: Global,
+    list: &[u8],
+    version: &Version,
+) -> Result<bool, CompiledError>
+    ensures ok { IfOk result (λ b. (l : List Spec) × DenotesList list.now l × (b ≡ list_matches l version.now)) }
+    ensures err { IfErr result (λ e. e ≡ NotCompiled → (l : List Spec) → DenotesList list.now l → ⊥) }
+    ensures memory { (l : List Spec) → DenotesList list.now l → All IsPackedMember l → IsOk result }
+{
+    if let Some(candidate) = to_packed_word(version) {
+        if let Some(contained) = contains_word(list, candidate) {
+            return Ok(contained);
+        }
+    }
+    contains_by_members(alloc, list, version)
 }
 
 /// Whether the list that the one bytes denote contains the version that the others denote, as `VersionSpecifiers::contains`
@@ -178,7 +200,7 @@ fn contains_any(alloc: Global, list: &[u8], version: &[u8]) -> Result<bool, Comp
     ensures memory { (l : List Spec) (r : Record) → DenotesList list.now l → DenotesPacked version.now r → All IsPackedMember l → IsOk result }
 {
     let candidate = read_version(alloc, version)?;
-    contains_version(alloc, list, &candidate)
+    contains_by_members(alloc, list, &candidate)
 }
 
 /// The normalized form of the list that the bytes denote, its members with a comma and a space between them; `NotCompiled`

@@ -8,6 +8,8 @@ ghost use Rattle.pep440_version.specs.Record.{Record};
 ghost use Rattle.pep440_version.specs.WordParts.{is_suffix, is_word};
 
 use crate::bytes::from_bytes;
+use pep440_version::Version;
+use pep440_version::words::to_word;
 use std::cmp::Ordering;
 
 // How many release numbers a packed version has, and its word.
@@ -30,13 +32,13 @@ fn is_word(count: u8, word: u64) -> bool
     ensures { result ≡ is_word count word }
 {
     let after = match count {
-        1 => word >> 24 & 0xff_ffff,
-        2 => word >> 24 & 0xffff,
-        3 => word >> 24 & 0xff,
+        1 => 0xff_ffff,
+        2 => 0xffff,
+        3 => 0xff,
         4 => 0,
         _ => return false,
     };
-    after == 0 && is_suffix(word)
+    word >> 24 & after == 0 && is_suffix(word)
 }
 
 // The count and the word of the packed version that the bytes denote; None where they denote none.
@@ -50,6 +52,16 @@ pub(crate) fn read_word(bytes: &[u8]) -> Option<PackedWord>
     } else {
         None
     }
+}
+
+// The count and the word of the version; None where it is not packed.
+pub(crate) fn to_packed_word(version: &Version) -> Option<PackedWord>
+    ensures { IfSome result (IsWordOf version.now) }
+{
+    let (count, word) = to_word(version)?;
+    // The record is valid, as `release` says.
+    let _release = version.release();
+    Some(PackedWord { count, word })
 }
 
 // The order of two packed versions is that of their words.

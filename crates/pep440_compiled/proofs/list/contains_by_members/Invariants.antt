@@ -1,6 +1,6 @@
 use Rattle.std.proofs.Common.{◌≡◌, List}
 use Rattle.pep440_compiled.proofs.Seen.{HasRead}
-use Rattle.pep440_compiled.proofs.list.contains_version.Given as goal
+use Rattle.pep440_compiled.proofs.list.contains_by_members.Given as goal
 use Rattle.pep440_rs.specs.Matching.{list_matches}
 use Rattle.pep440_rs.specs.Specifiers.{Spec}
 

@@ -2,7 +2,7 @@ use Rattle.std.proofs.Common.{◌≡◌, ◌++◌, ◌∷◌, [], arith, subst, 
 use Rattle.std.specs.Prelude.{IfErr}
 use Rattle.pep440_compiled.proofs.Seen.{all_read, contained_more, next_member, none_next, one_more_read, packed_next, packed_read, passed, read_all}
 use Rattle.pep440_compiled.proofs.Whole.{is_nil, is_not_nil}
-use Rattle.pep440_compiled.proofs.list.contains_version.Goals as goal
+use Rattle.pep440_compiled.proofs.list.contains_by_members.Goals as goal
 use Rattle.pep440_compiled.specs.Lists.{DenotesList, MayFollow}
 use Rattle.pep440_compiled.specs.declared.version.CompiledError.TheVariants.{NotCompiled}
 use Rattle.pep440_rs.specs.Specifiers.{Spec}
