@@ -60,6 +60,19 @@ static void normalize_and_explain(void)
     printf("%.*s", (int)written, (const char *)out);
 }
 
+static void edit(void)
+{
+    const pep440_string changes[] = {{TEXT("release=1.2.3")}, {TEXT("pre=")}, {TEXT("post=2")}}, wrong[] = {{TEXT("post=2")}, {TEXT("post=two")}};
+    uint8_t out[256];
+    size_t written;
+    hold(pep440_edit(TEXT("v1.0a1+local"), changes, 3, out, sizeof out, &written) == PEP440_OK, "edit");
+    hold_text(out, written, "1.2.3.post2+local");
+    hold(pep440_edit(TEXT("1.0"), wrong, 2, out, sizeof out, &written) == PEP440_INVALID_CHANGE, "no change");
+    hold(pep440_edit_error(TEXT("1.0"), wrong, 2, out, sizeof out, &written) == PEP440_OK, "why it is none");
+    hold_text(out, written, "change 2: not a change");
+    hold(pep440_edit_error(TEXT("1.0"), wrong, 1, out, sizeof out, &written) == PEP440_OK && written == 0, "nothing is wrong with the first");
+}
+
 static void compare_and_match(void)
 {
     int8_t order;
@@ -186,6 +199,7 @@ int main(void)
 {
     hold(pep440_version_of_library() == PEP440_VERSION, "the library is of the header's version");
     normalize_and_explain();
+    edit();
     compare_and_match();
     take_apart();
     keep_keys();

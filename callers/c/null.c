@@ -33,6 +33,10 @@ static void strings(void)
     hold(pep440_specifier(NONE, (const uint8_t *)"1", 1, out, sizeof out, &written) == PEP440_INVALID_LIST, "specifier, operator");
     hold(pep440_specifier((const uint8_t *)">=", 2, NONE, out, sizeof out, &written) == PEP440_INVALID_VERSION, "specifier, version");
     hold(pep440_pattern(NONE, out, sizeof out, &written, &is) == PEP440_INVALID_VERSION, "pattern");
+    hold(pep440_edit(NONE, NONE, out, sizeof out, &written) == PEP440_INVALID_VERSION, "edit, version");
+    hold(pep440_edit_error(NONE, NONE, out, sizeof out, &written) == PEP440_OK && written > 0, "edit_error, version");
+    hold(pep440_pattern_error(NONE, out, sizeof out, &written) == PEP440_OK && written > 0, "pattern_error");
+    hold(pep440_specifier_error(NONE, out, sizeof out, &written) == PEP440_OK && written > 0, "specifier_error");
     hold(pep440_compare(NONE, (const uint8_t *)"1", 1, &order) == PEP440_INVALID_VERSION, "compare, left");
     hold(pep440_compare((const uint8_t *)"1", 1, NONE, &order) == PEP440_INVALID_VERSION, "compare, right");
     /* An empty list is one without a specifier, and contains each version. */
@@ -43,6 +47,7 @@ static void strings(void)
     hold(pep440_any_prerelease(NONE, &is) == PEP440_OK && is == 0, "any_prerelease");
     hold(pep440_ranges(NONE, out, sizeof out, &written) == PEP440_OK && written == 7, "ranges");
     hold(pep440_specifiers_of(NONE, NONE, NONE, &written, &count) == PEP440_OK && written == 0 && count == 0, "specifiers_of");
+    hold(pep440_range_bounds(NONE, NONE, NONE, &written, &count) == PEP440_NO_ROOM && written == 2 && count == 2, "range_bounds");
     hold(pep440_range_keys(NONE, NONE, NONE, &written, &count) == PEP440_NO_ROOM && written == 0 && count == 2, "range_keys");
     hold(pep440_cover_keys(NONE, NONE, NONE, &written, &count) == PEP440_NO_ROOM && written == 0 && count == 2, "cover_keys");
 }
@@ -55,6 +60,7 @@ static void compiled(void)
     uint64_t release[4];
     pep440_parts parts;
     hold(pep440_compile(NONE, out, sizeof out, &written) == PEP440_INVALID_VERSION, "compile");
+    hold(pep440_compile_specifier(NONE, out, sizeof out, &written) == PEP440_INVALID_LIST, "compile_specifier");
     hold(pep440_compile_list(NONE, out, sizeof out, &written) == PEP440_OK && written == 9, "compile_list");
     hold(pep440_normalize_compiled(NONE, out, sizeof out, &written) == PEP440_NOT_COMPILED, "normalize_compiled");
     hold(pep440_normalize_list_compiled(NONE, out, sizeof out, &written) == PEP440_NOT_COMPILED, "normalize_list_compiled");
@@ -62,6 +68,8 @@ static void compiled(void)
     hold(pep440_compare_compiled(NONE, NONE, &order) == PEP440_NOT_COMPILED, "compare_compiled");
     hold(pep440_contains_compiled(NONE, NONE, &is, &early) == PEP440_NOT_COMPILED, "contains_compiled");
     hold(pep440_parts_of_compiled(NONE, &parts, release, 4) == PEP440_NOT_COMPILED, "parts_of_compiled");
+    hold(pep440_range_bounds_compiled(NONE, NONE, NONE, &written, &count) == PEP440_NOT_COMPILED, "range_bounds_compiled");
+    hold(pep440_build_error(PEP440_EQUAL, NONE, 0, out, sizeof out, &written) == PEP440_NOT_COMPILED, "build_error");
     hold(pep440_range_keys_compiled(NONE, NONE, NONE, &written, &count) == PEP440_NOT_COMPILED, "range_keys_compiled");
     hold(pep440_cover_keys_compiled(NONE, NONE, NONE, &written, &count) == PEP440_NOT_COMPILED, "cover_keys_compiled");
 }
@@ -81,6 +89,8 @@ static void batches(void)
     const pep440_string one[] = {{NULL, 0}};
     uint8_t marks[1], out[8];
     size_t indices[1], ends[1], written, index;
+    hold(pep440_edit((const uint8_t *)"1", 1, NONE, out, 8, &written) == PEP440_OK && written == 1, "edit by none");
+    hold(pep440_edit((const uint8_t *)"1", 1, one, 1, out, 8, &written) == PEP440_INVALID_CHANGE, "edit by null");
     hold(pep440_filter(EMPTY, NONE, NONE) == PEP440_OK, "filter of none");
     hold(pep440_sort(NONE, NONE, &index) == PEP440_OK, "sort of none");
     hold(pep440_sort_compiled(NONE, NONE, &index) == PEP440_OK, "sort_compiled of none");

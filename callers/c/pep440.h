@@ -44,10 +44,11 @@ enum {
     PEP440_NO_ROOM = 4,
     PEP440_NUMBER_AT_MAX = 5, /* of a range or a cover alone: a bound would lie above 18446744073709551615 */
     PEP440_NOT_COMPILED = 6,  /* bytes that are passed as compiled denote no version, or no list */
-    PEP440_NOT_PACKED = 7     /* of pep440_word alone: the version has no word */
+    PEP440_NOT_PACKED = 7,    /* of pep440_word alone: the version has no word */
+    PEP440_INVALID_CHANGE = 8 /* of pep440_edit alone: a change is none, or cannot be made */
 };
 
-/* A string of a batch, or a compiled version of one. */
+/* A string of a batch, or a compiled version of one; a change of pep440_edit. */
 typedef struct {
     const uint8_t *bytes;
     size_t length;
@@ -81,8 +82,32 @@ uint8_t pep440_specifier(const uint8_t *operator_string, size_t operator_length,
    follows more than epoch and release, as in `1.0a1.*`. */
 uint8_t pep440_pattern(const uint8_t *pattern, size_t length, uint8_t *out, size_t size, size_t *written, uint8_t *star);
 
+/* Writes the version that the changes make of a version, applied in order, as `1.0a1.post2` of `1.0a1` and `post=2`; `out` and `written` as for
+   pep440_normalize. A change is `release=` and numbers with dots between them; `epoch=` and a number; `pre=` and `a`, `b` or `rc` with a number;
+   `post=`, `dev=`, `min=` or `max=` and a number; `local=` and segments with dots between them; `only-release`; or `without-local`. After `=`
+   nothing stands for none, but for the epoch. `min` and `max` are the sentinels that pep440_ranges names; they are written behind the version,
+   `~min0` and then `~max0`. With no changes the version is written.
+
+   The version is parsed first, then all changes, and then they are applied. PEP440_INVALID_CHANGE where one is none of these, or cannot be
+   applied to the version that those before it made: a release needs a number, `min` goes with neither a pre-release nor a developmental part,
+   `max` with neither a post-release nor a developmental part. pep440_edit_error writes which one. */
+uint8_t pep440_edit(const uint8_t *version, size_t length, const pep440_string *changes, size_t count, uint8_t *out, size_t size,
+                    size_t *written);
+
+/* Writes why pep440_edit of the same version and changes writes nothing, in words, and 0 bytes where it writes a version: why the string is no
+   version, as pep440_version_error, or the number of the change, the first one being 1, and why, as `change 2: not a change`; `out` and
+   `written` as for pep440_normalize. */
+uint8_t pep440_edit_error(const uint8_t *version, size_t length, const pep440_string *changes, size_t count, uint8_t *out, size_t size,
+                          size_t *written);
+
 /* Writes why a string is no version, in words, and 0 bytes where it is one; `out` and `written` as for pep440_normalize. */
 uint8_t pep440_version_error(const uint8_t *version, size_t length, uint8_t *out, size_t size, size_t *written);
+
+/* The same of a pattern, as `1.5.*` or `1.5`. */
+uint8_t pep440_pattern_error(const uint8_t *pattern, size_t length, uint8_t *out, size_t size, size_t *written);
+
+/* The same of one specifier, as `>=1.16`. */
+uint8_t pep440_specifier_error(const uint8_t *specifier, size_t length, uint8_t *out, size_t size, size_t *written);
 
 /* Writes why a string is no list of specifiers, in lines, and 0 bytes where it is one; `out` and `written` as for pep440_normalize. */
 uint8_t pep440_list_error(const uint8_t *list, size_t length, uint8_t *out, size_t size, size_t *written);
@@ -158,6 +183,16 @@ uint8_t pep440_range_keys(const uint8_t *list, size_t length, uint8_t *out, size
 uint8_t pep440_cover_keys(const uint8_t *list, size_t length, uint8_t *out, size_t size, size_t *ends, size_t ends_size, size_t *written,
                           size_t *count);
 
+/* The first byte of a bound: there is none; or its version is in the segment, or is not. */
+enum { PEP440_NO_BOUND = 0, PEP440_INCLUDED = 1, PEP440_EXCLUDED = 2 };
+
+/* Writes the range of the list as bounds, two for each segment in ascending order, as pep440_range_keys writes keys; to `count` how many bounds
+   there are. A bound is PEP440_NO_BOUND alone, or PEP440_INCLUDED or PEP440_EXCLUDED and then the compiled form of its version (below), with the
+   version's sentinel if it has one. So the bounds of `>=1.0,<2.0` are PEP440_INCLUDED and the compiled form of `1.0`, and PEP440_EXCLUDED and that
+   of `2.0~min0`. */
+uint8_t pep440_range_bounds(const uint8_t *list, size_t length, uint8_t *out, size_t size, size_t *ends, size_t ends_size, size_t *written,
+                            size_t *count);
+
 /* ---- compiled versions and lists: bytes made once of a string, which later calls take in place of it
 
    Compiled bytes are plain bytes: keep them in memory, in a file or in a column, copy them, share them among threads, give them to another
@@ -170,7 +205,7 @@ uint8_t pep440_cover_keys(const uint8_t *list, size_t length, uint8_t *out, size
    are equal. The order of compiled bytes is not that of the versions: pep440_compare_compiled and pep440_sort_key_compiled have that.
 
    A version takes ten bytes where it has a word (pep440_word), else 30, 8 for each number of its release and each suffix, and for each local
-   segment 9 and its letters; a list takes nine, and for each specifier one more than its version. No call below but the first two parses a
+   segment 9 and its letters; a list takes nine, and for each specifier one more than its version. No call below but the first three parses a
    string. pep440_compare_compiled allocates nothing where the versions have words, nor does pep440_contains_compiled where the version and
    those of the list have words and the list has no `===`.
 
@@ -183,6 +218,10 @@ uint8_t pep440_compile(const uint8_t *version, size_t length, uint8_t *out, size
 
 /* Writes the compiled form of a list of specifiers; `out` and `written` as for pep440_normalize. */
 uint8_t pep440_compile_list(const uint8_t *list, size_t length, uint8_t *out, size_t size, size_t *written);
+
+/* Writes the compiled form of the list of one specifier, as `>=1.16`; `out` and `written` as for pep440_normalize. PEP440_INVALID_LIST where the
+   string is no specifier, as the empty string and `>=1.16,<2.0`. */
+uint8_t pep440_compile_specifier(const uint8_t *specifier, size_t length, uint8_t *out, size_t size, size_t *written);
 
 /* As pep440_normalize, of a compiled version. PEP440_NOT_COMPILED where the bytes denote none; so in each call below. */
 uint8_t pep440_normalize_compiled(const uint8_t *compiled, size_t length, uint8_t *out, size_t size, size_t *written);
@@ -206,6 +245,30 @@ uint8_t pep440_parts_of_compiled(const uint8_t *compiled, size_t length, pep440_
 /* As pep440_range_keys, of a compiled list. */
 uint8_t pep440_range_keys_compiled(const uint8_t *list, size_t length, uint8_t *out, size_t size, size_t *ends, size_t ends_size, size_t *written,
                                    size_t *count);
+
+/* As pep440_range_bounds, of a compiled list. */
+uint8_t pep440_range_bounds_compiled(const uint8_t *list, size_t length, uint8_t *out, size_t size, size_t *ends, size_t ends_size,
+                                     size_t *written, size_t *count);
+
+/* The operators in compiled lists: the byte in front of each version. The star forms are `==` and `!=` with a version and `.*`. */
+enum {
+    PEP440_EQUAL = 0,
+    PEP440_EQUAL_STAR = 1,
+    PEP440_EXACT_EQUAL = 2,
+    PEP440_NOT_EQUAL = 3,
+    PEP440_NOT_EQUAL_STAR = 4,
+    PEP440_COMPATIBLE = 5,
+    PEP440_LESS = 6,
+    PEP440_LESS_EQUAL = 7,
+    PEP440_GREATER = 8,
+    PEP440_GREATER_EQUAL = 9
+};
+
+/* Writes why an operator of these and a compiled version make no specifier, in words, and 0 bytes where they do; `out` and `written` as for
+   pep440_normalize. Unless `star` is 0, `.*` follows the version, which goes with PEP440_EQUAL and PEP440_NOT_EQUAL alone. PEP440_NOT_COMPILED
+   where the number is no operator's, or the bytes denote no version. */
+uint8_t pep440_build_error(uint8_t operator_number, const uint8_t *version, size_t length, uint8_t star, uint8_t *out, size_t size,
+                           size_t *written);
 
 /* As pep440_cover_keys, of a compiled list. */
 uint8_t pep440_cover_keys_compiled(const uint8_t *list, size_t length, uint8_t *out, size_t size, size_t *ends, size_t ends_size, size_t *written,

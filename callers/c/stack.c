@@ -46,6 +46,22 @@ static void *specifiers_of(void *unused)
 }
 static void *specifier(void *unused) { pep440_specifier((const uint8_t *)"==", 2, GIVEN, OUT); return unused; }
 static void *pattern(void *unused) { pep440_pattern(GIVEN, OUT, &flag); return unused; }
+static void *edit(void *unused) { pep440_edit(GIVEN, strings, 1, OUT); return unused; }
+static void *edit_release(void *unused)
+{
+    static const pep440_string local = {(const uint8_t *)"local=ubuntu.1", 14}, release_only = {(const uint8_t *)"only-release", 12};
+    pep440_edit(GIVEN, &local, 1, OUT);
+    pep440_edit(GIVEN, &release_only, 1, OUT);
+    return unused;
+}
+static void *edit_error(void *unused) { pep440_edit_error(GIVEN, strings, MANY, OUT); return unused; }
+static void *pattern_error(void *unused) { pep440_pattern_error(GIVEN, OUT); return unused; }
+static void *specifier_error(void *unused) { pep440_specifier_error(LIST, OUT); return unused; }
+static void *range_bounds(void *unused)
+{
+    pep440_range_bounds(LIST, out, (size_t)LONG * 64, ends, MANY, &written, &at);
+    return unused;
+}
 static void *range_keys(void *unused)
 {
     pep440_range_keys(LIST, out, (size_t)LONG * 64, ends, MANY, &written, &at);
@@ -57,6 +73,7 @@ static void *cover_keys(void *unused)
     return unused;
 }
 static void *compile(void *unused) { pep440_compile(GIVEN, OUT); return unused; }
+static void *compile_specifier(void *unused) { pep440_compile_specifier(LIST, OUT); return unused; }
 static void *compile_list(void *unused) { pep440_compile_list(LIST, OUT); return unused; }
 static void *normalize_compiled(void *unused) { pep440_normalize_compiled(COMPILED, OUT); return unused; }
 static void *normalize_list_compiled(void *unused) { pep440_normalize_list_compiled(COMPILED_LIST, OUT); return unused; }
@@ -69,6 +86,12 @@ static void *range_keys_compiled(void *unused)
     pep440_range_keys_compiled(COMPILED_LIST, out, (size_t)LONG * 64, ends, MANY, &written, &at);
     return unused;
 }
+static void *range_bounds_compiled(void *unused)
+{
+    pep440_range_bounds_compiled(COMPILED_LIST, out, (size_t)LONG * 64, ends, MANY, &written, &at);
+    return unused;
+}
+static void *build_error(void *unused) { pep440_build_error(PEP440_LESS, COMPILED, 0, OUT); return unused; }
 static void *cover_keys_compiled(void *unused)
 {
     pep440_cover_keys_compiled(COMPILED_LIST, out, (size_t)LONG * 64, ends, MANY, &written, &at);
@@ -98,12 +121,19 @@ static const struct {
              {"sort_key", sort_key},
              {"word", word},
              {"ranges", ranges},
+             {"pattern_error", pattern_error},
+             {"specifier_error", specifier_error},
+             {"range_bounds", range_bounds},
              {"range_keys", range_keys},
              {"cover_keys", cover_keys},
              {"specifiers_of", specifiers_of},
              {"specifier", specifier},
              {"pattern", pattern},
+             {"edit", edit},
+             {"edit, made", edit_release},
+             {"edit_error", edit_error},
              {"compile", compile},
+             {"compile_specifier", compile_specifier},
              {"compile_list", compile_list},
              {"normalize_compiled", normalize_compiled},
              {"normalize_list_compiled", normalize_list_compiled},
@@ -112,6 +142,8 @@ static const struct {
              {"contains_compiled", contains_compiled},
              {"parts_of_compiled", parts_of_compiled},
              {"range_keys_compiled", range_keys_compiled},
+             {"range_bounds_compiled", range_bounds_compiled},
+             {"build_error", build_error},
              {"cover_keys_compiled", cover_keys_compiled},
              {"filter_compiled", filter_compiled},
              {"sort_compiled", sort_compiled},

@@ -1,5 +1,5 @@
 /* Makes the first, second, .. allocation fail in each call. The status must be PEP440_OUT_OF_MEMORY, nothing may be written but
-   `at`, and the same call must then return as before. It is linked with -Wl,--wrap=malloc,--wrap=realloc,--wrap=calloc. */
+   `at`, and the same call must then return as before. An edit may also return as before at once: it asks for less where much is refused. It is linked with -Wl,--wrap=malloc,--wrap=realloc,--wrap=calloc. */
 #include <stdio.h>
 #include <stdlib.h>
 #include <string.h>
@@ -78,6 +78,19 @@ static uint8_t specifier_no_pair(Answer *answer) { return pep440_specifier(TEXT(
 static uint8_t specifier_invalid(Answer *answer) { return pep440_specifier(TEXT(">="), TEXT("1.0prev"), OUT); }
 static uint8_t pattern(Answer *answer) { return pep440_pattern(TEXT("1!1.2.3.4.5.6.*"), OUT, &answer->is); }
 static uint8_t pattern_invalid(Answer *answer) { return pep440_pattern(TEXT("1.2.3.4.5.6a1.*"), OUT, &answer->is); }
+static const pep440_string CHANGES[] = {{TEXT("release=1.2.3.4.5.6")}, {TEXT("local=ubuntu.1")}, {TEXT("epoch=2")}};
+static const pep440_string NO_CHANGES[] = {{TEXT("release=1.2.3.4.5.6")}, {TEXT("foo")}};
+static const pep440_string NO_MAX[] = {{TEXT("release=1.2.3.4.5.6")}, {TEXT("max=0")}};
+static uint8_t edit(Answer *answer) { return pep440_edit(TEXT(LONG), CHANGES, 3, OUT); }
+static uint8_t edit_invalid(Answer *answer) { return pep440_edit(TEXT("1.0prev"), CHANGES, 3, OUT); }
+static uint8_t edit_no_change(Answer *answer) { return pep440_edit(TEXT(LONG), NO_CHANGES, 2, OUT); }
+static uint8_t edit_no_max(Answer *answer) { return pep440_edit(TEXT(LONG), NO_MAX, 2, OUT); }
+static uint8_t edit_error(Answer *answer) { return pep440_edit_error(TEXT(LONG), NO_CHANGES, 2, OUT); }
+static uint8_t edit_error_max(Answer *answer) { return pep440_edit_error(TEXT(LONG), NO_MAX, 2, OUT); }
+static uint8_t pattern_error(Answer *answer) { return pep440_pattern_error(TEXT("1.2.3.4.5.6a1.*"), OUT); }
+static uint8_t specifier_error(Answer *answer) { return pep440_specifier_error(TEXT(">=1.0prev"), OUT); }
+static uint8_t range_bounds(Answer *answer) { return pep440_range_bounds(TEXT(MEMBERS), KEYS); }
+static uint8_t range_bounds_at_max(Answer *answer) { return pep440_range_bounds(TEXT(">=1.0, ==18446744073709551615.*"), KEYS); }
 static uint8_t range_keys(Answer *answer) { return pep440_range_keys(TEXT(MEMBERS), KEYS); }
 static uint8_t range_keys_at_max(Answer *answer) { return pep440_range_keys(TEXT(">=1.0, ==18446744073709551615.*"), KEYS); }
 static uint8_t cover_keys(Answer *answer) { return pep440_cover_keys(TEXT(MEMBERS), KEYS); }
@@ -93,6 +106,8 @@ static uint8_t sort_keys(Answer *answer)
 static uint8_t compile(Answer *answer) { return pep440_compile(TEXT(LONG), OUT); }
 static uint8_t compile_packed(Answer *answer) { return pep440_compile(TEXT("1.17"), OUT); }
 static uint8_t compile_invalid(Answer *answer) { return pep440_compile(TEXT("1.0prev"), OUT); }
+static uint8_t compile_specifier(Answer *answer) { return pep440_compile_specifier(TEXT("===" LONG), OUT); }
+static uint8_t compile_no_specifier(Answer *answer) { return pep440_compile_specifier(TEXT(">=1.16,<2.0"), OUT); }
 static uint8_t compile_list(Answer *answer) { return pep440_compile_list(TEXT(MEMBERS), OUT); }
 static uint8_t compile_no_list(Answer *answer) { return pep440_compile_list(TEXT(">=1.16; <2.0"), OUT); }
 #define OF(compiled) (compiled).bytes, (compiled).length
@@ -119,6 +134,10 @@ static uint8_t contains_not_compiled(Answer *answer)
 static uint8_t parts_of_compiled(Answer *answer) { return pep440_parts_of_compiled(OF(longer), &answer->parts, answer->release, 8); }
 static uint8_t range_keys_compiled(Answer *answer) { return pep440_range_keys_compiled(OF(list), KEYS); }
 static uint8_t range_keys_not_compiled(Answer *answer) { return pep440_range_keys_compiled(OF(longer), KEYS); }
+static uint8_t range_bounds_compiled(Answer *answer) { return pep440_range_bounds_compiled(OF(list), KEYS); }
+static uint8_t range_bounds_not_compiled(Answer *answer) { return pep440_range_bounds_compiled(OF(longer), KEYS); }
+static uint8_t build_error(Answer *answer) { return pep440_build_error(PEP440_LESS, OF(longer), 0, OUT); }
+static uint8_t build_error_not_compiled(Answer *answer) { return pep440_build_error(PEP440_LESS, longer.bytes, longer.length - 1, 1, OUT); }
 static uint8_t cover_keys_compiled(Answer *answer) { return pep440_cover_keys_compiled(OF(list), KEYS); }
 static pep440_string forms[3];
 static uint8_t filter_compiled(Answer *answer) { return pep440_filter_compiled(OF(list), forms, 3, answer->marks, 8); }
@@ -152,6 +171,10 @@ static const struct {
              {"specifier, invalid", specifier_invalid, PEP440_INVALID_VERSION},
              {"pattern", pattern, PEP440_OK},
              {"pattern, invalid", pattern_invalid, PEP440_INVALID_VERSION},
+             {"pattern_error", pattern_error, PEP440_OK},
+             {"specifier_error", specifier_error, PEP440_OK},
+             {"range_bounds", range_bounds, PEP440_OK},
+             {"range_bounds, at max", range_bounds_at_max, PEP440_NUMBER_AT_MAX},
              {"range_keys", range_keys, PEP440_OK},
              {"range_keys, at max", range_keys_at_max, PEP440_NUMBER_AT_MAX},
              {"cover_keys", cover_keys, PEP440_OK},
@@ -163,6 +186,8 @@ static const struct {
              {"compile", compile, PEP440_OK},
              {"compile, packed", compile_packed, PEP440_OK},
              {"compile, invalid", compile_invalid, PEP440_INVALID_VERSION},
+             {"compile_specifier", compile_specifier, PEP440_OK},
+             {"compile_specifier, invalid", compile_no_specifier, PEP440_INVALID_LIST},
              {"compile_list", compile_list, PEP440_OK},
              {"compile_list, invalid", compile_no_list, PEP440_INVALID_LIST},
              {"normalize_compiled", normalize_compiled, PEP440_OK},
@@ -176,10 +201,26 @@ static const struct {
              {"parts_of_compiled", parts_of_compiled, PEP440_OK},
              {"range_keys_compiled", range_keys_compiled, PEP440_OK},
              {"range_keys_compiled, other", range_keys_not_compiled, PEP440_NOT_COMPILED},
+             {"range_bounds_compiled", range_bounds_compiled, PEP440_OK},
+             {"range_bounds_compiled, other", range_bounds_not_compiled, PEP440_NOT_COMPILED},
+             {"build_error", build_error, PEP440_OK},
+             {"build_error, other", build_error_not_compiled, PEP440_NOT_COMPILED},
              {"cover_keys_compiled", cover_keys_compiled, PEP440_OK},
              {"filter_compiled", filter_compiled, PEP440_OK},
              {"sort_compiled", sort_compiled, PEP440_OK},
              {"sort_compiled, other", sort_not_compiled, PEP440_NOT_COMPILED}};
+
+/* Calls that guess how much they need, and ask for less where that is refused. */
+static const struct {
+    const char *name;
+    uint8_t (*call)(Answer *);
+    uint8_t wanted;
+} GUESSING[] = {{"edit", edit, PEP440_OK},
+                {"edit, invalid", edit_invalid, PEP440_INVALID_VERSION},
+                {"edit, no change", edit_no_change, PEP440_INVALID_CHANGE},
+                {"edit, no max", edit_no_max, PEP440_INVALID_CHANGE},
+                {"edit_error, no change", edit_error, PEP440_OK},
+                {"edit_error, no max", edit_error_max, PEP440_OK}};
 
 /* Calls that allocate nothing. */
 static const struct {
@@ -188,7 +229,7 @@ static const struct {
 } WITHOUT[] = {{"compare_compiled, packed", compare_packed}, {"contains_compiled, packed", contains_packed}};
 
 /* Wrong results of this call; `failed` counts the allocations that failed. */
-static int sweep(uint8_t (*call)(Answer *), uint8_t wanted, int *failed)
+static int sweep(uint8_t (*call)(Answer *), uint8_t wanted, int may_guess, int *failed)
 {
     static Answer plain, answer, untouched;
     int wrong = 0;
@@ -204,7 +245,8 @@ static int sweep(uint8_t (*call)(Answer *), uint8_t wanted, int *failed)
         if (!came)
             return wrong + (status != wanted || memcmp(&answer, &plain, sizeof plain) != 0);
         ++*failed;
-        wrong += status != PEP440_OUT_OF_MEMORY || memcmp(&answer, &untouched, sizeof answer) != 0;
+        if (!may_guess || status != wanted || memcmp(&answer, &plain, sizeof plain) != 0)
+            wrong += status != PEP440_OUT_OF_MEMORY || memcmp(&answer, &untouched, sizeof answer) != 0;
         memset(&answer, 0x5A, sizeof answer);
         wrong += call(&answer) != wanted || memcmp(&answer, &plain, sizeof plain) != 0;
     }
@@ -226,13 +268,19 @@ int main(void)
 {
     int all_failed = 0, all_wrong = compile_all();
     for (size_t place = 0; place < sizeof CALLS / sizeof *CALLS; place++) {
-        int failed = 0, wrong = sweep(CALLS[place].call, CALLS[place].wanted, &failed);
+        int failed = 0, wrong = sweep(CALLS[place].call, CALLS[place].wanted, 0, &failed);
         printf("%-32s %3d allocations failed in turn, %d wrong\n", CALLS[place].name, failed, wrong);
         all_failed += failed;
         all_wrong += wrong;
     }
+    for (size_t place = 0; place < sizeof GUESSING / sizeof *GUESSING; place++) {
+        int failed = 0, wrong = sweep(GUESSING[place].call, GUESSING[place].wanted, 1, &failed);
+        printf("%-32s %3d allocations failed in turn, %d wrong\n", GUESSING[place].name, failed, wrong);
+        all_failed += failed;
+        all_wrong += wrong;
+    }
     for (size_t place = 0; place < sizeof WITHOUT / sizeof *WITHOUT; place++) {
-        int failed = 0, wrong = sweep(WITHOUT[place].call, PEP440_OK, &failed) + failed;
+        int failed = 0, wrong = sweep(WITHOUT[place].call, PEP440_OK, 0, &failed) + failed;
         printf("%-32s %3d allocations failed in turn, %d wrong\n", WITHOUT[place].name, failed, wrong);
         all_wrong += wrong;
     }

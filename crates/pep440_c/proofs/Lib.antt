@@ -7,3 +7,7 @@ pub mod Keyed
 pub mod Membership
 pub mod Agreeing
 pub mod Combined
+pub mod Edited
+pub mod OneSpecifier
+pub mod Bounded
+pub mod SpecifierOnce

@@ -24,7 +24,7 @@ all_more R [] (z ∷ ys) x y h r = absurd h
 all_more R (z ∷ xs) [] x y h r = absurd h
 all_more R (z ∷ xs) (u ∷ ys) x y h r = (h.0, all_more R xs ys x y h.1 r)
 
-each_more : {A : Type 0} (Means : List ℕ → A → Type 0) (texts : List (Bor (List ℕ))) (i : ℕ) (x : Bor (List ℕ)) (found new : List A) (a : A) → i < length texts → x ≡ get_or texts i x → Means x.now a
+pub each_more : {A : Type 0} (Means : List ℕ → A → Type 0) (texts : List (Bor (List ℕ))) (i : ℕ) (x : Bor (List ℕ)) (found new : List A) (a : A) → i < length texts → x ≡ get_or texts i x → Means x.now a
     → new ≡ found ++ a ∷ [] → AllZip Means (map (λ t. t.now) (take i texts)) found → AllZip Means (map (λ t. t.now) (take (i + 1) texts)) new
 each_more {A} Means texts i x found new a inside is means more all =
     let now : Bor (List ℕ) → List ℕ = λ t. t.now in
@@ -33,11 +33,11 @@ each_more {A} Means texts i x found new a inside is means more all =
     subst (λ (l : List (List ℕ)). AllZip Means l new) (sym seen) (subst (λ (l : List A). AllZip Means (map now (take i texts) ++ now x ∷ []) l) (sym more) (all_more Means (map now (take i texts)) found (now x) a all means))
 
 -- what stands in one of two lists has its like in the other
-each_means : (Means : List ℕ → Record → Type 0) (texts : List (List ℕ)) (versions : List Record) → AllZip Means texts versions → All (λ text. (r : Record) × Means text r) texts
-each_means Means [] versions h k d lt = absurd (omega (arith, lt))
+each_means : {A : Type 0} (Means : List ℕ → A → Type 0) (texts : List (List ℕ)) (found : List A) → AllZip Means texts found → All (λ text. (a : A) × Means text a) texts
+each_means Means [] found h k d lt = absurd (omega (arith, lt))
 each_means Means (t ∷ texts) [] h k d lt = absurd h
-each_means Means (t ∷ texts) (v ∷ versions) h zero d lt = (v, h.0)
-each_means Means (t ∷ texts) (v ∷ versions) h (suc k) d lt = each_means Means texts versions h.1 k d (omega (arith, lt))
+each_means Means (t ∷ texts) (a ∷ found) h zero d lt = (a, h.0)
+each_means Means (t ∷ texts) (a ∷ found) h (suc k) d lt = each_means Means texts found h.1 k d (omega (arith, lt))
 
 -- the item at a position
 at_position : {A B : Type 0} (f : A → B) (xs : List A) (i : ℕ) (x : A) → i < length xs → x ≡ get_or xs i x → slice_get (map f xs) i ≡ Some (f x)
@@ -45,13 +45,13 @@ at_position f [] i x inside is = absurd (omega (arith, inside))
 at_position f (y ∷ xs) zero x inside is = ap (λ a. Some (f a)) (sym is)
 at_position f (y ∷ xs) (suc i) x inside is = at_position f xs i x (omega (arith, inside)) is
 
--- the text at a place is refused, and those before it mean versions
-pub refused_first : (Means : List ℕ → Record → Type 0) (Refused : List ℕ → Type 0) (texts : List (Bor (List ℕ))) (i : ℕ) (x : Bor (List ℕ)) (versions : List Record) → i < length texts
-    → Refused (get_or texts i x).now → AllZip Means (map (λ t. t.now) (take i texts)) versions
-    → IsSomeAnd (slice_get (map (λ (t : Bor (List ℕ)). t.now) texts) i) Refused × All (λ text. (r : Record) × Means text r) (take i (map (λ (t : Bor (List ℕ)). t.now) texts))
-refused_first Means Refused texts i x versions inside why all = (
+-- the text at a place is refused, and those before it mean something
+pub refused_first : {A : Type 0} (Means : List ℕ → A → Type 0) (Refused : List ℕ → Type 0) (texts : List (Bor (List ℕ))) (i : ℕ) (x : Bor (List ℕ)) (found : List A) → i < length texts
+    → Refused (get_or texts i x).now → AllZip Means (map (λ t. t.now) (take i texts)) found
+    → IsSomeAnd (slice_get (map (λ (t : Bor (List ℕ)). t.now) texts) i) Refused × All (λ text. (a : A) × Means text a) (take i (map (λ (t : Bor (List ℕ)). t.now) texts))
+refused_first {A} Means Refused texts i x found inside why all = (
   rw (at_position (λ t. t.now) texts i (get_or texts i x) inside (get_or_default texts i x (get_or texts i x) inside)) why,
-  subst (λ l. All (λ text. (r : Record) × Means text r) l) (map_take i texts) (each_means Means (map (λ t. t.now) (take i texts)) versions all),
+  subst (λ l. All (λ text. (a : A) × Means text a) l) (map_take i texts) (each_means Means (map (λ t. t.now) (take i texts)) found all),
 )
   where
     map_take : (i : ℕ) (texts : List (Bor (List ℕ))) → map (λ (t : Bor (List ℕ)). t.now) (take i texts) ≡ take i (map (λ (t : Bor (List ℕ)). t.now) texts)

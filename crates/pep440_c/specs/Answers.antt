@@ -33,11 +33,11 @@ IsNormal text bytes = (r : Record) × MeansBytes text r × (bytes ≡ print r)
 abbrev pub IsNormalList : List ℕ → List ℕ → Type 0
 IsNormalList text bytes = (list : List Spec) × MeansListBytes text list × (bytes ≡ list_print list)
 
--- why the string is no version; nothing where it means one
+-- the message of an invalid version; no bytes if the version is valid
 abbrev pub IsVersionError : List ℕ → List ℕ → Type 0
 IsVersionError text bytes = ((r : Record) × MeansBytes text r × (bytes ≡ [])) ⊎ TellsWhy text bytes
 
--- why the string is no list; nothing where it means one
+-- the message of an invalid list; no bytes if the list is valid
 abbrev pub IsListError : List ℕ → List ℕ → Type 0
 IsListError text bytes = ((list : List Spec) × MeansListBytes text list × (bytes ≡ [])) ⊎ TellsWhyNoList text bytes
 
@@ -49,7 +49,8 @@ IsKey text bytes = (r : Record) × MeansBytes text r × (bytes ≡ key_bytes r)
 abbrev pub TellsWord : List ℕ → Option ℕ → Type 0
 TellsWord text found = (r : Record) × MeansBytes text r × (found ≡ if is_packed r then Some (word r) else None)
 
--- the word is written; or the version is not packed, and has none; or the call fails. But for the first, the number is unchanged
+-- the word is written with status 0; otherwise the caller's number is unchanged, and the status is 7 (not packed) or that of
+-- the failure
 abbrev pub WordAnswer : List ℕ → ℕ → ℕ → ℕ → Type 0
 WordAnswer text old new status =
     (TellsWord text (Some new) × (status ≡ 0))
@@ -60,7 +61,7 @@ WordAnswer text old new status =
 abbrev pub IsRangeText : List ℕ → List ℕ → Type 0
 IsRangeText text bytes = (list : List Spec) × (range : Segments) × MeansListBytes text list × (list_range range_of list ≡ Some range) × (bytes ≡ range_lines range)
 
--- the list has no range, since a number that can't be raised would have to be
+-- the bytes denote a list whose conversion into a range fails, since a number to be raised is the greatest
 abbrev pub HasNoRange : List ℕ → Type 0
 HasNoRange text = (list : List Spec) × MeansListBytes text list × (list_range range_of list ≡ None)
 
@@ -70,23 +71,23 @@ HasNoRange text = (list : List Spec) × MeansListBytes text list × (list_range 
 abbrev pub version_text : Spec → List ℕ
 version_text s = if is_star s.operator then print s.version ++ codes ".*" else print s.version
 
--- operator and version of a member, as the list prints them
+-- operator and version of a member, as Display writes them
 abbrev pub member_texts : Spec → List (List ℕ)
 member_texts s = operator_text s.operator ∷ version_text s ∷ []
 
--- those of each member of the list, in its order
+-- operator and version of each member, joined, and where each of these strings ends
 abbrev pub TellsMembers : List ℕ → List ℕ → List ℕ → Type 0
 TellsMembers text bytes ends = (list : List Spec) × MeansListBytes text list × Joins (flat_map member_texts list) bytes ends
 
 -- ---- order and matching
 
--- below, equal, above
+-- -1 for below, 0 for equal, 1 for above
 abbrev pub order_number : Ordering → ℤ
 order_number Less = negsuc 0
 order_number Equal = pos 0
 order_number Greater = pos 1
 
--- the number that says how the left version compares with the right one
+-- the number is the order of the two versions: -1, 0 or 1
 abbrev pub IsOrder : List ℕ → List ℕ → ℤ → Type 0
 IsOrder left right number = (r q : Record) × MeansBytes left r × MeansBytes right q × (number ≡ order_number (record_cmp r q))
 
@@ -98,11 +99,11 @@ Contains list_text text contained = (list : List Spec) × (r : Record) × MeansL
 abbrev pub IsPrerelease : List ℕ → Bool → Type 0
 IsPrerelease text early = (r : Record) × MeansBytes text r × (early ≡ any_prerelease r)
 
--- the list is read first
+-- the list is valid and the version is not: the list is parsed first
 abbrev pub RefusesSecond : List ℕ → List ℕ → Type 0
 RefusesSecond list_text text = (list : List Spec) × MeansListBytes list_text list × RefusesBytes text
 
--- both truth values are written, or both numbers stay
+-- both flags are written with status 0; otherwise both are unchanged, and the status is that of the failure
 abbrev pub ContainsAnswer : List ℕ → List ℕ → ℕ → ℕ → ℕ → ℕ → ℕ → Type 0
 ContainsAnswer list text old contained old_prerelease prerelease status =
     ((status ≡ 0) × IsFlagOf (Contains list text) contained × IsFlagOf (IsPrerelease text) prerelease)
@@ -114,12 +115,13 @@ NamesPrerelease text any = (list : List Spec) × MeansListBytes text list × (an
 
 -- ---- parts
 
+-- the number that C gets for a kind: 1 alpha, 2 beta, 3 rc
 abbrev pub kind_number : PrereleaseKind → ℕ
 kind_number Alpha = 1
 kind_number Beta = 2
 kind_number Rc = 3
 
--- the parts of the record; 0 where it has none
+-- the parts of the version; 0 for a part that is absent
 pub record TellsParts (r : Record) (p : Parts) : Type 0 where
   pub epoch : p.epoch ≡ r.epoch
   pub pre : p.pre ≡ option_map_or (λ (pre : Prerelease). pre.number) r.pre 0
@@ -131,7 +133,7 @@ pub record TellsParts (r : Record) (p : Parts) : Type 0 where
   pub has_dev : p.has_dev ≡ flag (is_some r.dev)
   pub has_local : p.has_local ≡ flag (has_local r)
 
--- the parts are reported, and the release is written at the start of the caller's numbers, or there are too few; or all stays
+-- the parts are written, and the release numbers where the caller's array has room for them; otherwise nothing is written
 abbrev pub PartsAnswer : List ℕ → Parts → Parts → List ℕ → List ℕ → ℕ → Type 0
 PartsAnswer text old parts old_release release status =
     ((r : Record) × MeansBytes text r × TellsParts r parts × PutsFront r.release old_release release status)

@@ -18,15 +18,15 @@ use Rattle.pep440_c.specs.Statuses.{Fails, PutsBoth, PutsFront}
 
 -- ---- which of the texts a list contains
 
--- 1 contained, 3 contained and a pre-release or a developmental release, 0 not contained, 2 no version
+-- the mark of a string: 1 contained, 3 contained and a pre-release or developmental release, 0 not contained, 2 no version
 abbrev pub IsMark : List Spec → List ℕ → ℕ → Type 0
 IsMark list text mark = ((r : Record) × MeansBytes text r × (mark ≡ if list_matches list r then (if any_prerelease r then 3 else 1) else 0)) ⊎ (RefusesBytes text × (mark ≡ 2))
 
--- each string has its mark, in its position
+-- the marks of the strings, in their order
 abbrev pub Marks : List ℕ → List (List ℕ) → List ℕ → Type 0
 Marks list_text texts marks = (list : List Spec) × MeansListBytes list_text list × AllZip (IsMark list) texts marks
 
--- the marks are written at the start of the caller's buffer, or it is too small; or all stays
+-- the marks are written at the start of the caller's buffer, or the buffer is too small; otherwise nothing is written
 abbrev pub FilterMarks : List ℕ → List (List ℕ) → List ℕ → List ℕ → ℕ → Type 0
 FilterMarks list_text texts old marks status =
     ((found : List ℕ) × Marks list_text texts found × PutsFront found old marks status)
@@ -34,35 +34,36 @@ FilterMarks list_text texts old marks status =
 
 -- ---- texts that are all to be versions
 
--- the string at this position is no version, and each before it is one
+-- the first string that is no version has this index
 pub record FirstRefusedText (texts : List (List ℕ)) (position : ℕ) : Type 0 where
   pub refused : IsSomeAnd (slice_get texts position) RefusesBytes
   pub before : All (λ text. (r : Record) × MeansBytes text r) (take position texts)
 
--- the position of the first that is no version is reported; or memory ran out
+-- the index of the first string that is no version is written; or memory ran out
 abbrev pub StopsAt : List (List ℕ) → ℕ → ℕ → ℕ → Type 0
 StopsAt texts old_at at status = ((status ≡ 1) × FirstRefusedText texts at) ⊎ ((status ≡ 3) × (at ≡ old_at))
 
--- the positions of the versions, which are arranged by version alone
+-- the indices of the versions in ascending order, equal versions in the order given
 abbrev pub ArrangesPlaces : List (ℕ × Record) → List ℕ → Type 0
 ArrangesPlaces given places = (sorted : List (ℕ × Record)) × ArrangesBy (on (λ (p : ℕ × Record). p.1) record_cmp) given sorted × (places ≡ map (λ (p : ℕ × Record). p.0) sorted)
 
--- each string denotes a version, and these are their positions in order
+-- each string denotes a version, and these are their indices in ascending order
 abbrev pub Sorts : List (List ℕ) → List ℕ → Type 0
 Sorts texts places = (versions : List Record) × AllZip MeansBytes texts versions × ArrangesPlaces (enumerate_from 0 versions) places
 
--- the positions are written at the start of the caller's buffer, or it is too small; or all stays
+-- the indices are written at the start of the caller's buffer, or the buffer is too small; otherwise only the index of an
+-- invalid string is written
 abbrev pub SortAnswer : List (List ℕ) → List ℕ → List ℕ → ℕ → ℕ → ℕ → Type 0
 SortAnswer texts old places old_at at status =
     ((found : List ℕ) × Sorts texts found × PutsFront found old places status × (at ≡ old_at))
     ⊎ ((places ≡ old) × StopsAt texts old_at at status)
 
--- each string denotes a version, and these are their sort keys, one after the other, and where each of them ends
+-- each string denotes a version; these are their sort keys, joined, and where each key ends
 abbrev pub MeansKeys : List (List ℕ) → List ℕ → List ℕ → Type 0
 MeansKeys texts bytes ends = (versions : List Record) × AllZip MeansBytes texts versions × Joins (map key_bytes versions) bytes ends
 
--- the keys and their ends are written at the start of the caller's buffers, or one is too small; how many bytes it takes is reported. Or
--- all stays
+-- keys and ends are written at the start of the caller's buffers, or one is too small; how many bytes are needed is written.
+-- Otherwise only the index of an invalid string is written
 abbrev pub KeysAnswer : List (List ℕ) → List ℕ → List ℕ → List ℕ → List ℕ → ℕ → ℕ → ℕ → ℕ → ℕ → Type 0
 KeysAnswer texts old bytes old_ends ends old_written written old_at at status =
     ((found : List ℕ) × (places : List ℕ) × MeansKeys texts found places × (written ≡ length found) × PutsBoth found places old bytes old_ends ends status × (at ≡ old_at))

@@ -1,4 +1,4 @@
--- What each call returns that makes compiled bytes, or takes them.
+-- What each call returns that makes compiled bytes or takes them.
 use Rattle.std.specs.Prelude.{◌≡◌, ◌⊎◌, ℕ, ℤ, List, Bool, Option, Some, None}
 use Rattle.std.specs.List.{flat_map}
 use Rattle.pep440_compiled.specs.Lists.{DenotesList}
@@ -52,7 +52,7 @@ CompiledNormalList compiled bytes = (list : List Spec) × DenotesList compiled l
 abbrev pub CompiledKey : List ℕ → List ℕ → Type 0
 CompiledKey compiled bytes = (r : Record) × DenotesVersion compiled r × (bytes ≡ key_bytes r)
 
--- the number that says how the left version compares with the right one
+-- the number is the order of the two compiled versions: -1, 0 or 1
 abbrev pub CompiledOrder : List ℕ → List ℕ → ℤ → Type 0
 CompiledOrder left right number = (r q : Record) × DenotesVersion left r × DenotesVersion right q × (number ≡ order_number (record_cmp r q))
 
@@ -64,13 +64,13 @@ CompiledContains compiled_list compiled contained = (list : List Spec) × (r : R
 abbrev pub CompiledPrerelease : List ℕ → Bool → Type 0
 CompiledPrerelease compiled early = (r : Record) × DenotesVersion compiled r × (early ≡ any_prerelease r)
 
--- both truth values are written, or both numbers stay
+-- both flags are written with status 0; otherwise both are unchanged, and the status is that of the failure
 abbrev pub CompiledContainsAnswer : List ℕ → List ℕ → ℕ → ℕ → ℕ → ℕ → ℕ → Type 0
 CompiledContainsAnswer compiled_list compiled old contained old_prerelease prerelease status =
     ((status ≡ 0) × IsFlagOf (CompiledContains compiled_list compiled) contained × IsFlagOf (CompiledPrerelease compiled) prerelease)
     ⊎ ((contained ≡ old) × (prerelease ≡ old_prerelease) × FailsCompiled (DenotesNoList compiled_list ⊎ DenotesNoVersion compiled) ⊥ status)
 
--- the parts are reported, and the release is written at the start of the caller's numbers, or there are too few; or all stays
+-- the parts are written, and the release numbers where the caller's array has room for them; otherwise nothing is written
 abbrev pub CompiledPartsAnswer : List ℕ → Parts → Parts → List ℕ → List ℕ → ℕ → Type 0
 CompiledPartsAnswer compiled old parts old_release release status =
     ((r : Record) × DenotesVersion compiled r × TellsParts r parts × PutsFront r.release old_release release status)
@@ -79,14 +79,14 @@ CompiledPartsAnswer compiled old parts old_release release status =
 -- ---- the keys of a range
 
 module _ (conversion : Operator → Record → Option Segments) where
-  -- the bytes are a compiled list, of which the conversion gives this range
+  -- the bytes are a compiled list, whose conversion returns this range
   abbrev pub CompiledRange : List ℕ → Segments → Type 0
   CompiledRange compiled range = (list : List Spec) × DenotesList compiled list × (list_range conversion list ≡ Some range)
 
-  -- the bytes are a compiled list, of which it gives none, since a number that can't be raised would have to be
+  -- the bytes are a compiled list, whose conversion fails, since a number to be raised is the greatest
   abbrev pub CompiledLacksRange : List ℕ → Type 0
   CompiledLacksRange compiled = (list : List Spec) × DenotesList compiled list × (list_range conversion list ≡ None)
 
-  -- the keys of the segments of that range, in their order
+  -- the keys of the segments of that range, in order
   abbrev pub CompiledIntervals : List ℕ → List ℕ → List ℕ → Type 0
   CompiledIntervals compiled bytes ends = (range : Segments) × CompiledRange compiled range × Joins (flat_map (λ s. interval_keys (segment_interval s)) range) bytes ends

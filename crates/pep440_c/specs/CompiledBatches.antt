@@ -14,15 +14,16 @@ use Rattle.pep440_c.specs.declared.batch.BatchError.TheVariants as stop
 
 -- ---- which of the versions a list contains
 
--- 1 contained, 3 contained and a pre-release or a developmental release, 0 not contained, 2 the bytes denote no version
+-- the mark of compiled bytes: 1 contained, 3 contained and a pre-release or developmental release, 0 not contained, 2 no
+-- compiled version
 abbrev pub CompiledMark : List Spec → List ℕ → ℕ → Type 0
 CompiledMark list compiled mark = ((r : Record) × DenotesVersion compiled r × (mark ≡ if list_matches list r then (if any_prerelease r then 3 else 1) else 0)) ⊎ (DenotesNoVersion compiled × (mark ≡ 2))
 
--- each has its mark, in its position
+-- the marks of the versions, in their order
 abbrev pub CompiledMarks : List ℕ → List (List ℕ) → List ℕ → Type 0
 CompiledMarks compiled_list forms marks = (list : List Spec) × DenotesList compiled_list list × AllZip (CompiledMark list) forms marks
 
--- the marks are written at the start of the caller's buffer, or it is too small; or all stays
+-- the marks are written at the start of the caller's buffer, or the buffer is too small; otherwise nothing is written
 abbrev pub CompiledFilterAnswer : List ℕ → List (List ℕ) → List ℕ → List ℕ → ℕ → Type 0
 CompiledFilterAnswer compiled_list forms old marks status =
     ((found : List ℕ) × CompiledMarks compiled_list forms found × PutsFront found old marks status)
@@ -30,20 +31,21 @@ CompiledFilterAnswer compiled_list forms old marks status =
 
 -- ---- versions in order
 
--- the bytes at this position denote no version, and those before them do
+-- the first bytes that denote no version have this index
 pub record FirstNotCompiled (forms : List (List ℕ)) (position : ℕ) : Type 0 where
   pub rejected : IsSomeAnd (slice_get forms position) DenotesNoVersion
   pub before : All (λ form. (r : Record) × DenotesVersion form r) (take position forms)
 
--- the position of the first that denote none is reported; or memory ran out
+-- the index of the first bytes that denote no version is written; or memory ran out
 abbrev pub CompiledStopsAt : List (List ℕ) → ℕ → ℕ → ℕ → Type 0
 CompiledStopsAt forms old_at at status = ((status ≡ 6) × FirstNotCompiled forms at) ⊎ ((status ≡ 3) × (at ≡ old_at))
 
--- all denote versions, and these are their positions in order
+-- all denote versions, and these are their indices in ascending order
 abbrev pub CompiledSorts : List (List ℕ) → List ℕ → Type 0
 CompiledSorts forms places = (versions : List Record) × AllZip DenotesVersion forms versions × ArrangesPlaces (enumerate_from 0 versions) places
 
--- the positions are written at the start of the caller's buffer, or it is too small; or all stays
+-- the indices are written at the start of the caller's buffer, or the buffer is too small; otherwise only the index of invalid
+-- bytes is written
 abbrev pub CompiledSortAnswer : List (List ℕ) → List ℕ → List ℕ → ℕ → ℕ → ℕ → Type 0
 CompiledSortAnswer forms old places old_at at status =
     ((found : List ℕ) × CompiledSorts forms found × PutsFront found old places status × (at ≡ old_at))

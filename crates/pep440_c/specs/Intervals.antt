@@ -9,19 +9,19 @@ use Rattle.pep440_version.specs.Record.{Record}
 use Rattle.pep440_c.specs.Joined.{Joins}
 use Rattle.pep440_c.specs.Meaning.{MeansListBytes}
 
--- the low and the high key, no bytes where there is none: no sort key is empty
+-- the low and the high key of an interval; no bytes for a missing bound, since no sort key is empty
 abbrev pub interval_keys : Interval → List (List ℕ)
 interval_keys interval = unwrap_or interval.0 [] ∷ unwrap_or interval.1 [] ∷ []
 
 module _ (conversion : Operator → Record → Option Segments) where
-  -- the bytes are a list, of which the conversion gives this range
+  -- the bytes denote a list, whose conversion returns this range
   abbrev pub HasRange : List ℕ → Segments → Type 0
   HasRange text range = (list : List Spec) × MeansListBytes text list × (list_range conversion list ≡ Some range)
 
-  -- the bytes are a list, of which it gives none, since a number that can't be raised would have to be
+  -- the bytes denote a list, whose conversion fails, since a number to be raised is the greatest
   abbrev pub LacksRange : List ℕ → Type 0
   LacksRange text = (list : List Spec) × MeansListBytes text list × (list_range conversion list ≡ None)
 
-  -- the keys of the segments of that range, in their order
+  -- the keys of the segments of that range, joined in order, and where each key ends
   abbrev pub TellsIntervals : List ℕ → List ℕ → List ℕ → Type 0
   TellsIntervals text bytes ends = (range : Segments) × HasRange text range × Joins (flat_map (λ s. interval_keys (segment_interval s)) range) bytes ends

@@ -3,18 +3,18 @@ use Rattle.std.specs.Prelude.{◌≡◌, ◌⊎◌, ◌+◌, ℕ, List, [], ◌�
 use Rattle.std.specs.List.{flat_map}
 use Rattle.pep440_c.specs.Statuses.{Fails, PutsBoth}
 
--- where each string ends, the first of them beginning here
+-- where each string ends, if the first begins at this position
 abbrev pub ends_from : ℕ → List (List ℕ) → List ℕ
 ends_from start [] = []
 ends_from start (s ∷ rest) = (start + length s) ∷ ends_from (start + length s) rest
 
--- the strings one after the other, and where each of them ends, counted from the start of the first
+-- the bytes are the strings, one after the other, and the ends are where each string ends
 pub record Joins (strings : List (List ℕ)) (bytes ends : List ℕ) : Type 0 where
   pub joined : bytes ≡ flat_map (λ s. s) strings
   pub ended : ends ≡ ends_from 0 strings
 
--- strings that are given so are written at the start of the caller's buffers, or one is too small; how many bytes and how many strings
--- they are is reported. Or all stays
+-- strings are written, joined, at the start of the caller's buffers, or a buffer is too small; how many bytes and strings there
+-- are is written. Otherwise nothing is written
 abbrev pub PutsJoined : Type 0 → Type 0 → Type 0 → (List ℕ → List ℕ → Type 0) → List ℕ → List ℕ → List ℕ → List ℕ → ℕ → ℕ → ℕ → ℕ → ℕ → Type 0
 PutsJoined version list range P old new old_ends ends old_written written old_count count status =
     ((bytes : List ℕ) × (places : List ℕ) × P bytes places × (written ≡ length bytes) × (count ≡ length places) × PutsBoth bytes places old new old_ends ends status)

@@ -8,3 +8,7 @@ pub mod Compiled
 pub mod Room
 pub mod CompiledBatches
 pub mod Patterns
+pub mod Edits
+pub mod OneSpecifier
+pub mod RangeBounds
+pub mod PatternErrors

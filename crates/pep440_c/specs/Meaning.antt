@@ -1,4 +1,4 @@
--- What the bytes of a caller mean, as a version or as a list of specifiers, and why they mean none.
+-- The version or the list that a caller's bytes denote, or why they denote none.
 use Rattle.std.specs.Prelude.{◌≡◌, ◌⊎◌, ℕ, List, codes}
 use Rattle.std.specs.Str.{IsUtf8}
 use Rattle.pep440_rs.specs.ListErrorTexts.{list_refusal_text}
@@ -13,7 +13,7 @@ use Rattle.pep440_version.specs.Refusals.{Refusal, Refuses}
 abbrev pub MeansBytes : List ℕ → Record → Type 0
 MeansBytes bytes r = IsUtf8 bytes × Derives bytes r
 
--- the words say why the bytes are no version
+-- the message says why the bytes are no version
 abbrev pub TellsWhy : List ℕ → List ℕ → Type 0
 TellsWhy bytes words = ((¬ IsUtf8 bytes) × (words ≡ codes "not UTF-8")) ⊎ (IsUtf8 bytes × (f : Refusal) × Refuses bytes f × (words ≡ refusal_text f))
 
@@ -25,7 +25,7 @@ RefusesBytes bytes = (words : List ℕ) × TellsWhy bytes words
 abbrev pub MeansListBytes : List ℕ → List Spec → Type 0
 MeansListBytes bytes list = IsUtf8 bytes × DerivesList bytes list
 
--- the words say why the bytes are no list
+-- the message says why the bytes are no list
 abbrev pub TellsWhyNoList : List ℕ → List ℕ → Type 0
 TellsWhyNoList bytes words = ((¬ IsUtf8 bytes) × (words ≡ codes "not UTF-8")) ⊎ (IsUtf8 bytes × (f : PieceRefusal) × RefusesList bytes f × (words ≡ list_refusal_text f bytes))
 

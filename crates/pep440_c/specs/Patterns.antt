@@ -13,7 +13,7 @@ use Rattle.pep440_c.specs.Statuses.{Fails, PutsFront, flag}
 
 -- ---- patterns
 
--- the bytes are a string that denotes the version, with `.*` behind it or without
+-- the bytes are a string that denotes the version, with or without a star
 abbrev pub MeansPattern : List ℕ → Record → Bool → Type 0
 MeansPattern bytes r star = IsUtf8 bytes × DerivesPattern bytes r star
 
@@ -25,7 +25,8 @@ RefusesPatternBytes bytes = (¬ IsUtf8 bytes) ⊎ (IsUtf8 bytes × (f : PatternR
 abbrev pub IsPattern : List ℕ → List ℕ → Bool → Type 0
 IsPattern text bytes star = (r : Record) × MeansPattern text r star × (bytes ≡ print r)
 
--- whether `.*` follows is reported, and the version is written at the start of the caller's buffer, or that is too small; or all stays
+-- the star is written, and the version at the start of the caller's buffer where there is room for it; otherwise nothing is
+-- written
 abbrev pub PatternAnswer : List ℕ → List ℕ → List ℕ → ℕ → ℕ → ℕ → ℕ → ℕ → Type 0
 PatternAnswer text old new old_written written old_star star status =
     ((bytes : List ℕ) × (has_star : Bool) × IsPattern text bytes has_star × (star ≡ flag has_star) × (written ≡ length bytes) × PutsFront bytes old new status)
@@ -41,14 +42,14 @@ IsOperator operator = (o : Operator) × Spells operator o
 abbrev pub Combines : List ℕ → List ℕ → Result Spec BuildRefusal → Type 0
 Combines operator version combined = (o : Operator) × (r : Record) × (star : Bool) × Spells operator o × MeansPattern version r star × (combined ≡ built_pattern o r star)
 
--- the specifier of the operator and the pattern, as it prints
+-- the specifier of the operator and the pattern, as Display writes it
 abbrev pub IsSpecifier : List ℕ → List ℕ → List ℕ → Type 0
 IsSpecifier operator version bytes = (s : Spec) × Combines operator version (Ok s) × (bytes ≡ spec_print s)
 
--- there is no such operator, or it does not go with the version
+-- the operator is unknown, or does not go with the version
 abbrev pub RefusesOperator : List ℕ → List ℕ → Type 0
 RefusesOperator operator version = (¬ IsOperator operator) ⊎ ((why : BuildRefusal) × Combines operator version (Err why))
 
--- the operator is read first
+-- the operator is known and the pattern is invalid: the operator is parsed first
 abbrev pub RefusesOperand : List ℕ → List ℕ → Type 0
 RefusesOperand operator version = IsOperator operator × RefusesPatternBytes version

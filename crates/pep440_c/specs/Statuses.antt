@@ -1,12 +1,13 @@
 -- How a call ends: its status, and what it leaves in the caller's memory. 0 ok, 1 a version is invalid, 2 a list is invalid, 3 out of
--- memory, 4 too little room, 5 a bound lies above the greatest number, 6 bytes are not compiled, 7 a version is not packed.
+-- memory, 4 too little room, 5 a bound lies above the greatest number, 6 bytes are not compiled, 7 a version is not packed, 8 it cannot be
+-- changed so.
 use Rattle.std.specs.Prelude.{◌≡◌, ◌⊎◌, ◌≤◌, ◌<◌, ℕ, Bool, List, ◌++◌, drop, length, Result, Ok, Err, if◌then◌else◌}
 use Rattle.pep440_compiled.specs.declared.version.CompiledError.{CompiledError}
 use Rattle.pep440_compiled.specs.declared.version.CompiledError.TheVariants as compiled
 use Rattle.pep440_c.specs.declared.texts.Fault.{Fault}
 use Rattle.pep440_c.specs.declared.texts.Fault.TheVariants as fault
 
--- the status of a call that gives nothing
+-- the status of a failure
 abbrev pub fault_status : Fault → ℕ
 fault_status fault.InvalidVersion = 1
 fault_status fault.InvalidList = 2
@@ -19,16 +20,16 @@ abbrev pub fault_of_compiled : CompiledError → Fault
 fault_of_compiled compiled.NotCompiled = fault.NotCompiled
 fault_of_compiled compiled.OutOfMemory = fault.OutOfMemory
 
--- a truth value as the number that C gets, 0 or 1 and no other
+-- a truth value as a number: 0 or 1
 abbrev pub flag : Bool → ℕ
 flag truth = if truth then 1 else 0
 
--- the number is the truth value of which this holds
+-- the number is the flag of a truth value of which this holds
 abbrev pub IsFlagOf : (Bool → Type 0) → ℕ → Type 0
 IsFlagOf P number = (truth : Bool) × P truth × (number ≡ flag truth)
 
 module _ (version list range : Type 0) where
-  -- why nothing is given, where memory didn't run out: a version is invalid, a list is, or the list has no range
+  -- the cause of a failure other than memory: an invalid version, an invalid list, or a list without a range
   abbrev pub Faults : Fault → Type 0
   Faults fault.InvalidVersion = version
   Faults fault.InvalidList = list
@@ -41,16 +42,16 @@ module _ (version list range : Type 0) where
   Gives P (Ok x) = P x
   Gives P (Err f) = Faults f
 
-  -- the status says why nothing is given
+  -- the status names the cause of the failure, which may be memory
   abbrev pub Fails : ℕ → Type 0
   Fails status = (f : Fault) × Faults f × (status ≡ fault_status f)
 
-  -- a value of which this holds is put in the place of the caller's, or that stays
+  -- a value of which this holds is written; or the call fails and the caller's value is unchanged
   abbrev pub Puts : {X : Type 0} → (X → Type 0) → X → X → ℕ → Type 0
   Puts P old new status = ((status ≡ 0) × P new) ⊎ ((new ≡ old) × Fails status)
 
 module _ (unread range : Type 0) where
-  -- why nothing is given of compiled bytes, where memory didn't run out: they denote no version or no list, or the list has no range
+  -- the cause of a failure other than memory: bytes that denote no version or no list, or a list without a range
   abbrev pub CompiledFaults : Fault → Type 0
   CompiledFaults fault.InvalidVersion = ⊥
   CompiledFaults fault.InvalidList = ⊥
@@ -63,11 +64,11 @@ module _ (unread range : Type 0) where
   GivesCompiled P (Ok x) = P x
   GivesCompiled P (Err f) = CompiledFaults f
 
-  -- the status says why nothing is given
+  -- the status names the cause of the failure, which may be memory
   abbrev pub FailsCompiled : ℕ → Type 0
   FailsCompiled status = (f : Fault) × CompiledFaults f × (status ≡ fault_status f)
 
-  -- a value of which this holds is put in the place of the caller's, or that stays
+  -- a value of which this holds is written; or the call fails and the caller's value is unchanged
   abbrev pub PutsCompiled : {X : Type 0} → (X → Type 0) → X → X → ℕ → Type 0
   PutsCompiled P old new status = ((status ≡ 0) × P new) ⊎ ((new ≡ old) × FailsCompiled status)
 
@@ -77,26 +78,26 @@ PutsFront items old new status =
     ((status ≡ 0) × (length items ≤ length old) × (new ≡ items ++ drop (length items) old))
     ⊎ ((status ≡ 4) × (length old < length items) × (new ≡ old))
 
--- so items of two kinds, where there is room for both
+-- items of two kinds are written so, where both buffers have room
 abbrev pub PutsBoth : {X Y : Type 0} → List X → List Y → List X → List X → List Y → List Y → ℕ → Type 0
 PutsBoth first second old new old_second new_second status =
     ((status ≡ 0) × (length first ≤ length old) × (length second ≤ length old_second) × (new ≡ first ++ drop (length first) old) × (new_second ≡ second ++ drop (length second) old_second))
     ⊎ ((status ≡ 4) × ((length old < length first) ⊎ (length old_second < length second)) × (new ≡ old) × (new_second ≡ old_second))
 
--- bytes of which this holds are written at the start of the caller's buffer, or it is too small; how many it takes is reported. Or all
--- stays
+-- bytes of which this holds are written at the start of the caller's buffer, or the buffer is too small; how many bytes are
+-- needed is written. Otherwise nothing is written
 abbrev pub PutsBytes : Type 0 → Type 0 → Type 0 → (List ℕ → Type 0) → List ℕ → List ℕ → ℕ → ℕ → ℕ → Type 0
 PutsBytes version list range P old new old_written written status =
     ((bytes : List ℕ) × P bytes × (written ≡ length bytes) × PutsFront bytes old new status)
     ⊎ ((new ≡ old) × (written ≡ old_written) × Fails version list range status)
 
--- so bytes that are found of compiled ones
+-- the same of a call on compiled bytes
 abbrev pub PutsCompiledBytes : Type 0 → Type 0 → (List ℕ → Type 0) → List ℕ → List ℕ → ℕ → ℕ → ℕ → Type 0
 PutsCompiledBytes unread range P old new old_written written status =
     ((bytes : List ℕ) × P bytes × (written ≡ length bytes) × PutsFront bytes old new status)
     ⊎ ((new ≡ old) × (written ≡ old_written) × FailsCompiled unread range status)
 
--- so strings that are found of compiled bytes
+-- the same of joined strings, by a call on compiled bytes
 abbrev pub PutsCompiledJoined : Type 0 → Type 0 → (List ℕ → List ℕ → Type 0) → List ℕ → List ℕ → List ℕ → List ℕ → ℕ → ℕ → ℕ → ℕ → ℕ → Type 0
 PutsCompiledJoined unread range P old new old_ends ends old_written written old_count count status =
     ((bytes : List ℕ) × (places : List ℕ) × P bytes places × (written ≡ length bytes) × (count ≡ length places) × PutsBoth bytes places old new old_ends ends status)

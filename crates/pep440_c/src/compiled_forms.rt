@@ -13,7 +13,7 @@ ghost use Rattle.pep440_c.specs.Statuses.{Gives, GivesCompiled, fault_of_compile
 
 use crate::texts;
 use crate::texts::Fault;
-use pep440_compiled::{CompiledError, compile_version, read_version};
+use pep440_compiled::{CompiledError, compile_version, contains_version, read_version};
 use pep440_rs::Version;
 use std::alloc::Global;
 use std::cmp::Ordering;
@@ -86,6 +86,6 @@ pub(crate) fn contains(alloc: Global, list: &[u8], compiled: &[u8]) -> Result<(b
     ensures memory { (l : List Spec) (r : Record) → DenotesList list.now l → DenotesPacked compiled.now r → All IsPackedMember l → IsOk result }
 {
     let version = read_version(alloc, compiled)?;
-    let contained = pep440_compiled::contains(alloc, list, compiled)?;
+    let contained = contains_version(alloc, list, &version)?;
     Ok((contained, version.any_prerelease()))
 }

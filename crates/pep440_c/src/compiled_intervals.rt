@@ -12,7 +12,7 @@ use pep440_ranges::Ranges;
 use pep440_rs::{RangeError, Version, specifiers_to_cover, specifiers_to_ranges};
 use std::alloc::Global;
 
-fn to_range(alloc: Global, list: &[u8]) -> Result<Ranges<Version>, Fault>
+pub(crate) fn to_range(alloc: Global, list: &[u8]) -> Result<Ranges<Version>, Fault>
     ensures { GivesCompiled (DenotesNoList list.now) (CompiledLacksRange range_of list.now) (CompiledRange range_of list.now) result }
 {
     let specifiers = read_list(alloc, list)?;

@@ -16,7 +16,7 @@ use pep440_ranges::Ranges;
 use pep440_rs::{RangeError, Version, specifiers_to_cover, specifiers_to_ranges};
 use std::alloc::{AllocError, Global};
 
-fn to_range(alloc: Global, list: &[u8]) -> Result<Ranges<Version>, Fault>
+pub(crate) fn to_range(alloc: Global, list: &[u8]) -> Result<Ranges<Version>, Fault>
     ensures { Gives ⊥ (RefusesListBytes list.now) (LacksRange range_of list.now) (HasRange range_of list.now) result }
 {
     let specifiers = read_list(alloc, list)?;

@@ -14,6 +14,8 @@ ghost use Rattle.std.specs.Prelude.{Some};
 ghost use Rattle.pep440_c.specs.Answers.{Contains, HasNoRange, IsKey, IsNormal, IsNormalList, IsOrder, IsPrerelease, IsRangeText, TellsWord};
 ghost use Rattle.pep440_c.specs.Compiled.{CompiledContains, CompiledKey, CompiledNormal, CompiledNormalList, CompiledOrder, CompiledPrerelease, DenotesNoList, DenotesNoVersion, IsCompiled, IsCompiledList};
 ghost use Rattle.pep440_c.specs.Intervals.{HasRange};
+ghost use Rattle.pep440_c.specs.OneSpecifier.{MeansSpecifierBytes, RefusesSpecifierBytes, TellsWhyNoSpecifier};
+ghost use Rattle.pep440_c.specs.RangeBounds.{CompiledBounds, TellsBounds};
 ghost use Rattle.pep440_c.specs.Patterns.{IsSpecifier, MeansPattern, RefusesOperand, RefusesOperator, RefusesPatternBytes};
 ghost use Rattle.pep440_c.specs.Meaning.{MeansBytes, MeansListBytes, RefusesBytes, RefusesListBytes, TellsWhy, TellsWhyNoList};
 
@@ -31,6 +33,19 @@ pub fn lists_once()
     ensures why { (bytes words others : List ℕ) → TellsWhyNoList bytes words → TellsWhyNoList bytes others → words ≡ others }
     ensures either { (bytes : List ℕ) → ((l : List Spec) × MeansListBytes bytes l) ⊎ RefusesListBytes bytes }
     ensures never_both { (bytes : List ℕ) (l : List Spec) → MeansListBytes bytes l → RefusesListBytes bytes → ⊥ }
+{}
+
+/// The same of one specifier.
+pub fn one_specifier_once()
+    ensures one { (bytes : List ℕ) (s t : Spec) → MeansSpecifierBytes bytes s → MeansSpecifierBytes bytes t → s ≡ t }
+    ensures why { (bytes words others : List ℕ) → TellsWhyNoSpecifier bytes words → TellsWhyNoSpecifier bytes others → words ≡ others }
+    ensures either { (bytes : List ℕ) → ((s : Spec) × MeansSpecifierBytes bytes s) ⊎ RefusesSpecifierBytes bytes }
+    ensures never_both { (bytes : List ℕ) (s : Spec) → MeansSpecifierBytes bytes s → RefusesSpecifierBytes bytes → ⊥ }
+{}
+
+/// The bounds of a compiled list are those of the string that was compiled.
+pub fn bounds_agree()
+    ensures { (text compiled bytes ends : List ℕ) → IsCompiledList text compiled → CompiledBounds compiled bytes ends ↔ TellsBounds text bytes ends }
 {}
 
 /// Bytes have one range, or are no list, or are a list without a range, and never two of these: so of the statuses 0, 2 and 5 a call has one.

@@ -2,7 +2,7 @@
 //!
 //! A string is bytes and how many there are. No call keeps a pointer, and none has a condition beyond its types. Each returns a status: 0
 //! ok, 1 a version is invalid, 2 a list is invalid, 3 out of memory, 4 too little room, 5 a bound of a range lies above the greatest number,
-//! 6 bytes that are passed as compiled are not, 7 a version is not packed.
+//! 6 bytes that are passed as compiled are not, 7 a version is not packed, 8 a version cannot be changed so.
 //! The header is `callers/c/pep440.h`.
 //!
 //! A call may allocate from `malloc`, and frees what it allocated before it returns. Where `malloc` fails it returns 3, and may be made
@@ -14,6 +14,7 @@ ghost use Rattle.pep440_rs.specs.Bounds.{range_of};
 ghost use Rattle.pep440_rs.specs.Cover.{cover_of};
 ghost use Rattle.pep440_c.specs.Answers.{ContainsAnswer, HasNoRange, IsKey, IsListError, IsNormal, IsNormalList, IsOrder, IsRangeText, IsVersionError, NamesPrerelease, PartsAnswer, TellsMembers, WordAnswer, order_number};
 ghost use Rattle.pep440_c.specs.Batches.{FilterMarks, KeysAnswer, SortAnswer};
+ghost use Rattle.pep440_c.specs.Edits.{PutsEdited, IsEditError};
 ghost use Rattle.pep440_c.specs.Intervals.{LacksRange, TellsIntervals};
 ghost use Rattle.pep440_c.specs.Joined.{PutsJoined};
 ghost use Rattle.pep440_c.specs.Meaning.{RefusesBytes, RefusesListBytes};
@@ -26,11 +27,15 @@ mod compiled;
 mod compiled_batch;
 mod compiled_forms;
 mod compiled_intervals;
+mod edits;
 mod intervals;
 mod joined;
 pub mod laws;
 mod members;
+mod one_specifier;
+mod pattern_errors;
 mod patterns;
+mod range_bounds;
 #[cfg(test)]
 mod tests;
 mod texts;
@@ -133,6 +138,38 @@ pub extern "C" fn pep440_pattern(
         }
         Err(fault) => fault.status(),
     }
+}
+
+/// Writes the version after the changes, one after the other, with its sentinels; the program's command `edit` takes the same
+/// words. The version is parsed first, then all words. Status 8 where one is no change word, or a change cannot be made.
+#[unsafe(no_mangle)]
+pub extern "C" fn pep440_edit(
+    alloc: Global,
+    text: &[u8],
+    changes: &[&[u8]],
+    out: &mut [u8],
+    written: &mut usize,
+) -> u8
+    ensures { PutsEdited text.now (map (λ t. t.now) changes.now) out.old out.new written.old written.new result }
+{
+    match edits::to_edited(alloc, text, changes) {
+        Ok(edited) => put_and_count(edited.as_bytes(), out, written),
+        Err(error) => error.status(),
+    }
+}
+
+/// Writes why the version cannot be changed so, or why the string is none; nothing where it can.
+#[unsafe(no_mangle)]
+pub extern "C" fn pep440_edit_error(
+    alloc: Global,
+    text: &[u8],
+    changes: &[&[u8]],
+    out: &mut [u8],
+    written: &mut usize,
+) -> u8
+    ensures { PutsBytes ⊥ ⊥ ⊥ (IsEditError text.now (map (λ t. t.now) changes.now)) out.old out.new written.old written.new result }
+{
+    put_text(edits::explain_edit(alloc, text, changes), out, written)
 }
 
 /// Writes why the string is no version; nothing where it is one.

@@ -11,8 +11,8 @@ use pep440_rs::{
 };
 use std::alloc::Global;
 
-// Whether memory ran out.
-fn is_out_of_memory(kind: &PatternErrorKind) -> bool
+/// Whether memory ran out.
+pub(crate) fn is_out_of_memory(kind: &PatternErrorKind) -> bool
     ensures { result ≡ is_none (pattern_refusal_of kind.now) }
 {
     match kind {

@@ -1,6 +1,9 @@
 //! Each call once where it returns a value and where it returns an error, with too little room, and with each allocation failing in turn.
 mod compiled;
+mod edits;
+mod one_specifier;
 mod patterns;
+mod range_bounds;
 
 use crate::{
     Parts, pep440_any_prerelease, pep440_compare, pep440_contains, pep440_cover_keys,

@@ -1,0 +1,39 @@
+-- Why a string is no version pattern, and why an operator and a version make no specifier.
+use Rattle.std.specs.Prelude.{◌≡◌, ◌⊎◌, ℕ, List, [], Bool, codes, Result, Ok, Err}
+use Rattle.std.specs.Str.{IsUtf8}
+use Rattle.pep440_compiled.specs.Version.{DenotesVersion}
+use Rattle.pep440_rs.specs.Build.{BuildRefusal, built_pattern}
+use Rattle.pep440_rs.specs.ErrorTexts.{build_text}
+use Rattle.pep440_rs.specs.Operators.{operator_rank}
+use Rattle.pep440_rs.specs.Specifiers.{Spec}
+use Rattle.pep440_rs.specs.declared.specifier.operator.Operator.{Operator}
+use Rattle.pep440_version.specs.ErrorTexts.{pattern_refusal_text}
+use Rattle.pep440_version.specs.Record.{Record}
+use Rattle.pep440_version.specs.Refusals.{PatternRefusal, RefusesPattern}
+use Rattle.pep440_c.specs.Patterns.{MeansPattern}
+
+-- ---- patterns
+
+-- the words say why the bytes are no pattern
+abbrev pub TellsWhyNoPattern : List ℕ → List ℕ → Type 0
+TellsWhyNoPattern bytes words = ((¬ IsUtf8 bytes) × (words ≡ codes "not UTF-8")) ⊎ (IsUtf8 bytes × (f : PatternRefusal) × RefusesPattern bytes f × (words ≡ pattern_refusal_text f))
+
+-- why the string is no pattern; nothing where it denotes one
+abbrev pub IsPatternError : List ℕ → List ℕ → Type 0
+IsPatternError text bytes = ((r : Record) × (star : Bool) × MeansPattern text r star × (bytes ≡ [])) ⊎ TellsWhyNoPattern text bytes
+
+-- ---- operators with versions
+
+-- no operator has this number
+abbrev pub IsNoOperator : ℕ → Type 0
+IsNoOperator number = (o : Operator) → operator_rank o ≡ number → ⊥
+
+-- what the rules of specifiers give for the operator of this number and the compiled version, with `.*` behind it or without
+abbrev pub CombinesCompiled : ℕ → List ℕ → Bool → Result Spec BuildRefusal → Type 0
+CombinesCompiled number compiled star combined = (o : Operator) × (r : Record) × (operator_rank o ≡ number) × DenotesVersion compiled r × (combined ≡ built_pattern o r star)
+
+-- why they are no specifier; nothing where they are one
+abbrev pub IsBuildError : ℕ → List ℕ → Bool → List ℕ → Type 0
+IsBuildError number compiled star bytes =
+    ((s : Spec) × CombinesCompiled number compiled star (Ok s) × (bytes ≡ []))
+    ⊎ ((why : BuildRefusal) × CombinesCompiled number compiled star (Err why) × (bytes ≡ build_text why))

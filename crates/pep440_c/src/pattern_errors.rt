@@ -1,0 +1,111 @@
+//! Why a string is no version pattern, and why an operator and a version make no specifier.
+ghost use Rattle.std.specs.Prelude.{◌≡◌, ◌==◌, ◌⊎◌, not, string_bytes, IfNone, IfSome, OnOk};
+ghost use Rattle.pep440_rs.specs.Operators.{operator_rank};
+ghost use Rattle.pep440_c.specs.Compiled.{DenotesNoVersion};
+ghost use Rattle.pep440_c.specs.PatternErrors.{IsBuildError, IsNoOperator, IsPatternError};
+ghost use Rattle.pep440_c.specs.Statuses.{Gives, GivesCompiled, PutsBytes, PutsCompiledBytes};
+
+use crate::buffer::put_text;
+use crate::patterns::is_out_of_memory;
+use crate::texts::Fault;
+use pep440_compiled::read_version;
+use pep440_rs::{Operator, VersionPattern, VersionSpecifier};
+use std::alloc::Global;
+
+const NOT_UTF8: &str = "not UTF-8";
+
+/// Writes why the string is no version pattern (PEP 440, "Version matching"); nothing where it is one.
+#[unsafe(no_mangle)]
+pub extern "C" fn pep440_pattern_error(
+    alloc: Global,
+    pattern: &[u8],
+    out: &mut [u8],
+    written: &mut usize,
+) -> u8
+    ensures { PutsBytes ⊥ ⊥ ⊥ (IsPatternError pattern.now) out.old out.new written.old written.new result }
+{
+    put_text(explain_pattern(alloc, pattern), out, written)
+}
+
+/// Writes why the operator of this number, as compiled lists have it, and the compiled version make no specifier; nothing
+/// where they do (PEP 440, "Version specifiers"). `.*` follows the version unless `star` is 0. Status 6 where no operator has
+/// the number, or the bytes denote no version.
+#[unsafe(no_mangle)]
+pub extern "C" fn pep440_build_error(
+    alloc: Global,
+    operator: u8,
+    compiled: &[u8],
+    star: u8,
+    out: &mut [u8],
+    written: &mut usize,
+) -> u8
+    ensures { PutsCompiledBytes (IsNoOperator operator ⊎ DenotesNoVersion compiled.now) ⊥ (IsBuildError operator compiled.now (not (star == 0))) out.old out.new written.old written.new result }
+{
+    put_text(
+        explain_build(alloc, operator, compiled, star != 0),
+        out,
+        written,
+    )
+}
+
+// Why the bytes are no pattern; empty where they are one.
+fn explain_pattern(alloc: Global, bytes: &[u8]) -> Result<String, Fault>
+    ensures { Gives ⊥ ⊥ ⊥ (λ words. IsPatternError bytes.now (string_bytes words)) result }
+{
+    let Ok(text) = std::str::from_utf8(bytes) else {
+        return Ok(String::from_str(alloc, NOT_UTF8)?);
+    };
+    match VersionPattern::from_str(alloc, text) {
+        Ok(_) => Ok(String::new(alloc)),
+        Err(error) => {
+            if is_out_of_memory(error.kind()) {
+                return Err(Fault::OutOfMemory);
+            }
+            Ok(error.to_string(alloc)?)
+        }
+    }
+}
+
+// The operator of a number; `None` of one that no operator has.
+fn operator_from_number(number: u8) -> Option<Operator>
+    ensures some { IfSome result (λ o. operator_rank o ≡ number) }
+    ensures none { IfNone result (IsNoOperator number) }
+{
+    Some(match number {
+        0 => Operator::Equal,
+        1 => Operator::EqualStar,
+        2 => Operator::ExactEqual,
+        3 => Operator::NotEqual,
+        4 => Operator::NotEqualStar,
+        5 => Operator::TildeEqual,
+        6 => Operator::LessThan,
+        7 => Operator::LessThanEqual,
+        8 => Operator::GreaterThan,
+        9 => Operator::GreaterThanEqual,
+        _ => return None,
+    })
+}
+
+// Why the operator and the version make no specifier; empty where they do.
+fn explain_build(
+    alloc: Global,
+    operator: u8,
+    compiled: &[u8],
+    is_wildcard: bool,
+) -> Result<String, Fault>
+    ensures { GivesCompiled (IsNoOperator operator ⊎ DenotesNoVersion compiled.now) ⊥ (λ words. IsBuildError operator compiled.now is_wildcard (string_bytes words)) result }
+{
+    let Some(operator) = operator_from_number(operator) else {
+        return Err(Fault::NotCompiled);
+    };
+    let version = read_version(alloc, compiled)?;
+    let pattern = if is_wildcard {
+        VersionPattern::wildcard(version)
+    } else {
+        VersionPattern::verbatim(version)
+    };
+    match VersionSpecifier::from_pattern(operator, pattern) {
+        Ok(_) => Ok(String::new(alloc)),
+        Err(error) => Ok(error.to_string(alloc)?),
+    }
+}
