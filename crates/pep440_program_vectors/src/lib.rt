@@ -11,9 +11,13 @@ mod long;
 #[cfg(test)]
 mod pyver;
 #[cfg(test)]
+mod pyver_bump;
+#[cfg(test)]
 mod pyver_filter;
 #[cfg(test)]
 mod pyver_show;
+#[cfg(test)]
+mod pyver_sort;
 #[cfg(test)]
 mod requirements;
 #[cfg(test)]

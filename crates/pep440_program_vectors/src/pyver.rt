@@ -30,8 +30,8 @@ const RUNS: [(&str, &str, &str, u8); 10] = [
     ),
 ];
 
-// Whether a run writes this, or says that memory is out, and reads nothing.
-fn writes(alloc: Global, words: &[String], output: &str, errors: &str, status: u8) -> bool {
+/// Whether a run writes this, or says that memory is out, and reads nothing.
+pub fn writes(alloc: Global, words: &[String], output: &str, errors: &str, status: u8) -> bool {
     let mut out = Sink::new(Manner::TakesAtMost(7));
     let mut err = Sink::new(Manner::TakesAtMost(512));
     let mut input = Trickle::new(b"never read", After::Fails);

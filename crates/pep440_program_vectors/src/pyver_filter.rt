@@ -91,20 +91,88 @@ const FILTERED: [(&str, &[u8], &str, &str, u8); 20] = [
         "filter",
         b"",
         "",
-        "pyver: usage: pyver filter [-v] [--pre | --no-pre] SPECS\nTry 'pyver --help'.\n",
+        "pyver: usage: pyver filter [-v] [--pre | --no-pre] [--invalid HOW] SPECS\nTry 'pyver filter --help'.\n",
         2,
     ),
     (
         "filter|--invert-mach|>=1",
         b"",
         "",
-        "pyver: no option '--invert-mach'; did you mean '--invert-match'?\nTry 'pyver --help'.\n",
+        "pyver: no option '--invert-mach'; did you mean '--invert-match'?\nTry 'pyver filter --help'.\n",
+        2,
+    ),
+];
+
+// The same of invalid lines that are an error, left out or kept.
+const INVALID_LINES: [(&str, &[u8], &str, &str, u8); 10] = [
+    (
+        "filter|--invalid|error|>=1",
+        b"1.0\nx\n",
+        "1.0\n",
+        "pyver: -: line 2: expected version to start with a number, but no leading ASCII digits were found\n",
+        2,
+    ),
+    (
+        "filter|--invalid|skip|>=1",
+        b"x\n1.0\n\n1.x\n0.5\n",
+        "1.0\n",
+        "pyver: invalid lines left out: 2\n",
+        0,
+    ),
+    ("filter|--invalid=skip|>=1", b"1.0\n0.5\n", "1.0\n", "", 0),
+    (
+        "filter|--invalid=keep|>=1",
+        b"x\n1.0\n1.x\n",
+        "1.0\n",
+        "",
+        0,
+    ),
+    (
+        "filter|-v|--invalid=keep|>=1",
+        b"x\n1.0\n0.5\n",
+        "0.5\n",
+        "",
+        0,
+    ),
+    (
+        "filter|--invalid=keep|--invalid|error|>=1",
+        b"1.0\nx\n",
+        "1.0\n",
+        "pyver: -: line 2: expected version to start with a number, but no leading ASCII digits were found\n",
+        2,
+    ),
+    (
+        "filter|--invalid|skpi|>=1",
+        b"",
+        "",
+        "pyver: no value of --invalid 'skpi'; did you mean 'skip'?\nTry 'pyver filter --help'.\n",
+        2,
+    ),
+    (
+        "filter|--invalid=|>=1",
+        b"",
+        "",
+        "pyver: no value of --invalid ''\nTry 'pyver filter --help'.\n",
+        2,
+    ),
+    (
+        "filter|--invalid",
+        b"",
+        "",
+        "pyver: usage: pyver filter [-v] [--pre | --no-pre] [--invalid HOW] SPECS\nTry 'pyver filter --help'.\n",
+        2,
+    ),
+    (
+        "filter|--invaild|skip|>=1",
+        b"",
+        "",
+        "pyver: no option '--invaild'; did you mean '--invalid'?\nTry 'pyver filter --help'.\n",
         2,
     ),
 ];
 
 // Whether standard error has a beginning of these messages, and then this one.
-fn ends_with(written: &[u8], errors: &str, message: &str) -> bool {
+pub(super) fn ends_with(written: &[u8], errors: &str, message: &str) -> bool {
     match written.strip_suffix(message.as_bytes()) {
         Some(front) => errors.as_bytes().starts_with(front),
         None => false,
@@ -112,7 +180,12 @@ fn ends_with(written: &[u8], errors: &str, message: &str) -> bool {
 }
 
 // Whether a run that reads a byte a call writes this, or a beginning of it and that memory is out.
-fn writes(alloc: Global, words: &[String], text: &[u8], wanted: (&str, &str, u8)) -> bool {
+pub(super) fn writes(
+    alloc: Global,
+    words: &[String],
+    text: &[u8],
+    wanted: (&str, &str, u8),
+) -> bool {
     let (output, errors, status) = wanted;
     let mut input = Trickle::new(text, After::End);
     let mut out = Sink::new(Manner::TakesAtMost(7));
@@ -127,6 +200,16 @@ fn writes(alloc: Global, words: &[String], text: &[u8], wanted: (&str, &str, u8)
 #[test]
 fn sweep_filtered_lines(rt: HostRuntime) -> Result<(), Fail> {
     for (line, text, output, errors, status) in FILTERED {
+        let words = split_words(rt.alloc(), line)?;
+        let holds = writes(rt.alloc(), words.as_slice(), text, (output, errors, status));
+        assert!(rt; holds, "{line} of {text:?}");
+    }
+    Ok(())
+}
+
+#[test]
+fn sweep_invalid_lines(rt: HostRuntime) -> Result<(), Fail> {
+    for (line, text, output, errors, status) in INVALID_LINES {
         let words = split_words(rt.alloc(), line)?;
         let holds = writes(rt.alloc(), words.as_slice(), text, (output, errors, status));
         assert!(rt; holds, "{line} of {text:?}");
@@ -213,6 +296,17 @@ fn sweep_stopped_filters(rt: HostRuntime) -> Result<(), Fail> {
     Ok(())
 }
 
+// 25 invalid lines and a version: with `skip` none is named, and all are counted.
+#[test]
+fn sweep_many_skipped_lines(rt: HostRuntime) -> Result<(), Fail> {
+    let words = split_words(rt.alloc(), "filter|--invalid=skip|")?;
+    let input = b"x\nx\nx\nx\nx\nx\nx\nx\nx\nx\nx\nx\nx\nx\nx\nx\nx\nx\nx\nx\nx\nx\nx\nx\n1.0\nx";
+    let wanted = ("1.0\n", "pyver: invalid lines left out: 25\n", 0);
+    let holds = writes(rt.alloc(), words.as_slice(), input, wanted);
+    assert!(rt; holds, "25 invalid lines");
+    Ok(())
+}
+
 // 25 invalid lines and a version: 20 lines are named, and that there are 5 more.
 #[test]
 fn sweep_many_invalid_lines(rt: HostRuntime) -> Result<(), Fail> {
@@ -226,7 +320,7 @@ fn sweep_many_invalid_lines(rt: HostRuntime) -> Result<(), Fail> {
     if status == 2 {
         let lines = err.as_slice().iter().filter(|byte| **byte == b'\n').count();
         assert!(rt; lines == 21, "20 lines and how many more");
-        let last = "\npyver: -: more invalid lines: 5\n".as_bytes();
+        let last = "\npyver: more invalid lines: 5\n".as_bytes();
         assert!(rt; err.as_slice().ends_with(last), "how many more");
         assert!(rt; out.bytes() == "1.0\n".as_bytes(), "the version");
     }

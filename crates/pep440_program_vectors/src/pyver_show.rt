@@ -34,31 +34,48 @@ const SHOWN: [(&str, &str, &str, u8); 19] = [
     (
         "show|--part|miner|1",
         "",
-        "pyver: no part 'miner'; did you mean 'minor'?\nTry 'pyver --help'.\n",
+        "pyver: no part 'miner'; did you mean 'minor'?\nTry 'pyver show --help'.\n",
         2,
     ),
     (
         "show|--josn|1",
         "",
-        "pyver: no option '--josn'; did you mean '--json'?\nTry 'pyver --help'.\n",
+        "pyver: no option '--josn'; did you mean '--json'?\nTry 'pyver show --help'.\n",
         2,
     ),
     (
         "show|--part",
         "",
-        "pyver: usage: pyver show [--part PART | --json] V..\nTry 'pyver --help'.\n",
+        "pyver: usage: pyver show [--part PART | --json] V..\nTry 'pyver show --help'.\n",
         2,
     ),
     (
         "show|--json|--",
         "",
-        "pyver: usage: pyver show [--part PART | --json] V..\nTry 'pyver --help'.\n",
+        "pyver: usage: pyver show [--part PART | --json] V..\nTry 'pyver show --help'.\n",
         2,
     ),
     (
         "shwo|1.0",
         "",
         "pyver: no command 'shwo'; did you mean 'show'?\nTry 'pyver --help'.\n",
+        2,
+    ),
+];
+
+// The same of names of parts in the word of the option.
+const JOINED: [(&str, &str, &str, u8); 3] = [
+    ("show|--part=dev|--part=minor|1.2.3", "2\n", "", 0),
+    (
+        "show|--part=|1",
+        "",
+        "pyver: no part ''\nTry 'pyver show --help'.\n",
+        2,
+    ),
+    (
+        "show|--part=miner|1",
+        "",
+        "pyver: no part 'miner'; did you mean 'minor'?\nTry 'pyver show --help'.\n",
         2,
     ),
 ];
@@ -94,6 +111,16 @@ fn writes(alloc: Global, words: &[String], output: &str, errors: &str, status: u
 #[test]
 fn sweep_shown_versions(rt: HostRuntime) -> Result<(), Fail> {
     for (line, output, errors, status) in SHOWN {
+        let words = split_words(rt.alloc(), line)?;
+        let holds = writes(rt.alloc(), words.as_slice(), output, errors, status);
+        assert!(rt; holds, "{line}");
+    }
+    Ok(())
+}
+
+#[test]
+fn sweep_joined_parts(rt: HostRuntime) -> Result<(), Fail> {
+    for (line, output, errors, status) in JOINED {
         let words = split_words(rt.alloc(), line)?;
         let holds = writes(rt.alloc(), words.as_slice(), output, errors, status);
         assert!(rt; holds, "{line}");

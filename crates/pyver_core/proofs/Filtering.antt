@@ -1,5 +1,5 @@
 -- Lines that are filtered one after another, and what is written of them.
-use Rattle.std.proofs.Common.{◌≡◌, ◌∙◌, ◌+◌, ◌-◌, ◌==◌, ℕ, zero, suc, List, [], ◌∷◌, ◌++◌, false, cond, not, Option, length, take, refl, sym, ap, subst, arith, append_assoc, append-nil, length-append, if◌then◌else◌}
+use Rattle.std.proofs.Common.{◌≡◌, ◌∙◌, ◌+◌, ◌-◌, ℕ, zero, suc, List, [], ◌∷◌, ◌++◌, false, cond, not, Option, length, take, refl, sym, ap, subst, arith, append_assoc, append-nil, length-append}
 use Rattle.std.proofs.KnownBytes.{Appends-nil, Appends-trans, Consumes-nil, Consumes-trans}
 use Rattle.std.proofs.lemmas.Grind.{flat_map-append}
 use Rattle.std.proofs.lemmas.List.Elements.{filter-append}
@@ -9,9 +9,10 @@ use Rattle.std.specs.Io.KnownBytes.{Appends, Consumes, IsAtEnd}
 use Rattle.std.specs.List.{AllZip, concat, filter, flat_map}
 use Rattle.pyver_core.proofs.InputLines.{all_append, cuts_all, cuts_more, no_newline_none, filled_lines_from-append, some_line}
 use Rattle.pyver_core.specs.FilterSteps.{Cuts, FilterFinishes, FilterStops, FinishesBy, Goes, Steps, StepsBy}
-use Rattle.pyver_core.specs.Filters.{IsRead, ReadLine, ReadsLine, fault_at, faults, filter_outcome, is_shown, printed_lines}
+use Rattle.pyver_core.specs.Filters.{filter_outcome, is_shown, printed_lines}
 use Rattle.pyver_core.specs.InputLines.{is_blank, input_lines, numbered, filled_lines_from}
-use Rattle.pyver_core.specs.Messages.{more_faults_message}
+use Rattle.pyver_core.specs.InvalidLines.{last_message, lines_status, most_named}
+use Rattle.pyver_core.specs.ReadLines.{IsRead, ReadLine, ReadsLine, fault_at, faults}
 use Rattle.pyver_core.specs.Readings.{Reading}
 use Rattle.pyver_core.specs.Runs.{WroteBeginning}
 use Rattle.pyver_core.specs.declared.filter.FilterRule.{FilterRule}
@@ -25,7 +26,7 @@ printed_lines-append rule xs ys =
     let print = λ (x : ReadLine). x.line.1 ++ 10 ∷ [] in
     ap (flat_map print) (filter-append test xs ys) ∙ flat_map-append print (filter test xs) (filter test ys)
 
-faults-append : (xs ys : List ReadLine) → faults (xs ++ ys) ≡ faults xs ++ faults ys
+pub faults-append : (xs ys : List ReadLine) → faults (xs ++ ys) ≡ faults xs ++ faults ys
 faults-append xs ys = flat_map-append (λ (x : ReadLine). fault_at x.line.0 x.reading) xs ys
 
 take-append : {X : Type 0} (n : ℕ) (xs ys : List X) → take n (xs ++ ys) ≡ take n xs ++ take (n - length xs) ys
@@ -33,12 +34,12 @@ take-append zero xs ys = let e : 0 ≡ 0 - length xs = omega arith in ap (λ m. 
 take-append (suc n) [] ys = let e : suc n ≡ suc n - 0 = omega arith in ap (λ m. take m ys) e
 take-append (suc n) (x ∷ xs) ys = let e : n - length xs ≡ suc n - suc (length xs) = omega arith in ap (λ l. x ∷ l) (take-append n xs ys ∙ ap (λ m. take n xs ++ take m ys) e)
 
-first-append : (n m : ℕ) (xs ys : List ReadLine) → m ≡ n - length (faults xs) → concat (take n (faults (xs ++ ys))) ≡ concat (take n (faults xs)) ++ concat (take m (faults ys))
+pub first-append : (n m : ℕ) (xs ys : List ReadLine) → m ≡ n - length (faults xs) → concat (take n (faults (xs ++ ys))) ≡ concat (take n (faults xs)) ++ concat (take m (faults ys))
 first-append n m xs ys e =
     ap (λ l. concat (take n l)) (faults-append xs ys) ∙ ap concat (take-append n (faults xs) (faults ys) ∙ ap (λ k. take n (faults xs) ++ take k (faults ys)) (sym e))
     ∙ concat-append (take n (faults xs)) (take m (faults ys))
 
-length-faults : (xs ys : List ReadLine) → length (faults (xs ++ ys)) ≡ length (faults xs) + length (faults ys)
+pub length-faults : (xs ys : List ReadLine) → length (faults (xs ++ ys)) ≡ length (faults xs) + length (faults ys)
 length-faults xs ys = ap length (faults-append xs ys) ∙ length-append (faults xs) (faults ys)
 
 -- ---- steps
@@ -50,7 +51,7 @@ steps_none rule a = record {
   line_count = omega arith;
   fault_count = omega arith;
   output = sym (append-nil a.output.items);
-  errors = sym (append-nil a.errors.items) ∙ ap (λ l. a.errors.items ++ concat l) (sym (take-nil (20 - a.fault_count)));
+  errors = sym (append-nil a.errors.items) ∙ ap (λ l. a.errors.items ++ concat l) (sym (take-nil (most_named rule.lines.invalid - a.fault_count)));
 }
 
 pub steps_more : (rule : FilterRule) (xs ys : List (List ℕ)) (a b c : FilterState) → Steps rule xs a b → Steps rule ys b c → Steps rule (xs ++ ys) a c
@@ -60,8 +61,8 @@ steps_more rule xs ys a b c k m = record {
   line_count = omega (arith, k.line_count, m.line_count, length-append xs ys);
   fault_count = omega (arith, k.fault_count, m.fault_count, length-faults k.found m.found);
   output = m.output ∙ ap (λ t. t ++ printed_lines rule m.found) k.output ∙ append_assoc a.output.items (printed_lines rule k.found) (printed_lines rule m.found) ∙ ap (λ t. a.output.items ++ t) (sym (printed_lines-append rule k.found m.found));
-  errors = m.errors ∙ ap (λ t. t ++ concat (take (20 - b.fault_count) (faults m.found))) k.errors ∙ append_assoc a.errors.items _ _
-      ∙ ap (λ t. a.errors.items ++ t) (sym (first-append (20 - a.fault_count) (20 - b.fault_count) k.found m.found (omega (arith, k.fault_count))));
+  errors = m.errors ∙ ap (λ t. t ++ concat (take (most_named rule.lines.invalid - b.fault_count) (faults m.found))) k.errors ∙ append_assoc a.errors.items _ _
+      ∙ ap (λ t. a.errors.items ++ t) (sym (first-append (most_named rule.lines.invalid - a.fault_count) (most_named rule.lines.invalid - b.fault_count) k.found m.found (omega (arith, k.fault_count))));
 }
 
 -- a line that is read
@@ -78,7 +79,7 @@ steps_line rule line a mid b text x is filled reads count fault output errors k 
       line_count = k.line_count ∙ count;
       fault_count = k.fault_count ∙ ap (λ m. m + length (faults (e ∷ []))) fault;
       output = k.output ∙ ap (λ t. t ++ printed_lines rule (e ∷ [])) output;
-      errors = k.errors ∙ ap (λ t. t ++ concat (take (20 - mid.fault_count) (faults (e ∷ [])))) errors ∙ ap (λ m. a.errors.items ++ concat (take (20 - m) (faults (e ∷ [])))) fault;
+      errors = k.errors ∙ ap (λ t. t ++ concat (take (most_named rule.lines.invalid - mid.fault_count) (faults (e ∷ [])))) errors ∙ ap (λ m. a.errors.items ++ concat (take (most_named rule.lines.invalid - m) (faults (e ∷ [])))) fault;
     }
 
 -- ---- what was written
@@ -109,7 +110,7 @@ module _ {R W E : Type 0} (remaining : R → Option (List ℕ)) (contents : W �
     line_count = count;
     fault_count = fault;
     output = Appends-nil (contents out);
-    errors = Appends-nil (error_contents err);
+    errors = subst (Appends (error_contents err) (error_contents err)) (ap concat (sym (take-nil (most_named rule.lines.invalid)))) (Appends-nil (error_contents err));
     no_output = output;
     no_errors = errors;
   }
@@ -122,10 +123,10 @@ module _ {R W E : Type 0} (remaining : R → Option (List ℕ)) (contents : W �
     printed_more texts g s = printed_lines-append rule g.found s.found ∙ ap (λ t. printed_lines rule g.found ++ t) (sym (s.output ∙ ap (λ t. t ++ printed_lines rule s.found) g.no_output))
 
     faults_more : (texts : List (List ℕ)) (g : Goes remaining contents error_contents rule reader reader' out out' err err' state line) (s : Steps rule texts state next)
-        → concat (take 20 (faults (g.found ++ s.found))) ≡ concat (take 20 (faults g.found)) ++ next.errors.items
+        → concat (take (most_named rule.lines.invalid) (faults (g.found ++ s.found))) ≡ concat (take (most_named rule.lines.invalid) (faults g.found)) ++ next.errors.items
     faults_more texts g s =
-        first-append 20 (20 - state.fault_count) g.found s.found (ap (λ n. 20 - n) g.fault_count)
-        ∙ ap (λ t. concat (take 20 (faults g.found)) ++ t) (sym (s.errors ∙ ap (λ t. t ++ concat (take (20 - state.fault_count) (faults s.found))) g.no_errors))
+        first-append (most_named rule.lines.invalid) (most_named rule.lines.invalid - state.fault_count) g.found s.found (ap (λ n. most_named rule.lines.invalid - n) g.fault_count)
+        ∙ ap (λ t. concat (take (most_named rule.lines.invalid) (faults g.found)) ++ t) (sym (s.errors ∙ ap (λ t. t ++ concat (take (most_named rule.lines.invalid - state.fault_count) (faults s.found))) g.no_errors))
 
     count_more : (texts : List (List ℕ)) (g : Goes remaining contents error_contents rule reader reader' out out' err err' state line) (s : Steps rule texts state next) → next.fault_count ≡ length (faults (g.found ++ s.found))
     count_more texts g s = omega (arith, s.fault_count, g.fault_count, length-faults g.found s.found)
@@ -146,7 +147,7 @@ module _ {R W E : Type 0} (remaining : R → Option (List ℕ)) (contents : W �
       fault_count = fault ∙ count_more texts g s;
       output = subst (Appends (contents out) (contents out'')) (sym (printed_more texts g s)) (Appends-trans (contents out) (contents out') (contents out'') (printed_lines rule g.found) next.output.items g.output output);
       errors = subst (Appends (error_contents err) (error_contents err'')) (sym (faults_more texts g s))
-          (Appends-trans (error_contents err) (error_contents err') (error_contents err'') (concat (take 20 (faults g.found))) next.errors.items g.errors errors);
+          (Appends-trans (error_contents err) (error_contents err') (error_contents err'') (concat (take (most_named rule.lines.invalid) (faults g.found))) next.errors.items g.errors errors);
       no_output = no_output;
       no_errors = no_errors;
     }
@@ -164,7 +165,7 @@ module _ {R W E : Type 0} (remaining : R → Option (List ℕ)) (contents : W �
       outcome = filter_outcome rule g.found;
       is = (g.found, g.are, refl);
       output = wrote_front _ _ (printed_lines rule g.found) [] _ g.output (sym (append-nil (printed_lines rule g.found)));
-      errors = wrote_front _ _ (concat (take 20 (faults g.found))) (more_faults_message (length (faults g.found) - 20)) _ g.errors refl;
+      errors = wrote_front _ _ (concat (take (most_named rule.lines.invalid) (faults g.found))) (last_message rule.lines.invalid (length (faults g.found))) _ g.errors refl;
     }
 
     -- a beginning was written of what their lines ask for
@@ -181,7 +182,7 @@ module _ {R W E : Type 0} (remaining : R → Option (List ℕ)) (contents : W �
       outcome = filter_outcome rule (g.found ++ s.found);
       is = (g.found ++ s.found, found_more texts g s, refl);
       output = began _ _ _ (printed_lines rule g.found) next.output.items [] _ g.output output (printed_more texts g s ∙ sym (append-nil (printed_lines rule g.found ++ next.output.items)));
-      errors = began _ _ _ (concat (take 20 (faults g.found))) next.errors.items (more_faults_message (length (faults (g.found ++ s.found)) - 20)) _ g.errors errors (ap (λ t. t ++ more_faults_message (length (faults (g.found ++ s.found)) - 20)) (faults_more texts g s));
+      errors = began _ _ _ (concat (take (most_named rule.lines.invalid) (faults g.found))) next.errors.items (last_message rule.lines.invalid (length (faults (g.found ++ s.found)))) _ g.errors errors (ap (λ t. t ++ last_message rule.lines.invalid (length (faults (g.found ++ s.found)))) (faults_more texts g s));
     }
 
   module _ (rule : FilterRule) (reader reader' reader'' : R) (out out' out'' : W) (err err' err'' : E) (state next : FilterState) (line : List ℕ) (status : ℕ) where
@@ -191,13 +192,13 @@ module _ {R W E : Type 0} (remaining : R → Option (List ℕ)) (contents : W �
         printed_more rule reader reader' reader'' out out' out'' err err' err'' state f.last line (line ∷ []) g f.step ∙ ap (λ t. printed_lines rule g.found ++ t) (sym f.output)
 
     last_errors : (g : Goes remaining contents error_contents rule reader reader' out out' err err' state line) (f : FinishesBy rule line state next status)
-        → concat (take 20 (faults (g.found ++ f.step.found))) ++ more_faults_message (length (faults (g.found ++ f.step.found)) - 20) ≡ concat (take 20 (faults g.found)) ++ next.errors.items
+        → concat (take (most_named rule.lines.invalid) (faults (g.found ++ f.step.found))) ++ last_message rule.lines.invalid (length (faults (g.found ++ f.step.found))) ≡ concat (take (most_named rule.lines.invalid) (faults g.found)) ++ next.errors.items
     last_errors g f =
-        let first = concat (take 20 (faults g.found)) in
-        ap (λ t. t ++ more_faults_message (length (faults (g.found ++ f.step.found)) - 20)) (faults_more rule reader reader' reader'' out out' out'' err err' err'' state f.last line (line ∷ []) g f.step)
+        let first = concat (take (most_named rule.lines.invalid) (faults g.found)) in
+        ap (λ t. t ++ last_message rule.lines.invalid (length (faults (g.found ++ f.step.found)))) (faults_more rule reader reader' reader'' out out' out'' err err' err'' state f.last line (line ∷ []) g f.step)
         ∙ append_assoc first f.last.errors.items _
         ∙ ap (λ t. first ++ t)
-        (ap (λ n. f.last.errors.items ++ more_faults_message (n - 20)) (sym (count_more rule reader reader' reader'' out out' out'' err err' err'' state f.last line (line ∷ []) g f.step)) ∙ sym f.errors)
+        (ap (λ n. f.last.errors.items ++ last_message rule.lines.invalid n) (sym (count_more rule reader reader' reader'' out out' out'' err err' err'' state f.last line (line ∷ []) g f.step)) ∙ sym f.errors)
 
     last_found : (g : Goes remaining contents error_contents rule reader reader' out out' err err' state line) (f : FinishesBy rule line state next status) → AllZip IsRead (filled_lines_from 1 (g.ended ++ line ∷ [])) (g.found ++ f.step.found)
     last_found g f = found_more rule reader reader' reader'' out out' out'' err err' err'' state f.last line (line ∷ []) g f.step
@@ -218,8 +219,8 @@ module _ {R W E : Type 0} (remaining : R → Option (List ℕ)) (contents : W �
       );
       output = subst (Appends (contents out) (contents out'')) (sym (last_output g f)) (Appends-trans (contents out) (contents out') (contents out'') (printed_lines rule g.found) next.output.items g.output output);
       errors = subst (Appends (error_contents err) (error_contents err'')) (sym (last_errors g f))
-          (Appends-trans (error_contents err) (error_contents err') (error_contents err'') (concat (take 20 (faults g.found))) next.errors.items g.errors errors);
-      ended = f.ended ∙ ap (λ n. if n == 0 then 0 else 2) (count_more rule reader reader' reader'' out out' out'' err err' err'' state f.last line (line ∷ []) g f.step);
+          (Appends-trans (error_contents err) (error_contents err') (error_contents err'') (concat (take (most_named rule.lines.invalid) (faults g.found))) next.errors.items g.errors errors);
+      ended = f.ended ∙ ap (lines_status rule.lines.invalid) (count_more rule reader reader' reader'' out out' out'' err err' err'' state f.last line (line ∷ []) g f.step);
     }
 
     -- the input ended, and a beginning was written
@@ -236,5 +237,5 @@ module _ {R W E : Type 0} (remaining : R → Option (List ℕ)) (contents : W �
       outcome = filter_outcome rule (g.found ++ f.step.found);
       is = (g.found ++ f.step.found, last_found g f, refl);
       output = began _ _ _ (printed_lines rule g.found) next.output.items [] _ g.output output (last_output g f ∙ sym (append-nil (printed_lines rule g.found ++ next.output.items)));
-      errors = began _ _ _ (concat (take 20 (faults g.found))) next.errors.items [] _ g.errors errors (last_errors g f ∙ sym (append-nil (concat (take 20 (faults g.found)) ++ next.errors.items)));
+      errors = began _ _ _ (concat (take (most_named rule.lines.invalid) (faults g.found))) next.errors.items [] _ g.errors errors (last_errors g f ∙ sym (append-nil (concat (take (most_named rule.lines.invalid) (faults g.found)) ++ next.errors.items)));
     }

@@ -1,7 +1,7 @@
 -- Lines of a text that grows byte by byte, and lines with their numbers.
-use Rattle.std.proofs.Common.{◌≡◌, ◌∙◌, ◌+◌, ◌==◌, ◌<◌, ℕ, List, [], ◌∷◌, ◌++◌, false, not, length, take, map, get_or, refl, sym, ap, subst, arith, append_assoc, append-nil}
+use Rattle.std.proofs.Common.{◌≡◌, ◌∙◌, ◌+◌, ◌==◌, ◌<◌, ℕ, List, [], ◌∷◌, ◌++◌, false, not, length, take, map, get_or, refl, sym, ap, subst, arith, append_assoc, append-nil, drop, take-append-drop}
 use Rattle.std.specs.List.{AllZip, enumerate_from, filter}
-use Rattle.std.proofs.lemmas.List.{map-append, take_more}
+use Rattle.std.proofs.lemmas.List.{drop_more, map-append, take_more}
 use Rattle.std.proofs.lemmas.List.Elements.{All-nil, All-push, filter-append}
 use Rattle.std.proofs.lemmas.List.Splits.{length-slice_split, slice_split_at, slice_split_none}
 use Rattle.pyver_core.specs.FilterSteps.{Cuts, HasNoNewline}
@@ -58,6 +58,13 @@ pub bytes_other : (line bytes : List ℕ) (i b : ℕ) (ended : List (List ℕ)) 
     → Cuts (line ++ take (i + 1) bytes) ended next
 bytes_other line bytes i b ended begun next inside is other k more =
     subst (λ t. Cuts t ended next) (taken line bytes i b inside is) (subst (λ n. Cuts ((line ++ take i bytes) ++ b ∷ []) ended n) (sym more) (cuts_byte (line ++ take i bytes) ended begun b other k))
+
+-- the first line ends at the first newline
+pub first_line : (text : List ℕ) (i : ℕ) → i < length text → get_or text i 0 ≡ 10 → HasNoNewline (take i text) → input_lines text ≡ take i text ∷ input_lines (drop (i + 1) text)
+first_line text i inside newline before =
+    let parts : text ≡ take i text ++ 10 ∷ drop (i + 1) text =
+    sym (take-append-drop i text) ∙ ap (λ (zs : List ℕ). take i text ++ zs) (drop_more text i 0 inside ∙ ap (λ (z : ℕ). z ∷ drop (i + 1) text) newline) in
+    ap input_lines parts ∙ slice_split_at (λ x. x == 10) (take i text) 10 (drop (i + 1) text) before refl
 
 -- ---- lines with their numbers
 

@@ -2,7 +2,16 @@ pub mod Told
 pub mod InTurn
 pub mod InputLines
 pub mod Filtering
+pub mod Keeping
+pub mod Sorting
+pub mod Whole
 pub mod Bytes
 pub mod Appended
 pub mod OneOutcome
 pub mod RunEnds
+pub mod Starts
+pub mod FilterWords
+pub mod Bumping
+pub mod Digits
+pub mod Releases
+pub mod BumpWords

@@ -1,5 +1,5 @@
 -- There is at most one outcome of what is asked for.
-use Rattle.std.proofs.Common.{◌≡◌, ◌∙◌, ℕ, List, [], ◌∷◌, Bool, inl, inr, refl, sym, ap, subst}
+use Rattle.std.proofs.Common.{◌≡◌, ◌∙◌, ℕ, List, [], ◌∷◌, Bool, Option, inl, inr, refl, sym, ap, subst, arith}
 use Rattle.std.specs.List.{AllZip}
 use Rattle.pep440_rs.proofs.Reading.OneMeaning.{not_both_list, one_list, one_list_refusal}
 use Rattle.pep440_rs.specs.ListErrorTexts.{list_refusal_text}
@@ -8,20 +8,27 @@ use Rattle.pep440_rs.specs.Specifiers.{Spec}
 use Rattle.pep440_version.proofs.Reading.Agreement.{one_record}
 use Rattle.pep440_version.proofs.Refusals.ExactlyOne.{not_both, one_refusal}
 use Rattle.pep440_version.specs.ErrorTexts.{refusal_text}
+use Rattle.pyver_core.specs.Bumps.{Bumps, bump_outcome}
+use Rattle.pyver_core.proofs.Sorting.{one_sorted}
 use Rattle.pyver_core.specs.Comparisons.{Compares, comparison_outcome}
-use Rattle.pyver_core.specs.Filters.{Filters, FiltersBy, FiltersLines, IsRead, ReadLine, ReadsLine, filter_outcome, rule_of}
+use Rattle.pyver_core.specs.Filters.{Filters, FiltersBy, FiltersLines, filter_outcome, rule_of}
 use Rattle.pyver_core.specs.InputLines.{filled_lines_from}
 use Rattle.pyver_core.specs.Matches.{Matches, MatchesBy, MatchesWord, MatchesWords, ReadsSpecifiers, SpecifiersReading, DenotesList, ListFails, word_outcome}
 use Rattle.pyver_core.specs.OneOutcome.{OutcomesOnce}
 use Rattle.pyver_core.specs.Outcomes.{Outcome, in_turn}
+use Rattle.pyver_core.specs.ReadLines.{IsRead, ReadLine, ReadsLine}
 use Rattle.pyver_core.specs.Readings.{Reading, Reads, Denotes, Fails}
 use Rattle.pyver_core.specs.Shows.{Shows, ShowsWord, show_outcome}
-use Rattle.pyver_core.specs.Tasks.{Help, NameVersion, Compare, Match, Filter, Show, Misused}
+use Rattle.pyver_core.specs.Sorts.{SortsVersions, sort_outcome}
+use Rattle.pyver_core.specs.Tasks.{Help, NameVersion, Compare, Match, Filter, Sort, Show, Bump, Misused}
+use Rattle.pyver_core.specs.VersionLines.{OfFound, OfVersions, VersionLine, version_lines}
 use Rattle.pyver_core.specs.declared.allowed.MatchOptions.{MatchOptions}
+use Rattle.pyver_core.specs.declared.bump.BumpPart.{BumpPart}
 use Rattle.pyver_core.specs.declared.comparison.Comparison.{Comparison}
 use Rattle.pyver_core.specs.declared.filter.FilterOptions.{FilterOptions}
 use Rattle.pyver_core.specs.declared.filter.FilterRule.{FilterRule}
 use Rattle.pyver_core.specs.declared.show.ShowFormat.{ShowFormat}
+use Rattle.pyver_core.specs.declared.sort.SortOptions.{SortOptions}
 
 reading_once : (text : List ℕ) (x y : Reading) → Reads text x → Reads text y → x ≡ y
 reading_once text (Denotes r) (Denotes q) h k = ap Denotes (one_record text r q h k)
@@ -85,11 +92,28 @@ filter_by_once options (ListFails message) texts a b h k = h ∙ sym k
 filter_once : (options : FilterOptions) (specifiers : List ℕ) (texts : List (List ℕ)) (a b : Outcome) → FiltersLines options specifiers texts a → FiltersLines options specifiers texts b → a ≡ b
 filter_once options specifiers texts a b (x, hx, h) (u, hu, k) = filter_by_once options x texts a b h (subst (λ (z : SpecifiersReading). FiltersBy options z texts b) (sym (specifiers_once specifiers x u hx hu)) k)
 
+-- what is written of the lines where none is invalid is one outcome, and so is what is written of any
+of_found_once : (Gives : List VersionLine → Outcome → Type 0) → ((lines : List VersionLine) (a b : Outcome) → Gives lines a → Gives lines b → a ≡ b) → (found : List ReadLine) (a b : Outcome) → OfFound Gives found a → OfFound Gives found b → a ≡ b
+of_found_once Gives once found a b (inl (none, h)) (inl (also, k)) = once (version_lines found) a b h k
+of_found_once Gives once found a b (inl (none, h)) (inr (some, k)) = absurd (omega (arith, none, some))
+of_found_once Gives once found a b (inr (some, h)) (inl (none, k)) = absurd (omega (arith, none, some))
+of_found_once Gives once found a b (inr (some, is)) (inr (also, so)) = is ∙ sym so
+
+of_versions_once : (Gives : List VersionLine → Outcome → Type 0) → ((lines : List VersionLine) (a b : Outcome) → Gives lines a → Gives lines b → a ≡ b) → (texts : List (List ℕ)) (a b : Outcome) → OfVersions Gives texts a → OfVersions Gives texts b → a ≡ b
+of_versions_once Gives once texts a b (es, h, is) (fs, k, so) =
+    of_found_once Gives once es a b is (subst (λ (l : List ReadLine). OfFound Gives l b) (sym (all_once IsRead is_read_once (filled_lines_from 1 texts) es fs h k)) so)
+
+sort_once : (options : SortOptions) (lines : List VersionLine) (a b : Outcome) → SortsVersions options lines a → SortsVersions options lines b → a ≡ b
+sort_once options lines a b (xs, h, is) (ys, k, so) = is ∙ ap (sort_outcome options) (one_sorted options.reversed lines xs ys h k) ∙ sym so
+
 show_word_once : (format : ShowFormat) (word : List ℕ) (a b : Outcome) → ShowsWord format word a → ShowsWord format word b → a ≡ b
 show_word_once format word a b (x, hx, is) (u, hu, so) = is ∙ ap (show_outcome format word) (reading_once word x u hx hu) ∙ sym so
 
 show_once : (format : ShowFormat) (words : List (List ℕ)) (a b : Outcome) → Shows format words a → Shows format words b → a ≡ b
 show_once format words a b (os, h, is) (ps, k, so) = is ∙ ap in_turn (all_once (ShowsWord format) (show_word_once format) words os ps h k) ∙ sym so
+
+bump_once : (to : Option ℕ) (parts : List BumpPart) (word : List ℕ) (a b : Outcome) → Bumps to parts word a → Bumps to parts word b → a ≡ b
+bump_once to parts word a b (x, hx, is) (u, hu, so) = is ∙ ap (bump_outcome to parts word) (reading_once word x u hx hu) ∙ sym so
 
 pub outcomes_once : OutcomesOnce
 outcomes_once (Help topic) texts a b h k = h ∙ sym k
@@ -97,5 +121,7 @@ outcomes_once NameVersion texts a b h k = h ∙ sym k
 outcomes_once (Compare left operator right) texts a b h k = compare_once left operator right a b h k
 outcomes_once (Match options specifiers words) texts a b h k = match_once options specifiers words a b h k
 outcomes_once (Filter options specifiers) texts a b h k = filter_once options specifiers texts a b h k
+outcomes_once (Sort options) texts a b h k = of_versions_once (SortsVersions options) (sort_once options) texts a b h k
 outcomes_once (Show format words) texts a b h k = show_once format words a b h k
+outcomes_once (Bump to parts word) texts a b h k = bump_once to parts word a b h k
 outcomes_once (Misused message) texts a b h k = h ∙ sym k

@@ -1,15 +1,23 @@
 -- How runs end, by what they wrote.
 use Rattle.std.proofs.Common.{◌≡◌, ◌⊎◌, ◌∙◌, ◌≤◌, ◌==◌, ℕ, List, [], ◌++◌, Bool, true, false, Option, cond, inl, inr, length, refl, sym, ap, subst, arith, append_assoc}
 use Rattle.std.proofs.KnownBytes.{Appends-nil, Appends-trans, Consumes-nil}
-use Rattle.std.specs.Io.KnownBytes.{Appends, Consumes}
+use Rattle.std.specs.Io.KnownBytes.{Appends, Consumes, IsAtEnd}
+use Rattle.pyver_core.proofs.Sorting.{none_sorted}
 use Rattle.pyver_core.specs.FilterSteps.{FilterFinishes, FilterStops}
-use Rattle.pyver_core.specs.Filters.{Filters, faults, filter_outcome, rule_of}
+use Rattle.pyver_core.specs.Filters.{Filters, filter_outcome, rule_of}
 use Rattle.pyver_core.specs.InputLines.{input_lines}
+use Rattle.pyver_core.specs.InvalidLines.{lines_status}
 use Rattle.pyver_core.specs.Matches.{DenotesList}
 use Rattle.pyver_core.specs.Outcomes.{Outcome}
+use Rattle.pyver_core.specs.ReadLines.{faults}
 use Rattle.pyver_core.specs.Runs.{Ends, IsLast, WritesAnswer, WroteBeginning, memory_message}
-use Rattle.pyver_core.specs.Tasks.{Compare, Filter, Help, IsOutcome, Match, Misused, NameVersion, NeedsInput, Show, Task, task_of}
+use Rattle.pyver_core.specs.Sorts.{sort_outcome}
+use Rattle.pyver_core.specs.Tasks.{Bump, Compare, Filter, Help, IsOutcome, IsStream, Match, Misused, NameVersion, NeedsInput, Show, Sort, Task, task_of}
+use Rattle.pyver_core.specs.WholeInputs.{AnswersInput, WholeStops}
 use Rattle.pyver_core.specs.declared.filter.FilterRule.{FilterRule}
+use Rattle.pyver_core.specs.declared.invalid_lines.InvalidLines.{InvalidLines}
+use Rattle.pyver_core.specs.declared.invalid_lines.InvalidLines.TheVariants as invalid
+use Rattle.pyver_core.specs.declared.whole_input.Question.{Question}
 
 -- before a line is read there is an outcome
 first_outcome : (task : Task) → NeedsInput task → (o : Outcome) × IsOutcome task [] o
@@ -18,15 +26,22 @@ first_outcome NameVersion n = absurd n
 first_outcome (Compare left operator right) n = absurd n
 first_outcome (Match options specifiers words) n = absurd n
 first_outcome (Filter options specifiers) n = (filter_outcome (rule_of options n.0) [], (DenotesList n.0, n.1, ([], tt, refl)))
+first_outcome (Sort options) n = (sort_outcome options [], ([], tt, inl (refl, ([], none_sorted options.reversed, refl))))
 first_outcome (Show asked words) n = absurd n
+first_outcome (Bump to parts word) n = absurd n
 first_outcome (Misused message) n = absurd n
 
 zero_or_two : (b : Bool) → cond b 0 2 ≤ 2
 zero_or_two true = omega arith
 zero_or_two false = omega arith
 
+low_status : (lines : InvalidLines) (count : ℕ) → lines_status lines count ≤ 2
+low_status invalid.Error count = zero_or_two (count == 0)
+low_status invalid.Skip count = omega arith
+low_status invalid.Keep count = omega arith
+
 filtered_status : (rule : FilterRule) (texts : List (List ℕ)) (o : Outcome) → Filters rule texts o → o.status ≤ 2
-filtered_status rule texts o k = subst (λ (x : Outcome). x.status ≤ 2) (sym k.2) (zero_or_two (length (faults k.0) == 0))
+filtered_status rule texts o k = subst (λ (x : Outcome). x.status ≤ 2) (sym k.2) (low_status rule.lines.invalid (length (faults k.0)))
 
 not_low : (status : ℕ) (message : List ℕ) → IsLast status message → status ≤ 2 → ⊥
 not_low status message (inl h) low = absurd (omega (arith, h.0))
@@ -98,11 +113,56 @@ module _ {R W E : Type 0} (remaining : R → Option (List ℕ)) (contents : W �
         failed = λ needless _. absurd (needless needs);
       }
 
+  -- what was read and written before the last message
+  pub record Began (told : E) : Type 0 where
+    pub read : List ℕ
+    pub consumed : Consumes (remaining reader) (remaining reader') read
+    pub front : List (List ℕ)
+    pub rest : List (List ℕ)
+    pub split : input_lines read ≡ front ++ rest
+    pub whole : rest ≡ [] → IsAtEnd (remaining reader')
+    pub silent : ¬ IsStream (task_of words) → ¬ (rest ≡ []) → front ≡ []
+    pub outcome : Outcome
+    pub is : IsOutcome (task_of words) front outcome
+    pub output : WroteBeginning (contents out) (contents out') outcome.output
+    pub errors : WroteBeginning (error_contents err) (error_contents told) outcome.errors
+
+  pub filter_began : (rule : FilterRule) (told : E) → IsStream (task_of words) → ((texts : List (List ℕ)) (o : Outcome) → Filters rule texts o → IsOutcome (task_of words) texts o)
+      → FilterStops remaining contents error_contents rule reader reader' out out' err told → Began told
+  filter_began rule told stream is k = record {
+    read = k.read;
+    consumed = k.consumed;
+    front = k.front;
+    rest = k.rest;
+    split = k.split;
+    whole = k.whole;
+    silent = λ no_stream _. absurd (no_stream stream);
+    outcome = k.outcome;
+    is = is k.front k.outcome k.is;
+    output = k.output;
+    errors = k.errors;
+  }
+
+  pub whole_began : (asked : Question) (told : E) → ((texts : List (List ℕ)) (o : Outcome) → AnswersInput asked texts o → IsOutcome (task_of words) texts o)
+      → WholeStops remaining contents error_contents asked reader reader' out out' err told → Began told
+  whole_began asked told is k = record {
+    read = k.read;
+    consumed = k.consumed;
+    front = k.front;
+    rest = k.rest;
+    split = k.split;
+    whole = k.whole;
+    silent = λ _. k.silent;
+    outcome = k.outcome;
+    is = is k.front k.outcome k.is;
+    output = k.output;
+    errors = k.errors;
+  }
+
   -- a run stopped, and then the last message was written
-  pub ends_by_stop : (rule : FilterRule) (told : E) (message : List ℕ) → NeedsInput (task_of words) → ((texts : List (List ℕ)) (o : Outcome) → Filters rule texts o → IsOutcome (task_of words) texts o)
-      → FilterStops remaining contents error_contents rule reader reader' out out' err told → IsLast status message → WroteBeginning (error_contents told) (error_contents err') message
+  pub ends_by_stop : (told : E) (message : List ℕ) → NeedsInput (task_of words) → Began told → IsLast status message → WroteBeginning (error_contents told) (error_contents err') message
       → Ends remaining contents error_contents words reader reader' out out' err err' status
-  ends_by_stop rule told message needs is k last wrote = record {
+  ends_by_stop told message needs k last wrote = record {
     known = last_known status message last;
     unread = λ needless. absurd (needless needs);
     finished = λ low. absurd (not_low status message last low);
@@ -113,8 +173,9 @@ module _ {R W E : Type 0} (remaining : R → Option (List ℕ)) (contents : W �
       rest = k.rest;
       split = k.split;
       whole = k.whole;
+      silent = k.silent;
       outcome = k.outcome;
-      is = is k.front k.outcome k.is;
+      is = k.is;
       output = k.output;
       told = k.errors.written;
       untold = k.errors.left;
@@ -140,6 +201,7 @@ module _ {R W E : Type 0} (remaining : R → Option (List ℕ)) (contents : W �
       rest = input_lines [];
       split = refl;
       whole = λ none. absurd (omega (arith, ap length none));
+      silent = λ _ _. refl;
       outcome = o.0;
       is = o.1;
       output = record { written = []; left = o.0.output; wrote = subst (λ w. Appends (contents out) (contents w) []) (sym kept) (Appends-nil (contents out)); whole = refl };

@@ -1,4 +1,4 @@
--- `compare A OP B`: whether A stands so to B.
+-- `compare A OP B`: whether the comparison OP holds of A and B.
 use Rattle.std.specs.Prelude.{◌≡◌, ℕ, List, [], ◌∷◌, Bool, not, codes, bytes_eq, Option, Some, None, if◌then◌else◌}
 use Rattle.std.specs.Ordering.{is_eq, is_ge, is_gt, is_le, is_lt}
 use Rattle.std.specs.declared.cmp.Ordering.{Ordering}
@@ -25,7 +25,7 @@ comparison_of word =
     else if bytes_eq word (codes ">") then Some comparison.Greater
     else None
 
--- it holds of two versions in this order
+-- the comparison holds of two versions in this order
 abbrev pub holds : Comparison → Ordering → Bool
 holds comparison.Less o = is_lt o
 holds comparison.LessOrEqual o = is_le o
@@ -34,11 +34,12 @@ holds comparison.NotEqual o = not (is_eq o)
 holds comparison.GreaterOrEqual o = is_ge o
 holds comparison.Greater o = is_gt o
 
--- the status 0 or 1, or what is wrong with the words that are no versions
+-- status 0 or 1, or the errors of the words that are no versions
 abbrev pub comparison_outcome : List ℕ → Reading → Comparison → List ℕ → Reading → Outcome
 comparison_outcome left (Denotes r) operator right (Denotes s) = silent (if holds operator (record_cmp r s) then 0 else 1)
 comparison_outcome left (Denotes r) operator right (Fails reason) = in_turn (reading_fault left (Denotes r) ∷ (reading_fault right (Fails reason) ∷ []))
 comparison_outcome left (Fails reason) operator right reading = in_turn (reading_fault left (Fails reason) ∷ (reading_fault right reading ∷ []))
 
+-- the outcome of `compare` for the two words and the comparison
 abbrev pub Compares : List ℕ → Comparison → List ℕ → Outcome → Type 0
 Compares left operator right o = (x : Reading) × (y : Reading) × Reads left x × Reads right y × (o ≡ comparison_outcome left x operator right y)

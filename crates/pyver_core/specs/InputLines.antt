@@ -8,19 +8,19 @@ use Rattle.std.specs.Str.Lines.{strip_carriage_return}
 abbrev pub input_lines : List ℕ → List (List ℕ)
 input_lines input = slice_split (λ b. b == 10) input
 
--- without a byte order mark at the start
+-- the bytes without a byte order mark at the start
 abbrev pub without_mark : List ℕ → List ℕ
 without_mark (a ∷ b ∷ c ∷ rest) = if (a == 239) && ((b == 187) && (c == 191)) then rest else a ∷ (b ∷ (c ∷ rest))
 without_mark line = line
 
--- a line and its number: the first has no byte order mark, and none a carriage return at its end
+-- a line with its number, without a carriage return at its end, and the first without a byte order mark
 abbrev pub numbered : ℕ × List ℕ → ℕ × List ℕ
 numbered line = (line.0, strip_carriage_return (if line.0 == 1 then without_mark line.1 else line.1))
 
--- tab, form feed, carriage return and space alone, or nothing
+-- an empty line, or one of tabs, form feeds, carriage returns and spaces alone
 abbrev pub is_blank : List ℕ → Bool
 is_blank text = list_all is_ascii_whitespace text
 
--- the lines that are not blank, with their numbers, of which the first is this
+-- the lines that are not blank, each with its number, counted from this number
 abbrev pub filled_lines_from : ℕ → List (List ℕ) → List (ℕ × List ℕ)
 filled_lines_from first texts = filter (λ (line : ℕ × List ℕ). not (is_blank line.1)) (map numbered (enumerate_from first texts))

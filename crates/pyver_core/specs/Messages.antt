@@ -4,31 +4,39 @@ use Rattle.std.specs.Fmt.{decimal}
 use Rattle.pyver_core.specs.Escapes.{escaped}
 use Rattle.pyver_core.specs.Nearest.{nearest}
 
--- why a word is not what it has to be: the word and the reason
+-- the message of an invalid word: the word and the reason
 abbrev pub fault_message : List ℕ → List ℕ → List ℕ
 fault_message word reason = codes "pyver: '" ++ (escaped word ++ (codes "': " ++ (escaped reason ++ codes "\n")))
 
--- why a line of standard input is no version
+-- the message of a line that is no version
 abbrev pub line_fault_message : ℕ → List ℕ → List ℕ
 line_fault_message number reason = codes "pyver: -: line " ++ (decimal number ++ (codes ": " ++ (escaped reason ++ codes "\n")))
 
--- how many more invalid lines there are
-abbrev pub more_faults_message : ℕ → List ℕ
-more_faults_message count = if count == 0 then [] else codes "pyver: -: more invalid lines: " ++ (decimal count ++ codes "\n")
+-- the message of a number of lines; nothing if there are none
+abbrev pub count_message : List ℕ → ℕ → List ℕ
+count_message start count = if count == 0 then [] else start ++ (decimal count ++ codes "\n")
 
--- the right word that is nearest, where one is near
+-- the message of how many more invalid lines there are
+abbrev pub more_faults_message : ℕ → List ℕ
+more_faults_message count = count_message (codes "pyver: more invalid lines: ") count
+
+-- the message of how many invalid lines were left out
+abbrev pub left_out_message : ℕ → List ℕ
+left_out_message count = count_message (codes "pyver: invalid lines left out: ") count
+
+-- the suggestion of the nearest right word, if one is near
 abbrev pub hint : Option (List ℕ) → List ℕ
 hint None = []
 hint (Some name) = codes "; did you mean '" ++ (name ++ codes "'?")
 
--- the end of a line, and how help is found
-abbrev pub help_hint : List ℕ
-help_hint = codes "\nTry 'pyver --help'.\n"
+-- the end of the line, and the line that names the words for help
+abbrev pub help_hint : List ℕ → List ℕ
+help_hint help = codes "\nTry '" ++ (help ++ codes "'.\n")
 
--- there is nothing of this kind that the word names
-abbrev pub unknown_message : List ℕ → List ℕ → List (List ℕ) → List ℕ
-unknown_message kind word names = codes "pyver: no " ++ (kind ++ (codes " '" ++ (escaped word ++ (codes "'" ++ (hint (nearest word names) ++ help_hint)))))
+-- the message of a word that names nothing of this kind, with a suggestion
+abbrev pub unknown_message : List ℕ → List ℕ → List (List ℕ) → List ℕ → List ℕ
+unknown_message kind word names help = codes "pyver: no " ++ (kind ++ (codes " '" ++ (escaped word ++ (codes "'" ++ (hint (nearest word names) ++ help_hint help)))))
 
--- the words of a command are too few or too many
-abbrev pub usage_message : List ℕ → List ℕ
-usage_message usage = codes "pyver: usage: " ++ (usage ++ help_hint)
+-- the message of too few or too many words
+abbrev pub usage_message : List ℕ → List ℕ → List ℕ
+usage_message usage help = codes "pyver: usage: " ++ (usage ++ help_hint help)

@@ -3,26 +3,28 @@ use Rattle.std.specs.Prelude.{ℕ, List, [], ◌++◌, max}
 use Rattle.std.specs.List.{fold}
 use Rattle.pyver_core.specs.Messages.{fault_message}
 
+-- the bytes of standard output and of standard error, and the status
 pub record Outcome : Type 0 where
   pub output : List ℕ
   pub errors : List ℕ
   pub status : ℕ
 
+-- no bytes, and status 0
 abbrev pub no_outcome : Outcome
 no_outcome = record { output = []; errors = []; status = 0 }
 
--- nothing is written
+-- a status alone, without bytes
 abbrev pub silent : ℕ → Outcome
 silent status = record { output = []; errors = []; status = status }
 
--- a word or a line is invalid
+-- the outcome of an invalid word or line: its message and status 2
 abbrev pub fault : List ℕ → List ℕ → Outcome
 fault word reason = record { output = []; errors = fault_message word reason; status = 2 }
 
--- first the one, then the other; the greater status
+-- both outputs one after the other, and the greater status
 abbrev pub followed_by : Outcome → Outcome → Outcome
 followed_by a b = record { output = a.output ++ b.output; errors = a.errors ++ b.errors; status = max a.status b.status }
 
--- one after another
+-- the outcomes one after another
 abbrev pub in_turn : List Outcome → Outcome
 in_turn outcomes = fold followed_by no_outcome outcomes

@@ -23,11 +23,12 @@ part_of word =
     else if bytes_eq word (codes "base") then Some part.Base
     else None
 
+-- the number in decimal, or nothing if absent
 abbrev pub number_text : Option ℕ → List ℕ
 number_text number = option_map_or decimal number []
 
--- Numbers of the release that are not written are 0, as 1.0 is 1.0.0. The public version is all but the local part; the
--- base version is epoch and release (PEP 440, "Public version identifiers" and "Local version identifiers").
+-- the part as it is printed. Absent numbers of the release are 0, as 1.0 is 1.0.0; the public version is all but the local
+-- part, and the base version is epoch and release (PEP 440, "Public version identifiers" and "Local version identifiers").
 abbrev pub part_text : VersionPart → Record → List ℕ
 part_text part.Epoch r = decimal r.epoch
 part_text part.Release r = print (from_release r.release)

@@ -1,45 +1,48 @@
--- How a run of the program may end.
+-- How a run of the program may end. `remaining` are the bytes that the reader has left, `contents` and `error_contents` those
+-- that the writers hold.
 use Rattle.std.specs.Prelude.{◌≡◌, ◌⊎◌, ◌≤◌, ℕ, List, [], ◌++◌, Option, codes}
 use Rattle.std.specs.Io.KnownBytes.{Appends, Consumes, IsAtEnd}
 use Rattle.pyver_core.specs.InputLines.{input_lines}
 use Rattle.pyver_core.specs.Outcomes.{Outcome}
-use Rattle.pyver_core.specs.Tasks.{IsOutcome, NeedsInput, task_of}
+use Rattle.pyver_core.specs.Tasks.{IsOutcome, IsStream, NeedsInput, task_of}
 
--- a beginning of `all` was written, which may be nothing or the whole
+-- a prefix of `all` was written, which may be empty or the whole
 pub record WroteBeginning (old new : Option (List ℕ)) (all : List ℕ) : Type 0 where
   pub written : List ℕ
   pub left : List ℕ
   pub wrote : Appends old new written
   pub whole : all ≡ written ++ left
 
+-- the message that memory ran out
 abbrev pub memory_message : List ℕ
 memory_message = codes "pyver: out of memory\n"
 
+-- the message that a read failed
 abbrev pub read_message : List ℕ
 read_message = codes "pyver: a read failed\n"
 
+-- the message that a write failed
 abbrev pub write_message : List ℕ
 write_message = codes "pyver: a write failed\n"
 
--- the last message by the status, where a run stopped before its end: nothing where standard error failed or nobody reads
+-- the last message of a run that stopped early, by its status; none if standard error failed or nobody reads
 abbrev pub IsLast : ℕ → List ℕ → Type 0
 IsLast status message = ((status ≡ 3) × (message ≡ memory_message))
     ⊎ ((status ≡ 4) × ((message ≡ read_message) ⊎ ((message ≡ write_message) ⊎ (message ≡ []))))
     ⊎ ((status ≡ 141) × (message ≡ []))
 
--- What a run does with its writers. `contents` and `error_contents` are the bytes that each holds.
 module _ {W E : Type 0} (contents : W → Option (List ℕ)) (error_contents : E → Option (List ℕ)) where
-  -- standard output took a beginning, and then standard error one of the message or nothing
+  -- a write to standard output failed: a prefix of the output was written, and then nothing or a prefix of the message
   pub record IsCutOutput (outcome : Outcome) (out out' : W) (err err' : E) : Type 0 where
     pub output : WroteBeginning (contents out) (contents out') outcome.output
     pub errors : WroteBeginning (error_contents err) (error_contents err') write_message
 
-  -- standard error took a beginning, after the whole output
+  -- the whole output was written, and then a prefix of the errors
   pub record IsCutErrors (outcome : Outcome) (out out' : W) (err err' : E) : Type 0 where
     pub output : Appends (contents out) (contents out') outcome.output
     pub errors : WroteBeginning (error_contents err) (error_contents err') outcome.errors
 
-  -- all was written, and the status is that of the outcome
+  -- everything was written, and the status is that of the outcome
   pub record IsWritten (outcome : Outcome) (out out' : W) (err err' : E) (status : ℕ) : Type 0 where
     pub output : Appends (contents out) (contents out') outcome.output
     pub errors : Appends (error_contents err) (error_contents err') outcome.errors
@@ -50,9 +53,8 @@ module _ {W E : Type 0} (contents : W → Option (List ℕ)) (error_contents : E
   WritesAnswer outcome out out' err err' status = ((status ≤ 2) × IsWritten outcome out out' err err' status)
       ⊎ (((status ≡ 4) ⊎ (status ≡ 141)) × (IsCutOutput outcome out out' err err' ⊎ IsCutErrors outcome out out' err err'))
 
--- What a run does with its reader too. `remaining` are the bytes that it has left.
 module _ {R W E : Type 0} (remaining : R → Option (List ℕ)) (contents : W → Option (List ℕ)) (error_contents : E → Option (List ℕ)) where
-  -- all was written of the lines that were read, which are those of the whole input where the task needs it
+  -- the whole outcome was written, with its status; if the task needs the input, all of it was read
   pub record IsFinished (words : List (List ℕ)) (reader reader' : R) (out out' : W) (err err' : E) (status : ℕ) : Type 0 where
     pub read : List ℕ
     pub consumed : Consumes (remaining reader) (remaining reader') read
@@ -61,8 +63,8 @@ module _ {R W E : Type 0} (remaining : R → Option (List ℕ)) (contents : W �
     pub is : IsOutcome (task_of words) (input_lines read) outcome
     pub written : IsWritten contents error_contents outcome out out' err err' status
 
-  -- A run stopped: of the first lines of what was read a beginning was written, and behind the errors the last message
-  -- or a beginning of it. All lines are meant only where the input ended.
+  -- A run stopped early: standard output has a prefix of the outcome of the first lines read, and standard error a prefix of
+  -- its errors and of the last message. A command that prints nothing before the end of the input has all lines, or none.
   pub record IsStopped (words : List (List ℕ)) (reader reader' : R) (out out' : W) (err err' : E) (status : ℕ) : Type 0 where
     pub read : List ℕ
     pub consumed : Consumes (remaining reader) (remaining reader') read
@@ -70,6 +72,7 @@ module _ {R W E : Type 0} (remaining : R → Option (List ℕ)) (contents : W �
     pub rest : List (List ℕ)
     pub split : input_lines read ≡ front ++ rest
     pub whole : rest ≡ [] → IsAtEnd (remaining reader')
+    pub silent : ¬ IsStream (task_of words) → ¬ (rest ≡ []) → front ≡ []
     pub outcome : Outcome
     pub is : IsOutcome (task_of words) front outcome
     pub output : WroteBeginning (contents out) (contents out') outcome.output
@@ -80,14 +83,14 @@ module _ {R W E : Type 0} (remaining : R → Option (List ℕ)) (contents : W �
     pub last : IsLast status message
     pub errors : WroteBeginning (error_contents err) (error_contents err') (told ++ message)
 
-  -- a write of the answer failed, where nothing is read
+  -- a write of the answer failed, by a command that reads nothing
   pub record IsCut (words : List (List ℕ)) (out out' : W) (err err' : E) : Type 0 where
     pub outcome : Outcome
     pub is : IsOutcome (task_of words) [] outcome
     pub cut : IsCutOutput contents error_contents outcome out out' err err' ⊎ IsCutErrors contents error_contents outcome out out' err err'
 
-  -- By its status, what a run wrote: 3 where memory ran out, 4 where a read or a write failed, 141 where nobody reads.
-  -- Without an input nothing is written before memory ran out.
+  -- what a run wrote, by its status: 3 if memory ran out, 4 if a read or a write failed, 141 if nobody reads. Without an input
+  -- nothing is written before memory ran out
   pub record Ends (words : List (List ℕ)) (reader reader' : R) (out out' : W) (err err' : E) (status : ℕ) : Type 0 where
     pub known : (status ≤ 4) ⊎ (status ≡ 141)
     pub unread : ¬ NeedsInput (task_of words) → reader' ≡ reader

@@ -1,105 +1,153 @@
--- What the words of the program ask for, and what is written for it.
-use Rattle.std.specs.Prelude.{◌≡◌, ◌==◌, ◌&&◌, ◌||◌, ℕ, List, [], ◌∷◌, Bool, true, false, Option, Some, None, bytes_eq, codes, length, nat_lt, if◌then◌else◌}
+-- The tasks that the words of a call name, and their outcomes.
+use Rattle.std.specs.Prelude.{◌≡◌, ◌==◌, ◌&&◌, ◌||◌, ⊤, ℕ, List, [], ◌∷◌, ◌++◌, Bool, true, false, Option, Some, None, bytes_eq, codes, is_some, length, nat_lt, if◌then◌else◌}
+use Rattle.std.specs.Option.{option_map}
 use Rattle.pep440_rs.specs.ListGrammar.{DerivesList}
 use Rattle.pep440_rs.specs.Specifiers.{Spec}
+use Rattle.pyver_core.specs.Bumps.{Bumps, bump_part_of}
 use Rattle.pyver_core.specs.Comparisons.{Compares, comparison_of}
+use Rattle.pyver_core.specs.Counts.{count_of}
 use Rattle.pyver_core.specs.Filters.{FiltersLines}
+use Rattle.pyver_core.specs.LineOptions.{joined_value, line_option, no_line_options, value_behind, value_kind, value_names, value_option_of, with_value}
 use Rattle.pyver_core.specs.Matches.{Matches}
 use Rattle.pyver_core.specs.Messages.{unknown_message, usage_message}
+use Rattle.pyver_core.specs.Numbers.{word_number}
 use Rattle.pyver_core.specs.Outcomes.{Outcome}
 use Rattle.pyver_core.specs.Parts.{part_of}
 use Rattle.pyver_core.specs.Shows.{Shows}
+use Rattle.pyver_core.specs.Sorts.{SortsLines}
 use Rattle.pyver_core.specs.declared.allowed.MatchOptions.{MatchOptions}
+use Rattle.pyver_core.specs.declared.bump.BumpPart.{BumpPart}
 use Rattle.pyver_core.specs.declared.comparison.Comparison.{Comparison}
 use Rattle.pyver_core.specs.declared.filter.FilterOptions.{FilterOptions}
 use Rattle.pyver_core.specs.declared.help.Topic.{Topic}
 use Rattle.pyver_core.specs.declared.help.Topic.TheVariants as topic
-use Rattle.pyver_core.specs.declared.help.TheConstants.{PROGRAM_HELP, COMPARE_HELP, MATCH_HELP, FILTER_HELP, SHOW_HELP, COMPARE_USAGE, MATCH_USAGE, FILTER_USAGE, SHOW_USAGE, PROGRAM_USAGE, VERSION_LINE}
+use Rattle.pyver_core.specs.declared.help.TheConstants.{PROGRAM_HELP, COMPARE_HELP, MATCH_HELP, FILTER_HELP, SORT_HELP, SHOW_HELP, BUMP_HELP, COMPARE_USAGE, MATCH_USAGE, FILTER_USAGE, SORT_USAGE, SHOW_USAGE, BUMP_USAGE, PROGRAM_USAGE, VERSION_LINE}
+use Rattle.pyver_core.specs.declared.line_options.LineOptions.{LineOptions}
+use Rattle.pyver_core.specs.declared.line_options.ValueOption.{ValueOption}
 use Rattle.pyver_core.specs.declared.part.VersionPart.{VersionPart}
 use Rattle.pyver_core.specs.declared.prerelease.Prereleases.TheVariants as prereleases
 use Rattle.pyver_core.specs.declared.show.ShowFormat.{ShowFormat}
 use Rattle.pyver_core.specs.declared.show.ShowFormat.TheVariants as format
+use Rattle.pyver_core.specs.declared.sort.SortOptions.{SortOptions}
 
--- what words ask for; a message where it is nothing
+-- what the words ask for, or the message of why they ask for nothing
 pub data Task : Type 0 where
   Help : Topic → Task
   NameVersion : Task
   Compare : List ℕ → Comparison → List ℕ → Task
   Match : MatchOptions → List ℕ → List (List ℕ) → Task
   Filter : FilterOptions → List ℕ → Task
+  Sort : SortOptions → Task
   Show : ShowFormat → List (List ℕ) → Task
+  Bump : Option ℕ → List BumpPart → List ℕ → Task
   Misused : List ℕ → Task
 
 -- ---- the names of the program
 
+-- the names that a mistyped command is compared with
 abbrev pub command_names : List (List ℕ)
-command_names = codes "compare" ∷ (codes "match" ∷ (codes "filter" ∷ (codes "show" ∷ (codes "--help" ∷ (codes "--version" ∷ [])))))
+command_names = codes "compare" ∷ (codes "match" ∷ (codes "filter" ∷ (codes "sort" ∷ (codes "show" ∷ (codes "bump" ∷ (codes "--help" ∷ (codes "--version" ∷ [])))))))
 
+-- the options of a command, with which a mistyped one is compared
 abbrev pub option_names : Topic → List (List ℕ)
 option_names topic.Program = codes "--help" ∷ []
 option_names topic.Compare = codes "--help" ∷ []
 option_names topic.Match = codes "--help" ∷ (codes "--quiet" ∷ (codes "--pre" ∷ (codes "--no-pre" ∷ [])))
-option_names topic.Filter = codes "--help" ∷ (codes "--invert-match" ∷ (codes "--pre" ∷ (codes "--no-pre" ∷ [])))
+option_names topic.Filter = codes "--help" ∷ (codes "--invert-match" ∷ (codes "--pre" ∷ (codes "--no-pre" ∷ (codes "--invalid" ∷ []))))
+option_names topic.Sort = codes "--help" ∷ (codes "--reverse" ∷ (codes "--unique" ∷ (codes "--last" ∷ [])))
 option_names topic.Show = codes "--help" ∷ (codes "--part" ∷ (codes "--json" ∷ []))
+option_names topic.Bump = codes "--help" ∷ (codes "--to" ∷ [])
 
+-- the usage line of a command
 abbrev pub usage : Topic → List ℕ
 usage topic.Program = PROGRAM_USAGE.now
 usage topic.Compare = COMPARE_USAGE.now
 usage topic.Match = MATCH_USAGE.now
 usage topic.Filter = FILTER_USAGE.now
+usage topic.Sort = SORT_USAGE.now
 usage topic.Show = SHOW_USAGE.now
+usage topic.Bump = BUMP_USAGE.now
 
+-- the words that print the help of a command
+abbrev pub help_words : Topic → List ℕ
+help_words topic.Program = codes "pyver --help"
+help_words topic.Compare = codes "pyver compare --help"
+help_words topic.Match = codes "pyver match --help"
+help_words topic.Filter = codes "pyver filter --help"
+help_words topic.Sort = codes "pyver sort --help"
+help_words topic.Show = codes "pyver show --help"
+help_words topic.Bump = codes "pyver bump --help"
+
+-- the text of `--help`
 abbrev pub help_text : Topic → List ℕ
 help_text topic.Program = PROGRAM_HELP.now
 help_text topic.Compare = COMPARE_HELP.now
 help_text topic.Match = MATCH_HELP.now
 help_text topic.Filter = FILTER_HELP.now
+help_text topic.Sort = SORT_HELP.now
 help_text topic.Show = SHOW_HELP.now
+help_text topic.Bump = BUMP_HELP.now
 
 -- ---- words
 
+-- `-h` or `--help`
 abbrev pub is_help : List ℕ → Bool
 is_help word = bytes_eq word (codes "-h") || bytes_eq word (codes "--help")
 
--- it begins with a dash and is more than one
+-- a dash and at least one more byte
 abbrev pub is_option : List ℕ → Bool
 is_option [] = false
 is_option (b ∷ rest) = (b == 45) && nat_lt 0 (length rest)
 
+-- the message of an option that the command does not have
 abbrev pub wrong_option : Topic → List ℕ → Task
-wrong_option topic word = Misused (unknown_message (codes "option") word (option_names topic))
+wrong_option topic word = Misused (unknown_message (codes "option") word (option_names topic) (help_words topic))
 
--- too few words, or too many
+-- the message of a word that writes no number
+abbrev pub wrong_number_message : Topic → List ℕ → List ℕ
+wrong_number_message topic word = unknown_message (codes "number") word [] (help_words topic)
+
+-- the message of too few or too many words
 abbrev pub wrong_count : Topic → Task
-wrong_count topic = Misused (usage_message (usage topic))
+wrong_count topic = Misused (usage_message (usage topic) (help_words topic))
+
+-- the message of an option with a wrong value
+abbrev pub wrong_value : Topic → ValueOption → List ℕ → Task
+wrong_value topic name value = Misused (unknown_message (value_kind name) value (value_names name) (help_words topic))
 
 -- ---- `compare A OP B`
 
+-- the names of the comparisons, with which a mistyped one is compared
 abbrev pub comparison_names : List (List ℕ)
 comparison_names = codes "lt" ∷ (codes "le" ∷ (codes "eq" ∷ (codes "ne" ∷ (codes "ge" ∷ (codes "gt" ∷ [])))))
 
+-- the comparison, or the message of an unknown operator
 abbrev pub compare_by : List ℕ → List ℕ → List ℕ → Option Comparison → Task
-compare_by left word right None = Misused (unknown_message (codes "operator") word comparison_names)
+compare_by left word right None = Misused (unknown_message (codes "operator") word comparison_names (help_words topic.Compare))
 compare_by left word right (Some operator) = Compare left operator right
 
+-- exactly three words: a version, an operator and a version
 abbrev pub compare_words : List (List ℕ) → Task
 compare_words (left ∷ word ∷ right ∷ []) = compare_by left word right (comparison_of word)
 compare_words _ = wrong_count topic.Compare
 
+-- the task of the words after `compare`, if the first does not ask for help
+abbrev pub compare_rest : List ℕ → List (List ℕ) → Task
+compare_rest word words = if is_option word then wrong_option topic.Compare word else compare_words words
+
+-- the task of the words after `compare`
 abbrev pub compare_task : List (List ℕ) → Task
 compare_task [] = wrong_count topic.Compare
-compare_task (word ∷ rest) =
-    if is_help word then Help topic.Compare
-    else if is_option word then wrong_option topic.Compare word
-    else compare_words (word ∷ rest)
+compare_task (word ∷ rest) = if is_help word then Help topic.Compare else compare_rest word (word ∷ rest)
 
 -- ---- `match [-q] [--pre | --no-pre] SPECS V..`
 
+-- a list and at least one version
 abbrev pub match_operands : MatchOptions → List (List ℕ) → Task
 match_operands options (specifiers ∷ word ∷ rest) = Match options specifiers (word ∷ rest)
 match_operands options _ = wrong_count topic.Match
 
--- the options with what the word sets, if it is an option that sets some
+-- the options with what this word sets, if it is one of them
 abbrev pub match_option : MatchOptions → List ℕ → Option MatchOptions
 match_option options word =
     if bytes_eq word (codes "-q") then Some (record options { quiet = true })
@@ -108,82 +156,155 @@ match_option options word =
     else if bytes_eq word (codes "--no-pre") then Some (record options { prereleases = prereleases.Never })
     else None
 
--- the words behind the options, where `--` may stand first
+-- the words after the options, of which the first may be `--`
 abbrev pub match_rest : MatchOptions → List ℕ → List (List ℕ) → Task
 match_rest options word rest =
     if bytes_eq word (codes "--") then match_operands options rest
     else if is_option word then wrong_option topic.Match word
     else match_operands options (word ∷ rest)
 
--- what is done with the options, or what else where there are none
+-- the task with the new options, or else this other one
 abbrev pub by_option : {A : Type 0} → Option A → (A → Task) → Task → Task
 by_option None with_options otherwise = otherwise
 by_option (Some options) with_options otherwise = with_options options
 
--- options stand before the other words, and the last of those that contradict each other counts
+-- the task of the words after `match`: options come first, and of two that contradict each other the last counts
 abbrev pub match_task : MatchOptions → List (List ℕ) → Task
 match_task options [] = wrong_count topic.Match
 match_task options (word ∷ rest) =
     if is_help word then Help topic.Match
     else by_option (match_option options word) (λ taken. match_task taken rest) (match_rest options word rest)
 
+-- the options of `match` before the first word
 abbrev pub no_match_options : MatchOptions
 no_match_options = record { quiet = false; prereleases = prereleases.Listed }
 
--- ---- `filter [-v] [--pre | --no-pre] SPECS`
+-- ---- `filter [-v] [--pre | --no-pre] [--invalid HOW] SPECS`
 
+-- exactly one list
 abbrev pub filter_operands : FilterOptions → List (List ℕ) → Task
 filter_operands options (specifiers ∷ []) = Filter options specifiers
 filter_operands options _ = wrong_count topic.Filter
 
--- the options with what the word sets, if it is an option that sets some
+-- the options with what this word sets, if it is one of them
 abbrev pub filter_option : FilterOptions → List ℕ → Option FilterOptions
 filter_option options word =
     if bytes_eq word (codes "-v") then Some (record options { inverted = true })
     else if bytes_eq word (codes "--invert-match") then Some (record options { inverted = true })
     else if bytes_eq word (codes "--pre") then Some (record options { prereleases = prereleases.Always })
     else if bytes_eq word (codes "--no-pre") then Some (record options { prereleases = prereleases.Never })
-    else None
+    else option_map (λ lines. record options { lines = lines }) (line_option options.lines word)
 
--- the words behind the options, where `--` may stand first
+-- the message of a wrong value in the same word as its option, or else this other task
+abbrev pub by_joined : Topic → Option (ValueOption × List ℕ) → Task → Task
+by_joined topic None otherwise = otherwise
+by_joined topic (Some joined) otherwise = wrong_value topic joined.0 joined.1
+
+-- the words after the options, of which the first may be `--`
 abbrev pub filter_rest : FilterOptions → List ℕ → List (List ℕ) → Task
 filter_rest options word rest =
     if bytes_eq word (codes "--") then filter_operands options rest
-    else if is_option word then wrong_option topic.Filter word
-    else filter_operands options (word ∷ rest)
+    else by_joined topic.Filter (joined_value word)
+    (if is_option word then wrong_option topic.Filter word else filter_operands options (word ∷ rest))
 
--- options stand before the list, and the last of those that contradict each other counts
-abbrev pub filter_task : FilterOptions → List (List ℕ) → Task
-filter_task options [] = wrong_count topic.Filter
-filter_task options (word ∷ rest) =
+-- the task with the new options, or the message of a wrong value
+abbrev pub by_value : Topic → ValueOption → List ℕ → Option LineOptions → (LineOptions → Task) → Task
+by_value topic name value None with_options = wrong_value topic name value
+by_value topic name value (Some options) with_options = with_options options
+
+-- the task of an option that takes a value, or else this other one
+abbrev pub by_name : Option ValueOption → (ValueOption → Task) → Task → Task
+by_name None with_name otherwise = otherwise
+by_name (Some name) with_name otherwise = with_name name
+
+-- the task of the words after `filter`: options come first, and of two that contradict each other the last counts; an option's
+-- name if its value comes next
+abbrev pub filter_task : FilterOptions → Option ValueOption → List (List ℕ) → Task
+filter_task options awaited [] = wrong_count topic.Filter
+filter_task options (Some name) (value ∷ rest) =
+    by_value topic.Filter name value (with_value options.lines name value) (λ lines. filter_task (record options { lines = lines }) None rest)
+filter_task options None (word ∷ rest) =
     if is_help word then Help topic.Filter
-    else by_option (filter_option options word) (λ taken. filter_task taken rest) (filter_rest options word rest)
+    else by_option (filter_option options word) (λ taken. filter_task taken None rest)
+    (by_name (value_option_of word) (λ name. filter_task options (Some name) rest) (filter_rest options word rest))
 
+-- the options of `filter` before the first word
 abbrev pub no_filter_options : FilterOptions
-no_filter_options = record { inverted = false; prereleases = prereleases.Listed }
+no_filter_options = record { inverted = false; prereleases = prereleases.Listed; lines = no_line_options }
+
+-- ---- `sort [-r] [-u] [-n K]`
+
+abbrev pub sort_operands : SortOptions → List (List ℕ) → Task
+sort_operands options [] = Sort options
+sort_operands options (word ∷ rest) = wrong_count topic.Sort
+
+-- the options with what the word sets, if it is an option that sets some alone
+abbrev pub sort_option : SortOptions → List ℕ → Option SortOptions
+sort_option options word =
+    if bytes_eq word (codes "-r") then Some (record options { reversed = true })
+    else if bytes_eq word (codes "--reverse") then Some (record options { reversed = true })
+    else if bytes_eq word (codes "-u") then Some (record options { unique = true })
+    else if bytes_eq word (codes "--unique") then Some (record options { unique = true })
+    else None
+
+-- a count stands behind it
+abbrev pub is_last_option : List ℕ → Bool
+is_last_option word = bytes_eq word (codes "-n") || bytes_eq word (codes "--last")
+
+-- the words behind the options, where `--` may stand first
+abbrev pub sort_rest : SortOptions → List ℕ → List (List ℕ) → Task
+sort_rest options word rest =
+    if bytes_eq word (codes "--") then sort_operands options rest
+    else if is_option word then wrong_option topic.Sort word
+    else sort_operands options (word ∷ rest)
+
+-- what is done with the number that the word writes, if it writes one
+abbrev pub by_count : List ℕ → Option ℕ → (ℕ → Task) → Task
+by_count word None with_count = Misused (wrong_number_message topic.Sort word)
+by_count word (Some count) with_count = with_count count
+
+-- the last of the counts is meant; true where one has to stand next
+abbrev pub sort_task : Bool → SortOptions → List (List ℕ) → Task
+sort_task false options [] = Sort options
+sort_task true options [] = wrong_count topic.Sort
+sort_task true options (word ∷ rest) = by_count word (count_of word) (λ count. sort_task false (record options { last = Some count }) rest)
+sort_task false options (word ∷ rest) =
+    if is_help word then Help topic.Sort
+    else if is_last_option word then sort_task true options rest
+    else by_option (sort_option options word) (λ taken. sort_task false taken rest) (sort_rest options word rest)
+
+abbrev pub no_sort_options : SortOptions
+no_sort_options = record { reversed = false; unique = false; last = None }
 
 -- ---- `show [--part PART | --json] V..`
 
+-- the names of the parts, with which a mistyped one is compared
 abbrev pub part_names : List (List ℕ)
 part_names = codes "epoch" ∷ (codes "release" ∷ (codes "major" ∷ (codes "minor" ∷ (codes "micro" ∷ (codes "pre" ∷ (codes "post" ∷ (codes "dev" ∷ (codes "local" ∷ (codes "public" ∷ (codes "base" ∷ []))))))))))
 
+-- at least one version
 abbrev pub show_operands : ShowFormat → List (List ℕ) → Task
 show_operands asked [] = wrong_count topic.Show
 show_operands asked (word ∷ rest) = Show asked (word ∷ rest)
 
--- the words behind the options, where `--` may stand first
+-- the words after the options, of which the first may be `--`
 abbrev pub show_rest : ShowFormat → List ℕ → List (List ℕ) → Task
 show_rest asked word rest =
     if bytes_eq word (codes "--") then show_operands asked rest
     else if is_option word then wrong_option topic.Show word
     else show_operands asked (word ∷ rest)
 
--- what is done with the part that the word names, if it names one
+-- the task with the named part, or the message of an unknown part
 abbrev pub by_part : List ℕ → Option VersionPart → (VersionPart → Task) → Task
-by_part word None with_part = Misused (unknown_message (codes "part") word part_names)
+by_part word None with_part = Misused (unknown_message (codes "part") word part_names (help_words topic.Show))
 by_part word (Some part) with_part = with_part part
 
--- options stand before the versions, and the last one counts; None where the name of a part has to stand next
+-- the task of an option and its part in one word, or else this other task
+abbrev pub by_part_in : Option (List ℕ) → (VersionPart → Task) → Task → Task
+by_part_in None with_part otherwise = otherwise
+by_part_in (Some name) with_part otherwise = by_part name (part_of name) with_part
+
+-- the task of the words after `show`: options come first, and the last one counts; None if the name of a part comes next
 abbrev pub show_task : Option ShowFormat → List (List ℕ) → Task
 show_task asked [] = wrong_count topic.Show
 show_task None (name ∷ rest) = by_part name (part_of name) (λ part. show_task (Some (format.Part part)) rest)
@@ -191,10 +312,70 @@ show_task (Some asked) (word ∷ rest) =
     if is_help word then Help topic.Show
     else if bytes_eq word (codes "--json") then show_task (Some format.Json) rest
     else if bytes_eq word (codes "--part") then show_task None rest
-    else show_rest asked word rest
+    else by_part_in (value_behind (codes "--part=") word) (λ part. show_task (Some (format.Part part)) rest) (show_rest asked word rest)
+
+-- ---- `bump [--to N] PART.. V`
+
+abbrev pub bump_part_names : List (List ℕ)
+bump_part_names = codes "major" ∷ (codes "minor" ∷ (codes "patch" ∷ (codes "stable" ∷ (codes "alpha" ∷ (codes "beta" ∷ (codes "rc" ∷ (codes "post" ∷ (codes "dev" ∷ []))))))))
+
+-- what is done with the part that the word names, if it names one
+abbrev pub by_bump_part : List ℕ → Option BumpPart → (BumpPart → Task) → Task
+by_bump_part word None with_part = Misused (unknown_message (codes "part") word bump_part_names (help_words topic.Bump))
+by_bump_part word (Some part) with_part = with_part part
+
+-- the version is raised by these parts and then by those that the words name
+abbrev pub bump_from_words : Option ℕ → List BumpPart → List (List ℕ) → List ℕ → Task
+bump_from_words to parts [] version = Bump to parts version
+bump_from_words to parts (word ∷ rest) version = by_bump_part word (bump_part_of word) (λ part. bump_from_words to (parts ++ part ∷ []) rest version)
+
+abbrev pub put_before : List ℕ → Option (List (List ℕ) × List ℕ) → Option (List (List ℕ) × List ℕ)
+put_before word None = Some ([], word)
+put_before word (Some p) = Some (word ∷ p.0, p.1)
+
+-- all words but the last, and the last
+abbrev pub split_last : List (List ℕ) → Option (List (List ℕ) × List ℕ)
+split_last [] = None
+split_last (word ∷ rest) = put_before word (split_last rest)
+
+-- parts, at least one, and then the version, which names none
+abbrev pub bump_last : Option ℕ → List (List ℕ) → List ℕ → Task
+bump_last to [] version = wrong_count topic.Bump
+bump_last to (word ∷ words) version =
+    if is_some (bump_part_of version) then wrong_count topic.Bump
+    else bump_from_words to [] (word ∷ words) version
+
+abbrev pub by_last : Option ℕ → Option (List (List ℕ) × List ℕ) → Task
+by_last to None = wrong_count topic.Bump
+by_last to (Some p) = bump_last to p.0 p.1
+
+abbrev pub bump_operands : Option ℕ → List (List ℕ) → Task
+bump_operands to words = by_last to (split_last words)
+
+-- the words behind the options, where `--` may stand first
+abbrev pub bump_rest : Option ℕ → List ℕ → List (List ℕ) → Task
+bump_rest to word rest =
+    if bytes_eq word (codes "--") then bump_operands to rest
+    else if is_option word then wrong_option topic.Bump word
+    else bump_operands to (word ∷ rest)
+
+-- what is done with the number that the word writes, if it writes one
+abbrev pub by_number : List ℕ → Option ℕ → (ℕ → Task) → Task
+by_number word None with_found = Misused (wrong_number_message topic.Bump word)
+by_number word (Some n) with_found = with_found n
+
+-- options stand before the parts, and the last one counts; None where a number has to stand next
+abbrev pub bump_task : Option (Option ℕ) → List (List ℕ) → Task
+bump_task to [] = wrong_count topic.Bump
+bump_task None (number ∷ rest) = by_number number (word_number number) (λ n. bump_task (Some (Some n)) rest)
+bump_task (Some to) (word ∷ rest) =
+    if is_help word then Help topic.Bump
+    else if bytes_eq word (codes "--to") then bump_task None rest
+    else bump_rest to word rest
 
 -- ---- the program
 
+-- the task that the words ask for, of which the first is a command
 abbrev pub task_of : List (List ℕ) → Task
 task_of [] = wrong_count topic.Program
 task_of (word ∷ rest) =
@@ -202,29 +383,39 @@ task_of (word ∷ rest) =
     else if bytes_eq word (codes "--version") then NameVersion
     else if bytes_eq word (codes "compare") then compare_task rest
     else if bytes_eq word (codes "match") then match_task no_match_options rest
-    else if bytes_eq word (codes "filter") then filter_task no_filter_options rest
+    else if bytes_eq word (codes "filter") then filter_task no_filter_options None rest
+    else if bytes_eq word (codes "sort") then sort_task false no_sort_options rest
     else if bytes_eq word (codes "show") then show_task (Some format.Normal) rest
-    else Misused (unknown_message (codes "command") word command_names)
+    else if bytes_eq word (codes "bump") then bump_task (Some None) rest
+    else Misused (unknown_message (codes "command") word command_names (help_words topic.Program))
 
--- a text on standard output
+-- the outcome of a text on standard output
 abbrev pub printed : List ℕ → Outcome
 printed text = record { output = text; errors = []; status = 0 }
 
--- a message on standard error, of a wrong use
+-- the outcome of a wrong use: a message on standard error, and status 2
 abbrev pub misuse : List ℕ → Outcome
 misuse message = record { output = []; errors = message; status = 2 }
 
--- what is written for a task, where the input has these lines
+-- the outcome of a task, if the input has these lines
 abbrev pub IsOutcome : Task → List (List ℕ) → Outcome → Type 0
 IsOutcome (Help about) texts o = o ≡ printed (help_text about)
 IsOutcome NameVersion texts o = o ≡ printed VERSION_LINE.now
 IsOutcome (Compare left operator right) texts o = Compares left operator right o
 IsOutcome (Match options specifiers words) texts o = Matches options specifiers words o
 IsOutcome (Filter options specifiers) texts o = FiltersLines options specifiers texts o
+IsOutcome (Sort options) texts o = SortsLines options texts o
 IsOutcome (Show asked words) texts o = Shows asked words o
+IsOutcome (Bump to parts word) texts o = Bumps to parts word o
 IsOutcome (Misused message) texts o = o ≡ misuse message
 
--- `filter` with a valid list reads the input, and nothing else does
+-- only `filter` with a valid list and `sort` read the input
 abbrev pub NeedsInput : Task → Type 0
 NeedsInput (Filter options specifiers) = (list : List Spec) × DerivesList specifiers list
+NeedsInput (Sort options) = ⊤
 NeedsInput _ = ⊥
+
+-- lines are printed before all are read
+abbrev pub IsStream : Task → Type 0
+IsStream (Filter options specifiers) = ⊤
+IsStream _ = ⊥

@@ -1,8 +1,8 @@
 // The command that words ask for, and what it writes.
-ghost use Rattle.std.specs.Prelude.{◌≡◌, ◌∷◌, IfOk, map, string_bytes};
+ghost use Rattle.std.specs.Prelude.{◌≡◌, [], ◌∷◌, IfOk, map, string_bytes};
 ghost use Rattle.pyver_core.specs.AnswerViews.{outcome_of};
 ghost use Rattle.pyver_core.specs.TaskViews.{task};
-ghost use Rattle.pyver_core.specs.Tasks.{Filter, compare_task, compare_words, is_help, is_option, match_operands, match_option, match_rest, match_task, misuse, no_match_options, printed, task_of};
+ghost use Rattle.pyver_core.specs.Tasks.{Filter, bump_from_words, compare_rest, compare_task, compare_words, is_help, is_option, match_operands, match_option, match_rest, match_task, misuse, no_match_options, printed, task_of};
 ghost use Rattle.pyver_core.specs.TaskViews.{misuse_message};
 ghost use Rattle.pyver_core.specs.WorkViews.{IsWork};
 
@@ -10,6 +10,8 @@ use crate::allowed::{
     MatchOptions, SpecifiersReading, match_versions, push_list_fault, read_specifiers,
 };
 use crate::answer::Answer;
+use crate::bump::{bump_version, parse_bump_part};
+use crate::bump_words::parse_bump;
 use crate::comparison::{Comparison, compare, parse_comparison};
 use crate::filter::{FilterOptions, FilterRule};
 use crate::filter_words::parse_filter;
@@ -18,6 +20,9 @@ use crate::misuse::{Misuse, push_misuse};
 use crate::prerelease::{Prereleases, takes_prereleases};
 use crate::show::{ShowFormat, show_versions};
 use crate::show_words::parse_show;
+use crate::sort::SortOptions;
+use crate::sort_words::parse_sort;
+use crate::whole_input::Question;
 use std::alloc::{AllocError, Global};
 
 /// What words ask for.
@@ -28,7 +33,10 @@ pub(crate) enum Command<'a> {
     Compare(&'a str, Comparison, &'a str),
     Match(MatchOptions, &'a str, &'a [String]),
     Filter(FilterOptions, &'a str),
+    Sort(SortOptions),
     Show(ShowFormat, &'a [String]),
+    /// The number of the last part, the names of the parts, and the version.
+    Bump(Option<u64>, &'a [String], &'a str),
     Misused(Misuse<'a>),
 }
 
@@ -39,6 +47,8 @@ pub(crate) enum Work {
     Answer(Answer),
     /// To read the input, whose lines are filtered so.
     Filter(FilterRule),
+    /// To read the whole input, of which this is asked.
+    Whole(Question),
 }
 
 pub(crate) fn is_help(word: &str) -> bool
@@ -68,6 +78,17 @@ fn parse_compare_words<'a>(words: &'a [String]) -> Command<'a>
     }
 }
 
+/// The first word does not ask for help.
+fn parse_compare_rest<'a>(word: &'a str, words: &'a [String]) -> Command<'a>
+    ensures { task result ≡ compare_rest word.now (map string_bytes words.now) }
+{
+    if is_option(word) {
+        Command::Misused(Misuse::Option(Topic::Compare, word))
+    } else {
+        parse_compare_words(words)
+    }
+}
+
 fn parse_compare<'a>(words: &'a [String]) -> Command<'a>
     ensures { task result ≡ compare_task (map string_bytes words.now) }
 {
@@ -76,10 +97,8 @@ fn parse_compare<'a>(words: &'a [String]) -> Command<'a>
         [word, ..] => {
             if is_help(word.as_str()) {
                 Command::Help(Topic::Compare)
-            } else if is_option(word.as_str()) {
-                Command::Misused(Misuse::Option(Topic::Compare, word.as_str()))
             } else {
-                parse_compare_words(words)
+                parse_compare_rest(word.as_str(), words)
             }
         }
     }
@@ -165,7 +184,9 @@ impl<'a> Command<'a> {
                 "compare" => parse_compare(rest),
                 "match" => parse_match(rest),
                 "filter" => parse_filter(rest),
+                "sort" => parse_sort(rest),
                 "show" => parse_show(rest),
+                "bump" => parse_bump(rest),
                 other => Command::Misused(Misuse::Command(other)),
             },
         }
@@ -185,8 +206,12 @@ impl<'a> Command<'a> {
                 Ok(Work::Answer(match_versions(alloc, options, specifiers, words)?))
             }
             Command::Filter(options, specifiers) => start_filter(alloc, options, specifiers),
+            Command::Sort(options) => Ok(Work::Whole(Question::Sort(options))),
             Command::Show(format, words) => {
                 Ok(Work::Answer(show_versions(alloc, format, words)?))
+            }
+            Command::Bump(to, names, version) => {
+                Ok(Work::Answer(start_bump(alloc, to, names, version)?))
             }
             Command::Misused(misuse) => Ok(Work::Answer(report_misuse(alloc, misuse)?)),
         }
@@ -203,6 +228,7 @@ fn start_filter(alloc: Global, options: FilterOptions, specifiers: &str) -> Resu
             Ok(Work::Filter(FilterRule {
                 inverted: options.inverted,
                 takes,
+                lines: options.lines,
                 list,
             }))
         }
@@ -212,6 +238,27 @@ fn start_filter(alloc: Global, options: FilterOptions, specifiers: &str) -> Resu
             Ok(Work::Answer(answer))
         }
     }
+}
+
+/// `bump PART.. V`: the version, or which word names no part.
+fn start_bump(
+    alloc: Global,
+    to: Option<u64>,
+    names: &[String],
+    version: &str,
+) -> Result<Answer, AllocError>
+    ensures { IfOk result (λ a. IsWork (bump_from_words to [] (map string_bytes names.now) version.now) (Work.Answer a)) }
+{
+    let mut parts = Vec::new(alloc);
+    let mut left = names;
+    while let [name, rest @ ..] = left {
+        let Some(part) = parse_bump_part(name.as_str()) else {
+            return report_misuse(alloc, Misuse::BumpPart(name.as_str()));
+        };
+        parts.push(part)?;
+        left = rest;
+    }
+    bump_version(alloc, to, parts.as_slice(), version)
 }
 
 fn print_text(alloc: Global, text: &str) -> Result<Answer, AllocError>

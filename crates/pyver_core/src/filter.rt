@@ -1,22 +1,21 @@
 // The command `filter`: which lines are printed, and what is to be written of them.
-ghost use Rattle.std.specs.Prelude.{◌≡◌, ◌≤◌, ◌-◌, ◌++◌, IfOk};
-ghost use Rattle.pyver_core.specs.Messages.{line_fault_message, more_faults_message};
+ghost use Rattle.std.specs.Prelude.{◌≡◌, ◌≤◌, ◌++◌, IfOk};
+ghost use Rattle.pyver_core.specs.Messages.{line_fault_message};
 
 use crate::escape::push_escaped;
+use crate::line_options::LineOptions;
 use crate::lines::{is_blank, line_text, read_line};
 use crate::prerelease::{Prereleases, allows};
 use crate::reading::Reading;
 use pep440_rs::{Version, VersionSpecifiers};
 use std::alloc::{AllocError, Global};
 
-/// So many invalid lines are named.
-const MOST_FAULTS: u64 = 20;
-
 /// Which lines are asked for.
 #[derive(Clone, Copy)]
 pub(crate) struct FilterOptions {
     pub(crate) inverted: bool,
     pub(crate) prereleases: Prereleases,
+    pub(crate) lines: LineOptions,
 }
 
 /// Which versions are printed.
@@ -26,6 +25,7 @@ pub(crate) struct FilterRule {
     pub(crate) inverted: bool,
     /// Whether the list takes pre-releases.
     pub(crate) takes: bool,
+    pub(crate) lines: LineOptions,
     pub(crate) list: VersionSpecifiers,
 }
 
@@ -41,7 +41,7 @@ impl FilterRule {
     }
 }
 
-fn push_line_fault(
+pub(crate) fn push_line_fault(
     alloc: Global,
     errors: &mut Vec<u8>,
     number: u64,
@@ -53,18 +53,6 @@ fn push_line_fault(
     errors.extend_from_slice(number.to_string(alloc)?.as_bytes())?;
     errors.extend_from_slice(b": ")?;
     push_escaped(errors, reason.as_bytes())?;
-    errors.push(b'\n')?;
-    Ok(())
-}
-
-fn push_more_faults(alloc: Global, errors: &mut Vec<u8>, count: u64) -> Result<(), AllocError>
-    ensures { IfOk result (λ _. errors.new.items ≡ errors.old.items ++ more_faults_message count) }
-{
-    if count == 0 {
-        return Ok(());
-    }
-    errors.extend_from_slice(b"pyver: -: more invalid lines: ")?;
-    errors.extend_from_slice(count.to_string(alloc)?.as_bytes())?;
     errors.push(b'\n')?;
     Ok(())
 }
@@ -83,8 +71,8 @@ pub(crate) struct FilterState {
 impl FilterState {
     ghost use Rattle.std.specs.Prelude.{◌+◌, ◌*◌, ◌<◌, ◌^◌, ◌∷◌, [], List, ℕ, length};
     ghost use Rattle.pyver_core.specs.AnswerViews.{reading_of};
-    ghost use Rattle.pyver_core.specs.Filters.{ReadLine};
     ghost use Rattle.pyver_core.specs.FilterSteps.{Cuts, FinishesBy, HasNoNewline, Steps, StepsBy};
+    ghost use Rattle.pyver_core.specs.ReadLines.{ReadLine};
     ghost use Rattle.pyver_core.specs.Readings.{Denotes, Fails};
 
     pub(crate) fn new(alloc: Global) -> FilterState
@@ -125,7 +113,7 @@ impl FilterState {
         requires { (self.old.fault_count < self.old.line_count) × (self.old.line_count < 2 ^ 63) }
         ensures { IfOk result (λ _. StepsBy rule.now (record { line = (self.old.line_count, text.now); reading = Fails reason.now }) self.old self.new) }
     {
-        if self.fault_count < MOST_FAULTS {
+        if self.fault_count < rule.lines.invalid.most_named() {
             push_line_fault(alloc, &mut self.errors, self.line_count, reason)?;
         }
         self.fault_count += 1;
@@ -187,7 +175,7 @@ impl FilterState {
         Ok(())
     }
 
-    /// The last line, and how many invalid lines were not named; returns the status.
+    /// The last line, and what is said of invalid lines at the end; returns the status.
     pub(crate) fn finish(
         &mut self,
         alloc: Global,
@@ -198,12 +186,9 @@ impl FilterState {
         ensures { IfOk result (λ status. FinishesBy rule.now line.now self.old self.new status) }
     {
         self.push_line(alloc, rule, line)?;
-        push_more_faults(
-            alloc,
-            &mut self.errors,
-            self.fault_count.saturating_sub(MOST_FAULTS),
-        )?;
-        Ok(if self.fault_count == 0 { 0 } else { 2 })
+        let invalid = rule.lines.invalid;
+        invalid.push_last(alloc, &mut self.errors, self.fault_count)?;
+        Ok(invalid.status(self.fault_count))
     }
 
     /// What was to be written was written.

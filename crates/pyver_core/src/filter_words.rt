@@ -1,11 +1,14 @@
 // The words of `filter`.
-ghost use Rattle.std.specs.Prelude.{◌≡◌, ◌∷◌, map, string_bytes};
+ghost use Rattle.std.specs.Prelude.{◌≡◌, ◌∷◌, None, map, string_bytes};
 ghost use Rattle.pyver_core.specs.TaskViews.{task};
 ghost use Rattle.pyver_core.specs.Tasks.{filter_operands, filter_option, filter_rest, filter_task, no_filter_options};
 
 use crate::command::{Command, is_help, is_option};
 use crate::filter::FilterOptions;
 use crate::help::Topic;
+use crate::line_options::{
+    LineOptions, parse_line_option, parse_value_option, split_joined, with_value,
+};
 use crate::misuse::Misuse;
 use crate::prerelease::Prereleases;
 
@@ -28,7 +31,10 @@ fn parse_filter_option(options: FilterOptions, word: &str) -> Option<FilterOptio
         "--invert-match" => options.inverted = true,
         "--pre" => options.prereleases = Prereleases::Always,
         "--no-pre" => options.prereleases = Prereleases::Never,
-        _ => return None,
+        _ => match parse_line_option(options.lines, word) {
+            Some(lines) => options.lines = lines,
+            None => return None,
+        },
     }
     Some(options)
 }
@@ -45,6 +51,8 @@ fn parse_filter_rest<'a>(
 {
     if word == "--" {
         parse_filter_operands(options, rest)
+    } else if let Some((name, value)) = split_joined(word) {
+        Command::Misused(Misuse::Value(Topic::Filter, name, value))
     } else if is_option(word) {
         Command::Misused(Misuse::Option(Topic::Filter, word))
     } else {
@@ -54,22 +62,34 @@ fn parse_filter_rest<'a>(
 
 /// The words of `filter`.
 pub(crate) fn parse_filter<'a>(words: &'a [String]) -> Command<'a>
-    ensures { task result ≡ filter_task no_filter_options (map string_bytes words.now) }
+    ensures { task result ≡ filter_task no_filter_options None (map string_bytes words.now) }
 {
     let mut options = FilterOptions {
         inverted: false,
         prereleases: Prereleases::Listed,
+        lines: LineOptions::none(),
     };
     let mut left = words;
     while let [word, rest @ ..] = left {
-        if is_help(word.as_str()) {
+        let word = word.as_str();
+        if is_help(word) {
             return Command::Help(Topic::Filter);
         }
-        match parse_filter_option(options, word.as_str()) {
-            Some(taken) => options = taken,
-            None => return parse_filter_rest(options, word.as_str(), rest, left),
+        if let Some(taken) = parse_filter_option(options, word) {
+            options = taken;
+            left = rest;
+        } else if let Some(name) = parse_value_option(word) {
+            let [value, after @ ..] = rest else {
+                return Command::Misused(Misuse::Count(Topic::Filter));
+            };
+            let Some(lines) = with_value(options.lines, name, value.as_str()) else {
+                return Command::Misused(Misuse::Value(Topic::Filter, name, value.as_str()));
+            };
+            options.lines = lines;
+            left = after;
+        } else {
+            return parse_filter_rest(options, word, rest, left);
         }
-        left = rest;
     }
     Command::Misused(Misuse::Count(Topic::Filter))
 }

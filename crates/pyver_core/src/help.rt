@@ -1,6 +1,6 @@
 // The help of the program and of its commands.
 ghost use Rattle.std.specs.Prelude.{◌≡◌};
-ghost use Rattle.pyver_core.specs.Tasks.{help_text, usage};
+ghost use Rattle.pyver_core.specs.Tasks.{help_text, help_words, usage};
 
 /// What help is about.
 #[derive(Clone, Copy)]
@@ -9,7 +9,9 @@ pub(crate) enum Topic {
     Compare,
     Match,
     Filter,
+    Sort,
     Show,
+    Bump,
 }
 
 const PROGRAM_USAGE: &str = "pyver COMMAND [WORD]..";
@@ -18,9 +20,13 @@ const COMPARE_USAGE: &str = "pyver compare A OP B";
 
 const MATCH_USAGE: &str = "pyver match [-q] [--pre | --no-pre] SPECS V..";
 
-const FILTER_USAGE: &str = "pyver filter [-v] [--pre | --no-pre] SPECS";
+const FILTER_USAGE: &str = "pyver filter [-v] [--pre | --no-pre] [--invalid HOW] SPECS";
+
+const SORT_USAGE: &str = "pyver sort [-r] [-u] [-n K]";
 
 const SHOW_USAGE: &str = "pyver show [--part PART | --json] V..";
+
+const BUMP_USAGE: &str = "pyver bump [--to N] PART.. V";
 
 pub(crate) const VERSION_LINE: &str = "pyver 0.2.0\n";
 
@@ -32,7 +38,9 @@ commands:
   compare A OP B     whether A stands so to B, by the exit status
   match SPECS V..    which of the versions the specifiers allow
   filter SPECS       the lines of standard input whose version the specifiers allow
+  sort               the lines of standard input in the order of their versions
   show V..           versions in normal form, or their parts
+  bump PART.. V      the version with parts of it raised
 
 'pyver COMMAND --help' tells more of a command. '--version' prints the program's version.
 The exit status is 0 for yes or done, 1 for no, 2 for a wrong use or an invalid version,
@@ -42,7 +50,9 @@ examples:
   pyver compare 1.9 lt 1.10 && echo older
   pyver match '>=1.16,<2.0' 1.19
   pyver filter '>=1.0,<2.0' < versions.txt
+  git tag | pyver sort -n 3
   pyver show --part major 1.19
+  pyver bump minor 1.19
 ";
 
 const COMPARE_HELP: &str = "usage: pyver compare A OP B
@@ -72,12 +82,14 @@ examples:
   pyver match -q --pre '>=2.0rc1' 2.0rc2 && echo allowed
 ";
 
-const FILTER_HELP: &str = "usage: pyver filter [-v] [--pre | --no-pre] SPECS
+const FILTER_HELP: &str = "usage: pyver filter [-v] [--pre | --no-pre] [--invalid HOW] SPECS
 
 Prints the lines of standard input whose version the specifiers allow, as they were written and as
 they come. '' allows any version. Blank lines are dropped, and so are a byte order mark before the
 first line and a carriage return at the end of a line. Each invalid line is named on standard error,
-the first 20 and then how many more there are, and the exit status is 2 at the end.
+the first 20 and then how many more there are, and the exit status is 2 at the end: HOW is error.
+With skip it is only said at the end how many were left out, and with keep nothing; neither counts
+for the status. HOW is error, skip or keep.
 Pre-releases and dev releases are left out, unless a specifier other than != has such a version.
 They are left out too where nothing else is allowed: that is not known before the last line.
 
@@ -85,11 +97,31 @@ options:
   -v, --invert-match  print the other lines, but no invalid ones
   --pre               allow pre-releases and dev releases too
   --no-pre            allow none of them
+  --invalid HOW       what is done with invalid lines
   --                  all words after it are no options
 
 examples:
   pyver filter '>=1.0,<2.0,!=1.5.*' < versions.txt
   git tag | pyver filter --pre '' 2> /dev/null
+";
+
+const SORT_HELP: &str = "usage: pyver sort [-r] [-u] [-n K]
+
+Prints the lines of standard input in the order of their versions, as they were written; lines of
+equal versions, as 1.0 and v1.0.0, stay as they stood, with -r too. Nothing is printed before the
+input ends. Blank lines are dropped, and so are a byte order mark before the first line and a
+carriage return at the end of a line. Where a line is no version nothing is printed: each such line
+is named on standard error, the first 20 and then how many more there are, and the exit status is 2.
+
+options:
+  -r, --reverse  the newest first
+  -u, --unique   of lines of equal versions the first alone
+  -n, --last K   the last K of the lines that would be printed
+  --             all words after it are no options
+
+examples:
+  pyver sort < versions.txt
+  git tag | pyver sort -u -n 3
 ";
 
 const SHOW_HELP: &str = "usage: pyver show [--part PART | --json] V..
@@ -111,6 +143,27 @@ examples:
   pyver show --json 1.0rc1 2.0+local.1
 ";
 
+const BUMP_HELP: &str = "usage: pyver bump [--to N] PART.. V
+
+Prints the version with its parts raised, one after another. It has to be greater: otherwise the
+reason is reported and the exit status is 2. The local part always goes.
+PART is major, minor, patch, stable, alpha, beta, rc, post or dev.
+  major, minor, patch  raise a number of the release; those behind it become 0, and the rest goes
+  stable               what a pre-release or a dev release leads to: 1.0rc2 to 1.0
+  alpha, beta, rc      the next pre-release of the kind; of a version that is neither a pre-release
+                       nor a dev release behind a part that names the next release alone
+  post, dev            the next post-release; the next dev release, where alpha may stand
+
+options:
+  --to N  set the number of the last part
+  --      all words after it are no options
+
+examples:
+  pyver bump minor 1.2.3
+  pyver bump minor alpha 1.2.3
+  pyver bump --to 7 rc 2.0rc3
+";
+
 /// What the help says.
 pub(crate) fn help(topic: Topic) -> &'static str
     ensures { result.now ≡ help_text topic }
@@ -120,7 +173,24 @@ pub(crate) fn help(topic: Topic) -> &'static str
         Topic::Compare => COMPARE_HELP,
         Topic::Match => MATCH_HELP,
         Topic::Filter => FILTER_HELP,
+        Topic::Sort => SORT_HELP,
         Topic::Show => SHOW_HELP,
+        Topic::Bump => BUMP_HELP,
+    }
+}
+
+/// The words that print the help.
+pub(crate) fn help_words(topic: Topic) -> &'static str
+    ensures { result.now ≡ help_words topic }
+{
+    match topic {
+        Topic::Program => "pyver --help",
+        Topic::Compare => "pyver compare --help",
+        Topic::Match => "pyver match --help",
+        Topic::Filter => "pyver filter --help",
+        Topic::Sort => "pyver sort --help",
+        Topic::Show => "pyver show --help",
+        Topic::Bump => "pyver bump --help",
     }
 }
 
@@ -133,6 +203,8 @@ pub(crate) fn usage(topic: Topic) -> &'static str
         Topic::Compare => COMPARE_USAGE,
         Topic::Match => MATCH_USAGE,
         Topic::Filter => FILTER_USAGE,
+        Topic::Sort => SORT_USAGE,
         Topic::Show => SHOW_USAGE,
+        Topic::Bump => BUMP_USAGE,
     }
 }

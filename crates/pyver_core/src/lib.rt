@@ -3,6 +3,8 @@
 
 mod allowed;
 mod answer;
+mod bump;
+mod bump_words;
 mod command;
 mod comparison;
 mod escape;
@@ -10,8 +12,10 @@ mod filter;
 mod filter_input;
 mod filter_words;
 mod help;
+mod invalid_lines;
 mod json;
 pub mod laws;
+mod line_options;
 mod lines;
 mod misuse;
 mod nearest;
@@ -21,6 +25,10 @@ mod program;
 mod reading;
 mod show;
 mod show_words;
+mod sort;
+mod sort_words;
 mod stream;
+mod version_line;
+mod whole_input;
 
 pub use program::{refuse, run};

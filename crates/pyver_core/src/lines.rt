@@ -2,8 +2,8 @@
 ghost use Rattle.std.specs.Prelude.{◌≡◌, IfOk, if◌then◌else◌, ◌==◌};
 ghost use Rattle.std.specs.Str.Lines.{strip_carriage_return};
 ghost use Rattle.pyver_core.specs.AnswerViews.{reading_of};
-ghost use Rattle.pyver_core.specs.Filters.{ReadsLine};
 ghost use Rattle.pyver_core.specs.InputLines.{is_blank, numbered, without_mark};
+ghost use Rattle.pyver_core.specs.ReadLines.{ReadsLine};
 
 use crate::reading::{Reading, read_version};
 use std::alloc::{AllocError, Global};

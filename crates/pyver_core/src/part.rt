@@ -2,6 +2,7 @@
 ghost use Rattle.std.specs.Prelude.{◌≡◌, ◌++◌, IfOk, get_or, map, string_bytes, Some};
 ghost use Rattle.std.specs.Fmt.{decimal};
 ghost use Rattle.pep440_version.specs.Print.{dotted, pre_text, segment_print};
+ghost use Rattle.pep440_version.specs.Record.{epoch_and_release};
 ghost use Rattle.pep440_version.specs.Segments.{segment};
 ghost use Rattle.pyver_core.specs.Parts.{number_text, part_of, part_text};
 
@@ -89,13 +90,17 @@ pub(crate) fn public_text(alloc: Global, version: &Version) -> Result<String, Al
 }
 
 /// Epoch and release.
+pub(crate) fn base_version(alloc: Global, version: &Version) -> Result<Version, AllocError>
+    ensures { IfOk result (λ v. v ≡ epoch_and_release version.now.epoch version.now.release) }
+{
+    let release = version.only_release(alloc)?;
+    release.with_epoch(alloc, version.epoch())
+}
+
 pub(crate) fn base_text(alloc: Global, version: &Version) -> Result<String, AllocError>
     ensures { IfOk result (λ s. string_bytes s ≡ part_text VersionPart.Base version.now) }
 {
-    let base = version
-        .only_release(alloc)?
-        .with_epoch(alloc, version.epoch())?;
-    base.to_string(alloc)
+    base_version(alloc, version)?.to_string(alloc)
 }
 
 fn pre_text(alloc: Global, pre: Option<Prerelease>) -> Result<String, AllocError>

@@ -7,6 +7,7 @@ use crate::answer::Answer;
 use crate::command::{Command, Work};
 use crate::filter_input::filter_input;
 use crate::stream::{Stop, WriteFailure, write_whole};
+use crate::whole_input::answer_input;
 use std::alloc::Global;
 use std::io::{Read, Write};
 
@@ -69,7 +70,7 @@ fn report_stop<E: Write>(stop: Stop, err: &mut E) -> u8
 }
 
 /// Runs the command of the words and returns the status of the process: answers go to `out` and faults to `err`. Only
-/// `filter` with a valid list reads `input`.
+/// `sort`, and `filter` with a valid list, read `input`.
 pub fn run<R: Read, W: Write, E: Write>(
     alloc: Global,
     words: &[String],
@@ -82,6 +83,10 @@ pub fn run<R: Read, W: Write, E: Write>(
     match Command::parse(words).run(alloc) {
         Ok(Work::Answer(answer)) => write_answer(&answer, out, err),
         Ok(Work::Filter(rule)) => match filter_input(alloc, &rule, input, out, err) {
+            Ok(status) => status,
+            Err(stop) => report_stop(stop, err),
+        },
+        Ok(Work::Whole(question)) => match answer_input(alloc, question, input, out, err) {
             Ok(status) => status,
             Err(stop) => report_stop(stop, err),
         },

@@ -6,6 +6,7 @@ ghost use Rattle.pyver_core.specs.declared.show.ShowFormat.TheVariants as format
 
 use crate::command::{Command, is_help, is_option};
 use crate::help::Topic;
+use crate::line_options::value_behind;
 use crate::misuse::Misuse;
 use crate::part::parse_part;
 use crate::show::ShowFormat;
@@ -62,6 +63,12 @@ pub(crate) fn parse_show<'a>(words: &'a [String]) -> Command<'a>
             };
             format = ShowFormat::Part(part);
             left = after;
+        } else if let Some(name) = value_behind("--part=", word) {
+            let Some(part) = parse_part(name) else {
+                return Command::Misused(Misuse::Part(name));
+            };
+            format = ShowFormat::Part(part);
+            left = rest;
         } else {
             return parse_rest(format, word, rest, left);
         }

@@ -1,0 +1,33 @@
+-- The lines of the input that are versions, for commands that print nothing where a line is invalid.
+use Rattle.std.specs.Prelude.{◌≡◌, ◌⊎◌, ◌<◌, ℕ, List, [], ◌∷◌, length}
+use Rattle.std.specs.List.{AllZip, flat_map}
+use Rattle.pep440_version.specs.Record.{Record}
+use Rattle.pyver_core.specs.InputLines.{filled_lines_from}
+use Rattle.pyver_core.specs.Outcomes.{Outcome}
+use Rattle.pyver_core.specs.ReadLines.{IsRead, ReadLine, fault_messages, faults}
+use Rattle.pyver_core.specs.Readings.{Denotes, Fails, Reading}
+
+-- a line as it was written, and its version
+pub record VersionLine : Type 0 where
+  pub text : List ℕ
+  pub version : Record
+
+-- the line with its version, where it is one
+abbrev pub line_with : List ℕ → Reading → List VersionLine
+line_with text (Denotes r) = record { text = text; version = r } ∷ []
+line_with text (Fails reason) = []
+
+abbrev pub version_lines : List ReadLine → List VersionLine
+version_lines found = flat_map (λ (x : ReadLine). line_with x.line.1 x.reading) found
+
+-- invalid lines are named, and nothing is printed
+abbrev pub invalid_outcome : List ReadLine → Outcome
+invalid_outcome found = record { output = []; errors = fault_messages found; status = 2 }
+
+-- what is written of lines that were read: this of all, or the messages of those that are invalid
+abbrev pub OfFound : (List VersionLine → Outcome → Type 0) → List ReadLine → Outcome → Type 0
+OfFound Gives found o = ((length (faults found) ≡ 0) × Gives (version_lines found) o) ⊎ ((0 < length (faults found)) × (o ≡ invalid_outcome found))
+
+-- what is written of the lines of the input
+abbrev pub OfVersions : (List VersionLine → Outcome → Type 0) → List (List ℕ) → Outcome → Type 0
+OfVersions Gives texts o = (found : List ReadLine) × AllZip IsRead (filled_lines_from 1 texts) found × OfFound Gives found o
