@@ -30,7 +30,8 @@ static uint8_t parts_of(void) { return pep440_parts_of(TEXT("1.2.3"), &parts, re
 static uint8_t sort_key(void) { return pep440_sort_key(TEXT("1.2.3"), out, sizeof out, &written); }
 static uint8_t sort_key_longer(void) { return pep440_sort_key(TEXT(LONGER), out, sizeof out, &written); }
 static uint8_t ranges(void) { return pep440_ranges(TEXT(LIST), out, sizeof out, &written); }
-
+static const pep440_string changes[] = {{TEXT("post=4")}};
+static uint8_t edit(void) { return pep440_edit(TEXT("1.2.3"), changes, 1, out, sizeof out, &written); }
 
 /* Compiled forms, made once. */
 typedef struct {
@@ -69,6 +70,7 @@ static const struct {
              {"any_prerelease", any_prerelease, PEP440_OK}, {"parts_of", parts_of, PEP440_OK},
              {"sort_key", sort_key, PEP440_OK},             {"sort_key_longer", sort_key_longer, PEP440_OK},
              {"ranges", ranges, PEP440_OK},
+             {"edit", edit, PEP440_OK},
              {"compile", compile, PEP440_OK},
              {"compile_longer", compile_longer, PEP440_OK},
              {"compile_list", compile_list, PEP440_OK},

@@ -20,6 +20,7 @@ mod pep440 {
         NumberAtMax,
         NotCompiled,
         NotPacked,
+        InvalidChange,
     }
 
     /// What a filter finds of a string.
@@ -88,6 +89,24 @@ mod pep440 {
             operator_length: usize,
             version: *const u8,
             length: usize,
+            out: *mut u8,
+            room: usize,
+            written: *mut usize,
+        ) -> u8;
+        fn pep440_edit(
+            text: *const u8,
+            length: usize,
+            changes: *const Text,
+            count: usize,
+            out: *mut u8,
+            room: usize,
+            written: *mut usize,
+        ) -> u8;
+        fn pep440_edit_error(
+            text: *const u8,
+            length: usize,
+            changes: *const Text,
+            count: usize,
             out: *mut u8,
             room: usize,
             written: *mut usize,
@@ -169,6 +188,7 @@ mod pep440 {
             5 => Err(Error::NumberAtMax),
             6 => Err(Error::NotCompiled),
             7 => Err(Error::NotPacked),
+            8 => Err(Error::InvalidChange),
             _ => unreachable!("status {status}"),
         }
     }
@@ -282,6 +302,18 @@ mod pep440 {
         let star = std::cell::Cell::new(9);
         let version = grown(|out, written| unsafe { pep440_pattern(text.as_ptr(), text.len(), out.as_mut_ptr(), out.len(), written, star.as_ptr()) })?;
         Ok((version, truth(star.get())))
+    }
+
+    pub fn edit(text: &str, changes: &[String]) -> Result<String, Error> {
+        let lent = lent(changes);
+        grown(|out, written| unsafe { pep440_edit(text.as_ptr(), text.len(), lent.as_ptr(), lent.len(), out.as_mut_ptr(), out.len(), written) })
+    }
+
+    pub fn edit_error(text: &str, changes: &[String]) -> Result<String, Error> {
+        let lent = lent(changes);
+        grown(|out, written| unsafe {
+            pep440_edit_error(text.as_ptr(), text.len(), lent.as_ptr(), lent.len(), out.as_mut_ptr(), out.len(), written)
+        })
     }
 
     pub fn range_keys(list: &str) -> Result<Vec<Vec<u8>>, Error> {
@@ -700,6 +732,35 @@ fn same_patterns(texts: &[String]) -> usize {
     stars
 }
 
+/// An edited version has the parts that the changes state, and the others as before; what cannot be changed so has an error.
+fn same_edits(texts: &[String]) {
+    for (place, text) in texts.iter().enumerate() {
+        let edited = |changes: &[&str]| {
+            let changes: Vec<String> = changes.iter().map(|change| change.to_string()).collect();
+            let edited = pep440::edit(text, &changes);
+            assert_eq!(pep440::edit_error(text, &changes).unwrap().is_empty(), edited.is_ok(), "{text}");
+            edited
+        };
+        let Ok((parts, release)) = pep440::parts_of(text) else {
+            assert_eq!(edited(&["post=x"]), Err(Error::InvalidVersion), "{text}");
+            assert_eq!(pep440::edit_error(text, &["post=x".to_string()]), pep440::version_error(text), "{text}");
+            continue;
+        };
+        assert_eq!(edited(&[]), pep440::normalize(text), "{text}");
+        assert_eq!(edited(&["post=1", "post=x"]), Err(Error::InvalidChange), "{text}");
+        let (post, epoch) = (format!("post={place}"), format!("epoch={}", place % 3));
+        let wanted = pep440::Parts { epoch: place as u64 % 3, post: place as u64, has_post: 1, dev: 0, has_dev: 0, ..parts.clone() };
+        assert_eq!(pep440::parts_of(&edited(&[&post, "dev=", &epoch]).unwrap()), Ok((wanted, release.clone())), "{text}");
+        let only = pep440::parts_of(&edited(&["only-release"]).unwrap()).unwrap();
+        assert_eq!(only, (pep440::Parts { release_length: release.len(), ..Default::default() }, release), "{text}");
+        let public = edited(&["without-local"]).unwrap();
+        assert_eq!(pep440::normalize(text).unwrap().split('+').next(), Some(public.as_str()), "{text}");
+        let goes = parts.has_post == 0 && parts.has_dev == 0;
+        let wanted = if goes { Ok(pep440::normalize(text).unwrap() + "~max3") } else { Err(Error::InvalidChange) };
+        assert_eq!(edited(&["max=3"]), wanted, "{text}");
+    }
+}
+
 /// How many candidates were asked of lists.
 fn same_filters(chance: &mut Chance, texts: &[String]) -> usize {
     let mut asked = 0;
@@ -774,6 +835,7 @@ fn main() {
     let compiled = same_compiled(&versions);
     same_errors(&texts);
     let stars = same_patterns(&texts);
+    same_edits(&texts);
     let asked = same_filters(&mut chance, &texts);
     let lists: Vec<Vec<u8>> = (0..1000).filter_map(|_| pep440::compile_list(&chance.list()).ok()).collect();
     let (tried, taken) = same_changes(&mut chance, &compiled, &lists);

@@ -50,7 +50,9 @@ pub fn range(specifier: &VersionSpecifier) -> Option<Ranges<Version>> {
     let release = version.release();
     let raised = match specifier.operator() {
         Operator::TildeEqual => release[release.len() - 2],
-        Operator::EqualStar | Operator::NotEqualStar => release[release.len() - 1],
+        Operator::EqualStar | Operator::NotEqualStar => {
+            version.post().or(version.pre().map(|pre| pre.number)).unwrap_or(release[release.len() - 1])
+        }
         Operator::GreaterThan => version.dev().or(version.post()).unwrap_or(0),
         _ => 0,
     };

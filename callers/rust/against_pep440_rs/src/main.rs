@@ -138,8 +138,15 @@ fn unchecked(chance: &mut Chance) -> Option<Case> {
         return None;
     }
     let asked = format!("{operator} {asked} {also}");
-    let shown = (ours::show_specifier(&mine), mine.contains(&candidate));
-    case("unchecked", asked, shown, (theirs::show_specifier(&other), departures::contains(&other, &candidate_theirs)))
+    let range = mine.ranges().map(|found| ours::show_bounds(found.iter().map(|(low, high)| (low, high))));
+    let wanted = if departures::is_confused(other.version()) {
+        range.clone()
+    } else {
+        let wanted = departures::range(&other).map(|wanted| theirs::show_bounds(wanted.iter()));
+        wanted.ok_or(ours::RangeError::NumberAtMax)
+    };
+    let shown = (ours::show_specifier(&mine), mine.contains(&candidate), range);
+    case("unchecked", asked, shown, (theirs::show_specifier(&other), departures::contains(&other, &candidate_theirs), wanted))
 }
 
 fn contained(chance: &mut Chance) -> Option<Case> {

@@ -39,13 +39,34 @@ unsafe extern "C" {
     fn pep440_parts_of(version: *const u8, length: usize, parts: *mut PartsOf, release: *mut u64, size: usize) -> u8;
     fn pep440_compile(version: *const u8, length: usize, out: *mut u8, size: usize, written: *mut usize) -> u8;
     fn pep440_compile_list(list: *const u8, length: usize, out: *mut u8, size: usize, written: *mut usize) -> u8;
+    fn pep440_compile_specifier(specifier: *const u8, length: usize, out: *mut u8, size: usize, written: *mut usize) -> u8;
     fn pep440_pattern(pattern: *const u8, length: usize, out: *mut u8, size: usize, written: *mut usize, star: *mut u8) -> u8;
     fn pep440_version_error(version: *const u8, length: usize, out: *mut u8, size: usize, written: *mut usize) -> u8;
+    fn pep440_pattern_error(pattern: *const u8, length: usize, out: *mut u8, size: usize, written: *mut usize) -> u8;
+    fn pep440_specifier_error(specifier: *const u8, length: usize, out: *mut u8, size: usize, written: *mut usize) -> u8;
     fn pep440_list_error(list: *const u8, length: usize, out: *mut u8, size: usize, written: *mut usize) -> u8;
+    fn pep440_build_error(
+        operator: u8,
+        version: *const u8,
+        length: usize,
+        star: u8,
+        out: *mut u8,
+        size: usize,
+        written: *mut usize,
+    ) -> u8;
     fn pep440_normalize_compiled(compiled: *const u8, length: usize, out: *mut u8, size: usize, written: *mut usize) -> u8;
     fn pep440_normalize_list_compiled(compiled: *const u8, length: usize, out: *mut u8, size: usize, written: *mut usize) -> u8;
     fn pep440_sort_key_compiled(compiled: *const u8, length: usize, out: *mut u8, size: usize, written: *mut usize) -> u8;
-    fn pep440_ranges(list: *const u8, length: usize, out: *mut u8, size: usize, written: *mut usize) -> u8;
+    fn pep440_range_bounds_compiled(
+        list: *const u8,
+        length: usize,
+        out: *mut u8,
+        size: usize,
+        ends: *mut usize,
+        ends_size: usize,
+        written: *mut usize,
+        count: *mut usize,
+    ) -> u8;
     fn pep440_compare_compiled(left: *const u8, left_length: usize, right: *const u8, right_length: usize, order: *mut i8) -> u8;
     fn pep440_filter_compiled(
         list: *const u8,
@@ -193,14 +214,46 @@ pub(crate) fn compile_list<T>(list: &str, read: impl FnOnce(&[u8]) -> T) -> Resu
     written(pep440_compile_list, list.as_bytes(), read)
 }
 
+/// Calls `read` with the compiled bytes of the list of one specifier.
+pub(crate) fn compile_specifier<T>(specifier: &str, read: impl FnOnce(&[u8]) -> T) -> Result<T, Refusal> {
+    written(pep440_compile_specifier, specifier.as_bytes(), read)
+}
+
+/// The words that `call` writes of a string, which has some with each string.
+fn words(call: Writer, string: &str) -> Box<str> {
+    written(call, string.as_bytes(), |bytes| as_text(bytes).into()).expect("any string has an answer")
+}
+
 /// Why the string is no version; empty where it is one.
 pub(crate) fn version_error(version: &str) -> Box<str> {
-    written(pep440_version_error, version.as_bytes(), |bytes| as_text(bytes).into()).expect("any string has an answer")
+    words(pep440_version_error, version)
+}
+
+/// Why the string is no pattern; empty where it is one.
+pub(crate) fn pattern_error(pattern: &str) -> Box<str> {
+    words(pep440_pattern_error, pattern)
+}
+
+/// Why the string is no specifier; empty where it is one.
+pub(crate) fn specifier_error(specifier: &str) -> Box<str> {
+    words(pep440_specifier_error, specifier)
+}
+
+/// Why the operator of this rank and the compiled version make no specifier, `.*` behind the version or not; empty where they do.
+pub(crate) fn build_error(operator: u8, version: &[u8], star: bool) -> Box<str> {
+    written_by(
+        // SAFETY: as the module says; `out` has room for `size` bytes.
+        |out, size, length| unsafe {
+            pep440_build_error(operator, version.as_ptr(), version.len(), star.into(), out, size, length)
+        },
+        |bytes| as_text(bytes).into(),
+    )
+    .expect("an operator and compiled bytes have an answer")
 }
 
 /// Why the string is no list; empty where it is one.
 pub(crate) fn list_error(list: &str) -> Box<str> {
-    written(pep440_list_error, list.as_bytes(), |bytes| as_text(bytes).into()).expect("any string has an answer")
+    words(pep440_list_error, list)
 }
 
 /// Calls `read` with the normalized form of a compiled version.
@@ -218,9 +271,34 @@ pub(crate) fn sort_key<T>(version: &[u8], read: impl FnOnce(&[u8]) -> T) -> T {
     written(pep440_sort_key_compiled, version, read).expect("compiled bytes have a sort key")
 }
 
-/// Calls `read` with the range of a list, a line for each segment.
-pub(crate) fn ranges<T>(list: &str, read: impl FnOnce(&str) -> T) -> Result<T, Refusal> {
-    written(pep440_ranges, list.as_bytes(), |bytes| read(as_text(bytes)))
+/// Calls `read` with the bounds of the range of a compiled list, one after the other, and with where each of them ends.
+pub(crate) fn range_bounds<T>(list: &[u8], read: impl FnOnce(&[u8], &[usize]) -> T) -> Result<T, Refusal> {
+    let (mut out, mut ends) = (vec![0; STACK], vec![0; 8]);
+    loop {
+        let (mut length, mut count) = (0, 0);
+        // SAFETY: as the module says; `out` and `ends` have room for as many bytes and ends as is said.
+        let status = unsafe {
+            pep440_range_bounds_compiled(
+                list.as_ptr(),
+                list.len(),
+                out.as_mut_ptr(),
+                out.len(),
+                ends.as_mut_ptr(),
+                ends.len(),
+                &mut length,
+                &mut count,
+            )
+        };
+        match status {
+            OK => return Ok(read(&out[..length], &ends[..count])),
+            NO_ROOM if out.len() < length || ends.len() < count => {
+                out.resize(out.len().max(length), 0);
+                ends.resize(ends.len().max(count), 0);
+            }
+            NO_ROOM => panic!("the library needs more room than it says"),
+            other => return Err(refusal(other)),
+        }
+    }
 }
 
 /// The order of two compiled versions.

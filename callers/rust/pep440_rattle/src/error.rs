@@ -95,17 +95,14 @@ impl fmt::Display for OperatorParseError {
 pub enum RangeError {
     /// A bound would need a number above `u64::MAX`, as the end of `==18446744073709551615.*`.
     NumberAtMax,
-    /// The normalized form of the list is that of no list, or of another one, since a member was made by a call that checks nothing.
-    NotParsed,
 }
 
 impl Error for RangeError {}
 
 impl fmt::Display for RangeError {
     fn fmt(&self, f: &mut fmt::Formatter<'_>) -> fmt::Result {
-        f.write_str(match self {
-            RangeError::NumberAtMax => "a bound would need a number above 18446744073709551615",
-            RangeError::NotParsed => "the list holds a specifier that no string denotes",
-        })
+        match self {
+            RangeError::NumberAtMax => f.write_str("a bound would need a number above 18446744073709551615"),
+        }
     }
 }

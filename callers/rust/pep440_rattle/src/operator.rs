@@ -55,14 +55,13 @@ impl Operator {
         self.symbol_of().is_some()
     }
 
-    /// The star form; None where there is none.
-    pub(crate) fn to_star(self) -> Option<Operator> {
-        ALL.into_iter().find(|star| star.symbol_of() == Some(self))
-    }
-
-    /// Whether the operator goes with a version that has a local part.
-    pub(crate) fn takes_local(self) -> bool {
-        matches!(self, Equal | NotEqual | ExactEqual)
+    /// The star form of `==` and of `!=`; any other operator is as it was.
+    pub(crate) fn to_star(self) -> Operator {
+        match self {
+            Equal => EqualStar,
+            NotEqual => NotEqualStar,
+            other => other,
+        }
     }
 
     pub(crate) fn from_rank(rank: u8) -> Option<Operator> {

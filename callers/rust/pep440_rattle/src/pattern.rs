@@ -36,9 +36,6 @@ impl VersionPattern {
     }
 }
 
-/// What the library says of each string that is a version up to a `.*`, and of no other.
-const HAS_WILDCARD: &str = "wildcards are not allowed in a version";
-
 impl FromStr for VersionPattern {
     type Err = VersionPatternParseError;
 
@@ -49,9 +46,7 @@ impl FromStr for VersionPattern {
         }
         let found =
             calls::pattern(pattern, |text, wildcard| Some(VersionPattern { version: Version::parse(text).ok()?, wildcard }));
-        found.map(|found| found.expect("the library wrote this version")).map_err(|_| match &*calls::version_error(pattern) {
-            HAS_WILDCARD => VersionPatternParseError::new("wildcards in versions must be at the end"),
-            other => VersionPatternParseError::new(other),
-        })
+        let found = found.map(|found| found.expect("the library wrote this version"));
+        found.map_err(|_| VersionPatternParseError::new(calls::pattern_error(pattern)))
     }
 }

@@ -5,7 +5,6 @@ use crate::{
     Operator, RangeError, Segment, Version, VersionPattern, VersionSpecifierBuildError, VersionSpecifierParseError,
     VersionSpecifiers,
 };
-use std::collections::HashSet;
 use std::fmt;
 use std::ops::Bound;
 use std::str::FromStr;
@@ -40,14 +39,10 @@ impl VersionSpecifier {
         operator: Operator,
         version_pattern: VersionPattern,
     ) -> Result<VersionSpecifier, VersionSpecifierBuildError> {
-        if !version_pattern.is_wildcard() {
-            return VersionSpecifier::from_version(operator, version_pattern.into_version());
-        }
-        let Some(star) = operator.to_star() else {
-            let text = format!("Operator {operator} cannot be used with a wildcard version specifier");
-            return Err(VersionSpecifierBuildError::new(text));
-        };
-        VersionSpecifier::from_version(star, version_pattern.into_version())
+        let wildcard = version_pattern.is_wildcard();
+        check(operator, version_pattern.version(), wildcard)?;
+        let operator = if wildcard { operator.to_star() } else { operator };
+        Ok(VersionSpecifier::unchecked(operator, version_pattern.into_version()))
     }
 
     /// The specifier of an operator and a version.
@@ -57,18 +52,7 @@ impl VersionSpecifier {
     /// Where the version has a local part and the operator is none of `==`, `!=` and `===`, or the operator is `~=` and the
     /// version has one release number.
     pub fn from_version(operator: Operator, version: Version) -> Result<VersionSpecifier, VersionSpecifierBuildError> {
-        if version.is_local() && !operator.takes_local() {
-            let local: Vec<String> = version.local().iter().map(ToString::to_string).collect();
-            let text = format!(
-                "Operator {operator} is incompatible with versions containing non-empty local segments (`+{}`)",
-                local.join(".")
-            );
-            return Err(VersionSpecifierBuildError::new(text));
-        }
-        if operator == Operator::TildeEqual && version.release().len() < 2 {
-            let text = "The ~= operator requires at least two segments in the release version";
-            return Err(VersionSpecifierBuildError::new(text));
-        }
+        check(operator, &version, false)?;
         Ok(VersionSpecifier::unchecked(operator, version))
     }
 
@@ -211,21 +195,13 @@ pub(crate) fn is_next_minor(low: &Version, high: &Version) -> bool {
     }
 }
 
-/// A character that the string does not have. None of these is white space or stands in a specifier.
-fn unused_character(text: &str) -> char {
-    let used: HashSet<char> = text.chars().collect();
-    ('\u{e000}'..=char::MAX).find(|candidate| !used.contains(candidate)).unwrap_or('\u{e000}')
-}
-
-/// Why the list of this one string is no list, without what the library writes around it: its first words, the string, and
-/// the carets under it.
-fn error_of_one(specifier: &str) -> Box<str> {
-    let whole = calls::list_error(specifier);
-    let inner = || {
-        let rest = whole.strip_prefix("Failed to parse version: ")?.strip_suffix('\n')?.trim_end_matches('^');
-        rest.strip_suffix('\n')?.strip_suffix(specifier)?.strip_suffix(":\n")
-    };
-    inner().unwrap_or(&whole).into()
+/// What the library finds wrong with the operator beside the version, `.*` behind it or not.
+fn check(operator: Operator, version: &Version, wildcard: bool) -> Result<(), VersionSpecifierBuildError> {
+    let text = version.with_compiled(|version| calls::build_error(operator as u8, version, wildcard));
+    if text.is_empty() {
+        return Ok(());
+    }
+    Err(VersionSpecifierBuildError::new(text))
 }
 
 impl FromStr for VersionSpecifier {
@@ -233,15 +209,8 @@ impl FromStr for VersionSpecifier {
 
     /// Parses a specifier, as `>= 1.19`, `== 1.1.*` or `<=1!2012.2`.
     fn from_str(specifier: &str) -> Result<VersionSpecifier, VersionSpecifierParseError> {
-        // The library reads lists: none of nothing, and more than one of a string with a comma, which no specifier has.
-        if specifier.contains(',') {
-            let instead = unused_character(specifier);
-            let text = error_of_one(&specifier.replace(',', &instead.to_string()));
-            return Err(VersionSpecifierParseError::new(text.replace(instead, ",")));
-        }
-        let asked = if specifier.is_empty() { " " } else { specifier };
-        let read = calls::compile_list(asked, bytes::read_list).ok().and_then(|mut members| members.pop());
-        read.ok_or_else(|| VersionSpecifierParseError::new(error_of_one(asked)))
+        let read = calls::compile_specifier(specifier, |list| bytes::read_list(list).pop());
+        read.ok().flatten().ok_or_else(|| VersionSpecifierParseError::new(calls::specifier_error(specifier)))
     }
 }
 

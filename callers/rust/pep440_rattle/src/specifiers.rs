@@ -1,6 +1,6 @@
 //! Lists of specifiers.
 use crate::bytes;
-use crate::calls::{self, Refusal};
+use crate::calls;
 use crate::range;
 use crate::specifier::is_next_minor;
 use crate::{RangeError, Segment, Version, VersionSpecifier, VersionSpecifiersParseError};
@@ -61,18 +61,9 @@ impl VersionSpecifiers {
     ///
     /// # Errors
     ///
-    /// [`RangeError::NumberAtMax`] where a bound would need a number above `u64::MAX`; [`RangeError::NotParsed`] where a
-    /// member was made by a call that checks nothing, and no string denotes it.
+    /// [`RangeError::NumberAtMax`] where a bound would need a number above `u64::MAX`.
     pub fn ranges(&self) -> Result<Vec<Segment>, RangeError> {
-        let text = self.to_string();
-        // What is printed lacks sentinels, and letters of a local part may be folded where it is parsed.
-        if !calls::compile_list(&text, |compiled| *compiled == *self.compiled).is_ok_and(|is_same| is_same) {
-            return Err(RangeError::NotParsed);
-        }
-        calls::ranges(&text, range::read_segments).map_err(|refusal| match refusal {
-            Refusal::Invalid => RangeError::NotParsed,
-            Refusal::NumberAtMax => RangeError::NumberAtMax,
-        })
+        calls::range_bounds(&self.compiled, range::read_segments).map_err(|_| RangeError::NumberAtMax)
     }
 
     /// The list that a sorted sequence of ranges of releases is: the outer bounds, and a specifier `!=` for a gap of one

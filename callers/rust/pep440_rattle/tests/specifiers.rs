@@ -117,9 +117,10 @@ fn checked_and_unchecked() {
     let odd = VersionSpecifier::greater_than_equal_version(version("1.0+local"));
     assert_eq!(odd.to_string(), ">=1.0+local");
     assert!(odd.contains(&version("1.0+local.1")) && !odd.contains(&version("1.0")));
-    assert_eq!(odd.ranges(), Err(RangeError::NotParsed));
+    let above = |version| Ok(vec![(Bound::Included(version), Bound::Unbounded)]);
+    assert_eq!(odd.ranges(), above(version("1.0+local")));
     let hidden = VersionSpecifier::greater_than_equal_version(version("1.0").with_min(Some(0)));
-    assert_eq!((hidden.to_string(), hidden.ranges()), (">=1.0".to_owned(), Err(RangeError::NotParsed)));
+    assert_eq!((hidden.to_string(), hidden.ranges()), (">=1.0".to_owned(), above(version("1.0").with_min(Some(0)))));
     assert!(specifier(">1.0rc1").any_prerelease() && !specifier(">1.0").any_prerelease());
     assert!(specifier("==1.0").has_lower_bound() && !specifier("!=1.0").has_lower_bound());
 }
