@@ -2,7 +2,7 @@
 _pyver() {
     local word=${COMP_WORDS[COMP_CWORD]} before=${COMP_WORDS[COMP_CWORD - 1]} words=
     case $COMP_CWORD,${COMP_WORDS[1]} in
-        1,*) words='compare match filter show --help --version' ;;
+        1,*) words='compare match filter sort show bump --help --version' ;;
         *,compare)
             case $COMP_CWORD in
                 2) words='--help' ;;
@@ -10,11 +10,23 @@ _pyver() {
             esac
             ;;
         *,match) words='--help -q --quiet --pre --no-pre' ;;
-        *,filter) words='--help -v --invert-match --pre --no-pre' ;;
+        *,filter)
+            case $before in
+                --invalid) words='error skip keep' ;;
+                *) words='--help -v --invert-match --pre --no-pre --invalid' ;;
+            esac
+            ;;
+        *,sort) words='--help -r --reverse -u --unique -n --last' ;;
         *,show)
             case $before in
                 --part) words='epoch release major minor micro pre post dev local public base' ;;
                 *) words='--help --part --json' ;;
+            esac
+            ;;
+        *,bump)
+            case $before in
+                --to) ;;
+                *) words='--help --to major minor patch stable alpha beta rc post dev' ;;
             esac
             ;;
     esac

@@ -15,7 +15,17 @@ complete -c pyver -n __fish_use_subcommand -a filter -d 'the lines of standard i
 complete -c pyver -n '__fish_seen_subcommand_from filter' -s v -l invert-match -d 'print the other lines, but no invalid ones'
 complete -c pyver -n '__fish_seen_subcommand_from filter' -l pre -d 'allow pre-releases and dev releases too'
 complete -c pyver -n '__fish_seen_subcommand_from filter' -l no-pre -d 'allow no pre-releases and no dev releases'
+complete -c pyver -n '__fish_seen_subcommand_from filter' -l invalid -x -a 'error skip keep' -d 'what is done with invalid lines'
+
+complete -c pyver -n __fish_use_subcommand -a sort -d 'the lines of standard input in the order of their versions'
+complete -c pyver -n '__fish_seen_subcommand_from sort' -s r -l reverse -d 'the newest first'
+complete -c pyver -n '__fish_seen_subcommand_from sort' -s u -l unique -d 'of lines of equal versions the first alone'
+complete -c pyver -n '__fish_seen_subcommand_from sort' -s n -l last -x -d 'the last lines alone'
 
 complete -c pyver -n __fish_use_subcommand -a show -d 'versions in normal form, or their parts'
 complete -c pyver -n '__fish_seen_subcommand_from show' -l part -x -a 'epoch release major minor micro pre post dev local public base' -d 'print a part alone'
 complete -c pyver -n '__fish_seen_subcommand_from show' -l json -d 'print all parts as a JSON object'
+
+complete -c pyver -n __fish_use_subcommand -a bump -d 'the version with parts of it raised'
+complete -c pyver -n '__fish_seen_subcommand_from bump' -l to -x -d 'set the number of the last part'
+complete -c pyver -n '__fish_seen_subcommand_from bump' -a 'major minor patch stable alpha beta rc post dev'
