@@ -7,7 +7,7 @@ use std::test::Fail;
 
 // The words between bars, the input, what is written on standard output and on standard error, and the status (PEP 440,
 // "Summary of permitted suffixes and relative ordering").
-const SORTED: [(&str, &[u8], &str, &str, u8); 22] = [
+const SORTED: [(&str, &[u8], &str, &str, u8); 25] = [
     (
         "sort",
         b"v1.0\n1.0.0\n1.10\n1.9\n2.0rc1\n2.0.dev3\n\n1!0.5\n",
@@ -72,6 +72,20 @@ const SORTED: [(&str, &[u8], &str, &str, u8); 22] = [
         0,
     ),
     (
+        "sort|-n|18446744073709551615",
+        b"2\n1",
+        "1\n2\n",
+        "",
+        0,
+    ),
+    (
+        "sort|-n|00000000000000000000001",
+        b"2\n1",
+        "2\n",
+        "",
+        0,
+    ),
+    (
         "sort|-u",
         b"1.0\n1\n1.0+a\n1.0.0\n1.0+A\n",
         "1.0\n1.0+a\n",
@@ -123,10 +137,17 @@ const SORTED: [(&str, &[u8], &str, &str, u8); 22] = [
         2,
     ),
     (
-        "sort|-n|1000000000000000000",
+        "sort|-n|18446744073709551616",
         b"",
         "",
-        "pyver: no number '1000000000000000000'\nTry 'pyver sort --help'.\n",
+        "pyver: no number '18446744073709551616'\nTry 'pyver sort --help'.\n",
+        2,
+    ),
+    (
+        "sort|-n|+3",
+        b"",
+        "",
+        "pyver: no number '+3'\nTry 'pyver sort --help'.\n",
         2,
     ),
     (

@@ -11,7 +11,7 @@ use Rattle.pyver_core.proofs.InputLines.{all_append, cuts_all, cuts_more, no_new
 use Rattle.pyver_core.specs.FilterSteps.{Cuts, FilterFinishes, FilterStops, FinishesBy, Goes, Steps, StepsBy}
 use Rattle.pyver_core.specs.Filters.{filter_outcome, is_shown, printed_lines}
 use Rattle.pyver_core.specs.InputLines.{is_blank, input_lines, numbered, filled_lines_from}
-use Rattle.pyver_core.specs.InvalidLines.{last_message, lines_status, most_named}
+use Rattle.pyver_core.specs.InvalidLines.{last_message, lines_status, message_limit}
 use Rattle.pyver_core.specs.ReadLines.{IsRead, ReadLine, ReadsLine, fault_at, faults}
 use Rattle.pyver_core.specs.Readings.{Reading}
 use Rattle.pyver_core.specs.Runs.{WroteBeginning}
@@ -51,7 +51,7 @@ steps_none rule a = record {
   line_count = omega arith;
   fault_count = omega arith;
   output = sym (append-nil a.output.items);
-  errors = sym (append-nil a.errors.items) ∙ ap (λ l. a.errors.items ++ concat l) (sym (take-nil (most_named rule.lines.invalid - a.fault_count)));
+  errors = sym (append-nil a.errors.items) ∙ ap (λ l. a.errors.items ++ concat l) (sym (take-nil (message_limit rule.lines.invalid - a.fault_count)));
 }
 
 pub steps_more : (rule : FilterRule) (xs ys : List (List ℕ)) (a b c : FilterState) → Steps rule xs a b → Steps rule ys b c → Steps rule (xs ++ ys) a c
@@ -61,8 +61,8 @@ steps_more rule xs ys a b c k m = record {
   line_count = omega (arith, k.line_count, m.line_count, length-append xs ys);
   fault_count = omega (arith, k.fault_count, m.fault_count, length-faults k.found m.found);
   output = m.output ∙ ap (λ t. t ++ printed_lines rule m.found) k.output ∙ append_assoc a.output.items (printed_lines rule k.found) (printed_lines rule m.found) ∙ ap (λ t. a.output.items ++ t) (sym (printed_lines-append rule k.found m.found));
-  errors = m.errors ∙ ap (λ t. t ++ concat (take (most_named rule.lines.invalid - b.fault_count) (faults m.found))) k.errors ∙ append_assoc a.errors.items _ _
-      ∙ ap (λ t. a.errors.items ++ t) (sym (first-append (most_named rule.lines.invalid - a.fault_count) (most_named rule.lines.invalid - b.fault_count) k.found m.found (omega (arith, k.fault_count))));
+  errors = m.errors ∙ ap (λ t. t ++ concat (take (message_limit rule.lines.invalid - b.fault_count) (faults m.found))) k.errors ∙ append_assoc a.errors.items _ _
+      ∙ ap (λ t. a.errors.items ++ t) (sym (first-append (message_limit rule.lines.invalid - a.fault_count) (message_limit rule.lines.invalid - b.fault_count) k.found m.found (omega (arith, k.fault_count))));
 }
 
 -- a line that is read
@@ -79,7 +79,7 @@ steps_line rule line a mid b text x is filled reads count fault output errors k 
       line_count = k.line_count ∙ count;
       fault_count = k.fault_count ∙ ap (λ m. m + length (faults (e ∷ []))) fault;
       output = k.output ∙ ap (λ t. t ++ printed_lines rule (e ∷ [])) output;
-      errors = k.errors ∙ ap (λ t. t ++ concat (take (most_named rule.lines.invalid - mid.fault_count) (faults (e ∷ [])))) errors ∙ ap (λ m. a.errors.items ++ concat (take (most_named rule.lines.invalid - m) (faults (e ∷ [])))) fault;
+      errors = k.errors ∙ ap (λ t. t ++ concat (take (message_limit rule.lines.invalid - mid.fault_count) (faults (e ∷ [])))) errors ∙ ap (λ m. a.errors.items ++ concat (take (message_limit rule.lines.invalid - m) (faults (e ∷ [])))) fault;
     }
 
 -- ---- what was written
@@ -110,7 +110,7 @@ module _ {R W E : Type 0} (remaining : R → Option (List ℕ)) (contents : W �
     line_count = count;
     fault_count = fault;
     output = Appends-nil (contents out);
-    errors = subst (Appends (error_contents err) (error_contents err)) (ap concat (sym (take-nil (most_named rule.lines.invalid)))) (Appends-nil (error_contents err));
+    errors = subst (Appends (error_contents err) (error_contents err)) (ap concat (sym (take-nil (message_limit rule.lines.invalid)))) (Appends-nil (error_contents err));
     no_output = output;
     no_errors = errors;
   }
@@ -123,10 +123,10 @@ module _ {R W E : Type 0} (remaining : R → Option (List ℕ)) (contents : W �
     printed_more texts g s = printed_lines-append rule g.found s.found ∙ ap (λ t. printed_lines rule g.found ++ t) (sym (s.output ∙ ap (λ t. t ++ printed_lines rule s.found) g.no_output))
 
     faults_more : (texts : List (List ℕ)) (g : Goes remaining contents error_contents rule reader reader' out out' err err' state line) (s : Steps rule texts state next)
-        → concat (take (most_named rule.lines.invalid) (faults (g.found ++ s.found))) ≡ concat (take (most_named rule.lines.invalid) (faults g.found)) ++ next.errors.items
+        → concat (take (message_limit rule.lines.invalid) (faults (g.found ++ s.found))) ≡ concat (take (message_limit rule.lines.invalid) (faults g.found)) ++ next.errors.items
     faults_more texts g s =
-        first-append (most_named rule.lines.invalid) (most_named rule.lines.invalid - state.fault_count) g.found s.found (ap (λ n. most_named rule.lines.invalid - n) g.fault_count)
-        ∙ ap (λ t. concat (take (most_named rule.lines.invalid) (faults g.found)) ++ t) (sym (s.errors ∙ ap (λ t. t ++ concat (take (most_named rule.lines.invalid - state.fault_count) (faults s.found))) g.no_errors))
+        first-append (message_limit rule.lines.invalid) (message_limit rule.lines.invalid - state.fault_count) g.found s.found (ap (λ n. message_limit rule.lines.invalid - n) g.fault_count)
+        ∙ ap (λ t. concat (take (message_limit rule.lines.invalid) (faults g.found)) ++ t) (sym (s.errors ∙ ap (λ t. t ++ concat (take (message_limit rule.lines.invalid - state.fault_count) (faults s.found))) g.no_errors))
 
     count_more : (texts : List (List ℕ)) (g : Goes remaining contents error_contents rule reader reader' out out' err err' state line) (s : Steps rule texts state next) → next.fault_count ≡ length (faults (g.found ++ s.found))
     count_more texts g s = omega (arith, s.fault_count, g.fault_count, length-faults g.found s.found)
@@ -147,7 +147,7 @@ module _ {R W E : Type 0} (remaining : R → Option (List ℕ)) (contents : W �
       fault_count = fault ∙ count_more texts g s;
       output = subst (Appends (contents out) (contents out'')) (sym (printed_more texts g s)) (Appends-trans (contents out) (contents out') (contents out'') (printed_lines rule g.found) next.output.items g.output output);
       errors = subst (Appends (error_contents err) (error_contents err'')) (sym (faults_more texts g s))
-          (Appends-trans (error_contents err) (error_contents err') (error_contents err'') (concat (take (most_named rule.lines.invalid) (faults g.found))) next.errors.items g.errors errors);
+          (Appends-trans (error_contents err) (error_contents err') (error_contents err'') (concat (take (message_limit rule.lines.invalid) (faults g.found))) next.errors.items g.errors errors);
       no_output = no_output;
       no_errors = no_errors;
     }
@@ -165,7 +165,7 @@ module _ {R W E : Type 0} (remaining : R → Option (List ℕ)) (contents : W �
       outcome = filter_outcome rule g.found;
       is = (g.found, g.are, refl);
       output = wrote_front _ _ (printed_lines rule g.found) [] _ g.output (sym (append-nil (printed_lines rule g.found)));
-      errors = wrote_front _ _ (concat (take (most_named rule.lines.invalid) (faults g.found))) (last_message rule.lines.invalid (length (faults g.found))) _ g.errors refl;
+      errors = wrote_front _ _ (concat (take (message_limit rule.lines.invalid) (faults g.found))) (last_message rule.lines.invalid (length (faults g.found))) _ g.errors refl;
     }
 
     -- a beginning was written of what their lines ask for
@@ -182,7 +182,7 @@ module _ {R W E : Type 0} (remaining : R → Option (List ℕ)) (contents : W �
       outcome = filter_outcome rule (g.found ++ s.found);
       is = (g.found ++ s.found, found_more texts g s, refl);
       output = began _ _ _ (printed_lines rule g.found) next.output.items [] _ g.output output (printed_more texts g s ∙ sym (append-nil (printed_lines rule g.found ++ next.output.items)));
-      errors = began _ _ _ (concat (take (most_named rule.lines.invalid) (faults g.found))) next.errors.items (last_message rule.lines.invalid (length (faults (g.found ++ s.found)))) _ g.errors errors (ap (λ t. t ++ last_message rule.lines.invalid (length (faults (g.found ++ s.found)))) (faults_more texts g s));
+      errors = began _ _ _ (concat (take (message_limit rule.lines.invalid) (faults g.found))) next.errors.items (last_message rule.lines.invalid (length (faults (g.found ++ s.found)))) _ g.errors errors (ap (λ t. t ++ last_message rule.lines.invalid (length (faults (g.found ++ s.found)))) (faults_more texts g s));
     }
 
   module _ (rule : FilterRule) (reader reader' reader'' : R) (out out' out'' : W) (err err' err'' : E) (state next : FilterState) (line : List ℕ) (status : ℕ) where
@@ -192,9 +192,9 @@ module _ {R W E : Type 0} (remaining : R → Option (List ℕ)) (contents : W �
         printed_more rule reader reader' reader'' out out' out'' err err' err'' state f.last line (line ∷ []) g f.step ∙ ap (λ t. printed_lines rule g.found ++ t) (sym f.output)
 
     last_errors : (g : Goes remaining contents error_contents rule reader reader' out out' err err' state line) (f : FinishesBy rule line state next status)
-        → concat (take (most_named rule.lines.invalid) (faults (g.found ++ f.step.found))) ++ last_message rule.lines.invalid (length (faults (g.found ++ f.step.found))) ≡ concat (take (most_named rule.lines.invalid) (faults g.found)) ++ next.errors.items
+        → concat (take (message_limit rule.lines.invalid) (faults (g.found ++ f.step.found))) ++ last_message rule.lines.invalid (length (faults (g.found ++ f.step.found))) ≡ concat (take (message_limit rule.lines.invalid) (faults g.found)) ++ next.errors.items
     last_errors g f =
-        let first = concat (take (most_named rule.lines.invalid) (faults g.found)) in
+        let first = concat (take (message_limit rule.lines.invalid) (faults g.found)) in
         ap (λ t. t ++ last_message rule.lines.invalid (length (faults (g.found ++ f.step.found)))) (faults_more rule reader reader' reader'' out out' out'' err err' err'' state f.last line (line ∷ []) g f.step)
         ∙ append_assoc first f.last.errors.items _
         ∙ ap (λ t. first ++ t)
@@ -219,7 +219,7 @@ module _ {R W E : Type 0} (remaining : R → Option (List ℕ)) (contents : W �
       );
       output = subst (Appends (contents out) (contents out'')) (sym (last_output g f)) (Appends-trans (contents out) (contents out') (contents out'') (printed_lines rule g.found) next.output.items g.output output);
       errors = subst (Appends (error_contents err) (error_contents err'')) (sym (last_errors g f))
-          (Appends-trans (error_contents err) (error_contents err') (error_contents err'') (concat (take (most_named rule.lines.invalid) (faults g.found))) next.errors.items g.errors errors);
+          (Appends-trans (error_contents err) (error_contents err') (error_contents err'') (concat (take (message_limit rule.lines.invalid) (faults g.found))) next.errors.items g.errors errors);
       ended = f.ended ∙ ap (lines_status rule.lines.invalid) (count_more rule reader reader' reader'' out out' out'' err err' err'' state f.last line (line ∷ []) g f.step);
     }
 
@@ -237,5 +237,5 @@ module _ {R W E : Type 0} (remaining : R → Option (List ℕ)) (contents : W �
       outcome = filter_outcome rule (g.found ++ f.step.found);
       is = (g.found ++ f.step.found, last_found g f, refl);
       output = began _ _ _ (printed_lines rule g.found) next.output.items [] _ g.output output (last_output g f ∙ sym (append-nil (printed_lines rule g.found ++ next.output.items)));
-      errors = began _ _ _ (concat (take (most_named rule.lines.invalid) (faults g.found))) next.errors.items [] _ g.errors errors (last_errors g f ∙ sym (append-nil (concat (take (most_named rule.lines.invalid) (faults g.found)) ++ next.errors.items)));
+      errors = began _ _ _ (concat (take (message_limit rule.lines.invalid) (faults g.found))) next.errors.items [] _ g.errors errors (last_errors g f ∙ sym (append-nil (concat (take (message_limit rule.lines.invalid) (faults g.found)) ++ next.errors.items)));
     }

@@ -129,12 +129,12 @@ bump_error_text error.NotGreater = codes "the result would not be greater"
 bump_error_text error.Greatest = codes "a number is the greatest that there is"
 bump_error_text error.NoNumber = codes "stable has no number that --to could set"
 
-abbrev pub bumped_outcome : List ℕ → Result Record BumpError → Outcome
-bumped_outcome word (Ok r) = record { output = print r ++ codes "\n"; errors = []; status = 0 }
-bumped_outcome word (Err e) = fault word (bump_error_text e)
+abbrev pub result_outcome : List ℕ → Result Record BumpError → Outcome
+result_outcome word (Ok r) = record { output = print r ++ codes "\n"; errors = []; status = 0 }
+result_outcome word (Err e) = fault word (bump_error_text e)
 
 abbrev pub bump_outcome : Option ℕ → List BumpPart → List ℕ → Reading → Outcome
-bump_outcome to parts word (Denotes v) = bumped_outcome word (bump to parts v)
+bump_outcome to parts word (Denotes v) = result_outcome word (bump to parts v)
 bump_outcome to parts word (Fails reason) = fault word reason
 
 abbrev pub Bumps : Option ℕ → List BumpPart → List ℕ → Outcome → Type 0

@@ -4,7 +4,7 @@ use Rattle.std.specs.Io.KnownBytes.{Appends, Consumes, IsAtEnd}
 use Rattle.std.specs.List.{All, AllZip, concat}
 use Rattle.pyver_core.specs.Filters.{Filters, printed_lines}
 use Rattle.pyver_core.specs.InputLines.{filled_lines_from, input_lines}
-use Rattle.pyver_core.specs.InvalidLines.{last_message, lines_status, most_named}
+use Rattle.pyver_core.specs.InvalidLines.{last_message, lines_status, message_limit}
 use Rattle.pyver_core.specs.Outcomes.{Outcome}
 use Rattle.pyver_core.specs.ReadLines.{IsRead, ReadLine, faults}
 use Rattle.pyver_core.specs.Runs.{WroteBeginning}
@@ -26,14 +26,14 @@ pub record Steps (rule : FilterRule) (ended : List (List ℕ)) (a b : FilterStat
   pub line_count : b.line_count ≡ a.line_count + length ended
   pub fault_count : b.fault_count ≡ a.fault_count + length (faults found)
   pub output : b.output.items ≡ a.output.items ++ printed_lines rule found
-  pub errors : b.errors.items ≡ a.errors.items ++ concat (take (most_named rule.lines.invalid - a.fault_count) (faults found))
+  pub errors : b.errors.items ≡ a.errors.items ++ concat (take (message_limit rule.lines.invalid - a.fault_count) (faults found))
 
 -- by one line, that is read so
 pub record StepsBy (rule : FilterRule) (x : ReadLine) (a b : FilterState) : Type 0 where
   pub line_count : b.line_count ≡ a.line_count
   pub fault_count : b.fault_count ≡ a.fault_count + length (faults (x ∷ []))
   pub output : b.output.items ≡ a.output.items ++ printed_lines rule (x ∷ [])
-  pub errors : b.errors.items ≡ a.errors.items ++ concat (take (most_named rule.lines.invalid - a.fault_count) (faults (x ∷ [])))
+  pub errors : b.errors.items ≡ a.errors.items ++ concat (take (message_limit rule.lines.invalid - a.fault_count) (faults (x ∷ [])))
 
 -- by the last line, and the end of the messages
 pub record FinishesBy (rule : FilterRule) (line : List ℕ) (a b : FilterState) (status : ℕ) : Type 0 where
@@ -55,7 +55,7 @@ module _ {R W E : Type 0} (remaining : R → Option (List ℕ)) (contents : W �
     pub line_count : state.line_count ≡ length ended
     pub fault_count : state.fault_count ≡ length (faults found)
     pub output : Appends (contents out) (contents out') (printed_lines rule found)
-    pub errors : Appends (error_contents err) (error_contents err') (concat (take (most_named rule.lines.invalid) (faults found)))
+    pub errors : Appends (error_contents err) (error_contents err') (concat (take (message_limit rule.lines.invalid) (faults found)))
     pub no_output : state.output.items ≡ []
     pub no_errors : state.errors.items ≡ []
 

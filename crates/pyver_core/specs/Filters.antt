@@ -3,7 +3,7 @@ use Rattle.std.specs.Prelude.{◌≡◌, ℕ, List, ◌++◌, Bool, false, codes
 use Rattle.std.specs.List.{AllZip, concat, filter, flat_map}
 use Rattle.pep440_rs.specs.Specifiers.{Spec}
 use Rattle.pyver_core.specs.InputLines.{filled_lines_from}
-use Rattle.pyver_core.specs.InvalidLines.{last_message, lines_status, most_named}
+use Rattle.pyver_core.specs.InvalidLines.{last_message, lines_status, message_limit}
 use Rattle.pyver_core.specs.Matches.{DenotesList, ListFails, ReadsSpecifiers, SpecifiersReading, list_fault}
 use Rattle.pyver_core.specs.Outcomes.{Outcome, followed_by, no_outcome}
 use Rattle.pyver_core.specs.Prereleases.{allows, takes_prereleases}
@@ -25,7 +25,7 @@ printed_lines rule found = flat_map (λ (x : ReadLine). x.line.1 ++ codes "\n") 
 abbrev pub filter_outcome : FilterRule → List ReadLine → Outcome
 filter_outcome rule found = record {
   output = printed_lines rule found;
-  errors = concat (take (most_named rule.lines.invalid) (faults found)) ++ last_message rule.lines.invalid (length (faults found));
+  errors = concat (take (message_limit rule.lines.invalid) (faults found)) ++ last_message rule.lines.invalid (length (faults found));
   status = lines_status rule.lines.invalid (length (faults found));
 }
 

@@ -17,10 +17,10 @@ abbrev pub invalid_lines_names : List (List ℕ)
 invalid_lines_names = codes "error" ∷ (codes "skip" ∷ (codes "keep" ∷ []))
 
 -- how many invalid lines get a message of their own
-abbrev pub most_named : InvalidLines → ℕ
-most_named invalid.Error = 20
-most_named invalid.Skip = 0
-most_named invalid.Keep = 0
+abbrev pub message_limit : InvalidLines → ℕ
+message_limit invalid.Error = 20
+message_limit invalid.Skip = 0
+message_limit invalid.Keep = 0
 
 -- the message after the last line, by the number of invalid lines
 abbrev pub last_message : InvalidLines → ℕ → List ℕ

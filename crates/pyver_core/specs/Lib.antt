@@ -20,7 +20,6 @@ pub mod ReadLines
 pub mod Filters
 pub mod VersionLines
 pub mod Sorts
-pub mod Counts
 pub mod Tasks
 pub mod TaskViews
 pub mod Runs

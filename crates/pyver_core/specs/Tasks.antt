@@ -5,7 +5,6 @@ use Rattle.pep440_rs.specs.ListGrammar.{DerivesList}
 use Rattle.pep440_rs.specs.Specifiers.{Spec}
 use Rattle.pyver_core.specs.Bumps.{Bumps, bump_part_of}
 use Rattle.pyver_core.specs.Comparisons.{Compares, comparison_of}
-use Rattle.pyver_core.specs.Counts.{count_of}
 use Rattle.pyver_core.specs.Filters.{FiltersLines}
 use Rattle.pyver_core.specs.LineOptions.{joined_value, line_option, no_line_options, value_behind, value_kind, value_names, value_option_of, with_value}
 use Rattle.pyver_core.specs.Matches.{Matches}
@@ -114,6 +113,11 @@ wrong_count topic = Misused (usage_message (usage topic) (help_words topic))
 -- the message of an option with a wrong value
 abbrev pub wrong_value : Topic → ValueOption → List ℕ → Task
 wrong_value topic name value = Misused (unknown_message (value_kind name) value (value_names name) (help_words topic))
+
+-- the task with the number that the word writes, or the message of a word that writes none
+abbrev pub by_number : Topic → List ℕ → Option ℕ → (ℕ → Task) → Task
+by_number topic word None with_number = Misused (wrong_number_message topic word)
+by_number topic word (Some n) with_number = with_number n
 
 -- ---- `compare A OP B`
 
@@ -258,16 +262,11 @@ sort_rest options word rest =
     else if is_option word then wrong_option topic.Sort word
     else sort_operands options (word ∷ rest)
 
--- what is done with the number that the word writes, if it writes one
-abbrev pub by_count : List ℕ → Option ℕ → (ℕ → Task) → Task
-by_count word None with_count = Misused (wrong_number_message topic.Sort word)
-by_count word (Some count) with_count = with_count count
-
 -- the last of the counts is meant; true where one has to stand next
 abbrev pub sort_task : Bool → SortOptions → List (List ℕ) → Task
 sort_task false options [] = Sort options
 sort_task true options [] = wrong_count topic.Sort
-sort_task true options (word ∷ rest) = by_count word (count_of word) (λ count. sort_task false (record options { last = Some count }) rest)
+sort_task true options (word ∷ rest) = by_number topic.Sort word (word_number word) (λ count. sort_task false (record options { last = Some count }) rest)
 sort_task false options (word ∷ rest) =
     if is_help word then Help topic.Sort
     else if is_last_option word then sort_task true options rest
@@ -359,15 +358,10 @@ bump_rest to word rest =
     else if is_option word then wrong_option topic.Bump word
     else bump_operands to (word ∷ rest)
 
--- what is done with the number that the word writes, if it writes one
-abbrev pub by_number : List ℕ → Option ℕ → (ℕ → Task) → Task
-by_number word None with_found = Misused (wrong_number_message topic.Bump word)
-by_number word (Some n) with_found = with_found n
-
 -- options stand before the parts, and the last one counts; None where a number has to stand next
 abbrev pub bump_task : Option (Option ℕ) → List (List ℕ) → Task
 bump_task to [] = wrong_count topic.Bump
-bump_task None (number ∷ rest) = by_number number (word_number number) (λ n. bump_task (Some (Some n)) rest)
+bump_task None (number ∷ rest) = by_number topic.Bump number (word_number number) (λ n. bump_task (Some (Some n)) rest)
 bump_task (Some to) (word ∷ rest) =
     if is_help word then Help topic.Bump
     else if bytes_eq word (codes "--to") then bump_task None rest

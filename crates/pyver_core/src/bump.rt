@@ -3,7 +3,7 @@ ghost use Rattle.std.specs.Prelude.{◌≡◌, ◌++◌, IfOk, false, map};
 ghost use Rattle.pep440_version.specs.Key.{kind_rank};
 ghost use Rattle.pep440_version.specs.Record.{epoch_and_release};
 ghost use Rattle.pyver_core.specs.AnswerViews.{outcome_of};
-ghost use Rattle.pyver_core.specs.Bumps.{Bumps, bump, bump_dev, bump_error_text, bump_from, bump_part, bump_part_of, bump_post, bump_pre, bump_release, bump_stable, bumped_outcome, is_later_kind, knows_release, last_number, new_number, pre_number, release_with};
+ghost use Rattle.pyver_core.specs.Bumps.{Bumps, bump, bump_dev, bump_error_text, bump_from, bump_part, bump_part_of, bump_post, bump_pre, bump_release, bump_stable, result_outcome, is_later_kind, knows_release, last_number, new_number, pre_number, release_with};
 ghost use Rattle.pyver_core.specs.Outcomes.{followed_by};
 
 use crate::answer::Answer;
@@ -317,13 +317,13 @@ fn error_text(error: BumpError) -> &'static str
     }
 }
 
-fn push_bumped(
+fn push_result(
     alloc: Global,
     answer: &mut Answer,
     word: &str,
     bumped: &Result<Version, BumpError>,
 ) -> Result<(), AllocError>
-    ensures { IfOk result (λ _. outcome_of answer.new ≡ followed_by (outcome_of answer.old) (bumped_outcome word.now bumped.now)) }
+    ensures { IfOk result (λ _. outcome_of answer.new ≡ followed_by (outcome_of answer.old) (result_outcome word.now bumped.now)) }
 {
     match bumped {
         Ok(version) => {
@@ -347,7 +347,7 @@ pub(crate) fn bump_version(
     match read_version(alloc, word)? {
         Reading::Version(version) => {
             let bumped = bump(alloc, to, parts, &version)?;
-            push_bumped(alloc, &mut answer, word, &bumped)?;
+            push_result(alloc, &mut answer, word, &bumped)?;
         }
         Reading::Invalid(reason) => answer.push_fault(word, reason.as_str())?,
     }

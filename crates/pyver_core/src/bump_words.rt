@@ -1,6 +1,5 @@
 // The words of `bump`.
 ghost use Rattle.std.specs.Prelude.{◌≡◌, ◌∷◌, [], Some, None, map, string_bytes};
-ghost use Rattle.pyver_core.specs.Numbers.{are_digits, word_number};
 ghost use Rattle.pyver_core.specs.TaskViews.{task};
 ghost use Rattle.pyver_core.specs.Tasks.{bump_last, bump_operands, bump_rest, bump_task};
 
@@ -8,23 +7,7 @@ use crate::bump::parse_bump_part;
 use crate::command::{Command, is_help, is_option};
 use crate::help::Topic;
 use crate::misuse::Misuse;
-
-fn is_digits(text: &str) -> bool
-    ensures { result ≡ are_digits text.now }
-{
-    let bytes = text.as_bytes();
-    !bytes.is_empty() && bytes.iter().all(|byte| byte.is_ascii_digit())
-}
-
-/// One or more digits, zeros may lead, whose value fits.
-fn parse_number(text: &str) -> Option<u64>
-    ensures { result ≡ word_number text.now }
-{
-    if !is_digits(text) {
-        return None;
-    }
-    text.parse::<u64>().ok()
-}
+use crate::number::parse_number;
 
 fn parse_last<'a>(to: Option<u64>, parts: &'a [String], version: &'a str) -> Command<'a>
     ensures { task result ≡ bump_last to (map string_bytes parts.now) version.now }

@@ -113,7 +113,7 @@ impl FilterState {
         requires { (self.old.fault_count < self.old.line_count) × (self.old.line_count < 2 ^ 63) }
         ensures { IfOk result (λ _. StepsBy rule.now (record { line = (self.old.line_count, text.now); reading = Fails reason.now }) self.old self.new) }
     {
-        if self.fault_count < rule.lines.invalid.most_named() {
+        if self.fault_count < rule.lines.invalid.message_limit() {
             push_line_fault(alloc, &mut self.errors, self.line_count, reason)?;
         }
         self.fault_count += 1;

@@ -7,7 +7,7 @@ use crate::command::{Command, is_help, is_option};
 use crate::filter::FilterOptions;
 use crate::help::Topic;
 use crate::line_options::{
-    LineOptions, parse_line_option, parse_value_option, split_joined, with_value,
+    LineOptions, parse_line_option, parse_value_option, split_value, with_value,
 };
 use crate::misuse::Misuse;
 use crate::prerelease::Prereleases;
@@ -51,7 +51,7 @@ fn parse_filter_rest<'a>(
 {
     if word == "--" {
         parse_filter_operands(options, rest)
-    } else if let Some((name, value)) = split_joined(word) {
+    } else if let Some((name, value)) = split_value(word) {
         Command::Misused(Misuse::Value(Topic::Filter, name, value))
     } else if is_option(word) {
         Command::Misused(Misuse::Option(Topic::Filter, word))

@@ -1,6 +1,6 @@
 // What is done with invalid lines, by the option `--invalid`.
 ghost use Rattle.std.specs.Prelude.{◌≡◌, ◌≤◌, ◌++◌, IfOk};
-ghost use Rattle.pyver_core.specs.InvalidLines.{invalid_lines_of, last_message, lines_status, most_named};
+ghost use Rattle.pyver_core.specs.InvalidLines.{invalid_lines_of, last_message, lines_status, message_limit};
 ghost use Rattle.pyver_core.specs.Messages.{count_message, more_faults_message};
 
 use std::alloc::{AllocError, Global};
@@ -16,8 +16,8 @@ pub(crate) enum InvalidLines {
     Keep,
 }
 
-/// So many invalid lines are named.
-pub(crate) const MOST_NAMED: u64 = 20;
+/// So many invalid lines get a message of their own.
+pub(crate) const MESSAGE_LIMIT: u64 = 20;
 
 /// What the word asks for.
 pub(crate) fn parse_invalid_lines(word: &str) -> Option<InvalidLines>
@@ -32,12 +32,12 @@ pub(crate) fn parse_invalid_lines(word: &str) -> Option<InvalidLines>
 }
 
 impl InvalidLines {
-    /// So many of the first are named.
-    pub(crate) fn most_named(self) -> u64
-        ensures { result ≡ most_named self }
+    /// So many of the first get a message of their own.
+    pub(crate) fn message_limit(self) -> u64
+        ensures { result ≡ message_limit self }
     {
         match self {
-            InvalidLines::Error => MOST_NAMED,
+            InvalidLines::Error => MESSAGE_LIMIT,
             InvalidLines::Skip => 0,
             InvalidLines::Keep => 0,
         }
@@ -54,7 +54,7 @@ impl InvalidLines {
     {
         match self {
             InvalidLines::Error => {
-                push_more_faults(alloc, errors, count.saturating_sub(MOST_NAMED))
+                push_more_faults(alloc, errors, count.saturating_sub(MESSAGE_LIMIT))
             }
             InvalidLines::Skip => {
                 push_count(alloc, errors, "pyver: invalid lines left out: ", count)

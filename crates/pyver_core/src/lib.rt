@@ -19,6 +19,7 @@ mod line_options;
 mod lines;
 mod misuse;
 mod nearest;
+mod number;
 mod part;
 mod prerelease;
 mod program;

@@ -47,7 +47,7 @@ pub(crate) fn value_behind<'a>(start: &str, word: &'a str) -> Option<&'a str>
 }
 
 /// The option and its value, where the word has both.
-pub(crate) fn split_joined<'a>(word: &'a str) -> Option<(ValueOption, &'a str)>
+pub(crate) fn split_value<'a>(word: &'a str) -> Option<(ValueOption, &'a str)>
     ensures { option_map (λ x. (x.0, x.1.now)) result ≡ joined_value word.now }
 {
     match value_behind("--invalid=", word) {
@@ -76,7 +76,7 @@ pub(crate) fn with_value(
 pub(crate) fn parse_line_option(options: LineOptions, word: &str) -> Option<LineOptions>
     ensures { result ≡ line_option options word.now }
 {
-    match split_joined(word) {
+    match split_value(word) {
         Some((name, value)) => with_value(options, name, value),
         None => None,
     }

@@ -20,7 +20,7 @@ pub(crate) struct SortOptions {
     /// One of equal ones.
     pub(crate) unique: bool,
     /// So many at the end.
-    pub(crate) last: Option<usize>,
+    pub(crate) last: Option<u64>,
 }
 
 fn compare(reversed: bool, a: &VersionLine<'_>, b: &VersionLine<'_>) -> Ordering
@@ -77,11 +77,11 @@ fn kept_texts<'a>(
     Ok(texts)
 }
 
-fn last_texts<'t, 'a>(last: Option<usize>, texts: &'t [&'a [u8]]) -> &'t [&'a [u8]]
+fn last_texts<'t, 'a>(last: Option<u64>, texts: &'t [&'a [u8]]) -> &'t [&'a [u8]]
     ensures { result.now ≡ option_map_or (λ count. drop (length texts.now - count) texts.now) last texts.now }
 {
     match last {
-        Some(count) => &texts[texts.len().saturating_sub(count)..],
+        Some(count) => &texts[texts.len().saturating_sub(count as usize)..],
         None => texts,
     }
 }

@@ -1,40 +1,13 @@
 // The words of `sort`.
-ghost use Rattle.std.specs.Prelude.{◌≡◌, ◌∷◌, false, map, string_bytes};
-ghost use Rattle.pyver_core.specs.Counts.{count_of, is_digit};
-ghost use Rattle.pyver_core.specs.TaskViews.{task};
-ghost use Rattle.pyver_core.specs.Tasks.{is_last_option, no_sort_options, sort_operands, sort_option, sort_rest, sort_task};
+ghost use Rattle.std.specs.Prelude.{◌≡◌, ◌∷◌, ◌<◌, IfErr, IfOk, false, length, map, string_bytes, true};
+ghost use Rattle.pyver_core.specs.TaskViews.{misuse_message, task};
+ghost use Rattle.pyver_core.specs.Tasks.{Misused, is_last_option, no_sort_options, sort_operands, sort_option, sort_rest, sort_task};
 
 use crate::command::{Command, is_help, is_option};
 use crate::help::Topic;
 use crate::misuse::Misuse;
+use crate::number::parse_number;
 use crate::sort::SortOptions;
-
-/// Above all numbers that may get one digit more.
-const MOST_SHORTER: usize = 100000000000000000;
-
-fn is_digit(byte: u8) -> bool
-    ensures { result ≡ is_digit byte }
-{
-    48 <= byte && byte <= 57
-}
-
-/// The number that the word writes.
-fn parse_count(word: &str) -> Option<usize>
-    ensures { result ≡ count_of word.now }
-{
-    let bytes = word.as_bytes();
-    if bytes.is_empty() {
-        return None;
-    }
-    let mut number: usize = 0;
-    for byte in bytes {
-        if !is_digit(*byte) || number >= MOST_SHORTER {
-            return None;
-        }
-        number = number * 10 + (*byte - 48) as usize;
-    }
-    Some(number)
-}
 
 fn is_last_option(word: &str) -> bool
     ensures { result ≡ is_last_option word.now }
@@ -86,6 +59,26 @@ fn parse_rest<'a>(
     }
 }
 
+/// The options with the number behind `-n`, and the words after it.
+fn parse_last_value<'a>(
+    options: SortOptions,
+    words: &'a [String],
+) -> Result<(SortOptions, &'a [String]), Misuse<'a>>
+    ensures ok { IfOk result (λ x. sort_task true options (map string_bytes words.now) ≡ sort_task false x.0 (map string_bytes x.1.now)) }
+    ensures shorter { IfOk result (λ x. length x.1.now < length words.now) }
+    ensures wrong { IfErr result (λ misuse. sort_task true options (map string_bytes words.now) ≡ Misused (misuse_message misuse)) }
+{
+    let [number, rest @ ..] = words else {
+        return Err(Misuse::Count(Topic::Sort));
+    };
+    let mut options = options;
+    match parse_number(number.as_str()) {
+        Some(count) => options.last = Some(count),
+        None => return Err(Misuse::Number(Topic::Sort, number.as_str())),
+    }
+    Ok((options, rest))
+}
+
 /// What the words behind `sort` ask for.
 pub(crate) fn parse_sort<'a>(words: &'a [String]) -> Command<'a>
     ensures { task result ≡ sort_task false no_sort_options (map string_bytes words.now) }
@@ -102,14 +95,13 @@ pub(crate) fn parse_sort<'a>(words: &'a [String]) -> Command<'a>
             return Command::Help(Topic::Sort);
         }
         if is_last_option(word) {
-            let [number, after @ ..] = rest else {
-                return Command::Misused(Misuse::Count(Topic::Sort));
-            };
-            let Some(count) = parse_count(number.as_str()) else {
-                return Command::Misused(Misuse::Number(Topic::Sort, number.as_str()));
-            };
-            options.last = Some(count);
-            left = after;
+            match parse_last_value(options, rest) {
+                Ok((taken, after)) => {
+                    options = taken;
+                    left = after;
+                }
+                Err(misuse) => return Command::Misused(misuse),
+            }
         } else {
             match parse_sort_option(options, word) {
                 Some(taken) => options = taken,

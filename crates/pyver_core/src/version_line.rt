@@ -4,7 +4,7 @@ ghost use Rattle.std.specs.Option.{option_map_or};
 ghost use Rattle.pyver_core.specs.InputLines.{input_lines};
 
 use crate::filter::push_line_fault;
-use crate::invalid_lines::{MOST_NAMED, push_more_faults};
+use crate::invalid_lines::{MESSAGE_LIMIT, push_more_faults};
 use crate::lines::{is_blank, line_text, read_line};
 use crate::reading::Reading;
 use pep440_rs::Version;
@@ -69,7 +69,7 @@ impl<'a> VersionLines<'a> {
         requires { (self.old.fault_count < self.old.line_count) × (self.old.line_count ≤ 2 ^ 63) }
         ensures { IfOk result (λ _. KeepsOne (record { line = (self.old.line_count, text.now); reading = Fails reason.now }) self.old self.new) }
     {
-        if self.fault_count < MOST_NAMED {
+        if self.fault_count < MESSAGE_LIMIT {
             push_line_fault(alloc, &mut self.errors, self.line_count, reason)?;
         }
         self.fault_count += 1;
@@ -114,7 +114,7 @@ impl<'a> VersionLines<'a> {
         push_more_faults(
             alloc,
             &mut self.errors,
-            self.fault_count.saturating_sub(MOST_NAMED),
+            self.fault_count.saturating_sub(MESSAGE_LIMIT),
         )?;
         Ok(())
     }

@@ -115,7 +115,7 @@ fn sweep_range_bounds(rt: HostRuntime) -> Result<(), Fail> {
 }
 
 #[test]
-fn bounds_are_counted(rt: HostRuntime) -> Result<(), Fail> {
+fn short_buffers_report_the_needed_sizes(rt: HostRuntime) -> Result<(), Fail> {
     let (mut out, mut ends, mut written, mut count) = ([9; 8], [99; 8], 98, 97);
     let (bytes, number) = (&mut written, &mut count);
     let status = pep440_range_bounds(rt.alloc(), b"!=1,!=3", &mut out, &mut ends, bytes, number);

@@ -189,7 +189,7 @@ fn at_least(version: [u8; 10]) -> [u8; 20] {
 }
 
 #[test]
-fn no_words_are_rejected(rt: HostRuntime) -> Result<(), Fail> {
+fn uncompiled_bytes_are_rejected(rt: HostRuntime) -> Result<(), Fail> {
     for (i, bytes) in NO_WORDS.iter().enumerate() {
         let first = compare(rt.alloc(), bytes, ONE) == Err(CompiledError::NotCompiled);
         let second = compare(rt.alloc(), ONE, bytes) == Err(CompiledError::NotCompiled);
