@@ -17,7 +17,7 @@ fn is_digits(text: &str) -> bool
 }
 
 /// One or more digits, zeros may lead, whose value fits.
-fn parse_number(text: &str) -> Option<u64>
+pub(crate) fn parse_number(text: &str) -> Option<u64>
     ensures { result ≡ word_number text.now }
 {
     if !is_digits(text) {
