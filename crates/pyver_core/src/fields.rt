@@ -9,7 +9,8 @@ use std::alloc::{AllocError, Global};
 pub(crate) fn find_field(number: u64, delimiter: u8, text: &[u8]) -> Option<&[u8]>
     ensures { option_map (λ f. f.now) result ≡ field number delimiter text.now }
 {
-    text.split(|byte| *byte == delimiter).nth(number.saturating_sub(1) as usize)
+    text.split(|byte| *byte == delimiter)
+        .nth(number.saturating_sub(1) as usize)
 }
 
 /// Why a line with fewer fields is invalid.
