@@ -13,7 +13,8 @@ _pyver() {
         *,filter)
             case $before in
                 --invalid) words='error skip keep' ;;
-                *) words='--help -v --invert-match --pre --no-pre --invalid' ;;
+                -k | --field | -d | --delimiter) ;;
+                *) words='--help -v --invert-match --pre --no-pre -k --field -d --delimiter --header --invalid' ;;
             esac
             ;;
         *,sort) words='--help -r --reverse -u --unique -n --last' ;;

@@ -15,6 +15,9 @@ complete -c pyver -n __fish_use_subcommand -a filter -d 'the lines of standard i
 complete -c pyver -n '__fish_seen_subcommand_from filter' -s v -l invert-match -d 'print the other lines, but no invalid ones'
 complete -c pyver -n '__fish_seen_subcommand_from filter' -l pre -d 'allow pre-releases and dev releases too'
 complete -c pyver -n '__fish_seen_subcommand_from filter' -l no-pre -d 'allow no pre-releases and no dev releases'
+complete -c pyver -n '__fish_seen_subcommand_from filter' -s k -l field -x -d 'the field that is the version, from 1'
+complete -c pyver -n '__fish_seen_subcommand_from filter' -s d -l delimiter -x -d 'the byte between fields'
+complete -c pyver -n '__fish_seen_subcommand_from filter' -l header -d 'print the first line first, which is no version'
 complete -c pyver -n '__fish_seen_subcommand_from filter' -l invalid -x -a 'error skip keep' -d 'what is done with invalid lines'
 
 complete -c pyver -n __fish_use_subcommand -a sort -d 'the lines of standard input in the order of their versions'

@@ -13,6 +13,8 @@ mod pyver;
 #[cfg(test)]
 mod pyver_bump;
 #[cfg(test)]
+mod pyver_fields;
+#[cfg(test)]
 mod pyver_filter;
 #[cfg(test)]
 mod pyver_show;

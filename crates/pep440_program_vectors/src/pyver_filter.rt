@@ -91,7 +91,7 @@ const FILTERED: [(&str, &[u8], &str, &str, u8); 20] = [
         "filter",
         b"",
         "",
-        "pyver: usage: pyver filter [-v] [--pre | --no-pre] [--invalid HOW] SPECS\nTry 'pyver filter --help'.\n",
+        "pyver: usage: pyver filter [-v] [--pre | --no-pre] [-k N] [-d C] [--header] [--invalid HOW] SPECS\nTry 'pyver filter --help'.\n",
         2,
     ),
     (
@@ -159,7 +159,7 @@ const INVALID_LINES: [(&str, &[u8], &str, &str, u8); 10] = [
         "filter|--invalid",
         b"",
         "",
-        "pyver: usage: pyver filter [-v] [--pre | --no-pre] [--invalid HOW] SPECS\nTry 'pyver filter --help'.\n",
+        "pyver: usage: pyver filter [-v] [--pre | --no-pre] [-k N] [-d C] [--header] [--invalid HOW] SPECS\nTry 'pyver filter --help'.\n",
         2,
     ),
     (

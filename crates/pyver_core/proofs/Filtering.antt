@@ -9,11 +9,11 @@ use Rattle.std.specs.Io.KnownBytes.{Appends, Consumes, IsAtEnd}
 use Rattle.std.specs.List.{AllZip, concat, filter, flat_map}
 use Rattle.pyver_core.proofs.InputLines.{all_append, cuts_all, cuts_more, no_newline_none, filled_lines_from-append, some_line}
 use Rattle.pyver_core.specs.FilterSteps.{Cuts, FilterFinishes, FilterStops, FinishesBy, Goes, Steps, StepsBy}
-use Rattle.pyver_core.specs.Filters.{filter_outcome, is_shown, printed_lines}
+use Rattle.pyver_core.specs.Filters.{filter_outcome, is_printed, printed_lines}
 use Rattle.pyver_core.specs.InputLines.{is_blank, input_lines, numbered, filled_lines_from}
 use Rattle.pyver_core.specs.InvalidLines.{last_message, lines_status, message_limit}
-use Rattle.pyver_core.specs.ReadLines.{IsRead, ReadLine, ReadsLine, fault_at, faults}
-use Rattle.pyver_core.specs.Readings.{Reading}
+use Rattle.pyver_core.specs.LineOptions.{is_header}
+use Rattle.pyver_core.specs.ReadLines.{IsEntry, IsRead, LineReading, ReadLine, fault_at, faults}
 use Rattle.pyver_core.specs.Runs.{WroteBeginning}
 use Rattle.pyver_core.specs.declared.filter.FilterRule.{FilterRule}
 use Rattle.pyver_core.specs.declared.filter.FilterState.{FilterState}
@@ -22,7 +22,7 @@ use Rattle.pyver_core.specs.declared.filter.FilterState.{FilterState}
 
 printed_lines-append : (rule : FilterRule) (xs ys : List ReadLine) → printed_lines rule (xs ++ ys) ≡ printed_lines rule xs ++ printed_lines rule ys
 printed_lines-append rule xs ys =
-    let test = λ (x : ReadLine). is_shown rule x.reading in
+    let test = λ (x : ReadLine). is_printed rule x.reading in
     let print = λ (x : ReadLine). x.line.1 ++ 10 ∷ [] in
     ap (flat_map print) (filter-append test xs ys) ∙ flat_map-append print (filter test xs) (filter test ys)
 
@@ -57,7 +57,7 @@ steps_none rule a = record {
 pub steps_more : (rule : FilterRule) (xs ys : List (List ℕ)) (a b c : FilterState) → Steps rule xs a b → Steps rule ys b c → Steps rule (xs ++ ys) a c
 steps_more rule xs ys a b c k m = record {
   found = k.found ++ m.found;
-  are = subst (λ l. AllZip IsRead l (k.found ++ m.found)) (sym (filled_lines_from-append (a.line_count + 1) (b.line_count + 1) xs ys (omega (arith, k.line_count)))) (all_append IsRead _ k.found _ m.found k.are m.are);
+  are = subst (λ l. AllZip (IsRead rule.lines) l (k.found ++ m.found)) (sym (filled_lines_from-append (a.line_count + 1) (b.line_count + 1) xs ys (omega (arith, k.line_count)))) (all_append (IsRead rule.lines) _ k.found _ m.found k.are m.are);
   line_count = omega (arith, k.line_count, m.line_count, length-append xs ys);
   fault_count = omega (arith, k.fault_count, m.fault_count, length-faults k.found m.found);
   output = m.output ∙ ap (λ t. t ++ printed_lines rule m.found) k.output ∙ append_assoc a.output.items (printed_lines rule k.found) (printed_lines rule m.found) ∙ ap (λ t. a.output.items ++ t) (sym (printed_lines-append rule k.found m.found));
@@ -66,7 +66,7 @@ steps_more rule xs ys a b c k m = record {
 }
 
 -- a line that is read
-pub steps_line : (rule : FilterRule) (line : List ℕ) (a mid b : FilterState) (text : List ℕ) (x : Reading) → (a.line_count + 1, text) ≡ numbered (a.line_count + 1, line) → is_blank text ≡ false → ReadsLine text x
+pub steps_line : (rule : FilterRule) (line : List ℕ) (a mid b : FilterState) (text : List ℕ) (x : LineReading) → (a.line_count + 1, text) ≡ numbered (a.line_count + 1, line) → is_blank text ≡ false → IsEntry (is_header rule.lines (a.line_count + 1)) rule.lines text x
     → mid.line_count ≡ a.line_count + 1 → mid.fault_count ≡ a.fault_count → mid.output.items ≡ a.output.items → mid.errors.items ≡ a.errors.items
     → StepsBy rule (record { line = (mid.line_count, text); reading = x }) mid b → Steps rule (line ∷ []) a b
 steps_line rule line a mid b text x is filled reads count fault output errors k =
@@ -75,7 +75,7 @@ steps_line rule line a mid b text x is filled reads count fault output errors k 
     let left : filled_lines_from n (line ∷ []) ≡ (n, text) ∷ [] = ap (λ (p : ℕ × List ℕ). filter (λ (l : ℕ × List ℕ). not (is_blank l.1)) (p ∷ [])) (sym is) ∙ ap (λ b. cond (not b) ((n, text) ∷ []) []) filled in
     record {
       found = e ∷ [];
-      are = subst (λ l. AllZip IsRead l (e ∷ [])) (sym left) ((ap (λ m. (m, text)) count, reads), tt);
+      are = subst (λ l. AllZip (IsRead rule.lines) l (e ∷ [])) (sym left) ((ap (λ m. (m, text)) count, reads), tt);
       line_count = k.line_count ∙ count;
       fault_count = k.fault_count ∙ ap (λ m. m + length (faults (e ∷ []))) fault;
       output = k.output ∙ ap (λ t. t ++ printed_lines rule (e ∷ [])) output;
@@ -116,8 +116,8 @@ module _ {R W E : Type 0} (remaining : R → Option (List ℕ)) (contents : W �
   }
 
   module _ (rule : FilterRule) (reader reader' reader'' : R) (out out' out'' : W) (err err' err'' : E) (state next : FilterState) (line : List ℕ) where
-    found_more : (texts : List (List ℕ)) (g : Goes remaining contents error_contents rule reader reader' out out' err err' state line) (s : Steps rule texts state next) → AllZip IsRead (filled_lines_from 1 (g.ended ++ texts)) (g.found ++ s.found)
-    found_more texts g s = subst (λ l. AllZip IsRead l (g.found ++ s.found)) (sym (filled_lines_from-append 1 (state.line_count + 1) g.ended texts (omega (arith, g.line_count)))) (all_append IsRead _ g.found _ s.found g.are s.are)
+    found_more : (texts : List (List ℕ)) (g : Goes remaining contents error_contents rule reader reader' out out' err err' state line) (s : Steps rule texts state next) → AllZip (IsRead rule.lines) (filled_lines_from 1 (g.ended ++ texts)) (g.found ++ s.found)
+    found_more texts g s = subst (λ l. AllZip (IsRead rule.lines) l (g.found ++ s.found)) (sym (filled_lines_from-append 1 (state.line_count + 1) g.ended texts (omega (arith, g.line_count)))) (all_append (IsRead rule.lines) _ g.found _ s.found g.are s.are)
 
     printed_more : (texts : List (List ℕ)) (g : Goes remaining contents error_contents rule reader reader' out out' err err' state line) (s : Steps rule texts state next) → printed_lines rule (g.found ++ s.found) ≡ printed_lines rule g.found ++ next.output.items
     printed_more texts g s = printed_lines-append rule g.found s.found ∙ ap (λ t. printed_lines rule g.found ++ t) (sym (s.output ∙ ap (λ t. t ++ printed_lines rule s.found) g.no_output))
@@ -200,7 +200,7 @@ module _ {R W E : Type 0} (remaining : R → Option (List ℕ)) (contents : W �
         ∙ ap (λ t. first ++ t)
         (ap (λ n. f.last.errors.items ++ last_message rule.lines.invalid n) (sym (count_more rule reader reader' reader'' out out' out'' err err' err'' state f.last line (line ∷ []) g f.step)) ∙ sym f.errors)
 
-    last_found : (g : Goes remaining contents error_contents rule reader reader' out out' err err' state line) (f : FinishesBy rule line state next status) → AllZip IsRead (filled_lines_from 1 (g.ended ++ line ∷ [])) (g.found ++ f.step.found)
+    last_found : (g : Goes remaining contents error_contents rule reader reader' out out' err err' state line) (f : FinishesBy rule line state next status) → AllZip (IsRead rule.lines) (filled_lines_from 1 (g.ended ++ line ∷ [])) (g.found ++ f.step.found)
     last_found g f = found_more rule reader reader' reader'' out out' out'' err err' err'' state f.last line (line ∷ []) g f.step
 
     -- the input ended, and all was written
@@ -214,7 +214,7 @@ module _ {R W E : Type 0} (remaining : R → Option (List ℕ)) (contents : W �
       outcome = filter_outcome rule (g.found ++ f.step.found);
       is = (
         g.found ++ f.step.found,
-        subst (λ l. AllZip IsRead (filled_lines_from 1 l) (g.found ++ f.step.found)) (sym (cuts_all g.read g.ended line g.cut ∙ append-nil (g.ended ++ line ∷ []))) (last_found g f),
+        subst (λ l. AllZip (IsRead rule.lines) (filled_lines_from 1 l) (g.found ++ f.step.found)) (sym (cuts_all g.read g.ended line g.cut ∙ append-nil (g.ended ++ line ∷ []))) (last_found g f),
         refl,
       );
       output = subst (Appends (contents out) (contents out'')) (sym (last_output g f)) (Appends-trans (contents out) (contents out') (contents out'') (printed_lines rule g.found) next.output.items g.output output);

@@ -7,8 +7,8 @@ use Rattle.pyver_core.proofs.Filtering.{first-append, length-faults}
 use Rattle.pyver_core.proofs.InputLines.{all_append, filled_lines_from-append}
 use Rattle.pyver_core.specs.InputLines.{filled_lines_from, input_lines, is_blank, numbered}
 use Rattle.pyver_core.specs.Messages.{more_faults_message}
-use Rattle.pyver_core.specs.ReadLines.{IsRead, ReadLine, ReadsLine, faults}
-use Rattle.pyver_core.specs.Readings.{Reading}
+use Rattle.pyver_core.specs.LineOptions.{is_header, no_line_options}
+use Rattle.pyver_core.specs.ReadLines.{IsEntry, IsRead, LineReading, ReadLine, faults}
 use Rattle.pyver_core.specs.VersionLines.{line_with, version_lines}
 use Rattle.pyver_core.specs.VersionLineViews.{IsOfLines, KeepsLines, KeepsOne, version_line_of}
 use Rattle.pyver_core.specs.declared.version_line.VersionLines.{VersionLines}
@@ -31,7 +31,7 @@ keeps_blank line text a b is blank count lines fault errors texts k =
     filled_lines_from-append 1 (a.line_count + 1) texts (line ∷ []) (omega (arith, k.line_count)) ∙ ap (λ l. filled_lines_from 1 texts ++ l) none ∙ append-nil (filled_lines_from 1 texts) in
     record {
       found = k.found;
-      are = subst (λ l. AllZip IsRead l k.found) (sym all) k.are;
+      are = subst (λ l. AllZip (IsRead no_line_options) l k.found) (sym all) k.are;
       line_count = omega (arith, count, k.line_count, length-append texts (line ∷ []));
       lines = ap (map version_line_of) lines ∙ k.lines;
       fault_count = fault ∙ k.fault_count;
@@ -39,7 +39,7 @@ keeps_blank line text a b is blank count lines fault errors texts k =
     }
 
 -- a line that is read
-pub keeps_line : (line text : List ℕ) (reading : Reading) (a mid b : VersionLines) → (a.line_count + 1, text) ≡ numbered (a.line_count + 1, line) → is_blank text ≡ false → ReadsLine text reading
+pub keeps_line : (line text : List ℕ) (reading : LineReading) (a mid b : VersionLines) → (a.line_count + 1, text) ≡ numbered (a.line_count + 1, line) → is_blank text ≡ false → IsEntry (is_header no_line_options (a.line_count + 1)) no_line_options text reading
     → mid.line_count ≡ a.line_count + 1 → mid.lines.items ≡ a.lines.items → mid.fault_count ≡ a.fault_count → mid.errors.items ≡ a.errors.items
     → KeepsOne (record { line = (mid.line_count, text); reading = reading }) mid b → (texts : List (List ℕ)) → KeepsLines texts a → KeepsLines (texts ++ line ∷ []) b
 keeps_line line text reading a mid b is filled reads count lines fault errors one texts k =
@@ -50,7 +50,7 @@ keeps_line line text reading a mid b is filled reads count lines fault errors on
     filled_lines_from-append 1 n texts (line ∷ []) (omega (arith, k.line_count)) ∙ ap (λ l. filled_lines_from 1 texts ++ l) left in
     record {
       found = k.found ++ x ∷ [];
-      are = subst (λ l. AllZip IsRead l (k.found ++ x ∷ [])) (sym all) (all_append IsRead (filled_lines_from 1 texts) k.found ((n, text) ∷ []) (x ∷ []) k.are ((ap (λ m. (m, text)) count, reads), tt));
+      are = subst (λ l. AllZip (IsRead no_line_options) l (k.found ++ x ∷ [])) (sym all) (all_append (IsRead no_line_options) (filled_lines_from 1 texts) k.found ((n, text) ∷ []) (x ∷ []) k.are ((ap (λ m. (m, text)) count, reads), tt));
       line_count = omega (arith, one.line_count, count, k.line_count, length-append texts (line ∷ []));
       lines = one.lines ∙ ap (λ l. l ++ version_lines (x ∷ [])) (ap (map version_line_of) lines ∙ k.lines) ∙ sym (version_lines-append k.found (x ∷ []));
       fault_count = omega (arith, one.fault_count, fault, k.fault_count, length-faults k.found (x ∷ []));

@@ -1,5 +1,5 @@
 -- There is at most one outcome of what is asked for.
-use Rattle.std.proofs.Common.{◌≡◌, ◌∙◌, ℕ, List, [], ◌∷◌, Bool, Option, inl, inr, refl, sym, ap, subst, arith}
+use Rattle.std.proofs.Common.{◌≡◌, ◌∙◌, ℕ, List, [], ◌∷◌, Bool, true, false, Option, Some, None, inl, inr, refl, sym, ap, subst, arith}
 use Rattle.std.specs.List.{AllZip}
 use Rattle.pep440_rs.proofs.Reading.OneMeaning.{not_both_list, one_list, one_list_refusal}
 use Rattle.pep440_rs.specs.ListErrorTexts.{list_refusal_text}
@@ -11,12 +11,14 @@ use Rattle.pep440_version.specs.ErrorTexts.{refusal_text}
 use Rattle.pyver_core.specs.Bumps.{Bumps, bump_outcome}
 use Rattle.pyver_core.proofs.Sorting.{one_sorted}
 use Rattle.pyver_core.specs.Comparisons.{Compares, comparison_outcome}
+use Rattle.pyver_core.specs.Fields.{field}
 use Rattle.pyver_core.specs.Filters.{Filters, FiltersBy, FiltersLines, filter_outcome, rule_of}
 use Rattle.pyver_core.specs.InputLines.{filled_lines_from}
+use Rattle.pyver_core.specs.LineOptions.{is_header, no_line_options}
 use Rattle.pyver_core.specs.Matches.{Matches, MatchesBy, MatchesWord, MatchesWords, ReadsSpecifiers, SpecifiersReading, DenotesList, ListFails, word_outcome}
 use Rattle.pyver_core.specs.OneOutcome.{OutcomesOnce}
 use Rattle.pyver_core.specs.Outcomes.{Outcome, in_turn}
-use Rattle.pyver_core.specs.ReadLines.{IsRead, ReadLine, ReadsLine}
+use Rattle.pyver_core.specs.ReadLines.{Entry, Header, IsEntry, IsRead, LineReading, ReadLine, ReadsBytes, ReadsField, ReadsPart}
 use Rattle.pyver_core.specs.Readings.{Reading, Reads, Denotes, Fails}
 use Rattle.pyver_core.specs.Shows.{Shows, ShowsWord, show_outcome}
 use Rattle.pyver_core.specs.Sorts.{SortsVersions, sort_outcome}
@@ -27,6 +29,7 @@ use Rattle.pyver_core.specs.declared.bump.BumpPart.{BumpPart}
 use Rattle.pyver_core.specs.declared.comparison.Comparison.{Comparison}
 use Rattle.pyver_core.specs.declared.filter.FilterOptions.{FilterOptions}
 use Rattle.pyver_core.specs.declared.filter.FilterRule.{FilterRule}
+use Rattle.pyver_core.specs.declared.line_options.LineOptions.{LineOptions}
 use Rattle.pyver_core.specs.declared.show.ShowFormat.{ShowFormat}
 use Rattle.pyver_core.specs.declared.sort.SortOptions.{SortOptions}
 
@@ -60,16 +63,30 @@ all_once R once (t ∷ texts) (x ∷ found) (y ∷ there) h g =
     let tail = all_once R once texts found there h.1 g.1 in
     λ i. head i ∷ tail i
 
-line_once : (text : List ℕ) (x y : Reading) → ReadsLine text x → ReadsLine text y → x ≡ y
-line_once text x y (inl (bad, is)) (inl (also, so)) = is ∙ sym so
-line_once text x y (inl (bad, is)) (inr (utf8, k)) = absurd (bad utf8)
-line_once text x y (inr (utf8, h)) (inl (bad, so)) = absurd (bad utf8)
-line_once text x y (inr (utf8, h)) (inr (again, k)) = reading_once text x y h k
+bytes_once : (text : List ℕ) (x y : Reading) → ReadsBytes text x → ReadsBytes text y → x ≡ y
+bytes_once text x y (inl (bad, is)) (inl (also, so)) = is ∙ sym so
+bytes_once text x y (inl (bad, is)) (inr (utf8, k)) = absurd (bad utf8)
+bytes_once text x y (inr (utf8, h)) (inl (bad, so)) = absurd (bad utf8)
+bytes_once text x y (inr (utf8, h)) (inr (again, k)) = reading_once text x y h k
 
-is_read_once : (line : ℕ × List ℕ) (x y : ReadLine) → IsRead line x → IsRead line y → x ≡ y
-is_read_once line x y h k =
+field_once : (number : ℕ) (text : Option (List ℕ)) (x y : Reading) → ReadsField number text x → ReadsField number text y → x ≡ y
+field_once number None x y is so = is ∙ sym so
+field_once number (Some text) x y h k = bytes_once text x y h k
+
+part_once : (number : Option ℕ) (delimiter : ℕ) (text : List ℕ) (x y : Reading) → ReadsPart number delimiter text x → ReadsPart number delimiter text y → x ≡ y
+part_once None delimiter text x y h k = bytes_once text x y h k
+part_once (Some number) delimiter text x y h k = field_once number (field number delimiter text) x y h k
+
+entry_once : (header : Bool) (options : LineOptions) (text : List ℕ) (x y : LineReading) → IsEntry header options text x → IsEntry header options text y → x ≡ y
+entry_once header options text Header Header h k = refl
+entry_once header options text Header (Entry y) h k = let both : true ≡ false = sym h ∙ k.0 in cc both
+entry_once header options text (Entry x) Header h k = let both : true ≡ false = sym k ∙ h.0 in cc both
+entry_once header options text (Entry x) (Entry y) h k = ap Entry (part_once options.field options.delimiter text x y h.1 k.1)
+
+is_read_once : (options : LineOptions) (line : ℕ × List ℕ) (x y : ReadLine) → IsRead options line x → IsRead options line y → x ≡ y
+is_read_once options line x y h k =
     let lines_same = h.0 ∙ sym k.0 in
-    let readings = line_once line.1 x.reading y.reading h.1 k.1 in
+    let readings = entry_once (is_header options line.0) options line.1 x.reading y.reading h.1 k.1 in
     λ i. record { line = lines_same i; reading = readings i }
 
 words_once : (quiet takes : Bool) (list : List Spec) (words : List (List ℕ)) (a b : Outcome) → MatchesWords quiet takes list words a → MatchesWords quiet takes list words b → a ≡ b
@@ -83,7 +100,7 @@ match_once : (options : MatchOptions) (specifiers : List ℕ) (words : List (Lis
 match_once options specifiers words a b (x, hx, h) (u, hu, k) = by_once options x words a b h (subst (λ (z : SpecifiersReading). MatchesBy options z words b) (sym (specifiers_once specifiers x u hx hu)) k)
 
 filters_once : (rule : FilterRule) (texts : List (List ℕ)) (a b : Outcome) → Filters rule texts a → Filters rule texts b → a ≡ b
-filters_once rule texts a b (es, h, is) (fs, k, so) = is ∙ ap (filter_outcome rule) (all_once IsRead is_read_once (filled_lines_from 1 texts) es fs h k) ∙ sym so
+filters_once rule texts a b (es, h, is) (fs, k, so) = is ∙ ap (filter_outcome rule) (all_once (IsRead rule.lines) (is_read_once rule.lines) (filled_lines_from 1 texts) es fs h k) ∙ sym so
 
 filter_by_once : (options : FilterOptions) (x : SpecifiersReading) (texts : List (List ℕ)) (a b : Outcome) → FiltersBy options x texts a → FiltersBy options x texts b → a ≡ b
 filter_by_once options (DenotesList list) texts a b h k = filters_once (rule_of options list) texts a b h k
@@ -101,7 +118,7 @@ of_found_once Gives once found a b (inr (some, is)) (inr (also, so)) = is ∙ sy
 
 of_versions_once : (Gives : List VersionLine → Outcome → Type 0) → ((lines : List VersionLine) (a b : Outcome) → Gives lines a → Gives lines b → a ≡ b) → (texts : List (List ℕ)) (a b : Outcome) → OfVersions Gives texts a → OfVersions Gives texts b → a ≡ b
 of_versions_once Gives once texts a b (es, h, is) (fs, k, so) =
-    of_found_once Gives once es a b is (subst (λ (l : List ReadLine). OfFound Gives l b) (sym (all_once IsRead is_read_once (filled_lines_from 1 texts) es fs h k)) so)
+    of_found_once Gives once es a b is (subst (λ (l : List ReadLine). OfFound Gives l b) (sym (all_once (IsRead no_line_options) (is_read_once no_line_options) (filled_lines_from 1 texts) es fs h k)) so)
 
 sort_once : (options : SortOptions) (lines : List VersionLine) (a b : Outcome) → SortsVersions options lines a → SortsVersions options lines b → a ≡ b
 sort_once options lines a b (xs, h, is) (ys, k, so) = is ∙ ap (sort_outcome options) (one_sorted options.reversed lines xs ys h k) ∙ sym so

@@ -22,7 +22,7 @@ pub record Cuts (text : List ℕ) (ended : List (List ℕ)) (line : List ℕ) : 
 -- from one state to another by these lines
 pub record Steps (rule : FilterRule) (ended : List (List ℕ)) (a b : FilterState) : Type 0 where
   pub found : List ReadLine
-  pub are : AllZip IsRead (filled_lines_from (a.line_count + 1) ended) found
+  pub are : AllZip (IsRead rule.lines) (filled_lines_from (a.line_count + 1) ended) found
   pub line_count : b.line_count ≡ a.line_count + length ended
   pub fault_count : b.fault_count ≡ a.fault_count + length (faults found)
   pub output : b.output.items ≡ a.output.items ++ printed_lines rule found
@@ -51,7 +51,7 @@ module _ {R W E : Type 0} (remaining : R → Option (List ℕ)) (contents : W �
     pub ended : List (List ℕ)
     pub cut : Cuts read ended line
     pub found : List ReadLine
-    pub are : AllZip IsRead (filled_lines_from 1 ended) found
+    pub are : AllZip (IsRead rule.lines) (filled_lines_from 1 ended) found
     pub line_count : state.line_count ≡ length ended
     pub fault_count : state.fault_count ≡ length (faults found)
     pub output : Appends (contents out) (contents out') (printed_lines rule found)

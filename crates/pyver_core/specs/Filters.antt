@@ -1,5 +1,5 @@
 -- `filter SPECS`: the lines of the input whose version the list allows, or the others.
-use Rattle.std.specs.Prelude.{◌≡◌, ℕ, List, ◌++◌, Bool, false, codes, length, not, take, if◌then◌else◌}
+use Rattle.std.specs.Prelude.{◌≡◌, ℕ, List, ◌++◌, Bool, true, false, codes, length, not, take, if◌then◌else◌}
 use Rattle.std.specs.List.{AllZip, concat, filter, flat_map}
 use Rattle.pep440_rs.specs.Specifiers.{Spec}
 use Rattle.pyver_core.specs.InputLines.{filled_lines_from}
@@ -7,19 +7,25 @@ use Rattle.pyver_core.specs.InvalidLines.{last_message, lines_status, message_li
 use Rattle.pyver_core.specs.Matches.{DenotesList, ListFails, ReadsSpecifiers, SpecifiersReading, list_fault}
 use Rattle.pyver_core.specs.Outcomes.{Outcome, followed_by, no_outcome}
 use Rattle.pyver_core.specs.Prereleases.{allows, takes_prereleases}
-use Rattle.pyver_core.specs.ReadLines.{IsRead, ReadLine, faults}
-use Rattle.pyver_core.specs.Readings.{Denotes, Fails, Reading}
+use Rattle.pyver_core.specs.ReadLines.{Entry, Header, IsRead, LineReading, ReadLine, faults}
+use Rattle.pyver_core.specs.Readings.{Denotes, Fails}
+use Rattle.pep440_version.specs.Record.{Record}
 use Rattle.pyver_core.specs.declared.filter.FilterOptions.{FilterOptions}
 use Rattle.pyver_core.specs.declared.filter.FilterRule.{FilterRule}
 
 -- the version is printed: the list allows it, or, with `-v`, does not
-abbrev pub is_shown : FilterRule → Reading → Bool
-is_shown rule (Denotes r) = if rule.inverted then not (allows rule.takes rule.list r) else allows rule.takes rule.list r
-is_shown rule (Fails reason) = false
+abbrev pub is_shown : FilterRule → Record → Bool
+is_shown rule r = if rule.inverted then not (allows rule.takes rule.list r) else allows rule.takes rule.list r
+
+-- the line is printed: it is the header, or its version is printed
+abbrev pub is_printed : FilterRule → LineReading → Bool
+is_printed rule Header = true
+is_printed rule (Entry (Denotes r)) = is_shown rule r
+is_printed rule (Entry (Fails reason)) = false
 
 -- the lines that are printed, in the order of the input
 abbrev pub printed_lines : FilterRule → List ReadLine → List ℕ
-printed_lines rule found = flat_map (λ (x : ReadLine). x.line.1 ++ codes "\n") (filter (λ (x : ReadLine). is_shown rule x.reading) found)
+printed_lines rule found = flat_map (λ (x : ReadLine). x.line.1 ++ codes "\n") (filter (λ (x : ReadLine). is_printed rule x.reading) found)
 
 -- the printed lines, the messages of the first invalid lines, and the last message
 abbrev pub filter_outcome : FilterRule → List ReadLine → Outcome
@@ -31,7 +37,7 @@ filter_outcome rule found = record {
 
 -- the outcome of the lines by a valid list
 abbrev pub Filters : FilterRule → List (List ℕ) → Outcome → Type 0
-Filters rule texts o = (found : List ReadLine) × AllZip IsRead (filled_lines_from 1 texts) found × (o ≡ filter_outcome rule found)
+Filters rule texts o = (found : List ReadLine) × AllZip (IsRead rule.lines) (filled_lines_from 1 texts) found × (o ≡ filter_outcome rule found)
 
 -- the rule of the options and the list
 abbrev pub rule_of : FilterOptions → List Spec → FilterRule

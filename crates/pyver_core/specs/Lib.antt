@@ -16,6 +16,7 @@ pub mod AnswerViews
 pub mod InputLines
 pub mod InvalidLines
 pub mod LineOptions
+pub mod Fields
 pub mod ReadLines
 pub mod Filters
 pub mod VersionLines

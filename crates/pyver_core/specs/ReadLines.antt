@@ -1,26 +1,53 @@
 -- Lines of the input with their numbers and what they are read as, and the messages of those that are invalid.
-use Rattle.std.specs.Prelude.{◌≡◌, ◌⊎◌, ℕ, ◌-◌, List, [], ◌∷◌, ◌++◌, codes, length, take}
+use Rattle.std.specs.Prelude.{◌≡◌, ◌⊎◌, ℕ, ◌-◌, List, [], ◌∷◌, ◌++◌, Bool, true, false, Option, Some, None, codes, length, take}
 use Rattle.std.specs.List.{concat, flat_map}
 use Rattle.std.specs.Str.{IsUtf8}
+use Rattle.pyver_core.specs.Fields.{field, no_field_reason}
+use Rattle.pyver_core.specs.LineOptions.{is_header}
 use Rattle.pyver_core.specs.Messages.{line_fault_message, more_faults_message}
 use Rattle.pyver_core.specs.Readings.{Denotes, Fails, Reading, Reads}
+use Rattle.pyver_core.specs.declared.line_options.LineOptions.{LineOptions}
 
--- what the bytes of a line are read as
-abbrev pub ReadsLine : List ℕ → Reading → Type 0
-ReadsLine text x = ((¬ IsUtf8 text) × (x ≡ Fails (codes "not UTF-8"))) ⊎ (IsUtf8 text × Reads text x)
+-- what bytes are read as
+abbrev pub ReadsBytes : List ℕ → Reading → Type 0
+ReadsBytes text x = ((¬ IsUtf8 text) × (x ≡ Fails (codes "not UTF-8"))) ⊎ (IsUtf8 text × Reads text x)
 
--- a line with its number, and what it is read as
+-- what the field with this number is read as, if there is one
+abbrev pub ReadsField : ℕ → Option (List ℕ) → Reading → Type 0
+ReadsField number None x = x ≡ Fails (no_field_reason number)
+ReadsField number (Some text) x = ReadsBytes text x
+
+-- what a line is read as: one of its fields, or the whole line
+abbrev pub ReadsPart : Option ℕ → ℕ → List ℕ → Reading → Type 0
+ReadsPart None delimiter text x = ReadsBytes text x
+ReadsPart (Some number) delimiter text x = ReadsField number (field number delimiter text) x
+
+abbrev pub ReadsLine : LineOptions → List ℕ → Reading → Type 0
+ReadsLine options text x = ReadsPart options.field options.delimiter text x
+
+-- what a line is: the header, which is not read, or what it is read as
+pub data LineReading : Type 0 where
+  Header : LineReading
+  Entry : Reading → LineReading
+
+-- a line with its number, and what it is
 pub record ReadLine : Type 0 where
   pub line : ℕ × List ℕ
-  pub reading : Reading
+  pub reading : LineReading
 
-abbrev pub IsRead : ℕ × List ℕ → ReadLine → Type 0
-IsRead line x = (x.line ≡ line) × ReadsLine line.1 x.reading
+-- the line is the header, or it is not and is read so
+abbrev pub IsEntry : Bool → LineOptions → List ℕ → LineReading → Type 0
+IsEntry header options text Header = header ≡ true
+IsEntry header options text (Entry x) = (header ≡ false) × ReadsLine options text x
+
+abbrev pub IsRead : LineOptions → ℕ × List ℕ → ReadLine → Type 0
+IsRead options line x = (x.line ≡ line) × IsEntry (is_header options line.0) options line.1 x.reading
 
 -- the message of an invalid line
-abbrev pub fault_at : ℕ → Reading → List (List ℕ)
-fault_at number (Denotes r) = []
-fault_at number (Fails reason) = line_fault_message number reason ∷ []
+abbrev pub fault_at : ℕ → LineReading → List (List ℕ)
+fault_at number Header = []
+fault_at number (Entry (Denotes r)) = []
+fault_at number (Entry (Fails reason)) = line_fault_message number reason ∷ []
 
 abbrev pub faults : List ReadLine → List (List ℕ)
 faults found = flat_map (λ (x : ReadLine). fault_at x.line.0 x.reading) found

@@ -52,7 +52,7 @@ abbrev pub option_names : Topic → List (List ℕ)
 option_names topic.Program = codes "--help" ∷ []
 option_names topic.Compare = codes "--help" ∷ []
 option_names topic.Match = codes "--help" ∷ (codes "--quiet" ∷ (codes "--pre" ∷ (codes "--no-pre" ∷ [])))
-option_names topic.Filter = codes "--help" ∷ (codes "--invert-match" ∷ (codes "--pre" ∷ (codes "--no-pre" ∷ (codes "--invalid" ∷ []))))
+option_names topic.Filter = codes "--help" ∷ (codes "--invert-match" ∷ (codes "--pre" ∷ (codes "--no-pre" ∷ (codes "--field" ∷ (codes "--delimiter" ∷ (codes "--header" ∷ (codes "--invalid" ∷ [])))))))
 option_names topic.Sort = codes "--help" ∷ (codes "--reverse" ∷ (codes "--unique" ∷ (codes "--last" ∷ [])))
 option_names topic.Show = codes "--help" ∷ (codes "--part" ∷ (codes "--json" ∷ []))
 option_names topic.Bump = codes "--help" ∷ (codes "--to" ∷ [])
@@ -183,7 +183,7 @@ match_task options (word ∷ rest) =
 abbrev pub no_match_options : MatchOptions
 no_match_options = record { quiet = false; prereleases = prereleases.Listed }
 
--- ---- `filter [-v] [--pre | --no-pre] [--invalid HOW] SPECS`
+-- ---- `filter [-v] [--pre | --no-pre] [-k N] [-d C] [--header] [--invalid HOW] SPECS`
 
 -- exactly one list
 abbrev pub filter_operands : FilterOptions → List (List ℕ) → Task

@@ -4,8 +4,9 @@ use Rattle.std.specs.List.{AllZip, flat_map}
 use Rattle.pep440_version.specs.Record.{Record}
 use Rattle.pyver_core.specs.InputLines.{filled_lines_from}
 use Rattle.pyver_core.specs.Outcomes.{Outcome}
-use Rattle.pyver_core.specs.ReadLines.{IsRead, ReadLine, fault_messages, faults}
-use Rattle.pyver_core.specs.Readings.{Denotes, Fails, Reading}
+use Rattle.pyver_core.specs.LineOptions.{no_line_options}
+use Rattle.pyver_core.specs.ReadLines.{Entry, Header, IsRead, LineReading, ReadLine, fault_messages, faults}
+use Rattle.pyver_core.specs.Readings.{Denotes, Fails}
 
 -- a line as it was written, and its version
 pub record VersionLine : Type 0 where
@@ -13,9 +14,10 @@ pub record VersionLine : Type 0 where
   pub version : Record
 
 -- the line with its version, where it is one
-abbrev pub line_with : List ℕ → Reading → List VersionLine
-line_with text (Denotes r) = record { text = text; version = r } ∷ []
-line_with text (Fails reason) = []
+abbrev pub line_with : List ℕ → LineReading → List VersionLine
+line_with text Header = []
+line_with text (Entry (Denotes r)) = record { text = text; version = r } ∷ []
+line_with text (Entry (Fails reason)) = []
 
 abbrev pub version_lines : List ReadLine → List VersionLine
 version_lines found = flat_map (λ (x : ReadLine). line_with x.line.1 x.reading) found
@@ -30,4 +32,4 @@ OfFound Gives found o = ((length (faults found) ≡ 0) × Gives (version_lines f
 
 -- what is written of the lines of the input
 abbrev pub OfVersions : (List VersionLine → Outcome → Type 0) → List (List ℕ) → Outcome → Type 0
-OfVersions Gives texts o = (found : List ReadLine) × AllZip IsRead (filled_lines_from 1 texts) found × OfFound Gives found o
+OfVersions Gives texts o = (found : List ReadLine) × AllZip (IsRead no_line_options) (filled_lines_from 1 texts) found × OfFound Gives found o

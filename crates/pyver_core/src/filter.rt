@@ -31,10 +31,9 @@ pub(crate) struct FilterRule {
 
 impl FilterRule {
     ghost use Rattle.pyver_core.specs.Filters.{is_shown};
-    ghost use Rattle.pyver_core.specs.Readings.{Denotes};
 
     fn shows(&self, alloc: Global, version: &Version) -> Result<bool, AllocError>
-        ensures { IfOk result (λ b. b ≡ is_shown self.now (Denotes version.now)) }
+        ensures { IfOk result (λ b. b ≡ is_shown self.now version.now) }
     {
         let allowed = allows(alloc, self.takes, &self.list, version)?;
         Ok(if self.inverted { !allowed } else { allowed })
@@ -72,7 +71,7 @@ impl FilterState {
     ghost use Rattle.std.specs.Prelude.{◌+◌, ◌*◌, ◌<◌, ◌^◌, ◌∷◌, [], List, ℕ, length};
     ghost use Rattle.pyver_core.specs.AnswerViews.{reading_of};
     ghost use Rattle.pyver_core.specs.FilterSteps.{Cuts, FinishesBy, HasNoNewline, Steps, StepsBy};
-    ghost use Rattle.pyver_core.specs.ReadLines.{ReadLine};
+    ghost use Rattle.pyver_core.specs.ReadLines.{Entry, Header, ReadLine};
     ghost use Rattle.pyver_core.specs.Readings.{Denotes, Fails};
 
     pub(crate) fn new(alloc: Global) -> FilterState
@@ -87,6 +86,14 @@ impl FilterState {
         }
     }
 
+    fn push_header(&mut self, rule: &FilterRule, text: &[u8]) -> Result<(), AllocError>
+        ensures { IfOk result (λ _. StepsBy rule.now (record { line = (self.old.line_count, text.now); reading = Header }) self.old self.new) }
+    {
+        self.output.extend_from_slice(text)?;
+        self.output.push(b'\n')?;
+        Ok(())
+    }
+
     fn push_version(
         &mut self,
         alloc: Global,
@@ -94,7 +101,7 @@ impl FilterState {
         text: &[u8],
         version: &Version,
     ) -> Result<(), AllocError>
-        ensures { IfOk result (λ _. StepsBy rule.now (record { line = (self.old.line_count, text.now); reading = Denotes version.now }) self.old self.new) }
+        ensures { IfOk result (λ _. StepsBy rule.now (record { line = (self.old.line_count, text.now); reading = Entry (Denotes version.now) }) self.old self.new) }
     {
         if rule.shows(alloc, version)? {
             self.output.extend_from_slice(text)?;
@@ -111,7 +118,7 @@ impl FilterState {
         reason: &str,
     ) -> Result<(), AllocError>
         requires { (self.old.fault_count < self.old.line_count) × (self.old.line_count < 2 ^ 63) }
-        ensures { IfOk result (λ _. StepsBy rule.now (record { line = (self.old.line_count, text.now); reading = Fails reason.now }) self.old self.new) }
+        ensures { IfOk result (λ _. StepsBy rule.now (record { line = (self.old.line_count, text.now); reading = Entry (Fails reason.now) }) self.old self.new) }
     {
         if self.fault_count < rule.lines.invalid.message_limit() {
             push_line_fault(alloc, &mut self.errors, self.line_count, reason)?;
@@ -128,7 +135,7 @@ impl FilterState {
         reading: &Reading,
     ) -> Result<(), AllocError>
         requires { (self.old.fault_count < self.old.line_count) × (self.old.line_count < 2 ^ 63) }
-        ensures { IfOk result (λ _. StepsBy rule.now (record { line = (self.old.line_count, text.now); reading = reading_of reading.now }) self.old self.new) }
+        ensures { IfOk result (λ _. StepsBy rule.now (record { line = (self.old.line_count, text.now); reading = Entry (reading_of reading.now) }) self.old self.new) }
     {
         match reading {
             Reading::Version(version) => self.push_version(alloc, rule, text, version),
@@ -146,7 +153,11 @@ impl FilterState {
         if is_blank(text) {
             return Ok(());
         }
-        let reading = read_line(alloc, text)?;
+        if rule.lines.is_header(self.line_count) {
+            self.push_header(rule, text)?;
+            return Ok(());
+        }
+        let reading = read_line(alloc, rule.lines, text)?;
         self.push_reading(alloc, rule, text, &reading)?;
         Ok(())
     }

@@ -20,7 +20,8 @@ const COMPARE_USAGE: &str = "pyver compare A OP B";
 
 const MATCH_USAGE: &str = "pyver match [-q] [--pre | --no-pre] SPECS V..";
 
-const FILTER_USAGE: &str = "pyver filter [-v] [--pre | --no-pre] [--invalid HOW] SPECS";
+const FILTER_USAGE: &str =
+    "pyver filter [-v] [--pre | --no-pre] [-k N] [-d C] [--header] [--invalid HOW] SPECS";
 
 const SORT_USAGE: &str = "pyver sort [-r] [-u] [-n K]";
 
@@ -82,7 +83,8 @@ examples:
   pyver match -q --pre '>=2.0rc1' 2.0rc2 && echo allowed
 ";
 
-const FILTER_HELP: &str = "usage: pyver filter [-v] [--pre | --no-pre] [--invalid HOW] SPECS
+const FILTER_HELP: &str =
+    "usage: pyver filter [-v] [--pre | --no-pre] [-k N] [-d C] [--header] [--invalid HOW] SPECS
 
 Prints the lines of standard input whose version the specifiers allow, as they were written and as
 they come. '' allows any version. Blank lines are dropped, and so are a byte order mark before the
@@ -92,17 +94,22 @@ With skip it is only said at the end how many were left out, and with keep nothi
 for the status. HOW is error, skip or keep.
 Pre-releases and dev releases are left out, unless a specifier other than != has such a version.
 They are left out too where nothing else is allowed: that is not known before the last line.
+Fields stand between bytes C, also where they are quoted: quotes are not read.
 
 options:
   -v, --invert-match  print the other lines, but no invalid ones
   --pre               allow pre-releases and dev releases too
   --no-pre            allow none of them
+  -k, --field N       the version is field N, counted from 1, and not the whole line
+  -d, --delimiter C   the byte between fields, one ASCII character, and not a tab
+  --header            print the first line first, which is no version
   --invalid HOW       what is done with invalid lines
   --                  all words after it are no options
 
 examples:
   pyver filter '>=1.0,<2.0,!=1.5.*' < versions.txt
   git tag | pyver filter --pre '' 2> /dev/null
+  pyver filter -d , -k 2 --header '>=1.0' < packages.csv
 ";
 
 const SORT_HELP: &str = "usage: pyver sort [-r] [-u] [-n K]

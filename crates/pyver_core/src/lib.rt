@@ -8,6 +8,7 @@ mod bump_words;
 mod command;
 mod comparison;
 mod escape;
+mod fields;
 mod filter;
 mod filter_input;
 mod filter_words;

@@ -3,8 +3,10 @@ ghost use Rattle.std.specs.Prelude.{◌≡◌, IfOk, if◌then◌else◌, ◌==�
 ghost use Rattle.std.specs.Str.Lines.{strip_carriage_return};
 ghost use Rattle.pyver_core.specs.AnswerViews.{reading_of};
 ghost use Rattle.pyver_core.specs.InputLines.{is_blank, numbered, without_mark};
-ghost use Rattle.pyver_core.specs.ReadLines.{ReadsLine};
+ghost use Rattle.pyver_core.specs.ReadLines.{ReadsBytes, ReadsLine};
 
+use crate::fields::{find_field, print_no_field};
+use crate::line_options::LineOptions;
 use crate::reading::{Reading, read_version};
 use std::alloc::{AllocError, Global};
 
@@ -45,8 +47,24 @@ pub(crate) fn is_blank(text: &[u8]) -> bool
 }
 
 /// The version that the line denotes, or why it denotes none.
-pub(crate) fn read_line(alloc: Global, text: &[u8]) -> Result<Reading, AllocError>
-    ensures { IfOk result (λ x. ReadsLine text.now (reading_of x)) }
+pub(crate) fn read_line(
+    alloc: Global,
+    options: LineOptions,
+    text: &[u8],
+) -> Result<Reading, AllocError>
+    ensures { IfOk result (λ x. ReadsLine options text.now (reading_of x)) }
+{
+    let Some(number) = options.field else {
+        return read_bytes(alloc, text);
+    };
+    match find_field(number, options.delimiter, text) {
+        Some(field) => read_bytes(alloc, field),
+        None => Ok(Reading::Invalid(print_no_field(alloc, number)?)),
+    }
+}
+
+fn read_bytes(alloc: Global, text: &[u8]) -> Result<Reading, AllocError>
+    ensures { IfOk result (λ x. ReadsBytes text.now (reading_of x)) }
 {
     match std::str::from_utf8(text) {
         Ok(text) => read_version(alloc, text),

@@ -5,6 +5,7 @@ ghost use Rattle.pyver_core.specs.InputLines.{input_lines};
 
 use crate::filter::push_line_fault;
 use crate::invalid_lines::{MESSAGE_LIMIT, push_more_faults};
+use crate::line_options::LineOptions;
 use crate::lines::{is_blank, line_text, read_line};
 use crate::reading::Reading;
 use pep440_rs::Version;
@@ -44,6 +45,7 @@ fn split_line(input: &[u8]) -> (&[u8], Option<&[u8]>)
 impl<'a> VersionLines<'a> {
     ghost use Rattle.std.specs.Prelude.{◌+◌, ◌++◌, ◌^◌, List, ℕ};
     ghost use Rattle.pyver_core.specs.AnswerViews.{reading_of};
+    ghost use Rattle.pyver_core.specs.ReadLines.{Entry};
     ghost use Rattle.pyver_core.specs.Readings.{Denotes, Fails};
     ghost use Rattle.pyver_core.specs.VersionLineViews.{IsOfLines, KeepsLines, KeepsOne};
 
@@ -59,7 +61,7 @@ impl<'a> VersionLines<'a> {
     }
 
     fn push_version(&mut self, text: &'a [u8], version: Version) -> Result<(), AllocError>
-        ensures { IfOk result (λ _. KeepsOne (record { line = (self.old.line_count, text.now); reading = Denotes version }) self.old self.new) }
+        ensures { IfOk result (λ _. KeepsOne (record { line = (self.old.line_count, text.now); reading = Entry (Denotes version) }) self.old self.new) }
     {
         self.lines.push(VersionLine { text, version })?;
         Ok(())
@@ -67,7 +69,7 @@ impl<'a> VersionLines<'a> {
 
     fn push_fault(&mut self, alloc: Global, text: &'a [u8], reason: &str) -> Result<(), AllocError>
         requires { (self.old.fault_count < self.old.line_count) × (self.old.line_count ≤ 2 ^ 63) }
-        ensures { IfOk result (λ _. KeepsOne (record { line = (self.old.line_count, text.now); reading = Fails reason.now }) self.old self.new) }
+        ensures { IfOk result (λ _. KeepsOne (record { line = (self.old.line_count, text.now); reading = Entry (Fails reason.now) }) self.old self.new) }
     {
         if self.fault_count < MESSAGE_LIMIT {
             push_line_fault(alloc, &mut self.errors, self.line_count, reason)?;
@@ -83,7 +85,7 @@ impl<'a> VersionLines<'a> {
         reading: Reading,
     ) -> Result<(), AllocError>
         requires { (self.old.fault_count < self.old.line_count) × (self.old.line_count ≤ 2 ^ 63) }
-        ensures { IfOk result (λ _. KeepsOne (record { line = (self.old.line_count, text.now); reading = reading_of reading }) self.old self.new) }
+        ensures { IfOk result (λ _. KeepsOne (record { line = (self.old.line_count, text.now); reading = Entry (reading_of reading) }) self.old self.new) }
     {
         match reading {
             Reading::Version(version) => self.push_version(text, version),
@@ -102,7 +104,7 @@ impl<'a> VersionLines<'a> {
         if is_blank(text) {
             return Ok(());
         }
-        let reading = read_line(alloc, text)?;
+        let reading = read_line(alloc, LineOptions::none(), text)?;
         self.push_reading(alloc, text, reading)?;
         Ok(())
     }

@@ -1,6 +1,7 @@
 use Rattle.std.proofs.Common.{◌∙◌, refl, sym}
 use Rattle.pyver_core.proofs.Keeping.{keeps_blank, keeps_line}
 use Rattle.pyver_core.specs.AnswerViews.{reading_of}
+use Rattle.pyver_core.specs.ReadLines.{Entry}
 use Rattle.pyver_core.proofs.version_line.VersionLines.push_line.Goals as goal
 
 pub returns-then-is_blank-clause-lines : goal.returns-then-is_blank-clause-lines
@@ -9,5 +10,5 @@ returns-then-is_blank-clause-lines c =
 
 pub returns-clause-lines : goal.returns-clause-lines
 returns-clause-lines c =
-    keeps_line c.args.line.now c.line_text-text.result.now (reading_of c.in_ok-reading.reading) c.args.self.now _ c.push_reading.new.self c.line_text-text.ensures (sym c.is_blank.ensures ∙ c.if-is_blank.false)
-    c.in_ok-reading.ensures refl refl refl refl c.in_ok-push_reading.ensures
+    keeps_line c.args.line.now c.line_text-text.result.now (Entry (reading_of c.in_ok-reading.reading)) c.args.self.now _ c.push_reading.new.self c.line_text-text.ensures (sym c.is_blank.ensures ∙ c.if-is_blank.false)
+    (refl, rw c.none.ensures at c.in_ok-reading.ensures) refl refl refl refl c.in_ok-push_reading.ensures
