@@ -2,7 +2,7 @@
 _pyver() {
     local word=${COMP_WORDS[COMP_CWORD]} before=${COMP_WORDS[COMP_CWORD - 1]} words=
     case $COMP_CWORD,${COMP_WORDS[1]} in
-        1,*) words='compare match filter sort show bump --help --version' ;;
+        1,*) words='compare match filter sort show bump range --help --version' ;;
         *,compare)
             case $COMP_CWORD in
                 2) words='--help' ;;
@@ -30,6 +30,7 @@ _pyver() {
                 *) words='--help --to major minor patch stable alpha beta rc post dev' ;;
             esac
             ;;
+        *,range) words='--help --cover --json' ;;
     esac
     COMPREPLY=()
     while IFS= read -r word; do

@@ -32,3 +32,6 @@ complete -c pyver -n '__fish_seen_subcommand_from show' -l json -d 'print all pa
 complete -c pyver -n __fish_use_subcommand -a bump -d 'the version with parts of it raised'
 complete -c pyver -n '__fish_seen_subcommand_from bump' -l to -x -d 'set the number of the last part'
 complete -c pyver -n '__fish_seen_subcommand_from bump' -a 'major minor patch stable alpha beta rc post dev'
+complete -c pyver -n __fish_use_subcommand -a range -d 'the range of versions that all specifiers allow'
+complete -c pyver -n '__fish_seen_subcommand_from range' -l cover -d 'print the cover in place of the range'
+complete -c pyver -n '__fish_seen_subcommand_from range' -l json -d 'print an array of segments'

@@ -5,7 +5,7 @@ use Rattle.std.proofs.lemmas.List.Sums.{fold-append}
 use Rattle.std.specs.List.{AllZip}
 use Rattle.pyver_core.specs.Outcomes.{Outcome, in_turn, followed_by, no_outcome}
 
-all_more : {A B : Type 0} (R : A → B → Type 0) (xs : List A) (ys : List B) (x : A) (y : B) → AllZip R xs ys → R x y → AllZip R (xs ++ x ∷ []) (ys ++ y ∷ [])
+pub all_more : {A B : Type 0} (R : A → B → Type 0) (xs : List A) (ys : List B) (x : A) (y : B) → AllZip R xs ys → R x y → AllZip R (xs ++ x ∷ []) (ys ++ y ∷ [])
 all_more R [] [] x y h r = (r, tt)
 all_more R [] (z ∷ ys) x y h r = absurd h
 all_more R (z ∷ xs) [] x y h r = absurd h

@@ -8,6 +8,7 @@ pub mod Whole
 pub mod Bytes
 pub mod Appended
 pub mod OneOutcome
+pub mod CommonRanges
 pub mod RunEnds
 pub mod Starts
 pub mod FilterWords

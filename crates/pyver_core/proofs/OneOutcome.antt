@@ -10,6 +10,7 @@ use Rattle.pep440_version.proofs.Refusals.ExactlyOne.{not_both, one_refusal}
 use Rattle.pep440_version.specs.ErrorTexts.{refusal_text}
 use Rattle.pyver_core.specs.Bumps.{Bumps, bump_outcome}
 use Rattle.pyver_core.proofs.Sorting.{one_sorted}
+use Rattle.pyver_core.specs.CommonRanges.{FindsCommon, RangeReading, ReadsRange, found_outcome, range_reading}
 use Rattle.pyver_core.specs.Comparisons.{Compares, comparison_outcome}
 use Rattle.pyver_core.specs.Fields.{field}
 use Rattle.pyver_core.specs.Filters.{Filters, FiltersBy, FiltersLines, filter_outcome, rule_of}
@@ -22,7 +23,7 @@ use Rattle.pyver_core.specs.ReadLines.{Entry, Header, IsEntry, IsRead, LineReadi
 use Rattle.pyver_core.specs.Readings.{Reading, Reads, Denotes, Fails}
 use Rattle.pyver_core.specs.Shows.{Shows, ShowsWord, show_outcome}
 use Rattle.pyver_core.specs.Sorts.{SortsVersions, sort_outcome}
-use Rattle.pyver_core.specs.Tasks.{Help, NameVersion, Compare, Match, Filter, Sort, Show, Bump, Misused}
+use Rattle.pyver_core.specs.Tasks.{Help, NameVersion, Compare, Match, Filter, Sort, Show, Bump, Range, Misused}
 use Rattle.pyver_core.specs.VersionLines.{OfFound, OfVersions, VersionLine, version_lines}
 use Rattle.pyver_core.specs.declared.allowed.MatchOptions.{MatchOptions}
 use Rattle.pyver_core.specs.declared.bump.BumpPart.{BumpPart}
@@ -30,6 +31,7 @@ use Rattle.pyver_core.specs.declared.comparison.Comparison.{Comparison}
 use Rattle.pyver_core.specs.declared.filter.FilterOptions.{FilterOptions}
 use Rattle.pyver_core.specs.declared.filter.FilterRule.{FilterRule}
 use Rattle.pyver_core.specs.declared.line_options.LineOptions.{LineOptions}
+use Rattle.pyver_core.specs.declared.range.RangeOptions.{RangeOptions}
 use Rattle.pyver_core.specs.declared.show.ShowFormat.{ShowFormat}
 use Rattle.pyver_core.specs.declared.sort.SortOptions.{SortOptions}
 
@@ -132,6 +134,12 @@ show_once format words a b (os, h, is) (ps, k, so) = is ∙ ap in_turn (all_once
 bump_once : (to : Option ℕ) (parts : List BumpPart) (word : List ℕ) (a b : Outcome) → Bumps to parts word a → Bumps to parts word b → a ≡ b
 bump_once to parts word a b (x, hx, is) (u, hu, so) = is ∙ ap (bump_outcome to parts word) (reading_once word x u hx hu) ∙ sym so
 
+range_once : (word : List ℕ) (x y : RangeReading) → ReadsRange word x → ReadsRange word y → x ≡ y
+range_once word x y (l, hl, is) (m, hm, so) = is ∙ ap (range_reading word) (specifiers_once word l m hl hm) ∙ sym so
+
+common_once : (options : RangeOptions) (words : List (List ℕ)) (a b : Outcome) → FindsCommon options words a → FindsCommon options words b → a ≡ b
+common_once options words a b (xs, h, is) (ys, k, so) = is ∙ ap (found_outcome options) (all_once ReadsRange range_once words xs ys h k) ∙ sym so
+
 pub outcomes_once : OutcomesOnce
 outcomes_once (Help topic) texts a b h k = h ∙ sym k
 outcomes_once NameVersion texts a b h k = h ∙ sym k
@@ -141,4 +149,5 @@ outcomes_once (Filter options specifiers) texts a b h k = filter_once options sp
 outcomes_once (Sort options) texts a b h k = of_versions_once (SortsVersions options) (sort_once options) texts a b h k
 outcomes_once (Show format words) texts a b h k = show_once format words a b h k
 outcomes_once (Bump to parts word) texts a b h k = bump_once to parts word a b h k
+outcomes_once (Range options words) texts a b h k = common_once options words a b h k
 outcomes_once (Misused message) texts a b h k = h ∙ sym k

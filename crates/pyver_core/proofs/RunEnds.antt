@@ -12,7 +12,7 @@ use Rattle.pyver_core.specs.Outcomes.{Outcome}
 use Rattle.pyver_core.specs.ReadLines.{faults}
 use Rattle.pyver_core.specs.Runs.{Ends, IsLast, WritesAnswer, WroteBeginning, memory_message}
 use Rattle.pyver_core.specs.Sorts.{sort_outcome}
-use Rattle.pyver_core.specs.Tasks.{Bump, Compare, Filter, Help, IsOutcome, IsStream, Match, Misused, NameVersion, NeedsInput, Show, Sort, Task, task_of}
+use Rattle.pyver_core.specs.Tasks.{Bump, Compare, Filter, Help, IsOutcome, IsStream, Match, Misused, NameVersion, NeedsInput, Range, Show, Sort, Task, task_of}
 use Rattle.pyver_core.specs.WholeInputs.{AnswersInput, WholeStops}
 use Rattle.pyver_core.specs.declared.filter.FilterRule.{FilterRule}
 use Rattle.pyver_core.specs.declared.invalid_lines.InvalidLines.{InvalidLines}
@@ -29,6 +29,7 @@ first_outcome (Filter options specifiers) n = (filter_outcome (rule_of options n
 first_outcome (Sort options) n = (sort_outcome options [], ([], tt, inl (refl, ([], none_sorted options.reversed, refl))))
 first_outcome (Show asked words) n = absurd n
 first_outcome (Bump to parts word) n = absurd n
+first_outcome (Range options words) n = absurd n
 first_outcome (Misused message) n = absurd n
 
 zero_or_two : (b : Bool) → cond b 0 2 ≤ 2

@@ -9,6 +9,10 @@ pub mod Matches
 pub mod Parts
 pub mod JsonObjects
 pub mod Shows
+pub mod RangeObjects
+pub mod CommonRanges
+pub mod RangeLaws
+pub mod RangeViews
 pub mod Numbers
 pub mod Bumps
 pub mod BumpLaws

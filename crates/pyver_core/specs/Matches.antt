@@ -20,9 +20,13 @@ abbrev pub ReadsSpecifiers : List ℕ → SpecifiersReading → Type 0
 ReadsSpecifiers text (DenotesList list) = DerivesList text list
 ReadsSpecifiers text (ListFails message) = (f : PieceRefusal) × RefusesList text f × (message ≡ list_refusal_text f text)
 
--- the outcome of an invalid list, whose message has line ends of its own
+-- the message of an invalid list, which has line ends of its own
+abbrev pub list_message : List ℕ → List ℕ
+list_message message = codes "pyver: " ++ escaped_lines message
+
+-- the outcome of an invalid list
 abbrev pub list_fault : List ℕ → Outcome
-list_fault message = record { output = []; errors = codes "pyver: " ++ escaped_lines message; status = 2 }
+list_fault message = record { output = []; errors = list_message message; status = 2 }
 
 -- `yes` or `no`, a tab, and the version as it was written
 abbrev pub verdict_line : Bool → List ℕ → List ℕ

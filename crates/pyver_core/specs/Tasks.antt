@@ -4,6 +4,7 @@ use Rattle.std.specs.Option.{option_map}
 use Rattle.pep440_rs.specs.ListGrammar.{DerivesList}
 use Rattle.pep440_rs.specs.Specifiers.{Spec}
 use Rattle.pyver_core.specs.Bumps.{Bumps, bump_part_of}
+use Rattle.pyver_core.specs.CommonRanges.{FindsCommon}
 use Rattle.pyver_core.specs.Comparisons.{Compares, comparison_of}
 use Rattle.pyver_core.specs.Filters.{FiltersLines}
 use Rattle.pyver_core.specs.LineOptions.{joined_value, line_option, no_line_options, value_behind, value_kind, value_names, value_option_of, with_value}
@@ -20,11 +21,12 @@ use Rattle.pyver_core.specs.declared.comparison.Comparison.{Comparison}
 use Rattle.pyver_core.specs.declared.filter.FilterOptions.{FilterOptions}
 use Rattle.pyver_core.specs.declared.help.Topic.{Topic}
 use Rattle.pyver_core.specs.declared.help.Topic.TheVariants as topic
-use Rattle.pyver_core.specs.declared.help.TheConstants.{PROGRAM_HELP, COMPARE_HELP, MATCH_HELP, FILTER_HELP, SORT_HELP, SHOW_HELP, BUMP_HELP, COMPARE_USAGE, MATCH_USAGE, FILTER_USAGE, SORT_USAGE, SHOW_USAGE, BUMP_USAGE, PROGRAM_USAGE, VERSION_LINE}
+use Rattle.pyver_core.specs.declared.help.TheConstants.{PROGRAM_HELP, COMPARE_HELP, MATCH_HELP, FILTER_HELP, SORT_HELP, SHOW_HELP, BUMP_HELP, RANGE_HELP, COMPARE_USAGE, MATCH_USAGE, FILTER_USAGE, SORT_USAGE, SHOW_USAGE, BUMP_USAGE, RANGE_USAGE, PROGRAM_USAGE, VERSION_LINE}
 use Rattle.pyver_core.specs.declared.line_options.LineOptions.{LineOptions}
 use Rattle.pyver_core.specs.declared.line_options.ValueOption.{ValueOption}
 use Rattle.pyver_core.specs.declared.part.VersionPart.{VersionPart}
 use Rattle.pyver_core.specs.declared.prerelease.Prereleases.TheVariants as prereleases
+use Rattle.pyver_core.specs.declared.range.RangeOptions.{RangeOptions}
 use Rattle.pyver_core.specs.declared.show.ShowFormat.{ShowFormat}
 use Rattle.pyver_core.specs.declared.show.ShowFormat.TheVariants as format
 use Rattle.pyver_core.specs.declared.sort.SortOptions.{SortOptions}
@@ -39,13 +41,14 @@ pub data Task : Type 0 where
   Sort : SortOptions → Task
   Show : ShowFormat → List (List ℕ) → Task
   Bump : Option ℕ → List BumpPart → List ℕ → Task
+  Range : RangeOptions → List (List ℕ) → Task
   Misused : List ℕ → Task
 
 -- ---- the names of the program
 
 -- the names that a mistyped command is compared with
 abbrev pub command_names : List (List ℕ)
-command_names = codes "compare" ∷ (codes "match" ∷ (codes "filter" ∷ (codes "sort" ∷ (codes "show" ∷ (codes "bump" ∷ (codes "--help" ∷ (codes "--version" ∷ [])))))))
+command_names = codes "compare" ∷ (codes "match" ∷ (codes "filter" ∷ (codes "sort" ∷ (codes "show" ∷ (codes "bump" ∷ (codes "range" ∷ (codes "--help" ∷ (codes "--version" ∷ []))))))))
 
 -- the options of a command, with which a mistyped one is compared
 abbrev pub option_names : Topic → List (List ℕ)
@@ -56,6 +59,7 @@ option_names topic.Filter = codes "--help" ∷ (codes "--invert-match" ∷ (code
 option_names topic.Sort = codes "--help" ∷ (codes "--reverse" ∷ (codes "--unique" ∷ (codes "--last" ∷ [])))
 option_names topic.Show = codes "--help" ∷ (codes "--part" ∷ (codes "--json" ∷ []))
 option_names topic.Bump = codes "--help" ∷ (codes "--to" ∷ [])
+option_names topic.Range = codes "--help" ∷ (codes "--cover" ∷ (codes "--json" ∷ []))
 
 -- the usage line of a command
 abbrev pub usage : Topic → List ℕ
@@ -66,6 +70,7 @@ usage topic.Filter = FILTER_USAGE.now
 usage topic.Sort = SORT_USAGE.now
 usage topic.Show = SHOW_USAGE.now
 usage topic.Bump = BUMP_USAGE.now
+usage topic.Range = RANGE_USAGE.now
 
 -- the words that print the help of a command
 abbrev pub help_words : Topic → List ℕ
@@ -76,6 +81,7 @@ help_words topic.Filter = codes "pyver filter --help"
 help_words topic.Sort = codes "pyver sort --help"
 help_words topic.Show = codes "pyver show --help"
 help_words topic.Bump = codes "pyver bump --help"
+help_words topic.Range = codes "pyver range --help"
 
 -- the text of `--help`
 abbrev pub help_text : Topic → List ℕ
@@ -86,6 +92,7 @@ help_text topic.Filter = FILTER_HELP.now
 help_text topic.Sort = SORT_HELP.now
 help_text topic.Show = SHOW_HELP.now
 help_text topic.Bump = BUMP_HELP.now
+help_text topic.Range = RANGE_HELP.now
 
 -- ---- words
 
@@ -367,6 +374,38 @@ bump_task (Some to) (word ∷ rest) =
     else if bytes_eq word (codes "--to") then bump_task None rest
     else bump_rest to word rest
 
+-- ---- `range [--cover] [--json] SPECS..`
+
+-- at least one list
+abbrev pub range_operands : RangeOptions → List (List ℕ) → Task
+range_operands options [] = wrong_count topic.Range
+range_operands options (word ∷ rest) = Range options (word ∷ rest)
+
+-- the options with what this word sets, if it is one of them
+abbrev pub range_option : RangeOptions → List ℕ → Option RangeOptions
+range_option options word =
+    if bytes_eq word (codes "--cover") then Some (record options { cover = true })
+    else if bytes_eq word (codes "--json") then Some (record options { json = true })
+    else None
+
+-- the words after the options, of which the first may be `--`
+abbrev pub range_rest : RangeOptions → List ℕ → List (List ℕ) → Task
+range_rest options word rest =
+    if bytes_eq word (codes "--") then range_operands options rest
+    else if is_option word then wrong_option topic.Range word
+    else range_operands options (word ∷ rest)
+
+-- the task of the words after `range`: options come first
+abbrev pub range_task : RangeOptions → List (List ℕ) → Task
+range_task options [] = wrong_count topic.Range
+range_task options (word ∷ rest) =
+    if is_help word then Help topic.Range
+    else by_option (range_option options word) (λ taken. range_task taken rest) (range_rest options word rest)
+
+-- the options of `range` before the first word
+abbrev pub no_range_options : RangeOptions
+no_range_options = record { cover = false; json = false }
+
 -- ---- the program
 
 -- the task that the words ask for, of which the first is a command
@@ -381,6 +420,7 @@ task_of (word ∷ rest) =
     else if bytes_eq word (codes "sort") then sort_task false no_sort_options rest
     else if bytes_eq word (codes "show") then show_task (Some format.Normal) rest
     else if bytes_eq word (codes "bump") then bump_task (Some None) rest
+    else if bytes_eq word (codes "range") then range_task no_range_options rest
     else Misused (unknown_message (codes "command") word command_names (help_words topic.Program))
 
 -- the outcome of a text on standard output
@@ -401,6 +441,7 @@ IsOutcome (Filter options specifiers) texts o = FiltersLines options specifiers 
 IsOutcome (Sort options) texts o = SortsLines options texts o
 IsOutcome (Show asked words) texts o = Shows asked words o
 IsOutcome (Bump to parts word) texts o = Bumps to parts word o
+IsOutcome (Range options words) texts o = FindsCommon options words o
 IsOutcome (Misused message) texts o = o ≡ misuse message
 
 -- only `filter` with a valid list and `sort` read the input

@@ -1,8 +1,8 @@
 // The command `match`.
-ghost use Rattle.std.specs.Prelude.{◌≡◌, IfOk, map, string_bytes};
+ghost use Rattle.std.specs.Prelude.{◌≡◌, ◌++◌, IfOk, map, string_bytes};
 ghost use Rattle.pep440_rs.specs.ListAnswers.{list_kind_of};
 ghost use Rattle.pyver_core.specs.AnswerViews.{lacks_list_memory, outcome_of, reading_of, specifiers_reading_of};
-ghost use Rattle.pyver_core.specs.Matches.{Matches, MatchesWords, ReadsSpecifiers, list_fault, verdict, word_outcome};
+ghost use Rattle.pyver_core.specs.Matches.{Matches, MatchesWords, ReadsSpecifiers, list_fault, list_message, verdict, word_outcome};
 ghost use Rattle.pyver_core.specs.Outcomes.{followed_by};
 
 use crate::answer::Answer;
@@ -48,11 +48,17 @@ pub(crate) fn read_specifiers(alloc: Global, text: &str) -> Result<SpecifiersRea
     }
 }
 
+pub(crate) fn push_list_message(errors: &mut Vec<u8>, message: &str) -> Result<(), AllocError>
+    ensures { IfOk result (λ _. errors.new.items ≡ errors.old.items ++ list_message message.now) }
+{
+    errors.extend_from_slice(b"pyver: ")?;
+    push_escaped_lines(errors, message.as_bytes())
+}
+
 pub(crate) fn push_list_fault(answer: &mut Answer, message: &str) -> Result<(), AllocError>
     ensures { IfOk result (λ _. outcome_of answer.new ≡ followed_by (outcome_of answer.old) (list_fault message.now)) }
 {
-    answer.errors.extend_from_slice(b"pyver: ")?;
-    push_escaped_lines(&mut answer.errors, message.as_bytes())?;
+    push_list_message(&mut answer.errors, message)?;
     answer.status = answer.status.max(2);
     Ok(())
 }

@@ -17,7 +17,7 @@ pub(crate) struct Answer {
     ghost known: { status ≤ 2 },
 }
 
-fn push_fault(errors: &mut Vec<u8>, word: &str, reason: &str) -> Result<(), AllocError>
+pub(crate) fn push_fault(errors: &mut Vec<u8>, word: &str, reason: &str) -> Result<(), AllocError>
     ensures { IfOk result (λ _. errors.new.items ≡ errors.old.items ++ fault_message word.now reason.now) }
 {
     errors.extend_from_slice(b"pyver: '")?;

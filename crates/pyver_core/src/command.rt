@@ -18,6 +18,8 @@ use crate::filter_words::parse_filter;
 use crate::help::{Topic, VERSION_LINE, help};
 use crate::misuse::{Misuse, push_misuse};
 use crate::prerelease::{Prereleases, takes_prereleases};
+use crate::range::{RangeOptions, find_common};
+use crate::range_words::parse_range;
 use crate::show::{ShowFormat, show_versions};
 use crate::show_words::parse_show;
 use crate::sort::SortOptions;
@@ -37,6 +39,7 @@ pub(crate) enum Command<'a> {
     Show(ShowFormat, &'a [String]),
     /// The number of the last part, the names of the parts, and the version.
     Bump(Option<u64>, &'a [String], &'a str),
+    Range(RangeOptions, &'a [String]),
     Misused(Misuse<'a>),
 }
 
@@ -187,6 +190,7 @@ impl<'a> Command<'a> {
                 "sort" => parse_sort(rest),
                 "show" => parse_show(rest),
                 "bump" => parse_bump(rest),
+                "range" => parse_range(rest),
                 other => Command::Misused(Misuse::Command(other)),
             },
         }
@@ -212,6 +216,9 @@ impl<'a> Command<'a> {
             }
             Command::Bump(to, names, version) => {
                 Ok(Work::Answer(start_bump(alloc, to, names, version)?))
+            }
+            Command::Range(options, words) => {
+                Ok(Work::Answer(find_common(alloc, options, words)?))
             }
             Command::Misused(misuse) => Ok(Work::Answer(report_misuse(alloc, misuse)?)),
         }

@@ -12,6 +12,7 @@ pub(crate) enum Topic {
     Sort,
     Show,
     Bump,
+    Range,
 }
 
 const PROGRAM_USAGE: &str = "pyver COMMAND [WORD]..";
@@ -29,6 +30,8 @@ const SHOW_USAGE: &str = "pyver show [--part PART | --json] V..";
 
 const BUMP_USAGE: &str = "pyver bump [--to N] PART.. V";
 
+const RANGE_USAGE: &str = "pyver range [--cover] [--json] SPECS..";
+
 pub(crate) const VERSION_LINE: &str = "pyver 0.2.0\n";
 
 const PROGRAM_HELP: &str = "usage: pyver COMMAND [WORD]..
@@ -42,6 +45,7 @@ commands:
   sort               the lines of standard input in the order of their versions
   show V..           versions in normal form, or their parts
   bump PART.. V      the version with parts of it raised
+  range SPECS..      the range of versions that all specifiers allow
 
 'pyver COMMAND --help' tells more of a command. '--version' prints the program's version.
 The exit status is 0 for yes or done, 1 for no, 2 for a wrong use or an invalid version,
@@ -54,6 +58,7 @@ examples:
   git tag | pyver sort -n 3
   pyver show --part major 1.19
   pyver bump minor 1.19
+  pyver range '>=1,<2' '>=1.5'
 ";
 
 const COMPARE_HELP: &str = "usage: pyver compare A OP B
@@ -171,6 +176,29 @@ examples:
   pyver bump --to 7 rc 2.0rc3
 ";
 
+const RANGE_HELP: &str = "usage: pyver range [--cover] [--json] SPECS..
+
+Prints the range of versions that all of the lists allow, a line for each segment: [ and ] for a
+bound that is in it, ( and ) for one that is not, and * for none. 2~min0 is below all versions of
+the release 2, and 2~max0 above them. The range of '' is (*, *). Pre-releases are not left out.
+The exit status is 0, 1 where no version is in all lists, and 2 where one is no list.
+
+A range says nothing of local versions and little of suffixes: 2.1.0+cu118 is in both ==2.1.0+cu118
+and <=2.1.0, but their ranges have nothing in common. So the cover decides, which holds all versions
+that a list contains, and maybe more. Where it is empty, 'no version' is printed, and the exit
+status is 1. Where the range alone is empty, 'perhaps, by local versions or suffixes alone' is
+printed, and the exit status is 0.
+
+options:
+  --cover  print the cover in place of the range
+  --json   print an array of segments; no version and perhaps are [], apart by the exit status
+  --       all words after it are no options
+
+examples:
+  pyver range '>=1,<2' '>=1.5'
+  pyver range '>=1.16,!=1.18' '<2' '~=1.17'
+";
+
 /// What the help says.
 pub(crate) fn help(topic: Topic) -> &'static str
     ensures { result.now ≡ help_text topic }
@@ -183,6 +211,7 @@ pub(crate) fn help(topic: Topic) -> &'static str
         Topic::Sort => SORT_HELP,
         Topic::Show => SHOW_HELP,
         Topic::Bump => BUMP_HELP,
+        Topic::Range => RANGE_HELP,
     }
 }
 
@@ -198,6 +227,7 @@ pub(crate) fn help_words(topic: Topic) -> &'static str
         Topic::Sort => "pyver sort --help",
         Topic::Show => "pyver show --help",
         Topic::Bump => "pyver bump --help",
+        Topic::Range => "pyver range --help",
     }
 }
 
@@ -213,5 +243,6 @@ pub(crate) fn usage(topic: Topic) -> &'static str
         Topic::Sort => SORT_USAGE,
         Topic::Show => SHOW_USAGE,
         Topic::Bump => BUMP_USAGE,
+        Topic::Range => RANGE_USAGE,
     }
 }

@@ -18,7 +18,7 @@ pub(crate) fn push_text(bytes: &mut Vec<u8>, text: &str) -> Result<(), AllocErro
     bytes.extend_from_slice(text.as_bytes())
 }
 
-fn push_quoted(bytes: &mut Vec<u8>, text: &str) -> Result<(), AllocError>
+pub(crate) fn push_quoted(bytes: &mut Vec<u8>, text: &str) -> Result<(), AllocError>
     ensures { IfOk result (λ _. bytes.new.items ≡ bytes.old.items ++ in_quotes text.now) }
 {
     bytes.push(b'"')?;

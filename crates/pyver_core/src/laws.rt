@@ -1,6 +1,7 @@
 //! What holds of the program's outcomes, as the contract of a function that does nothing.
 ghost use Rattle.pyver_core.specs.BumpLaws.{BumpsAreGreater, BumpsChangeOnly, ReleasesAreBumped};
 ghost use Rattle.pyver_core.specs.OneOutcome.{OutcomesOnce};
+ghost use Rattle.pyver_core.specs.RangeLaws.{CommonIsInEach, NoVersionHasItsStatus, NoVersionIsCommon};
 
 /// Of what is asked for there is at most one outcome.
 pub fn outcomes_once()
@@ -13,4 +14,12 @@ pub fn bumps()
     ensures greater { BumpsAreGreater }
     ensures parts { BumpsChangeOnly }
     ensures release { ReleasesAreBumped }
+{}
+
+/// Where `range` says that there is no version, none is contained in all lists; and a version lies in the intersection of
+/// ranges exactly if it lies in each of them.
+pub fn common_ranges()
+    ensures none { NoVersionIsCommon }
+    ensures status { NoVersionHasItsStatus }
+    ensures each { CommonIsInEach }
 {}
