@@ -1,0 +1,2 @@
+pub mod LogicalLines
+pub mod LineViews

@@ -1,0 +1,10 @@
+//! Requirements files, as pip reads them: their logical lines, and what each line is.
+#![tactic(auto)]
+
+mod comment;
+mod logical_line;
+mod physical_line;
+#[cfg(test)]
+mod tests;
+
+pub use logical_line::{LogicalLine, logical_lines};
