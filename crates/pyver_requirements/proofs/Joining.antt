@@ -5,7 +5,7 @@ use Rattle.std.proofs.lemmas.List.{map-append}
 use Rattle.std.proofs.lemmas.List.Elements.{filter-append}
 use Rattle.std.specs.List.{filter}
 use Rattle.std.specs.Option.{option_map_or}
-use Rattle.pyver_requirements.specs.LineViews.{line_of, lines_with}
+use Rattle.pyver_requirements.specs.LineViews.{logical_line_of, lines_with}
 use Rattle.pyver_requirements.specs.LogicalLines.{Line, added, content, continues, filled, joined_from, physical_lines, prefixed}
 use Rattle.pyver_requirements.specs.declared.logical_line.LineJoiner.{LineJoiner}
 
@@ -42,20 +42,20 @@ filled-append xs ys =
 pub push_on : (a b : LineJoiner) (text : List ℕ) → continues text ≡ true → b.lines.items ≡ a.lines.items → b.first ≡ a.first → b.text.items ≡ a.text.items ++ added text → b.next ≡ a.next + 1
     → (rest : List (List ℕ)) → lines_with b rest ≡ lines_with a (text ∷ rest)
 push_on a b text on lines first more next rest =
-    (λ i. map line_of (lines i) ++ filled (prefixed (first i) (more i) (joined_from (next i) rest)))
-    ∙ ap (λ l. map line_of a.lines.items ++ filled l)
+    (λ i. map logical_line_of (lines i) ++ filled (prefixed (first i) (more i) (joined_from (next i) rest)))
+    ∙ ap (λ l. map logical_line_of a.lines.items ++ filled l)
     (sym (prefixed_twice a.first a.next a.text.items (added text) (joined_from (a.next + 1) rest)) ∙ ap (prefixed a.first a.text.items) (sym (joined_on a.next text rest on)))
 
 -- a line that ends its logical line
-pub push_end : (a b : LineJoiner) (text : List ℕ) → continues text ≡ false → map line_of b.lines.items ≡ map line_of a.lines.items ++ filled (line a.first (a.text.items ++ added text) ∷ [])
+pub push_end : (a b : LineJoiner) (text : List ℕ) → continues text ≡ false → map logical_line_of b.lines.items ≡ map logical_line_of a.lines.items ++ filled (line a.first (a.text.items ++ added text) ∷ [])
     → b.text.items ≡ [] → b.first ≡ a.next + 1 → b.next ≡ a.next + 1 → (rest : List (List ℕ)) → lines_with b rest ≡ lines_with a (text ∷ rest)
 push_end a b text ended lines none first next rest =
     let whole : Line = line a.first (a.text.items ++ added text) in
     let later : List Line = joined_from (a.next + 1) rest in
     (λ i. lines i ++ filled (prefixed (first i) (none i) (joined_from (next i) rest)))
-    ∙ ap (λ l. (map line_of a.lines.items ++ filled (whole ∷ [])) ++ l) (prefixed_none (a.next + 1) rest)
-    ∙ append_assoc (map line_of a.lines.items) (filled (whole ∷ [])) (filled later)
-    ∙ ap (λ l. map line_of a.lines.items ++ l) (sym (filled-append (whole ∷ []) later) ∙ ap (λ l. filled (prefixed a.first a.text.items l)) (sym (joined_end a.next text rest ended)))
+    ∙ ap (λ l. (map logical_line_of a.lines.items ++ filled (whole ∷ [])) ++ l) (prefixed_none (a.next + 1) rest)
+    ∙ append_assoc (map logical_line_of a.lines.items) (filled (whole ∷ [])) (filled later)
+    ∙ ap (λ l. map logical_line_of a.lines.items ++ l) (sym (filled-append (whole ∷ []) later) ∙ ap (λ l. filled (prefixed a.first a.text.items l)) (sym (joined_end a.next text rest ended)))
 
 -- ---- the physical lines that are left
 

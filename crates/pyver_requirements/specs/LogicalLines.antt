@@ -15,9 +15,9 @@ pub record Line : Type 0 where
 -- ---- physical lines
 
 -- the bytes without a byte order mark at the start
-abbrev pub without_mark : List ℕ → List ℕ
-without_mark (a ∷ b ∷ c ∷ rest) = if (a == 239) && ((b == 187) && (c == 191)) then rest else a ∷ (b ∷ (c ∷ rest))
-without_mark text = text
+abbrev pub after_mark : List ℕ → List ℕ
+after_mark (a ∷ b ∷ c ∷ rest) = if (a == 239) && ((b == 187) && (c == 191)) then rest else a ∷ (b ∷ (c ∷ rest))
+after_mark text = text
 
 -- the lines of a text: each ends at a newline or with the text, and a carriage return at its end is left out
 abbrev pub physical_lines : List ℕ → List (List ℕ)
@@ -65,4 +65,4 @@ filled lines = filter (λ (l : Line). not (length l.text == 0)) (map (λ (l : Li
 
 -- the logical lines of a file
 abbrev pub logical_lines : List ℕ → List Line
-logical_lines text = filled (joined_from 1 (physical_lines (without_mark text)))
+logical_lines text = filled (joined_from 1 (physical_lines (after_mark text)))

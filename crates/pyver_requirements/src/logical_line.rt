@@ -1,10 +1,10 @@
 // The logical lines of a requirements file.
 ghost use Rattle.std.specs.Prelude.{◌≡◌, ◌∷◌, ◌++◌, ◌+◌, ◌≤◌, ◌^◌, [], List, ℕ, IfOk, map};
-ghost use Rattle.pyver_requirements.specs.LineViews.{line_of, lines_with};
+ghost use Rattle.pyver_requirements.specs.LineViews.{logical_line_of, lines_with};
 ghost use Rattle.pyver_requirements.specs.LogicalLines.{filled, joined_from, logical_lines};
 
 use crate::comment::content;
-use crate::physical_line::{split_continuation, split_line, without_mark};
+use crate::physical_line::{after_mark, split_continuation, split_line};
 use std::alloc::{AllocError, Global};
 
 /// A line of a requirements file: physical lines joined, without comment and without blanks at both ends.
@@ -40,7 +40,7 @@ impl LineJoiner {
 
     /// The line that has begun is whole.
     fn complete(&mut self, alloc: Global) -> Result<(), AllocError>
-        ensures lines { IfOk result (λ _. map line_of self.new.lines.items ≡ map line_of self.old.lines.items ++ filled (record { number = self.old.first; text = self.old.text.items } ∷ [])) }
+        ensures lines { IfOk result (λ _. map logical_line_of self.new.lines.items ≡ map logical_line_of self.old.lines.items ++ filled (record { number = self.old.first; text = self.old.text.items } ∷ [])) }
         ensures text { IfOk result (λ _. self.new.text.items ≡ []) }
         ensures first { IfOk result (λ _. self.new.first ≡ self.old.next) }
         ensures next { IfOk result (λ _. self.new.next ≡ self.old.next) }
@@ -74,7 +74,7 @@ impl LineJoiner {
     }
 
     fn finish(mut self, alloc: Global) -> Result<Vec<LogicalLine>, AllocError>
-        ensures { IfOk result (λ lines. map line_of lines.items ≡ lines_with self []) }
+        ensures { IfOk result (λ lines. map logical_line_of lines.items ≡ lines_with self []) }
     {
         self.complete(alloc)?;
         Ok(self.lines)
@@ -86,10 +86,10 @@ impl LineJoiner {
 ///
 /// Allocates.
 pub fn logical_lines(alloc: Global, text: &[u8]) -> Result<Vec<LogicalLine>, AllocError>
-    ensures { IfOk result (λ lines. map line_of lines.items ≡ logical_lines text.now) }
+    ensures { IfOk result (λ lines. map logical_line_of lines.items ≡ logical_lines text.now) }
 {
     let mut joiner = LineJoiner::new(alloc);
-    let mut rest = Some(without_mark(text));
+    let mut rest = Some(after_mark(text));
     while let Some(left) = rest {
         let (line, later) = split_line(left);
         joiner.push(alloc, line)?;

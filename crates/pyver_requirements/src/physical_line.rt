@@ -4,11 +4,11 @@ ghost use Rattle.std.specs.Option.{option_map_or};
 ghost use Rattle.std.specs.Str.Lines.{strip_carriage_return};
 ghost use Rattle.pep440_pick.specs.RequirementGrammar.{opens};
 ghost use Rattle.pep440_version.specs.Refusals.{ends};
-ghost use Rattle.pyver_requirements.specs.LogicalLines.{added, continues, is_comment_line, physical_lines, without_mark};
+ghost use Rattle.pyver_requirements.specs.LogicalLines.{added, after_mark, continues, is_comment_line, physical_lines};
 
 /// The text without a byte order mark at the start.
-pub(crate) fn without_mark(text: &[u8]) -> &[u8]
-    ensures { result.now ≡ without_mark text.now }
+pub(crate) fn after_mark(text: &[u8]) -> &[u8]
+    ensures { result.now ≡ after_mark text.now }
 {
     match text {
         [0xEF, 0xBB, 0xBF, rest @ ..] => rest,

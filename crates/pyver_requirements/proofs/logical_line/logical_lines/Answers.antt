@@ -7,8 +7,8 @@ use Rattle.pyver_requirements.proofs.logical_line.logical_lines.Goals as goal
 
 pub loop-rest-init : goal.loop-rest-init
 loop-rest-init c = record {
-  lines = c.new-joiner.ensures.lines (physical_lines c.without_mark.result.now) ∙ ap (λ t. filled (joined_from 1 (physical_lines t))) c.without_mark.ensures;
-  room = room_none c.without_mark.result c.new-joiner.result.next c.new-joiner.ensures.next (omega arith);
+  lines = c.new-joiner.ensures.lines (physical_lines c.after_mark.result.now) ∙ ap (λ t. filled (joined_from 1 (physical_lines t))) c.after_mark.ensures;
+  room = room_none c.after_mark.result c.new-joiner.result.next c.new-joiner.ensures.next (omega arith);
 }
 
 pub push-requires : goal.push-requires
