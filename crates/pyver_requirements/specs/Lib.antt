@@ -1,2 +1,4 @@
 pub mod LogicalLines
 pub mod LineViews
+pub mod LineKinds
+pub mod LineKindViews

@@ -2,9 +2,11 @@
 #![tactic(auto)]
 
 mod comment;
+mod line_kind;
 mod logical_line;
 mod physical_line;
 #[cfg(test)]
 mod tests;
 
+pub use line_kind::{LineKind, classify};
 pub use logical_line::{LogicalLine, logical_lines};
