@@ -2,3 +2,5 @@ pub mod LogicalLines
 pub mod LineViews
 pub mod LineKinds
 pub mod LineKindViews
+pub mod LineParts
+pub mod LinePartViews
