@@ -1,0 +1,6 @@
+pub mod LogicalLines
+pub mod LineViews
+pub mod LineKinds
+pub mod LineKindViews
+pub mod LineParts
+pub mod LinePartViews

@@ -1,0 +1,81 @@
+-- What a logical line of a requirements file is (pip, "Requirements File Format").
+use Rattle.std.specs.Prelude.{ℕ, ◌==◌, ◌&&◌, ◌||◌, List, [], ◌∷◌, Bool, false, Option, Some, None, codes, drop, length, nat_eq, not, if◌then◌else◌}
+use Rattle.std.specs.Char.{is_ascii_digit, is_ascii_uppercase, is_ascii_whitespace}
+use Rattle.std.specs.List.{ends_with, list_any, starts_with}
+use Rattle.std.specs.Option.{option_map_or}
+use Rattle.pep440_pick.specs.RequirementGrammar.{opens, trim_blanks}
+use Rattle.pep440_version.specs.Grammar.{starts}
+use Rattle.pep440_version.specs.Reading.{lead, past}
+
+-- another file of requirements, and one of constraints, each with its path; an editable; another option of pip; a line with a variable; a
+-- URL, a path or an archive; a requirement
+pub data LineKind : Type 0 where
+  RequirementsFile : (path : List ℕ) → LineKind
+  ConstraintsFile : (path : List ℕ) → LineKind
+  Editable : LineKind
+  PipOption : LineKind
+  Variable : LineKind
+  Location : LineKind
+  Requirement : LineKind
+
+-- ---- options
+
+-- the value of a long option, behind `=` or a blank; the empty string where nothing follows
+abbrev pub long_option_value : List ℕ → Option (List ℕ)
+long_option_value [] = Some []
+long_option_value (b ∷ rest) = if (b == 61) || is_ascii_whitespace b then Some (trim_blanks rest) else None
+
+-- the value of the option with this long and this short name, if the line begins with one of them
+abbrev pub option_value : List ℕ → List ℕ → List ℕ → Option (List ℕ)
+option_value long short text = if starts_with nat_eq text long then long_option_value (drop (length long) text)
+    else (if starts_with nat_eq text short then Some (trim_blanks (drop (length short) text)) else None)
+
+-- what a line is that begins with `-`
+abbrev pub option_kind : List ℕ → LineKind
+option_kind text = option_map_or RequirementsFile (option_value (codes "--requirement") (codes "-r") text)
+    (option_map_or ConstraintsFile (option_value (codes "--constraint") (codes "-c") text)
+    (option_map_or (λ _. Editable) (option_value (codes "--editable") (codes "-e") text) PipOption))
+
+-- ---- variables
+
+-- A to Z, 0 to 9 and `_`
+abbrev pub is_variable_byte : ℕ → Bool
+is_variable_byte b = is_ascii_uppercase b || (is_ascii_digit b || (b == 95))
+
+-- the string begins with one or more of these, and a `}` follows
+abbrev pub closes_variable : List ℕ → Bool
+closes_variable text = starts is_variable_byte text && opens 125 (past is_variable_byte text)
+
+-- the string begins with `${`, a name and `}`
+abbrev pub opens_variable : List ℕ → Bool
+opens_variable (a ∷ b ∷ rest) = (a == 36) && ((b == 123) && closes_variable rest)
+opens_variable text = false
+
+-- a variable stands somewhere in the string
+abbrev pub has_variable : List ℕ → Bool
+has_variable [] = false
+has_variable (b ∷ rest) = opens_variable (b ∷ rest) || has_variable rest
+
+-- ---- URLs, paths and archives
+
+-- the bytes up to the first blank, `;` or `@`
+abbrev pub first_word : List ℕ → List ℕ
+first_word text = lead (λ b. not (is_ascii_whitespace b || ((b == 59) || (b == 64)))) text
+
+-- the endings of archives
+abbrev pub archive_endings : List (List ℕ)
+archive_endings = codes ".whl" ∷ (codes ".zip" ∷ (codes ".tar.gz" ∷ (codes ".tgz" ∷ (codes ".tar.bz2" ∷ (codes ".tar.xz" ∷ [])))))
+
+abbrev pub is_archive : List ℕ → Bool
+is_archive word = list_any (λ ending. ends_with nat_eq word ending) archive_endings
+
+-- the word begins with `.`, or has a `/`, or ends as an archive
+abbrev pub is_location : List ℕ → Bool
+is_location word = opens 46 word || (list_any (λ b. b == 47) word || is_archive word)
+
+-- ---- all together
+
+-- what the line is: the first of these that holds
+abbrev pub line_kind : List ℕ → LineKind
+line_kind text = if opens 45 text then option_kind text
+    else (if has_variable text then Variable else (if is_location (first_word text) then Location else Requirement))

@@ -1,0 +1,14 @@
+//! Requirements files, as pip reads them: their logical lines, and what each line is.
+#![tactic(auto)]
+
+mod comment;
+mod line_kind;
+mod line_parts;
+mod logical_line;
+mod physical_line;
+#[cfg(test)]
+mod tests;
+
+pub use line_kind::{LineKind, classify};
+pub use line_parts::{LineParts, split_requirement};
+pub use logical_line::{LogicalLine, logical_lines};

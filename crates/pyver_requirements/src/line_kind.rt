@@ -1,0 +1,189 @@
+// What a logical line is.
+ghost use Rattle.std.specs.Prelude.{◌≡◌, ◌≤◌, ◌==◌, ◌||◌, IsTrue, length, not, option_map};
+ghost use Rattle.std.specs.Char.{is_ascii_whitespace};
+ghost use Rattle.std.specs.List.{list_any, prefix_len};
+ghost use Rattle.pep440_pick.specs.RequirementGrammar.{opens, trim_blanks};
+ghost use Rattle.pyver_requirements.specs.LineKinds.{closes_variable, first_word, has_variable, is_archive, is_location, is_variable_byte, line_kind, long_option_value, opens_variable, option_kind, option_value};
+ghost use Rattle.pyver_requirements.specs.LineKindViews.{line_kind_of};
+
+use crate::comment::trim_blanks;
+
+/// What a logical line is.
+#[derive(Clone, Copy, Debug)]
+pub enum LineKind<'a> {
+    /// `-r FILE` or `--requirement FILE`: another file of requirements, and its path.
+    RequirementsFile(&'a [u8]),
+    /// `-c FILE` or `--constraint FILE`: a file of constraints, and its path.
+    ConstraintsFile(&'a [u8]),
+    /// `-e` or `--editable`.
+    Editable,
+    /// Another option of pip.
+    PipOption,
+    /// A line with `${NAME}`.
+    Variable,
+    /// A URL, a path or an archive.
+    Location,
+    /// Any other line: a requirement, or an invalid one.
+    Requirement,
+}
+
+fn opens_with(text: &[u8], byte: u8) -> bool
+    ensures { result ≡ opens byte text.now }
+{
+    match text {
+        [] => false,
+        [first, ..] => *first == byte,
+    }
+}
+
+fn long_option_value(rest: &[u8]) -> Option<&[u8]>
+    ensures { option_map (λ x. x.now) result ≡ long_option_value rest.now }
+{
+    match rest {
+        [] => Some(rest),
+        [first, value @ ..] => {
+            if *first == b'=' || first.is_ascii_whitespace() {
+                Some(trim_blanks(value))
+            } else {
+                None
+            }
+        }
+    }
+}
+
+/// The value of the option, if the text begins with one of its names.
+fn option_value<'a>(text: &'a [u8], long: &[u8], short: &[u8]) -> Option<&'a [u8]>
+    ensures { option_map (λ x. x.now) result ≡ option_value long.now short.now text.now }
+{
+    if text.starts_with(long) {
+        long_option_value(&text[long.len()..])
+    } else if text.starts_with(short) {
+        Some(trim_blanks(&text[short.len()..]))
+    } else {
+        None
+    }
+}
+
+/// What a line is that begins with `-`.
+fn option_kind(text: &[u8]) -> LineKind<'_>
+    ensures { line_kind_of result ≡ option_kind text.now }
+{
+    if let Some(path) = option_value(text, "--requirement".as_bytes(), "-r".as_bytes()) {
+        return LineKind::RequirementsFile(path);
+    }
+    if let Some(path) = option_value(text, "--constraint".as_bytes(), "-c".as_bytes()) {
+        return LineKind::ConstraintsFile(path);
+    }
+    match option_value(text, "--editable".as_bytes(), "-e".as_bytes()) {
+        Some(_) => LineKind::Editable,
+        None => LineKind::PipOption,
+    }
+}
+
+fn is_variable_byte(byte: u8) -> bool
+    ensures { result ≡ is_variable_byte byte }
+{
+    byte.is_ascii_uppercase() || byte.is_ascii_digit() || byte == b'_'
+}
+
+fn count_variable_bytes(text: &[u8]) -> usize
+    ensures count { result ≡ prefix_len is_variable_byte text.now }
+    ensures inside { result ≤ length text.now }
+{
+    text.iter()
+        .take_while(|byte| is_variable_byte(**byte))
+        .count()
+}
+
+/// One or more bytes of a variable's name, and then `}`.
+fn closes_variable(text: &[u8]) -> bool
+    ensures { result ≡ closes_variable text.now }
+{
+    let [first, ..] = text else {
+        return false;
+    };
+    is_variable_byte(*first) && opens_with(&text[count_variable_bytes(text)..], b'}')
+}
+
+fn opens_variable(text: &[u8]) -> bool
+    ensures { result ≡ opens_variable text.now }
+{
+    match text {
+        [first, second, rest @ ..] => { *first == b'$' && *second == b'{' && closes_variable(rest) }
+        _ => false,
+    }
+}
+
+/// A variable stands somewhere in the text.
+fn has_variable(text: &[u8]) -> bool
+    ensures { result ≡ has_variable text.now }
+{
+    let mut rest = text;
+    while let [_, later @ ..] = rest {
+        if opens_variable(rest) {
+            return true;
+        }
+        rest = later;
+    }
+    false
+}
+
+fn is_word_byte(byte: u8) -> bool
+    ensures { result ≡ not (is_ascii_whitespace byte || ((byte == 59) || (byte == 64))) }
+{
+    !(byte.is_ascii_whitespace() || byte == b';' || byte == b'@')
+}
+
+fn count_word_bytes(text: &[u8]) -> usize
+    ensures count { result ≡ prefix_len (λ b. not (is_ascii_whitespace b || ((b == 59) || (b == 64)))) text.now }
+    ensures inside { result ≤ length text.now }
+{
+    text.iter().take_while(|byte| is_word_byte(**byte)).count()
+}
+
+/// The bytes up to the first blank, `;` or `@`.
+fn first_word(text: &[u8]) -> &[u8]
+    ensures { result.now ≡ first_word text.now }
+{
+    &text[..count_word_bytes(text)]
+}
+
+fn is_archive(word: &[u8]) -> bool
+    ensures { result ≡ is_archive word.now }
+{
+    word.ends_with(".whl".as_bytes())
+        || word.ends_with(".zip".as_bytes())
+        || word.ends_with(".tar.gz".as_bytes())
+        || word.ends_with(".tgz".as_bytes())
+        || word.ends_with(".tar.bz2".as_bytes())
+        || word.ends_with(".tar.xz".as_bytes())
+}
+
+fn has_slash(word: &[u8]) -> bool
+    ensures { result ≡ list_any (λ b. b == 47) word.now }
+{
+    word.contains(&b'/')
+}
+
+fn is_location(word: &[u8]) -> bool
+    ensures { result ≡ is_location word.now }
+{
+    opens_with(word, b'.') || has_slash(word) || is_archive(word)
+}
+
+/// What the logical line is: the first that holds of an option, a line with a variable, a location and a requirement.
+///
+/// Allocates nothing.
+pub fn classify(text: &[u8]) -> LineKind<'_>
+    ensures { line_kind_of result ≡ line_kind text.now }
+{
+    if opens_with(text, b'-') {
+        option_kind(text)
+    } else if has_variable(text) {
+        LineKind::Variable
+    } else if is_location(first_word(text)) {
+        LineKind::Location
+    } else {
+        LineKind::Requirement
+    }
+}
