@@ -56,34 +56,37 @@ mod pep440 {
 
     type Writes = unsafe extern "C" fn(*const u8, usize, *mut u8, usize, *mut usize) -> u8;
 
+    type Edits = unsafe extern "C" fn(*const u8, usize, *const Text, usize, *mut u8, usize, *mut usize) -> u8;
+
+    /// Declares calls that have one shape.
+    macro_rules! declare {
+        ($parameters:tt: $($call:ident)*) => {
+            unsafe extern "C" {
+                $(fn $call $parameters -> u8;)*
+            }
+        };
+    }
+
+    declare!((text: *const u8, length: usize, out: *mut u8, room: usize, written: *mut usize):
+        pep440_normalize pep440_normalize_list pep440_version_error pep440_list_error pep440_sort_key pep440_ranges pep440_compile
+        pep440_compile_list pep440_normalize_compiled pep440_normalize_list_compiled pep440_sort_key_compiled);
+    declare!((list: *const u8, length: usize, out: *mut u8, room: usize, ends: *mut usize, ends_room: usize, written: *mut usize, count: *mut usize):
+        pep440_specifiers_of pep440_range_keys pep440_cover_keys pep440_range_keys_compiled pep440_cover_keys_compiled);
+    declare!((text: *const u8, length: usize, changes: *const Text, count: usize, out: *mut u8, room: usize, written: *mut usize):
+        pep440_edit pep440_edit_error);
+    declare!((left: *const u8, left_length: usize, right: *const u8, right_length: usize, order: *mut i8):
+        pep440_compare pep440_compare_compiled);
+    declare!((list: *const u8, list_length: usize, version: *const u8, length: usize, contained: *mut u8, prerelease: *mut u8):
+        pep440_contains pep440_contains_compiled);
+    declare!((version: *const u8, length: usize, parts: *mut Parts, release: *mut u64, room: usize):
+        pep440_parts_of pep440_parts_of_compiled);
+    declare!((list: *const u8, list_length: usize, versions: *const Text, count: usize, marks: *mut u8, room: usize):
+        pep440_filter pep440_filter_compiled);
+    declare!((versions: *const Text, count: usize, places: *mut usize, room: usize, at: *mut usize):
+        pep440_sort pep440_sort_compiled);
+
     unsafe extern "C" {
-        fn pep440_normalize(text: *const u8, length: usize, out: *mut u8, room: usize, written: *mut usize) -> u8;
-        fn pep440_normalize_list(list: *const u8, length: usize, out: *mut u8, room: usize, written: *mut usize) -> u8;
-        fn pep440_version_error(text: *const u8, length: usize, out: *mut u8, room: usize, written: *mut usize) -> u8;
-        fn pep440_list_error(list: *const u8, length: usize, out: *mut u8, room: usize, written: *mut usize) -> u8;
-        fn pep440_sort_key(text: *const u8, length: usize, out: *mut u8, room: usize, written: *mut usize) -> u8;
         fn pep440_word(text: *const u8, length: usize, word: *mut u64) -> u8;
-        fn pep440_ranges(list: *const u8, length: usize, out: *mut u8, room: usize, written: *mut usize) -> u8;
-        fn pep440_range_keys(
-            list: *const u8,
-            length: usize,
-            out: *mut u8,
-            room: usize,
-            ends: *mut usize,
-            ends_room: usize,
-            written: *mut usize,
-            count: *mut usize,
-        ) -> u8;
-        fn pep440_specifiers_of(
-            list: *const u8,
-            length: usize,
-            out: *mut u8,
-            room: usize,
-            ends: *mut usize,
-            ends_room: usize,
-            written: *mut usize,
-            count: *mut usize,
-        ) -> u8;
         fn pep440_specifier(
             operator: *const u8,
             operator_length: usize,
@@ -93,78 +96,8 @@ mod pep440 {
             room: usize,
             written: *mut usize,
         ) -> u8;
-        fn pep440_edit(
-            text: *const u8,
-            length: usize,
-            changes: *const Text,
-            count: usize,
-            out: *mut u8,
-            room: usize,
-            written: *mut usize,
-        ) -> u8;
-        fn pep440_edit_error(
-            text: *const u8,
-            length: usize,
-            changes: *const Text,
-            count: usize,
-            out: *mut u8,
-            room: usize,
-            written: *mut usize,
-        ) -> u8;
         fn pep440_pattern(pattern: *const u8, length: usize, out: *mut u8, room: usize, written: *mut usize, star: *mut u8) -> u8;
-        fn pep440_cover_keys(
-            list: *const u8,
-            length: usize,
-            out: *mut u8,
-            room: usize,
-            ends: *mut usize,
-            ends_room: usize,
-            written: *mut usize,
-            count: *mut usize,
-        ) -> u8;
-        fn pep440_compare(left: *const u8, left_length: usize, right: *const u8, right_length: usize, order: *mut i8) -> u8;
-        fn pep440_contains(list: *const u8, list_length: usize, text: *const u8, length: usize, contained: *mut u8, prerelease: *mut u8) -> u8;
-        fn pep440_compile(text: *const u8, length: usize, out: *mut u8, room: usize, written: *mut usize) -> u8;
-        fn pep440_compile_list(list: *const u8, length: usize, out: *mut u8, room: usize, written: *mut usize) -> u8;
-        fn pep440_normalize_compiled(compiled: *const u8, length: usize, out: *mut u8, room: usize, written: *mut usize) -> u8;
-        fn pep440_normalize_list_compiled(compiled: *const u8, length: usize, out: *mut u8, room: usize, written: *mut usize) -> u8;
-        fn pep440_sort_key_compiled(compiled: *const u8, length: usize, out: *mut u8, room: usize, written: *mut usize) -> u8;
-        fn pep440_compare_compiled(left: *const u8, left_length: usize, right: *const u8, right_length: usize, order: *mut i8) -> u8;
-        fn pep440_contains_compiled(
-            list: *const u8,
-            list_length: usize,
-            compiled: *const u8,
-            length: usize,
-            contained: *mut u8,
-            prerelease: *mut u8,
-        ) -> u8;
-        fn pep440_parts_of_compiled(compiled: *const u8, length: usize, parts: *mut Parts, release: *mut u64, room: usize) -> u8;
-        fn pep440_range_keys_compiled(
-            list: *const u8,
-            length: usize,
-            out: *mut u8,
-            room: usize,
-            ends: *mut usize,
-            ends_room: usize,
-            written: *mut usize,
-            count: *mut usize,
-        ) -> u8;
-        fn pep440_cover_keys_compiled(
-            list: *const u8,
-            length: usize,
-            out: *mut u8,
-            room: usize,
-            ends: *mut usize,
-            ends_room: usize,
-            written: *mut usize,
-            count: *mut usize,
-        ) -> u8;
-        fn pep440_filter_compiled(list: *const u8, list_length: usize, forms: *const Text, count: usize, marks: *mut u8, room: usize) -> u8;
-        fn pep440_sort_compiled(forms: *const Text, count: usize, places: *mut usize, room: usize, at: *mut usize) -> u8;
         fn pep440_any_prerelease(list: *const u8, length: usize, any: *mut u8) -> u8;
-        fn pep440_parts_of(text: *const u8, length: usize, parts: *mut Parts, release: *mut u64, room: usize) -> u8;
-        fn pep440_filter(list: *const u8, list_length: usize, texts: *const Text, count: usize, marks: *mut u8, room: usize) -> u8;
-        fn pep440_sort(texts: *const Text, count: usize, places: *mut usize, room: usize, at: *mut usize) -> u8;
         fn pep440_sort_keys(
             texts: *const Text,
             count: usize,
@@ -193,7 +126,7 @@ mod pep440 {
         }
     }
 
-    fn written_by(call: Writes, text: &[u8]) -> Result<Vec<u8>, Error> {
+    fn write_bytes(call: Writes, text: &[u8]) -> Result<Vec<u8>, Error> {
         let (mut out, mut written) = (vec![0; 64], 0);
         loop {
             // SAFETY: both slices lend as many bytes as are told, and a slice's pointer is never null.
@@ -211,57 +144,57 @@ mod pep440 {
     }
 
     pub fn normalize(text: &str) -> Result<String, Error> {
-        as_text(written_by(pep440_normalize, text.as_bytes()))
+        as_text(write_bytes(pep440_normalize, text.as_bytes()))
     }
 
     pub fn normalize_list(list: &str) -> Result<String, Error> {
-        as_text(written_by(pep440_normalize_list, list.as_bytes()))
+        as_text(write_bytes(pep440_normalize_list, list.as_bytes()))
     }
 
     pub fn version_error(text: &str) -> Result<String, Error> {
-        as_text(written_by(pep440_version_error, text.as_bytes()))
+        as_text(write_bytes(pep440_version_error, text.as_bytes()))
     }
 
     pub fn list_error(list: &str) -> Result<String, Error> {
-        as_text(written_by(pep440_list_error, list.as_bytes()))
+        as_text(write_bytes(pep440_list_error, list.as_bytes()))
     }
 
     pub fn ranges(list: &str) -> Result<String, Error> {
-        as_text(written_by(pep440_ranges, list.as_bytes()))
+        as_text(write_bytes(pep440_ranges, list.as_bytes()))
     }
 
     pub fn sort_key(text: &str) -> Result<Vec<u8>, Error> {
-        written_by(pep440_sort_key, text.as_bytes())
+        write_bytes(pep440_sort_key, text.as_bytes())
     }
 
     pub fn compile(text: &str) -> Result<Vec<u8>, Error> {
-        written_by(pep440_compile, text.as_bytes())
+        write_bytes(pep440_compile, text.as_bytes())
     }
 
     pub fn compile_list(list: &str) -> Result<Vec<u8>, Error> {
-        written_by(pep440_compile_list, list.as_bytes())
+        write_bytes(pep440_compile_list, list.as_bytes())
     }
 
     pub fn normalize_compiled(compiled: &[u8]) -> Result<String, Error> {
-        as_text(written_by(pep440_normalize_compiled, compiled))
+        as_text(write_bytes(pep440_normalize_compiled, compiled))
     }
 
     pub fn normalize_list_compiled(compiled: &[u8]) -> Result<String, Error> {
-        as_text(written_by(pep440_normalize_list_compiled, compiled))
+        as_text(write_bytes(pep440_normalize_list_compiled, compiled))
     }
 
     pub fn sort_key_compiled(compiled: &[u8]) -> Result<Vec<u8>, Error> {
-        written_by(pep440_sort_key_compiled, compiled)
+        write_bytes(pep440_sort_key_compiled, compiled)
     }
 
     pub fn word(text: &str) -> Result<u64, Error> {
         let mut word = 0;
-        // SAFETY: as in `written_by`; so in all calls below.
+        // SAFETY: as in `write_bytes`; so in all calls below.
         has_room(unsafe { pep440_word(text.as_ptr(), text.len(), &mut word) })?;
         Ok(word)
     }
 
-    fn joined_by(call: Joins, text: &[u8]) -> Result<Vec<Vec<u8>>, Error> {
+    fn write_joined(call: Joins, text: &[u8]) -> Result<Vec<Vec<u8>>, Error> {
         let (mut out, mut ends, mut written, mut count) = (vec![0; 8], vec![0; 2], 0, 0);
         loop {
             let (room, ends_room) = (out.len(), ends.len());
@@ -277,11 +210,11 @@ mod pep440 {
     }
 
     pub fn specifiers_of(list: &str) -> Result<Vec<Vec<u8>>, Error> {
-        joined_by(pep440_specifiers_of, list.as_bytes())
+        write_joined(pep440_specifiers_of, list.as_bytes())
     }
 
     /// Buffers grow to what is asked for; the call is made again in them.
-    fn grown(call: impl Fn(&mut [u8], &mut usize) -> u8) -> Result<String, Error> {
+    fn write_text(call: impl Fn(&mut [u8], &mut usize) -> u8) -> Result<String, Error> {
         let (mut out, mut written) = (vec![0; 8], 0);
         while !has_room(call(&mut out, &mut written))? {
             assert!(written > out.len(), "too little room, and no more is asked for");
@@ -292,7 +225,7 @@ mod pep440 {
     }
 
     pub fn specifier(operator: &str, version: &str) -> Result<String, Error> {
-        grown(|out, written| unsafe {
+        write_text(|out, written| unsafe {
             pep440_specifier(operator.as_ptr(), operator.len(), version.as_ptr(), version.len(), out.as_mut_ptr(), out.len(), written)
         })
     }
@@ -300,36 +233,37 @@ mod pep440 {
     /// The version of a pattern, and whether `.*` follows it.
     pub fn pattern(text: &str) -> Result<(String, bool), Error> {
         let star = std::cell::Cell::new(9);
-        let version = grown(|out, written| unsafe { pep440_pattern(text.as_ptr(), text.len(), out.as_mut_ptr(), out.len(), written, star.as_ptr()) })?;
+        let version = write_text(|out, written| unsafe { pep440_pattern(text.as_ptr(), text.len(), out.as_mut_ptr(), out.len(), written, star.as_ptr()) })?;
         Ok((version, truth(star.get())))
     }
 
+    fn write_edit(call: Edits, text: &str, changes: &[String]) -> Result<String, Error> {
+        let changes = borrow_all(changes);
+        write_text(|out, written| unsafe { call(text.as_ptr(), text.len(), changes.as_ptr(), changes.len(), out.as_mut_ptr(), out.len(), written) })
+    }
+
     pub fn edit(text: &str, changes: &[String]) -> Result<String, Error> {
-        let lent = lent(changes);
-        grown(|out, written| unsafe { pep440_edit(text.as_ptr(), text.len(), lent.as_ptr(), lent.len(), out.as_mut_ptr(), out.len(), written) })
+        write_edit(pep440_edit, text, changes)
     }
 
     pub fn edit_error(text: &str, changes: &[String]) -> Result<String, Error> {
-        let lent = lent(changes);
-        grown(|out, written| unsafe {
-            pep440_edit_error(text.as_ptr(), text.len(), lent.as_ptr(), lent.len(), out.as_mut_ptr(), out.len(), written)
-        })
+        write_edit(pep440_edit_error, text, changes)
     }
 
     pub fn range_keys(list: &str) -> Result<Vec<Vec<u8>>, Error> {
-        joined_by(pep440_range_keys, list.as_bytes())
+        write_joined(pep440_range_keys, list.as_bytes())
     }
 
     pub fn cover_keys(list: &str) -> Result<Vec<Vec<u8>>, Error> {
-        joined_by(pep440_cover_keys, list.as_bytes())
+        write_joined(pep440_cover_keys, list.as_bytes())
     }
 
     pub fn range_keys_compiled(list: &[u8]) -> Result<Vec<Vec<u8>>, Error> {
-        joined_by(pep440_range_keys_compiled, list)
+        write_joined(pep440_range_keys_compiled, list)
     }
 
     pub fn cover_keys_compiled(list: &[u8]) -> Result<Vec<Vec<u8>>, Error> {
-        joined_by(pep440_cover_keys_compiled, list)
+        write_joined(pep440_cover_keys_compiled, list)
     }
 
     pub fn compare(left: &str, right: &str) -> Result<Ordering, Error> {
@@ -392,7 +326,7 @@ mod pep440 {
         parts_by(pep440_parts_of_compiled, compiled)
     }
 
-    fn lent<T: AsRef<[u8]>>(texts: &[T]) -> Vec<Text> {
+    fn borrow_all<T: AsRef<[u8]>>(texts: &[T]) -> Vec<Text> {
         texts.iter().map(|text| text.as_ref()).map(|text| Text { bytes: text.as_ptr(), length: text.len() }).collect()
     }
 
@@ -401,41 +335,41 @@ mod pep440 {
     }
 
     pub fn filter(list: &str, texts: &[String]) -> Result<Vec<Mark>, Error> {
-        let (lent, mut marks) = (lent(texts), vec![9; texts.len()]);
-        let status = unsafe { pep440_filter(list.as_ptr(), list.len(), lent.as_ptr(), lent.len(), marks.as_mut_ptr(), marks.len()) };
+        let (borrowed, mut marks) = (borrow_all(texts), vec![9; texts.len()]);
+        let status = unsafe { pep440_filter(list.as_ptr(), list.len(), borrowed.as_ptr(), borrowed.len(), marks.as_mut_ptr(), marks.len()) };
         assert!(has_room(status)?, "there is room");
         Ok(self::marks(&marks))
     }
 
     pub fn filter_compiled(list: &[u8], forms: &[Vec<u8>]) -> Result<Vec<Mark>, Error> {
-        let (lent, mut marks) = (lent(forms), vec![9; forms.len()]);
-        let status = unsafe { pep440_filter_compiled(list.as_ptr(), list.len(), lent.as_ptr(), lent.len(), marks.as_mut_ptr(), marks.len()) };
+        let (borrowed, mut marks) = (borrow_all(forms), vec![9; forms.len()]);
+        let status = unsafe { pep440_filter_compiled(list.as_ptr(), list.len(), borrowed.as_ptr(), borrowed.len(), marks.as_mut_ptr(), marks.len()) };
         assert!(has_room(status)?, "there is room");
         Ok(self::marks(&marks))
     }
 
     pub fn sort_compiled(forms: &[Vec<u8>]) -> Result<Vec<usize>, (Error, usize)> {
-        let (lent, mut places, mut at) = (lent(forms), vec![0; forms.len()], usize::MAX);
-        let status = unsafe { pep440_sort_compiled(lent.as_ptr(), lent.len(), places.as_mut_ptr(), places.len(), &mut at) };
+        let (borrowed, mut places, mut at) = (borrow_all(forms), vec![0; forms.len()], usize::MAX);
+        let status = unsafe { pep440_sort_compiled(borrowed.as_ptr(), borrowed.len(), places.as_mut_ptr(), places.len(), &mut at) };
         assert!(has_room(status).map_err(|error| (error, at))?, "there is room");
         Ok(places)
     }
 
     /// The places in the order of the versions, or the place of the first text that is none.
     pub fn sort(texts: &[String]) -> Result<Vec<usize>, (Error, usize)> {
-        let (lent, mut places, mut at) = (lent(texts), vec![0; texts.len()], usize::MAX);
-        let status = unsafe { pep440_sort(lent.as_ptr(), lent.len(), places.as_mut_ptr(), places.len(), &mut at) };
+        let (borrowed, mut places, mut at) = (borrow_all(texts), vec![0; texts.len()], usize::MAX);
+        let status = unsafe { pep440_sort(borrowed.as_ptr(), borrowed.len(), places.as_mut_ptr(), places.len(), &mut at) };
         assert!(has_room(status).map_err(|error| (error, at))?, "there is room");
         Ok(places)
     }
 
     pub fn sort_keys(texts: &[String]) -> Result<Vec<Vec<u8>>, (Error, usize)> {
-        let (lent, mut ends, mut at, mut written) = (lent(texts), vec![0; texts.len()], usize::MAX, 0);
+        let (borrowed, mut ends, mut at, mut written) = (borrow_all(texts), vec![0; texts.len()], usize::MAX, 0);
         let mut out = vec![0; 8];
         loop {
             let (room, keys) = (out.len(), out.as_mut_ptr());
             let status =
-                unsafe { pep440_sort_keys(lent.as_ptr(), lent.len(), keys, room, ends.as_mut_ptr(), ends.len(), &mut written, &mut at) };
+                unsafe { pep440_sort_keys(borrowed.as_ptr(), borrowed.len(), keys, room, ends.as_mut_ptr(), ends.len(), &mut written, &mut at) };
             if has_room(status).map_err(|error| (error, at))? {
                 let starts = std::iter::once(&0).chain(&ends);
                 return Ok(starts.zip(&ends).map(|(start, end)| out[*start..*end].to_vec()).collect());
@@ -735,29 +669,29 @@ fn same_patterns(texts: &[String]) -> usize {
 /// An edited version has the parts that the changes state, and the others as before; what cannot be changed so has an error.
 fn same_edits(texts: &[String]) {
     for (place, text) in texts.iter().enumerate() {
-        let edited = |changes: &[&str]| {
+        let edit = |changes: &[&str]| {
             let changes: Vec<String> = changes.iter().map(|change| change.to_string()).collect();
             let edited = pep440::edit(text, &changes);
             assert_eq!(pep440::edit_error(text, &changes).unwrap().is_empty(), edited.is_ok(), "{text}");
             edited
         };
         let Ok((parts, release)) = pep440::parts_of(text) else {
-            assert_eq!(edited(&["post=x"]), Err(Error::InvalidVersion), "{text}");
+            assert_eq!(edit(&["post=x"]), Err(Error::InvalidVersion), "{text}");
             assert_eq!(pep440::edit_error(text, &["post=x".to_string()]), pep440::version_error(text), "{text}");
             continue;
         };
-        assert_eq!(edited(&[]), pep440::normalize(text), "{text}");
-        assert_eq!(edited(&["post=1", "post=x"]), Err(Error::InvalidChange), "{text}");
+        assert_eq!(edit(&[]), pep440::normalize(text), "{text}");
+        assert_eq!(edit(&["post=1", "post=x"]), Err(Error::InvalidChange), "{text}");
         let (post, epoch) = (format!("post={place}"), format!("epoch={}", place % 3));
         let wanted = pep440::Parts { epoch: place as u64 % 3, post: place as u64, has_post: 1, dev: 0, has_dev: 0, ..parts.clone() };
-        assert_eq!(pep440::parts_of(&edited(&[&post, "dev=", &epoch]).unwrap()), Ok((wanted, release.clone())), "{text}");
-        let only = pep440::parts_of(&edited(&["only-release"]).unwrap()).unwrap();
+        assert_eq!(pep440::parts_of(&edit(&[&post, "dev=", &epoch]).unwrap()), Ok((wanted, release.clone())), "{text}");
+        let only = pep440::parts_of(&edit(&["only-release"]).unwrap()).unwrap();
         assert_eq!(only, (pep440::Parts { release_length: release.len(), ..Default::default() }, release), "{text}");
-        let public = edited(&["without-local"]).unwrap();
+        let public = edit(&["without-local"]).unwrap();
         assert_eq!(pep440::normalize(text).unwrap().split('+').next(), Some(public.as_str()), "{text}");
         let goes = parts.has_post == 0 && parts.has_dev == 0;
         let wanted = if goes { Ok(pep440::normalize(text).unwrap() + "~max3") } else { Err(Error::InvalidChange) };
-        assert_eq!(edited(&["max=3"]), wanted, "{text}");
+        assert_eq!(edit(&["max=3"]), wanted, "{text}");
     }
 }
 

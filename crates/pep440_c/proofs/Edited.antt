@@ -2,6 +2,7 @@
 use Rattle.std.proofs.Common.{Bor, String, Global, ◌≡◌, ◌<◌, ◌+◌, ◌∙◌, ℕ, List, [], ◌∷◌, ◌++◌, Ok, Err, Result, length, get_or, take, map, refl, ap, subst, inl, inr, string_bytes}
 use Rattle.std.proofs.lemmas.List.{get_or_default, map-append}
 use Rattle.std.specs.List.{AllZip}
+use Rattle.pep440_change_words.specs.ErrorTexts.{not_a_change_text}
 use Rattle.pep440_change_words.specs.Sentinels.{print_with_sentinels}
 use Rattle.pep440_version.specs.Changes.{edit}
 use Rattle.pep440_version.specs.ErrorTexts.{change_error_text}
@@ -11,7 +12,7 @@ use Rattle.pep440_version.specs.declared.change.ChangeError.{ChangeError}
 use Rattle.pep440_c.proofs.Once.{never_both}
 use Rattle.pep440_c.proofs.Placed.{each_more, refused_first}
 use Rattle.pep440_c.specs.Answers.{IsVersionError}
-use Rattle.pep440_c.specs.Edits.{ChangesTo, EditFaults, FailsEdit, IsEditError, MeansChange, OfVersion, RefusesChange, RefusesChangeAt, edit_status, no_change_text}
+use Rattle.pep440_c.specs.Edits.{ChangesTo, EditFaults, FailsEdit, IsEditError, MeansChange, OfVersion, RefusesChange, RefusesChangeAt, edit_status}
 use Rattle.pep440_c.specs.Meaning.{RefusesBytes}
 use Rattle.pep440_c.specs.Statuses.{Gives}
 use Rattle.pep440_c.specs.declared.edits.EditError.{EditError}
@@ -38,7 +39,7 @@ HasNoEdit text words = EditFaults (RefusesBytes text) (λ n. OfVersion text (λ 
 -- the status of an edit that fails
 pub edit_fails : (text : List ℕ) (words : List (List ℕ)) (status : ℕ) (e : EditError) → status ≡ edit_status e → HasNoEdit text words e → FailsEdit text words status
 edit_fails text words status error.InvalidVersion is why = inl (is, why)
-edit_fails text words status (error.NotAChange n) is (r, means, at) = inr (inl (is, no_change_text n, (r, means, inl (n, at, refl))))
+edit_fails text words status (error.NotAChange n) is (r, means, at) = inr (inl (is, not_a_change_text n, (r, means, inl (n, at, refl))))
 edit_fails text words status (error.Change e) is (r, means, to) = inr (inl (is, change_error_text e, (r, means, inr (e, to, refl))))
 edit_fails text words status error.OutOfMemory is why = inr (inr is)
 
@@ -58,7 +59,7 @@ version_told text words e (Ok t) is why (inr tells) = inr (inl tells)
 version_told text words e (Err f) is why h = h
 
 -- which change is none
-pub no_change_told : (text : List ℕ) (words : List (List ℕ)) (t : String Global) (e : EditError) (n : ℕ) → e ≡ error.NotAChange n → HasNoEdit text words e → string_bytes t ≡ no_change_text n
+pub no_change_told : (text : List ℕ) (words : List (List ℕ)) (t : String Global) (e : EditError) (n : ℕ) → e ≡ error.NotAChange n → HasNoEdit text words e → string_bytes t ≡ not_a_change_text n
     → TellsEdit text words (Ok t)
 no_change_told text words t e n is why told = go (subst (HasNoEdit text words) is why)
   where

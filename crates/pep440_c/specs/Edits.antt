@@ -1,9 +1,9 @@
 -- A version and changes of it: change words, as the command `edit` of the program takes them. Positions count from 0.
-use Rattle.std.specs.Prelude.{◌≡◌, ◌⊎◌, ◌+◌, ℕ, List, [], ◌++◌, codes, length, Option, Some, None, Result, Ok, Err, IsSomeAnd, slice_get, take}
-use Rattle.std.specs.Fmt.{decimal}
+use Rattle.std.specs.Prelude.{◌≡◌, ◌⊎◌, ◌+◌, ℕ, List, [], length, Option, Some, None, Result, Ok, Err, IsSomeAnd, slice_get, take}
 use Rattle.std.specs.List.{All, AllZip}
 use Rattle.std.specs.Str.{IsUtf8}
 use Rattle.pep440_change_words.specs.ChangeWords.{change_of}
+use Rattle.pep440_change_words.specs.ErrorTexts.{not_a_change_text}
 use Rattle.pep440_change_words.specs.Sentinels.{print_with_sentinels}
 use Rattle.pep440_version.specs.Changes.{Edit, apply_edits}
 use Rattle.pep440_version.specs.ErrorTexts.{change_error_text}
@@ -39,15 +39,11 @@ ChangesTo r words changed = (changes : List Edit) × AllZip MeansChange words ch
 abbrev pub IsEdited : List ℕ → List (List ℕ) → List ℕ → Type 0
 IsEdited text words bytes = (r q : Record) × MeansBytes text r × ChangesTo r words (Ok q) × (bytes ≡ print_with_sentinels q)
 
--- the message of bytes that are no change word, with their number
-abbrev pub no_change_text : ℕ → List ℕ
-no_change_text number = codes "change " ++ (decimal number ++ codes ": not a change")
-
 -- the message of why the version cannot be changed so: the first bytes that are no change word, or the first change that cannot
 -- be made
 abbrev pub TellsNoEdit : Record → List (List ℕ) → List ℕ → Type 0
 TellsNoEdit r words why =
-    ((number : ℕ) × RefusesChangeAt words number × (why ≡ no_change_text number))
+    ((number : ℕ) × RefusesChangeAt words number × (why ≡ not_a_change_text number))
     ⊎ ((e : ChangeError) × ChangesTo r words (Err e) × (why ≡ change_error_text e))
 
 -- the version is valid, and cannot be changed so

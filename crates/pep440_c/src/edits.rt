@@ -1,10 +1,11 @@
 //! A version and changes of it, as words.
 ghost use Rattle.std.specs.Prelude.{◌≡◌, List, map, Err, IfErr, IfOk, Ok, string_bytes};
 ghost use Rattle.std.specs.List.{AllZip};
+ghost use Rattle.pep440_change_words.specs.ErrorTexts.{not_a_change_text};
 ghost use Rattle.pep440_change_words.specs.declared.error.ChangeWordError.TheVariants.{NotAChange};
 ghost use Rattle.pep440_version.specs.Changes.{edit};
 ghost use Rattle.pep440_version.specs.Record.{Record};
-ghost use Rattle.pep440_c.specs.Edits.{MeansChange, RefusesChange, ChangesTo, GivesEdit, GivesEdited, IsEditError, IsEdited, RefusesChangeAt, OfVersion, edit_status, no_change_text};
+ghost use Rattle.pep440_c.specs.Edits.{MeansChange, RefusesChange, ChangesTo, GivesEdit, GivesEdited, IsEditError, IsEdited, RefusesChangeAt, OfVersion, edit_status};
 ghost use Rattle.pep440_c.specs.Meaning.{RefusesBytes};
 ghost use Rattle.pep440_c.specs.Statuses.{Gives};
 ghost use Rattle.pep440_c.specs.declared.edits.EditError.TheVariants.{OutOfMemory};
@@ -106,7 +107,11 @@ fn change(alloc: Global, bytes: &[u8], words: &[&[u8]]) -> Result<Version, EditE
 }
 
 /// The version after the changes, with its sentinels.
-pub(crate) fn to_edited(alloc: Global, bytes: &[u8], words: &[&[u8]]) -> Result<String, EditError>
+pub(crate) fn edit_version(
+    alloc: Global,
+    bytes: &[u8],
+    words: &[&[u8]],
+) -> Result<String, EditError>
     ensures { GivesEdited bytes.now (map (λ t. t.now) words.now) (λ text. IsEdited bytes.now (map (λ t. t.now) words.now) (string_bytes text)) result }
 {
     let version = change(alloc, bytes, words)?;
@@ -115,7 +120,7 @@ pub(crate) fn to_edited(alloc: Global, bytes: &[u8], words: &[&[u8]]) -> Result<
 
 // Why the change with this number is none.
 fn explain_no_change(alloc: Global, number: usize) -> Result<String, AllocError>
-    ensures { IfOk result (λ text. string_bytes text ≡ no_change_text number) }
+    ensures { IfOk result (λ text. string_bytes text ≡ not_a_change_text number) }
 {
     format!(in alloc; "change {number}: not a change")
 }

@@ -39,7 +39,7 @@ fn to_cover(alloc: Global, list: &[u8]) -> Result<Ranges<Version>, Fault>
 }
 
 // The key, or no bytes.
-fn or_no_bytes(key: Option<&[u8]>) -> &[u8]
+fn unwrap_or_empty(key: Option<&[u8]>) -> &[u8]
     ensures { result.now ≡ unwrap_or (option_map (λ k. k.now) key.entry) [] }
 {
     match key {
@@ -51,8 +51,8 @@ fn or_no_bytes(key: Option<&[u8]>) -> &[u8]
 fn push_interval(found: &mut Joined, interval: &KeyInterval) -> Result<(), AllocError>
     ensures { (strings : List (List ℕ)) → Joins strings found.old.bytes.items found.old.ends.items → OnOk result (Joins (strings ++ interval_keys interval.now) found.new.bytes.items found.new.ends.items) }
 {
-    found.push(or_no_bytes(interval.low()))?;
-    found.push(or_no_bytes(interval.high()))?;
+    found.push(unwrap_or_empty(interval.low()))?;
+    found.push(unwrap_or_empty(interval.high()))?;
     Ok(())
 }
 

@@ -152,7 +152,7 @@ pub extern "C" fn pep440_edit(
 ) -> u8
     ensures { PutsEdited text.now (map (λ t. t.now) changes.now) out.old out.new written.old written.new result }
 {
-    match edits::to_edited(alloc, text, changes) {
+    match edits::edit_version(alloc, text, changes) {
         Ok(edited) => put_and_count(edited.as_bytes(), out, written),
         Err(error) => error.status(),
     }

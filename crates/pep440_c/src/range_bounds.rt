@@ -52,7 +52,13 @@ pub extern "C" fn pep440_range_bounds_compiled(
 ) -> u8
     ensures { PutsCompiledJoined (DenotesNoList list.now) (CompiledLacksRange range_of list.now) (CompiledBounds list.now) out.old out.new ends.old ends.new written.old written.new count.old count.new result }
 {
-    put_joined(compiled_to_bounds(alloc, list), out, ends, written, count)
+    put_joined(
+        to_bounds_of_compiled(alloc, list),
+        out,
+        ends,
+        written,
+        count,
+    )
 }
 
 // The kind of a bound, and the compiled form of its version.
@@ -113,7 +119,7 @@ fn to_bounds(alloc: Global, list: &[u8]) -> Result<Joined, Fault>
     Ok(join_bounds(alloc, &range)?)
 }
 
-fn compiled_to_bounds(alloc: Global, list: &[u8]) -> Result<Joined, Fault>
+fn to_bounds_of_compiled(alloc: Global, list: &[u8]) -> Result<Joined, Fault>
     ensures { GivesCompiled (DenotesNoList list.now) (CompiledLacksRange range_of list.now) (λ found. CompiledBounds list.now found.bytes.items found.ends.items) result }
 {
     let range = compiled_intervals::to_range(alloc, list)?;

@@ -181,7 +181,7 @@ pub(crate) fn contains(alloc: Global, list: &[u8], bytes: &[u8]) -> Result<(bool
 }
 
 // Whether the version of a member is a pre-release or a developmental release.
-fn any_member(list: &VersionSpecifiers) -> bool
+fn has_prerelease(list: &VersionSpecifiers) -> bool
     ensures { result ≡ list_any (λ (s : Spec). any_prerelease s.version) list.now }
 {
     list.as_slice().iter().any(|member| member.any_prerelease())
@@ -192,7 +192,7 @@ pub(crate) fn any_prerelease(alloc: Global, list: &[u8]) -> Result<bool, Fault>
     ensures { Gives ⊥ (RefusesListBytes list.now) ⊥ (NamesPrerelease list.now) result }
 {
     let specifiers = read_list(alloc, list)?;
-    Ok(any_member(&specifiers))
+    Ok(has_prerelease(&specifiers))
 }
 
 /// The sort key of a version.

@@ -1,3 +1,4 @@
 pub mod ChangeWords
+pub mod ErrorTexts
 pub mod Reads
 pub mod Sentinels

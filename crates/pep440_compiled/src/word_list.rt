@@ -21,7 +21,7 @@ struct WordMember {
 }
 
 // `~=` stands before two release numbers or more.
-fn may_stand(operator: Operator, count: u8) -> bool
+fn has_enough_numbers(operator: Operator, count: u8) -> bool
     ensures { result ≡ true → operator ≡ TildeEqual → 1 < count }
 {
     match operator {
@@ -39,7 +39,7 @@ fn read_word_member(bytes: &[u8]) -> Option<(WordMember, &[u8])>
     let operator = operator_from_byte(*byte)?;
     let (front, rest) = rest.split_first_chunk::<10>()?;
     let version = read_word(front)?;
-    if may_stand(operator, version.count) {
+    if has_enough_numbers(operator, version.count) {
         Some((WordMember { operator, version }, rest))
     } else {
         None

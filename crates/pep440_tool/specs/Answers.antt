@@ -5,6 +5,7 @@ use Rattle.std.specs.List.{AllZip, enumerate_from}
 use Rattle.std.specs.declared.cmp.Ordering.{Ordering}
 use Rattle.std.specs.declared.cmp.Ordering.TheVariants.{Less, Equal, Greater}
 use Rattle.pep440_change_words.specs.ChangeWords.{change_of}
+use Rattle.pep440_change_words.specs.ErrorTexts.{not_a_change_text}
 use Rattle.pep440_change_words.specs.Sentinels.{print_with_sentinels}
 use Rattle.pep440_rs.specs.Bounds.{Segments, range_of, list_range}
 use Rattle.pep440_rs.specs.ErrorTexts.{range_error_text}
@@ -114,10 +115,6 @@ candidate_fault_text number fault = codes "candidate " ++ (decimal number ++ (co
 -- the message of an invalid line: `line`, its number and the reason
 abbrev pub line_fault_text : ℕ → List ℕ → List ℕ
 line_fault_text number fault = codes "line " ++ (decimal number ++ (codes ": " ++ fault))
-
--- the message of a word that is no change, with its number
-abbrev pub not_a_change_text : ℕ → List ℕ
-not_a_change_text position = codes "change " ++ (decimal position ++ codes ": not a change")
 
 -- the word denotes this change
 abbrev pub AsksChange : ℕ × List ℕ → Edit → Type 0

@@ -1,5 +1,6 @@
 -- The messages of the errors of commands, and what holds of what is given, or of the answer that an error prints.
 use Rattle.std.specs.Prelude.{◌≡◌, ℕ, List, Bool, true, false, codes, is_none, option_map, Option, Some, Result, Ok, Err, if◌then◌else◌}
+use Rattle.pep440_change_words.specs.ErrorTexts.{not_a_change_text}
 use Rattle.pep440_pick.specs.RequirementTexts.{requirement_text_of}
 use Rattle.pep440_pick.specs.declared.error.RequirementError.{RequirementError}
 use Rattle.pep440_pick.specs.declared.error.RequirementError.TheVariants as requirement
@@ -14,7 +15,7 @@ use Rattle.pep440_version.specs.ErrorTexts.{change_error_text, error_text}
 use Rattle.pep440_version.specs.Errors.{kind_of, refusal_of}
 use Rattle.pep440_version.specs.declared.change.ChangeError.{ChangeError}
 use Rattle.pep440_version.specs.declared.change.ChangeError.TheVariants as change
-use Rattle.pep440_tool.specs.Answers.{ToolAnswer, candidate_fault_text, line_fault_text, not_a_change_text, refused, refused_list}
+use Rattle.pep440_tool.specs.Answers.{ToolAnswer, candidate_fault_text, line_fault_text, refused, refused_list}
 use Rattle.pep440_tool.specs.declared.error.CommandError.{CommandError}
 use Rattle.pep440_tool.specs.declared.error.CommandError.TheVariants as error
 
