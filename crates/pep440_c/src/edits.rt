@@ -11,8 +11,8 @@ ghost use Rattle.pep440_c.specs.Statuses.{Gives};
 ghost use Rattle.pep440_c.specs.declared.edits.EditError.TheVariants.{OutOfMemory};
 
 use crate::texts::{Fault, explain_version, read};
-use pep440_change_words::{ChangeWordError, WithSentinels, parse_change};
-use pep440_rs::{Change, ChangeError, Version};
+use pep440_change_words::{ChangeWordError, parse_change};
+use pep440_rs::{Change, ChangeError, Version, WithSentinels};
 use std::alloc::{AllocError, AllocFailed, Global};
 
 /// Why there is no edited version.

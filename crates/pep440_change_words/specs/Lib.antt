@@ -1,4 +1,3 @@
 pub mod ChangeWords
 pub mod ErrorTexts
 pub mod Reads
-pub mod Sentinels

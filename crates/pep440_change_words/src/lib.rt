@@ -1,10 +1,8 @@
-//! What a program that edits versions reads and prints: changes as words, `post=2` for one, and versions with their sentinels.
+//! Changes of versions as words, as `post=2`.
 #![tactic(auto)]
 
 mod change;
 mod error;
-mod sentinels;
 
 pub use change::parse_change;
 pub use error::ChangeWordError;
-pub use sentinels::WithSentinels;

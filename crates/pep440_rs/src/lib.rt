@@ -41,8 +41,8 @@ pub use list::error::{SpecifiersErrorKind, VersionSpecifiersParseError};
 pub use pep440_ranges::{Ranges, Segments};
 pub use pep440_version::{
     Change, ChangeError, ErrorKind, LocalSegment, PatternErrorKind, Prerelease, PrereleaseKind,
-    Version, VersionParseError, VersionPattern, VersionPatternParseError, cmp_releases,
-    cmp_without_local, min_version, write_local_segments,
+    Version, VersionParseError, VersionPattern, VersionPatternParseError, WithSentinels,
+    cmp_releases, cmp_without_local, min_version, write_local_segments,
 };
 pub use range::cover::specifier_to_cover;
 pub use range::error::RangeError;

@@ -6,7 +6,7 @@ use Rattle.std.specs.declared.cmp.Ordering.{Ordering}
 use Rattle.std.specs.declared.cmp.Ordering.TheVariants.{Less, Equal, Greater}
 use Rattle.pep440_change_words.specs.ChangeWords.{change_of}
 use Rattle.pep440_change_words.specs.ErrorTexts.{not_a_change_text}
-use Rattle.pep440_change_words.specs.Sentinels.{print_with_sentinels}
+use Rattle.pep440_version.specs.Sentinels.{print_with_sentinels}
 use Rattle.pep440_rs.specs.Bounds.{Segments, range_of, list_range}
 use Rattle.pep440_rs.specs.ErrorTexts.{range_error_text}
 use Rattle.pep440_rs.specs.ListErrorTexts.{list_refusal_text}

@@ -9,8 +9,8 @@ ghost use Rattle.pep440_version.specs.Changes.{apply_edits, edit};
 use crate::error::CommandError;
 use crate::output::Answer;
 use crate::reading::read;
-use pep440_change_words::{ChangeWordError, WithSentinels, parse_change};
-use pep440_rs::{Change, Version};
+use pep440_change_words::{ChangeWordError, parse_change};
+use pep440_rs::{Change, Version, WithSentinels};
 use std::alloc::Global;
 
 /// The changes that the words ask for.

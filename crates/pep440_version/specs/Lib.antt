@@ -8,6 +8,7 @@ pub mod Word
 pub mod Form
 pub mod WordParts
 pub mod Print
+pub mod Sentinels
 pub mod Grammar
 pub mod Normal
 pub mod Reading

@@ -1,7 +1,6 @@
 //! Lists of changes.
 use pep440_cases::{CaseError, change_argument, parse_version, print_value};
-use pep440_change_words::WithSentinels;
-use pep440_version::{Change, ChangeError};
+use pep440_version::{Change, ChangeError, WithSentinels};
 use std::alloc::Global;
 
 // The changes that the words ask for, with blanks between them.

@@ -1,7 +1,6 @@
 //! Parts of versions, and their words.
 use pep440_cases::{CaseError, copy, print_value, version_argument};
-use pep440_change_words::WithSentinels;
-use pep440_version::{LocalSegment, Version, laws};
+use pep440_version::{LocalSegment, Version, WithSentinels, laws};
 use std::alloc::{AllocError, Global};
 use std::fmt::Display;
 

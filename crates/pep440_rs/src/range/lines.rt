@@ -4,9 +4,8 @@ ghost use Rattle.std.specs.Fmt.{WritesStyledOnOk};
 ghost use Rattle.std.specs.List.{flat_map};
 ghost use Rattle.pep440_rs.specs.RangeLines.{end_text, range_lines, segment_line, start_text};
 
-use pep440_change_words::WithSentinels;
 use pep440_ranges::Ranges;
-use pep440_version::Version;
+use pep440_version::{Version, WithSentinels};
 use std::fmt;
 use std::ops::Bound;
 

@@ -1,17 +1,18 @@
 //! Versions printed with their sentinels, the same whatever width and fill are asked for.
 ghost use Rattle.std.specs.Prelude.{Some};
 ghost use Rattle.std.specs.Fmt.{WritesStyledOnOk};
-ghost use Rattle.pep440_change_words.specs.Sentinels.{print_with_sentinels};
+ghost use Rattle.pep440_version.specs.Sentinels.{print_with_sentinels};
 ghost use Rattle.pep440_version.specs.Print.{labelled};
 
-use pep440_version::{LocalSegment, Version};
+use crate::segment::LocalSegment;
+use crate::version::Version;
 use std::fmt;
 
 /// A version to be printed with its sentinels: the normalized form, then `~min` and min, then `~max` and max, each where it is set.
 #[derive(Clone, Copy)]
 pub struct WithSentinels<'a>(pub &'a Version);
 
-#[tactic(auto, using(pep440_version::proofs::RoundTrip::Writing::two_writes))]
+#[tactic(auto, using(crate::proofs::RoundTrip::Writing::two_writes))]
 fn write_sentinel<W: fmt::Write>(
     f: &mut fmt::Formatter<W>,
     label: &str,

@@ -1,6 +1,6 @@
 use Rattle.std.proofs.Common.{refl}
 use Rattle.std.proofs.Output.{has_written_styled_append, has_written_styled_of_eq}
-use Rattle.pep440_change_words.proofs.sentinels.write_with_sentinels.Goals as goal
+use Rattle.pep440_version.proofs.sentinels.write_with_sentinels.Goals as goal
 
 pub returns : goal.returns
 returns g c = λ flush ok.
