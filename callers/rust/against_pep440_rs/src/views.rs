@@ -138,15 +138,19 @@ macro_rules! views {
             }
 
             pub fn parse_version(text: &str) -> Result<String, String> {
-                said(text.parse::<Version>(), |version| show_version(&version) + &show_segments(&version))
+                let parsed = text.parse::<Version>();
+                let of_pattern = parsed.clone().err().map(|error| VersionPatternParseError::from(error).to_string());
+                said(parsed, |version| show_version(&version) + &show_segments(&version))
+                    .map_err(|error| format!("{error} {of_pattern:?}"))
             }
 
             pub fn parse_pattern(text: &str) -> Result<String, String> {
                 said(text.parse::<VersionPattern>(), |pattern| {
                     let verbatim = VersionPattern::verbatim(pattern.version().clone());
                     let wildcard = VersionPattern::wildcard(pattern.version().clone());
+                    let hashes = [hash(&pattern) == hash(&verbatim), hash(&pattern) == hash(&wildcard)];
                     format!(
-                        "{pattern:?} {} {:?} {} {}",
+                        "{pattern:?} {} {:?} {} {} {hashes:?}",
                         pattern.is_wildcard(),
                         pattern.version(),
                         pattern == verbatim,
@@ -180,10 +184,10 @@ macro_rules! views {
 
             pub fn show_operator(operator: Operator) -> String {
                 format!(
-                    "{operator} {operator:?} {:?} {} {} {}",
+                    "{operator} {operator:?} {:?} {} {:?} {}",
                     operator.negate(),
                     operator.is_star(),
-                    operator > Operator::NotEqual,
+                    operators().map(|other| operator.cmp(&other)),
                     hash(&operator)
                 )
             }

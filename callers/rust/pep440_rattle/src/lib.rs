@@ -41,7 +41,7 @@ pub use error::{
 };
 pub use operator::Operator;
 pub use pattern::VersionPattern;
-pub use range::Segment;
+pub use range::{release_specifier_to_range, release_specifiers_to_ranges, Segment};
 pub use segment::{LocalSegment, Prerelease, PrereleaseKind};
 pub use specifier::VersionSpecifier;
 pub use specifiers::VersionSpecifiers;
