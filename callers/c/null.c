@@ -48,6 +48,7 @@ static void strings(void)
     hold(pep440_ranges(NONE, out, sizeof out, &written) == PEP440_OK && written == 7, "ranges");
     hold(pep440_specifiers_of(NONE, NONE, NONE, &written, &count) == PEP440_OK && written == 0 && count == 0, "specifiers_of");
     hold(pep440_range_bounds(NONE, NONE, NONE, &written, &count) == PEP440_NO_ROOM && written == 2 && count == 2, "range_bounds");
+    hold(pep440_release_range_bounds(NONE, NONE, NONE, &written, &count) == PEP440_NO_ROOM && written == 2 && count == 2, "release_range_bounds");
     hold(pep440_range_keys(NONE, NONE, NONE, &written, &count) == PEP440_NO_ROOM && written == 0 && count == 2, "range_keys");
     hold(pep440_cover_keys(NONE, NONE, NONE, &written, &count) == PEP440_NO_ROOM && written == 0 && count == 2, "cover_keys");
 }
@@ -69,6 +70,7 @@ static void compiled(void)
     hold(pep440_contains_compiled(NONE, NONE, &is, &early) == PEP440_NOT_COMPILED, "contains_compiled");
     hold(pep440_parts_of_compiled(NONE, &parts, release, 4) == PEP440_NOT_COMPILED, "parts_of_compiled");
     hold(pep440_range_bounds_compiled(NONE, NONE, NONE, &written, &count) == PEP440_NOT_COMPILED, "range_bounds_compiled");
+    hold(pep440_release_range_bounds_compiled(NONE, NONE, NONE, &written, &count) == PEP440_NOT_COMPILED, "release_range_bounds_compiled");
     hold(pep440_build_error(PEP440_EQUAL, NONE, 0, out, sizeof out, &written) == PEP440_NOT_COMPILED, "build_error");
     hold(pep440_range_keys_compiled(NONE, NONE, NONE, &written, &count) == PEP440_NOT_COMPILED, "range_keys_compiled");
     hold(pep440_cover_keys_compiled(NONE, NONE, NONE, &written, &count) == PEP440_NOT_COMPILED, "cover_keys_compiled");

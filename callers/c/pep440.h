@@ -193,6 +193,12 @@ enum { PEP440_NO_BOUND = 0, PEP440_INCLUDED = 1, PEP440_EXCLUDED = 2 };
 uint8_t pep440_range_bounds(const uint8_t *list, size_t length, uint8_t *out, size_t size, size_t *ends, size_t ends_size, size_t *written,
                             size_t *count);
 
+/* The same of the release-only range of the list, which is meant for versions that are a release alone, as those of Python itself. Of each
+   specifier only the operator and the release count, so no bound has an epoch, a suffix or a sentinel: the bounds of `>1!1.0rc1` are
+   PEP440_EXCLUDED and the compiled form of `1.0`, and PEP440_NO_BOUND. */
+uint8_t pep440_release_range_bounds(const uint8_t *list, size_t length, uint8_t *out, size_t size, size_t *ends, size_t ends_size,
+                                    size_t *written, size_t *count);
+
 /* ---- compiled versions and lists: bytes made once of a string, which later calls take in place of it
 
    Compiled bytes are plain bytes: keep them in memory, in a file or in a column, copy them, share them among threads, give them to another
@@ -249,6 +255,10 @@ uint8_t pep440_range_keys_compiled(const uint8_t *list, size_t length, uint8_t *
 /* As pep440_range_bounds, of a compiled list. */
 uint8_t pep440_range_bounds_compiled(const uint8_t *list, size_t length, uint8_t *out, size_t size, size_t *ends, size_t ends_size,
                                      size_t *written, size_t *count);
+
+/* As pep440_release_range_bounds, of a compiled list. */
+uint8_t pep440_release_range_bounds_compiled(const uint8_t *list, size_t length, uint8_t *out, size_t size, size_t *ends, size_t ends_size,
+                                             size_t *written, size_t *count);
 
 /* The operators in compiled lists: the byte in front of each version. The star forms are `==` and `!=` with a version and `.*`. */
 enum {

@@ -62,6 +62,11 @@ static void *range_bounds(void *unused)
     pep440_range_bounds(LIST, out, (size_t)LONG * 64, ends, MANY, &written, &at);
     return unused;
 }
+static void *release_range_bounds(void *unused)
+{
+    pep440_release_range_bounds(LIST, out, (size_t)LONG * 64, ends, MANY, &written, &at);
+    return unused;
+}
 static void *range_keys(void *unused)
 {
     pep440_range_keys(LIST, out, (size_t)LONG * 64, ends, MANY, &written, &at);
@@ -89,6 +94,11 @@ static void *range_keys_compiled(void *unused)
 static void *range_bounds_compiled(void *unused)
 {
     pep440_range_bounds_compiled(COMPILED_LIST, out, (size_t)LONG * 64, ends, MANY, &written, &at);
+    return unused;
+}
+static void *release_range_bounds_compiled(void *unused)
+{
+    pep440_release_range_bounds_compiled(COMPILED_LIST, out, (size_t)LONG * 64, ends, MANY, &written, &at);
     return unused;
 }
 static void *build_error(void *unused) { pep440_build_error(PEP440_LESS, COMPILED, 0, OUT); return unused; }
@@ -124,6 +134,7 @@ static const struct {
              {"pattern_error", pattern_error},
              {"specifier_error", specifier_error},
              {"range_bounds", range_bounds},
+             {"release_range_bounds", release_range_bounds},
              {"range_keys", range_keys},
              {"cover_keys", cover_keys},
              {"specifiers_of", specifiers_of},
@@ -143,6 +154,7 @@ static const struct {
              {"parts_of_compiled", parts_of_compiled},
              {"range_keys_compiled", range_keys_compiled},
              {"range_bounds_compiled", range_bounds_compiled},
+             {"release_range_bounds_compiled", release_range_bounds_compiled},
              {"build_error", build_error},
              {"cover_keys_compiled", cover_keys_compiled},
              {"filter_compiled", filter_compiled},

@@ -91,6 +91,8 @@ static uint8_t pattern_error(Answer *answer) { return pep440_pattern_error(TEXT(
 static uint8_t specifier_error(Answer *answer) { return pep440_specifier_error(TEXT(">=1.0prev"), OUT); }
 static uint8_t range_bounds(Answer *answer) { return pep440_range_bounds(TEXT(MEMBERS), KEYS); }
 static uint8_t range_bounds_at_max(Answer *answer) { return pep440_range_bounds(TEXT(">=1.0, ==18446744073709551615.*"), KEYS); }
+static uint8_t release_range_bounds(Answer *answer) { return pep440_release_range_bounds(TEXT(MEMBERS), KEYS); }
+static uint8_t release_range_bounds_at_max(Answer *answer) { return pep440_release_range_bounds(TEXT("~=18446744073709551615.0"), KEYS); }
 static uint8_t range_keys(Answer *answer) { return pep440_range_keys(TEXT(MEMBERS), KEYS); }
 static uint8_t range_keys_at_max(Answer *answer) { return pep440_range_keys(TEXT(">=1.0, ==18446744073709551615.*"), KEYS); }
 static uint8_t cover_keys(Answer *answer) { return pep440_cover_keys(TEXT(MEMBERS), KEYS); }
@@ -136,6 +138,8 @@ static uint8_t range_keys_compiled(Answer *answer) { return pep440_range_keys_co
 static uint8_t range_keys_not_compiled(Answer *answer) { return pep440_range_keys_compiled(OF(longer), KEYS); }
 static uint8_t range_bounds_compiled(Answer *answer) { return pep440_range_bounds_compiled(OF(list), KEYS); }
 static uint8_t range_bounds_not_compiled(Answer *answer) { return pep440_range_bounds_compiled(OF(longer), KEYS); }
+static uint8_t release_range_bounds_compiled(Answer *answer) { return pep440_release_range_bounds_compiled(OF(list), KEYS); }
+static uint8_t release_range_bounds_not_compiled(Answer *answer) { return pep440_release_range_bounds_compiled(OF(longer), KEYS); }
 static uint8_t build_error(Answer *answer) { return pep440_build_error(PEP440_LESS, OF(longer), 0, OUT); }
 static uint8_t build_error_not_compiled(Answer *answer) { return pep440_build_error(PEP440_LESS, longer.bytes, longer.length - 1, 1, OUT); }
 static uint8_t cover_keys_compiled(Answer *answer) { return pep440_cover_keys_compiled(OF(list), KEYS); }
@@ -175,6 +179,8 @@ static const struct {
              {"specifier_error", specifier_error, PEP440_OK},
              {"range_bounds", range_bounds, PEP440_OK},
              {"range_bounds, at max", range_bounds_at_max, PEP440_NUMBER_AT_MAX},
+             {"release_range_bounds", release_range_bounds, PEP440_OK},
+             {"release_range_bounds, at max", release_range_bounds_at_max, PEP440_NUMBER_AT_MAX},
              {"range_keys", range_keys, PEP440_OK},
              {"range_keys, at max", range_keys_at_max, PEP440_NUMBER_AT_MAX},
              {"cover_keys", cover_keys, PEP440_OK},
@@ -203,6 +209,8 @@ static const struct {
              {"range_keys_compiled, other", range_keys_not_compiled, PEP440_NOT_COMPILED},
              {"range_bounds_compiled", range_bounds_compiled, PEP440_OK},
              {"range_bounds_compiled, other", range_bounds_not_compiled, PEP440_NOT_COMPILED},
+             {"release_range_bounds_compiled", release_range_bounds_compiled, PEP440_OK},
+             {"release_range_bounds_compiled, other", release_range_bounds_not_compiled, PEP440_NOT_COMPILED},
              {"build_error", build_error, PEP440_OK},
              {"build_error, other", build_error_not_compiled, PEP440_NOT_COMPILED},
              {"cover_keys_compiled", cover_keys_compiled, PEP440_OK},
@@ -269,19 +277,19 @@ int main(void)
     int all_failed = 0, all_wrong = compile_all();
     for (size_t place = 0; place < sizeof CALLS / sizeof *CALLS; place++) {
         int failed = 0, wrong = sweep(CALLS[place].call, CALLS[place].wanted, 0, &failed);
-        printf("%-32s %3d allocations failed in turn, %d wrong\n", CALLS[place].name, failed, wrong);
+        printf("%-36s %3d allocations failed in turn, %d wrong\n", CALLS[place].name, failed, wrong);
         all_failed += failed;
         all_wrong += wrong;
     }
     for (size_t place = 0; place < sizeof GUESSING / sizeof *GUESSING; place++) {
         int failed = 0, wrong = sweep(GUESSING[place].call, GUESSING[place].wanted, 1, &failed);
-        printf("%-32s %3d allocations failed in turn, %d wrong\n", GUESSING[place].name, failed, wrong);
+        printf("%-36s %3d allocations failed in turn, %d wrong\n", GUESSING[place].name, failed, wrong);
         all_failed += failed;
         all_wrong += wrong;
     }
     for (size_t place = 0; place < sizeof WITHOUT / sizeof *WITHOUT; place++) {
         int failed = 0, wrong = sweep(WITHOUT[place].call, PEP440_OK, 0, &failed) + failed;
-        printf("%-32s %3d allocations failed in turn, %d wrong\n", WITHOUT[place].name, failed, wrong);
+        printf("%-36s %3d allocations failed in turn, %d wrong\n", WITHOUT[place].name, failed, wrong);
         all_wrong += wrong;
     }
     printf("%d allocations failed, %d wrong\n", all_failed, all_wrong);

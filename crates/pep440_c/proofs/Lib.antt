@@ -11,3 +11,4 @@ pub mod Edited
 pub mod OneSpecifier
 pub mod Bounded
 pub mod SpecifierOnce
+pub mod ReleaseBoundsOnce

@@ -11,4 +11,5 @@ pub mod Patterns
 pub mod Edits
 pub mod OneSpecifier
 pub mod RangeBounds
+pub mod ReleaseRangeBounds
 pub mod PatternErrors

@@ -16,6 +16,7 @@ ghost use Rattle.pep440_c.specs.Compiled.{CompiledContains, CompiledKey, Compile
 ghost use Rattle.pep440_c.specs.Intervals.{HasRange};
 ghost use Rattle.pep440_c.specs.OneSpecifier.{MeansSpecifierBytes, RefusesSpecifierBytes, TellsWhyNoSpecifier};
 ghost use Rattle.pep440_c.specs.RangeBounds.{CompiledBounds, TellsBounds};
+ghost use Rattle.pep440_c.specs.ReleaseRangeBounds.{CompiledReleaseBounds, TellsReleaseBounds};
 ghost use Rattle.pep440_c.specs.Patterns.{IsSpecifier, MeansPattern, RefusesOperand, RefusesOperator, RefusesPatternBytes};
 ghost use Rattle.pep440_c.specs.Meaning.{MeansBytes, MeansListBytes, RefusesBytes, RefusesListBytes, TellsWhy, TellsWhyNoList};
 
@@ -46,6 +47,11 @@ pub fn one_specifier_once()
 /// The bounds of a compiled list are those of the string that was compiled.
 pub fn bounds_agree()
     ensures { (text compiled bytes ends : List ℕ) → IsCompiledList text compiled → CompiledBounds compiled bytes ends ↔ TellsBounds text bytes ends }
+{}
+
+/// The same of its release-only range.
+pub fn release_bounds_agree()
+    ensures { (text compiled bytes ends : List ℕ) → IsCompiledList text compiled → CompiledReleaseBounds compiled bytes ends ↔ TellsReleaseBounds text bytes ends }
 {}
 
 /// Bytes have one range, or are no list, or are a list without a range, and never two of these: so of the statuses 0, 2 and 5 a call has one.

@@ -36,6 +36,7 @@ mod one_specifier;
 mod pattern_errors;
 mod patterns;
 mod range_bounds;
+mod release_range_bounds;
 #[cfg(test)]
 mod tests;
 mod texts;

@@ -101,8 +101,8 @@ fn push_segment(
     Ok(())
 }
 
-// The bounds of the segments, in their order.
-fn join_bounds(alloc: Global, range: &Ranges<Version>) -> Result<Joined, AllocError>
+/// The bounds of the segments, in their order.
+pub(crate) fn join_bounds(alloc: Global, range: &Ranges<Version>) -> Result<Joined, AllocError>
     ensures { IfOk result (λ found. JoinsBounds range.now found.bytes.items found.ends.items) }
 {
     let mut found = Joined::with_capacity(alloc, 2)?;

@@ -4,6 +4,7 @@ mod edits;
 mod one_specifier;
 mod patterns;
 mod range_bounds;
+mod release_range_bounds;
 
 use crate::{
     Parts, pep440_any_prerelease, pep440_compare, pep440_contains, pep440_cover_keys,

@@ -1,5 +1,5 @@
 //! Where the two crates differ by `docs/DIFFERENCES.md`: rules that tell for given values what is wanted, or that nothing is.
-use crate::peer::{Operator, Version, VersionSpecifier};
+use crate::peer::{release_specifier_to_range, Operator, Version, VersionSpecifier};
 use crate::version_ranges::Ranges;
 use std::cmp::Ordering;
 
@@ -61,6 +61,17 @@ pub fn range(specifier: &VersionSpecifier) -> Option<Ranges<Version>> {
         return Some(Ranges::higher_than(version.clone().with_post(Some(above)).with_dev(Some(0))));
     }
     Some(Ranges::from(specifier.clone()))
+}
+
+/// The release-only range of the specifier, as the ported crate says; None where a number of a bound can't be raised.
+pub fn release_range(specifier: &VersionSpecifier) -> Option<Ranges<Version>> {
+    let release = specifier.version().release();
+    let raised = match specifier.operator() {
+        Operator::TildeEqual => release[release.len() - 2],
+        Operator::EqualStar | Operator::NotEqualStar => release[release.len() - 1],
+        _ => 0,
+    };
+    raised.checked_add(1).map(|_| release_specifier_to_range(specifier.clone()))
 }
 
 /// An error text without what depends on the width of a control character: a line of carets under a line that has one.

@@ -138,15 +138,14 @@ fn unchecked(chance: &mut Chance) -> Option<Case> {
         return None;
     }
     let asked = format!("{operator} {asked} {also}");
-    let range = mine.ranges().map(|found| ours::show_bounds(found.iter().map(|(low, high)| (low, high))));
-    let wanted = if departures::is_confused(other.version()) {
-        range.clone()
-    } else {
-        let wanted = departures::range(&other).map(|wanted| theirs::show_bounds(wanted.iter()));
-        wanted.ok_or(ours::RangeError::NumberAtMax)
-    };
-    let shown = (ours::show_specifier(&mine), mine.contains(&candidate), range);
-    case("unchecked", asked, shown, (theirs::show_specifier(&other), departures::contains(&other, &candidate_theirs), wanted))
+    let range = show_range(mine.ranges());
+    let is_confused = departures::is_confused(other.version());
+    let wanted = if is_confused { range.clone() } else { show_range_there(departures::range(&other)) };
+    let of_releases = show_range(ours::release_specifier_to_range(mine.clone()));
+    let wanted_of_releases = show_range_there(departures::release_range(&other));
+    let shown = (ours::show_specifier(&mine), mine.contains(&candidate), range, of_releases);
+    let contained = departures::contains(&other, &candidate_theirs);
+    case("unchecked", asked, shown, (theirs::show_specifier(&other), contained, wanted, wanted_of_releases))
 }
 
 fn contained(chance: &mut Chance) -> Option<Case> {
@@ -189,11 +188,29 @@ fn ranges(chance: &mut Chance) -> Option<Case> {
     for member in theirs.iter() {
         wanted = wanted.zip(departures::range(member)).map(|(all, one)| all.intersection(&one));
     }
-    let found = list.ranges().map(|found| ours::show_bounds(found.iter().map(|(low, high)| (low, high))));
-    let wanted = wanted.map(|wanted| theirs::show_bounds(wanted.iter())).ok_or(ours::RangeError::NumberAtMax);
-    let alone = list.first().map(|first| first.ranges().is_ok());
-    let alone_theirs = theirs.first().map(|first| departures::range(first).is_some());
-    case("ranges", text, (found, alone), (wanted, alone_theirs))
+    let alone = list.first().map(|first| show_range(first.ranges()));
+    let alone_theirs = theirs.first().map(|first| show_range_there(departures::range(first)));
+    case("ranges", text, (show_range(list.ranges()), alone), (show_range_there(wanted), alone_theirs))
+}
+
+/// What either crate says of a range: the segments, or that there is none.
+fn show_range(found: Result<Vec<ours::Segment>, ours::RangeError>) -> Result<Vec<String>, ours::RangeError> {
+    found.map(|found| ours::show_bounds(found.iter().map(|(low, high)| (low, high))))
+}
+
+fn show_range_there(found: Option<Ranges<theirs::Version>>) -> Result<Vec<String>, ours::RangeError> {
+    found.map(|found| theirs::show_bounds(found.iter())).ok_or(ours::RangeError::NumberAtMax)
+}
+
+fn release_only(chance: &mut Chance) -> Option<Case> {
+    let text = chance.list();
+    let (list, theirs) = (text.parse::<ours::VersionSpecifiers>().ok()?, text.parse::<theirs::VersionSpecifiers>().ok()?);
+    let is_raised = theirs.iter().all(|member| departures::release_range(member).is_some());
+    let wanted = is_raised.then(|| theirs::release_specifiers_to_ranges(theirs.clone()));
+    let each: Vec<_> = list.iter().map(|member| show_range(ours::release_specifier_to_range(member.clone()))).collect();
+    let each_theirs: Vec<_> = theirs.iter().map(|member| show_range_there(departures::release_range(member))).collect();
+    let whole = show_range(ours::release_specifiers_to_ranges(list));
+    case("release-only ranges", text, (whole, each), (show_range_there(wanted), each_theirs))
 }
 
 fn bounds(chance: &mut Chance) -> Option<Case> {
@@ -229,7 +246,7 @@ fn sorted(chance: &mut Chance) -> Option<Case> {
 }
 
 fn one(chance: &mut Chance) -> Option<Case> {
-    match chance.below(16) {
+    match chance.below(17) {
         0..=4 => strings(chance),
         5 | 6 => changed(chance),
         7 | 8 => ordered(chance),
@@ -238,6 +255,7 @@ fn one(chance: &mut Chance) -> Option<Case> {
         11 | 12 => contained(chance),
         13 => ranges(chance),
         14 => bounds(chance),
+        15 => release_only(chance),
         _ => match chance.below(8) {
             0 => sorted(chance),
             _ => compared(chance),

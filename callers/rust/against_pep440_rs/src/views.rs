@@ -108,13 +108,13 @@ macro_rules! views {
             pub fn show_segments(version: &Version) -> String {
                 let mut sorted = version.local().to_vec();
                 sorted.sort();
-                let shown: Vec<String> = sorted.iter().map(|segment| segment.to_string()).collect();
+                let shown: Vec<String> = sorted.iter().map(|segment| format!("{segment} {segment:>9}")).collect();
                 let hashes: Vec<u64> = sorted.iter().map(hash).collect();
                 format!(
                     "{shown:?} {hashes:?} {:?}",
                     version.pre().map(|pre| (
-                        pre.to_string(),
-                        pre.kind.to_string(),
+                        format!("{pre} {pre:>9}"),
+                        format!("{} {:>9}", pre.kind, pre.kind),
                         (hash(&pre), hash(&pre.kind)),
                         pre > Prerelease { kind: PrereleaseKind::Beta, number: 1 }
                     ))
@@ -125,7 +125,7 @@ macro_rules! views {
                 let (operator, version) = specifier.clone().into_parts();
                 assert!(operator == *specifier.operator() && version == *specifier.version());
                 format!(
-                    "{specifier} {specifier:?} {:?} {} {}",
+                    "{specifier} {specifier:>40} {specifier:?} {:?} {} {}",
                     specifier.operator(),
                     specifier.any_prerelease(),
                     specifier.has_lower_bound()
@@ -134,19 +134,23 @@ macro_rules! views {
 
             pub fn show_list(list: &VersionSpecifiers) -> String {
                 let members: Vec<String> = list.iter().map(show_specifier).collect();
-                format!("{list} {list:?} {} {} {members:?}", list.len(), list.is_empty())
+                format!("{list} {list:>80} {list:?} {} {} {members:?}", list.len(), list.is_empty())
             }
 
             pub fn parse_version(text: &str) -> Result<String, String> {
-                said(text.parse::<Version>(), |version| show_version(&version) + &show_segments(&version))
+                let parsed = text.parse::<Version>();
+                let of_pattern = parsed.clone().err().map(|error| VersionPatternParseError::from(error).to_string());
+                said(parsed, |version| show_version(&version) + &show_segments(&version))
+                    .map_err(|error| format!("{error} {of_pattern:?}"))
             }
 
             pub fn parse_pattern(text: &str) -> Result<String, String> {
                 said(text.parse::<VersionPattern>(), |pattern| {
                     let verbatim = VersionPattern::verbatim(pattern.version().clone());
                     let wildcard = VersionPattern::wildcard(pattern.version().clone());
+                    let hashes = [hash(&pattern) == hash(&verbatim), hash(&pattern) == hash(&wildcard)];
                     format!(
-                        "{pattern:?} {} {:?} {} {}",
+                        "{pattern:?} {} {:?} {} {} {hashes:?}",
                         pattern.is_wildcard(),
                         pattern.version(),
                         pattern == verbatim,
@@ -180,10 +184,10 @@ macro_rules! views {
 
             pub fn show_operator(operator: Operator) -> String {
                 format!(
-                    "{operator} {operator:?} {:?} {} {} {}",
+                    "{operator} {operator:>9} {operator:?} {:?} {} {:?} {}",
                     operator.negate(),
                     operator.is_star(),
-                    operator > Operator::NotEqual,
+                    operators().map(|other| operator.cmp(&other)),
                     hash(&operator)
                 )
             }

@@ -35,12 +35,23 @@ struct PointerAndLength {
 
 type Writer = unsafe extern "C" fn(*const u8, usize, *mut u8, usize, *mut usize) -> u8;
 
+type WriterWithEnds = unsafe extern "C" fn(*const u8, usize, *mut u8, usize, *mut usize, usize, *mut usize, *mut usize) -> u8;
+
 unsafe extern "C" {
     fn pep440_parts_of(version: *const u8, length: usize, parts: *mut PartsOf, release: *mut u64, size: usize) -> u8;
     fn pep440_compile(version: *const u8, length: usize, out: *mut u8, size: usize, written: *mut usize) -> u8;
     fn pep440_compile_list(list: *const u8, length: usize, out: *mut u8, size: usize, written: *mut usize) -> u8;
     fn pep440_compile_specifier(specifier: *const u8, length: usize, out: *mut u8, size: usize, written: *mut usize) -> u8;
     fn pep440_pattern(pattern: *const u8, length: usize, out: *mut u8, size: usize, written: *mut usize, star: *mut u8) -> u8;
+    fn pep440_specifier(
+        operator: *const u8,
+        operator_length: usize,
+        version: *const u8,
+        length: usize,
+        out: *mut u8,
+        size: usize,
+        written: *mut usize,
+    ) -> u8;
     fn pep440_version_error(version: *const u8, length: usize, out: *mut u8, size: usize, written: *mut usize) -> u8;
     fn pep440_pattern_error(pattern: *const u8, length: usize, out: *mut u8, size: usize, written: *mut usize) -> u8;
     fn pep440_specifier_error(specifier: *const u8, length: usize, out: *mut u8, size: usize, written: *mut usize) -> u8;
@@ -58,6 +69,16 @@ unsafe extern "C" {
     fn pep440_normalize_list_compiled(compiled: *const u8, length: usize, out: *mut u8, size: usize, written: *mut usize) -> u8;
     fn pep440_sort_key_compiled(compiled: *const u8, length: usize, out: *mut u8, size: usize, written: *mut usize) -> u8;
     fn pep440_range_bounds_compiled(
+        list: *const u8,
+        length: usize,
+        out: *mut u8,
+        size: usize,
+        ends: *mut usize,
+        ends_size: usize,
+        written: *mut usize,
+        count: *mut usize,
+    ) -> u8;
+    fn pep440_release_range_bounds_compiled(
         list: *const u8,
         length: usize,
         out: *mut u8,
@@ -209,6 +230,17 @@ pub(crate) fn pattern<T>(pattern: &str, read: impl FnOnce(&str, bool) -> T) -> R
     )
 }
 
+/// Calls `read` with the specifier of an operator and a version, as `>=1.16`.
+pub(crate) fn specifier<T>(operator: &str, version: &str, read: impl FnOnce(&str) -> T) -> Result<T, Refusal> {
+    written_by(
+        // SAFETY: as the module says; `out` has room for `size` bytes.
+        |out, size, length| unsafe {
+            pep440_specifier(operator.as_ptr(), operator.len(), version.as_ptr(), version.len(), out, size, length)
+        },
+        |bytes| read(as_text(bytes)),
+    )
+}
+
 /// Calls `read` with the compiled bytes of a list.
 pub(crate) fn compile_list<T>(list: &str, read: impl FnOnce(&[u8]) -> T) -> Result<T, Refusal> {
     written(pep440_compile_list, list.as_bytes(), read)
@@ -273,22 +305,23 @@ pub(crate) fn sort_key<T>(version: &[u8], read: impl FnOnce(&[u8]) -> T) -> T {
 
 /// Calls `read` with the bounds of the range of a compiled list, one after the other, and with where each of them ends.
 pub(crate) fn range_bounds<T>(list: &[u8], read: impl FnOnce(&[u8], &[usize]) -> T) -> Result<T, Refusal> {
+    written_with_ends(pep440_range_bounds_compiled, list, read)
+}
+
+/// The same of its release-only range.
+pub(crate) fn release_range_bounds<T>(list: &[u8], read: impl FnOnce(&[u8], &[usize]) -> T) -> Result<T, Refusal> {
+    written_with_ends(pep440_release_range_bounds_compiled, list, read)
+}
+
+/// Calls `read` with the pieces that `call` writes of `input`, one after the other, and with where each of them ends.
+fn written_with_ends<T>(call: WriterWithEnds, input: &[u8], read: impl FnOnce(&[u8], &[usize]) -> T) -> Result<T, Refusal> {
     let (mut out, mut ends) = (vec![0; STACK], vec![0; 8]);
     loop {
         let (mut length, mut count) = (0, 0);
+        let (size, ends_size) = (out.len(), ends.len());
+        let (bytes, places) = (out.as_mut_ptr(), ends.as_mut_ptr());
         // SAFETY: as the module says; `out` and `ends` have room for as many bytes and ends as is said.
-        let status = unsafe {
-            pep440_range_bounds_compiled(
-                list.as_ptr(),
-                list.len(),
-                out.as_mut_ptr(),
-                out.len(),
-                ends.as_mut_ptr(),
-                ends.len(),
-                &mut length,
-                &mut count,
-            )
-        };
+        let status = unsafe { call(input.as_ptr(), input.len(), bytes, size, places, ends_size, &mut length, &mut count) };
         match status {
             OK => return Ok(read(&out[..length], &ends[..count])),
             NO_ROOM if out.len() < length || ends.len() < count => {

@@ -1,8 +1,8 @@
 //! Versions and specifiers of Python packages ([PEP 440](https://peps.python.org/pep-0440)), by a proved library.
 //!
 //! The names and the behaviour are those of the crate `pep440_rs` 0.7.3, but for the departures that the README lists.
-//! Parsing, normalized forms, order and matching are calls of the library `pep440`, whose functions are proved to do what
-//! PEP 440 says; this crate is tested, not proved.
+//! Parsing, normalized forms, matching and ranges are calls of the library `pep440`, whose functions are proved to do what
+//! PEP 440 says, and so is the order of versions where their numbers alone do not decide. This crate is tested, not proved.
 //!
 //! ```
 //! use pep440_rattle::{Version, VersionSpecifiers};
@@ -41,7 +41,7 @@ pub use error::{
 };
 pub use operator::Operator;
 pub use pattern::VersionPattern;
-pub use range::Segment;
+pub use range::{release_specifier_to_range, release_specifiers_to_ranges, Segment};
 pub use segment::{LocalSegment, Prerelease, PrereleaseKind};
 pub use specifier::VersionSpecifier;
 pub use specifiers::VersionSpecifiers;

@@ -1,5 +1,6 @@
 //! The operators of specifiers.
-use crate::OperatorParseError;
+use crate::calls;
+use crate::{OperatorParseError, VersionSpecifier};
 use std::fmt;
 use std::str::FromStr;
 
@@ -96,8 +97,10 @@ impl FromStr for Operator {
 
     /// The operator as it is written; never a star form, since the star follows the version.
     fn from_str(symbol: &str) -> Result<Operator, OperatorParseError> {
-        let found = ALL.into_iter().find(|operator| !operator.is_star() && operator.symbol() == symbol);
-        found.ok_or_else(|| OperatorParseError::new(symbol))
+        // Each operator goes with `0.0`.
+        let found = calls::specifier(symbol, "0.0", str::parse::<VersionSpecifier>);
+        let found = found.map(|specifier| *specifier.expect("the library wrote this specifier").operator());
+        found.map_err(|_| OperatorParseError::new(symbol))
     }
 }
 

@@ -1,10 +1,8 @@
 //! Specifiers: an operator and a version.
 use crate::bytes;
 use crate::calls;
-use crate::{
-    Operator, RangeError, Segment, Version, VersionPattern, VersionSpecifierBuildError, VersionSpecifierParseError,
-    VersionSpecifiers,
-};
+use crate::range;
+use crate::{Operator, RangeError, Segment, Version, VersionPattern, VersionSpecifierBuildError, VersionSpecifierParseError};
 use std::fmt;
 use std::ops::Bound;
 use std::str::FromStr;
@@ -127,17 +125,17 @@ impl VersionSpecifier {
         matches!(self.operator, Equal | EqualStar | ExactEqual | TildeEqual | GreaterThan | GreaterThanEqual)
     }
 
-    /// The range of the specifier; see [`VersionSpecifiers::ranges`].
+    /// The range of the specifier; see [`VersionSpecifiers::ranges`](crate::VersionSpecifiers::ranges).
     ///
     /// # Errors
     ///
-    /// As [`VersionSpecifiers::ranges`].
+    /// As [`VersionSpecifiers::ranges`](crate::VersionSpecifiers::ranges).
     pub fn ranges(&self) -> Result<Vec<Segment>, RangeError> {
-        VersionSpecifiers::from(self.clone()).ranges()
+        self.with_list(range::of_list)
     }
 
     /// Calls `read` with the compiled bytes of a list of this specifier alone.
-    fn with_list<T>(&self, read: impl FnOnce(&[u8]) -> T) -> T {
+    pub(crate) fn with_list<T>(&self, read: impl FnOnce(&[u8]) -> T) -> T {
         match self.version.packed() {
             Some(packed) => read(&bytes::packed_member(self.operator, packed)),
             None => read(&bytes::list(std::slice::from_ref(self))),

@@ -42,6 +42,11 @@ impl VersionSpecifiers {
         VersionSpecifiers::from_arranged(members)
     }
 
+    /// The compiled bytes.
+    pub(crate) fn compiled(&self) -> &[u8] {
+        &self.compiled
+    }
+
     /// Whether each specifier contains the version.
     #[inline]
     pub fn contains(&self, version: &Version) -> bool {
@@ -63,7 +68,7 @@ impl VersionSpecifiers {
     ///
     /// [`RangeError::NumberAtMax`] where a bound would need a number above `u64::MAX`.
     pub fn ranges(&self) -> Result<Vec<Segment>, RangeError> {
-        calls::range_bounds(&self.compiled, range::read_segments).map_err(|_| RangeError::NumberAtMax)
+        range::of_list(&self.compiled)
     }
 
     /// The list that a sorted sequence of ranges of releases is: the outer bounds, and a specifier `!=` for a gap of one

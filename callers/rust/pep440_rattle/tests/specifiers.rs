@@ -1,6 +1,7 @@
 //! Specifiers and lists: PEP 440, "Version specifiers", and what this crate says of its calls.
 use pep440_rattle::{
-    Operator, RangeError, Version, VersionPattern, VersionPatternParseError, VersionSpecifier, VersionSpecifiers,
+    release_specifier_to_range, release_specifiers_to_ranges, Operator, RangeError, Version, VersionPattern,
+    VersionPatternParseError, VersionSpecifier, VersionSpecifiers,
 };
 use std::ops::Bound;
 
@@ -134,7 +135,40 @@ fn operators() {
     }
     assert_eq!((Operator::ExactEqual.negate(), Operator::TildeEqual.negate()), (Some(Operator::NotEqual), None));
     assert!(Operator::EqualStar.is_star() && !Operator::Equal.is_star());
-    assert!("=".parse::<Operator>().is_err() && "".parse::<Operator>().is_err());
+    for text in ["=", "", " ==", "==1", "==.*", "==\0", "é"] {
+        let wanted = format!("no such comparison operator {text:?}, must be one of ~= == != <= >= < > ===");
+        assert_eq!(text.parse::<Operator>().unwrap_err().to_string(), wanted);
+    }
+}
+
+/// Each string of one to three operator characters is an operator, or none with the same error, as in front of a version.
+#[test]
+fn operators_are_those_of_specifiers() {
+    let more = |strings: &[String]| -> Vec<String> {
+        strings.iter().flat_map(|string| ["<", ">", "=", "!", "~"].map(|letter| format!("{string}{letter}"))).collect()
+    };
+    let one = more(&[String::new()]);
+    let (two, three) = (more(&one), more(&more(&one)));
+    let mut found = Vec::new();
+    for symbol in [one, two, three].concat() {
+        match (symbol.parse::<Operator>(), format!("{symbol}1.0").parse::<VersionSpecifier>()) {
+            (Ok(operator), Ok(before)) => {
+                assert_eq!((operator.to_string(), operator), (symbol, *before.operator()));
+                found.push(operator);
+            }
+            (Err(alone), Err(before)) => assert_eq!(alone.to_string(), before.to_string()),
+            (alone, before) => panic!("{symbol}: {alone:?} {before:?}"),
+        }
+    }
+    found.sort();
+    use Operator::*;
+    assert_eq!(found, [Equal, ExactEqual, NotEqual, TildeEqual, LessThan, LessThanEqual, GreaterThan, GreaterThanEqual]);
+    for (operator, wildcard) in found.into_iter().map(|each| (each, "")).chain([(Equal, ".*"), (NotEqual, ".*")]) {
+        let text = format!("{operator}1.0{wildcard}");
+        let made = specifier(&text);
+        assert_eq!((made.to_string(), made.operator().to_string()), (text, operator.to_string()));
+        assert_eq!(made.operator().is_star(), !wildcard.is_empty());
+    }
 }
 
 #[test]
@@ -151,6 +185,33 @@ fn ranges() {
     assert_eq!(list("").ranges().unwrap(), [(Bound::Unbounded, Bound::Unbounded)]);
     assert_eq!(list(">1,<1").ranges().unwrap(), []);
     assert_eq!(list("==18446744073709551615.*").ranges(), Err(RangeError::NumberAtMax));
+}
+
+#[test]
+fn release_only_ranges() {
+    let of =
+        |text: &str| (release_specifiers_to_ranges(list(text)).unwrap(), release_specifier_to_range(specifier(text)).unwrap());
+    let above = vec![(Bound::Excluded(version("1.0")), Bound::Unbounded)];
+    assert_eq!(of(">1!1.0rc1.post2.dev3"), (above.clone(), above));
+    let compatible = vec![(Bound::Included(version("1.4.5")), Bound::Excluded(version("1.5")))];
+    assert_eq!(of("~=1.4.5a4"), (compatible.clone(), compatible));
+    let local = vec![(Bound::Included(version("1.0")), Bound::Included(version("1.0")))];
+    assert_eq!(of("===1.0+local"), (local.clone(), local));
+    let outside = vec![
+        (Bound::Unbounded, Bound::Excluded(version("1.2.3.4.5"))),
+        (Bound::Included(version("1.2.3.4.6")), Bound::Unbounded),
+    ];
+    assert_eq!(of("!=1.2.3.4.5.*"), (outside.clone(), outside));
+    assert_eq!(release_specifiers_to_ranges(list("")), Ok(vec![(Bound::Unbounded, Bound::Unbounded)]));
+    assert_eq!(release_specifiers_to_ranges(list(">1,<1")), Ok(vec![]));
+    let two = vec![
+        (Bound::Included(version("3.7")), Bound::Excluded(version("3.8"))),
+        (Bound::Included(version("3.9")), Bound::Excluded(version("4"))),
+    ];
+    assert_eq!(release_specifiers_to_ranges(list(">=3.7a1, !=3.8.*, <4")), Ok(two));
+    let above_all = "~=18446744073709551615.0";
+    assert_eq!(release_specifiers_to_ranges(list(above_all)), Err(RangeError::NumberAtMax));
+    assert_eq!(release_specifier_to_range(specifier(above_all)), Err(RangeError::NumberAtMax));
 }
 
 #[test]

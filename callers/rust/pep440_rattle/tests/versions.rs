@@ -1,5 +1,5 @@
 //! Versions: what PEP 440 says of spellings, order and parts, and what this crate says of its calls.
-use pep440_rattle::{LocalSegment, Prerelease, PrereleaseKind, Version, MIN_VERSION};
+use pep440_rattle::*;
 use std::cmp::Ordering;
 use std::collections::hash_map::DefaultHasher;
 use std::hash::{Hash, Hasher};
@@ -168,6 +168,30 @@ fn setters() {
     assert!(release.clone().with_min(Some(0)) < version("1.2.3.dev0") && release.with_min(Some(0)) > version("1.2.2.9"));
 }
 
+/// Pre-releases and local segments alone are written as in the normalized form of a version, and ordered as in versions.
+#[test]
+fn parts_alone() {
+    for kind in [PrereleaseKind::Alpha, PrereleaseKind::Beta, PrereleaseKind::Rc] {
+        for number in [0, 9, 10, 2_097_151, 2_097_152, u64::MAX] {
+            let pre = Prerelease { kind, number };
+            let whole = Version::new([1]).with_pre(Some(pre)).to_string();
+            assert_eq!(whole, format!("1{pre}"));
+            assert_eq!(whole, format!("1{kind}{number}"));
+        }
+    }
+    let string = |text: &str| LocalSegment::String(text.to_owned());
+    let segments =
+        [string("a"), string("ubuntu"), string("18446744073709551616"), LocalSegment::Number(0), LocalSegment::Number(10)];
+    for left in &segments {
+        for right in &segments {
+            let whole = Version::new([1]).with_local(vec![left.clone(), right.clone()]);
+            assert_eq!(whole.to_string(), format!("1+{left}.{right}"));
+            let alone = |segment: &LocalSegment| Version::new([1]).with_local(vec![segment.clone()]);
+            assert_eq!(left.cmp(right), alone(left).cmp(&alone(right)));
+        }
+    }
+}
+
 /// Local strings that no parsed version has.
 #[test]
 fn strings_with_zero_bytes() {
@@ -220,7 +244,24 @@ fn long_versions() {
 #[test]
 fn size_and_threads() {
     fn is_shared<T: Send + Sync + Clone + 'static>() {}
-    is_shared::<Version>();
+    let _: [fn(); 16] = [
+        is_shared::<Version>,
+        is_shared::<VersionPattern>,
+        is_shared::<VersionSpecifier>,
+        is_shared::<VersionSpecifiers>,
+        is_shared::<Operator>,
+        is_shared::<Prerelease>,
+        is_shared::<PrereleaseKind>,
+        is_shared::<LocalSegment>,
+        is_shared::<Segment>,
+        is_shared::<VersionParseError>,
+        is_shared::<VersionPatternParseError>,
+        is_shared::<OperatorParseError>,
+        is_shared::<VersionSpecifierParseError>,
+        is_shared::<VersionSpecifierBuildError>,
+        is_shared::<VersionSpecifiersParseError>,
+        is_shared::<RangeError>,
+    ];
     assert_eq!((size_of::<Version>(), size_of::<Option<Version>>()), (48, 48));
     let shared = version("1!2.0+local");
     let tasks: Vec<_> = (0..4)

@@ -1,0 +1,90 @@
+//! The release-only range of a list as bounds.
+ghost use Rattle.pep440_rs.specs.Bounds.{release_range_of};
+ghost use Rattle.pep440_c.specs.Compiled.{CompiledLacksRange, CompiledRange, DenotesNoList};
+ghost use Rattle.pep440_c.specs.Intervals.{HasRange, LacksRange};
+ghost use Rattle.pep440_c.specs.Joined.{PutsJoined};
+ghost use Rattle.pep440_c.specs.Meaning.{RefusesListBytes};
+ghost use Rattle.pep440_c.specs.ReleaseRangeBounds.{CompiledReleaseBounds, TellsReleaseBounds};
+ghost use Rattle.pep440_c.specs.Statuses.{Gives, GivesCompiled, PutsCompiledJoined};
+
+use crate::buffer::put_joined;
+use crate::joined::Joined;
+use crate::range_bounds::join_bounds;
+use crate::texts;
+use crate::texts::Fault;
+use pep440_ranges::Ranges;
+use pep440_rs::{RangeError, Version, release_specifiers_to_ranges};
+use std::alloc::Global;
+
+/// Writes the range of the list by releases alone (PEP 440, "Final releases"), as `pep440_range_bounds` writes that by the whole
+/// order. Status 5 where a bound would need a number above the greatest.
+#[unsafe(no_mangle)]
+pub extern "C" fn pep440_release_range_bounds(
+    alloc: Global,
+    list: &[u8],
+    out: &mut [u8],
+    ends: &mut [usize],
+    written: &mut usize,
+    count: &mut usize,
+) -> u8
+    ensures { PutsJoined ⊥ (RefusesListBytes list.now) (LacksRange release_range_of list.now) (TellsReleaseBounds list.now) out.old out.new ends.old ends.new written.old written.new count.old count.new result }
+{
+    put_joined(to_bounds(alloc, list), out, ends, written, count)
+}
+
+/// The same of a compiled list. Status 6 where the bytes denote none.
+#[unsafe(no_mangle)]
+pub extern "C" fn pep440_release_range_bounds_compiled(
+    alloc: Global,
+    list: &[u8],
+    out: &mut [u8],
+    ends: &mut [usize],
+    written: &mut usize,
+    count: &mut usize,
+) -> u8
+    ensures { PutsCompiledJoined (DenotesNoList list.now) (CompiledLacksRange release_range_of list.now) (CompiledReleaseBounds list.now) out.old out.new ends.old ends.new written.old written.new count.old count.new result }
+{
+    put_joined(
+        to_bounds_of_compiled(alloc, list),
+        out,
+        ends,
+        written,
+        count,
+    )
+}
+
+fn to_range(alloc: Global, list: &[u8]) -> Result<Ranges<Version>, Fault>
+    ensures { Gives ⊥ (RefusesListBytes list.now) (LacksRange release_range_of list.now) (HasRange release_range_of list.now) result }
+{
+    let specifiers = texts::read_list(alloc, list)?;
+    match release_specifiers_to_ranges(alloc, specifiers) {
+        Ok(range) => Ok(range),
+        Err(RangeError::NumberAtMax) => Err(Fault::NumberAtMax),
+        Err(RangeError::OutOfMemory) => Err(Fault::OutOfMemory),
+    }
+}
+
+fn to_range_of_compiled(alloc: Global, list: &[u8]) -> Result<Ranges<Version>, Fault>
+    ensures { GivesCompiled (DenotesNoList list.now) (CompiledLacksRange release_range_of list.now) (CompiledRange release_range_of list.now) result }
+{
+    let members = pep440_compiled::read_list(alloc, list)?;
+    match release_specifiers_to_ranges(alloc, members) {
+        Ok(range) => Ok(range),
+        Err(RangeError::NumberAtMax) => Err(Fault::NumberAtMax),
+        Err(RangeError::OutOfMemory) => Err(Fault::OutOfMemory),
+    }
+}
+
+fn to_bounds(alloc: Global, list: &[u8]) -> Result<Joined, Fault>
+    ensures { Gives ⊥ (RefusesListBytes list.now) (LacksRange release_range_of list.now) (λ found. TellsReleaseBounds list.now found.bytes.items found.ends.items) result }
+{
+    let range = to_range(alloc, list)?;
+    Ok(join_bounds(alloc, &range)?)
+}
+
+fn to_bounds_of_compiled(alloc: Global, list: &[u8]) -> Result<Joined, Fault>
+    ensures { GivesCompiled (DenotesNoList list.now) (CompiledLacksRange release_range_of list.now) (λ found. CompiledReleaseBounds list.now found.bytes.items found.ends.items) result }
+{
+    let range = to_range_of_compiled(alloc, list)?;
+    Ok(join_bounds(alloc, &range)?)
+}

@@ -1,0 +1,108 @@
+//! The bounds of a release-only range, of a string and of a compiled list: each kind, each status, and each allocation failing in turn.
+use crate::release_range_bounds::{
+    pep440_release_range_bounds, pep440_release_range_bounds_compiled,
+};
+use std::alloc::Global;
+use std::test::Fail;
+
+// The compiled form of `>=1.0,<2.0`, and its bounds: from `1.0` on, and below `2.0`.
+const HALF_OPEN: &[u8] = &[
+    3, 0, 0, 0, 0, 0, 0, 0, 2, 9, 1, 2, 0, 1, 0, 0, 0, 0xa0, 0, 0, 6, 1, 2, 0, 2, 0, 0, 0, 0xa0, 0,
+    0,
+];
+
+const HALF_OPEN_BOUNDS: &[u8] = &[
+    1, 1, 2, 0, 1, 0, 0, 0, 0xa0, 0, 0, 2, 1, 2, 0, 2, 0, 0, 0, 0xa0, 0, 0,
+];
+
+// The same of `>1.0rc1`: above `1.0`.
+const ABOVE: &[u8] = &[
+    3, 0, 0, 0, 0, 0, 0, 0, 1, 8, 1, 2, 0, 1, 0, 0, 0, 0x80, 0, 1,
+];
+
+const ABOVE_BOUNDS: &[u8] = &[2, 1, 2, 0, 1, 0, 0, 0, 0xa0, 0, 0, 0];
+
+// The same of `===1+7`, which is not packed: `1` alone, without its local part.
+const EXACT: &[u8] = &[
+    3, 0, 0, 0, 0, 0, 0, 0, 1, 2, 2, 0, 0, 0, 0, 0, 0, 0, 0, 0, 0, 0, 0, 0, 0, 0, 1, 0, 0, 0, 0, 0,
+    0, 0, 1, 0, 0, 0, 0, 0, 0, 0, 0, 0, 0, 0, 0, 1, 2, 0, 0, 0, 0, 0, 0, 0, 7,
+];
+
+const EXACT_BOUNDS: &[u8] = &[
+    1, 1, 1, 0, 1, 0, 0, 0, 0xa0, 0, 0, 1, 1, 1, 0, 1, 0, 0, 0, 0xa0, 0, 0,
+];
+
+// From `1.4.5` on, and below `1.5`.
+const COMPATIBLE_BOUNDS: &[u8] = &[
+    1, 1, 3, 0, 1, 4, 5, 0, 0xa0, 0, 0, 2, 1, 2, 0, 1, 5, 0, 0, 0xa0, 0, 0,
+];
+
+// `>1.0,<1.0`, and `==18446744073709551615.*`, above which no bound lies.
+const NOTHING: &[u8] = &[
+    3, 0, 0, 0, 0, 0, 0, 0, 2, 8, 1, 2, 0, 1, 0, 0, 0, 0xa0, 0, 0, 6, 1, 2, 0, 1, 0, 0, 0, 0xa0, 0,
+    0,
+];
+
+const AT_MAX: &[u8] = &[
+    3, 0, 0, 0, 0, 0, 0, 0, 1, 1, 2, 0, 0, 0, 0, 0, 0, 0, 0, 0, 0, 0, 0, 0, 0, 0, 1, 255, 255, 255,
+    255, 255, 255, 255, 255, 0, 0, 0, 0, 0, 0, 0, 0, 0, 0, 0, 0, 0,
+];
+
+// What a call writes.
+#[derive(Drop)]
+struct Bounds {
+    out: [u8; 48],
+    ends: [usize; 4],
+    written: usize,
+    count: usize,
+}
+
+fn ask_bounds(alloc: Global, is_compiled: bool, list: &[u8], bounds: &mut Bounds) -> u8 {
+    let (out, ends) = (&mut bounds.out, &mut bounds.ends);
+    let (written, count) = (&mut bounds.written, &mut bounds.count);
+    if is_compiled {
+        pep440_release_range_bounds_compiled(alloc, list, out, ends, written, count)
+    } else {
+        pep440_release_range_bounds(alloc, list, out, ends, written, count)
+    }
+}
+
+#[test]
+fn sweep_release_range_bounds(rt: HostRuntime) -> Result<(), Fail> {
+    for (is_compiled, list, want_status, want, want_ends) in [
+        (
+            false,
+            b">=1.0,<2.0".as_slice(),
+            0,
+            HALF_OPEN_BOUNDS,
+            [11, 22, 99, 99],
+        ),
+        (true, HALF_OPEN, 0, HALF_OPEN_BOUNDS, [11, 22, 99, 99]),
+        (false, b">1.0rc1", 0, ABOVE_BOUNDS, [11, 12, 99, 99]),
+        (true, ABOVE, 0, ABOVE_BOUNDS, [11, 12, 99, 99]),
+        (true, EXACT, 0, EXACT_BOUNDS, [11, 22, 99, 99]),
+        (false, b"~=1.4.5a4", 0, COMPATIBLE_BOUNDS, [11, 22, 99, 99]),
+        (false, b"", 0, &[0, 0], [1, 2, 99, 99]),
+        (true, NOTHING, 0, b"", [99; 4]),
+        (false, b"!=1,!=3", 4, b"", [99; 4]),
+        (false, b"=1.0", 2, b"", [99; 4]),
+        (true, b">1.0", 6, b"", [99; 4]),
+        (false, b"==18446744073709551615.*", 5, b"", [99; 4]),
+        (true, AT_MAX, 5, b"", [99; 4]),
+    ] {
+        let mut bounds = Bounds {
+            out: [9; 48],
+            ends: [99; 4],
+            written: 98,
+            count: 97,
+        };
+        let mut status = ask_bounds(rt.alloc(), is_compiled, list, &mut bounds);
+        if status == 3 {
+            assert!(rt; bounds.out == [9; 48] && bounds.ends == [99; 4] && bounds.written == 98);
+            status = ask_bounds(rt.alloc(), is_compiled, list, &mut bounds);
+        }
+        assert!(rt; status == want_status && &bounds.out[..want.len()] == want);
+        assert!(rt; bounds.out[want.len()] == 9 && bounds.ends == want_ends);
+    }
+    Ok(())
+}
