@@ -30,10 +30,10 @@ static int is_compiled(const Specifiers *self)
     return self->compiled != NULL;
 }
 
-/* Takes what a string was made into. It owns the references and the bytes from then on, and drops what was there before. */
+/* Takes what a string was made into: the references, and a copy of the bytes, which are not its own. Drops what was there before. */
 static int take(Specifiers *self, PyObject *text, PyObject *members, PyObject *said, const uint8_t *bytes, size_t length)
 {
-    uint8_t few[sizeof self->few], *kept = keep(bytes, length, few, sizeof few), *old_block = self->compiled == self->few ? NULL : self->compiled;
+    uint8_t *old_block = self->compiled == self->few ? NULL : self->compiled, *kept = keep(bytes, length, self->few, sizeof self->few);
     PyObject *old[] = {self->text, self->members, self->canonical, self->said};
     if (!kept) {
         Py_XDECREF(text);
@@ -41,9 +41,7 @@ static int take(Specifiers *self, PyObject *text, PyObject *members, PyObject *s
         PyErr_NoMemory();
         return -1;
     }
-    if (kept == few)
-        memcpy(self->few, few, length);
-    self->compiled = kept == few ? self->few : kept;
+    self->compiled = kept;
     self->length = length;
     self->text = text, self->members = members, self->canonical = NULL, self->said = Py_NewRef(said);
     self->asked_at = -1, self->allows = -1, self->changed = -1;
@@ -161,7 +159,7 @@ static uint8_t compile_specifier(pep440_string text, Compiled *compiled)
     size_t width = operator_width(text.bytes), place = 0;
     pep440_string version = {text.bytes + width, text.length - width};
     uint8_t status;
-    while (OPERATORS[place].bytes[0] && (OPERATORS[place].bytes[0] != text.bytes[0] || strlen(OPERATORS[place].bytes) != width))
+    while (OPERATORS[place].bytes[0] && (OPERATORS[place].bytes[0] != text.bytes[0] || (OPERATORS[place].bytes[1] ? 2 : 1) != width))
         place++;
     if (!OPERATORS[place].bytes[0] || text.bytes[text.length - 1] == '*')
         return compile(pep440_compile_list, text, 0, compiled);

@@ -7,7 +7,7 @@ static int held_init(Held *self, PyObject *args, PyObject *named)
     PyObject *given = NULL, *text = NULL, *old[4];
     pep440_string string;
     Compiled compiled;
-    uint8_t few[sizeof self->few], *kept, *old_block, status;
+    uint8_t *kept, *old_block, status;
     if (!named && PyTuple_Size(args) == 1)
         given = PyTuple_GetItem(args, 0);
     else if (!PyArg_ParseTupleAndKeywords(args, named, "O:Version", names, &given))
@@ -24,7 +24,8 @@ static int held_init(Held *self, PyObject *args, PyObject *named)
         return -1;
     }
     text = PyUnicode_FromObject(given); /* of a subclass of str the plain str */
-    kept = text ? keep(compiled.bytes, compiled.length, few, sizeof few) : NULL;
+    old_block = self->compiled == self->few ? NULL : self->compiled;
+    kept = text ? keep(compiled.bytes, compiled.length, self->few, sizeof self->few) : NULL;
     drop_compiled(&compiled);
     if (!kept) {
         if (text)
@@ -33,10 +34,7 @@ static int held_init(Held *self, PyObject *args, PyObject *named)
         return -1;
     }
     old[0] = self->text, old[1] = self->key, old[2] = self->parts, old[3] = self->prints;
-    old_block = self->compiled == self->few ? NULL : self->compiled;
-    if (kept == few)
-        memcpy(self->few, few, compiled.length);
-    self->compiled = kept == few ? self->few : kept;
+    self->compiled = kept;
     self->length = compiled.length;
     self->is_packed = self->compiled[0] == PACKED;
     self->word = self->is_packed ? word_of(self->compiled) : 0;
@@ -84,10 +82,10 @@ static PyObject *held_compare(PyObject *left, PyObject *right, int operation)
     Held *one = (Held *)left, *other = (Held *)right; /* the left one is a version, since its type has this call */
     if (Py_TYPE(right) != Py_TYPE(left) && !PyObject_TypeCheck(right, HeldType))
         Py_RETURN_NOTIMPLEMENTED;
+    if (one->is_packed && other->is_packed) /* and so both are initialised */
+        Py_RETURN_RICHCOMPARE(one->word, other->word, operation);
     if (!is_initialised(one) || !is_initialised(other))
         return NULL;
-    if (one->is_packed && other->is_packed)
-        Py_RETURN_RICHCOMPARE(one->word, other->word, operation);
     if (!key_of(one) || !key_of(other))
         return NULL;
     return PyObject_RichCompare(one->key, other->key, operation);

@@ -1,5 +1,9 @@
-"""The README's table of departures from `packaging`, a test for each line but the last, by its name."""
+"""The README's table of departures from `packaging`: a test for each row, by its name, and none for what is no row."""
 import copy
+import os
+import re
+import subprocess
+import sys
 import unittest
 
 import peer
@@ -7,6 +11,36 @@ import pep440_rattle.version
 from pep440_rattle import InvalidSpecifier, InvalidVersion, Specifier, SpecifierSet, Version
 
 MOST = 2**64 - 1
+README = os.path.join(os.path.dirname(os.path.dirname(os.path.abspath(__file__))), "README.md")
+
+
+# Imports the package in a second interpreter, of the kind that is given, and where `both` is given in the main one before; fails as the import does.
+SECOND = """
+import sys
+if "both" in sys.argv:
+    import pep440_rattle
+try:
+    import _interpreters as them
+    second = them.create("isolated" if "isolated" in sys.argv else "legacy")
+except ImportError:
+    import _xxsubinterpreters as them
+    second = them.create(isolated="isolated" in sys.argv)
+failure = them.run_string(second, f"import sys; sys.path[:] = {sys.path!r}; import pep440_rattle")
+sys.exit(failure and failure.formatted)
+"""
+
+
+def errors_of(program, *words):
+    return subprocess.run([sys.executable, "-c", program, *words], capture_output=True, text=True, check=False).stderr
+
+
+class Table(unittest.TestCase):
+    def test_rows(self):
+        with open(README, encoding="utf-8") as page:
+            table = page.read().partition("## Departures from")[2].partition("\n## ")[0]
+        rows = re.findall(r"^\| (\w[\w ]*) \|.*\|$", table, re.M)[1:]
+        tests = [name.removeprefix("test_").replace("_", " ") for name in vars(Departures) if name.startswith("test_")]
+        self.assertEqual(sorted(tests), sorted(rows))
 
 
 class Departures(unittest.TestCase):
@@ -28,8 +62,10 @@ class Departures(unittest.TestCase):
         for text in ("1.0\v", "\x1c1.0", "1.0\x85"):
             with self.assertRaises(InvalidVersion):
                 Version(text)
-        # around a specifier they go, by Python's rules
-        self.assertEqual(Specifier("\v\u00a0>=1.0\x1f"), Specifier(">=1.0"))
+        # around a specifier they go, by Python's rules, and behind its operator by those of Unicode
+        self.assertEqual(Specifier("\v\u00a0>=\v\u00a01.0\x1f"), Specifier(">=1.0"))
+        with self.assertRaises(InvalidSpecifier):
+            Specifier(">=\x1c1.0")
 
     def test_arbitrary_equality(self):
         for text in ("===foobar", "===1.0.*", "==="):
@@ -47,7 +83,7 @@ class Departures(unittest.TestCase):
         self.assertTrue(SpecifierSet(">1.0a1").contains("1.0+x"))
         self.assertFalse(SpecifierSet(">1.0.post1").contains("1.0.post1+x"))
 
-    def test_filter_reads_all(self):
+    def test_filter(self):
         read = []
         kept = SpecifierSet(">=1.0").filter(read.append(it) or it for it in ("1.0", "2.0"))
         self.assertEqual(read, ["1.0", "2.0"])
@@ -92,13 +128,23 @@ class Departures(unittest.TestCase):
                 call()
         self.assertFalse(issubclass(InvalidVersion, theirs.InvalidVersion) or issubclass(theirs.InvalidVersion, InvalidVersion))
 
-    def test_refusals_have_reasons(self):
+    def test_refusals(self):
         with self.assertRaises(InvalidVersion) as caught:
             Version("x")
         self.assertRegex(str(caught.exception), r"^Invalid version: 'x': .+")
         with self.assertRaises(InvalidSpecifier) as caught:
             Specifier(">x")
         self.assertRegex(str(caught.exception), r"^Invalid specifier: '>x'\n.+")
+
+    def test_one_interpreter(self):
+        ours = "ImportError.*: pep440_rattle can be imported in the main interpreter alone"
+        # from 3.12 on Python itself says so of an isolated one
+        theirs = "ImportError.*: module pep440_rattle._core does not support loading in subinterpreters"
+        for words in (["legacy"], ["legacy", "both"], ["isolated"], ["isolated", "both"]):
+            with self.subTest(words=words):
+                self.assertRegex(errors_of(SECOND, *words), theirs if sys.version_info >= (3, 12) and "isolated" in words else ours)
+        said = errors_of("import sys; sys.abiflags = 't'; import pep440_rattle")
+        self.assertIn("ImportError: pep440_rattle needs a Python with its global lock", said)
 
 
 if __name__ == "__main__":

@@ -1,11 +1,15 @@
-"""Worked rows, from PEP 440 and from the documentation of `packaging`, and the examples of the docstrings."""
+"""Worked rows, from PEP 440 and from the documentation of `packaging`, and the examples of the docstrings and of the README."""
+import ast
 import doctest
 import importlib
+import os
 import random
+import re
 import sqlite3
 import unittest
 
 import peer
+from peer import MOST
 from pep440_rattle import _core
 from pep440_rattle import Bound, InvalidSpecifier, InvalidVersion, Specifier, SpecifierSet, Version, filter_texts, parse, sort_keys, sort_texts
 
@@ -144,7 +148,8 @@ class Specifiers(unittest.TestCase):
         self.assertEqual(SpecifierSet("<2.0").ranges()[0][1], Bound(Version("2.0"), False, "min0"))
 
     def test_compiled_forms(self):
-        # a specifier whose version alone was compiled has the bytes that the library makes of it as a list, and the same ones are refused
+        # a specifier whose version alone was compiled has the bytes that the library makes of it as a list, and the same ones are refused;
+        # the regular expression, by which other modules of `packaging` read requirements, takes these specifiers and no other
         def compiled(call, text):
             try:
                 return call(text)
@@ -154,6 +159,7 @@ class Specifiers(unittest.TestCase):
         random.seed(440)
         texts = [peer.some_piece() for _ in range(20_000)] + [f"{operator}{version}" for operator in peer.OPERATORS for version in PRINTS]
         texts += [operator + blanks + "1!1.0+u" + blanks for operator in peer.OPERATORS for blanks in " \t\n\f\r\v\x1c\u00a0"]
+        texts += [f">={front}{number}{end}" for front in ("", "1.0rc", "1.0-", "1!0.") for number in (f"0{MOST}", MOST + 1, 2 * MOST) for end in ("", ".dev1", ".dev00")]
         texts += [f"{operator}1{release}{suffix}" for operator in peer.OPERATORS for release in ("", ".0", ".1.2.3.4.5") for suffix in ("", "+u", ".*", "a1.dev2")]
         kinds = {None: 0, True: 0}
         for text in texts:
@@ -161,6 +167,7 @@ class Specifiers(unittest.TestCase):
                 continue
             of_list = compiled(_core.compile_list, text.strip())
             self.assertEqual(compiled(lambda it: Specifier(it)._compiled, text), of_list, repr(text))
+            self.assertEqual(bool(Specifier._regex.match(text)), of_list is not None, repr(text))
             kinds[of_list and True] += 1
             if of_list:
                 self.assertEqual(SpecifierSet(f"{text}, >=0.1, <7")._compiled, _core.compile_list(f"{text.strip()}, >=0.1, <7"), repr(text))
@@ -172,6 +179,30 @@ class Specifiers(unittest.TestCase):
         self.assertEqual(len(several & ">=1.0.0"), 2)
         with self.assertRaises(ValueError):
             SpecifierSet(">=1", prereleases=True) & SpecifierSet("<2", prereleases=False)
+
+
+class Page(unittest.TestCase):
+    def test_examples(self):
+        # what a comment behind an expression shows, unless it is a sentence, is its value or the exception
+        folder = os.path.dirname(os.path.dirname(os.path.abspath(__file__)))
+        with open(os.path.join(folder, "README.md"), encoding="utf-8") as page:
+            code = "".join(re.findall(r"^```python\n(.*?)^```$", page.read(), re.M | re.S))
+        names, lines, shown = {}, code.splitlines(), 0
+        for statement in ast.parse(code).body:
+            text, wanted = ast.get_source_segment(code, statement), lines[statement.end_lineno - 1].partition("  # ")[2]
+            with self.subTest(statement=text):
+                if not isinstance(statement, ast.Expr):
+                    exec(text, names)
+                elif wanted.startswith("Invalid"):
+                    with self.assertRaises(ValueError) as caught:
+                        eval(text, names)
+                    self.assertEqual(f"{type(caught.exception).__name__}: {caught.exception}"[: len(wanted) - 3], wanted.removesuffix(" .."))
+                elif not re.match("[a-z]", wanted or "a"):
+                    self.assertEqual(repr(eval(text, names)), wanted)
+                else:
+                    eval(text, names)
+            shown += bool(wanted)
+        self.assertGreater(shown, 8)
 
 
 if __name__ == "__main__":

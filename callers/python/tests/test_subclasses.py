@@ -231,30 +231,11 @@ class Specifiers(unittest.TestCase):
         self.assertTrue(Named(">=1.0").contains("1.0"))
 
 
-class Interpreters(unittest.TestCase):
-    def fails(self, program):
-        ran = subprocess.run([sys.executable, "-c", program], capture_output=True, text=True, check=False)
-        self.assertEqual(ran.returncode, 1, ran.stderr)
-        return ran.stderr
-
-    @unittest.skipUnless(sys.version_info[:2] in ((3, 10), (3, 11), (3, 12)), "a second interpreter by _xxsubinterpreters")
-    def test_a_second_interpreter(self):
-        said = self.fails("import sys, _xxsubinterpreters as it; it.run_string(it.create(), f'import sys; sys.path[:] = {sys.path!r}; import pep440_rattle')")
-        # from 3.12 on Python itself says so
-        reason = "ImportError.*(can be imported in the main interpreter alone|does not support loading in subinterpreters)"
-        self.assertRegex(said, reason)
-        both = "import pep440_rattle, sys, _xxsubinterpreters as it; it.run_string(it.create(), f'import sys; sys.path[:] = {sys.path!r}; import pep440_rattle')"
-        self.assertRegex(self.fails(both), reason)
-
-    def test_without_the_global_lock(self):
-        self.assertIn("needs a Python with its global lock", self.fails("import sys; sys.abiflags = 't'; import pep440_rattle"))
-
+class Names(unittest.TestCase):
     def test_imported_anew(self):
         again = "import sys, pep440_rattle as it; one = it.Version('1'); [sys.modules.pop(each) for each in list(sys.modules) if each.startswith('pep440')]"
         subprocess.run([sys.executable, "-c", again + "; import pep440_rattle; assert pep440_rattle.Version('1') == one"], check=True)
 
-
-class Names(unittest.TestCase):
     def test_public_names(self):
         for module in (pep440_rattle.version, pep440_rattle.specifiers):
             own = {name for name, it in vars(module).items() if getattr(it, "__module__", "").startswith("pep440_rattle") and name[0] != "_"}

@@ -1,10 +1,13 @@
 """The other modules of `packaging` over these two, beside themselves over their own, in processes of their own; and programs of others."""
+import collections
 import json
 import os
+import shutil
 import subprocess
 import sys
 import tempfile
 import unittest
+import zipfile
 
 import peer
 
@@ -26,7 +29,7 @@ REQUIREMENTS = [
     "name", "name>=1.0", "name >=1.0,<2.0,!=1.5.*", "name[a,b]~=1.4.2 ; python_version < '3.8'", "name (>=1.0)", "name(==1.0.*)", "name===foo.bar",
     "name===1.0-alpha", "name @ https://x.y/z.whl", "name>=1.0.*", "name>=", "name=1.0", "name>=1.0+local", "name==1.0+local", "name~=1", "name<1.0,",
     "name>=1.0;extra == 'x'", "name>=1.0 ; python_full_version >= '3.7.0b1' and os_name == 'posix'", "name!=v1.0-Beta.2", "name>1!2.0.post1.dev3",
-    "name<2.0 or >3", "name>=1.0 python", "name; python_version ~= '3.8'", "name==1.0.dev4+a.1", "name>= 1 , < 2", "-name", "name>=1.0.0.0-r4", "name>=1.0_",
+    "name>=18446744073709551616", "name<2.0 or >3", "name>=1.0 python", "name; python_version ~= '3.8'", "name==1.0.dev4+a.1", "name>= 1 , < 2", "-name", "name>=1.0.0.0-r4", "name>=1.0_",
 ]
 MARKERS = [
     "python_version >= '2.7'", "python_version > '3.100'", "python_full_version < '4.0a1'", "platform_release >= '1.0'", "implementation_version == '3.*'",
@@ -68,33 +71,83 @@ if metadata:
 print(json.dumps(said))
 """
 
+# Requirements that only `packaging` takes, by the row of the README's table.
+REFUSED = {"name===foo.bar": "arbitrary equality", "name>=18446744073709551616": "big numbers"}
+
 # Programs of others, by the module that runs them and their words; each is run over a project of its own.
+OF_WHEELS = ["pip", "download", "--no-index", "--find-links", ".", "--dest", "out"]
 PROGRAMS = [
     ("hatchling", ["hatchling", "version"]),
     ("hatchling", ["hatchling", "version", "minor"]),
     ("hatchling", ["hatchling", "version", "rc"]),
+    ("hatchling", ["hatchling", "build", "--target", "wheel"]),
     ("setuptools_scm", ["setuptools_scm"]),
-    ("build", ["build", "--version"]),
+    ("build", ["build", "--wheel", "--no-isolation"]),
     ("pip", ["pip", "check"]),
     ("pip", ["pip", "list"]),
-    ("pip", ["pip", "install", "--dry-run", "--no-index", "nothing>=1.0rc1,<2"]),
-    ("pip", ["pip", "install", "--dry-run", "--no-index", "nothing>=18446744073709551616"]),
-    ("tox", ["tox", "--version"]),
-    ("nox", ["nox", "--version"]),
+    ("pip", [*OF_WHEELS, "nothing>=1.0rc1,<2"]),
+    ("pip", [*OF_WHEELS, "thing"]),
+    ("pip", [*OF_WHEELS, "--pre", "thing>=1"]),
+    ("pip", [*OF_WHEELS, "thing!=1.0,>=0.1"]),
+    ("pip", [*OF_WHEELS, "thing==1.0", "other<1"]),
+    ("pip", [*OF_WHEELS, "thing=1.0"]),
+    ("tox", ["tox", "-l"]),
+    ("nox", ["nox", "-l"]),
     ("poetry", ["poetry", "check"]),
+    ("poetry", ["poetry", "version", "minor"]),
 ]
 PROJECT = """[build-system]
-requires = ["hatchling"]
+requires = ["hatchling>=1.0,<99"]
 build-backend = "hatchling.build"
 
 [project]
 name = "thing"
 dynamic = ["version"]
+requires-python = ">=3.7,!=3.8.*"
 dependencies = ["other>=1.0,<2"]
 
 [tool.hatch.version]
 path = "thing.py"
+
+[tool.setuptools_scm]
+
+[tool.poetry]
+name = "thing"
+version = "1.2.3rc1"
+description = ""
+authors = []
+
+[tool.poetry.dependencies]
+python = "^3.7"
+other = ">=1.0,<2"
 """
+FILES = {
+    "pyproject.toml": PROJECT,
+    "thing.py": '__version__ = "1.2.3rc1"\n',
+    "tox.ini": "[tox]\nminversion = 3.20\nrequires = tox >= 3.20, <99\nenvlist = one, two\n",
+    "noxfile.py": 'import nox\nnox.needs_version = ">=2020.1.1a1, <9999"\n@nox.session\ndef one(session): pass\n',
+}
+WHEELS = {"thing-0.1": "", "thing-1.0": "other>=1.0,<2", "thing-1.1rc1": "other~=1.4", "other-0.9": "", "other-1.5": "", "other-2.0": ""}
+COMMITS = ["init -q", "add .", "commit -q -m one", "tag v1.2.3rc1", "commit -q --allow-empty -m two"]
+
+
+def make_project(folder):
+    """Files, wheels, and where there is git two commits with a tag; always the same ones."""
+    shutil.rmtree(folder, ignore_errors=True)
+    os.mkdir(folder)
+    for name, text in FILES.items():
+        with open(os.path.join(folder, name), "w", encoding="utf-8") as it:
+            it.write(text)
+    for release, requirement in WHEELS.items():
+        name, _, version = release.partition("-")
+        head = ["Metadata-Version: 2.1", f"Name: {name}", f"Version: {version}", *([f"Requires-Dist: {requirement}"] if requirement else []), ""]
+        with zipfile.ZipFile(os.path.join(folder, f"{release}-py3-none-any.whl"), "w") as it:
+            it.writestr(f"{release}.dist-info/METADATA", "\n".join(head))
+            it.writestr(f"{release}.dist-info/WHEEL", "Wheel-Version: 1.0\nRoot-Is-Purelib: true\nTag: py3-none-any\n")
+            it.writestr(f"{release}.dist-info/RECORD", "")
+    environment = dict(os.environ, **{f"GIT_{who}_{what}": "2020-01-01T00:00:00Z" for who in ("AUTHOR", "COMMITTER") for what in ("NAME", "EMAIL", "DATE")})
+    for words in COMMITS if shutil.which("git") else []:
+        subprocess.run(["git", *words.split()], cwd=folder, env=environment, check=True)
 
 
 def folder_of(module):
@@ -102,7 +155,8 @@ def folder_of(module):
 
 
 def run(words, folder=None):
-    environment = dict(os.environ, PYTHONPATH=os.pathsep.join(filter(None, sys.path)), PYTHONDONTWRITEBYTECODE="1")
+    path = [os.environ.get("PEP440_PACKAGING"), *sys.path]
+    environment = dict(os.environ, PYTHONPATH=os.pathsep.join(filter(None, path)), PYTHONDONTWRITEBYTECODE="1")
     ran = subprocess.run([sys.executable, *words], capture_output=True, text=True, check=False, cwd=folder, env=environment)
     return ran.returncode, ran.stdout, ran.stderr
 
@@ -118,11 +172,16 @@ class OtherModules(unittest.TestCase):
         folder = folder_of(sys.modules[theirs.__name__.rpartition(".")[0]])
         plain, swapped = self.answers("plain", folder), self.answers("swapped", folder)
         self.assertEqual((plain[0], swapped[0]), ("packaging.version", "pep440_rattle.version"))
+        refused = []
         for before, after in zip(plain[1:], swapped[1:], strict=True):
-            if "===foo.bar" in str(before):
-                continue  # `arbitrary equality`: a version alone is taken here
             with self.subTest(asked=before):
-                self.assertEqual(self.plainly(after), self.plainly(before))
+                if isinstance(before, list) and isinstance(before[0], str) and before[0] in REFUSED:
+                    self.assertEqual([it[1].startswith("InvalidRequirement: ") for it in (before, after)], [False, True], after)
+                    refused.append(before[0])
+                else:
+                    self.assertEqual(self.plainly(after), self.plainly(before))
+        self.assertEqual(set(refused), set(REFUSED))
+        print(f"\n{len(plain) - 1} questions to the other modules of {peer.load()[2]}, {len(refused)} left out as departures: {', '.join(REFUSED.values())}")
 
     @staticmethod
     def plainly(said):
@@ -132,22 +191,37 @@ class OtherModules(unittest.TestCase):
 
 class Programs(unittest.TestCase):
     def test_programs(self):
-        left_out = []
+        same, left_out = [], []
         for module, words in PROGRAMS:
             if run(["-c", f"import {module}.__main__"])[0] and run(["-c", f"import {module}"])[0]:
                 left_out.append(module)
                 continue
-            with self.subTest(words=words), tempfile.TemporaryDirectory() as folder:
+            with self.subTest(words=words), tempfile.TemporaryDirectory() as work:
+                folder = os.path.join(work, "project")
                 self.assertEqual(self.results(["-m", "pep440_rattle.swap", "-m", *words], folder), self.results(["-m", *words], folder))
-        print(f"\nnot installed, so left out: {', '.join(dict.fromkeys(left_out)) or 'none'}")
+                same.append(module)
+        told = ", ".join(f"{count} of {module}" for module, count in collections.Counter(same).items())
+        print(f"\nprograms with the same outputs: {told}; not installed, so left out: {', '.join(dict.fromkeys(left_out)) or 'none'}")
+
+    def test_requirements_that_pip_refuses(self):
+        """What only `packaging` takes ends in pip's own message; a pip whose copy is not replaced finds no such version."""
+        status, told, _ = run(["-c", peer.TOLD_BY_PIP])
+        if status:
+            self.skipTest("no pip here")
+        said = "Invalid requirement: " if peer.is_fit(told) else "Could not find a version that satisfies the requirement "
+        for text in ("nothing>=18446744073709551616", "nothing===foo.bar"):
+            with self.subTest(requirement=text):
+                status, _, errors = run(["-m", "pep440_rattle.swap", "-m", "pip", "download", "--no-index", text])
+                self.assertEqual((status, "Traceback" in errors, f"ERROR: {said}" in errors), (1, False, True), errors)
 
     def results(self, words, folder):
-        for name, text in {"pyproject.toml": PROJECT, "thing.py": '__version__ = "1.2.3rc1"\n'}.items():
-            with open(os.path.join(folder, name), "w", encoding="utf-8") as it:
-                it.write(text)
-        done = run(words, folder)
-        with open(os.path.join(folder, "thing.py"), encoding="utf-8") as it:
-            return done, it.read()
+        """What the program says, and what it leaves of the project's files."""
+        make_project(folder)
+        done, left = run(words, folder), []
+        for name in FILES:
+            with open(os.path.join(folder, name), encoding="utf-8") as it:
+                left.append(it.read())
+        return done, left
 
 
 class Swaps(unittest.TestCase):

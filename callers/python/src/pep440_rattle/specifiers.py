@@ -37,24 +37,31 @@ class Bound(NamedTuple):
         return f"{self.version}~{self.mark}" if self.mark else str(self.version)
 
 
-# What stands behind an operator, by PEP 440, Appendix B: behind `===` anything up to a white space, `;` or `)`; behind `==` and `!=` a version or
-# a release with a star; behind `~=` two numbers or more; a local part behind `==` and `!=` alone.
+# What stands behind an operator, by PEP 440, Appendix B: behind `==`, `!=` and `===` a version, behind the first two also a release with a star;
+# behind `~=` two numbers or more; a local part behind no other one. Letters are ASCII, and no number before a local part is too big.
+_MOST = str(2**64 - 1)
+_TOO_BIG = "|".join(["[1-9][0-9]{20}", *(f"{_MOST[:at]}[{int(it) + 1}-9][0-9]{{{19 - at}}}" for at, it in enumerate(_MOST) if it != "9")])
+_BLANKS = r"(?u: [^\S\x1c-\x1f]* )"
+_START = rf"{_BLANKS} v? (?: [0-9]+ ! )? [0-9]+"
 _SUFFIXES = r"""
     (?: [-_.]? (?: alpha | a | beta | b | preview | pre | c | rc ) [-_.]? [0-9]* )?
     (?: - [0-9]+ | [-_.]? (?: post | rev | r ) [-_.]? [0-9]* )?
     (?: [-_.]? dev [-_.]? [0-9]* )?
 """
+_LOCAL = r"(?: \+ [a-z0-9]+ (?: [-_.] [a-z0-9]+ )* )?"
 _VERSION_OF_OPERATOR = rf"""
-    (?P<version>
-        (?<= === ) \s* [^\s;)]*
-        |
-        (?<! === ) (?<= == | != ) \s* v? (?: [0-9]+ ! )? [0-9]+ (?: \. [0-9]+ )*
-        (?: \. \* | {_SUFFIXES} (?: \+ [a-z0-9]+ (?: [-_.] [a-z0-9]+ )* )? )
-        |
-        (?<= ~= ) \s* v? (?: [0-9]+ ! )? [0-9]+ (?: \. [0-9]+ )+ {_SUFFIXES}
-        |
-        (?<! == | != | ~= ) \s* v? (?: [0-9]+ ! )? [0-9]+ (?: \. [0-9]+ )* {_SUFFIXES}
-    )
+    (?P<version> (?a:
+        (?! {_BLANKS} [a-z0-9.!_-]*? (?<! [0-9] ) 0* (?: {_TOO_BIG} ) )
+        (?:
+            (?<= === ) {_START} (?: \. [0-9]+ )* {_SUFFIXES} {_LOCAL}
+            |
+            (?<! === ) (?<= == | != ) {_START} (?: \. [0-9]+ )* (?: \. \* | {_SUFFIXES} {_LOCAL} )
+            |
+            (?<= ~= ) {_START} (?: \. [0-9]+ )+ {_SUFFIXES}
+            |
+            (?<! == | != | ~= ) {_START} (?: \. [0-9]+ )* {_SUFFIXES}
+        )
+    ) )
 """
 
 

@@ -4,8 +4,8 @@
     python -m pep440_rattle.swap -m MODULE WORD..      a module
 
 Copies that a package carries along are replaced too: those of pip, of setuptools, and every other `packaging` below a folder `_vendor` or
-`extern`. The other modules of `packaging` stay what they are, and so do all of a release before 22, which has other classes besides. A file `sitecustomize.py` with the line
-`import pep440_rattle.swap; pep440_rattle.swap.swap()` does so for each program of an environment.
+`extern`. The other modules of `packaging` stay what they are, and so do all of a release before 22, which has other classes besides. A file
+`sitecustomize.py` with the line `import pep440_rattle.swap; pep440_rattle.swap.swap()` does so for each program of an environment.
 """
 from __future__ import annotations
 
