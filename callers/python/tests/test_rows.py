@@ -202,6 +202,7 @@ class Page(unittest.TestCase):
                 else:
                     eval(text, names)
             shown += bool(wanted)
+        names["table"].close()
         self.assertGreater(shown, 8)
 
 
