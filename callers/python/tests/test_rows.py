@@ -167,7 +167,7 @@ class Specifiers(unittest.TestCase):
                 continue
             of_list = compiled(_core.compile_list, text.strip())
             self.assertEqual(compiled(lambda it: Specifier(it)._compiled, text), of_list, repr(text))
-            self.assertEqual(bool(Specifier._regex.match(text)), of_list is not None, repr(text))
+            self.assertEqual(bool(Specifier._regex.search(text)), of_list is not None, repr(text))
             kinds[of_list and True] += 1
             if of_list:
                 self.assertEqual(SpecifierSet(f"{text}, >=0.1, <7")._compiled, _core.compile_list(f"{text.strip()}, >=0.1, <7"), repr(text))
@@ -202,6 +202,7 @@ class Page(unittest.TestCase):
                 else:
                     eval(text, names)
             shown += bool(wanted)
+        names["table"].close()
         self.assertGreater(shown, 8)
 
 

@@ -128,7 +128,7 @@ FILES = {
     "noxfile.py": 'import nox\nnox.needs_version = ">=2020.1.1a1, <9999"\n@nox.session\ndef one(session): pass\n',
 }
 WHEELS = {"thing-0.1": "", "thing-1.0": "other>=1.0,<2", "thing-1.1rc1": "other~=1.4", "other-0.9": "", "other-1.5": "", "other-2.0": ""}
-COMMITS = ["init -q", "add .", "commit -q -m one", "tag v1.2.3rc1", "commit -q --allow-empty -m two"]
+COMMITS = ["init -q", "add pyproject.toml thing.py", "commit -q -m one", "tag v1.2.3rc1", "commit -q --allow-empty -m two"]
 
 
 def make_project(folder):

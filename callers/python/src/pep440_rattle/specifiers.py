@@ -180,7 +180,7 @@ class Specifier(_core.HeldSpecifier, BaseSpecifier):
     # Regular expressions for other modules of `packaging` and for tools; nothing here uses them.
     _operator_regex_str = r"(?P<operator>~=|===?|!=|<=?|>=?)"
     _version_regex_str = _VERSION_OF_OPERATOR
-    _regex = re.compile(rf"\s*{_operator_regex_str}{_version_regex_str}\s*\Z", re.VERBOSE | re.IGNORECASE)
+    _regex = re.compile(rf"^\s*{_operator_regex_str}{_version_regex_str}\s*\Z", re.VERBOSE | re.IGNORECASE)
 
     def __init_subclass__(cls, **named: object) -> None:
         super().__init_subclass__(**named)
