@@ -242,8 +242,8 @@ int main(int count, char **words)
         some_bytes(&form);
         hold_bytes(&form);
     }
-    hold(rejected > RANDOM && printed > RANDOM && of_no_string > 0, "each answer is met");
-    printf("%zu answers: %zu rejected, %zu denote what they are printed as, %zu no string denotes; %d wrong\n", rejected + printed + of_no_string, rejected,
+    hold(rejected > RANDOM && printed > RANDOM && of_no_string > 0, "each result is met");
+    printf("%zu results: %zu rejected, %zu denote what they are printed as, %zu no string denotes; %d wrong\n", rejected + printed + of_no_string, rejected,
            printed, of_no_string, wrong);
     return wrong ? EXIT_FAILURE : EXIT_SUCCESS;
 }
