@@ -290,8 +290,7 @@ uint8_t pep440_cover_keys_compiled(const uint8_t *list, size_t length, uint8_t *
 enum { PEP440_NO_MATCH = 0, PEP440_MATCH = 1, PEP440_NOT_A_VERSION = 2, PEP440_PRERELEASE_MATCH = 3 };
 
 /* Writes a mark for each string, in order: whether the list contains its version, and whether this is then a pre-release or a developmental
-   release, or that it is no version. PEP440_NO_ROOM where `size` is
-   less than `count`; then nothing is written. */
+   release, or that it is no version. PEP440_NO_ROOM where `size` is less than `count`; then nothing is written. */
 uint8_t pep440_filter(const uint8_t *list, size_t list_length, const pep440_string *strings, size_t count, uint8_t *marks, size_t size);
 
 /* Writes the indices of the strings, from 0, in the order of their versions; equal ones in the order given. With PEP440_INVALID_VERSION

@@ -7,7 +7,6 @@ use Rattle.pep440_ranges.specs.Segments.{Segment}
 use Rattle.pep440_rs.specs.Bounds.{Segments}
 use Rattle.pep440_version.specs.Record.{Record}
 use Rattle.pep440_c.proofs.Joining.{pushed}
-use Rattle.pep440_c.specs.Joined.{Joins}
 use Rattle.pep440_c.specs.RangeBounds.{DenotesBound, JoinsBounds, bounds_of}
 
 -- the strings of two bounds more

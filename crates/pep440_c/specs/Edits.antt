@@ -1,5 +1,5 @@
 -- A version and changes of it: change words, as the command `edit` of the program takes them. Positions count from 0.
-use Rattle.std.specs.Prelude.{◌≡◌, ◌⊎◌, ◌+◌, ℕ, List, [], length, Option, Some, None, Result, Ok, Err, IsSomeAnd, slice_get, take}
+use Rattle.std.specs.Prelude.{◌≡◌, ◌⊎◌, ◌+◌, ℕ, List, [], length, Some, None, Result, Ok, Err, IsSomeAnd, slice_get, take}
 use Rattle.std.specs.List.{All, AllZip}
 use Rattle.std.specs.Str.{IsUtf8}
 use Rattle.pep440_change_words.specs.ChangeWords.{change_of}

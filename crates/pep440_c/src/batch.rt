@@ -10,7 +10,6 @@ ghost use Rattle.pep440_c.specs.declared.batch.BatchError.TheVariants.{OutOfMemo
 use crate::joined::Joined;
 use crate::texts::{Fault, read, read_list};
 use pep440_rs::{Version, VersionSpecifiers};
-use pep440_sort_key::sort_key;
 use std::alloc::{AllocError, AllocFailed, Global};
 use std::cmp::Ordering;
 
@@ -158,7 +157,7 @@ pub(crate) fn sort_keys(alloc: Global, texts: &[&[u8]]) -> Result<Joined, BatchE
     let mut keys = Joined::with_capacity(alloc, texts.len())?;
     for (position, text) in texts.iter().enumerate() {
         match read(alloc, text) {
-            Ok(version) => keys.push(sort_key(alloc, &version)?.as_slice())?,
+            Ok(version) => keys.push_key(&version)?,
             Err(fault) => return Err(BatchError::from_fault(position, fault)),
         }
     }

@@ -19,7 +19,7 @@ use crate::buffer::{OK, flag, put, put_and_count, put_bytes, put_joined, put_tex
 use crate::{
     Parts, compiled_batch, compiled_forms, compiled_intervals, order_number, texts, version_parts,
 };
-use pep440_compiled::compile_packed;
+use pep440_compiled::{NotCompiled, compare_packed, compile_packed};
 use pep440_rs::Version;
 use std::alloc::Global;
 
@@ -110,6 +110,21 @@ pub extern "C" fn pep440_sort_key_compiled(
     put_bytes(compiled_forms::make_key(alloc, compiled), out, written)
 }
 
+// The same as `pep440_compare_compiled`. It stands apart, so that packed versions are compared without saving registers.
+#[inline(never)]
+fn compare_any(alloc: Global, left: &[u8], right: &[u8], order: &mut i8) -> u8
+    ensures found { PutsCompiled (DenotesNoVersion left.now ⊎ DenotesNoVersion right.now) ⊥ (CompiledOrder left.now right.now) order.old order.new result }
+    ensures memory { (r q : Record) → DenotesPacked left.now r → DenotesPacked right.now q → result ≡ 0 }
+{
+    match compiled_forms::compare(alloc, left, right) {
+        Ok(found) => {
+            *order = order_number(found);
+            OK
+        }
+        Err(fault) => fault.status(),
+    }
+}
+
 /// How the left compiled version compares with the right one: -1 below, 0 equal, 1 above (PEP 440, "Summary of permitted
 /// suffixes and relative ordering"). Allocates nothing where both are packed.
 #[unsafe(no_mangle)]
@@ -122,12 +137,12 @@ pub extern "C" fn pep440_compare_compiled(
     ensures found { PutsCompiled (DenotesNoVersion left.now ⊎ DenotesNoVersion right.now) ⊥ (CompiledOrder left.now right.now) order.old order.new result }
     ensures memory { (r q : Record) → DenotesPacked left.now r → DenotesPacked right.now q → result ≡ 0 }
 {
-    match compiled_forms::compare(alloc, left, right) {
+    match compare_packed(left, right) {
         Ok(found) => {
             *order = order_number(found);
             OK
         }
-        Err(fault) => fault.status(),
+        Err(NotCompiled) => compare_any(alloc, left, right, order),
     }
 }
 

@@ -1,7 +1,10 @@
 //! Strings one after the other, and where each of them ends.
 ghost use Rattle.std.specs.Prelude.{◌≡◌, ◌++◌, ◌∷◌, [], length, IfOk};
 ghost use Rattle.pep440_c.specs.Joined.{Joins};
+ghost use Rattle.pep440_sort_key.specs.Keys.{key_bytes};
 
+use pep440_rs::Version;
+use pep440_sort_key::push_sort_key;
 use std::alloc::{AllocError, Global};
 
 /// Strings one after the other, and where each of them ends.
@@ -28,6 +31,16 @@ impl Joined {
         ensures ends { IfOk result (λ _. self.new.ends.items ≡ self.old.ends.items ++ length self.new.bytes.items ∷ []) }
     {
         self.bytes.extend_from_slice(string)?;
+        self.ends.push(self.bytes.len())?;
+        Ok(())
+    }
+
+    /// The sort key of a version as one more string.
+    pub(crate) fn push_key(&mut self, version: &Version) -> Result<(), AllocError>
+        ensures bytes { IfOk result (λ _. self.new.bytes.items ≡ self.old.bytes.items ++ key_bytes version.now) }
+        ensures ends { IfOk result (λ _. self.new.ends.items ≡ self.old.ends.items ++ length self.new.bytes.items ∷ []) }
+    {
+        push_sort_key(&mut self.bytes, version)?;
         self.ends.push(self.bytes.len())?;
         Ok(())
     }

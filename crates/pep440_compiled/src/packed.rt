@@ -54,7 +54,10 @@ pub fn compare_packed(a: &[u8], b: &[u8]) -> Result<Ordering, NotCompiled>
     ensures ok { IfOk result (λ ordering. (r : Record) × (q : Record) × DenotesPacked a.now r × DenotesPacked b.now q × (ordering ≡ record_cmp r q)) }
     ensures err { IfErr result (λ _. ((r : Record) → DenotesPacked a.now r → ⊥) ⊎ ((r : Record) → DenotesPacked b.now r → ⊥)) }
 {
-    let (Some(first), Some(second)) = (read_word(a), read_word(b)) else {
+    let Some(first) = read_word(a) else {
+        return Err(NotCompiled);
+    };
+    let Some(second) = read_word(b) else {
         return Err(NotCompiled);
     };
     Ok(cmp_words(first, second))

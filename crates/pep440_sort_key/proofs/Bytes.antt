@@ -1,17 +1,19 @@
 -- Numbers by their bytes: of as many bytes the greatest first decides, and without the zeros in front how many there are
 -- decides first.
-use Rattle.std.proofs.Common.{◌≡◌, ◌∙◌, ℕ, zero, suc, ◌+◌, ◌*◌, ◌/◌, ◌%◌, ◌^◌, ◌<◌, ◌≤◌, List, [], ◌∷◌, ◌++◌, refl, sym, ap, arith, length, if◌then◌else◌}
+use Rattle.std.proofs.Common.{◌≡◌, ◌∙◌, ℕ, zero, suc, ◌+◌, ◌*◌, ◌/◌, ◌%◌, ◌^◌, ◌<◌, ◌≤◌, List, [], ◌∷◌, ◌++◌, refl, sym, ap, add-zero, append_assoc, arith, length, if◌then◌else◌}
 use Rattle.std.proofs.Math.Arith.{mod-mul}
 use Rattle.std.proofs.Math.Dec.{eqb-suc-zero}
-use Rattle.std.proofs.Math.Nat.{div-one, mod-one, mod-lt, mod-eq_of_lt, one-le-pow, pow-succ', zero-lt-suc}
+use Rattle.std.proofs.Math.Nat.{div-one, div-eq_of_lt, mod-one, mod-lt, mod-eq_of_lt, one-le-pow, pow-succ', zero-lt-suc}
 use Rattle.std.specs.Cmp.Lexicographic.{slice_cmp}
 use Rattle.std.specs.Int.{byte_at, bytes_high_first, to_be_bytes, w64}
+use Rattle.std.specs.List.{flat_map}
 use Rattle.std.specs.Ordering.{nat_cmp, ordering_then}
 use Rattle.std.specs.declared.cmp.Ordering.{Ordering}
 use Rattle.pep440_version.proofs.Ordering.Comparisons.{then_assoc}
 use Rattle.pep440_version.proofs.Word.Blocks.{is_above, is_below, is_same, nat_cmp_block}
-use Rattle.pep440_version.specs.Record.{Fits}
-use Rattle.pep440_sort_key.specs.Keys.{needed_bytes, trim_leading_zeros}
+use Rattle.pep440_version.specs.Record.{Fits, from_release}
+use Rattle.pep440_version.specs.Trim.{trim}
+use Rattle.pep440_sort_key.specs.Keys.{key_bytes, needed_bytes, number_bytes, trim_leading_zeros}
 
 -- ---- bytes without the zeros in front
 
@@ -94,3 +96,35 @@ unfolding needed_bytes
 needed_cmp m n p q u v =
     unpadded_cmp (bytes_high_first 8 m) (bytes_high_first 8 n) (bytes_long 8 m ∙ sym (bytes_long 8 n)) u v
     ∙ ap (λ o. ordering_then o (slice_cmp nat_cmp u v)) (bytes_cmp 8 m n ∙ (λ i. nat_cmp (mod-eq_of_lt p i) (mod-eq_of_lt q i)))
+
+-- ---- zero, and numbers of one byte
+
+high_byte : (k n : ℕ) → n < 256 → byte_at (suc k) n ≡ 0
+high_byte k n small =
+    let some : 0 < 256 ^ k = one-le-pow k 256 (zero-lt-suc 255) in
+    let below : n < 256 ^ suc k = omega (arith, pow-succ' 256 k) in
+    ap (λ m. m % 256) (div-eq_of_lt below)
+
+none_needed : needed_bytes 0 ≡ []
+unfolding needed_bytes
+none_needed = refl
+
+one_needed : (n : ℕ) → 0 < n → n < 256 → needed_bytes n ≡ n ∷ []
+unfolding needed_bytes
+one_needed zero some small = absurd (omega arith)
+one_needed (suc n) some small =
+    (λ i. trim_leading_zeros (high_byte 6 (suc n) small i ∷ high_byte 5 (suc n) small i ∷ high_byte 4 (suc n) small i ∷ high_byte 3 (suc n) small i
+    ∷ high_byte 2 (suc n) small i ∷ high_byte 1 (suc n) small i ∷ high_byte 0 (suc n) small i ∷ mod-eq_of_lt small i ∷ []))
+    ∙ unpadded_suc n []
+
+pub zero_bytes : (base n : ℕ) → n ≡ 0 → number_bytes base n ≡ base ∷ []
+zero_bytes base n e = (λ i. (base + length ((ap needed_bytes e ∙ none_needed) i)) ∷ (ap needed_bytes e ∙ none_needed) i) ∙ ap (λ k. k ∷ []) (add-zero base)
+
+pub one_byte : (base n : ℕ) → 0 < n → n < 256 → number_bytes base n ≡ (base + 1) ∷ n ∷ []
+one_byte base n some small = (λ i. (base + length (one_needed n some small i)) ∷ one_needed n some small i)
+
+-- ---- a release alone
+
+pub release_only_bytes : (release : List ℕ) → key_bytes (from_release release) ≡ 0 ∷ (flat_map (number_bytes 1) (trim release) ++ 0 ∷ 80 ∷ 0 ∷ 16 ∷ 0 ∷ [])
+unfolding needed_bytes
+release_only_bytes release = simp append_assoc

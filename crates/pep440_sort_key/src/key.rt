@@ -1,20 +1,23 @@
 //! The sort key of a version, part after part.
 ghost use Rattle.std.specs.Prelude.{◌≡◌, ◌++◌, IfOk, OnOk, map};
-ghost use Rattle.pep440_sort_key.specs.Keys.{key_bytes, local_bytes, rank_bytes, release_bytes, segment_bytes};
+ghost use Rattle.std.specs.List.{flat_map};
+ghost use Rattle.pep440_sort_key.specs.Keys.{key_bytes, local_bytes, number_bytes, rank_bytes, segment_bytes};
+ghost use Rattle.pep440_version.specs.Record.{from_release};
 ghost use Rattle.pep440_version.specs.Segments.{segment};
+ghost use Rattle.pep440_version.specs.Trim.{trim};
 
 use crate::number::push_number;
 use pep440_version::key::{RankedNumber, trim_trailing_zeros};
 use pep440_version::{LocalSegment, Version};
 use std::alloc::{AllocError, Global};
 
-fn push_release(key: &mut Vec<u8>, release: &[u64]) -> Result<(), AllocError>
-    ensures { OnOk result (key.new.items ≡ key.old.items ++ release_bytes release.now) }
+#[inline(always)]
+fn push_numbers(key: &mut Vec<u8>, release: &[u64]) -> Result<(), AllocError>
+    ensures { OnOk result (key.new.items ≡ key.old.items ++ flat_map (number_bytes 1) (trim release.now)) }
 {
     for number in trim_trailing_zeros(release) {
         push_number(key, 1, *number)?;
     }
-    key.push(0)?;
     Ok(())
 }
 
@@ -22,6 +25,23 @@ fn push_ranked(key: &mut Vec<u8>, ranked: RankedNumber) -> Result<(), AllocError
     ensures { OnOk result (key.new.items ≡ key.old.items ++ rank_bytes (ranked.rank, ranked.number)) }
 {
     push_number(key, 16 * ranked.rank, ranked.number)
+}
+
+// A byte each, and so one piece, if none of them has a number.
+fn push_suffix(
+    key: &mut Vec<u8>,
+    stage: RankedNumber,
+    post: RankedNumber,
+    dev: RankedNumber,
+) -> Result<(), AllocError>
+    ensures { OnOk result (key.new.items ≡ key.old.items ++ (rank_bytes (stage.rank, stage.number) ++ rank_bytes (post.rank, post.number) ++ rank_bytes (dev.rank, dev.number))) }
+{
+    if stage.number == 0 && post.number == 0 && dev.number == 0 {
+        return key.extend_from_slice(&[16 * stage.rank, 16 * post.rank, 16 * dev.rank]);
+    }
+    push_ranked(key, stage)?;
+    push_ranked(key, post)?;
+    push_ranked(key, dev)
 }
 
 fn push_segment(key: &mut Vec<u8>, part: &LocalSegment) -> Result<(), AllocError>
@@ -44,8 +64,7 @@ fn push_local(key: &mut Vec<u8>, local: &[LocalSegment]) -> Result<(), AllocErro
     for part in local {
         push_segment(key, part)?;
     }
-    key.push(0)?;
-    Ok(())
+    key.extend_from_slice(&[0])
 }
 
 // The greatest length of a packed version's key, and an estimate for others: a longer key allocates again.
@@ -61,6 +80,42 @@ fn estimate_length(version: &Version) -> usize {
     length
 }
 
+// The key of a release alone: whatever its numbers, the same bytes stand around them.
+fn push_release_only(key: &mut Vec<u8>, release: &[u64]) -> Result<(), AllocError>
+    ensures { OnOk result (key.new.items ≡ key.old.items ++ key_bytes (from_release release.now)) }
+{
+    key.extend_from_slice(&[0])?;
+    push_numbers(key, release)?;
+    key.extend_from_slice(&[0, 80, 0, 16, 0])
+}
+
+// The key of any version. All its parts are read before the key is written, so that its form is tested once.
+fn push_all_parts(key: &mut Vec<u8>, version: &Version) -> Result<(), AllocError>
+    ensures { OnOk result (key.new.items ≡ key.old.items ++ key_bytes version.now) }
+{
+    let stage = RankedNumber::from_stage(version);
+    let post = RankedNumber::from_post(version);
+    let dev = RankedNumber::from_dev(version);
+    push_number(key, 0, version.epoch())?;
+    push_numbers(key, version.release())?;
+    key.extend_from_slice(&[0])?;
+    push_suffix(key, stage, post, dev)?;
+    push_local(key, version.local())
+}
+
+/// Appends the sort key of a version, as `sort_key` makes it. If memory runs out, a part of it may have been appended.
+///
+/// Allocates if the capacity is too small; the only error is out of memory.
+pub fn push_sort_key(key: &mut Vec<u8>, version: &Version) -> Result<(), AllocError>
+    ensures { OnOk result (key.new.items ≡ key.old.items ++ key_bytes version.now) }
+{
+    if version.is_release_only() {
+        push_release_only(key, version.release())
+    } else {
+        push_all_parts(key, version)
+    }
+}
+
 /// The sort key of a version: bytes whose order, byte by byte, is the order of the versions (PEP 440, "Summary of
 /// permitted suffixes and relative ordering"); a proper prefix of a key is less. Two keys are the same bytes exactly
 /// where the versions are equal, as `1.0` and `1.0.0` are.
@@ -74,11 +129,6 @@ pub fn sort_key(alloc: Global, version: &Version) -> Result<Vec<u8>, AllocError>
     ensures { IfOk result (λ key. key.items ≡ key_bytes version.now) }
 {
     let mut key = Vec::with_capacity(alloc, estimate_length(version))?;
-    push_number(&mut key, 0, version.epoch())?;
-    push_release(&mut key, version.release())?;
-    push_ranked(&mut key, RankedNumber::from_stage(version))?;
-    push_ranked(&mut key, RankedNumber::from_post(version))?;
-    push_ranked(&mut key, RankedNumber::from_dev(version))?;
-    push_local(&mut key, version.local())?;
+    push_sort_key(&mut key, version)?;
     Ok(key)
 }

@@ -15,4 +15,4 @@ mod number;
 #[cfg(test)]
 mod tests;
 
-pub use key::sort_key;
+pub use key::{push_sort_key, sort_key};

@@ -17,8 +17,9 @@ fn skip_leading_zeros(bytes: &[u8]) -> &[u8]
     &[]
 }
 
-// Appends the number; its length byte is added to this base.
-pub(crate) fn push_number(key: &mut Vec<u8>, base: u8, number: u64) -> Result<(), AllocError>
+// The same as `push_number`, of any number.
+#[inline(never)]
+fn push_any_number(key: &mut Vec<u8>, base: u8, number: u64) -> Result<(), AllocError>
     requires { base ≤ 80 }
     ensures { OnOk result (key.new.items ≡ key.old.items ++ number_bytes base number) }
 {
@@ -26,4 +27,17 @@ pub(crate) fn push_number(key: &mut Vec<u8>, base: u8, number: u64) -> Result<()
     let bytes = skip_leading_zeros(&padded);
     key.push(base + bytes.len() as u8)?;
     key.extend_from_slice(bytes)
+}
+
+// Appends the number; its length byte is added to this base. A number of one byte, as most are, is one piece of two.
+#[inline(always)]
+pub(crate) fn push_number(key: &mut Vec<u8>, base: u8, number: u64) -> Result<(), AllocError>
+    requires { base ≤ 80 }
+    ensures { OnOk result (key.new.items ≡ key.old.items ++ number_bytes base number) }
+{
+    match number {
+        0 => key.extend_from_slice(&[base]),
+        1..=255 => key.extend_from_slice(&[base + 1, number as u8]),
+        _ => push_any_number(key, base, number),
+    }
 }

@@ -1,5 +1,5 @@
 //! Test cases: strings whose keys rise, and keys by their bytes; and a key with each allocation failing in turn.
-use crate::sort_key;
+use crate::{push_sort_key, sort_key};
 use pep440_version::Version;
 use std::test::Fail;
 
@@ -99,6 +99,22 @@ fn sweep_sort_key(rt: HostRuntime) -> Result<(), Fail> {
         Err(_) => sort_key(rt.alloc(), &version)?,
     };
     assert!(rt; key.as_slice() == LONG_KEY.as_slice(), "the key");
+    Ok(())
+}
+
+// A key that failed may be there in part, so the vector is emptied before the second try.
+#[test]
+fn sweep_push_sort_key(rt: HostRuntime) -> Result<(), Fail> {
+    let version = match Version::from_str(rt.alloc(), LONG) {
+        Ok(version) => version,
+        Err(_) => Version::from_str(rt.alloc(), LONG)?,
+    };
+    let mut bytes = Vec::new(rt.alloc());
+    if push_sort_key(&mut bytes, &version).is_err() {
+        bytes.clear();
+        push_sort_key(&mut bytes, &version)?;
+    }
+    assert!(rt; bytes.as_slice() == LONG_KEY.as_slice(), "the key");
     Ok(())
 }
 

@@ -1,10 +1,15 @@
-use Rattle.std.proofs.Common.{◌≡◌, ◌∙◌, arith, append_assoc}
+use Rattle.std.proofs.Common.{◌≡◌, [], ◌∷◌, ◌+◌, arith}
 use Rattle.std.proofs.lemmas.Grind.{common_steps}
-use Rattle.pep440_sort_key.specs.Keys.{needed_bytes}
-use Rattle.pep440_sort_key.proofs.Bytes.{needed_is}
+use Rattle.pep440_sort_key.specs.Keys.{number_bytes}
+use Rattle.pep440_sort_key.proofs.Bytes.{one_byte, zero_bytes}
 use Rattle.pep440_sort_key.proofs.number.push_number.Goals as goal
 
-pub returns : goal.returns
-returns c =
-    let needed : c.skip_leading_zeros-bytes.result.now ≡ needed_bytes c.args.number = c.skip_leading_zeros-bytes.ensures.value ∙ needed_is c.args.number _ c.to_be_bytes-padded.ensures in
-    grind (arith, common_steps, append_assoc)
+pub returns-in-0 : goal.returns-in-0
+returns-in-0 c =
+    let bytes : number_bytes c.args.base c.args.number ≡ c.args.base ∷ [] = zero_bytes c.args.base c.args.number c.in-0.is in
+    grind (arith, common_steps)
+
+pub returns-in-1-to-255 : goal.returns-in-1-to-255
+returns-in-1-to-255 c =
+    let bytes : number_bytes c.args.base c.args.number ≡ (c.args.base + 1) ∷ c.args.number ∷ [] = one_byte c.args.base c.args.number (omega arith) (omega arith) in
+    grind (arith, common_steps)
