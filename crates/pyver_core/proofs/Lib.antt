@@ -4,6 +4,7 @@ pub mod InputLines
 pub mod Filtering
 pub mod Keeping
 pub mod Sorting
+pub mod Choosing
 pub mod Whole
 pub mod Bytes
 pub mod Appended
