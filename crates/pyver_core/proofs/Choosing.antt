@@ -13,7 +13,7 @@ use Rattle.pep440_rs.specs.Specifiers.{Spec}
 use Rattle.pep440_version.specs.Key.{record_cmp}
 use Rattle.pep440_version.specs.KeyLaws.{record_total}
 use Rattle.pep440_version.specs.Record.{Record}
-use Rattle.pyver_core.specs.Newest.{IsNewest, Newest, allowed_lines, or_else}
+use Rattle.pyver_core.specs.Newest.{IsNewestLine, NewestLine, allowed_lines, or_else}
 use Rattle.pyver_core.specs.Prereleases.{allows}
 use Rattle.pyver_core.specs.VersionLines.{VersionLine}
 use Rattle.pyver_core.specs.VersionLineViews.{version_line_of}
@@ -65,10 +65,10 @@ IsOlder x y = IsTrue (is_lt (record_cmp y.version x.version))
 abbrev IsUpTo : VersionLine → VersionLine → Type 0
 IsUpTo x y = IsTrue (is_le (record_cmp y.version x.version))
 
-only_one : (x : VersionLine) → IsNewest (x ∷ []) x
+only_one : (x : VersionLine) → IsNewestLine (x ∷ []) x
 only_one x = record { before = []; after = []; split = refl; above = All-nil (IsOlder x); greatest = All-nil (IsUpTo x) }
 
-newer : (lines : List VersionLine) (best x : VersionLine) → (n : IsNewest lines best) → is_lt (record_cmp best.version x.version) ≡ true → IsNewest (lines ++ x ∷ []) x
+newer : (lines : List VersionLine) (best x : VersionLine) → (n : IsNewestLine lines best) → is_lt (record_cmp best.version x.version) ≡ true → IsNewestLine (lines ++ x ∷ []) x
 newer lines best x n lt = record {
   before = lines;
   after = [];
@@ -81,7 +81,7 @@ newer lines best x n lt = record {
   greatest = All-nil (IsUpTo x);
 }
 
-stays : (lines : List VersionLine) (best x : VersionLine) → (n : IsNewest lines best) → is_le (record_cmp x.version best.version) ≡ true → IsNewest (lines ++ x ∷ []) best
+stays : (lines : List VersionLine) (best x : VersionLine) → (n : IsNewestLine lines best) → is_le (record_cmp x.version best.version) ≡ true → IsNewestLine (lines ++ x ∷ []) best
 stays lines best x n upto = record {
   before = n.before;
   after = n.after ++ x ∷ [];
@@ -114,33 +114,43 @@ module _ (takes : Bool) (list : List Spec) where
     one_allowed : allows takes list line.version ≡ true → allowed_front lines (i + 1) ≡ allowed_front lines i ++ version_line_of line ∷ []
     one_allowed allowed = one_more ∙ ap (λ b. allowed_front lines i ++ cond b (version_line_of line ∷ []) []) allowed
 
-    pub out_more : (newest : Option (Bor LineInMemory)) → Newest (allowed_front lines i) (newest_value newest) → allows takes list line.version ≡ false → Newest (allowed_front lines (i + 1)) (newest_value newest)
-    out_more newest n out = subst (λ l. Newest l (newest_value newest)) (sym (one_more ∙ ap (λ b. allowed_front lines i ++ cond b (version_line_of line ∷ []) []) out ∙ append-nil (allowed_front lines i))) n
+    pub out_more : (newest : Option (Bor LineInMemory)) → NewestLine (allowed_front lines i) (newest_value newest) → allows takes list line.version ≡ false → NewestLine (allowed_front lines (i + 1)) (newest_value newest)
+    out_more newest n out = subst (λ l. NewestLine l (newest_value newest)) (sym (one_more ∙ ap (λ b. allowed_front lines i ++ cond b (version_line_of line ∷ []) []) out ∙ append-nil (allowed_front lines i))) n
 
-    pub found_more : (newest : Option (Bor LineInMemory)) → Newest (allowed_front lines i) (newest_value newest) → is_newer newest line.version ≡ true → allows takes list line.version ≡ true
-        → Newest (allowed_front lines (i + 1)) (Some (version_line_of line))
-    found_more None n above allowed = subst (λ l. IsNewest l (version_line_of line)) (sym (one_allowed allowed ∙ ap (λ l. l ++ version_line_of line ∷ []) n)) (only_one (version_line_of line))
+    pub found_more : (newest : Option (Bor LineInMemory)) → NewestLine (allowed_front lines i) (newest_value newest) → is_newer newest line.version ≡ true → allows takes list line.version ≡ true
+        → NewestLine (allowed_front lines (i + 1)) (Some (version_line_of line))
+    found_more None n above allowed = subst (λ l. IsNewestLine l (version_line_of line)) (sym (one_allowed allowed ∙ ap (λ l. l ++ version_line_of line ∷ []) n)) (only_one (version_line_of line))
     found_more (Some best) n above allowed =
-        subst (λ l. IsNewest l (version_line_of line)) (sym (one_allowed allowed)) (newer (allowed_front lines i) (version_line_of best.now) (version_line_of line) n above)
+        subst (λ l. IsNewestLine l (version_line_of line)) (sym (one_allowed allowed)) (newer (allowed_front lines i) (version_line_of best.now) (version_line_of line) n above)
 
-    pub below_more : (newest : Option (Bor LineInMemory)) → Newest (allowed_front lines i) (newest_value newest) → is_newer newest line.version ≡ false → Newest (allowed_front lines (i + 1)) (newest_value newest)
+    pub below_more : (newest : Option (Bor LineInMemory)) → NewestLine (allowed_front lines i) (newest_value newest) → is_newer newest line.version ≡ false → NewestLine (allowed_front lines (i + 1)) (newest_value newest)
     below_more None n above = cc above
     below_more (Some best) n above = go (allows takes list line.version) refl
       where
-        go : (b : Bool) → allows takes list line.version ≡ b → Newest (allowed_front lines (i + 1)) (newest_value (Some best))
+        go : (b : Bool) → allows takes list line.version ≡ b → NewestLine (allowed_front lines (i + 1)) (newest_value (Some best))
         go true allowed =
-            subst (λ l. IsNewest l (version_line_of best.now)) (sym (one_allowed allowed))
+            subst (λ l. IsNewestLine l (version_line_of best.now)) (sym (one_allowed allowed))
             (stays (allowed_front lines i) (version_line_of best.now) (version_line_of line) n (not_below line.version best.now.version above))
         go false out = out_more (Some best) n out
+
+-- ---- pre-releases where nothing else is allowed
+
+no_line : {A : Type 0} (before after : List VersionLine) (x : VersionLine) → [] ≡ before ++ (x ∷ after) → A
+no_line before after x e = absurd (omega (arith, ap length e ∙ length-append before (x ∷ after)))
+
+pub kept : (taken : Prereleases) (lines others : List VersionLine) (newest : Option (Bor LineInMemory)) (best : Bor LineInMemory) → newest ≡ Some best → NewestLine lines (newest_value newest) → NewestLine (or_else taken lines others) (newest_value newest)
+kept prereleases.Always lines others newest best some n = n
+kept prereleases.Never lines others newest best some n = n
+kept prereleases.Listed [] others newest best some n =
+    let here : IsNewestLine [] (version_line_of best.now) = subst (λ x. NewestLine [] (newest_value x)) some n in
+    no_line here.before here.after (version_line_of best.now) here.split
+kept prereleases.Listed (x ∷ lines) others newest best some n = n
 
 -- ---- there is one newest line
 
 inside_of : (before : List VersionLine) (x : VersionLine) (after : List VersionLine) (P : VersionLine → Type 0) → All P (before ++ (x ∷ after)) → P x
 inside_of [] x after P h = All-head P x after h
 inside_of (y ∷ before) x after P h = inside_of before x after P (All-tail P y (before ++ (x ∷ after)) h)
-
-no_line : {A : Type 0} (before after : List VersionLine) (x : VersionLine) → [] ≡ before ++ (x ∷ after) → A
-no_line before after x e = absurd (omega (arith, ap length e ∙ length-append before (x ∷ after)))
 
 tails : (a b : VersionLine) (xs ys : List VersionLine) → a ∷ xs ≡ b ∷ ys → xs ≡ ys
 tails a b xs ys e = cc e
@@ -161,7 +171,7 @@ one_of (z ∷ before) [] x y after behind e above greatest below upto =
 one_of (z ∷ before) (w ∷ there) x y after behind e above greatest below upto =
     one_of before there x y after behind (tails z w (before ++ (x ∷ after)) (there ++ (y ∷ behind)) e) (All-tail (IsOlder x) z before above) greatest (All-tail (IsOlder y) w there below) upto
 
-pub one_newest : (lines : List VersionLine) (a b : Option VersionLine) → Newest lines a → Newest lines b → a ≡ b
+pub one_newest : (lines : List VersionLine) (a b : Option VersionLine) → NewestLine lines a → NewestLine lines b → a ≡ b
 one_newest lines None None h k = refl
 one_newest lines None (Some y) h k = no_line k.before k.after y (sym h ∙ k.split)
 one_newest lines (Some x) None h k = no_line h.before h.after x (sym k ∙ h.split)

@@ -15,7 +15,7 @@ use Rattle.pep440_version.specs.KeyLaws.{record_total}
 use Rattle.pep440_version.specs.Record.{Record}
 use Rattle.pyver_core.specs.Outcomes.{Outcome}
 use Rattle.pyver_core.specs.Sorts.{SortsParts, firsts, last_texts, line_order, lines_text, sort_outcome, sorted_texts, version_order, without_repeats}
-use Rattle.pyver_core.specs.VersionLines.{LineParts, VersionLine}
+use Rattle.pyver_core.specs.VersionLines.{InputParts, VersionLine}
 use Rattle.pyver_core.specs.VersionLineViews.{version_line_of, version_line_order}
 use Rattle.pyver_core.specs.declared.sort.SortOptions.{SortOptions}
 use Rattle.pyver_core.specs.declared.version_line.VersionLine.{VersionLine as LineInMemory}
@@ -93,7 +93,7 @@ printed_is options sorted texts invalid both shown header output same joined las
     printed ∙ ap (λ l. header ++ l) (sym (flat_map-map line now shown) ∙ ap (λ l. flat_map line (map now l)) last ∙ ap (flat_map line) (last_map now options.last both)
     ∙ ap (λ l. flat_map line (cut l)) all ∙ ap (flat_map line) (last_is options.last (sorted_texts options sorted (map now invalid))))
 
-pub sorts_parts : (options : SortOptions) (parts : LineParts) (given sorted : List LineInMemory) (o : Outcome) → parts.versions ≡ map version_line_of given → ArrangesBy (version_line_order options.reversed) given sorted
+pub sorts_parts : (options : SortOptions) (parts : InputParts) (given sorted : List LineInMemory) (o : Outcome) → parts.versions ≡ map version_line_of given → ArrangesBy (version_line_order options.reversed) given sorted
     → o ≡ sort_outcome options parts (map version_line_of sorted) → SortsParts options parts o
 sorts_parts options parts given sorted o lines k is = (map version_line_of sorted, subst (λ l. ArrangesBy (line_order options.reversed) l (map version_line_of sorted)) (sym lines) (view_arranged options.reversed given sorted k), is)
 

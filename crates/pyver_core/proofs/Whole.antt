@@ -11,7 +11,7 @@ use Rattle.pyver_core.specs.Newest.{newest_outcome}
 use Rattle.pyver_core.specs.Outcomes.{Outcome}
 use Rattle.pyver_core.specs.Runs.{WroteBeginning}
 use Rattle.pyver_core.specs.Sorts.{sort_outcome}
-use Rattle.pyver_core.specs.VersionLines.{line_messages, line_parts}
+use Rattle.pyver_core.specs.VersionLines.{line_messages, input_parts}
 use Rattle.pyver_core.specs.WholeInputs.{AnswersInput, WholeStops}
 use Rattle.pyver_core.specs.declared.invalid_lines.InvalidLines.{InvalidLines}
 use Rattle.pyver_core.specs.declared.invalid_lines.InvalidLines.TheVariants as invalid
@@ -26,7 +26,7 @@ none_invalid invalid.Keep = refl
 
 -- there is an answer where there are no lines
 pub no_lines : (asked : Question) → (o : Outcome) × AnswersInput asked [] o
-no_lines (question.Sort options) = let how = options.lines.invalid in (sort_outcome options (line_parts how []) [], ([], tt, inl (none_invalid how, ([], none_sorted options.reversed, refl))))
+no_lines (question.Sort options) = let how = options.lines.invalid in (sort_outcome options (input_parts how []) [], ([], tt, inl (none_invalid how, ([], none_sorted options.reversed, refl))))
 no_lines (question.Newest rule) = let how = rule.lines.invalid in (newest_outcome (line_messages how []) None, ([], tt, inl (none_invalid how, (None, or_none rule.prereleases, refl))))
 
 module _ {R W E : Type 0} (remaining : R → Option (List ℕ)) (contents : W → Option (List ℕ)) (error_contents : E → Option (List ℕ)) (asked : Question) (reader reader' : R) (out out' : W) (err err' : E) where

@@ -7,7 +7,7 @@ use Rattle.pep440_version.specs.Key.{record_cmp}
 use Rattle.pyver_core.specs.Matches.{DenotesList, ListFails, ReadsSpecifiers, SpecifiersReading, list_fault}
 use Rattle.pyver_core.specs.Outcomes.{Outcome, followed_by, no_outcome}
 use Rattle.pyver_core.specs.Prereleases.{allows, takes_prereleases}
-use Rattle.pyver_core.specs.VersionLines.{LineParts, OfVersions, VersionLine}
+use Rattle.pyver_core.specs.VersionLines.{InputParts, OfVersions, VersionLine}
 use Rattle.pyver_core.specs.declared.newest.NewestOptions.{NewestOptions}
 use Rattle.pyver_core.specs.declared.newest.NewestRule.{NewestRule}
 use Rattle.pyver_core.specs.declared.prerelease.Prereleases.{Prereleases}
@@ -29,7 +29,7 @@ abbrev pub candidates : NewestRule → List VersionLine → List VersionLine
 candidates rule lines = or_else rule.prereleases (allowed_lines (takes_prereleases rule.prereleases rule.list) rule.list lines) (allowed_lines true rule.list lines)
 
 -- the line is one of these; those before it are older, and none behind it is newer
-pub record IsNewest (lines : List VersionLine) (x : VersionLine) : Type 0 where
+pub record IsNewestLine (lines : List VersionLine) (x : VersionLine) : Type 0 where
   pub before : List VersionLine
   pub after : List VersionLine
   pub split : lines ≡ before ++ (x ∷ after)
@@ -37,9 +37,9 @@ pub record IsNewest (lines : List VersionLine) (x : VersionLine) : Type 0 where
   pub greatest : All (λ (y : VersionLine). IsTrue (is_le (record_cmp y.version x.version))) after
 
 -- the newest of the lines, and of equal ones the first; None where there are no lines
-abbrev pub Newest : List VersionLine → Option VersionLine → Type 0
-Newest lines None = lines ≡ []
-Newest lines (Some x) = IsNewest lines x
+abbrev pub NewestLine : List VersionLine → Option VersionLine → Type 0
+NewestLine lines None = lines ≡ []
+NewestLine lines (Some x) = IsNewestLine lines x
 
 -- the line as it was written, or nothing and status 1; and the messages of invalid lines
 abbrev pub newest_outcome : List ℕ → Option VersionLine → Outcome
@@ -47,18 +47,18 @@ newest_outcome messages None = record { output = []; errors = messages; status =
 newest_outcome messages (Some x) = record { output = x.text ++ codes "\n"; errors = messages; status = 0 }
 
 -- what is written of lines that were read; the header and invalid lines are left out
-abbrev pub FindsNewest : NewestRule → LineParts → Outcome → Type 0
-FindsNewest rule parts o = (newest : Option VersionLine) × Newest (candidates rule parts.versions) newest × (o ≡ newest_outcome parts.messages newest)
+abbrev pub FindsNewest : NewestRule → InputParts → Outcome → Type 0
+FindsNewest rule parts o = (newest : Option VersionLine) × NewestLine (candidates rule parts.versions) newest × (o ≡ newest_outcome parts.messages newest)
 
 -- the rule of the options and the list
 abbrev pub newest_rule : NewestOptions → List Spec → NewestRule
 newest_rule options list = record { prereleases = options.prereleases; lines = options.lines; list = list }
 
 -- what is written of the lines by a valid list, or the error of an invalid one
-abbrev pub NewestBy : NewestOptions → SpecifiersReading → List (List ℕ) → Outcome → Type 0
-NewestBy options (DenotesList list) texts o = OfVersions options.lines (FindsNewest (newest_rule options list)) texts o
-NewestBy options (ListFails message) texts o = o ≡ followed_by no_outcome (list_fault message)
+abbrev pub FindsNewestBy : NewestOptions → SpecifiersReading → List (List ℕ) → Outcome → Type 0
+FindsNewestBy options (DenotesList list) texts o = OfVersions options.lines (FindsNewest (newest_rule options list)) texts o
+FindsNewestBy options (ListFails message) texts o = o ≡ followed_by no_outcome (list_fault message)
 
 -- what is written of the lines of the input: SPECS is parsed, and then the lines
-abbrev pub NewestLines : NewestOptions → List ℕ → List (List ℕ) → Outcome → Type 0
-NewestLines options specifiers texts o = (x : SpecifiersReading) × ReadsSpecifiers specifiers x × NewestBy options x texts o
+abbrev pub FindsNewestLine : NewestOptions → List ℕ → List (List ℕ) → Outcome → Type 0
+FindsNewestLine options specifiers texts o = (x : SpecifiersReading) × ReadsSpecifiers specifiers x × FindsNewestBy options x texts o

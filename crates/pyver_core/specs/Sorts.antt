@@ -7,7 +7,7 @@ use Rattle.pep440_rs.specs.Arrangement.{ArrangesBy}
 use Rattle.pep440_version.specs.Key.{record_cmp}
 use Rattle.pep440_version.specs.Record.{Record}
 use Rattle.pyver_core.specs.Outcomes.{Outcome}
-use Rattle.pyver_core.specs.VersionLines.{LineParts, OfVersions, VersionLine}
+use Rattle.pyver_core.specs.VersionLines.{InputParts, OfVersions, VersionLine}
 use Rattle.pyver_core.specs.declared.sort.SortOptions.{SortOptions}
 
 -- by version alone, or the other way round
@@ -44,7 +44,7 @@ abbrev pub lines_text : List (List ℕ) → List ℕ
 lines_text texts = flat_map (λ t. t ++ codes "\n") texts
 
 -- the header, and the last of the other lines
-abbrev pub sort_outcome : SortOptions → LineParts → List VersionLine → Outcome
+abbrev pub sort_outcome : SortOptions → InputParts → List VersionLine → Outcome
 sort_outcome options parts sorted = record {
   output = parts.header ++ lines_text (last_texts options.last (sorted_texts options sorted parts.invalid));
   errors = parts.messages;
@@ -52,7 +52,7 @@ sort_outcome options parts sorted = record {
 }
 
 -- the lines are arranged: none is lost or made, they never fall, and equal ones stand as they stood
-abbrev pub SortsParts : SortOptions → LineParts → Outcome → Type 0
+abbrev pub SortsParts : SortOptions → InputParts → Outcome → Type 0
 SortsParts options parts o = (sorted : List VersionLine) × ArrangesBy (line_order options.reversed) parts.versions sorted × (o ≡ sort_outcome options parts sorted)
 
 -- what is written of the lines of the input

@@ -10,7 +10,7 @@ use Rattle.pyver_core.specs.Filters.{FiltersLines}
 use Rattle.pyver_core.specs.LineOptions.{joined_value, line_option, no_line_options, value_behind, value_kind, value_names, value_option_of, with_value}
 use Rattle.pyver_core.specs.Matches.{Matches}
 use Rattle.pyver_core.specs.Messages.{unknown_message, usage_message}
-use Rattle.pyver_core.specs.Newest.{NewestLines}
+use Rattle.pyver_core.specs.Newest.{FindsNewestLine}
 use Rattle.pyver_core.specs.Numbers.{word_number}
 use Rattle.pyver_core.specs.Outcomes.{Outcome}
 use Rattle.pyver_core.specs.Parts.{part_of}
@@ -507,7 +507,7 @@ IsOutcome (Compare left operator right) texts o = Compares left operator right o
 IsOutcome (Match options specifiers words) texts o = Matches options specifiers words o
 IsOutcome (Filter options specifiers) texts o = FiltersLines options specifiers texts o
 IsOutcome (Sort options) texts o = SortsLines options texts o
-IsOutcome (Newest options specifiers) texts o = NewestLines options specifiers texts o
+IsOutcome (Newest options specifiers) texts o = FindsNewestLine options specifiers texts o
 IsOutcome (Show asked words) texts o = Shows asked words o
 IsOutcome (Bump to parts word) texts o = Bumps to parts word o
 IsOutcome (Range options words) texts o = FindsCommon options words o

@@ -6,7 +6,7 @@ use Rattle.pyver_core.specs.InputLines.{filled_lines_from}
 use Rattle.pyver_core.specs.InvalidLines.{message_limit}
 use Rattle.pyver_core.specs.ReadLines.{IsRead, ReadLine, faults}
 use Rattle.pyver_core.specs.Sorts.{version_order}
-use Rattle.pyver_core.specs.VersionLines.{LineParts, header_text, kept_lines, line_parts, version_lines}
+use Rattle.pyver_core.specs.VersionLines.{InputParts, header_text, kept_lines, input_parts, version_lines}
 use Rattle.pyver_core.specs.VersionLines.{VersionLine as VersionLineValue}
 use Rattle.pyver_core.specs.declared.line_options.LineOptions.{LineOptions}
 use Rattle.pyver_core.specs.declared.version_line.VersionLine.{VersionLine}
@@ -18,8 +18,8 @@ version_line_of x = record { text = x.text.now; version = x.version }
 abbrev pub version_line_order : Bool → VersionLine → VersionLine → Ordering
 version_line_order reversed a b = version_order reversed a.version b.version
 
-abbrev pub line_parts_of : VersionLines → LineParts
-line_parts_of s = record {
+abbrev pub input_parts_of : VersionLines → InputParts
+input_parts_of s = record {
   header = s.header.items;
   versions = map version_line_of s.versions.items;
   invalid = map (λ t. t.now) s.invalid.items;
@@ -51,4 +51,4 @@ pub record IsOfLines (options : LineOptions) (texts : List (List ℕ)) (s : Vers
   pub found : List ReadLine
   pub are : AllZip (IsRead options) (filled_lines_from 1 texts) found
   pub fault_count : s.fault_count ≡ length (faults found)
-  pub parts : line_parts_of s ≡ line_parts options.invalid found
+  pub parts : input_parts_of s ≡ input_parts options.invalid found

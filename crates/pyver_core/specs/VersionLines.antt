@@ -18,7 +18,7 @@ pub record VersionLine : Type 0 where
 
 -- what was read: the header and its newline, if there is one; the lines that are versions; the invalid lines that are kept; and
 -- the messages of invalid lines
-pub record LineParts : Type 0 where
+pub record InputParts : Type 0 where
   pub header : List ℕ
   pub versions : List VersionLine
   pub invalid : List (List ℕ)
@@ -59,18 +59,18 @@ kept_lines how found = flat_map (λ (x : ReadLine). kept_with how x.line.1 x.rea
 abbrev pub line_messages : InvalidLines → List ReadLine → List ℕ
 line_messages how found = concat (take (message_limit how) (faults found)) ++ last_message how (length (faults found))
 
-abbrev pub line_parts : InvalidLines → List ReadLine → LineParts
-line_parts how found = record { header = header_text found; versions = version_lines found; invalid = kept_lines how found; messages = line_messages how found }
+abbrev pub input_parts : InvalidLines → List ReadLine → InputParts
+input_parts how found = record { header = header_text found; versions = version_lines found; invalid = kept_lines how found; messages = line_messages how found }
 
 -- invalid lines are an error: they are named, and nothing is printed
 abbrev pub invalid_outcome : InvalidLines → List ReadLine → Outcome
 invalid_outcome how found = record { output = []; errors = line_messages how found; status = lines_status how (length (faults found)) }
 
 -- what is written of lines that were read: this of all, or, where invalid ones are an error and there are some, their messages
-abbrev pub OfFound : InvalidLines → (LineParts → Outcome → Type 0) → List ReadLine → Outcome → Type 0
-OfFound how Gives found o = ((lines_status how (length (faults found)) ≡ 0) × Gives (line_parts how found) o)
+abbrev pub OfFound : InvalidLines → (InputParts → Outcome → Type 0) → List ReadLine → Outcome → Type 0
+OfFound how Gives found o = ((lines_status how (length (faults found)) ≡ 0) × Gives (input_parts how found) o)
     ⊎ ((0 < lines_status how (length (faults found))) × (o ≡ invalid_outcome how found))
 
 -- what is written of the lines of the input
-abbrev pub OfVersions : LineOptions → (LineParts → Outcome → Type 0) → List (List ℕ) → Outcome → Type 0
+abbrev pub OfVersions : LineOptions → (InputParts → Outcome → Type 0) → List (List ℕ) → Outcome → Type 0
 OfVersions options Gives texts o = (found : List ReadLine) × AllZip (IsRead options) (filled_lines_from 1 texts) found × OfFound options.invalid Gives found o

@@ -6,7 +6,7 @@ use Rattle.pyver_core.specs.Outcomes.{Outcome}
 use Rattle.pyver_core.specs.Runs.{WroteBeginning}
 use Rattle.pyver_core.specs.Newest.{FindsNewest}
 use Rattle.pyver_core.specs.Sorts.{SortsParts}
-use Rattle.pyver_core.specs.VersionLines.{LineParts, OfVersions}
+use Rattle.pyver_core.specs.VersionLines.{InputParts, OfVersions}
 use Rattle.pyver_core.specs.declared.line_options.LineOptions.{LineOptions}
 use Rattle.pyver_core.specs.declared.whole_input.Question.{Question}
 use Rattle.pyver_core.specs.declared.whole_input.Question.TheVariants as question
@@ -17,7 +17,7 @@ question_lines (question.Sort options) = options.lines
 question_lines (question.Newest rule) = rule.lines
 
 -- what is written of lines that were read, where no invalid one is an error
-abbrev pub AnswersParts : Question → LineParts → Outcome → Type 0
+abbrev pub AnswersParts : Question → InputParts → Outcome → Type 0
 AnswersParts (question.Sort options) parts o = SortsParts options parts o
 AnswersParts (question.Newest rule) parts o = FindsNewest rule parts o
 

@@ -1,11 +1,11 @@
 // The command `newest`: the line of the newest version that specifiers allow.
-ghost use Rattle.std.specs.Prelude.{◌≡◌, IfOk, is_some, map};
+ghost use Rattle.std.specs.Prelude.{◌≡◌, IfOk, map, true};
 ghost use Rattle.std.specs.Option.{option_map, option_map_or};
 ghost use Rattle.std.specs.Ordering.{is_lt};
 ghost use Rattle.pep440_version.specs.Key.{record_cmp};
 ghost use Rattle.pyver_core.specs.AnswerViews.{outcome_of};
-ghost use Rattle.pyver_core.specs.Newest.{FindsNewest, Newest, allowed_lines, candidates, newest_outcome};
-ghost use Rattle.pyver_core.specs.VersionLineViews.{line_parts_of, version_line_of};
+ghost use Rattle.pyver_core.specs.Newest.{FindsNewest, NewestLine, allowed_lines, candidates, newest_outcome};
+ghost use Rattle.pyver_core.specs.VersionLineViews.{input_parts_of, version_line_of};
 
 use crate::answer::Answer;
 use crate::line_options::LineOptions;
@@ -45,7 +45,7 @@ fn find_allowed<'t, 'a>(
     list: &VersionSpecifiers,
     lines: &'t [VersionLine<'a>],
 ) -> Result<Option<&'t VersionLine<'a>>, AllocError>
-    ensures { IfOk result (λ newest. Newest (allowed_lines takes list.now (map version_line_of lines.now)) (option_map (λ x. version_line_of x.now) newest)) }
+    ensures { IfOk result (λ newest. NewestLine (allowed_lines takes list.now (map version_line_of lines.now)) (option_map (λ x. version_line_of x.now) newest)) }
 {
     let mut newest: Option<&VersionLine<'a>> = None;
     for line in lines {
@@ -62,13 +62,17 @@ fn find_candidate<'t, 'a>(
     rule: &NewestRule,
     lines: &'t [VersionLine<'a>],
 ) -> Result<Option<&'t VersionLine<'a>>, AllocError>
-    ensures { IfOk result (λ newest. Newest (candidates rule.now (map version_line_of lines.now)) (option_map (λ x. version_line_of x.now) newest)) }
+    ensures { IfOk result (λ newest. NewestLine (candidates rule.now (map version_line_of lines.now)) (option_map (λ x. version_line_of x.now) newest)) }
 {
     let takes = takes_prereleases(rule.prereleases, &rule.list);
     let newest = find_allowed(alloc, takes, &rule.list, lines)?;
-    match (newest, rule.prereleases) {
-        (None, Prereleases::Listed) => find_allowed(alloc, true, &rule.list, lines),
-        _ => Ok(newest),
+    match rule.prereleases {
+        Prereleases::Listed => match newest {
+            None => find_allowed(alloc, true, &rule.list, lines),
+            Some(_) => Ok(newest),
+        },
+        Prereleases::Always => Ok(newest),
+        Prereleases::Never => Ok(newest),
     }
 }
 
@@ -78,7 +82,7 @@ fn print_newest(
     newest: Option<&VersionLine<'_>>,
     errors: Vec<u8>,
 ) -> Result<Answer, AllocError>
-    ensures { IfOk result (λ a. outcome_of a ≡ newest_outcome errors.entry.items (option_map (λ x. version_line_of x.now) newest.entry)) }
+    ensures { IfOk result (λ a. outcome_of a ≡ newest_outcome errors.items (option_map (λ x. version_line_of x.now) newest.entry)) }
 {
     let mut output = Vec::new(alloc);
     let Some(newest) = newest else {
@@ -103,8 +107,10 @@ pub(crate) fn find_newest(
     rule: &NewestRule,
     lines: VersionLines<'_>,
 ) -> Result<Answer, AllocError>
-    ensures { IfOk result (λ a. FindsNewest rule.now (line_parts_of lines.entry) (outcome_of a)) }
+    ensures { IfOk result (λ a. FindsNewest rule.now (input_parts_of lines.entry) (outcome_of a)) }
 {
-    let newest = find_candidate(alloc, rule, lines.versions.as_slice())?;
-    print_newest(alloc, newest, lines.errors)
+    let errors = lines.errors;
+    let versions = lines.versions;
+    let newest = find_candidate(alloc, rule, versions.as_slice())?;
+    print_newest(alloc, newest, errors)
 }

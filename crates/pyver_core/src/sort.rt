@@ -5,7 +5,7 @@ ghost use Rattle.std.specs.Option.{option_map, option_map_or};
 ghost use Rattle.pep440_rs.specs.Arrangement.{ArrangesBy};
 ghost use Rattle.pyver_core.specs.AnswerViews.{outcome_of};
 ghost use Rattle.pyver_core.specs.Sorts.{SortsParts, is_repeat, version_order, without_repeats};
-ghost use Rattle.pyver_core.specs.VersionLineViews.{line_parts_of, version_line_of, version_line_order};
+ghost use Rattle.pyver_core.specs.VersionLineViews.{input_parts_of, version_line_of, version_line_order};
 
 use crate::answer::Answer;
 use crate::line_options::LineOptions;
@@ -105,7 +105,7 @@ pub(crate) fn sort_versions(
     options: SortOptions,
     lines: VersionLines<'_>,
 ) -> Result<Answer, AllocError>
-    ensures { IfOk result (λ a. SortsParts options (line_parts_of lines.entry) (outcome_of a)) }
+    ensures { IfOk result (λ a. SortsParts options (input_parts_of lines.entry) (outcome_of a)) }
 {
     let sorted = sort_lines(options.reversed, lines.versions)?;
     let mut texts = kept_texts(alloc, options.unique, sorted.as_slice())?;

@@ -68,6 +68,7 @@ fn keep_text<'a>(
 impl<'a> VersionLines<'a> {
     ghost use Rattle.std.specs.Prelude.{◌+◌, ◌^◌, List, ℕ};
     ghost use Rattle.pyver_core.specs.AnswerViews.{reading_of};
+    ghost use Rattle.pyver_core.specs.InvalidLines.{lines_status};
     ghost use Rattle.pyver_core.specs.ReadLines.{Entry, Header};
     ghost use Rattle.pyver_core.specs.Readings.{Denotes, Fails};
     ghost use Rattle.pyver_core.specs.VersionLineViews.{IsOfLines, KeepsLines, KeepsOne};
@@ -172,6 +173,14 @@ impl<'a> VersionLines<'a> {
             .invalid
             .push_last(alloc, &mut self.errors, self.fault_count)?;
         Ok(())
+    }
+
+    /// The status by the invalid lines.
+    pub(crate) fn status(&self, options: LineOptions) -> u8
+        ensures is { result ≡ lines_status options.invalid self.now.fault_count }
+        ensures known { result ≤ 2 }
+    {
+        options.invalid.status(self.fault_count)
     }
 
     /// The lines of the text.

@@ -3,7 +3,7 @@ ghost use Rattle.std.specs.Prelude.{◌≡◌, ◌≤◌, IfErr, IfOk, List, ℕ
 ghost use Rattle.std.specs.Io.KnownBytes.{Consumes, IsAtEnd};
 ghost use Rattle.pyver_core.specs.AnswerViews.{outcome_of};
 ghost use Rattle.pyver_core.specs.InputLines.{input_lines};
-ghost use Rattle.pyver_core.specs.VersionLineViews.{line_parts_of};
+ghost use Rattle.pyver_core.specs.VersionLineViews.{IsOfLines, input_parts_of};
 ghost use Rattle.pyver_core.specs.WholeInputs.{AnswersInput, AnswersParts, WholeFinishes, WholeStops, question_lines};
 
 use crate::answer::Answer;
@@ -56,12 +56,12 @@ fn read_whole<R: Read>(alloc: Global, input: &mut R) -> Result<Vec<u8>, Stop>
     Err(Stop::Read)
 }
 
-fn answer_lines(
+fn answer_valid(
     alloc: Global,
     question: &Question,
     lines: VersionLines<'_>,
 ) -> Result<Answer, AllocError>
-    ensures { IfOk result (λ a. AnswersParts question.now (line_parts_of lines.entry) (outcome_of a)) }
+    ensures { IfOk result (λ a. AnswersParts question.now (input_parts_of lines.entry) (outcome_of a)) }
 {
     match question {
         Question::Sort(options) => sort_versions(alloc, *options, lines),
@@ -69,13 +69,15 @@ fn answer_lines(
     }
 }
 
-/// What is to be written, where this is the whole input.
-fn answer_text(alloc: Global, question: &Question, text: &[u8]) -> Result<Answer, AllocError>
-    ensures { IfOk result (λ a. AnswersInput question.now (input_lines text.now) (outcome_of a)) }
+/// Nothing is printed where invalid lines are an error and there are some.
+fn answer_lines(
+    alloc: Global,
+    question: &Question,
+    lines: VersionLines<'_>,
+) -> Result<Answer, AllocError>
+    ensures { IfOk result (λ a. (texts : List (List ℕ)) → IsOfLines (question_lines question.now) texts lines.entry → AnswersInput question.now texts (outcome_of a)) }
 {
-    let options = question_lines(question);
-    let lines = VersionLines::read(alloc, options, text)?;
-    let status = options.invalid.status(lines.fault_count);
+    let status = lines.status(question_lines(question));
     if status > 0 {
         return Ok(Answer {
             output: Vec::new(alloc),
@@ -83,6 +85,14 @@ fn answer_text(alloc: Global, question: &Question, text: &[u8]) -> Result<Answer
             status,
         });
     }
+    answer_valid(alloc, question, lines)
+}
+
+/// What is to be written, where this is the whole input.
+fn answer_text(alloc: Global, question: &Question, text: &[u8]) -> Result<Answer, AllocError>
+    ensures { IfOk result (λ a. AnswersInput question.now (input_lines text.now) (outcome_of a)) }
+{
+    let lines = VersionLines::read(alloc, question_lines(question), text)?;
     answer_lines(alloc, question, lines)
 }
 
