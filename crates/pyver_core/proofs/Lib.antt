@@ -13,6 +13,7 @@ pub mod CommonRanges
 pub mod RunEnds
 pub mod Starts
 pub mod FilterWords
+pub mod LineWords
 pub mod Bumping
 pub mod Digits
 pub mod Releases
