@@ -2,7 +2,7 @@
 _pyver() {
     local word=${COMP_WORDS[COMP_CWORD]} before=${COMP_WORDS[COMP_CWORD - 1]} words=
     case $COMP_CWORD,${COMP_WORDS[1]} in
-        1,*) words='compare match filter sort show bump range --help --version' ;;
+        1,*) words='compare match filter sort newest show bump range --help --version' ;;
         *,compare)
             case $COMP_CWORD in
                 2) words='--help' ;;
@@ -17,7 +17,20 @@ _pyver() {
                 *) words='--help -v --invert-match --pre --no-pre -k --field -d --delimiter --header --invalid' ;;
             esac
             ;;
-        *,sort) words='--help -r --reverse -u --unique -n --last' ;;
+        *,sort)
+            case $before in
+                --invalid) words='error skip keep' ;;
+                -n | --last | -k | --field | -d | --delimiter) ;;
+                *) words='--help -r --reverse -u --unique -n --last -k --field -d --delimiter --header --invalid' ;;
+            esac
+            ;;
+        *,newest)
+            case $before in
+                --invalid) words='error skip keep' ;;
+                -k | --field | -d | --delimiter) ;;
+                *) words='--help --pre --no-pre -k --field -d --delimiter --header --invalid' ;;
+            esac
+            ;;
         *,show)
             case $before in
                 --part) words='epoch release major minor micro pre post dev local public base' ;;

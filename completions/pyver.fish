@@ -24,6 +24,18 @@ complete -c pyver -n __fish_use_subcommand -a sort -d 'the lines of standard inp
 complete -c pyver -n '__fish_seen_subcommand_from sort' -s r -l reverse -d 'the newest first'
 complete -c pyver -n '__fish_seen_subcommand_from sort' -s u -l unique -d 'of lines of equal versions the first alone'
 complete -c pyver -n '__fish_seen_subcommand_from sort' -s n -l last -x -d 'the last lines alone'
+complete -c pyver -n '__fish_seen_subcommand_from sort' -s k -l field -x -d 'the field that is the version, from 1'
+complete -c pyver -n '__fish_seen_subcommand_from sort' -s d -l delimiter -x -d 'the byte between fields'
+complete -c pyver -n '__fish_seen_subcommand_from sort' -l header -d 'print the first line first, which is no version'
+complete -c pyver -n '__fish_seen_subcommand_from sort' -l invalid -x -a 'error skip keep' -d 'what is done with invalid lines'
+
+complete -c pyver -n __fish_use_subcommand -a newest -d 'the line of the newest version that the specifiers allow'
+complete -c pyver -n '__fish_seen_subcommand_from newest' -l pre -d 'allow pre-releases and dev releases as all others'
+complete -c pyver -n '__fish_seen_subcommand_from newest' -l no-pre -d 'allow no pre-releases and no dev releases'
+complete -c pyver -n '__fish_seen_subcommand_from newest' -s k -l field -x -d 'the field that is the version, from 1'
+complete -c pyver -n '__fish_seen_subcommand_from newest' -s d -l delimiter -x -d 'the byte between fields'
+complete -c pyver -n '__fish_seen_subcommand_from newest' -l header -d 'leave out the first line, which is no version'
+complete -c pyver -n '__fish_seen_subcommand_from newest' -l invalid -x -a 'error skip keep' -d 'what is done with invalid lines'
 
 complete -c pyver -n __fish_use_subcommand -a show -d 'versions in normal form, or their parts'
 complete -c pyver -n '__fish_seen_subcommand_from show' -l part -x -a 'epoch release major minor micro pre post dev local public base' -d 'print a part alone'

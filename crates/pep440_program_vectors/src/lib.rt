@@ -17,6 +17,8 @@ mod pyver_fields;
 #[cfg(test)]
 mod pyver_filter;
 #[cfg(test)]
+mod pyver_newest;
+#[cfg(test)]
 mod pyver_range;
 #[cfg(test)]
 mod pyver_show;

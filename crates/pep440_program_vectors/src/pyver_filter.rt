@@ -218,7 +218,7 @@ fn sweep_invalid_lines(rt: HostRuntime) -> Result<(), Fail> {
 }
 
 // Whether nothing is read where the list is invalid, and what `match` writes is written.
-fn rejects_list(alloc: Global, filter: &[String], matching: &[String]) -> bool {
+pub(super) fn rejects_list(alloc: Global, filter: &[String], matching: &[String]) -> bool {
     let mut input = Trickle::new(b"never read", After::Fails);
     let mut out = Sink::new(Manner::TakesAtMost(512));
     let mut err = Sink::new(Manner::TakesAtMost(512));

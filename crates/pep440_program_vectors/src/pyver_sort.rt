@@ -107,7 +107,7 @@ const SORTED: [(&str, &[u8], &str, &str, u8); 25] = [
         "sort|-n",
         b"",
         "",
-        "pyver: usage: pyver sort [-r] [-u] [-n K]\nTry 'pyver sort --help'.\n",
+        "pyver: usage: pyver sort [-r] [-u] [-n K] [-k N] [-d C] [--header] [--invalid HOW]\nTry 'pyver sort --help'.\n",
         2,
     ),
     (
@@ -149,7 +149,7 @@ const SORTED: [(&str, &[u8], &str, &str, u8); 25] = [
         "sort|versions.txt",
         b"",
         "",
-        "pyver: usage: pyver sort [-r] [-u] [-n K]\nTry 'pyver sort --help'.\n",
+        "pyver: usage: pyver sort [-r] [-u] [-n K] [-k N] [-d C] [--header] [--invalid HOW]\nTry 'pyver sort --help'.\n",
         2,
     ),
     (
@@ -157,6 +157,195 @@ const SORTED: [(&str, &[u8], &str, &str, u8); 25] = [
         b"",
         "",
         "pyver: no command 'srot'; did you mean 'sort'?\nTry 'pyver --help'.\n",
+        2,
+    ),
+];
+
+// The same of invalid lines that are an error, left out or kept.
+const INVALID_LINES: [(&str, &[u8], &str, &str, u8); 13] = [
+    (
+        "sort|--invalid|error",
+        b"2.0\nx\n",
+        "",
+        "pyver: -: line 2: expected version to start with a number, but no leading ASCII digits were found\n",
+        2,
+    ),
+    (
+        "sort|--invalid|skip",
+        b"2.0\nx\n1.0\n1.x\n",
+        "1.0\n2.0\n",
+        "pyver: invalid lines left out: 2\n",
+        0,
+    ),
+    ("sort|--invalid=skip|-n|1", b"2.0\n1.0\n", "2.0\n", "", 0),
+    (
+        "sort|--invalid=skip",
+        b"x\n",
+        "",
+        "pyver: invalid lines left out: 1\n",
+        0,
+    ),
+    (
+        "sort|--invalid=keep",
+        b"x\n2.0\n\n1.x\r\n1.0\nx",
+        "1.0\n2.0\nx\n1.x\nx\n",
+        "",
+        0,
+    ),
+    (
+        "sort|--invalid=keep|-r|-u",
+        b"x\n1.0\nx\n2.0\n1\n",
+        "2.0\n1.0\nx\nx\n",
+        "",
+        0,
+    ),
+    (
+        "sort|--invalid=keep|-n|2",
+        b"x\n2.0\n1.0\n",
+        "2.0\nx\n",
+        "",
+        0,
+    ),
+    (
+        "sort|-r|-n|1|--invalid=keep",
+        b"2.0\nx\n1.0\n",
+        "x\n",
+        "",
+        0,
+    ),
+    ("sort|--invalid=keep|-n|0", b"x\n1.0\n", "", "", 0),
+    (
+        "sort|--invalid=keep|--invalid|error",
+        b"1.0\nx\n",
+        "",
+        "pyver: -: line 2: expected version to start with a number, but no leading ASCII digits were found\n",
+        2,
+    ),
+    (
+        "sort|--invalid|skpi",
+        b"",
+        "",
+        "pyver: no value of --invalid 'skpi'; did you mean 'skip'?\nTry 'pyver sort --help'.\n",
+        2,
+    ),
+    (
+        "sort|--invalid=",
+        b"",
+        "",
+        "pyver: no value of --invalid ''\nTry 'pyver sort --help'.\n",
+        2,
+    ),
+    (
+        "sort|--invalid",
+        b"",
+        "",
+        "pyver: usage: pyver sort [-r] [-u] [-n K] [-k N] [-d C] [--header] [--invalid HOW]\nTry 'pyver sort --help'.\n",
+        2,
+    ),
+];
+
+// The same of lines whose version is a field, and of lines behind a header.
+const SORTED_FIELDS: [(&str, &[u8], &str, &str, u8); 18] = [
+    (
+        "sort|-d|,|-k|2|--header",
+        b"name,version\na,1.10\nb,1.9\nc,v1.9\n",
+        "name,version\nb,1.9\nc,v1.9\na,1.10\n",
+        "",
+        0,
+    ),
+    (
+        "sort|--field=2",
+        b"b\t2.0\t1\na\t1.0\n",
+        "a\t1.0\nb\t2.0\t1\n",
+        "",
+        0,
+    ),
+    (
+        "sort|--field|1|--delimiter=;|-r",
+        b"0.5;x\nv1.0;y\n",
+        "v1.0;y\n0.5;x\n",
+        "",
+        0,
+    ),
+    (
+        "sort|-k|2",
+        b"a\t1.0\nb\n",
+        "",
+        "pyver: -: line 2: no field 2\n",
+        2,
+    ),
+    (
+        "sort|-k|2|-d|,",
+        b"\"a,b\",1.0\n",
+        "",
+        "pyver: -: line 1: expected version to start with a number, but no leading ASCII digits were found\n",
+        2,
+    ),
+    (
+        "sort|-k|2|-d|:|--invalid=skip",
+        b"a\nb:1.0\n",
+        "b:1.0\n",
+        "pyver: invalid lines left out: 1\n",
+        0,
+    ),
+    (
+        "sort|--header|-k|2|--invalid|keep|-u|-n|2",
+        b"h\nx\na\t1.0\nb\t1\nc\t0\n",
+        "h\na\t1.0\nx\n",
+        "",
+        0,
+    ),
+    (
+        "sort|--header|-r|-n|1",
+        b"\xEF\xBB\xBFversion\r\n1.0\n2.0",
+        "version\n1.0\n",
+        "",
+        0,
+    ),
+    ("sort|--header|-n|0", b"version\n1.0\n", "version\n", "", 0),
+    ("sort|--header", b"version", "version\n", "", 0),
+    ("sort|--header", b"\n2.0\n1.0\n", "1.0\n2.0\n", "", 0),
+    ("sort|--header|-k|2", b"", "", "", 0),
+    (
+        "sort|--header",
+        b"x\nx\n1.0\n",
+        "",
+        "pyver: -: line 2: expected version to start with a number, but no leading ASCII digits were found\n",
+        2,
+    ),
+    (
+        "sort|-k|0",
+        b"",
+        "",
+        "pyver: no value of --field '0'\nTry 'pyver sort --help'.\n",
+        2,
+    ),
+    (
+        "sort|--delimiter|,,",
+        b"",
+        "",
+        "pyver: no value of --delimiter ',,'\nTry 'pyver sort --help'.\n",
+        2,
+    ),
+    (
+        "sort|--field=x",
+        b"",
+        "",
+        "pyver: no value of --field 'x'\nTry 'pyver sort --help'.\n",
+        2,
+    ),
+    (
+        "sort|-k",
+        b"",
+        "",
+        "pyver: usage: pyver sort [-r] [-u] [-n K] [-k N] [-d C] [--header] [--invalid HOW]\nTry 'pyver sort --help'.\n",
+        2,
+    ),
+    (
+        "sort|--headre",
+        b"",
+        "",
+        "pyver: no option '--headre'; did you mean '--header'?\nTry 'pyver sort --help'.\n",
         2,
     ),
 ];
@@ -171,7 +360,27 @@ fn sweep_sorted_lines(rt: HostRuntime) -> Result<(), Fail> {
     Ok(())
 }
 
-const FAULT: &str =
+#[test]
+fn sweep_invalid_lines_of_sort(rt: HostRuntime) -> Result<(), Fail> {
+    for (line, text, output, errors, status) in INVALID_LINES {
+        let words = split_words(rt.alloc(), line)?;
+        let holds = writes(rt.alloc(), words.as_slice(), text, (output, errors, status));
+        assert!(rt; holds, "{line} of {text:?}");
+    }
+    Ok(())
+}
+
+#[test]
+fn sweep_sorted_fields(rt: HostRuntime) -> Result<(), Fail> {
+    for (line, text, output, errors, status) in SORTED_FIELDS {
+        let words = split_words(rt.alloc(), line)?;
+        let holds = writes(rt.alloc(), words.as_slice(), text, (output, errors, status));
+        assert!(rt; holds, "{line} of {text:?}");
+    }
+    Ok(())
+}
+
+pub(super) const FAULT: &str =
     "pyver: -: line 2: expected version to start with a number, but no leading ASCII digits were found\n";
 
 // The input, how it ends and the writers answer, and what they hold at the end.
@@ -224,7 +433,7 @@ const STOPPED: [(&[u8], After, Manner, Manner, &str, &str, &str); 5] = [
 ];
 
 // Whether a run stops so, with status 4, or ends with nothing on standard error.
-fn stops(
+pub(super) fn stops(
     alloc: Global,
     words: &[String],
     row: (&[u8], After, Manner, Manner, &str, &str, &str),
@@ -251,22 +460,28 @@ fn sweep_stopped_sorts(rt: HostRuntime) -> Result<(), Fail> {
     Ok(())
 }
 
-// 25 invalid lines and a version: 20 lines are named, and that there are 5 more.
-#[test]
-fn sweep_many_invalid_lines_of_sort(rt: HostRuntime) -> Result<(), Fail> {
-    let words = split_words(rt.alloc(), "sort")?;
+// Whether of 25 invalid lines and a version 20 lines are named, and that there are 5 more, and nothing is printed.
+pub(super) fn names_twenty(alloc: Global, words: &[String]) -> bool {
     let mut input: &[u8] =
         b"x\nx\nx\nx\nx\nx\nx\nx\nx\nx\nx\nx\nx\nx\nx\nx\nx\nx\nx\nx\nx\nx\nx\nx\n1.0\nx";
     let mut out = Sink::new(Manner::TakesAtMost(512));
-    let mut err = Vec::new(rt.alloc());
-    let status = run(rt.alloc(), words.as_slice(), &mut input, &mut out, &mut err);
-    assert!(rt; status == 2 || status == 3 || status == 4, "the status");
-    assert!(rt; out.bytes().is_empty(), "no version");
+    let mut err = Vec::new(alloc);
+    let status = run(alloc, words, &mut input, &mut out, &mut err);
+    if !out.bytes().is_empty() {
+        return false;
+    }
     if status == 2 {
         let lines = err.as_slice().iter().filter(|byte| **byte == b'\n').count();
-        assert!(rt; lines == 21, "20 lines and how many more");
         let last = "\npyver: more invalid lines: 5\n".as_bytes();
-        assert!(rt; err.as_slice().ends_with(last), "how many more");
+        return lines == 21 && err.as_slice().ends_with(last);
     }
+    status == 3 || status == 4
+}
+
+#[test]
+fn sweep_many_invalid_lines_of_sort(rt: HostRuntime) -> Result<(), Fail> {
+    let words = split_words(rt.alloc(), "sort")?;
+    let holds = names_twenty(rt.alloc(), words.as_slice());
+    assert!(rt; holds, "25 invalid lines");
     Ok(())
 }

@@ -1,74 +1,112 @@
--- Lines that are read one after another and kept, where they are versions.
+-- Lines that are read one after another, and kept by what they are.
 use Rattle.std.proofs.Common.{Bor, ◌≡◌, ◌∙◌, ◌+◌, ◌-◌, ◌<◌, ◌^◌, ℕ, List, [], ◌∷◌, ◌++◌, true, false, cond, not, Option, Some, IfSome, length, take, map, refl, sym, ap, subst, arith, append_assoc, append-nil, length-append}
+use Rattle.std.proofs.Math.Seq.{take-nil}
 use Rattle.std.proofs.lemmas.Grind.{flat_map-append}
 use Rattle.std.specs.List.{AllZip, concat, filter}
 use Rattle.std.specs.Option.{option_map_or}
 use Rattle.pyver_core.proofs.Filtering.{first-append, length-faults}
 use Rattle.pyver_core.proofs.InputLines.{all_append, filled_lines_from-append}
 use Rattle.pyver_core.specs.InputLines.{filled_lines_from, input_lines, is_blank, numbered}
-use Rattle.pyver_core.specs.Messages.{more_faults_message}
-use Rattle.pyver_core.specs.LineOptions.{is_header, no_line_options}
+use Rattle.pyver_core.specs.InvalidLines.{last_message, message_limit}
+use Rattle.pyver_core.specs.LineOptions.{is_header}
 use Rattle.pyver_core.specs.ReadLines.{IsEntry, IsRead, LineReading, ReadLine, faults}
-use Rattle.pyver_core.specs.VersionLines.{line_with, version_lines}
+use Rattle.pyver_core.specs.VersionLines.{header_text, header_with, kept_lines, kept_with, line_with, version_lines}
 use Rattle.pyver_core.specs.VersionLineViews.{IsOfLines, KeepsLines, KeepsOne, version_line_of}
+use Rattle.pyver_core.specs.declared.invalid_lines.InvalidLines.{InvalidLines}
+use Rattle.pyver_core.specs.declared.line_options.LineOptions.{LineOptions}
 use Rattle.pyver_core.specs.declared.version_line.VersionLines.{VersionLines}
+
+header_text-append : (xs ys : List ReadLine) → header_text (xs ++ ys) ≡ header_text xs ++ header_text ys
+header_text-append xs ys = flat_map-append (λ (x : ReadLine). header_with x.line.1 x.reading) xs ys
 
 version_lines-append : (xs ys : List ReadLine) → version_lines (xs ++ ys) ≡ version_lines xs ++ version_lines ys
 version_lines-append xs ys = flat_map-append (λ (x : ReadLine). line_with x.line.1 x.reading) xs ys
 
--- ---- one line more
+kept_lines-append : (how : InvalidLines) (xs ys : List ReadLine) → kept_lines how (xs ++ ys) ≡ kept_lines how xs ++ kept_lines how ys
+kept_lines-append how xs ys = flat_map-append (λ (x : ReadLine). kept_with how x.line.1 x.reading) xs ys
+
+-- ---- no line, and one line more
+
+pub keeps_none : (options : LineOptions) (s : VersionLines) → s.line_count ≡ 0 → s.header.items ≡ [] → s.versions.items ≡ [] → s.invalid.items ≡ [] → s.fault_count ≡ 0 → s.errors.items ≡ [] → KeepsLines options [] s
+keeps_none options s count header versions invalid fault errors = record {
+  found = [];
+  are = tt;
+  line_count = count;
+  header = header;
+  versions = ap (map version_line_of) versions;
+  invalid = ap (map (λ (t : Bor (List ℕ)). t.now)) invalid;
+  fault_count = fault;
+  errors = errors ∙ ap concat (sym (take-nil (message_limit options.invalid)));
+}
 
 filled_one : (n : ℕ) (line text : List ℕ) → (n, text) ≡ numbered (n, line) → filled_lines_from n (line ∷ []) ≡ cond (not (is_blank text)) ((n, text) ∷ []) []
 filled_one n line text is = ap (λ (p : ℕ × List ℕ). filter (λ (l : ℕ × List ℕ). not (is_blank l.1)) (p ∷ [])) (sym is)
 
+-- only the count of lines is new
+pub record SameBut (a b : VersionLines) : Type 0 where
+  pub line_count : b.line_count ≡ a.line_count + 1
+  pub header : b.header.items ≡ a.header.items
+  pub versions : b.versions.items ≡ a.versions.items
+  pub invalid : b.invalid.items ≡ a.invalid.items
+  pub fault_count : b.fault_count ≡ a.fault_count
+  pub errors : b.errors.items ≡ a.errors.items
+
 -- a blank line
-pub keeps_blank : (line text : List ℕ) (a b : VersionLines) → (a.line_count + 1, text) ≡ numbered (a.line_count + 1, line) → is_blank text ≡ true
-    → b.line_count ≡ a.line_count + 1 → b.lines.items ≡ a.lines.items → b.fault_count ≡ a.fault_count → b.errors.items ≡ a.errors.items
-    → (texts : List (List ℕ)) → KeepsLines texts a → KeepsLines (texts ++ line ∷ []) b
-keeps_blank line text a b is blank count lines fault errors texts k =
+pub keeps_blank : (options : LineOptions) (line text : List ℕ) (a b : VersionLines) → (a.line_count + 1, text) ≡ numbered (a.line_count + 1, line) → is_blank text ≡ true → SameBut a b
+    → (texts : List (List ℕ)) → KeepsLines options texts a → KeepsLines options (texts ++ line ∷ []) b
+keeps_blank options line text a b is blank same texts k =
     let none : filled_lines_from (a.line_count + 1) (line ∷ []) ≡ [] = filled_one (a.line_count + 1) line text is ∙ ap (λ c. cond (not c) ((a.line_count + 1, text) ∷ []) []) blank in
     let all : filled_lines_from 1 (texts ++ line ∷ []) ≡ filled_lines_from 1 texts =
     filled_lines_from-append 1 (a.line_count + 1) texts (line ∷ []) (omega (arith, k.line_count)) ∙ ap (λ l. filled_lines_from 1 texts ++ l) none ∙ append-nil (filled_lines_from 1 texts) in
     record {
       found = k.found;
-      are = subst (λ l. AllZip (IsRead no_line_options) l k.found) (sym all) k.are;
-      line_count = omega (arith, count, k.line_count, length-append texts (line ∷ []));
-      lines = ap (map version_line_of) lines ∙ k.lines;
-      fault_count = fault ∙ k.fault_count;
-      errors = errors ∙ k.errors;
+      are = subst (λ l. AllZip (IsRead options) l k.found) (sym all) k.are;
+      line_count = omega (arith, same.line_count, k.line_count, length-append texts (line ∷ []));
+      header = same.header ∙ k.header;
+      versions = ap (map version_line_of) same.versions ∙ k.versions;
+      invalid = ap (map (λ (t : Bor (List ℕ)). t.now)) same.invalid ∙ k.invalid;
+      fault_count = same.fault_count ∙ k.fault_count;
+      errors = same.errors ∙ k.errors;
     }
 
 -- a line that is read
-pub keeps_line : (line text : List ℕ) (reading : LineReading) (a mid b : VersionLines) → (a.line_count + 1, text) ≡ numbered (a.line_count + 1, line) → is_blank text ≡ false → IsEntry (is_header no_line_options (a.line_count + 1)) no_line_options text reading
-    → mid.line_count ≡ a.line_count + 1 → mid.lines.items ≡ a.lines.items → mid.fault_count ≡ a.fault_count → mid.errors.items ≡ a.errors.items
-    → KeepsOne (record { line = (mid.line_count, text); reading = reading }) mid b → (texts : List (List ℕ)) → KeepsLines texts a → KeepsLines (texts ++ line ∷ []) b
-keeps_line line text reading a mid b is filled reads count lines fault errors one texts k =
+pub keeps_line : (options : LineOptions) (line text : List ℕ) (reading : LineReading) (a mid b : VersionLines) → (a.line_count + 1, text) ≡ numbered (a.line_count + 1, line) → is_blank text ≡ false
+    → IsEntry (is_header options (a.line_count + 1)) options text reading → SameBut a mid
+    → KeepsOne options (record { line = (mid.line_count, text); reading = reading }) mid b → (texts : List (List ℕ)) → KeepsLines options texts a → KeepsLines options (texts ++ line ∷ []) b
+keeps_line options line text reading a mid b is filled reads same one texts k =
     let n = a.line_count + 1 in
     let x : ReadLine = record { line = (mid.line_count, text); reading = reading } in
     let left : filled_lines_from n (line ∷ []) ≡ (n, text) ∷ [] = filled_one n line text is ∙ ap (λ c. cond (not c) ((n, text) ∷ []) []) filled in
     let all : filled_lines_from 1 (texts ++ line ∷ []) ≡ filled_lines_from 1 texts ++ (n, text) ∷ [] =
     filled_lines_from-append 1 n texts (line ∷ []) (omega (arith, k.line_count)) ∙ ap (λ l. filled_lines_from 1 texts ++ l) left in
+    let limit = message_limit options.invalid in
     record {
       found = k.found ++ x ∷ [];
-      are = subst (λ l. AllZip (IsRead no_line_options) l (k.found ++ x ∷ [])) (sym all) (all_append (IsRead no_line_options) (filled_lines_from 1 texts) k.found ((n, text) ∷ []) (x ∷ []) k.are ((ap (λ m. (m, text)) count, reads), tt));
-      line_count = omega (arith, one.line_count, count, k.line_count, length-append texts (line ∷ []));
-      lines = one.lines ∙ ap (λ l. l ++ version_lines (x ∷ [])) (ap (map version_line_of) lines ∙ k.lines) ∙ sym (version_lines-append k.found (x ∷ []));
-      fault_count = omega (arith, one.fault_count, fault, k.fault_count, length-faults k.found (x ∷ []));
-      errors = one.errors ∙ ap (λ t. t ++ concat (take (20 - mid.fault_count) (faults (x ∷ [])))) (errors ∙ k.errors)
-          ∙ sym (first-append 20 (20 - mid.fault_count) k.found (x ∷ []) (ap (λ m. 20 - m) (fault ∙ k.fault_count)));
+      are = subst (λ l. AllZip (IsRead options) l (k.found ++ x ∷ [])) (sym all) (all_append (IsRead options) (filled_lines_from 1 texts) k.found ((n, text) ∷ []) (x ∷ []) k.are ((ap (λ m. (m, text)) same.line_count, reads), tt));
+      line_count = omega (arith, one.line_count, same.line_count, k.line_count, length-append texts (line ∷ []));
+      header = one.header ∙ ap (λ l. l ++ header_text (x ∷ [])) (same.header ∙ k.header) ∙ sym (header_text-append k.found (x ∷ []));
+      versions = one.versions ∙ ap (λ l. l ++ version_lines (x ∷ [])) (ap (map version_line_of) same.versions ∙ k.versions) ∙ sym (version_lines-append k.found (x ∷ []));
+      invalid = one.invalid ∙ ap (λ l. l ++ kept_lines options.invalid (x ∷ [])) (ap (map (λ (t : Bor (List ℕ)). t.now)) same.invalid ∙ k.invalid) ∙ sym (kept_lines-append options.invalid k.found (x ∷ []));
+      fault_count = omega (arith, one.fault_count, same.fault_count, k.fault_count, length-faults k.found (x ∷ []));
+      errors = one.errors ∙ ap (λ t. t ++ concat (take (limit - mid.fault_count) (faults (x ∷ [])))) (same.errors ∙ k.errors)
+          ∙ sym (first-append limit (limit - mid.fault_count) k.found (x ∷ []) (ap (λ m. limit - m) (same.fault_count ∙ k.fault_count)));
     }
 
 -- ---- the end
 
-pub is_of_lines : (a b : VersionLines) → b.lines.items ≡ a.lines.items → b.fault_count ≡ a.fault_count → b.errors.items ≡ a.errors.items ++ more_faults_message (a.fault_count - 20)
-    → (texts : List (List ℕ)) → KeepsLines texts a → IsOfLines texts b
-is_of_lines a b lines fault errors texts k = record {
-  found = k.found;
-  are = k.are;
-  lines = ap (map version_line_of) lines ∙ k.lines;
-  fault_count = fault ∙ k.fault_count;
-  errors = errors ∙ ap (λ n. a.errors.items ++ more_faults_message (n - 20)) k.fault_count ∙ ap (λ t. t ++ more_faults_message (length (faults k.found) - 20)) k.errors;
-}
+pub is_of_lines : (options : LineOptions) (a b : VersionLines) → b.header.items ≡ a.header.items → b.versions.items ≡ a.versions.items → b.invalid.items ≡ a.invalid.items → b.fault_count ≡ a.fault_count
+    → b.errors.items ≡ a.errors.items ++ last_message options.invalid a.fault_count → (texts : List (List ℕ)) → KeepsLines options texts a → IsOfLines options texts b
+is_of_lines options a b header versions invalid fault errors texts k =
+    let headers = header ∙ k.header in
+    let lines = ap (map version_line_of) versions ∙ k.versions in
+    let kept = ap (map (λ (t : Bor (List ℕ)). t.now)) invalid ∙ k.invalid in
+    let messages = errors ∙ ap (λ n. a.errors.items ++ last_message options.invalid n) k.fault_count ∙ ap (λ t. t ++ last_message options.invalid (length (faults k.found))) k.errors in
+    record {
+      found = k.found;
+      are = k.are;
+      fault_count = fault ∙ k.fault_count;
+      parts = λ i. record { header = headers i; versions = lines i; invalid = kept i; messages = messages i };
+    }
 
 -- ---- the lines of a text that are left
 
@@ -92,21 +130,21 @@ room_more count more rest text later is next shorter room = λ r at.
     omega (arith, less, here, next)
 
 -- the lines before those that are left were read
-pub record KeepsFront (text : List ℕ) (rest : Option (Bor (List ℕ))) (s : VersionLines) : Type 0 where
+pub record KeepsFront (options : LineOptions) (text : List ℕ) (rest : Option (Bor (List ℕ))) (s : VersionLines) : Type 0 where
   pub ended : List (List ℕ)
   pub split : input_lines text ≡ ended ++ lines_left rest
-  pub keeps : KeepsLines ended s
+  pub keeps : KeepsLines options ended s
 
-pub front_none : (text : Bor (List ℕ)) (s : VersionLines) → KeepsLines [] s → KeepsFront text.now (Some text) s
-front_none text s k = record { ended = []; split = refl; keeps = k }
+pub front_none : (options : LineOptions) (text : Bor (List ℕ)) (s : VersionLines) → KeepsLines options [] s → KeepsFront options text.now (Some text) s
+front_none options text s k = record { ended = []; split = refl; keeps = k }
 
-pub front_more : (text : List ℕ) (rest : Option (Bor (List ℕ))) (left : Bor (List ℕ)) (line : List ℕ) (later : Option (Bor (List ℕ))) (a b : VersionLines) → rest ≡ Some left → input_lines left.now ≡ line ∷ lines_left later
-    → ((texts : List (List ℕ)) → KeepsLines texts a → KeepsLines (texts ++ line ∷ []) b) → KeepsFront text rest a → KeepsFront text later b
-front_more text rest left line later a b is first more k = record {
+pub front_more : (options : LineOptions) (text : List ℕ) (rest : Option (Bor (List ℕ))) (left : Bor (List ℕ)) (line : List ℕ) (later : Option (Bor (List ℕ))) (a b : VersionLines) → rest ≡ Some left → input_lines left.now ≡ line ∷ lines_left later
+    → ((texts : List (List ℕ)) → KeepsLines options texts a → KeepsLines options (texts ++ line ∷ []) b) → KeepsFront options text rest a → KeepsFront options text later b
+front_more options text rest left line later a b is first more k = record {
   ended = k.ended ++ line ∷ [];
   split = k.split ∙ ap (λ r. k.ended ++ lines_left r) is ∙ ap (λ l. k.ended ++ l) first ∙ sym (append_assoc k.ended (line ∷ []) (lines_left later));
   keeps = more k.ended k.keeps;
 }
 
-pub front_all : (text : List ℕ) (rest : Option (Bor (List ℕ))) (a b : VersionLines) → lines_left rest ≡ [] → ((texts : List (List ℕ)) → KeepsLines texts a → IsOfLines texts b) → KeepsFront text rest a → IsOfLines (input_lines text) b
-front_all text rest a b none last k = subst (λ l. IsOfLines l b) (sym (k.split ∙ ap (λ l. k.ended ++ l) none ∙ append-nil k.ended)) (last k.ended k.keeps)
+pub front_all : (options : LineOptions) (text : List ℕ) (rest : Option (Bor (List ℕ))) (a b : VersionLines) → lines_left rest ≡ [] → ((texts : List (List ℕ)) → KeepsLines options texts a → IsOfLines options texts b) → KeepsFront options text rest a → IsOfLines options (input_lines text) b
+front_all options text rest a b none last k = subst (λ l. IsOfLines options l b) (sym (k.split ∙ ap (λ l. k.ended ++ l) none ∙ append-nil k.ended)) (last k.ended k.keeps)

@@ -4,6 +4,7 @@ pub mod InputLines
 pub mod Filtering
 pub mod Keeping
 pub mod Sorting
+pub mod Choosing
 pub mod Whole
 pub mod Bytes
 pub mod Appended
@@ -12,6 +13,7 @@ pub mod CommonRanges
 pub mod RunEnds
 pub mod Starts
 pub mod FilterWords
+pub mod LineWords
 pub mod Bumping
 pub mod Digits
 pub mod Releases

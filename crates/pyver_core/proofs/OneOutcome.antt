@@ -9,28 +9,33 @@ use Rattle.pep440_version.proofs.Reading.Agreement.{one_record}
 use Rattle.pep440_version.proofs.Refusals.ExactlyOne.{not_both, one_refusal}
 use Rattle.pep440_version.specs.ErrorTexts.{refusal_text}
 use Rattle.pyver_core.specs.Bumps.{Bumps, bump_outcome}
+use Rattle.pyver_core.proofs.Choosing.{one_newest}
 use Rattle.pyver_core.proofs.Sorting.{one_sorted}
 use Rattle.pyver_core.specs.CommonRanges.{FindsCommon, RangeReading, ReadsRange, found_outcome, range_reading}
 use Rattle.pyver_core.specs.Comparisons.{Compares, comparison_outcome}
 use Rattle.pyver_core.specs.Fields.{field}
 use Rattle.pyver_core.specs.Filters.{Filters, FiltersBy, FiltersLines, filter_outcome, rule_of}
 use Rattle.pyver_core.specs.InputLines.{filled_lines_from}
-use Rattle.pyver_core.specs.LineOptions.{is_header, no_line_options}
+use Rattle.pyver_core.specs.LineOptions.{is_header}
 use Rattle.pyver_core.specs.Matches.{Matches, MatchesBy, MatchesWord, MatchesWords, ReadsSpecifiers, SpecifiersReading, DenotesList, ListFails, word_outcome}
+use Rattle.pyver_core.specs.Newest.{FindsNewest, FindsNewestBy, FindsNewestLine, candidates, newest_outcome, newest_rule}
 use Rattle.pyver_core.specs.OneOutcome.{OutcomesOnce}
 use Rattle.pyver_core.specs.Outcomes.{Outcome, in_turn}
 use Rattle.pyver_core.specs.ReadLines.{Entry, Header, IsEntry, IsRead, LineReading, ReadLine, ReadsBytes, ReadsField, ReadsPart}
 use Rattle.pyver_core.specs.Readings.{Reading, Reads, Denotes, Fails}
 use Rattle.pyver_core.specs.Shows.{Shows, ShowsWord, show_outcome}
-use Rattle.pyver_core.specs.Sorts.{SortsVersions, sort_outcome}
-use Rattle.pyver_core.specs.Tasks.{Help, NameVersion, Compare, Match, Filter, Sort, Show, Bump, Range, Misused}
-use Rattle.pyver_core.specs.VersionLines.{OfFound, OfVersions, VersionLine, version_lines}
+use Rattle.pyver_core.specs.Sorts.{SortsParts, sort_outcome}
+use Rattle.pyver_core.specs.Tasks.{Help, NameVersion, Compare, Match, Filter, Sort, Newest, Show, Bump, Range, Misused}
+use Rattle.pyver_core.specs.VersionLines.{InputParts, OfFound, OfVersions, input_parts}
 use Rattle.pyver_core.specs.declared.allowed.MatchOptions.{MatchOptions}
 use Rattle.pyver_core.specs.declared.bump.BumpPart.{BumpPart}
 use Rattle.pyver_core.specs.declared.comparison.Comparison.{Comparison}
 use Rattle.pyver_core.specs.declared.filter.FilterOptions.{FilterOptions}
 use Rattle.pyver_core.specs.declared.filter.FilterRule.{FilterRule}
+use Rattle.pyver_core.specs.declared.invalid_lines.InvalidLines.{InvalidLines}
 use Rattle.pyver_core.specs.declared.line_options.LineOptions.{LineOptions}
+use Rattle.pyver_core.specs.declared.newest.NewestOptions.{NewestOptions}
+use Rattle.pyver_core.specs.declared.newest.NewestRule.{NewestRule}
 use Rattle.pyver_core.specs.declared.range.RangeOptions.{RangeOptions}
 use Rattle.pyver_core.specs.declared.show.ShowFormat.{ShowFormat}
 use Rattle.pyver_core.specs.declared.sort.SortOptions.{SortOptions}
@@ -111,19 +116,29 @@ filter_by_once options (ListFails message) texts a b h k = h ∙ sym k
 filter_once : (options : FilterOptions) (specifiers : List ℕ) (texts : List (List ℕ)) (a b : Outcome) → FiltersLines options specifiers texts a → FiltersLines options specifiers texts b → a ≡ b
 filter_once options specifiers texts a b (x, hx, h) (u, hu, k) = filter_by_once options x texts a b h (subst (λ (z : SpecifiersReading). FiltersBy options z texts b) (sym (specifiers_once specifiers x u hx hu)) k)
 
--- what is written of the lines where none is invalid is one outcome, and so is what is written of any
-of_found_once : (Gives : List VersionLine → Outcome → Type 0) → ((lines : List VersionLine) (a b : Outcome) → Gives lines a → Gives lines b → a ≡ b) → (found : List ReadLine) (a b : Outcome) → OfFound Gives found a → OfFound Gives found b → a ≡ b
-of_found_once Gives once found a b (inl (none, h)) (inl (also, k)) = once (version_lines found) a b h k
-of_found_once Gives once found a b (inl (none, h)) (inr (some, k)) = absurd (omega (arith, none, some))
-of_found_once Gives once found a b (inr (some, h)) (inl (none, k)) = absurd (omega (arith, none, some))
-of_found_once Gives once found a b (inr (some, is)) (inr (also, so)) = is ∙ sym so
+-- what is written where no invalid line is an error is one outcome, and so is what is written of any lines
+of_found_once : (how : InvalidLines) (Gives : InputParts → Outcome → Type 0) → ((parts : InputParts) (a b : Outcome) → Gives parts a → Gives parts b → a ≡ b) → (found : List ReadLine) (a b : Outcome) → OfFound how Gives found a → OfFound how Gives found b → a ≡ b
+of_found_once how Gives once found a b (inl (none, h)) (inl (also, k)) = once (input_parts how found) a b h k
+of_found_once how Gives once found a b (inl (none, h)) (inr (some, k)) = absurd (omega (arith, none, some))
+of_found_once how Gives once found a b (inr (some, h)) (inl (none, k)) = absurd (omega (arith, none, some))
+of_found_once how Gives once found a b (inr (some, is)) (inr (also, so)) = is ∙ sym so
 
-of_versions_once : (Gives : List VersionLine → Outcome → Type 0) → ((lines : List VersionLine) (a b : Outcome) → Gives lines a → Gives lines b → a ≡ b) → (texts : List (List ℕ)) (a b : Outcome) → OfVersions Gives texts a → OfVersions Gives texts b → a ≡ b
-of_versions_once Gives once texts a b (es, h, is) (fs, k, so) =
-    of_found_once Gives once es a b is (subst (λ (l : List ReadLine). OfFound Gives l b) (sym (all_once (IsRead no_line_options) (is_read_once no_line_options) (filled_lines_from 1 texts) es fs h k)) so)
+of_versions_once : (options : LineOptions) (Gives : InputParts → Outcome → Type 0) → ((parts : InputParts) (a b : Outcome) → Gives parts a → Gives parts b → a ≡ b) → (texts : List (List ℕ)) (a b : Outcome) → OfVersions options Gives texts a → OfVersions options Gives texts b → a ≡ b
+of_versions_once options Gives once texts a b (es, h, is) (fs, k, so) =
+    of_found_once options.invalid Gives once es a b is (subst (λ (l : List ReadLine). OfFound options.invalid Gives l b) (sym (all_once (IsRead options) (is_read_once options) (filled_lines_from 1 texts) es fs h k)) so)
 
-sort_once : (options : SortOptions) (lines : List VersionLine) (a b : Outcome) → SortsVersions options lines a → SortsVersions options lines b → a ≡ b
-sort_once options lines a b (xs, h, is) (ys, k, so) = is ∙ ap (sort_outcome options) (one_sorted options.reversed lines xs ys h k) ∙ sym so
+sort_once : (options : SortOptions) (parts : InputParts) (a b : Outcome) → SortsParts options parts a → SortsParts options parts b → a ≡ b
+sort_once options parts a b (xs, h, is) (ys, k, so) = is ∙ ap (sort_outcome options parts) (one_sorted options.reversed parts.versions xs ys h k) ∙ sym so
+
+finds_once : (rule : NewestRule) (parts : InputParts) (a b : Outcome) → FindsNewest rule parts a → FindsNewest rule parts b → a ≡ b
+finds_once rule parts a b (x, h, is) (y, k, so) = is ∙ ap (newest_outcome parts.messages) (one_newest (candidates rule parts.versions) x y h k) ∙ sym so
+
+newest_by_once : (options : NewestOptions) (x : SpecifiersReading) (texts : List (List ℕ)) (a b : Outcome) → FindsNewestBy options x texts a → FindsNewestBy options x texts b → a ≡ b
+newest_by_once options (DenotesList list) texts a b h k = let rule = newest_rule options list in of_versions_once options.lines (FindsNewest rule) (finds_once rule) texts a b h k
+newest_by_once options (ListFails message) texts a b h k = h ∙ sym k
+
+newest_once : (options : NewestOptions) (specifiers : List ℕ) (texts : List (List ℕ)) (a b : Outcome) → FindsNewestLine options specifiers texts a → FindsNewestLine options specifiers texts b → a ≡ b
+newest_once options specifiers texts a b (x, hx, h) (u, hu, k) = newest_by_once options x texts a b h (subst (λ (z : SpecifiersReading). FindsNewestBy options z texts b) (sym (specifiers_once specifiers x u hx hu)) k)
 
 show_word_once : (format : ShowFormat) (word : List ℕ) (a b : Outcome) → ShowsWord format word a → ShowsWord format word b → a ≡ b
 show_word_once format word a b (x, hx, is) (u, hu, so) = is ∙ ap (show_outcome format word) (reading_once word x u hx hu) ∙ sym so
@@ -146,7 +161,8 @@ outcomes_once NameVersion texts a b h k = h ∙ sym k
 outcomes_once (Compare left operator right) texts a b h k = compare_once left operator right a b h k
 outcomes_once (Match options specifiers words) texts a b h k = match_once options specifiers words a b h k
 outcomes_once (Filter options specifiers) texts a b h k = filter_once options specifiers texts a b h k
-outcomes_once (Sort options) texts a b h k = of_versions_once (SortsVersions options) (sort_once options) texts a b h k
+outcomes_once (Sort options) texts a b h k = of_versions_once options.lines (SortsParts options) (sort_once options) texts a b h k
+outcomes_once (Newest options specifiers) texts a b h k = newest_once options specifiers texts a b h k
 outcomes_once (Show format words) texts a b h k = show_once format words a b h k
 outcomes_once (Bump to parts word) texts a b h k = bump_once to parts word a b h k
 outcomes_once (Range options words) texts a b h k = common_once options words a b h k

@@ -2,22 +2,23 @@
 use Rattle.std.proofs.Common.{◌≡◌, ◌⊎◌, ◌∙◌, ◌≤◌, ◌==◌, ℕ, List, [], ◌++◌, Bool, true, false, Option, cond, inl, inr, length, refl, sym, ap, subst, arith, append_assoc}
 use Rattle.std.proofs.KnownBytes.{Appends-nil, Appends-trans, Consumes-nil}
 use Rattle.std.specs.Io.KnownBytes.{Appends, Consumes, IsAtEnd}
-use Rattle.pyver_core.proofs.Sorting.{none_sorted}
+use Rattle.pyver_core.proofs.Whole.{no_lines}
 use Rattle.pyver_core.specs.FilterSteps.{FilterFinishes, FilterStops}
 use Rattle.pyver_core.specs.Filters.{Filters, filter_outcome, rule_of}
 use Rattle.pyver_core.specs.InputLines.{input_lines}
 use Rattle.pyver_core.specs.InvalidLines.{lines_status}
 use Rattle.pyver_core.specs.Matches.{DenotesList}
+use Rattle.pyver_core.specs.Newest.{newest_rule}
 use Rattle.pyver_core.specs.Outcomes.{Outcome}
 use Rattle.pyver_core.specs.ReadLines.{faults}
 use Rattle.pyver_core.specs.Runs.{Ends, IsLast, WritesAnswer, WroteBeginning, memory_message}
-use Rattle.pyver_core.specs.Sorts.{sort_outcome}
-use Rattle.pyver_core.specs.Tasks.{Bump, Compare, Filter, Help, IsOutcome, IsStream, Match, Misused, NameVersion, NeedsInput, Range, Show, Sort, Task, task_of}
+use Rattle.pyver_core.specs.Tasks.{Bump, Compare, Filter, Help, IsOutcome, IsStream, Match, Misused, NameVersion, NeedsInput, Newest, Range, Show, Sort, Task, task_of}
 use Rattle.pyver_core.specs.WholeInputs.{AnswersInput, WholeStops}
 use Rattle.pyver_core.specs.declared.filter.FilterRule.{FilterRule}
 use Rattle.pyver_core.specs.declared.invalid_lines.InvalidLines.{InvalidLines}
 use Rattle.pyver_core.specs.declared.invalid_lines.InvalidLines.TheVariants as invalid
 use Rattle.pyver_core.specs.declared.whole_input.Question.{Question}
+use Rattle.pyver_core.specs.declared.whole_input.Question.TheVariants as question
 
 -- before a line is read there is an outcome
 first_outcome : (task : Task) → NeedsInput task → (o : Outcome) × IsOutcome task [] o
@@ -26,7 +27,8 @@ first_outcome NameVersion n = absurd n
 first_outcome (Compare left operator right) n = absurd n
 first_outcome (Match options specifiers words) n = absurd n
 first_outcome (Filter options specifiers) n = (filter_outcome (rule_of options n.0) [], (DenotesList n.0, n.1, ([], tt, refl)))
-first_outcome (Sort options) n = (sort_outcome options [], ([], tt, inl (refl, ([], none_sorted options.reversed, refl))))
+first_outcome (Sort options) n = no_lines (question.Sort options)
+first_outcome (Newest options specifiers) n = let k = no_lines (question.Newest (newest_rule options n.0)) in (k.0, (DenotesList n.0, n.1, k.1))
 first_outcome (Show asked words) n = absurd n
 first_outcome (Bump to parts word) n = absurd n
 first_outcome (Range options words) n = absurd n

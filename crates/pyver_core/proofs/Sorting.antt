@@ -1,6 +1,6 @@
 -- Lines in order, seen as what they say.
-use Rattle.std.proofs.Common.{Bor, ◌≡◌, ◌∙◌, ◌+◌, ◌-◌, ◌<◌, ℕ, List, [], ◌∷◌, ◌++◌, Bool, true, false, Option, Some, None, cond, length, drop, map, refl, sym, ap, arith}
-use Rattle.std.proofs.lemmas.List.{drop-map, get_or-map, length-map}
+use Rattle.std.proofs.Common.{Bor, ◌≡◌, ◌∙◌, ◌+◌, ◌-◌, ◌<◌, ℕ, List, [], ◌∷◌, ◌++◌, Bool, true, false, Option, Some, None, cond, length, drop, map, refl, sym, ap, subst, arith}
+use Rattle.std.proofs.lemmas.List.{drop-map, get_or-map, length-map, map-append}
 use Rattle.std.proofs.lemmas.List.Folds.{flat_map-map}
 use Rattle.std.proofs.lemmas.List.Sorted.{IsPermutation-map, IsPermutation-refl, IsStrictWeakOrder-flip, length_permutation, ranks_by}
 use Rattle.std.specs.Cmp.{IsStrictWeakOrder}
@@ -14,8 +14,8 @@ use Rattle.pep440_version.specs.Key.{record_cmp}
 use Rattle.pep440_version.specs.KeyLaws.{record_total}
 use Rattle.pep440_version.specs.Record.{Record}
 use Rattle.pyver_core.specs.Outcomes.{Outcome}
-use Rattle.pyver_core.specs.Sorts.{SortsVersions, firsts, last_lines, line_order, lines_text, sort_outcome, version_order, without_repeats}
-use Rattle.pyver_core.specs.VersionLines.{VersionLine}
+use Rattle.pyver_core.specs.Sorts.{SortsParts, firsts, last_texts, line_order, lines_text, sort_outcome, sorted_texts, version_order, without_repeats}
+use Rattle.pyver_core.specs.VersionLines.{InputParts, VersionLine}
 use Rattle.pyver_core.specs.VersionLineViews.{version_line_of, version_line_order}
 use Rattle.pyver_core.specs.declared.sort.SortOptions.{SortOptions}
 use Rattle.pyver_core.specs.declared.version_line.VersionLine.{VersionLine as LineInMemory}
@@ -71,32 +71,31 @@ view_arranged reversed given sorted k = record {
 
 -- ---- what is printed
 
-abbrev texts_of : List VersionLine → List (List ℕ)
-texts_of lines = map (λ (x : VersionLine). x.text) lines
-
 last_map : {X Y : Type 0} (f : X → Y) (last : Option ℕ) (xs : List X) → map f (option_map_or (λ count. drop (length xs - count) xs) last xs) ≡ option_map_or (λ count. drop (length (map f xs) - count) (map f xs)) last (map f xs)
 last_map f None xs = refl
 last_map f (Some count) xs = sym (drop-map f (length xs - count) xs) ∙ ap (λ n. drop (n - count) (map f xs)) (sym (length-map xs f))
 
-last_is : (last : Option ℕ) (lines : List VersionLine) → option_map_or (λ count. drop (length lines - count) lines) last lines ≡ last_lines last lines
-last_is None lines = refl
-last_is (Some count) lines = refl
+last_is : (last : Option ℕ) (texts : List (List ℕ)) → option_map_or (λ count. drop (length texts - count) texts) last texts ≡ last_texts last texts
+last_is None texts = refl
+last_is (Some count) texts = refl
 
-pub printed_is : (options : SortOptions) (texts shown : List (Bor (List ℕ))) (sorted : List VersionLine) (output : List ℕ) → map (λ t. t.now) texts ≡ map (λ (x : VersionLine). x.text) (without_repeats options.unique sorted)
-    → shown ≡ option_map_or (λ count. drop (length texts - count) texts) options.last texts → output ≡ flat_map (λ t. t.now ++ 10 ∷ []) shown
-    → output ≡ lines_text (last_lines options.last (without_repeats options.unique sorted))
-printed_is options texts shown sorted output same last printed =
-    let kept = without_repeats options.unique sorted in
+abbrev now : Bor (List ℕ) → List ℕ
+now t = t.now
+
+-- the texts of versions and then those of invalid lines, of which the last are printed behind the header
+pub printed_is : (options : SortOptions) (sorted : List VersionLine) (texts invalid both shown : List (Bor (List ℕ))) (header output : List ℕ) → map (λ t. t.now) texts ≡ map (λ (x : VersionLine). x.text) (without_repeats options.unique sorted)
+    → both ≡ texts ++ invalid → shown ≡ option_map_or (λ count. drop (length both - count) both) options.last both → output ≡ header ++ flat_map (λ t. t.now ++ 10 ∷ []) shown
+    → output ≡ header ++ lines_text (last_texts options.last (sorted_texts options sorted (map (λ t. t.now) invalid)))
+printed_is options sorted texts invalid both shown header output same joined last printed =
     let line : List ℕ → List ℕ = λ t. t ++ 10 ∷ [] in
-    let now : Bor (List ℕ) → List ℕ = λ t. t.now in
-    let text : VersionLine → List ℕ = λ x. x.text in
     let cut : List (List ℕ) → List (List ℕ) = λ l. option_map_or (λ count. drop (length l - count) l) options.last l in
-    printed ∙ sym (flat_map-map line now shown) ∙ ap (λ l. flat_map line (map now l)) last ∙ ap (flat_map line) (last_map now options.last texts)
-    ∙ ap (λ l. flat_map line (cut l)) same ∙ ap (flat_map line) (sym (last_map text options.last kept) ∙ ap (map text) (last_is options.last kept))
-    ∙ flat_map-map line text (last_lines options.last kept)
+    let all : map now both ≡ sorted_texts options sorted (map now invalid) = ap (map now) joined ∙ map-append now texts invalid ∙ ap (λ l. l ++ map now invalid) same in
+    printed ∙ ap (λ l. header ++ l) (sym (flat_map-map line now shown) ∙ ap (λ l. flat_map line (map now l)) last ∙ ap (flat_map line) (last_map now options.last both)
+    ∙ ap (λ l. flat_map line (cut l)) all ∙ ap (flat_map line) (last_is options.last (sorted_texts options sorted (map now invalid))))
 
-pub sorts_versions : (options : SortOptions) (given sorted : List LineInMemory) (o : Outcome) → ArrangesBy (version_line_order options.reversed) given sorted → o ≡ sort_outcome options (map version_line_of sorted) → SortsVersions options (map version_line_of given) o
-sorts_versions options given sorted o k is = (map version_line_of sorted, view_arranged options.reversed given sorted k, is)
+pub sorts_parts : (options : SortOptions) (parts : InputParts) (given sorted : List LineInMemory) (o : Outcome) → parts.versions ≡ map version_line_of given → ArrangesBy (version_line_order options.reversed) given sorted
+    → o ≡ sort_outcome options parts (map version_line_of sorted) → SortsParts options parts o
+sorts_parts options parts given sorted o lines k is = (map version_line_of sorted, subst (λ l. ArrangesBy (line_order options.reversed) l (map version_line_of sorted)) (sym lines) (view_arranged options.reversed given sorted k), is)
 
 -- ---- one of equal ones
 

@@ -1,20 +1,33 @@
 -- Answers to questions of the whole input.
-use Rattle.std.proofs.Common.{◌≡◌, ℕ, List, [], Option, inl, refl, sym, append-nil}
+use Rattle.std.proofs.Common.{◌≡◌, ℕ, List, [], Option, None, inl, refl, sym, append-nil}
 use Rattle.std.proofs.KnownBytes.{Appends-nil}
 use Rattle.std.specs.Io.KnownBytes.{Consumes, IsAtEnd}
+use Rattle.pyver_core.proofs.Choosing.{or_none}
 use Rattle.pyver_core.proofs.InputLines.{some_line}
 use Rattle.pyver_core.proofs.Sorting.{none_sorted}
 use Rattle.pyver_core.specs.InputLines.{input_lines}
+use Rattle.pyver_core.specs.InvalidLines.{lines_status}
+use Rattle.pyver_core.specs.Newest.{newest_outcome}
 use Rattle.pyver_core.specs.Outcomes.{Outcome}
 use Rattle.pyver_core.specs.Runs.{WroteBeginning}
 use Rattle.pyver_core.specs.Sorts.{sort_outcome}
+use Rattle.pyver_core.specs.VersionLines.{line_messages, input_parts}
 use Rattle.pyver_core.specs.WholeInputs.{AnswersInput, WholeStops}
+use Rattle.pyver_core.specs.declared.invalid_lines.InvalidLines.{InvalidLines}
+use Rattle.pyver_core.specs.declared.invalid_lines.InvalidLines.TheVariants as invalid
 use Rattle.pyver_core.specs.declared.whole_input.Question.{Question}
 use Rattle.pyver_core.specs.declared.whole_input.Question.TheVariants as question
 
+-- no invalid line is no error
+none_invalid : (how : InvalidLines) → lines_status how 0 ≡ 0
+none_invalid invalid.Error = refl
+none_invalid invalid.Skip = refl
+none_invalid invalid.Keep = refl
+
 -- there is an answer where there are no lines
 pub no_lines : (asked : Question) → (o : Outcome) × AnswersInput asked [] o
-no_lines (question.Sort options) = (sort_outcome options [], ([], tt, inl (refl, ([], none_sorted options.reversed, refl))))
+no_lines (question.Sort options) = let how = options.lines.invalid in (sort_outcome options (input_parts how []) [], ([], tt, inl (none_invalid how, ([], none_sorted options.reversed, refl))))
+no_lines (question.Newest rule) = let how = rule.lines.invalid in (newest_outcome (line_messages how []) None, ([], tt, inl (none_invalid how, (None, or_none rule.prereleases, refl))))
 
 module _ {R W E : Type 0} (remaining : R → Option (List ℕ)) (contents : W → Option (List ℕ)) (error_contents : E → Option (List ℕ)) (asked : Question) (reader reader' : R) (out out' : W) (err err' : E) where
   -- nothing was written

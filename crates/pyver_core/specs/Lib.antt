@@ -25,6 +25,7 @@ pub mod ReadLines
 pub mod Filters
 pub mod VersionLines
 pub mod Sorts
+pub mod Newest
 pub mod Tasks
 pub mod TaskViews
 pub mod Runs

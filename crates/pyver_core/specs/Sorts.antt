@@ -1,5 +1,5 @@
 -- `sort`: the lines in the order of their versions.
-use Rattle.std.specs.Prelude.{◌≡◌, ℕ, ◌-◌, List, [], ◌∷◌, ◌++◌, Bool, false, codes, drop, length, Option, Some, None, if◌then◌else◌}
+use Rattle.std.specs.Prelude.{◌≡◌, ℕ, ◌-◌, List, [], ◌∷◌, ◌++◌, Bool, false, codes, drop, length, map, Option, Some, None, if◌then◌else◌}
 use Rattle.std.specs.List.{flat_map}
 use Rattle.std.specs.Ordering.{is_eq}
 use Rattle.std.specs.declared.cmp.Ordering.{Ordering}
@@ -7,7 +7,7 @@ use Rattle.pep440_rs.specs.Arrangement.{ArrangesBy}
 use Rattle.pep440_version.specs.Key.{record_cmp}
 use Rattle.pep440_version.specs.Record.{Record}
 use Rattle.pyver_core.specs.Outcomes.{Outcome}
-use Rattle.pyver_core.specs.VersionLines.{OfVersions, VersionLine}
+use Rattle.pyver_core.specs.VersionLines.{InputParts, OfVersions, VersionLine}
 use Rattle.pyver_core.specs.declared.sort.SortOptions.{SortOptions}
 
 -- by version alone, or the other way round
@@ -31,22 +31,30 @@ abbrev pub without_repeats : Bool → List VersionLine → List VersionLine
 without_repeats unique lines = if unique then firsts None lines else lines
 
 -- the last so many, or all
-abbrev pub last_lines : Option ℕ → List VersionLine → List VersionLine
-last_lines None lines = lines
-last_lines (Some count) lines = drop (length lines - count) lines
+abbrev pub last_texts : Option ℕ → List (List ℕ) → List (List ℕ)
+last_texts None texts = texts
+last_texts (Some count) texts = drop (length texts - count) texts
 
--- each line as it was written
-abbrev pub lines_text : List VersionLine → List ℕ
-lines_text lines = flat_map (λ (x : VersionLine). x.text ++ codes "\n") lines
+-- the lines behind the header as they were written: those that are versions, in order, and then the invalid ones that are kept
+abbrev pub sorted_texts : SortOptions → List VersionLine → List (List ℕ) → List (List ℕ)
+sorted_texts options sorted invalid = map (λ (x : VersionLine). x.text) (without_repeats options.unique sorted) ++ invalid
 
--- what is printed of the sorted lines
-abbrev pub sort_outcome : SortOptions → List VersionLine → Outcome
-sort_outcome options sorted = record { output = lines_text (last_lines options.last (without_repeats options.unique sorted)); errors = []; status = 0 }
+-- a newline behind each
+abbrev pub lines_text : List (List ℕ) → List ℕ
+lines_text texts = flat_map (λ t. t ++ codes "\n") texts
+
+-- the header, and the last of the other lines
+abbrev pub sort_outcome : SortOptions → InputParts → List VersionLine → Outcome
+sort_outcome options parts sorted = record {
+  output = parts.header ++ lines_text (last_texts options.last (sorted_texts options sorted parts.invalid));
+  errors = parts.messages;
+  status = 0;
+}
 
 -- the lines are arranged: none is lost or made, they never fall, and equal ones stand as they stood
-abbrev pub SortsVersions : SortOptions → List VersionLine → Outcome → Type 0
-SortsVersions options lines o = (sorted : List VersionLine) × ArrangesBy (line_order options.reversed) lines sorted × (o ≡ sort_outcome options sorted)
+abbrev pub SortsParts : SortOptions → InputParts → Outcome → Type 0
+SortsParts options parts o = (sorted : List VersionLine) × ArrangesBy (line_order options.reversed) parts.versions sorted × (o ≡ sort_outcome options parts sorted)
 
 -- what is written of the lines of the input
 abbrev pub SortsLines : SortOptions → List (List ℕ) → Outcome → Type 0
-SortsLines options texts o = OfVersions (SortsVersions options) texts o
+SortsLines options texts o = OfVersions options.lines (SortsParts options) texts o

@@ -2,7 +2,7 @@
 use Rattle.std.specs.Prelude.{ℕ, List, [], codes, map, string_bytes}
 use Rattle.pyver_core.specs.LineOptions.{value_kind, value_names}
 use Rattle.pyver_core.specs.Messages.{unknown_message, usage_message}
-use Rattle.pyver_core.specs.Tasks.{Task, Help, NameVersion, Compare, Match, Filter, Sort, Show, Range, Misused, bump_from_words, bump_part_names, command_names, comparison_names, help_words, option_names, part_names, usage, wrong_number_message}
+use Rattle.pyver_core.specs.Tasks.{Task, Help, NameVersion, Compare, Match, Filter, Sort, Newest, Show, Range, Misused, bump_from_words, bump_part_names, command_names, comparison_names, help_words, option_names, part_names, usage, wrong_number_message}
 use Rattle.pyver_core.specs.declared.command.Command.{Command}
 use Rattle.pyver_core.specs.declared.command.Command.TheVariants as command
 use Rattle.pyver_core.specs.declared.help.Topic.TheVariants as about
@@ -26,6 +26,7 @@ task (command.Compare left comparison right) = Compare left.now comparison right
 task (command.Match options specifiers words) = Match options specifiers.now (map string_bytes words.now)
 task (command.Filter options specifiers) = Filter options specifiers.now
 task (command.Sort options) = Sort options
+task (command.Newest options specifiers) = Newest options specifiers.now
 task (command.Show asked words) = Show asked (map string_bytes words.now)
 task (command.Bump to parts version) = bump_from_words to [] (map string_bytes parts.now) version.now
 task (command.Range options words) = Range options (map string_bytes words.now)

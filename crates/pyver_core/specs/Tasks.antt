@@ -10,6 +10,7 @@ use Rattle.pyver_core.specs.Filters.{FiltersLines}
 use Rattle.pyver_core.specs.LineOptions.{joined_value, line_option, no_line_options, value_behind, value_kind, value_names, value_option_of, with_value}
 use Rattle.pyver_core.specs.Matches.{Matches}
 use Rattle.pyver_core.specs.Messages.{unknown_message, usage_message}
+use Rattle.pyver_core.specs.Newest.{FindsNewestLine}
 use Rattle.pyver_core.specs.Numbers.{word_number}
 use Rattle.pyver_core.specs.Outcomes.{Outcome}
 use Rattle.pyver_core.specs.Parts.{part_of}
@@ -21,15 +22,18 @@ use Rattle.pyver_core.specs.declared.comparison.Comparison.{Comparison}
 use Rattle.pyver_core.specs.declared.filter.FilterOptions.{FilterOptions}
 use Rattle.pyver_core.specs.declared.help.Topic.{Topic}
 use Rattle.pyver_core.specs.declared.help.Topic.TheVariants as topic
-use Rattle.pyver_core.specs.declared.help.TheConstants.{PROGRAM_HELP, COMPARE_HELP, MATCH_HELP, FILTER_HELP, SORT_HELP, SHOW_HELP, BUMP_HELP, RANGE_HELP, COMPARE_USAGE, MATCH_USAGE, FILTER_USAGE, SORT_USAGE, SHOW_USAGE, BUMP_USAGE, RANGE_USAGE, PROGRAM_USAGE, VERSION_LINE}
+use Rattle.pyver_core.specs.declared.help.TheConstants.{PROGRAM_HELP, COMPARE_HELP, MATCH_HELP, FILTER_HELP, SORT_HELP, NEWEST_HELP, SHOW_HELP, BUMP_HELP, RANGE_HELP, COMPARE_USAGE, MATCH_USAGE, FILTER_USAGE, SORT_USAGE, NEWEST_USAGE, SHOW_USAGE, BUMP_USAGE, RANGE_USAGE, PROGRAM_USAGE, VERSION_LINE}
 use Rattle.pyver_core.specs.declared.line_options.LineOptions.{LineOptions}
 use Rattle.pyver_core.specs.declared.line_options.ValueOption.{ValueOption}
+use Rattle.pyver_core.specs.declared.newest.NewestOptions.{NewestOptions}
 use Rattle.pyver_core.specs.declared.part.VersionPart.{VersionPart}
 use Rattle.pyver_core.specs.declared.prerelease.Prereleases.TheVariants as prereleases
 use Rattle.pyver_core.specs.declared.range.RangeOptions.{RangeOptions}
 use Rattle.pyver_core.specs.declared.show.ShowFormat.{ShowFormat}
 use Rattle.pyver_core.specs.declared.show.ShowFormat.TheVariants as format
 use Rattle.pyver_core.specs.declared.sort.SortOptions.{SortOptions}
+use Rattle.pyver_core.specs.declared.sort_words.SortValue.{SortValue}
+use Rattle.pyver_core.specs.declared.sort_words.SortValue.TheVariants as sort_value
 
 -- what the words ask for, or the message of why they ask for nothing
 pub data Task : Type 0 where
@@ -39,6 +43,7 @@ pub data Task : Type 0 where
   Match : MatchOptions → List ℕ → List (List ℕ) → Task
   Filter : FilterOptions → List ℕ → Task
   Sort : SortOptions → Task
+  Newest : NewestOptions → List ℕ → Task
   Show : ShowFormat → List (List ℕ) → Task
   Bump : Option ℕ → List BumpPart → List ℕ → Task
   Range : RangeOptions → List (List ℕ) → Task
@@ -48,7 +53,7 @@ pub data Task : Type 0 where
 
 -- the names that a mistyped command is compared with
 abbrev pub command_names : List (List ℕ)
-command_names = codes "compare" ∷ (codes "match" ∷ (codes "filter" ∷ (codes "sort" ∷ (codes "show" ∷ (codes "bump" ∷ (codes "range" ∷ (codes "--help" ∷ (codes "--version" ∷ []))))))))
+command_names = codes "compare" ∷ (codes "match" ∷ (codes "filter" ∷ (codes "sort" ∷ (codes "newest" ∷ (codes "show" ∷ (codes "bump" ∷ (codes "range" ∷ (codes "--help" ∷ (codes "--version" ∷ [])))))))))
 
 -- the options of a command, with which a mistyped one is compared
 abbrev pub option_names : Topic → List (List ℕ)
@@ -56,7 +61,8 @@ option_names topic.Program = codes "--help" ∷ []
 option_names topic.Compare = codes "--help" ∷ []
 option_names topic.Match = codes "--help" ∷ (codes "--quiet" ∷ (codes "--pre" ∷ (codes "--no-pre" ∷ [])))
 option_names topic.Filter = codes "--help" ∷ (codes "--invert-match" ∷ (codes "--pre" ∷ (codes "--no-pre" ∷ (codes "--field" ∷ (codes "--delimiter" ∷ (codes "--header" ∷ (codes "--invalid" ∷ [])))))))
-option_names topic.Sort = codes "--help" ∷ (codes "--reverse" ∷ (codes "--unique" ∷ (codes "--last" ∷ [])))
+option_names topic.Sort = codes "--help" ∷ (codes "--reverse" ∷ (codes "--unique" ∷ (codes "--last" ∷ (codes "--field" ∷ (codes "--delimiter" ∷ (codes "--header" ∷ (codes "--invalid" ∷ [])))))))
+option_names topic.Newest = codes "--help" ∷ (codes "--pre" ∷ (codes "--no-pre" ∷ (codes "--field" ∷ (codes "--delimiter" ∷ (codes "--header" ∷ (codes "--invalid" ∷ []))))))
 option_names topic.Show = codes "--help" ∷ (codes "--part" ∷ (codes "--json" ∷ []))
 option_names topic.Bump = codes "--help" ∷ (codes "--to" ∷ [])
 option_names topic.Range = codes "--help" ∷ (codes "--cover" ∷ (codes "--json" ∷ []))
@@ -68,6 +74,7 @@ usage topic.Compare = COMPARE_USAGE.now
 usage topic.Match = MATCH_USAGE.now
 usage topic.Filter = FILTER_USAGE.now
 usage topic.Sort = SORT_USAGE.now
+usage topic.Newest = NEWEST_USAGE.now
 usage topic.Show = SHOW_USAGE.now
 usage topic.Bump = BUMP_USAGE.now
 usage topic.Range = RANGE_USAGE.now
@@ -79,6 +86,7 @@ help_words topic.Compare = codes "pyver compare --help"
 help_words topic.Match = codes "pyver match --help"
 help_words topic.Filter = codes "pyver filter --help"
 help_words topic.Sort = codes "pyver sort --help"
+help_words topic.Newest = codes "pyver newest --help"
 help_words topic.Show = codes "pyver show --help"
 help_words topic.Bump = codes "pyver bump --help"
 help_words topic.Range = codes "pyver range --help"
@@ -90,6 +98,7 @@ help_text topic.Compare = COMPARE_HELP.now
 help_text topic.Match = MATCH_HELP.now
 help_text topic.Filter = FILTER_HELP.now
 help_text topic.Sort = SORT_HELP.now
+help_text topic.Newest = NEWEST_HELP.now
 help_text topic.Show = SHOW_HELP.now
 help_text topic.Bump = BUMP_HELP.now
 help_text topic.Range = RANGE_HELP.now
@@ -243,44 +252,102 @@ filter_task options None (word ∷ rest) =
 abbrev pub no_filter_options : FilterOptions
 no_filter_options = record { inverted = false; prereleases = prereleases.Listed; lines = no_line_options }
 
--- ---- `sort [-r] [-u] [-n K]`
+-- ---- `sort [-r] [-u] [-n K] [-k N] [-d C] [--header] [--invalid HOW]`
 
+-- no word
 abbrev pub sort_operands : SortOptions → List (List ℕ) → Task
 sort_operands options [] = Sort options
 sort_operands options (word ∷ rest) = wrong_count topic.Sort
 
--- the options with what the word sets, if it is an option that sets some alone
+-- the options with what this word sets, if it is one of them
 abbrev pub sort_option : SortOptions → List ℕ → Option SortOptions
 sort_option options word =
     if bytes_eq word (codes "-r") then Some (record options { reversed = true })
     else if bytes_eq word (codes "--reverse") then Some (record options { reversed = true })
     else if bytes_eq word (codes "-u") then Some (record options { unique = true })
     else if bytes_eq word (codes "--unique") then Some (record options { unique = true })
-    else None
+    else option_map (λ lines. record options { lines = lines }) (line_option options.lines word)
 
--- a count stands behind it
+-- `-n` or `--last`
 abbrev pub is_last_option : List ℕ → Bool
 is_last_option word = bytes_eq word (codes "-n") || bytes_eq word (codes "--last")
 
--- the words behind the options, where `--` may stand first
+-- the option that the word names, whose value is the next word
+abbrev pub sort_value_of : List ℕ → Option SortValue
+sort_value_of word = if is_last_option word then Some sort_value.Last else option_map (λ name. sort_value.Lines name) (value_option_of word)
+
+-- the options with this value, if it is a right one
+abbrev pub with_sort_value : SortOptions → SortValue → List ℕ → Option SortOptions
+with_sort_value options sort_value.Last value = option_map (λ count. record options { last = Some count }) (word_number value)
+with_sort_value options (sort_value.Lines name) value = option_map (λ lines. record options { lines = lines }) (with_value options.lines name value)
+
+-- the message of a wrong value
+abbrev pub wrong_sort_value : SortValue → List ℕ → Task
+wrong_sort_value sort_value.Last value = Misused (wrong_number_message topic.Sort value)
+wrong_sort_value (sort_value.Lines name) value = wrong_value topic.Sort name value
+
+-- the words after the options, of which the first may be `--`
 abbrev pub sort_rest : SortOptions → List ℕ → List (List ℕ) → Task
 sort_rest options word rest =
     if bytes_eq word (codes "--") then sort_operands options rest
-    else if is_option word then wrong_option topic.Sort word
-    else sort_operands options (word ∷ rest)
+    else by_joined topic.Sort (joined_value word)
+    (if is_option word then wrong_option topic.Sort word else sort_operands options (word ∷ rest))
 
--- the last of the counts is meant; true where one has to stand next
-abbrev pub sort_task : Bool → SortOptions → List (List ℕ) → Task
-sort_task false options [] = Sort options
-sort_task true options [] = wrong_count topic.Sort
-sort_task true options (word ∷ rest) = by_number topic.Sort word (word_number word) (λ count. sort_task false (record options { last = Some count }) rest)
-sort_task false options (word ∷ rest) =
+-- the task of an option that takes a value, or else this other one
+abbrev pub by_sort_value : Option SortValue → (SortValue → Task) → Task → Task
+by_sort_value None with_name otherwise = otherwise
+by_sort_value (Some name) with_name otherwise = with_name name
+
+-- the task of the words after `sort`: options come first, and of two that contradict each other the last counts; an option's
+-- name if its value comes next
+abbrev pub sort_task : SortOptions → Option SortValue → List (List ℕ) → Task
+sort_task options None [] = Sort options
+sort_task options (Some name) [] = wrong_count topic.Sort
+sort_task options (Some name) (value ∷ rest) = by_option (with_sort_value options name value) (λ taken. sort_task taken None rest) (wrong_sort_value name value)
+sort_task options None (word ∷ rest) =
     if is_help word then Help topic.Sort
-    else if is_last_option word then sort_task true options rest
-    else by_option (sort_option options word) (λ taken. sort_task false taken rest) (sort_rest options word rest)
+    else by_option (sort_option options word) (λ taken. sort_task taken None rest)
+    (by_sort_value (sort_value_of word) (λ name. sort_task options (Some name) rest) (sort_rest options word rest))
 
+-- the options of `sort` before the first word
 abbrev pub no_sort_options : SortOptions
-no_sort_options = record { reversed = false; unique = false; last = None }
+no_sort_options = record { reversed = false; unique = false; last = None; lines = no_line_options }
+
+-- ---- `newest [--pre | --no-pre] [-k N] [-d C] [--header] [--invalid HOW] SPECS`
+
+-- exactly one list
+abbrev pub newest_operands : NewestOptions → List (List ℕ) → Task
+newest_operands options (specifiers ∷ []) = Newest options specifiers
+newest_operands options _ = wrong_count topic.Newest
+
+-- the options with what this word sets, if it is one of them
+abbrev pub newest_option : NewestOptions → List ℕ → Option NewestOptions
+newest_option options word =
+    if bytes_eq word (codes "--pre") then Some (record options { prereleases = prereleases.Always })
+    else if bytes_eq word (codes "--no-pre") then Some (record options { prereleases = prereleases.Never })
+    else option_map (λ lines. record options { lines = lines }) (line_option options.lines word)
+
+-- the words after the options, of which the first may be `--`
+abbrev pub newest_rest : NewestOptions → List ℕ → List (List ℕ) → Task
+newest_rest options word rest =
+    if bytes_eq word (codes "--") then newest_operands options rest
+    else by_joined topic.Newest (joined_value word)
+    (if is_option word then wrong_option topic.Newest word else newest_operands options (word ∷ rest))
+
+-- the task of the words after `newest`: options come first, and of two that contradict each other the last counts; an option's
+-- name if its value comes next
+abbrev pub newest_task : NewestOptions → Option ValueOption → List (List ℕ) → Task
+newest_task options awaited [] = wrong_count topic.Newest
+newest_task options (Some name) (value ∷ rest) =
+    by_value topic.Newest name value (with_value options.lines name value) (λ lines. newest_task (record options { lines = lines }) None rest)
+newest_task options None (word ∷ rest) =
+    if is_help word then Help topic.Newest
+    else by_option (newest_option options word) (λ taken. newest_task taken None rest)
+    (by_name (value_option_of word) (λ name. newest_task options (Some name) rest) (newest_rest options word rest))
+
+-- the options of `newest` before the first word
+abbrev pub no_newest_options : NewestOptions
+no_newest_options = record { prereleases = prereleases.Listed; lines = no_line_options }
 
 -- ---- `show [--part PART | --json] V..`
 
@@ -417,7 +484,8 @@ task_of (word ∷ rest) =
     else if bytes_eq word (codes "compare") then compare_task rest
     else if bytes_eq word (codes "match") then match_task no_match_options rest
     else if bytes_eq word (codes "filter") then filter_task no_filter_options None rest
-    else if bytes_eq word (codes "sort") then sort_task false no_sort_options rest
+    else if bytes_eq word (codes "sort") then sort_task no_sort_options None rest
+    else if bytes_eq word (codes "newest") then newest_task no_newest_options None rest
     else if bytes_eq word (codes "show") then show_task (Some format.Normal) rest
     else if bytes_eq word (codes "bump") then bump_task (Some None) rest
     else if bytes_eq word (codes "range") then range_task no_range_options rest
@@ -439,15 +507,17 @@ IsOutcome (Compare left operator right) texts o = Compares left operator right o
 IsOutcome (Match options specifiers words) texts o = Matches options specifiers words o
 IsOutcome (Filter options specifiers) texts o = FiltersLines options specifiers texts o
 IsOutcome (Sort options) texts o = SortsLines options texts o
+IsOutcome (Newest options specifiers) texts o = FindsNewestLine options specifiers texts o
 IsOutcome (Show asked words) texts o = Shows asked words o
 IsOutcome (Bump to parts word) texts o = Bumps to parts word o
 IsOutcome (Range options words) texts o = FindsCommon options words o
 IsOutcome (Misused message) texts o = o ≡ misuse message
 
--- only `filter` with a valid list and `sort` read the input
+-- only `sort`, and `filter` and `newest` with a valid list, read the input
 abbrev pub NeedsInput : Task → Type 0
 NeedsInput (Filter options specifiers) = (list : List Spec) × DerivesList specifiers list
 NeedsInput (Sort options) = ⊤
+NeedsInput (Newest options specifiers) = (list : List Spec) × DerivesList specifiers list
 NeedsInput _ = ⊥
 
 -- lines are printed before all are read

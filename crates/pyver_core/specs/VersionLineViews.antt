@@ -3,11 +3,12 @@ use Rattle.std.specs.Prelude.{◌≡◌, ℕ, ◌+◌, ◌-◌, List, [], ◌∷
 use Rattle.std.specs.List.{AllZip, concat}
 use Rattle.std.specs.declared.cmp.Ordering.{Ordering}
 use Rattle.pyver_core.specs.InputLines.{filled_lines_from}
-use Rattle.pyver_core.specs.LineOptions.{no_line_options}
-use Rattle.pyver_core.specs.ReadLines.{IsRead, ReadLine, fault_messages, faults}
+use Rattle.pyver_core.specs.InvalidLines.{message_limit}
+use Rattle.pyver_core.specs.ReadLines.{IsRead, ReadLine, faults}
 use Rattle.pyver_core.specs.Sorts.{version_order}
-use Rattle.pyver_core.specs.VersionLines.{version_lines}
+use Rattle.pyver_core.specs.VersionLines.{InputParts, header_text, kept_lines, input_parts, version_lines}
 use Rattle.pyver_core.specs.VersionLines.{VersionLine as VersionLineValue}
+use Rattle.pyver_core.specs.declared.line_options.LineOptions.{LineOptions}
 use Rattle.pyver_core.specs.declared.version_line.VersionLine.{VersionLine}
 use Rattle.pyver_core.specs.declared.version_line.VersionLines.{VersionLines}
 
@@ -17,26 +18,37 @@ version_line_of x = record { text = x.text.now; version = x.version }
 abbrev pub version_line_order : Bool → VersionLine → VersionLine → Ordering
 version_line_order reversed a b = version_order reversed a.version b.version
 
+abbrev pub input_parts_of : VersionLines → InputParts
+input_parts_of s = record {
+  header = s.header.items;
+  versions = map version_line_of s.versions.items;
+  invalid = map (λ t. t.now) s.invalid.items;
+  messages = s.errors.items;
+}
+
 -- from one state to another by a line that is read so
-pub record KeepsOne (x : ReadLine) (a b : VersionLines) : Type 0 where
+pub record KeepsOne (options : LineOptions) (x : ReadLine) (a b : VersionLines) : Type 0 where
   pub line_count : b.line_count ≡ a.line_count
-  pub lines : map version_line_of b.lines.items ≡ map version_line_of a.lines.items ++ version_lines (x ∷ [])
+  pub header : b.header.items ≡ a.header.items ++ header_text (x ∷ [])
+  pub versions : map version_line_of b.versions.items ≡ map version_line_of a.versions.items ++ version_lines (x ∷ [])
+  pub invalid : map (λ t. t.now) b.invalid.items ≡ map (λ t. t.now) a.invalid.items ++ kept_lines options.invalid (x ∷ [])
   pub fault_count : b.fault_count ≡ a.fault_count + length (faults (x ∷ []))
-  pub errors : b.errors.items ≡ a.errors.items ++ concat (take (20 - a.fault_count) (faults (x ∷ [])))
+  pub errors : b.errors.items ≡ a.errors.items ++ concat (take (message_limit options.invalid - a.fault_count) (faults (x ∷ [])))
 
 -- these lines were read
-pub record KeepsLines (texts : List (List ℕ)) (s : VersionLines) : Type 0 where
+pub record KeepsLines (options : LineOptions) (texts : List (List ℕ)) (s : VersionLines) : Type 0 where
   pub found : List ReadLine
-  pub are : AllZip (IsRead no_line_options) (filled_lines_from 1 texts) found
+  pub are : AllZip (IsRead options) (filled_lines_from 1 texts) found
   pub line_count : s.line_count ≡ length texts
-  pub lines : map version_line_of s.lines.items ≡ version_lines found
+  pub header : s.header.items ≡ header_text found
+  pub versions : map version_line_of s.versions.items ≡ version_lines found
+  pub invalid : map (λ t. t.now) s.invalid.items ≡ kept_lines options.invalid found
   pub fault_count : s.fault_count ≡ length (faults found)
-  pub errors : s.errors.items ≡ concat (take 20 (faults found))
+  pub errors : s.errors.items ≡ concat (take (message_limit options.invalid) (faults found))
 
 -- these are all lines, and all messages
-pub record IsOfLines (texts : List (List ℕ)) (s : VersionLines) : Type 0 where
+pub record IsOfLines (options : LineOptions) (texts : List (List ℕ)) (s : VersionLines) : Type 0 where
   pub found : List ReadLine
-  pub are : AllZip (IsRead no_line_options) (filled_lines_from 1 texts) found
-  pub lines : map version_line_of s.lines.items ≡ version_lines found
+  pub are : AllZip (IsRead options) (filled_lines_from 1 texts) found
   pub fault_count : s.fault_count ≡ length (faults found)
-  pub errors : s.errors.items ≡ fault_messages found
+  pub parts : input_parts_of s ≡ input_parts options.invalid found

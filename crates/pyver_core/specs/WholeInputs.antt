@@ -4,18 +4,26 @@ use Rattle.std.specs.Io.KnownBytes.{Appends, Consumes, IsAtEnd}
 use Rattle.pyver_core.specs.InputLines.{input_lines}
 use Rattle.pyver_core.specs.Outcomes.{Outcome}
 use Rattle.pyver_core.specs.Runs.{WroteBeginning}
-use Rattle.pyver_core.specs.Sorts.{SortsVersions}
-use Rattle.pyver_core.specs.VersionLines.{OfVersions, VersionLine}
+use Rattle.pyver_core.specs.Newest.{FindsNewest}
+use Rattle.pyver_core.specs.Sorts.{SortsParts}
+use Rattle.pyver_core.specs.VersionLines.{InputParts, OfVersions}
+use Rattle.pyver_core.specs.declared.line_options.LineOptions.{LineOptions}
 use Rattle.pyver_core.specs.declared.whole_input.Question.{Question}
 use Rattle.pyver_core.specs.declared.whole_input.Question.TheVariants as question
 
--- what is written of lines that are versions
-abbrev pub AnswersVersions : Question → List VersionLine → Outcome → Type 0
-AnswersVersions (question.Sort options) lines o = SortsVersions options lines o
+-- how lines are read
+abbrev pub question_lines : Question → LineOptions
+question_lines (question.Sort options) = options.lines
+question_lines (question.Newest rule) = rule.lines
+
+-- what is written of lines that were read, where no invalid one is an error
+abbrev pub AnswersParts : Question → InputParts → Outcome → Type 0
+AnswersParts (question.Sort options) parts o = SortsParts options parts o
+AnswersParts (question.Newest rule) parts o = FindsNewest rule parts o
 
 -- what is written of the lines of the input
 abbrev pub AnswersInput : Question → List (List ℕ) → Outcome → Type 0
-AnswersInput asked texts o = OfVersions (AnswersVersions asked) texts o
+AnswersInput asked texts o = OfVersions (question_lines asked) (AnswersParts asked) texts o
 
 module _ {R W E : Type 0} (remaining : R → Option (List ℕ)) (contents : W → Option (List ℕ)) (error_contents : E → Option (List ℕ)) where
   -- the whole input was read, and all was written

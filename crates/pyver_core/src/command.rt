@@ -2,7 +2,7 @@
 ghost use Rattle.std.specs.Prelude.{◌≡◌, [], ◌∷◌, IfOk, map, string_bytes};
 ghost use Rattle.pyver_core.specs.AnswerViews.{outcome_of};
 ghost use Rattle.pyver_core.specs.TaskViews.{task};
-ghost use Rattle.pyver_core.specs.Tasks.{Filter, bump_from_words, compare_rest, compare_task, compare_words, is_help, is_option, match_operands, match_option, match_rest, match_task, misuse, no_match_options, printed, task_of};
+ghost use Rattle.pyver_core.specs.Tasks.{Filter, Newest, bump_from_words, compare_rest, compare_task, compare_words, is_help, is_option, match_operands, match_option, match_rest, match_task, misuse, no_match_options, printed, task_of};
 ghost use Rattle.pyver_core.specs.TaskViews.{misuse_message};
 ghost use Rattle.pyver_core.specs.WorkViews.{IsWork};
 
@@ -17,6 +17,8 @@ use crate::filter::{FilterOptions, FilterRule};
 use crate::filter_words::parse_filter;
 use crate::help::{Topic, VERSION_LINE, help};
 use crate::misuse::{Misuse, push_misuse};
+use crate::newest::{NewestOptions, NewestRule};
+use crate::newest_words::parse_newest;
 use crate::prerelease::{Prereleases, takes_prereleases};
 use crate::range::{RangeOptions, find_common};
 use crate::range_words::parse_range;
@@ -36,6 +38,7 @@ pub(crate) enum Command<'a> {
     Match(MatchOptions, &'a str, &'a [String]),
     Filter(FilterOptions, &'a str),
     Sort(SortOptions),
+    Newest(NewestOptions, &'a str),
     Show(ShowFormat, &'a [String]),
     /// The number of the last part, the names of the parts, and the version.
     Bump(Option<u64>, &'a [String], &'a str),
@@ -188,6 +191,7 @@ impl<'a> Command<'a> {
                 "match" => parse_match(rest),
                 "filter" => parse_filter(rest),
                 "sort" => parse_sort(rest),
+                "newest" => parse_newest(rest),
                 "show" => parse_show(rest),
                 "bump" => parse_bump(rest),
                 "range" => parse_range(rest),
@@ -211,6 +215,7 @@ impl<'a> Command<'a> {
             }
             Command::Filter(options, specifiers) => start_filter(alloc, options, specifiers),
             Command::Sort(options) => Ok(Work::Whole(Question::Sort(options))),
+            Command::Newest(options, specifiers) => start_newest(alloc, options, specifiers),
             Command::Show(format, words) => {
                 Ok(Work::Answer(show_versions(alloc, format, words)?))
             }
@@ -239,6 +244,24 @@ fn start_filter(alloc: Global, options: FilterOptions, specifiers: &str) -> Resu
                 list,
             }))
         }
+        SpecifiersReading::Invalid(message) => {
+            let mut answer = Answer::silent(alloc, 0);
+            push_list_fault(&mut answer, message.as_str())?;
+            Ok(Work::Answer(answer))
+        }
+    }
+}
+
+/// `newest SPECS`: what is asked, or why SPECS is no list.
+fn start_newest(alloc: Global, options: NewestOptions, specifiers: &str) -> Result<Work, AllocError>
+    ensures { IfOk result (λ w. IsWork (Newest options specifiers.now) w) }
+{
+    match read_specifiers(alloc, specifiers)? {
+        SpecifiersReading::Specifiers(list) => Ok(Work::Whole(Question::Newest(NewestRule {
+            prereleases: options.prereleases,
+            lines: options.lines,
+            list,
+        }))),
         SpecifiersReading::Invalid(message) => {
             let mut answer = Answer::silent(alloc, 0);
             push_list_fault(&mut answer, message.as_str())?;

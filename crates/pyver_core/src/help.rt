@@ -10,6 +10,7 @@ pub(crate) enum Topic {
     Match,
     Filter,
     Sort,
+    Newest,
     Show,
     Bump,
     Range,
@@ -24,7 +25,10 @@ const MATCH_USAGE: &str = "pyver match [-q] [--pre | --no-pre] SPECS V..";
 const FILTER_USAGE: &str =
     "pyver filter [-v] [--pre | --no-pre] [-k N] [-d C] [--header] [--invalid HOW] SPECS";
 
-const SORT_USAGE: &str = "pyver sort [-r] [-u] [-n K]";
+const SORT_USAGE: &str = "pyver sort [-r] [-u] [-n K] [-k N] [-d C] [--header] [--invalid HOW]";
+
+const NEWEST_USAGE: &str =
+    "pyver newest [--pre | --no-pre] [-k N] [-d C] [--header] [--invalid HOW] SPECS";
 
 const SHOW_USAGE: &str = "pyver show [--part PART | --json] V..";
 
@@ -43,6 +47,7 @@ commands:
   match SPECS V..    which of the versions the specifiers allow
   filter SPECS       the lines of standard input whose version the specifiers allow
   sort               the lines of standard input in the order of their versions
+  newest SPECS       the line of the newest version that the specifiers allow
   show V..           versions in normal form, or their parts
   bump PART.. V      the version with parts of it raised
   range SPECS..      the range of versions that all specifiers allow
@@ -56,6 +61,7 @@ examples:
   pyver match '>=1.16,<2.0' 1.19
   pyver filter '>=1.0,<2.0' < versions.txt
   git tag | pyver sort -n 3
+  git tag | pyver newest '<2.0'
   pyver show --part major 1.19
   pyver bump minor 1.19
   pyver range '>=1,<2' '>=1.5'
@@ -117,23 +123,61 @@ examples:
   pyver filter -d , -k 2 --header '>=1.0' < packages.csv
 ";
 
-const SORT_HELP: &str = "usage: pyver sort [-r] [-u] [-n K]
+const SORT_HELP: &str = "usage: pyver sort [-r] [-u] [-n K] [-k N] [-d C] [--header] [--invalid HOW]
 
 Prints the lines of standard input in the order of their versions, as they were written; lines of
 equal versions, as 1.0 and v1.0.0, stay as they stood, with -r too. Nothing is printed before the
 input ends. Blank lines are dropped, and so are a byte order mark before the first line and a
-carriage return at the end of a line. Where a line is no version nothing is printed: each such line
-is named on standard error, the first 20 and then how many more there are, and the exit status is 2.
+carriage return at the end of a line. Where a line is invalid nothing is printed: each such line is
+named on standard error, the first 20 and then how many more there are, and the exit status is 2:
+HOW is error. With skip it is only said how many were left out. With keep nothing is said, and they
+stand behind all others, with -r too, in the order in which they stood; -n counts them, and -u keeps
+them all. HOW is error, skip or keep.
+Fields stand between bytes C, also where they are quoted: quotes are not read.
 
 options:
-  -r, --reverse  the newest first
-  -u, --unique   of lines of equal versions the first alone
-  -n, --last K   the last K of the lines that would be printed
-  --             all words after it are no options
+  -r, --reverse      the newest first
+  -u, --unique       of lines of equal versions the first alone
+  -n, --last K       the last K of the lines that would be printed behind the header
+  -k, --field N      the version is field N, counted from 1, and not the whole line
+  -d, --delimiter C  the byte between fields, one ASCII character, and not a tab
+  --header           print the first line first, which is no version
+  --invalid HOW      what is done with invalid lines
+  --                 all words after it are no options
 
 examples:
-  pyver sort < versions.txt
-  git tag | pyver sort -u -n 3
+  pyver sort -r < versions.txt
+  git tag | pyver sort -u -n 3 --invalid skip
+  pyver sort -d , -k 2 --header < packages.csv
+";
+
+const NEWEST_HELP: &str =
+    "usage: pyver newest [--pre | --no-pre] [-k N] [-d C] [--header] [--invalid HOW] SPECS
+
+Prints the line of the newest version that the specifiers allow, as it was written; of lines of
+equal versions the first. '' allows any version. Where none is allowed nothing is printed, and the
+exit status is 1. Blank lines are dropped, and so are a byte order mark before the first line and a
+carriage return at the end of a line. Where a line is invalid nothing is printed: each such line is
+named on standard error, the first 20 and then how many more there are, and the exit status is 2:
+HOW is error. With skip it is only said how many were left out, and with keep nothing. HOW is error,
+skip or keep.
+Pre-releases and dev releases are left out, unless a specifier other than != has such a version, or
+nothing else is allowed.
+Fields stand between bytes C, also where they are quoted: quotes are not read.
+
+options:
+  --pre              allow pre-releases and dev releases as all others
+  --no-pre           allow none of them
+  -k, --field N      the version is field N, counted from 1, and not the whole line
+  -d, --delimiter C  the byte between fields, one ASCII character, and not a tab
+  --header           leave out the first line, which is no version
+  --invalid HOW      what is done with invalid lines
+  --                 all words after it are no options
+
+examples:
+  pyver newest '<2.0' < versions.txt
+  git tag | pyver newest --invalid skip ''
+  pyver newest -d , -k 2 --header --pre '>=1.0' < packages.csv
 ";
 
 const SHOW_HELP: &str = "usage: pyver show [--part PART | --json] V..
@@ -209,6 +253,7 @@ pub(crate) fn help(topic: Topic) -> &'static str
         Topic::Match => MATCH_HELP,
         Topic::Filter => FILTER_HELP,
         Topic::Sort => SORT_HELP,
+        Topic::Newest => NEWEST_HELP,
         Topic::Show => SHOW_HELP,
         Topic::Bump => BUMP_HELP,
         Topic::Range => RANGE_HELP,
@@ -225,6 +270,7 @@ pub(crate) fn help_words(topic: Topic) -> &'static str
         Topic::Match => "pyver match --help",
         Topic::Filter => "pyver filter --help",
         Topic::Sort => "pyver sort --help",
+        Topic::Newest => "pyver newest --help",
         Topic::Show => "pyver show --help",
         Topic::Bump => "pyver bump --help",
         Topic::Range => "pyver range --help",
@@ -241,6 +287,7 @@ pub(crate) fn usage(topic: Topic) -> &'static str
         Topic::Match => MATCH_USAGE,
         Topic::Filter => FILTER_USAGE,
         Topic::Sort => SORT_USAGE,
+        Topic::Newest => NEWEST_USAGE,
         Topic::Show => SHOW_USAGE,
         Topic::Bump => BUMP_USAGE,
         Topic::Range => RANGE_USAGE,

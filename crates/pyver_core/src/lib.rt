@@ -20,6 +20,8 @@ mod line_options;
 mod lines;
 mod misuse;
 mod nearest;
+mod newest;
+mod newest_words;
 mod number;
 mod part;
 mod prerelease;

@@ -70,7 +70,7 @@ fn report_stop<E: Write>(stop: Stop, err: &mut E) -> u8
 }
 
 /// Runs the command of the words and returns the status of the process: answers go to `out` and faults to `err`. Only
-/// `sort`, and `filter` with a valid list, read `input`.
+/// `sort`, and `filter` and `newest` with a valid list, read `input`.
 pub fn run<R: Read, W: Write, E: Write>(
     alloc: Global,
     words: &[String],
@@ -86,7 +86,7 @@ pub fn run<R: Read, W: Write, E: Write>(
             Ok(status) => status,
             Err(stop) => report_stop(stop, err),
         },
-        Ok(Work::Whole(question)) => match answer_input(alloc, question, input, out, err) {
+        Ok(Work::Whole(question)) => match answer_input(alloc, &question, input, out, err) {
             Ok(status) => status,
             Err(stop) => report_stop(stop, err),
         },

@@ -4,11 +4,12 @@ ghost use Rattle.std.specs.List.{flat_map};
 ghost use Rattle.std.specs.Option.{option_map, option_map_or};
 ghost use Rattle.pep440_rs.specs.Arrangement.{ArrangesBy};
 ghost use Rattle.pyver_core.specs.AnswerViews.{outcome_of};
-ghost use Rattle.pyver_core.specs.Sorts.{SortsVersions, is_repeat, version_order, without_repeats};
-ghost use Rattle.pyver_core.specs.VersionLineViews.{version_line_of, version_line_order};
+ghost use Rattle.pyver_core.specs.Sorts.{SortsParts, is_repeat, version_order, without_repeats};
+ghost use Rattle.pyver_core.specs.VersionLineViews.{input_parts_of, version_line_of, version_line_order};
 
 use crate::answer::Answer;
-use crate::version_line::VersionLine;
+use crate::line_options::LineOptions;
+use crate::version_line::{VersionLine, VersionLines};
 use pep440_rs::Version;
 use std::alloc::{AllocError, Global};
 use std::cmp::Ordering;
@@ -21,6 +22,7 @@ pub(crate) struct SortOptions {
     pub(crate) unique: bool,
     /// So many at the end.
     pub(crate) last: Option<u64>,
+    pub(crate) lines: LineOptions,
 }
 
 fn compare(reversed: bool, a: &VersionLine<'_>, b: &VersionLine<'_>) -> Ordering
@@ -87,31 +89,32 @@ fn last_texts<'t, 'a>(last: Option<u64>, texts: &'t [&'a [u8]]) -> &'t [&'a [u8]
 }
 
 /// A line for each.
-fn print_lines(alloc: Global, texts: &[&[u8]]) -> Result<Vec<u8>, AllocError>
-    ensures { IfOk result (λ output. output.items ≡ flat_map (λ t. t.now ++ codes "\n") texts.now) }
+fn push_lines(output: &mut Vec<u8>, texts: &[&[u8]]) -> Result<(), AllocError>
+    ensures { IfOk result (λ _. output.new.items ≡ output.old.items ++ flat_map (λ t. t.now ++ codes "\n") texts.now) }
 {
-    let mut output = Vec::new(alloc);
     for text in texts {
         output.extend_from_slice(text)?;
         output.push(b'\n')?;
     }
-    Ok(output)
+    Ok(())
 }
 
-/// `sort` of these lines, of which none is invalid.
+/// `sort` of these lines.
 pub(crate) fn sort_versions(
     alloc: Global,
     options: SortOptions,
-    lines: Vec<VersionLine<'_>>,
+    lines: VersionLines<'_>,
 ) -> Result<Answer, AllocError>
-    ensures { IfOk result (λ a. SortsVersions options (map version_line_of lines.entry.items) (outcome_of a)) }
+    ensures { IfOk result (λ a. SortsParts options (input_parts_of lines.entry) (outcome_of a)) }
 {
-    let sorted = sort_lines(options.reversed, lines)?;
-    let texts = kept_texts(alloc, options.unique, sorted.as_slice())?;
-    let output = print_lines(alloc, last_texts(options.last, texts.as_slice()))?;
+    let sorted = sort_lines(options.reversed, lines.versions)?;
+    let mut texts = kept_texts(alloc, options.unique, sorted.as_slice())?;
+    texts.extend_from_slice(lines.invalid.as_slice())?;
+    let mut output = lines.header;
+    push_lines(&mut output, last_texts(options.last, texts.as_slice()))?;
     Ok(Answer {
         output,
-        errors: Vec::new(alloc),
+        errors: lines.errors,
         status: 0,
     })
 }

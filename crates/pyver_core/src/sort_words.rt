@@ -1,13 +1,23 @@
 // The words of `sort`.
-ghost use Rattle.std.specs.Prelude.{◌≡◌, ◌∷◌, ◌<◌, IfErr, IfOk, false, length, map, string_bytes, true};
+ghost use Rattle.std.specs.Prelude.{◌≡◌, ◌∷◌, ◌<◌, IfErr, IfOk, None, Some, length, map, string_bytes};
 ghost use Rattle.pyver_core.specs.TaskViews.{misuse_message, task};
-ghost use Rattle.pyver_core.specs.Tasks.{Misused, is_last_option, no_sort_options, sort_operands, sort_option, sort_rest, sort_task};
+ghost use Rattle.pyver_core.specs.Tasks.{Misused, is_last_option, no_sort_options, sort_operands, sort_option, sort_rest, sort_task, sort_value_of, with_sort_value, wrong_sort_value};
 
 use crate::command::{Command, is_help, is_option};
 use crate::help::Topic;
+use crate::line_options::{
+    LineOptions, ValueOption, parse_line_option, parse_value_option, split_value, with_value,
+};
 use crate::misuse::Misuse;
 use crate::number::parse_number;
 use crate::sort::SortOptions;
+
+/// An option that takes a value.
+#[derive(Clone, Copy)]
+pub(crate) enum SortValue {
+    Last,
+    Lines(ValueOption),
+}
 
 fn is_last_option(word: &str) -> bool
     ensures { result ≡ is_last_option word.now }
@@ -15,7 +25,20 @@ fn is_last_option(word: &str) -> bool
     word == "-n" || word == "--last"
 }
 
-fn parse_operands<'a>(options: SortOptions, words: &'a [String]) -> Command<'a>
+/// The option that the word names, whose value is the next word.
+fn parse_sort_value(word: &str) -> Option<SortValue>
+    ensures { result ≡ sort_value_of word.now }
+{
+    if is_last_option(word) {
+        return Some(SortValue::Last);
+    }
+    match parse_value_option(word) {
+        Some(name) => Some(SortValue::Lines(name)),
+        None => None,
+    }
+}
+
+fn parse_sort_operands<'a>(options: SortOptions, words: &'a [String]) -> Command<'a>
     ensures { task result ≡ sort_operands options (map string_bytes words.now) }
 {
     if words.is_empty() {
@@ -35,13 +58,16 @@ fn parse_sort_option(options: SortOptions, word: &str) -> Option<SortOptions>
         "--reverse" => options.reversed = true,
         "-u" => options.unique = true,
         "--unique" => options.unique = true,
-        _ => return None,
+        _ => match parse_line_option(options.lines, word) {
+            Some(lines) => options.lines = lines,
+            None => return None,
+        },
     }
     Some(options)
 }
 
 /// The first word is no option that sets some.
-fn parse_rest<'a>(
+fn parse_sort_rest<'a>(
     options: SortOptions,
     word: &'a str,
     rest: &'a [String],
@@ -51,42 +77,65 @@ fn parse_rest<'a>(
     ensures { task result ≡ sort_rest options word.now (map string_bytes rest.now) }
 {
     if word == "--" {
-        parse_operands(options, rest)
+        parse_sort_operands(options, rest)
+    } else if let Some((name, value)) = split_value(word) {
+        Command::Misused(Misuse::Value(Topic::Sort, name, value))
     } else if is_option(word) {
         Command::Misused(Misuse::Option(Topic::Sort, word))
     } else {
-        parse_operands(options, words)
+        parse_sort_operands(options, words)
     }
 }
 
-/// The options with the number behind `-n`, and the words after it.
-fn parse_last_value<'a>(
+/// The options with this value, where it is one.
+fn with_sort_value(options: SortOptions, name: SortValue, value: &str) -> Option<SortOptions>
+    ensures { result ≡ with_sort_value options name value.now }
+{
+    let mut options = options;
+    match name {
+        SortValue::Last => options.last = Some(parse_number(value)?),
+        SortValue::Lines(name) => options.lines = with_value(options.lines, name, value)?,
+    }
+    Some(options)
+}
+
+fn wrong_value<'a>(name: SortValue, value: &'a str) -> Misuse<'a>
+    ensures { Misused (misuse_message result) ≡ wrong_sort_value name value.now }
+{
+    match name {
+        SortValue::Last => Misuse::Number(Topic::Sort, value),
+        SortValue::Lines(name) => Misuse::Value(Topic::Sort, name, value),
+    }
+}
+
+/// The options with the value, which is the next word, and the words after it.
+fn take_sort_value<'a>(
     options: SortOptions,
+    name: SortValue,
     words: &'a [String],
 ) -> Result<(SortOptions, &'a [String]), Misuse<'a>>
-    ensures ok { IfOk result (λ x. sort_task true options (map string_bytes words.now) ≡ sort_task false x.0 (map string_bytes x.1.now)) }
+    ensures ok { IfOk result (λ x. sort_task options (Some name) (map string_bytes words.now) ≡ sort_task x.0 None (map string_bytes x.1.now)) }
     ensures shorter { IfOk result (λ x. length x.1.now < length words.now) }
-    ensures wrong { IfErr result (λ misuse. sort_task true options (map string_bytes words.now) ≡ Misused (misuse_message misuse)) }
+    ensures wrong { IfErr result (λ misuse. sort_task options (Some name) (map string_bytes words.now) ≡ Misused (misuse_message misuse)) }
 {
-    let [number, rest @ ..] = words else {
+    let [value, rest @ ..] = words else {
         return Err(Misuse::Count(Topic::Sort));
     };
-    let mut options = options;
-    match parse_number(number.as_str()) {
-        Some(count) => options.last = Some(count),
-        None => return Err(Misuse::Number(Topic::Sort, number.as_str())),
+    match with_sort_value(options, name, value.as_str()) {
+        Some(taken) => Ok((taken, rest)),
+        None => Err(wrong_value(name, value.as_str())),
     }
-    Ok((options, rest))
 }
 
 /// What the words behind `sort` ask for.
 pub(crate) fn parse_sort<'a>(words: &'a [String]) -> Command<'a>
-    ensures { task result ≡ sort_task false no_sort_options (map string_bytes words.now) }
+    ensures { task result ≡ sort_task no_sort_options None (map string_bytes words.now) }
 {
     let mut options = SortOptions {
         reversed: false,
         unique: false,
         last: None,
+        lines: LineOptions::none(),
     };
     let mut left = words;
     while let [word, rest @ ..] = left {
@@ -94,8 +143,11 @@ pub(crate) fn parse_sort<'a>(words: &'a [String]) -> Command<'a>
         if is_help(word) {
             return Command::Help(Topic::Sort);
         }
-        if is_last_option(word) {
-            match parse_last_value(options, rest) {
+        if let Some(taken) = parse_sort_option(options, word) {
+            options = taken;
+            left = rest;
+        } else if let Some(name) = parse_sort_value(word) {
+            match take_sort_value(options, name, rest) {
                 Ok((taken, after)) => {
                     options = taken;
                     left = after;
@@ -103,11 +155,7 @@ pub(crate) fn parse_sort<'a>(words: &'a [String]) -> Command<'a>
                 Err(misuse) => return Command::Misused(misuse),
             }
         } else {
-            match parse_sort_option(options, word) {
-                Some(taken) => options = taken,
-                None => return parse_rest(options, word, rest, left),
-            }
-            left = rest;
+            return parse_sort_rest(options, word, rest, left);
         }
     }
     Command::Sort(options)

@@ -1,10 +1,11 @@
-// The lines of a text with their versions.
-ghost use Rattle.std.specs.Prelude.{◌≡◌, ◌<◌, ◌≤◌, ◌∷◌, [], IfOk, IfSome, length};
+// The lines of a text by what they are: the header, versions, and others.
+ghost use Rattle.std.specs.Prelude.{◌≡◌, ◌<◌, ◌≤◌, ◌∷◌, ◌++◌, [], IfOk, IfSome, length, map};
 ghost use Rattle.std.specs.Option.{option_map_or};
 ghost use Rattle.pyver_core.specs.InputLines.{input_lines};
+ghost use Rattle.pyver_core.specs.VersionLines.{kept_text};
 
 use crate::filter::push_line_fault;
-use crate::invalid_lines::{MESSAGE_LIMIT, push_more_faults};
+use crate::invalid_lines::InvalidLines;
 use crate::line_options::LineOptions;
 use crate::lines::{is_blank, line_text, read_line};
 use crate::reading::Reading;
@@ -18,11 +19,15 @@ pub(crate) struct VersionLine<'a> {
     pub(crate) version: Version,
 }
 
-/// The lines that are versions, and what is to be said of the others.
+/// The lines by what they are, and what is to be said of the invalid ones.
 #[derive(Drop)]
 pub(crate) struct VersionLines<'a> {
     line_count: u64,
-    pub(crate) lines: Vec<VersionLine<'a>>,
+    /// The header and its newline, where there is one.
+    pub(crate) header: Vec<u8>,
+    pub(crate) versions: Vec<VersionLine<'a>>,
+    /// The invalid lines, where they are kept.
+    pub(crate) invalid: Vec<&'a [u8]>,
     /// How many lines were invalid.
     pub(crate) fault_count: u64,
     pub(crate) errors: Vec<u8>,
@@ -42,38 +47,79 @@ fn split_line(input: &[u8]) -> (&[u8], Option<&[u8]>)
     (input, None)
 }
 
+/// One more invalid line, where such lines are kept.
+fn keep_text<'a>(
+    how: InvalidLines,
+    kept: &mut Vec<&'a [u8]>,
+    text: &'a [u8],
+) -> Result<(), AllocError>
+    ensures { IfOk result (λ _. map (λ t. t.now) kept.new.items ≡ map (λ t. t.now) kept.old.items ++ kept_text how text.now) }
+{
+    match how {
+        InvalidLines::Error => Ok(()),
+        InvalidLines::Skip => Ok(()),
+        InvalidLines::Keep => {
+            kept.push(text)?;
+            Ok(())
+        }
+    }
+}
+
 impl<'a> VersionLines<'a> {
-    ghost use Rattle.std.specs.Prelude.{◌+◌, ◌++◌, ◌^◌, List, ℕ};
+    ghost use Rattle.std.specs.Prelude.{◌+◌, ◌^◌, List, ℕ};
     ghost use Rattle.pyver_core.specs.AnswerViews.{reading_of};
-    ghost use Rattle.pyver_core.specs.ReadLines.{Entry};
+    ghost use Rattle.pyver_core.specs.InvalidLines.{lines_status};
+    ghost use Rattle.pyver_core.specs.ReadLines.{Entry, Header};
     ghost use Rattle.pyver_core.specs.Readings.{Denotes, Fails};
     ghost use Rattle.pyver_core.specs.VersionLineViews.{IsOfLines, KeepsLines, KeepsOne};
 
     fn new(alloc: Global) -> VersionLines<'a>
-        ensures { KeepsLines [] result }
+        ensures { (options : LineOptions) → KeepsLines options [] result }
     {
         VersionLines {
             line_count: 0,
-            lines: Vec::new(alloc),
+            header: Vec::new(alloc),
+            versions: Vec::new(alloc),
+            invalid: Vec::new(alloc),
             fault_count: 0,
             errors: Vec::new(alloc),
         }
     }
 
-    fn push_version(&mut self, text: &'a [u8], version: Version) -> Result<(), AllocError>
-        ensures { IfOk result (λ _. KeepsOne (record { line = (self.old.line_count, text.now); reading = Entry (Denotes version) }) self.old self.new) }
+    fn push_header(&mut self, options: LineOptions, text: &'a [u8]) -> Result<(), AllocError>
+        ensures { IfOk result (λ _. KeepsOne options (record { line = (self.old.line_count, text.now); reading = Header }) self.old self.new) }
     {
-        self.lines.push(VersionLine { text, version })?;
+        self.header.extend_from_slice(text)?;
+        self.header.push(b'\n')?;
         Ok(())
     }
 
-    fn push_fault(&mut self, alloc: Global, text: &'a [u8], reason: &str) -> Result<(), AllocError>
-        requires { (self.old.fault_count < self.old.line_count) × (self.old.line_count ≤ 2 ^ 63) }
-        ensures { IfOk result (λ _. KeepsOne (record { line = (self.old.line_count, text.now); reading = Entry (Fails reason.now) }) self.old self.new) }
+    fn push_version(
+        &mut self,
+        options: LineOptions,
+        text: &'a [u8],
+        version: Version,
+    ) -> Result<(), AllocError>
+        ensures { IfOk result (λ _. KeepsOne options (record { line = (self.old.line_count, text.now); reading = Entry (Denotes version) }) self.old self.new) }
     {
-        if self.fault_count < MESSAGE_LIMIT {
+        self.versions.push(VersionLine { text, version })?;
+        Ok(())
+    }
+
+    fn push_fault(
+        &mut self,
+        alloc: Global,
+        options: LineOptions,
+        text: &'a [u8],
+        reason: &str,
+    ) -> Result<(), AllocError>
+        requires { (self.old.fault_count < self.old.line_count) × (self.old.line_count ≤ 2 ^ 63) }
+        ensures { IfOk result (λ _. KeepsOne options (record { line = (self.old.line_count, text.now); reading = Entry (Fails reason.now) }) self.old self.new) }
+    {
+        if self.fault_count < options.invalid.message_limit() {
             push_line_fault(alloc, &mut self.errors, self.line_count, reason)?;
         }
+        keep_text(options.invalid, &mut self.invalid, text)?;
         self.fault_count += 1;
         Ok(())
     }
@@ -81,22 +127,28 @@ impl<'a> VersionLines<'a> {
     fn push_reading(
         &mut self,
         alloc: Global,
+        options: LineOptions,
         text: &'a [u8],
         reading: Reading,
     ) -> Result<(), AllocError>
         requires { (self.old.fault_count < self.old.line_count) × (self.old.line_count ≤ 2 ^ 63) }
-        ensures { IfOk result (λ _. KeepsOne (record { line = (self.old.line_count, text.now); reading = Entry (reading_of reading) }) self.old self.new) }
+        ensures { IfOk result (λ _. KeepsOne options (record { line = (self.old.line_count, text.now); reading = Entry (reading_of reading) }) self.old self.new) }
     {
         match reading {
-            Reading::Version(version) => self.push_version(text, version),
-            Reading::Invalid(reason) => self.push_fault(alloc, text, reason.as_str()),
+            Reading::Version(version) => self.push_version(options, text, version),
+            Reading::Invalid(reason) => self.push_fault(alloc, options, text, reason.as_str()),
         }
     }
 
     /// One more line.
-    fn push_line(&mut self, alloc: Global, line: &'a [u8]) -> Result<(), AllocError>
+    fn push_line(
+        &mut self,
+        alloc: Global,
+        options: LineOptions,
+        line: &'a [u8],
+    ) -> Result<(), AllocError>
         requires { self.old.line_count < 2 ^ 63 }
-        ensures lines { IfOk result (λ _. (texts : List (List ℕ)) → KeepsLines texts self.old → KeepsLines (texts ++ line.now ∷ []) self.new) }
+        ensures lines { IfOk result (λ _. (texts : List (List ℕ)) → KeepsLines options texts self.old → KeepsLines options (texts ++ line.now ∷ []) self.new) }
         ensures count { IfOk result (λ _. self.new.line_count ≡ self.old.line_count + 1) }
     {
         self.line_count += 1;
@@ -104,35 +156,49 @@ impl<'a> VersionLines<'a> {
         if is_blank(text) {
             return Ok(());
         }
-        let reading = read_line(alloc, LineOptions::none(), text)?;
-        self.push_reading(alloc, text, reading)?;
+        if options.is_header(self.line_count) {
+            self.push_header(options, text)?;
+            return Ok(());
+        }
+        let reading = read_line(alloc, options, text)?;
+        self.push_reading(alloc, options, text, reading)?;
         Ok(())
     }
 
-    /// How many invalid lines were not named.
-    fn finish(&mut self, alloc: Global) -> Result<(), AllocError>
-        ensures { IfOk result (λ _. (texts : List (List ℕ)) → KeepsLines texts self.old → IsOfLines texts self.new) }
+    /// What is said of invalid lines at the end.
+    fn finish(&mut self, alloc: Global, options: LineOptions) -> Result<(), AllocError>
+        ensures { IfOk result (λ _. (texts : List (List ℕ)) → KeepsLines options texts self.old → IsOfLines options texts self.new) }
     {
-        push_more_faults(
-            alloc,
-            &mut self.errors,
-            self.fault_count.saturating_sub(MESSAGE_LIMIT),
-        )?;
+        options
+            .invalid
+            .push_last(alloc, &mut self.errors, self.fault_count)?;
         Ok(())
+    }
+
+    /// The status by the invalid lines.
+    pub(crate) fn status(&self, options: LineOptions) -> u8
+        ensures is { result ≡ lines_status options.invalid self.now.fault_count }
+        ensures known { result ≤ 2 }
+    {
+        options.invalid.status(self.fault_count)
     }
 
     /// The lines of the text.
-    pub(crate) fn read(alloc: Global, text: &'a [u8]) -> Result<VersionLines<'a>, AllocError>
-        ensures { IfOk result (IsOfLines (input_lines text.now)) }
+    pub(crate) fn read(
+        alloc: Global,
+        options: LineOptions,
+        text: &'a [u8],
+    ) -> Result<VersionLines<'a>, AllocError>
+        ensures { IfOk result (IsOfLines options (input_lines text.now)) }
     {
         let mut lines = VersionLines::new(alloc);
         let mut rest = Some(text);
         while let Some(left) = rest {
             let (line, later) = split_line(left);
-            lines.push_line(alloc, line)?;
+            lines.push_line(alloc, options, line)?;
             rest = later;
         }
-        lines.finish(alloc)?;
+        lines.finish(alloc, options)?;
         Ok(lines)
     }
 }

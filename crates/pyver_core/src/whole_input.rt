@@ -1,15 +1,17 @@
 // Commands that read the whole input before they write.
-ghost use Rattle.std.specs.Prelude.{◌≤◌, IfErr, IfOk, List, ℕ, map};
+ghost use Rattle.std.specs.Prelude.{◌≡◌, ◌≤◌, IfErr, IfOk, List, ℕ};
 ghost use Rattle.std.specs.Io.KnownBytes.{Consumes, IsAtEnd};
 ghost use Rattle.pyver_core.specs.AnswerViews.{outcome_of};
 ghost use Rattle.pyver_core.specs.InputLines.{input_lines};
-ghost use Rattle.pyver_core.specs.VersionLineViews.{version_line_of};
-ghost use Rattle.pyver_core.specs.WholeInputs.{AnswersInput, AnswersVersions, WholeFinishes, WholeStops};
+ghost use Rattle.pyver_core.specs.VersionLineViews.{IsOfLines, input_parts_of};
+ghost use Rattle.pyver_core.specs.WholeInputs.{AnswersInput, AnswersParts, WholeFinishes, WholeStops, question_lines};
 
 use crate::answer::Answer;
+use crate::line_options::LineOptions;
+use crate::newest::{NewestRule, find_newest};
 use crate::sort::{SortOptions, sort_versions};
 use crate::stream::{Stop, write_both};
-use crate::version_line::{VersionLine, VersionLines};
+use crate::version_line::VersionLines;
 use std::alloc::{AllocError, Global};
 use std::io::{Read, Write};
 
@@ -19,9 +21,20 @@ const MOST_READS: u64 = 562949953421312;
 const READ_SIZE: usize = 8192;
 
 /// What is asked of all lines together.
-#[derive(Clone, Copy)]
+#[derive(Drop)]
 pub(crate) enum Question {
     Sort(SortOptions),
+    Newest(NewestRule),
+}
+
+/// How lines are read.
+fn question_lines(question: &Question) -> LineOptions
+    ensures { result ≡ question_lines question.now }
+{
+    match question {
+        Question::Sort(options) => options.lines,
+        Question::Newest(rule) => rule.lines,
+    }
 }
 
 fn read_whole<R: Read>(alloc: Global, input: &mut R) -> Result<Vec<u8>, Stop>
@@ -44,43 +57,57 @@ fn read_whole<R: Read>(alloc: Global, input: &mut R) -> Result<Vec<u8>, Stop>
     Err(Stop::Read)
 }
 
-fn answer_versions(
+/// What is to be written of these lines, of which no invalid one is an error.
+fn answer_valid(
     alloc: Global,
-    question: Question,
-    lines: Vec<VersionLine<'_>>,
+    question: &Question,
+    lines: VersionLines<'_>,
 ) -> Result<Answer, AllocError>
-    ensures { IfOk result (λ a. AnswersVersions question (map version_line_of lines.entry.items) (outcome_of a)) }
+    ensures { IfOk result (λ a. AnswersParts question.now (input_parts_of lines.entry) (outcome_of a)) }
 {
     match question {
-        Question::Sort(options) => sort_versions(alloc, options, lines),
+        Question::Sort(options) => sort_versions(alloc, *options, lines),
+        Question::Newest(rule) => find_newest(alloc, rule, lines),
     }
 }
 
-/// What is to be written, where this is the whole input.
-fn answer_text(alloc: Global, question: Question, text: &[u8]) -> Result<Answer, AllocError>
-    ensures { IfOk result (λ a. AnswersInput question (input_lines text.now) (outcome_of a)) }
+/// The same of any lines: nothing is printed where invalid lines are an error and there are some.
+fn answer_lines(
+    alloc: Global,
+    question: &Question,
+    lines: VersionLines<'_>,
+) -> Result<Answer, AllocError>
+    ensures { IfOk result (λ a. (texts : List (List ℕ)) → IsOfLines (question_lines question.now) texts lines.entry → AnswersInput question.now texts (outcome_of a)) }
 {
-    let read = VersionLines::read(alloc, text)?;
-    if read.fault_count > 0 {
+    let status = lines.status(question_lines(question));
+    if status > 0 {
         return Ok(Answer {
             output: Vec::new(alloc),
-            errors: read.errors,
-            status: 2,
+            errors: lines.errors,
+            status,
         });
     }
-    answer_versions(alloc, question, read.lines)
+    answer_valid(alloc, question, lines)
+}
+
+/// What is to be written, where this is the whole input.
+fn answer_text(alloc: Global, question: &Question, text: &[u8]) -> Result<Answer, AllocError>
+    ensures { IfOk result (λ a. AnswersInput question.now (input_lines text.now) (outcome_of a)) }
+{
+    let lines = VersionLines::read(alloc, question_lines(question), text)?;
+    answer_lines(alloc, question, lines)
 }
 
 /// Writes the answer to the question, once the whole input is read, and returns the status.
 pub(crate) fn answer_input<R: Read, W: Write, E: Write>(
     alloc: Global,
-    question: Question,
+    question: &Question,
     input: &mut R,
     out: &mut W,
     err: &mut E,
 ) -> Result<u8, Stop>
-    ensures finished { IfOk result (λ status. (status ≤ 2) × WholeFinishes R.remaining W.contents E.contents question input.old input.new out.old out.new err.old err.new status) }
-    ensures stopped { IfErr result (λ _. WholeStops R.remaining W.contents E.contents question input.old input.new out.old out.new err.old err.new) }
+    ensures finished { IfOk result (λ status. (status ≤ 2) × WholeFinishes R.remaining W.contents E.contents question.now input.old input.new out.old out.new err.old err.new status) }
+    ensures stopped { IfErr result (λ _. WholeStops R.remaining W.contents E.contents question.now input.old input.new out.old out.new err.old err.new) }
 {
     let text = match read_whole(alloc, input) {
         Ok(text) => text,

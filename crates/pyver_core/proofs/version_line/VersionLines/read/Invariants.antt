@@ -5,7 +5,7 @@ use Rattle.pyver_core.proofs.version_line.VersionLines.read.Given as goal
 
 abbrev pub invariant-loop-rest : goal.invariant-loop-rest
 invariant-loop-rest l = record {
-  front : KeepsFront l.text l.rest l.lines;
+  front : KeepsFront l.options l.text l.rest l.lines;
   room : HasRoom l.lines.line_count l.rest;
 }
 
