@@ -1,0 +1,73 @@
+// The names in requirements files, and what is wrong with the lines of each.
+ghost use Rattle.std.specs.Prelude.{◌≡◌, ◌++◌, [], IfOk, map};
+ghost use Rattle.std.specs.List.{filter, flat_map, list_any};
+ghost use Rattle.pyver_findings.specs.Conflicts.{conflicts, firsts, of_name, same_named};
+ghost use Rattle.pyver_findings.specs.Views.{asked_of, finding_of};
+
+use crate::asked::Asked;
+use crate::finding::Finding;
+use crate::group::push_of_name;
+use pep440_pick::same_name;
+use std::alloc::{AllocError, Global};
+
+fn same_named(one: &Asked, other: &Asked) -> bool
+    ensures { result ≡ same_named (asked_of one.now) (asked_of other.now) }
+{
+    same_name(one.name.as_str(), other.name.as_str())
+}
+
+/// The lines with the name of this one.
+fn of_same_name<'a>(
+    alloc: Global,
+    line: &Asked,
+    lines: &'a [Asked],
+) -> Result<Vec<&'a Asked>, AllocError>
+    ensures { IfOk result (λ kept. map (λ x. asked_of x.now) kept.items ≡ filter (same_named (asked_of line.now)) (map asked_of lines.now)) }
+{
+    let mut kept = Vec::new(alloc);
+    for other in lines {
+        if same_named(line, other) {
+            kept.push(other)?;
+        }
+    }
+    Ok(kept)
+}
+
+fn has_name(lines: &[Asked], line: &Asked) -> bool
+    ensures { result ≡ list_any (same_named (asked_of line.now)) (map asked_of lines.now) }
+{
+    for other in lines {
+        if same_named(line, other) {
+            return true;
+        }
+    }
+    false
+}
+
+fn push_with_name(
+    alloc: Global,
+    findings: &mut Vec<Finding>,
+    lines: &[Asked],
+    line: &Asked,
+) -> Result<(), AllocError>
+    ensures { IfOk result (λ _. map finding_of findings.new.items ≡ map finding_of findings.old.items ++ of_name (filter (same_named (asked_of line.now)) (map asked_of lines.now))) }
+{
+    let same = of_same_name(alloc, line, lines)?;
+    push_of_name(alloc, findings, same.as_slice())
+}
+
+/// What is wrong with lines together.
+pub(crate) fn push_conflicts(
+    alloc: Global,
+    findings: &mut Vec<Finding>,
+    lines: &[Asked],
+) -> Result<(), AllocError>
+    ensures { IfOk result (λ _. map finding_of findings.new.items ≡ map finding_of findings.old.items ++ conflicts (map asked_of lines.now)) }
+{
+    for (at, line) in lines.iter().enumerate() {
+        if !has_name(&lines[..at], line) {
+            push_with_name(alloc, findings, lines, line)?;
+        }
+    }
+    Ok(())
+}

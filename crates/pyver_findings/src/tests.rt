@@ -1,0 +1,2 @@
+//! Files and what is found in them.
+mod files;
