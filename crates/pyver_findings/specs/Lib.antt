@@ -6,3 +6,4 @@ pub mod Findings
 pub mod Conflicts
 pub mod Reports
 pub mod Views
+pub mod ReadingViews

@@ -1,6 +1,5 @@
 // What a line of a requirements file is to the check.
-ghost use Rattle.std.specs.Prelude.{◌≡◌, IfOk, IsTrue};
-ghost use Rattle.std.specs.List.{starts_with};
+ghost use Rattle.std.specs.Prelude.{◌≡◌, IfOk};
 ghost use Rattle.pyver_findings.specs.LineReadings.{ReadsKind, ReadsLine, has_scheme, names_file};
 ghost use Rattle.pyver_findings.specs.Views.{file_line_of, line_reading_of};
 ghost use Rattle.pyver_requirements.specs.LineKindViews.{line_kind_of};

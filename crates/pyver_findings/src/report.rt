@@ -1,7 +1,8 @@
 //! The report of requirements files.
-ghost use Rattle.std.specs.Prelude.{◌≡◌, ◌++◌, [], IfOk, map};
+ghost use Rattle.std.specs.Prelude.{◌≡◌, ◌++◌, IfOk, map};
+ghost use Rattle.pyver_findings.specs.ReadingViews.{KeepsReadings};
 ghost use Rattle.pyver_findings.specs.Reports.{IsReport, asked_in, invalid_in, left_out_in};
-ghost use Rattle.pyver_findings.specs.Views.{asked_of, file_of, finding_of, line_reading_of, report_of};
+ghost use Rattle.pyver_findings.specs.Views.{asked_of, file_line_of, file_of, finding_of, line_reading_of, report_of};
 
 use crate::asked::Asked;
 use crate::cause::Cause;
@@ -48,7 +49,9 @@ impl Readings {
     }
 }
 
-fn read_lines(alloc: Global, lines: &[FileLine]) -> Result<Readings, AllocError> {
+fn read_lines(alloc: Global, lines: &[FileLine]) -> Result<Readings, AllocError>
+    ensures { IfOk result (KeepsReadings (map file_line_of lines.now)) }
+{
     let mut readings = Readings {
         invalid: Vec::new(alloc),
         asked: Vec::new(alloc),

@@ -1,10 +1,12 @@
 // Lines that are requirements, or should be.
-ghost use Rattle.std.specs.Prelude.{◌≡◌, ◌⊎◌, Some, None, IfOk, IfErr, IfSome, option_map, is_some, true};
+ghost use Rattle.std.specs.Prelude.{◌≡◌, Some, IfOk, IfSome, false, string_bytes};
 ghost use Rattle.pep440_pick.specs.RequirementGrammar.{RequirementRefusal};
 ghost use Rattle.pep440_pick.specs.Requirements.{IsRequirementLifted, needed, requirement_refusal_of};
 ghost use Rattle.pep440_pick.specs.RequirementTexts.{requirement_refusal_text, requirement_text_of};
+ghost use Rattle.pep440_rs.specs.ListAnswers.{list_kind_of};
 ghost use Rattle.pyver_findings.specs.Findings.{NoRequirement};
-ghost use Rattle.pyver_findings.specs.LineReadings.{IsNone, ReadsParts, counted, not_utf8, refused, requirement_reason, with_url};
+ghost use Rattle.pyver_findings.specs.LineReadings.{IsNone, ReadsParts, counted, refused, with_url};
+ghost use Rattle.pyver_findings.specs.ReadingViews.{lacks_memory, piece_text_of, reason_text_of};
 ghost use Rattle.pyver_findings.specs.Views.{file_line_of, line_reading_of};
 ghost use Rattle.pyver_requirements.specs.LineParts.{line_parts};
 ghost use Rattle.pyver_requirements.specs.LinePartViews.{line_parts_of};
@@ -34,7 +36,9 @@ fn reject(
 }
 
 /// The reason of a list, without what its message repeats.
-fn list_reason(alloc: Global, error: &VersionSpecifiersParseError) -> Result<String, AllocError> {
+fn list_reason(alloc: Global, error: &VersionSpecifiersParseError) -> Result<String, AllocError>
+    ensures { IfOk result (λ s. IfSome (piece_text_of (list_kind_of error.now)) (λ t. string_bytes s ≡ t)) }
+{
     match error.kind() {
         SpecifiersErrorKind::Piece { error, .. } => error.to_string(alloc),
         SpecifiersErrorKind::OutOfMemory => Err(AllocError),
@@ -42,7 +46,10 @@ fn list_reason(alloc: Global, error: &VersionSpecifiersParseError) -> Result<Str
 }
 
 /// The reason, unless memory ran out.
-fn print_reason(alloc: Global, error: &RequirementError) -> Result<String, AllocError> {
+fn print_reason(alloc: Global, error: &RequirementError) -> Result<String, AllocError>
+    ensures text { IfOk result (λ s. IfSome (reason_text_of error.now) (λ t. string_bytes s ≡ t)) }
+    ensures memory { IfOk result (λ _. lacks_memory error.now ≡ false) }
+{
     match error {
         RequirementError::Specifiers(error) => list_reason(alloc, error),
         RequirementError::OutOfMemory => Err(AllocError),
@@ -55,7 +62,11 @@ fn read_error(
     line: &FileLine,
     parts: LineParts<'_>,
     error: &RequirementError,
-) -> Result<LineReading, AllocError> {
+) -> Result<LineReading, AllocError>
+    requires lifted { IsRequirementLifted error.now }
+    requires message { IfSome (requirement_refusal_of error.now) (λ f. requirement_text_of error.now ≡ Some (requirement_refusal_text f)) }
+    ensures { IfOk result (λ x. (f : RequirementRefusal) × (requirement_refusal_of error.now ≡ Some f) × (line_reading_of x ≡ refused (file_line_of line.now) (line_parts_of parts.entry) f)) }
+{
     let reason = print_reason(alloc, error)?;
     let column = column(parts.requirement, error);
     reject(alloc, line, reason.as_str(), column)

@@ -79,7 +79,11 @@ fn write_findings(alloc: Global, text: &str) -> Result<String, AllocError> {
 fn files_have_their_findings(rt: HostRuntime) -> Result<(), Fail> {
     for (text, want) in FILES {
         let written = write_findings(rt.alloc(), text)?;
-        assert!(rt; written.as_str() == want, "{text} gave {}", written.as_str());
+        assert!(rt;
+            written.as_str() == want,
+            "{text} gave {}",
+            written.as_str()
+        );
     }
     Ok(())
 }
