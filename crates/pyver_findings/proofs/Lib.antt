@@ -1,3 +1,4 @@
 pub mod Steps
 pub mod Reasons
 pub mod Readings
+pub mod Holding

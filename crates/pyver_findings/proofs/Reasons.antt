@@ -1,7 +1,7 @@
 -- The reasons of errors of requirements.
-use Rattle.std.proofs.Common.{◌≡◌, ◌∙◌, ℕ, List, ◌++◌, Bool, true, false, Option, Some, None, IfSome, codes, option_map, refl, sym, ap, subst}
+use Rattle.std.proofs.Common.{◌≡◌, ◌∙◌, ℕ, List, ◌++◌, Bool, true, false, Option, Some, None, IfOk, IfSome, Result, codes, inl, inr, option_map, refl, sym, ap, subst}
 use Rattle.std.proofs.lemmas.List.{append_cancel_left, append_cancel_right}
-use Rattle.pep440_pick.specs.RequirementGrammar.{InvalidExtras, InvalidName, Marker, RequirementRefusal, Specifiers, Unclosed, Url}
+use Rattle.pep440_pick.specs.RequirementGrammar.{InvalidExtras, InvalidName, Marker, RefusesRequirement, RequirementRefusal, Specifiers, Unclosed, Url}
 use Rattle.pep440_pick.specs.RequirementTexts.{requirement_refusal_text, requirement_text_of}
 use Rattle.pep440_pick.specs.Requirements.{requirement_refusal_of}
 use Rattle.pep440_pick.specs.declared.error.RequirementError.{RequirementError}
@@ -15,8 +15,15 @@ use Rattle.pep440_rs.specs.ListGrammar.{PieceRefusal}
 use Rattle.pep440_rs.specs.SpecifierGrammar.{SpecifierRefusal}
 use Rattle.pep440_rs.specs.declared.list.error.SpecifiersErrorKind.{SpecifiersErrorKind}
 use Rattle.pep440_rs.specs.declared.list.error.SpecifiersErrorKind.TheVariants as list
-use Rattle.pyver_findings.specs.LineReadings.{requirement_reason}
+use Rattle.pyver_findings.specs.FileLines.{FileLine}
+use Rattle.pyver_findings.specs.LineReadings.{ReadsParts, refused, requirement_reason}
 use Rattle.pyver_findings.specs.ReadingViews.{lacks_memory, piece_text_of, reason_text_of}
+use Rattle.pyver_findings.specs.Views.{line_reading_of}
+use Rattle.pyver_findings.specs.declared.line_reading.LineReading.{LineReading}
+use Rattle.pyver_requirements.specs.LineParts.{LineParts}
+use Rattle.std.specs.Str.{IsUtf8}
+use Rattle.std.specs.declared.alloc.AllocError.{AllocError}
+use Rattle.std.proofs.lemmas.Result.{IfOk-weaker}
 
 -- messages of lists are equal only where those of the pieces are
 inner_is : (t u line : List ℕ) (start stop : ℕ) → piece_text t line start stop ≡ piece_text u line start stop → t ≡ u
@@ -57,3 +64,10 @@ reason_is error.OutOfMemory f s is text so = cc is
 pub refusal_in : (o : Option RequirementRefusal) (e : RequirementError) → lacks_memory e ≡ false → (o ≡ None → e ≡ error.OutOfMemory) → (f : RequirementRefusal) × (o ≡ Some f)
 refusal_in None e lacks lifted = let full : lacks_memory e ≡ true = ap lacks_memory (lifted refl) in cc (full, lacks)
 refusal_in (Some f) e lacks lifted = (f, refl)
+
+-- the line of an error is none for its reason
+pub error_read : (result : Result LineReading AllocError) (l : FileLine) (p : LineParts) (e : RequirementError) → IsUtf8 p.requirement → IfSome (requirement_refusal_of e) (RefusesRequirement p.requirement)
+    → IfOk result (λ x. (f : RequirementRefusal) × (requirement_refusal_of e ≡ Some f) × (line_reading_of x ≡ refused l p f)) → IfOk result (λ x. ReadsParts l p (line_reading_of x))
+error_read result l p e text why read =
+    IfOk-weaker result (λ x. (f : RequirementRefusal) × (requirement_refusal_of e ≡ Some f) × (line_reading_of x ≡ refused l p f)) (λ x. ReadsParts l p (line_reading_of x))
+    (λ x r. inr (text, inr (r.0, subst (λ o. IfSome o (RefusesRequirement p.requirement)) r.1 why, r.2))) read

@@ -7,3 +7,6 @@ pub mod Conflicts
 pub mod Reports
 pub mod Views
 pub mod ReadingViews
+pub mod ReportTexts
+pub mod ReportObjects
+pub mod FindingLaws

@@ -39,12 +39,15 @@ abbrev pub requirement_reason : RequirementRefusal → List ℕ
 requirement_reason (Specifiers list f) = specifier_refusal_text f.error
 requirement_reason f = requirement_refusal_text f
 
--- behind `@` a URL stands, and no list before it; this is what the line is
+-- what the line is with a URL: it is left out, and has no list before the URL
+abbrev pub before_url : FileLine → ℕ → Needed → LineReading
+before_url line column n = if length n.specifiers == 0 then LeftOut cause.Url else IsNone (NoRequirement line (codes "version specifiers stand before a URL") column)
+
+-- behind `@` a URL stands; this is what the line is
 abbrev pub with_url : FileLine → LineParts → Needed → Option (List ℕ) → LineReading
 with_url line p n None = Asks (asked line p.marker n)
 with_url line p n (Some []) = IsNone (NoRequirement line (codes "no URL follows '@'") (length p.requirement))
-with_url line p n (Some (b ∷ url)) = if length n.specifiers == 0 then LeftOut cause.Url
-    else IsNone (NoRequirement line (codes "version specifiers stand before a URL") (length p.requirement))
+with_url line p n (Some (b ∷ url)) = before_url line (length p.requirement) n
 
 -- behind `;` a marker stands; this is what the line is
 abbrev pub with_marker : FileLine → LineParts → Needed → Option (List ℕ) → LineReading

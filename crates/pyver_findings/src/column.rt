@@ -1,9 +1,11 @@
 // The column at which a requirement is invalid.
 ghost use Rattle.std.specs.Prelude.{◌≡◌, ◌≤◌, ◌==◌, drop, length, not, IfSome};
+ghost use Rattle.std.specs.Char.{is_ascii_whitespace};
 ghost use Rattle.std.specs.List.{prefix_len};
 ghost use Rattle.pep440_pick.specs.Names.{is_name_byte};
 ghost use Rattle.pep440_pick.specs.RequirementReading.{behind_name};
 ghost use Rattle.pep440_pick.specs.Requirements.{requirement_refusal_of};
+ghost use Rattle.pep440_version.specs.Reading.{past};
 ghost use Rattle.pyver_findings.specs.Columns.{behind_bracket, behind_extras, behind_front, column, in_parenthesis, list_part, rest_at};
 ghost use Rattle.pep440_rs.specs.ListAnswers.{list_kind_of};
 ghost use Rattle.pep440_rs.specs.ListErrors.{list_refusal_of};
@@ -24,12 +26,19 @@ fn count_name_bytes(text: &[u8]) -> usize
     text.iter().take_while(|byte| is_name_byte(**byte)).count()
 }
 
+/// What stands behind the blanks at the start.
+fn skip_blanks(text: &[u8]) -> &[u8]
+    ensures { result.now ≡ past is_ascii_whitespace text.now }
+{
+    text.trim_ascii_start()
+}
+
 /// What stands behind the name and the blanks after it.
 fn behind_name(text: &[u8]) -> &[u8]
     ensures { result.now ≡ behind_name text.now }
 {
-    let named = text.trim_ascii_start();
-    named[count_name_bytes(named)..].trim_ascii_start()
+    let named = skip_blanks(text);
+    skip_blanks(&named[count_name_bytes(named)..])
 }
 
 fn count_before_bracket(text: &[u8]) -> usize
@@ -66,14 +75,14 @@ fn behind_extras(text: &[u8]) -> &[u8]
 fn behind_front(text: &[u8]) -> &[u8]
     ensures { result.now ≡ behind_front text.now }
 {
-    behind_extras(behind_name(text)).trim_ascii_start()
+    skip_blanks(behind_extras(behind_name(text)))
 }
 
 fn in_parenthesis(text: &[u8]) -> &[u8]
     ensures { result.now ≡ in_parenthesis text.now }
 {
     match text {
-        [b'(', rest @ ..] => rest.trim_ascii_start(),
+        [b'(', rest @ ..] => skip_blanks(rest),
         _ => text,
     }
 }
@@ -112,7 +121,7 @@ fn rest_at<'a>(text: &'a [u8], error: &RequirementError) -> &'a [u8]
         RequirementError::InvalidExtras => behind_name(text),
         RequirementError::Unclosed => behind_front(text),
         RequirementError::Specifiers(error) => {
-            skip_bytes(list_part(text), piece_start(error)).trim_ascii_start()
+            skip_blanks(skip_bytes(list_part(text), piece_start(error)))
         }
         _ => text,
     }

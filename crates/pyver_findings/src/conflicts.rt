@@ -1,7 +1,7 @@
 // The names in requirements files, and what is wrong with the lines of each.
-ghost use Rattle.std.specs.Prelude.{◌≡◌, ◌++◌, [], IfOk, map};
-ghost use Rattle.std.specs.List.{filter, flat_map, list_any};
-ghost use Rattle.pyver_findings.specs.Conflicts.{conflicts, firsts, of_name, same_named};
+ghost use Rattle.std.specs.Prelude.{◌≡◌, ◌++◌, [], IfOk, map, if◌then◌else◌};
+ghost use Rattle.std.specs.List.{filter, list_any};
+ghost use Rattle.pyver_findings.specs.Conflicts.{conflicts, of_name, same_named};
 ghost use Rattle.pyver_findings.specs.Views.{asked_of, finding_of};
 
 use crate::asked::Asked;
@@ -44,14 +44,19 @@ fn has_name(lines: &[Asked], line: &Asked) -> bool
     false
 }
 
+/// Of the lines with the name of this one, if none before has it.
 fn push_with_name(
     alloc: Global,
     findings: &mut Vec<Finding>,
     lines: &[Asked],
+    before: &[Asked],
     line: &Asked,
 ) -> Result<(), AllocError>
-    ensures { IfOk result (λ _. map finding_of findings.new.items ≡ map finding_of findings.old.items ++ of_name (filter (same_named (asked_of line.now)) (map asked_of lines.now))) }
+    ensures { IfOk result (λ _. map finding_of findings.new.items ≡ map finding_of findings.old.items ++ (if list_any (same_named (asked_of line.now)) (map asked_of before.now) then [] else of_name (filter (same_named (asked_of line.now)) (map asked_of lines.now)))) }
 {
+    if has_name(before, line) {
+        return Ok(());
+    }
     let same = of_same_name(alloc, line, lines)?;
     push_of_name(alloc, findings, same.as_slice())
 }
@@ -65,9 +70,7 @@ pub(crate) fn push_conflicts(
     ensures { IfOk result (λ _. map finding_of findings.new.items ≡ map finding_of findings.old.items ++ conflicts (map asked_of lines.now)) }
 {
     for (at, line) in lines.iter().enumerate() {
-        if !has_name(&lines[..at], line) {
-            push_with_name(alloc, findings, lines, line)?;
-        }
+        push_with_name(alloc, findings, lines, &lines[..at], line)?;
     }
     Ok(())
 }

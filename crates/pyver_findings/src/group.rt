@@ -1,5 +1,5 @@
 // Lines of one name, as they count together.
-ghost use Rattle.std.specs.Prelude.{◌≡◌, ◌++◌, ◌==◌, [], IfOk, length, map, option_map};
+ghost use Rattle.std.specs.Prelude.{◌≡◌, ◌++◌, ◌==◌, [], IfOk, length, map, option_map, if◌then◌else◌};
 ghost use Rattle.std.specs.List.{flat_map, list_any};
 ghost use Rattle.pyver_findings.specs.Conflicts.{common, firsts, of_all, of_few, of_markers, of_name, same_marked, under};
 ghost use Rattle.pyver_findings.specs.Views.{asked_of, finding_of};
@@ -72,14 +72,19 @@ fn has_marker(lines: &[&Asked], line: &Asked) -> bool
     false
 }
 
+/// Of the lines that count under the marker of this one, if none before has the same.
 fn push_of_marker(
     alloc: Global,
     findings: &mut Vec<Finding>,
     lines: &[&Asked],
+    before: &[&Asked],
     line: &Asked,
 ) -> Result<(), AllocError>
-    ensures { IfOk result (λ _. map finding_of findings.new.items ≡ map finding_of findings.old.items ++ of_all (under (asked_of line.now).marker (map (λ x. asked_of x.now) lines.now))) }
+    ensures { IfOk result (λ _. map finding_of findings.new.items ≡ map finding_of findings.old.items ++ (if list_any (same_marked (asked_of line.now)) (map (λ x. asked_of x.now) before.now) then [] else of_all (under (asked_of line.now).marker (map (λ x. asked_of x.now) lines.now)))) }
 {
+    if has_marker(before, line) {
+        return Ok(());
+    }
     let counted = under(alloc, &line.marker, lines)?;
     push_of_all(alloc, findings, counted.as_slice())
 }
@@ -92,9 +97,7 @@ fn push_of_each_marker(
     ensures { IfOk result (λ _. map finding_of findings.new.items ≡ map finding_of findings.old.items ++ flat_map (λ a. of_all (under a.marker (map (λ x. asked_of x.now) lines.now))) (firsts same_marked [] (map (λ x. asked_of x.now) lines.now))) }
 {
     for (at, line) in lines.iter().enumerate() {
-        if !has_marker(&lines[..at], line) {
-            push_of_marker(alloc, findings, lines, line)?;
-        }
+        push_of_marker(alloc, findings, lines, &lines[..at], line)?;
     }
     Ok(())
 }

@@ -8,9 +8,12 @@ mod conflicts;
 mod file_line;
 mod finding;
 mod group;
+pub mod laws;
 mod line_reading;
 mod pairs;
 mod report;
+mod report_json;
+mod report_text;
 mod requirement;
 #[cfg(test)]
 mod tests;

@@ -38,11 +38,7 @@ fn push_next_line(alloc: Global, bytes: &mut Vec<u8>, line: &FileLine) -> Result
     push_line(alloc, bytes, line)
 }
 
-fn push_next_lines(
-    alloc: Global,
-    bytes: &mut Vec<u8>,
-    lines: &[FileLine],
-) -> Result<(), AllocError>
+fn push_next_lines(alloc: Global, bytes: &mut Vec<u8>, lines: &[FileLine]) -> Result<(), AllocError>
     ensures { IfOk result (λ _. bytes.new.items ≡ bytes.old.items ++ flat_map next_line (map file_line_of lines.now)) }
 {
     for line in lines {

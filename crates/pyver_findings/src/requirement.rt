@@ -5,7 +5,7 @@ ghost use Rattle.pep440_pick.specs.Requirements.{IsRequirementLifted, needed, re
 ghost use Rattle.pep440_pick.specs.RequirementTexts.{requirement_refusal_text, requirement_text_of};
 ghost use Rattle.pep440_rs.specs.ListAnswers.{list_kind_of};
 ghost use Rattle.pyver_findings.specs.Findings.{NoRequirement};
-ghost use Rattle.pyver_findings.specs.LineReadings.{IsNone, ReadsParts, counted, refused, with_url};
+ghost use Rattle.pyver_findings.specs.LineReadings.{IsNone, ReadsParts, before_url, counted, refused, with_url};
 ghost use Rattle.pyver_findings.specs.ReadingViews.{lacks_memory, piece_text_of, reason_text_of};
 ghost use Rattle.pyver_findings.specs.Views.{file_line_of, line_reading_of};
 ghost use Rattle.pyver_requirements.specs.LineParts.{line_parts};
@@ -72,6 +72,21 @@ fn read_error(
     reject(alloc, line, reason.as_str(), column)
 }
 
+/// What the line is, which has a URL.
+fn read_before_url(
+    alloc: Global,
+    line: &FileLine,
+    column: usize,
+    requirement: &Requirement,
+) -> Result<LineReading, AllocError>
+    ensures { IfOk result (λ x. line_reading_of x ≡ before_url (file_line_of line.now) column (needed requirement.now)) }
+{
+    if requirement.specifiers.as_slice().is_empty() {
+        return Ok(LineReading::LeftOut(Cause::Url));
+    }
+    reject(alloc, line, "version specifiers stand before a URL", column)
+}
+
 /// What the line is, by what stands behind `@`.
 fn read_url(
     alloc: Global,
@@ -81,16 +96,11 @@ fn read_url(
 ) -> Result<LineReading, AllocError>
     ensures { IfOk result (λ x. line_reading_of x ≡ with_url (file_line_of line.now) (line_parts_of parts.entry) (needed requirement.now) (line_parts_of parts.entry).url) }
 {
+    let column = parts.requirement.len();
     match parts.url {
         None => Ok(LineReading::Asks(Asked::new(alloc, line, parts.marker, requirement)?)),
-        Some([]) => reject(alloc, line, "no URL follows '@'", parts.requirement.len()),
-        Some(_) => {
-            if requirement.specifiers.as_slice().is_empty() {
-                return Ok(LineReading::LeftOut(Cause::Url));
-            }
-            let reason = "version specifiers stand before a URL";
-            reject(alloc, line, reason, parts.requirement.len())
-        }
+        Some([]) => reject(alloc, line, "no URL follows '@'", column),
+        Some([_, ..]) => read_before_url(alloc, line, column, requirement),
     }
 }
 
