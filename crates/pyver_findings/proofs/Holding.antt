@@ -1,6 +1,6 @@
 -- What is reported of lines together: no version is allowed by all of them.
-use Rattle.std.proofs.Common.{◌≡◌, ◌==◌, ◌∙◌, ℕ, List, [], ◌∷◌, ◌++◌, ◌&&◌, ◌||◌, Bool, true, false, IsTrue, Option, Some, None, fold, length, map, not, refl, sym, ap, subst, inl, inr, if◌then◌else◌}
-use Rattle.std.proofs.lemmas.Bool.{true≢false}
+use Rattle.std.proofs.Common.{arith, ◌≡◌, ◌==◌, ◌∙◌, ℕ, List, [], ◌∷◌, ◌++◌, ◌&&◌, ◌||◌, Bool, true, false, IsTrue, Option, Some, None, fold, length, map, not, refl, sym, ap, subst, inl, inr, if◌then◌else◌}
+use Rattle.std.proofs.lemmas.Bool.{eqb-true, true≢false}
 use Rattle.std.proofs.lemmas.List.Elements.{All-append, All-cons, All-filter, All-head, All-nil, All-tail}
 use Rattle.std.specs.List.{All, AllZip, filter, flat_map, list_any}
 use Rattle.pep440_pick.proofs.Once.{one_requirement}
@@ -88,7 +88,7 @@ all_covered (l ∷ lines) (x ∷ xs) h = All-append IsCovered (asked_in x) (flat
 
 empty_is : (segments : Segments) → is_empty segments ≡ true → segments ≡ []
 empty_is [] e = refl
-empty_is (s ∷ segments) e = cc e
+empty_is (s ∷ segments) e = let none : length (s ∷ segments) ≡ 0 = eqb-true (length (s ∷ segments)) 0 e in absurd (omega (arith, none))
 
 left_of : (a b : Bool) → (a && b) ≡ true → a ≡ true
 left_of true b e = refl
