@@ -2,3 +2,4 @@ pub mod Steps
 pub mod Reasons
 pub mod Readings
 pub mod Holding
+pub mod Found

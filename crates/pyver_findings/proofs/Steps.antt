@@ -49,3 +49,8 @@ first_more view same f xs i x old new total inside is more so =
 pub all_firsts : {X B : Type 0} (view : X → Asked) (same : Asked → Asked → Bool) (f : Asked → List B) (xs : List X) (i : ℕ) (old total : List B) → length xs ≤ i
     → old ++ flat_map f (firsts same (map view (take i xs)) (map view (drop i xs))) ≡ total → old ≡ total
 all_firsts view same f xs i old total end so = sym (append-nil old) ∙ ap (λ r. old ++ flat_map f (firsts same (map view (take i xs)) (map view r))) (sym (drop_all i xs end)) ∙ so
+
+-- one blank more
+pub blanks_more : (xs : List ℕ) (i : ℕ) (old new total : List ℕ) → i < length xs → new ≡ old ++ 32 ∷ [] → old ++ map (λ _. 32) (drop i xs) ≡ total → new ++ map (λ _. 32) (drop (i + 1) xs) ≡ total
+blanks_more xs i old new total inside more so =
+    ap (λ n. n ++ map (λ _. 32) (drop (i + 1) xs)) more ∙ append_assoc old (32 ∷ []) (map (λ _. 32) (drop (i + 1) xs)) ∙ ap (λ r. old ++ map (λ _. 32) r) (sym (drop_more xs i 0 inside)) ∙ so

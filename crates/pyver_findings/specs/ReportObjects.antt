@@ -30,9 +30,13 @@ conflict_word NoVersion = codes "\"no-version\""
 conflict_word PinOutside = codes "\"pin-outside\""
 conflict_word TwoPins = codes "\"two-pins\""
 
+-- the members `reason` and `column`
+abbrev pub reason_members : List ℕ → ℕ → List ℕ
+reason_members reason column = codes ",\"reason\":" ++ (json_string reason ++ (codes ",\"column\":" ++ decimal column))
+
 -- a finding as an object: its kind; then the line with the reason and the column, or the lines
 abbrev pub finding_object : Finding → List ℕ
-finding_object (NoRequirement l reason column) = codes "{\"kind\":\"no-requirement\"," ++ (line_members l ++ (codes ",\"reason\":" ++ (json_string reason ++ (codes ",\"column\":" ++ (decimal column ++ codes "}")))))
+finding_object (NoRequirement l reason column) = codes "{\"kind\":\"no-requirement\"," ++ (line_members l ++ (reason_members reason column ++ codes "}"))
 finding_object (Conflicting conflict lines) = codes "{\"kind\":" ++ (conflict_word conflict ++ (codes ",\"lines\":" ++ (line_array lines ++ codes "}")))
 
 abbrev pub next_finding : Finding → List ℕ

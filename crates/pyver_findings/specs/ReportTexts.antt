@@ -30,6 +30,10 @@ caret_text text column = map (λ _. 32) (escaped (take column text)) ++ codes "^
 abbrev pub quoted_line : FileLine → List ℕ
 quoted_line l = codes "    " ++ (place_text l ++ (escaped l.text ++ codes "\n"))
 
+-- a line, indented, and the caret under it
+abbrev pub marked_line : List ℕ → ℕ → List ℕ
+marked_line text column = codes "\n    " ++ (escaped text ++ (codes "\n    " ++ caret_text text column))
+
 abbrev pub conflict_text : Conflict → List ℕ
 conflict_text NoVersion = codes "no version satisfies:\n"
 conflict_text PinOutside = codes "a version is named and excluded:\n"
@@ -37,7 +41,7 @@ conflict_text TwoPins = codes "two versions are named:\n"
 
 -- the place and the reason, and then the line, with a caret where it is none, or the lines
 abbrev pub finding_text : Finding → List ℕ
-finding_text (NoRequirement l reason column) = place_text l ++ (escaped reason ++ (codes "\n    " ++ (escaped l.text ++ (codes "\n    " ++ caret_text l.text column))))
+finding_text (NoRequirement l reason column) = place_text l ++ (escaped reason ++ marked_line l.text column)
 finding_text (Conflicting conflict lines) = first_place lines ++ (conflict_text conflict ++ flat_map quoted_line lines)
 
 -- one finding after another
@@ -69,8 +73,11 @@ count_text start count = start ++ (decimal count ++ codes "\n")
 abbrev pub left_out_text : List Cause → Cause → List ℕ
 left_out_text causes c = if count_by (same_cause c) causes == 0 then [] else count_text (cause_text c) (count_by (same_cause c) causes)
 
--- how many lines and files were read, and how many lines were left out, by cause
+-- how many lines were left out, by cause
+abbrev pub left_out_texts : List Cause → List ℕ
+left_out_texts causes = left_out_text causes cause.Editable ++ (left_out_text causes cause.PipOption ++ (left_out_text causes cause.Variable
+    ++ (left_out_text causes cause.Location ++ left_out_text causes cause.Url)))
+
+-- how many files and lines were read, and how many lines were left out
 abbrev pub summary_text : Report → List ℕ
-summary_text r = count_text (codes "pyver: files read: ") r.files ++ (count_text (codes "pyver: lines read: ") r.lines
-    ++ (left_out_text r.left_out cause.Editable ++ (left_out_text r.left_out cause.PipOption ++ (left_out_text r.left_out cause.Variable
-    ++ (left_out_text r.left_out cause.Location ++ left_out_text r.left_out cause.Url)))))
+summary_text r = count_text (codes "pyver: files read: ") r.files ++ (count_text (codes "pyver: lines read: ") r.lines ++ left_out_texts r.left_out)

@@ -2,7 +2,7 @@
 ghost use Rattle.std.specs.Prelude.{◌≡◌, ◌++◌, IfOk, map};
 ghost use Rattle.std.specs.List.{flat_map};
 ghost use Rattle.pyver_findings.specs.Findings.{Conflicting, NoRequirement};
-ghost use Rattle.pyver_findings.specs.ReportObjects.{conflict_word, finding_array, finding_object, line_array, line_members, line_object, next_finding, next_line, report_object};
+ghost use Rattle.pyver_findings.specs.ReportObjects.{conflict_word, finding_array, finding_object, line_array, line_members, line_object, next_finding, next_line, reason_members, report_object};
 ghost use Rattle.pyver_findings.specs.Views.{file_line_of, finding_of, report_of};
 
 use crate::file_line::FileLine;
@@ -86,6 +86,20 @@ fn push_conflict(
     push_text(bytes, "}")
 }
 
+fn push_reason(
+    alloc: Global,
+    bytes: &mut Vec<u8>,
+    reason: &str,
+    column: usize,
+) -> Result<(), AllocError>
+    ensures { IfOk result (λ _. bytes.new.items ≡ bytes.old.items ++ reason_members reason.now column) }
+{
+    push_text(bytes, ",\"reason\":")?;
+    push_json_string(alloc, bytes, reason.as_bytes())?;
+    push_text(bytes, ",\"column\":")?;
+    push_number(alloc, bytes, column as u64)
+}
+
 fn push_no_requirement(
     alloc: Global,
     bytes: &mut Vec<u8>,
@@ -97,10 +111,7 @@ fn push_no_requirement(
 {
     push_text(bytes, "{\"kind\":\"no-requirement\",")?;
     push_members(alloc, bytes, line)?;
-    push_text(bytes, ",\"reason\":")?;
-    push_json_string(alloc, bytes, reason.as_bytes())?;
-    push_text(bytes, ",\"column\":")?;
-    push_number(alloc, bytes, column as u64)?;
+    push_reason(alloc, bytes, reason, column)?;
     push_text(bytes, "}")
 }
 

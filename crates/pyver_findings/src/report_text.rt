@@ -3,7 +3,7 @@ ghost use Rattle.std.specs.Prelude.{◌≡◌, ◌++◌, IfOk, count_by, map, ta
 ghost use Rattle.std.specs.Fmt.{decimal};
 ghost use Rattle.std.specs.List.{flat_map};
 ghost use Rattle.pyver_findings.specs.Findings.{Conflicting, NoRequirement};
-ghost use Rattle.pyver_findings.specs.ReportTexts.{caret_text, cause_text, conflict_text, count_text, finding_text, first_place, left_out_text, place_text, quoted_line, report_text, same_cause, summary_text};
+ghost use Rattle.pyver_findings.specs.ReportTexts.{caret_text, cause_text, conflict_text, count_text, finding_text, first_place, left_out_text, left_out_texts, marked_line, place_text, quoted_line, report_text, same_cause, summary_text};
 ghost use Rattle.pyver_findings.specs.Views.{file_line_of, finding_of, report_of};
 
 use crate::cause::Cause;
@@ -84,6 +84,21 @@ fn push_caret(
     push_text(bytes, "^\n")
 }
 
+/// The line, indented, and the caret under it.
+fn push_marked_line(
+    alloc: Global,
+    bytes: &mut Vec<u8>,
+    text: &[u8],
+    column: usize,
+) -> Result<(), AllocError>
+    ensures { IfOk result (λ _. bytes.new.items ≡ bytes.old.items ++ marked_line text.now column) }
+{
+    push_text(bytes, "\n    ")?;
+    push_escaped(bytes, text)?;
+    push_text(bytes, "\n    ")?;
+    push_caret(alloc, bytes, text, column)
+}
+
 fn push_quoted_line(alloc: Global, bytes: &mut Vec<u8>, line: &FileLine) -> Result<(), AllocError>
     ensures { IfOk result (λ _. bytes.new.items ≡ bytes.old.items ++ quoted_line (file_line_of line.now)) }
 {
@@ -140,10 +155,7 @@ fn push_no_requirement(
 {
     push_place(alloc, bytes, line)?;
     push_escaped(bytes, reason.as_bytes())?;
-    push_text(bytes, "\n    ")?;
-    push_escaped(bytes, line.text.as_slice())?;
-    push_text(bytes, "\n    ")?;
-    push_caret(alloc, bytes, line.text.as_slice(), column)
+    push_marked_line(alloc, bytes, line.text.as_slice(), column)
 }
 
 fn push_finding(alloc: Global, bytes: &mut Vec<u8>, finding: &Finding) -> Result<(), AllocError>
@@ -230,6 +242,16 @@ fn push_left_out(
     push_count(alloc, bytes, cause_text(cause), count)
 }
 
+fn push_all_left_out(alloc: Global, bytes: &mut Vec<u8>, causes: &[Cause]) -> Result<(), AllocError>
+    ensures { IfOk result (λ _. bytes.new.items ≡ bytes.old.items ++ left_out_texts causes.now) }
+{
+    push_left_out(alloc, bytes, causes, Cause::Editable)?;
+    push_left_out(alloc, bytes, causes, Cause::PipOption)?;
+    push_left_out(alloc, bytes, causes, Cause::Variable)?;
+    push_left_out(alloc, bytes, causes, Cause::Location)?;
+    push_left_out(alloc, bytes, causes, Cause::Url)
+}
+
 impl Report {
     /// The findings as lines: for each its file and its line and the reason, and then the line with a caret under the place at
     /// which it is no requirement, or the lines that cannot be satisfied together. What is quoted is escaped: a byte that is not
@@ -250,15 +272,10 @@ impl Report {
     pub fn summarize(&self, alloc: Global) -> Result<Vec<u8>, AllocError>
         ensures { IfOk result (λ bytes. bytes.items ≡ summary_text (report_of self.now)) }
     {
-        let causes = self.left_out.as_slice();
         let mut bytes = Vec::new(alloc);
         push_count(alloc, &mut bytes, "pyver: files read: ", self.files)?;
         push_count(alloc, &mut bytes, "pyver: lines read: ", self.lines)?;
-        push_left_out(alloc, &mut bytes, causes, Cause::Editable)?;
-        push_left_out(alloc, &mut bytes, causes, Cause::PipOption)?;
-        push_left_out(alloc, &mut bytes, causes, Cause::Variable)?;
-        push_left_out(alloc, &mut bytes, causes, Cause::Location)?;
-        push_left_out(alloc, &mut bytes, causes, Cause::Url)?;
+        push_all_left_out(alloc, &mut bytes, self.left_out.as_slice())?;
         Ok(bytes)
     }
 }
