@@ -124,8 +124,8 @@ module _ (P : Finding → Type 0) (p : Asked → Bool) where
 -- ---- first mentions
 
 false_is : (b : Bool) → (b ≡ true → ⊥) → b ≡ false
-false_is true no = absurd (no refl)
-false_is false no = refl
+false_is true never = absurd (never refl)
+false_is false never = refl
 
 left_false : (a b : Bool) → (a || b) ≡ false → a ≡ false
 left_false true b e = absurd (true≢false e)
@@ -146,12 +146,12 @@ module _ {K : Type 0} (key : Asked → K) where
   contains_key a (x ∷ lines) zero inside is = inl (ap key is)
   contains_key a (x ∷ lines) (suc k) inside is = inr (contains_key a lines k (omega arith) is)
 
-  module _ (same : Asked → Asked → Bool) (yes : (a b : Asked) → same a b ≡ true → key a ≡ key b) (alike : (a b : Asked) → key a ≡ key b → same a b ≡ true) where
+  module _ (same : Asked → Asked → Bool) (keyed : (a b : Asked) → same a b ≡ true → key a ≡ key b) (alike : (a b : Asked) → key a ≡ key b → same a b ≡ true) where
     none_before : (a x : Asked) → key x ≡ key a → (before : List Asked) → list_any (same a) before ≡ false → list_any (same x) before ≡ false
     none_before a x k [] none = refl
     none_before a x k (y ∷ before) none =
         let here = left_false (same a y) (list_any (same a) before) none in
-        let apart : same x y ≡ false = false_is (same x y) (λ t. true≢false (sym (alike a y (sym k ∙ yes x y t)) ∙ here)) in
+        let apart : same x y ≡ false = false_is (same x y) (λ t. true≢false (sym (alike a y (sym k ∙ keyed x y t)) ∙ here)) in
         let others : list_any (same x) before ≡ false = none_before a x k before (right_false (same a y) (list_any (same a) before) none) in
         (λ j. apart j || others j)
 
@@ -164,17 +164,17 @@ module _ {K : Type 0} (key : Asked → K) where
           subst (λ b. Some_is P (flat_map F ((if b then [] else x ∷ []) ++ rest))) (sym (none_before a x k before none))
           (joined (x ∷ []) rest (in_left P (F x ++ []) (flat_map F rest) (in_left P (F x) [] (found x k))))
 
-      pub reach : (before lines : List Asked) → list_any (same a) before ≡ false → HasKey (key a) lines → Some_is P (flat_map F (firsts same before lines))
-
       reach_by : (b : Bool) (x : Asked) (before rest : List Asked) → same a x ≡ b → list_any (same a) before ≡ false → (key x ≡ key a) ⊎ HasKey (key a) rest
           → (list_any (same a) (before ++ x ∷ []) ≡ false → HasKey (key a) rest → Some_is P (flat_map F (firsts same (before ++ x ∷ []) rest)))
           → Some_is P (flat_map F ((if list_any (same x) before then [] else x ∷ []) ++ firsts same (before ++ x ∷ []) rest))
-      reach_by true x before rest is none has later = here_is x before (firsts same (before ++ x ∷ []) rest) (sym (yes a x is)) none
+      reach_by true x before rest is none has later = here_is x before (firsts same (before ++ x ∷ []) rest) (sym (keyed a x is)) none
       reach_by false x before rest is none (inl k) later = absurd (true≢false (sym (alike a x (sym k)) ∙ is))
       reach_by false x before rest is none (inr has) later =
           joined (if list_any (same x) before then [] else x ∷ []) (firsts same (before ++ x ∷ []) rest)
           (in_right P (flat_map F (if list_any (same x) before then [] else x ∷ [])) (flat_map F (firsts same (before ++ x ∷ []) rest))
           (later (list_any-append (same a) before (x ∷ []) ∙ (λ j. none j || (is j || false))) has))
+
+      pub reach : (before lines : List Asked) → list_any (same a) before ≡ false → HasKey (key a) lines → Some_is P (flat_map F (firsts same before lines))
       reach before [] none has = absurd has
       reach before (x ∷ rest) none has = reach_by (same a x) x before rest refl none has (λ more left. reach (before ++ x ∷ []) rest more left)
 
@@ -224,14 +224,14 @@ marked m (x ∷ rest) =
       ]
     ]
 
-all_sub : (Q : Asked → Type 0) (p q : Asked → Bool) → ((x : Asked) → p x ≡ true → q x ≡ true) → (lines : List Asked) → All Q (filter q lines) → All Q (filter p lines)
-
 sub_by : (Q : Asked → Type 0) (p q : Asked → Bool) (a b : Bool) (x : Asked) (rest : List Asked) → (a ≡ true → b ≡ true) → (All Q (filter q rest) → All Q (filter p rest)) → All Q (if b then x ∷ filter q rest else filter q rest)
     → All Q (if a then x ∷ filter p rest else filter p rest)
 sub_by Q p q true true x rest so others k = All-cons Q x (filter p rest) (All-head Q x (filter q rest) k) (others (All-tail Q x (filter q rest) k))
 sub_by Q p q true false x rest so others k = absurd (true≢false (sym (so refl)))
 sub_by Q p q false true x rest so others k = others (All-tail Q x (filter q rest) k)
 sub_by Q p q false false x rest so others k = others k
+
+all_sub : (Q : Asked → Type 0) (p q : Asked → Bool) → ((x : Asked) → p x ≡ true → q x ≡ true) → (lines : List Asked) → All Q (filter q lines) → All Q (filter p lines)
 all_sub Q p q so [] k = k
 all_sub Q p q so (x ∷ rest) k = sub_by Q p q (p x) (q x) x rest (so x) (all_sub Q p q so rest) k
 

@@ -54,3 +54,14 @@ all_firsts view same f xs i old total end so = sym (append-nil old) ∙ ap (λ r
 pub blanks_more : (xs : List ℕ) (i : ℕ) (old new total : List ℕ) → i < length xs → new ≡ old ++ 32 ∷ [] → old ++ map (λ _. 32) (drop i xs) ≡ total → new ++ map (λ _. 32) (drop (i + 1) xs) ≡ total
 blanks_more xs i old new total inside more so =
     ap (λ n. n ++ map (λ _. 32) (drop (i + 1) xs)) more ∙ append_assoc old (32 ∷ []) (map (λ _. 32) (drop (i + 1) xs)) ∙ ap (λ r. old ++ map (λ _. 32) r) (sym (drop_more xs i 0 inside)) ∙ so
+
+-- ---- parts that are written one after another
+
+regroup : (o a b c d e : List ℕ) → ((((o ++ a) ++ b) ++ c) ++ d) ++ e ≡ o ++ (a ++ (b ++ (c ++ (d ++ e))))
+regroup o a b c d e = simp append_assoc
+
+pub five_parts : (o a b c d e n1 n2 n3 n4 n5 : List ℕ) → n1 ≡ o ++ a → n2 ≡ n1 ++ b → n3 ≡ n2 ++ c → n4 ≡ n3 ++ d → n5 ≡ n4 ++ e → n5 ≡ o ++ (a ++ (b ++ (c ++ (d ++ e))))
+five_parts o a b c d e n1 n2 n3 n4 n5 e1 e2 e3 e4 e5 = let whole : n5 ≡ ((((o ++ a) ++ b) ++ c) ++ d) ++ e = cc in whole ∙ regroup o a b c d e
+
+pub three_parts : (o a b c n1 n2 n3 : List ℕ) → o ≡ [] → n1 ≡ o ++ a → n2 ≡ n1 ++ b → n3 ≡ n2 ++ c → n3 ≡ a ++ (b ++ c)
+three_parts o a b c n1 n2 n3 e0 e1 e2 e3 = e3 ∙ (λ j. (e2 ∙ (λ i. (e1 ∙ (λ k. e0 k ++ a)) i ++ b)) j ++ c) ∙ append_assoc a b c
