@@ -35,26 +35,41 @@ const FILES: [(&str, &str); 42] = [
     ("demo>=2;a\ndemo<1\ndemo>3\n", "none 2 3\n"),
     ("demo>1\ndemo<3\ndemo>4,<5\n", "none 1 2 3\n"),
     ("demo==1\ndemo==1.0.0\n", ""),
-    ("demo>=1,<2 --hash=sha256:0a --hash=sha256:0b\ndemo>=2\n", "none 1 2\n"),
+    (
+        "demo>=1,<2 --hash=sha256:0a --hash=sha256:0b\ndemo>=2\n",
+        "none 1 2\n",
+    ),
     ("demo \\\n  ==1.0\ndemo==2.0 # why\n", "pins 1 3\n"),
-    ("\u{feff}demo==1.0\r\n# demo==2\r\ndemo>1.5\r\n", "outside 1 3\n"),
+    (
+        "\u{feff}demo==1.0\r\n# demo==2\r\ndemo>1.5\r\n",
+        "outside 1 3\n",
+    ),
     ("-r other.txt\n-c limits.txt\ndemo\n", ""),
     ("demo[one]==1\ndemo[two]==2\n", "pins 1 2\n"),
     ("demo==1.*\ndemo==2\n", "outside 1 2\n"),
     ("demo==1.*\ndemo==2.*\n", "none 1 2\n"),
     ("demo~=1.4\ndemo>=2\n", "none 1 2\n"),
-    ("demo===1.0\ndemo!=1.0\n", ""),
+    ("demo===1.0\ndemo!=1.0\n", "outside 1 2\n"),
     ("demo==1.0\ndemo!=1.0.*\n", "outside 1 2\n"),
     ("demo==1!1.0\ndemo<2\n", "outside 1 2\n"),
     ("demo==1.0a1\ndemo>=1.0\n", "outside 1 2\n"),
     ("demo==1;a=='b'\ndemo==2;a=='b'\n", "pins 1 2\n"),
     ("demo==1;a=='b'\ndemo==2;a==\"b\"\n", ""),
     ("demo@https://host/a\ndemo==1\ndemo==2\n", "pins 2 3\n"),
-    ("demo>=18446744073709551615.*\n", "1:4 Operator >= cannot be used with a wildcard version specifier\n"),
+    (
+        "demo>=18446744073709551615.*\n",
+        "1:4 Operator >= cannot be used with a wildcard version specifier\n",
+    ),
     ("demo==18446744073709551615.*\ndemo<1\n", ""),
-    ("two words\n", "1:4 Unexpected end of version specifier, expected operator\n"),
+    (
+        "two words\n",
+        "1:4 Unexpected end of version specifier, expected operator\n",
+    ),
     ("demo==1,<1\ndemo==1,>1\n", "none 1\nnone 2\n"),
-    ("demo==1|demo==2\n|other>=2|other==1", "pins 1 1\noutside 1 1\n"),
+    (
+        "demo==1|demo==2\n|other>=2|other==1",
+        "pins 1 1\noutside 1 1\n",
+    ),
 ];
 
 fn kind_word(kind: Conflict) -> &'static str {

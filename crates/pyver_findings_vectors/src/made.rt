@@ -17,7 +17,7 @@ const OTHERS: [(&str, u64); 16] = [
     ("demo @ https://host/demo.zip\n", 1),
     ("free>=1\n", 1),
     ("# a comment does not go on \\\n", 1),
-    ("free \\\n  # why \\\n  >=1\n", 3),
+    ("free \\\n  >=1 \\\n  # why\n", 3),
     ("free>=1 ; python_version < \"3\"\n", 1),
     ("  \t\n\n", 2),
     ("free[one]<9 --hash=sha256:0a --hash=sha256:0b\n", 1),
@@ -50,6 +50,7 @@ const PAIRS: [(&str, &str, &str); 10] = [
 ];
 
 // A file that grows, and the number of its next line.
+#[derive(Drop)]
 struct MadeFile {
     text: String,
     next: u64,
@@ -101,7 +102,11 @@ fn made_files_have_their_findings(rt: HostRuntime) -> Result<(), Fail> {
     for number in 0..200 {
         let (text, want) = make_file(rt.alloc(), number)?;
         let written = write_findings(rt.alloc(), text.as_str())?;
-        assert!(rt; written.as_str() == want.as_str(), "{number}: {}", written.as_str());
+        assert!(rt;
+            written.as_str() == want.as_str(),
+            "{number}: {}",
+            written.as_str()
+        );
     }
     Ok(())
 }

@@ -3,11 +3,7 @@ use pyver_findings::{Report, SourceFile, find_problems};
 use std::alloc::{AllocError, Global};
 
 /// A file with this name and text.
-pub(crate) fn source_file(
-    alloc: Global,
-    name: &str,
-    text: &str,
-) -> Result<SourceFile, AllocError> {
+pub(crate) fn source_file(alloc: Global, name: &str, text: &str) -> Result<SourceFile, AllocError> {
     let name = Vec::from_slice(alloc, name.as_bytes())?;
     let text = Vec::from_slice(alloc, text.as_bytes())?;
     Ok(SourceFile { name, text })

@@ -102,7 +102,8 @@ fn names_of_files_are_escaped(rt: HostRuntime) -> Result<(), Fail> {
     let want = "a\\x0a\"b:1: not a valid name\n    =\n    ^\n";
     assert!(rt; text.as_slice() == want.as_bytes(), "as text");
     let json = report.to_json(rt.alloc())?;
-    let want = "[{\"kind\":\"no-requirement\",\"file\":\"a\\\\x0a\\\"b\",\"line\":1,\"text\":\"=\",\"reason\":\"not a valid name\",\"column\":0}]\n";
+    let want =
+        "[{\"kind\":\"no-requirement\",\"file\":\"a\\\\x0a\\\"b\",\"line\":1,\"text\":\"=\",\"reason\":\"not a valid name\",\"column\":0}]\n";
     assert!(rt; json.as_slice() == want.as_bytes(), "as JSON");
     Ok(())
 }
