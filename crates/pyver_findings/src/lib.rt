@@ -15,8 +15,6 @@ mod report;
 mod report_json;
 mod report_text;
 mod requirement;
-#[cfg(test)]
-mod tests;
 
 pub use cause::Cause;
 pub use file_line::{FileLine, SourceFile};

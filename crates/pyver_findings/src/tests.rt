@@ -1,2 +1,0 @@
-//! Files and what is found in them.
-mod files;
