@@ -1,4 +1,3 @@
-pub mod Escapes
 pub mod Nearest
 pub mod Messages
 pub mod Outcomes

@@ -4,7 +4,7 @@ use Rattle.std.specs.List.{AllZip}
 use Rattle.pep440_rs.specs.ListErrorTexts.{list_refusal_text}
 use Rattle.pep440_rs.specs.ListGrammar.{DerivesList, PieceRefusal, RefusesList}
 use Rattle.pep440_rs.specs.Specifiers.{Spec}
-use Rattle.pyver_core.specs.Escapes.{escaped, escaped_lines}
+use Rattle.pyver_text.specs.Escapes.{escaped, escaped_lines}
 use Rattle.pyver_core.specs.Outcomes.{Outcome, fault, in_turn, followed_by, no_outcome}
 use Rattle.pyver_core.specs.Prereleases.{allows, takes_prereleases}
 use Rattle.pyver_core.specs.Readings.{Denotes, Fails, Reading, Reads}

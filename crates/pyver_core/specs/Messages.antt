@@ -1,7 +1,7 @@
 -- The messages on standard error, each a line of its own; what is quoted is escaped.
 use Rattle.std.specs.Prelude.{ℕ, ◌==◌, List, [], ◌++◌, Option, Some, None, codes, if◌then◌else◌}
 use Rattle.std.specs.Fmt.{decimal}
-use Rattle.pyver_core.specs.Escapes.{escaped}
+use Rattle.pyver_text.specs.Escapes.{escaped}
 use Rattle.pyver_core.specs.Nearest.{nearest}
 
 -- the message of an invalid word: the word and the reason

@@ -6,10 +6,10 @@ ghost use Rattle.pyver_core.specs.Matches.{Matches, MatchesWords, ReadsSpecifier
 ghost use Rattle.pyver_core.specs.Outcomes.{followed_by};
 
 use crate::answer::Answer;
-use crate::escape::{push_escaped, push_escaped_lines};
 use crate::prerelease::{Prereleases, allows, takes_prereleases};
 use crate::reading::{Reading, read_version};
 use pep440_rs::{SpecifiersErrorKind, VersionSpecifiers, VersionSpecifiersParseError};
+use pyver_text::{push_escaped, push_escaped_lines};
 use std::alloc::{AllocError, Global};
 
 /// How versions are matched, and whether that is printed.

@@ -4,8 +4,8 @@ ghost use Rattle.pyver_core.specs.Messages.{fault_message};
 ghost use Rattle.pyver_core.specs.Outcomes.{fault, followed_by, silent};
 ghost use Rattle.pyver_core.specs.Readings.{reading_fault};
 
-use crate::escape::push_escaped;
 use crate::reading::Reading;
+use pyver_text::push_escaped;
 use std::alloc::{AllocError, Global};
 
 /// What the program writes, and the status that it ends with.

@@ -2,12 +2,12 @@
 ghost use Rattle.std.specs.Prelude.{◌≡◌, ◌≤◌, ◌++◌, IfOk};
 ghost use Rattle.pyver_core.specs.Messages.{line_fault_message};
 
-use crate::escape::push_escaped;
 use crate::line_options::LineOptions;
 use crate::lines::{is_blank, line_text, read_line};
 use crate::prerelease::{Prereleases, allows};
 use crate::reading::Reading;
 use pep440_rs::{Version, VersionSpecifiers};
+use pyver_text::push_escaped;
 use std::alloc::{AllocError, Global};
 
 /// Which lines are asked for.

@@ -7,7 +7,6 @@ mod bump;
 mod bump_words;
 mod command;
 mod comparison;
-mod escape;
 mod fields;
 mod filter;
 mod filter_input;

@@ -9,6 +9,6 @@ mod physical_line;
 #[cfg(test)]
 mod tests;
 
-pub use line_kind::{LineKind, classify};
+pub use line_kind::{LineKind, classify, has_variable};
 pub use line_parts::{LineParts, split_requirement};
 pub use logical_line::{LogicalLine, logical_lines};

@@ -114,8 +114,10 @@ fn opens_variable(text: &[u8]) -> bool
     }
 }
 
-/// A variable stands somewhere in the text.
-fn has_variable(text: &[u8]) -> bool
+/// Whether a variable, as `${NAME}`, stands somewhere in the text.
+///
+/// Allocates nothing.
+pub fn has_variable(text: &[u8]) -> bool
     ensures { result ≡ has_variable text.now }
 {
     let mut rest = text;

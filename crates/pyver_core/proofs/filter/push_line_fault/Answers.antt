@@ -1,7 +1,7 @@
 use Rattle.std.proofs.Common.{◌∙◌, ◌++◌, ap, codes}
 use Rattle.std.specs.Fmt.{decimal}
 use Rattle.pyver_core.proofs.Appended.{five_appended}
-use Rattle.pyver_core.specs.Escapes.{escaped}
+use Rattle.pyver_text.specs.Escapes.{escaped}
 use Rattle.pyver_core.proofs.filter.push_line_fault.Goals as goal
 
 pub returns : goal.returns

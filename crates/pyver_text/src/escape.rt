@@ -1,6 +1,6 @@
 // Text of others in messages: what is not printable ASCII is escaped, so that no control character reaches a terminal.
 ghost use Rattle.std.specs.Prelude.{◌≡◌, ◌++◌, ◌<◌, IfOk};
-ghost use Rattle.pyver_core.specs.Escapes.{escaped, escaped_byte, escaped_line_byte, escaped_lines, hex_digit, is_printable};
+ghost use Rattle.pyver_text.specs.Escapes.{escaped, escaped_byte, escaped_line_byte, escaped_lines, hex_digit, is_printable};
 
 use std::alloc::AllocError;
 
@@ -33,7 +33,7 @@ fn push_escaped_byte(text: &mut Vec<u8>, byte: u8) -> Result<(), AllocError>
 }
 
 /// The bytes at the end, each that is not printable escaped.
-pub(crate) fn push_escaped(text: &mut Vec<u8>, bytes: &[u8]) -> Result<(), AllocError>
+pub fn push_escaped(text: &mut Vec<u8>, bytes: &[u8]) -> Result<(), AllocError>
     ensures { IfOk result (λ _. text.new.items ≡ text.old.items ++ escaped bytes.now) }
 {
     for byte in bytes {
@@ -53,7 +53,7 @@ fn push_escaped_line_byte(text: &mut Vec<u8>, byte: u8) -> Result<(), AllocError
 }
 
 /// The bytes at the end, each that is neither printable nor ends a line escaped.
-pub(crate) fn push_escaped_lines(text: &mut Vec<u8>, bytes: &[u8]) -> Result<(), AllocError>
+pub fn push_escaped_lines(text: &mut Vec<u8>, bytes: &[u8]) -> Result<(), AllocError>
     ensures { IfOk result (λ _. text.new.items ≡ text.old.items ++ escaped_lines bytes.now) }
 {
     for byte in bytes {

@@ -1,0 +1,292 @@
+-- Lines that have no version in common: some of them are reported together.
+use Rattle.std.proofs.Common.{arith, ◌≡◌, ◌==◌, ◌<◌, ◌⊎◌, ◌∙◌, ℕ, List, [], ◌∷◌, ◌++◌, ◌&&◌, ◌||◌, Bool, true, false, Option, Some, None, bytes_eq, get_or, is_none, length, map, refl, sym, ap, subst, inl, inr, suc, zero, if◌then◌else◌}
+use Rattle.std.proofs.lemmas.Bool.{true≢false}
+use Rattle.std.proofs.lemmas.List.Concat.{flat_map-append}
+use Rattle.std.proofs.lemmas.List.Folds.{list_any-append}
+use Rattle.std.proofs.lemmas.Slice.Eq.{bytes_eq-Decides}
+use Rattle.std.proofs.lemmas.List.Elements.{All-append, All-cons, All-contains_itself, All-filter, All-head, All-nil, All-tail}
+use Rattle.std.specs.List.{All, Any, Contains, filter, flat_map, list_any}
+use Rattle.pep440_pick.specs.Names.{normal}
+use Rattle.pyver_findings.specs.Asked.{Asked}
+use Rattle.pyver_findings.specs.Conflicts.{common, conflicts, counts_under, excludes, firsts, is_empty, of_all, of_few, of_markers, of_name, of_one, of_pairs, of_two, pin_conflict, same_marked, same_marker, same_named, under}
+use Rattle.pyver_findings.specs.FileLines.{FileLine}
+use Rattle.pyver_findings.specs.FindingLaws.{ConflictsAreFound, IsAmong}
+use Rattle.pyver_findings.specs.Findings.{Conflicting, Finding}
+use Rattle.pyver_findings.specs.declared.finding.Conflict.TheVariants.{NoVersion}
+
+-- ---- some finding
+
+-- it holds of some finding
+abbrev pub Some_is : (Finding → Type 0) → List Finding → Type 0
+Some_is P [] = ⊥
+Some_is P (f ∷ fs) = P f ⊎ Some_is P fs
+
+in_left : (P : Finding → Type 0) (fs gs : List Finding) → Some_is P fs → Some_is P (fs ++ gs)
+in_left P [] gs h = absurd h
+in_left P (f ∷ fs) gs (inl p) = inl p
+in_left P (f ∷ fs) gs (inr h) = inr (in_left P fs gs h)
+
+in_right : (P : Finding → Type 0) (fs gs : List Finding) → Some_is P gs → Some_is P (fs ++ gs)
+in_right P [] gs h = h
+in_right P (f ∷ fs) gs h = inr (in_right P fs gs h)
+
+-- it holds of one in either part
+in_either : (P : Finding → Type 0) (fs gs hs is : List Finding) → (Some_is P fs → Some_is P hs) → (Some_is P gs → Some_is P is) → Some_is P (fs ++ gs) → Some_is P (hs ++ is)
+in_either P [] gs hs is one other h = in_right P hs is (other h)
+in_either P (f ∷ fs) gs hs is one other (inl p) = in_left P hs is (one (inl p))
+in_either P (f ∷ fs) gs hs is one other (inr h) = in_either P fs gs hs is (λ q. one (inr q)) other h
+
+any_is : (P : Finding → Type 0) (fs : List Finding) → Some_is P fs → Any P fs
+any_is P [] h = absurd h
+any_is P (f ∷ fs) (inl p) = (0, f, omega arith, refl, p)
+any_is P (f ∷ fs) (inr h) = let r = any_is P fs h in (suc r.0, r.1, omega (arith, r.2), r.3, r.4)
+
+-- of findings of which it holds there is one
+first_is : (P : Finding → Type 0) (fs : List Finding) → (length fs == 0) ≡ false → All P fs → Some_is P fs
+first_is P [] some all = absurd (true≢false some)
+first_is P (f ∷ fs) some all = inl (All-head P f fs all)
+
+-- ---- what is reported of some lines names no others
+
+module _ (lines : List FileLine) where
+  -- the line is one of these
+  abbrev pub IsOne : Asked → Type 0
+  IsOne a = Contains lines a.line
+
+  where_true : (b : Bool) (f : Finding) → IsAmong lines f → All (IsAmong lines) (if b then f ∷ [] else [])
+  where_true true f among = All-cons (IsAmong lines) f [] among (All-nil (IsAmong lines))
+  where_true false f among = All-nil (IsAmong lines)
+
+  one_among : (a : Asked) → IsOne a → All (IsAmong lines) (of_one a)
+  one_among a one = where_true (is_empty a.cover) (Conflicting NoVersion (a.line ∷ [])) (All-cons (Contains lines) a.line [] one (All-nil (Contains lines)))
+
+  two_among : (a b : Asked) → IsOne a → IsOne b → All (IsAmong lines) (of_two a b)
+  two_among a b one other =
+      where_true (excludes a b) (Conflicting (pin_conflict a b) (a.line ∷ b.line ∷ [])) (All-cons (Contains lines) a.line (b.line ∷ []) one (All-cons (Contains lines) b.line [] other (All-nil (Contains lines))))
+
+  each_among : (f : Asked → List Finding) → ((a : Asked) → IsOne a → All (IsAmong lines) (f a)) → (some : List Asked) → All IsOne some → All (IsAmong lines) (flat_map f some)
+  each_among f among [] k = All-nil (IsAmong lines)
+  each_among f among (a ∷ some) k = All-append (IsAmong lines) (f a) (flat_map f some) (among a (All-head IsOne a some k)) (each_among f among some (All-tail IsOne a some k))
+
+  pairs_among : (some : List Asked) → All IsOne some → All (IsAmong lines) (of_pairs some)
+  pairs_among [] k = All-nil (IsAmong lines)
+  pairs_among (a ∷ rest) k =
+      let one = All-head IsOne a rest k in
+      let others = All-tail IsOne a rest k in
+      All-append (IsAmong lines) (flat_map (of_two a) rest) (of_pairs rest) (each_among (of_two a) (λ b other. two_among a b one other) rest others) (pairs_among rest others)
+
+  few_among : (some : List Asked) → All IsOne some → All (IsAmong lines) (of_few some)
+  few_among some k = All-append (IsAmong lines) (flat_map of_one some) (of_pairs some) (each_among of_one one_among some k) (pairs_among some k)
+
+  mapped : (some : List Asked) → All IsOne some → All (Contains lines) (map (λ (a : Asked). a.line) some)
+  mapped [] k = All-nil (Contains lines)
+  mapped (a ∷ some) k = All-cons (Contains lines) a.line (map (λ (b : Asked). b.line) some) (All-head IsOne a some k) (mapped some (All-tail IsOne a some k))
+
+  unmapped : (some : List Asked) → All (Contains lines) (map (λ (a : Asked). a.line) some) → All IsOne some
+  unmapped [] k = All-nil IsOne
+  unmapped (a ∷ some) k = All-cons IsOne a some (All-head (Contains lines) a.line (map (λ (b : Asked). b.line) some) k) (unmapped some (All-tail (Contains lines) a.line (map (λ (b : Asked). b.line) some) k))
+
+  -- lines with nothing in common are reported, or some of them are
+  by_few : (some : List Asked) → All IsOne some → (b : Bool) → (length (of_few some) == 0) ≡ b
+      → Some_is (IsAmong lines) (if true && b then Conflicting NoVersion (map (λ (a : Asked). a.line) some) ∷ [] else []) ⊎ Some_is (IsAmong lines) (of_few some)
+  by_few some k true is = inl (inl (mapped some k))
+  by_few some k false is = inr (first_is (IsAmong lines) (of_few some) is (few_among some k))
+
+  all_or_few : (some : List Asked) → All IsOne some → is_empty (common some) ≡ true → Some_is (IsAmong lines) (of_all some) ⊎ Some_is (IsAmong lines) (of_few some)
+  all_or_few some k empty =
+      subst (λ e. Some_is (IsAmong lines) (if e && (length (of_few some) == 0) then Conflicting NoVersion (map (λ (a : Asked). a.line) some) ∷ [] else []) ⊎ Some_is (IsAmong lines) (of_few some)) (sym empty)
+      (by_few some k (length (of_few some) == 0) refl)
+
+-- ---- what is found of some of the lines is found of all
+
+module _ (P : Finding → Type 0) (p : Asked → Bool) where
+  one_kept : (b : Bool) (f : Asked → List Finding) (a : Asked) (lines : List Asked) → (Some_is P (flat_map f (filter p lines)) → Some_is P (flat_map f lines))
+      → Some_is P (flat_map f (if b then a ∷ filter p lines else filter p lines)) → Some_is P (f a ++ flat_map f lines)
+  one_kept true f a lines others h = in_either P (f a) (flat_map f (filter p lines)) (f a) (flat_map f lines) (λ q. q) others h
+  one_kept false f a lines others h = in_right P (f a) (flat_map f lines) (others h)
+
+  each_kept : (f : Asked → List Finding) (lines : List Asked) → Some_is P (flat_map f (filter p lines)) → Some_is P (flat_map f lines)
+  each_kept f [] h = h
+  each_kept f (a ∷ lines) h = one_kept (p a) f a lines (each_kept f lines) h
+
+  pair_kept : (b : Bool) (a : Asked) (lines : List Asked) → (Some_is P (of_pairs (filter p lines)) → Some_is P (of_pairs lines))
+      → Some_is P (of_pairs (if b then a ∷ filter p lines else filter p lines)) → Some_is P (flat_map (of_two a) lines ++ of_pairs lines)
+  pair_kept true a lines others h = in_either P (flat_map (of_two a) (filter p lines)) (of_pairs (filter p lines)) (flat_map (of_two a) lines) (of_pairs lines) (each_kept (of_two a) lines) others h
+  pair_kept false a lines others h = in_right P (flat_map (of_two a) lines) (of_pairs lines) (others h)
+
+  pairs_kept : (lines : List Asked) → Some_is P (of_pairs (filter p lines)) → Some_is P (of_pairs lines)
+  pairs_kept [] h = h
+  pairs_kept (a ∷ lines) h = pair_kept (p a) a lines (pairs_kept lines) h
+
+  few_kept : (lines : List Asked) → Some_is P (of_few (filter p lines)) → Some_is P (of_few lines)
+  few_kept lines h = in_either P (flat_map of_one (filter p lines)) (of_pairs (filter p lines)) (flat_map of_one lines) (of_pairs lines) (each_kept of_one lines) (pairs_kept lines) h
+
+-- ---- first mentions
+
+false_is : (b : Bool) → (b ≡ true → ⊥) → b ≡ false
+false_is true never = absurd (never refl)
+false_is false never = refl
+
+left_false : (a b : Bool) → (a || b) ≡ false → a ≡ false
+left_false true b e = absurd (true≢false e)
+left_false false b e = refl
+
+right_false : (a b : Bool) → (a || b) ≡ false → b ≡ false
+right_false true b e = absurd (true≢false e)
+right_false false b e = e
+
+module _ {K : Type 0} (key : Asked → K) where
+  -- some line has this key
+  abbrev pub HasKey : K → List Asked → Type 0
+  HasKey k [] = ⊥
+  HasKey k (x ∷ rest) = (key x ≡ k) ⊎ HasKey k rest
+
+  contains_key : (a : Asked) (lines : List Asked) (k : ℕ) → k < length lines → get_or lines k a ≡ a → HasKey (key a) lines
+  contains_key a [] k inside is = absurd (omega arith)
+  contains_key a (x ∷ lines) zero inside is = inl (ap key is)
+  contains_key a (x ∷ lines) (suc k) inside is = inr (contains_key a lines k (omega arith) is)
+
+  module _ (same : Asked → Asked → Bool) (keyed : (a b : Asked) → same a b ≡ true → key a ≡ key b) (alike : (a b : Asked) → key a ≡ key b → same a b ≡ true) where
+    none_before : (a x : Asked) → key x ≡ key a → (before : List Asked) → list_any (same a) before ≡ false → list_any (same x) before ≡ false
+    none_before a x k [] none = refl
+    none_before a x k (y ∷ before) none =
+        let here = left_false (same a y) (list_any (same a) before) none in
+        let apart : same x y ≡ false = false_is (same x y) (λ t. true≢false (sym (alike a y (sym k ∙ keyed x y t)) ∙ here)) in
+        let others : list_any (same x) before ≡ false = none_before a x k before (right_false (same a y) (list_any (same a) before) none) in
+        (λ j. apart j || others j)
+
+    module _ (P : Finding → Type 0) (F : Asked → List Finding) (a : Asked) (found : (b : Asked) → key b ≡ key a → Some_is P (F b)) where
+      joined : (one rest : List Asked) → Some_is P (flat_map F one ++ flat_map F rest) → Some_is P (flat_map F (one ++ rest))
+      joined one rest h = subst (Some_is P) (sym (flat_map-append F one rest)) h
+
+      here_is : (x : Asked) (before rest : List Asked) → key x ≡ key a → list_any (same a) before ≡ false → Some_is P (flat_map F ((if list_any (same x) before then [] else x ∷ []) ++ rest))
+      here_is x before rest k none =
+          subst (λ b. Some_is P (flat_map F ((if b then [] else x ∷ []) ++ rest))) (sym (none_before a x k before none))
+          (joined (x ∷ []) rest (in_left P (F x ++ []) (flat_map F rest) (in_left P (F x) [] (found x k))))
+
+      reach_by : (b : Bool) (x : Asked) (before rest : List Asked) → same a x ≡ b → list_any (same a) before ≡ false → (key x ≡ key a) ⊎ HasKey (key a) rest
+          → (list_any (same a) (before ++ x ∷ []) ≡ false → HasKey (key a) rest → Some_is P (flat_map F (firsts same (before ++ x ∷ []) rest)))
+          → Some_is P (flat_map F ((if list_any (same x) before then [] else x ∷ []) ++ firsts same (before ++ x ∷ []) rest))
+      reach_by true x before rest is none has later = here_is x before (firsts same (before ++ x ∷ []) rest) (sym (keyed a x is)) none
+      reach_by false x before rest is none (inl k) later = absurd (true≢false (sym (alike a x (sym k)) ∙ is))
+      reach_by false x before rest is none (inr has) later =
+          joined (if list_any (same x) before then [] else x ∷ []) (firsts same (before ++ x ∷ []) rest)
+          (in_right P (flat_map F (if list_any (same x) before then [] else x ∷ [])) (flat_map F (firsts same (before ++ x ∷ []) rest))
+          (later (list_any-append (same a) before (x ∷ []) ∙ (λ j. none j || (is j || false))) has))
+
+      pub reach : (before lines : List Asked) → list_any (same a) before ≡ false → HasKey (key a) lines → Some_is P (flat_map F (firsts same before lines))
+      reach before [] none has = absurd has
+      reach before (x ∷ rest) none has = reach_by (same a x) x before rest refl none has (λ more left. reach (before ++ x ∷ []) rest more left)
+
+-- ---- names and markers
+
+name_yes : (a b : Asked) → same_named a b ≡ true → normal a.name ≡ normal b.name
+name_yes a b e = (bytes_eq-Decides (normal a.name) (normal b.name)).0 e
+
+name_alike : (a b : Asked) → normal a.name ≡ normal b.name → same_named a b ≡ true
+name_alike a b e = (bytes_eq-Decides (normal a.name) (normal b.name)).1 e
+
+marker_yes : (m n : Option (List ℕ)) → same_marker m n ≡ true → m ≡ n
+marker_yes None None e = refl
+marker_yes None (Some b) e = absurd (true≢false (sym e))
+marker_yes (Some a) None e = absurd (true≢false (sym e))
+marker_yes (Some a) (Some b) e = ap Some ((bytes_eq-Decides a b).0 e)
+
+marker_self : (m : Option (List ℕ)) → same_marker m m ≡ true
+marker_self None = refl
+marker_self (Some a) = (bytes_eq-Decides a a).1 refl
+
+marker_alike : (m n : Option (List ℕ)) → m ≡ n → same_marker m n ≡ true
+marker_alike m n e = subst (λ k. same_marker m k ≡ true) e (marker_self m)
+
+-- a line without a marker counts under each
+none_counts : (n m : Option (List ℕ)) → (is_none n || same_marker n None) ≡ true → (is_none n || same_marker n m) ≡ true
+none_counts None m e = refl
+none_counts (Some k) m e = absurd (true≢false (sym e))
+
+agree_by : (b : Bool) (n m : List ℕ) → bytes_eq n m ≡ b → (n ≡ m) ⊎ (bytes_eq n m ≡ false)
+agree_by true n m e = inl ((bytes_eq-Decides n m).0 e)
+agree_by false n m e = inr e
+
+agree : (n : Option (List ℕ)) (m : List ℕ) → (n ≡ Some m) ⊎ ((is_none n || same_marker n (Some m)) ≡ (is_none n || same_marker n None))
+agree None m = inr refl
+agree (Some n) m = elim (agree_by (bytes_eq n m) n m refl) [ inl e ↦ inl (ap Some e) | inr e ↦ inr e ]
+
+-- some line has the marker, or only lines without one count under it
+marked : (m : List ℕ) (lines : List Asked) → ((a : Asked) × HasKey (λ (x : Asked). x.marker) a.marker lines × (a.marker ≡ Some m)) ⊎ (under (Some m) lines ≡ under None lines)
+marked m [] = inr refl
+marked m (x ∷ rest) =
+    elim (agree x.marker m) [
+      | inl e ↦ inl (x, inl refl, e)
+      | inr same ↦ elim (marked m rest) [
+        | inl r ↦ inl (r.0, inr r.1, r.2)
+        | inr others ↦ inr (λ j. if same j then x ∷ others j else others j)
+      ]
+    ]
+
+sub_by : (Q : Asked → Type 0) (p q : Asked → Bool) (a b : Bool) (x : Asked) (rest : List Asked) → (a ≡ true → b ≡ true) → (All Q (filter q rest) → All Q (filter p rest)) → All Q (if b then x ∷ filter q rest else filter q rest)
+    → All Q (if a then x ∷ filter p rest else filter p rest)
+sub_by Q p q true true x rest so others k = All-cons Q x (filter p rest) (All-head Q x (filter q rest) k) (others (All-tail Q x (filter q rest) k))
+sub_by Q p q true false x rest so others k = absurd (true≢false (sym (so refl)))
+sub_by Q p q false true x rest so others k = others (All-tail Q x (filter q rest) k)
+sub_by Q p q false false x rest so others k = others k
+
+all_sub : (Q : Asked → Type 0) (p q : Asked → Bool) → ((x : Asked) → p x ≡ true → q x ≡ true) → (lines : List Asked) → All Q (filter q lines) → All Q (filter p lines)
+all_sub Q p q so [] k = k
+all_sub Q p q so (x ∷ rest) k = sub_by Q p q (p x) (q x) x rest (so x) (all_sub Q p q so rest) k
+
+-- ---- all together
+
+module _ (lines : List Asked) (marker : Option (List ℕ)) where
+  -- a finding of some of the lines under the marker
+  abbrev pub Fits : Finding → Type 0
+  Fits = IsAmong (map (λ (a : Asked). a.line) (under marker lines))
+
+  all_ones : All (IsOne (map (λ (a : Asked). a.line) (under marker lines))) (under marker lines)
+  all_ones = unmapped (map (λ (a : Asked). a.line) (under marker lines)) (under marker lines) (All-contains_itself (map (λ (a : Asked). a.line) (under marker lines)))
+
+  -- the lines without a marker have nothing in common
+  by_none : is_empty (common (under None lines)) ≡ true → Some_is Fits (of_few lines ++ of_all (under None lines))
+  by_none e =
+      elim (all_or_few (map (λ (a : Asked). a.line) (under marker lines)) (under None lines)
+      (all_sub (IsOne (map (λ (a : Asked). a.line) (under marker lines))) (counts_under None) (counts_under marker) (λ x. none_counts x.marker marker) lines all_ones) e) [
+        | inl r ↦ in_right Fits (of_few lines) (of_all (under None lines)) r
+        | inr r ↦ in_left Fits (of_few lines) (of_all (under None lines)) (few_kept Fits (counts_under None) lines r)
+      ]
+
+  -- a line has the marker
+  by_line : is_empty (common (under marker lines)) ≡ true → (a : Asked) → HasKey (λ (x : Asked). x.marker) a.marker lines → a.marker ≡ marker
+      → Some_is Fits (of_few lines ++ flat_map (λ (b : Asked). of_all (under b.marker lines)) (firsts same_marked [] lines))
+  by_line none a has is =
+      let each = flat_map (λ (b : Asked). of_all (under b.marker lines)) (firsts same_marked [] lines) in
+      elim (all_or_few (map (λ (b : Asked). b.line) (under marker lines)) (under marker lines) all_ones none) [
+        | inl r ↦ in_right Fits (of_few lines) each
+            (reach (λ (x : Asked). x.marker) same_marked (λ x y. marker_yes x.marker y.marker) (λ x y. marker_alike x.marker y.marker) Fits (λ (b : Asked). of_all (under b.marker lines)) a
+            (λ b e. subst (λ n. Some_is Fits (of_all (under n lines))) (sym (e ∙ is)) r) [] lines refl has)
+        | inr r ↦ in_left Fits (of_few lines) each (few_kept Fits (counts_under marker) lines r)
+      ]
+
+by_marker : (lines : List Asked) (marker : Option (List ℕ)) → is_empty (common (under marker lines)) ≡ true → is_empty (common (under None lines)) ≡ false
+    → Some_is (Fits lines marker) (of_few lines ++ flat_map (λ (b : Asked). of_all (under b.marker lines)) (firsts same_marked [] lines))
+by_marker lines None none e = absurd (true≢false (sym none ∙ e))
+by_marker lines (Some m) none e =
+    elim (marked m lines) [
+      | inl r ↦ by_line lines (Some m) none r.0 r.1 r.2
+      | inr same ↦ absurd (true≢false (sym none ∙ ap (λ u. is_empty (common u)) same ∙ e))
+    ]
+
+by_both : (lines : List Asked) (marker : Option (List ℕ)) (b : Bool) → is_empty (common (under marker lines)) ≡ true → is_empty (common (under None lines)) ≡ b
+    → Some_is (Fits lines marker) (of_few lines ++ (if b then of_all (under None lines) else flat_map (λ (a : Asked). of_all (under a.marker lines)) (firsts same_marked [] lines)))
+by_both lines marker true none e = by_none lines marker e
+by_both lines marker false none e = by_marker lines marker none e
+
+in_name : (lines : List Asked) (marker : Option (List ℕ)) → common (under marker lines) ≡ [] → Some_is (Fits lines marker) (of_name lines)
+in_name lines marker none = by_both lines marker (is_empty (common (under None lines))) (ap is_empty none) refl
+
+pub conflicts_are_found : ConflictsAreFound
+conflicts_are_found lines a marker (k, inside, is) none =
+    let P = Fits (filter (same_named a) lines) marker in
+    any_is P (conflicts lines)
+    (reach (λ (x : Asked). normal x.name) same_named name_yes name_alike P (λ (b : Asked). of_name (filter (same_named b) lines)) a
+    (λ b e. subst (λ n. Some_is P (of_name (filter (λ (c : Asked). bytes_eq n (normal c.name)) lines))) (sym e) (in_name (filter (same_named a) lines) marker none)) [] lines refl
+    (contains_key (λ (x : Asked). normal x.name) a lines k inside is))

@@ -1,0 +1,5 @@
+pub mod Steps
+pub mod Reasons
+pub mod Readings
+pub mod Holding
+pub mod Found

@@ -1,0 +1,73 @@
+-- The reasons of errors of requirements.
+use Rattle.std.proofs.Common.{◌≡◌, ◌∙◌, ℕ, List, ◌++◌, Bool, true, false, Option, Some, None, IfOk, IfSome, Result, codes, inl, inr, option_map, refl, sym, ap, subst}
+use Rattle.std.proofs.lemmas.List.{append_cancel_left, append_cancel_right}
+use Rattle.pep440_pick.specs.RequirementGrammar.{InvalidExtras, InvalidName, Marker, RefusesRequirement, RequirementRefusal, Specifiers, Unclosed, Url}
+use Rattle.pep440_pick.specs.RequirementTexts.{requirement_refusal_text, requirement_text_of}
+use Rattle.pep440_pick.specs.Requirements.{requirement_refusal_of}
+use Rattle.pep440_pick.specs.declared.error.RequirementError.{RequirementError}
+use Rattle.pep440_pick.specs.declared.error.RequirementError.TheVariants as error
+use Rattle.pep440_rs.specs.ErrorTexts.{specifier_error_text, specifier_refusal_text}
+use Rattle.pep440_rs.specs.Errors.{parse_kind_of, specifier_refusal_of}
+use Rattle.pep440_rs.specs.ListAnswers.{line_of, list_kind_of}
+use Rattle.pep440_rs.specs.ListErrorTexts.{caret_line, list_text_of, piece_text}
+use Rattle.pep440_rs.specs.ListErrors.{list_refusal_of}
+use Rattle.pep440_rs.specs.ListGrammar.{PieceRefusal}
+use Rattle.pep440_rs.specs.SpecifierGrammar.{SpecifierRefusal}
+use Rattle.pep440_rs.specs.declared.list.error.SpecifiersErrorKind.{SpecifiersErrorKind}
+use Rattle.pep440_rs.specs.declared.list.error.SpecifiersErrorKind.TheVariants as list
+use Rattle.pyver_findings.specs.FileLines.{FileLine}
+use Rattle.pyver_findings.specs.LineReadings.{ReadsParts, refused, requirement_reason}
+use Rattle.pyver_findings.specs.ReadingViews.{lacks_memory, piece_text_of, reason_text_of}
+use Rattle.pyver_findings.specs.Views.{line_reading_of}
+use Rattle.pyver_findings.specs.declared.line_reading.LineReading.{LineReading}
+use Rattle.pyver_requirements.specs.LineParts.{LineParts}
+use Rattle.std.specs.Str.{IsUtf8}
+use Rattle.std.specs.declared.alloc.AllocError.{AllocError}
+use Rattle.std.proofs.lemmas.Result.{IfOk-weaker}
+
+-- messages of lists are equal only where those of the pieces are
+inner_is : (t u line : List ℕ) (start stop : ℕ) → piece_text t line start stop ≡ piece_text u line start stop → t ≡ u
+inner_is t u line start stop e =
+    let behind = codes ":\n" ++ (line ++ (codes "\n" ++ caret_line line start stop)) in
+    append_cancel_right t u behind (append_cancel_left (codes "Failed to parse version: ") (t ++ behind) (u ++ behind) e)
+
+some_is : (m : Option (List ℕ)) (t line s : List ℕ) (start stop : ℕ) → option_map (λ inner. piece_text inner line start stop) m ≡ Some (piece_text t line start stop) → IfSome m (λ u. s ≡ u) → s ≡ t
+some_is None t line s start stop e is = cc e
+some_is (Some u) t line s start stop e is = let same : piece_text u line start stop ≡ piece_text t line start stop = cc e in is ∙ inner_is u t line start stop same
+
+of_piece : (o : Option SpecifierRefusal) (line s : List ℕ) (start stop : ℕ) (f : RequirementRefusal)
+    → option_map (λ (g : PieceRefusal). Specifiers line g) (option_map (λ r. record { error = r; start = start; stop = stop }) o) ≡ Some f
+    → option_map (λ inner. piece_text inner line start stop) (specifier_error_text o) ≡ Some (requirement_refusal_text f) → IfSome (specifier_error_text o) (λ u. s ≡ u) → s ≡ requirement_reason f
+of_piece None line s start stop f is text so = cc is
+of_piece (Some r) line s start stop f is text so =
+    let g : PieceRefusal = record { error = r; start = start; stop = stop } in
+    let same : Specifiers line g ≡ f = cc is in
+    subst (λ (h : RequirementRefusal). s ≡ requirement_reason h) same
+    (some_is (specifier_error_text (Some r)) (specifier_refusal_text r) line s start stop (subst (λ (h : RequirementRefusal). option_map (λ inner. piece_text inner line start stop) (specifier_error_text (Some r)) ≡ Some (requirement_refusal_text h)) (sym same) text) so)
+
+of_list : (kind : SpecifiersErrorKind) (line s : List ℕ) (f : RequirementRefusal) → option_map (λ (g : PieceRefusal). Specifiers line g) (list_refusal_of kind) ≡ Some f → list_text_of kind line ≡ Some (requirement_refusal_text f)
+    → IfSome (piece_text_of kind) (λ u. s ≡ u) → s ≡ requirement_reason f
+of_list (list.Piece error start stop) line s f is text so = of_piece (specifier_refusal_of (parse_kind_of error)) line s start stop f is text so
+of_list list.OutOfMemory line s f is text so = cc is
+
+-- the reason that is printed is that of the refusal
+pub reason_is : (e : RequirementError) (f : RequirementRefusal) (s : List ℕ) → requirement_refusal_of e ≡ Some f → requirement_text_of e ≡ Some (requirement_refusal_text f) → IfSome (reason_text_of e) (λ u. s ≡ u) → s ≡ requirement_reason f
+reason_is error.Marker f s is text so = let same : Marker ≡ f = cc is in subst (λ (h : RequirementRefusal). s ≡ requirement_reason h) same so
+reason_is error.Url f s is text so = let same : Url ≡ f = cc is in subst (λ (h : RequirementRefusal). s ≡ requirement_reason h) same so
+reason_is error.InvalidName f s is text so = let same : InvalidName ≡ f = cc is in subst (λ (h : RequirementRefusal). s ≡ requirement_reason h) same so
+reason_is error.InvalidExtras f s is text so = let same : InvalidExtras ≡ f = cc is in subst (λ (h : RequirementRefusal). s ≡ requirement_reason h) same so
+reason_is error.Unclosed f s is text so = let same : Unclosed ≡ f = cc is in subst (λ (h : RequirementRefusal). s ≡ requirement_reason h) same so
+reason_is (error.Specifiers e) f s is text so = of_list (list_kind_of e) (line_of e) s f is text so
+reason_is error.OutOfMemory f s is text so = cc is
+
+-- the refusal of an error that is not 'out of memory'
+pub refusal_in : (o : Option RequirementRefusal) (e : RequirementError) → lacks_memory e ≡ false → (o ≡ None → e ≡ error.OutOfMemory) → (f : RequirementRefusal) × (o ≡ Some f)
+refusal_in None e lacks lifted = let full : lacks_memory e ≡ true = ap lacks_memory (lifted refl) in cc (full, lacks)
+refusal_in (Some f) e lacks lifted = (f, refl)
+
+-- the line of an error is none for its reason
+pub error_read : (result : Result LineReading AllocError) (l : FileLine) (p : LineParts) (e : RequirementError) → IsUtf8 p.requirement → IfSome (requirement_refusal_of e) (RefusesRequirement p.requirement)
+    → IfOk result (λ x. (f : RequirementRefusal) × (requirement_refusal_of e ≡ Some f) × (line_reading_of x ≡ refused l p f)) → IfOk result (λ x. ReadsParts l p (line_reading_of x))
+error_read result l p e text why read =
+    IfOk-weaker result (λ x. (f : RequirementRefusal) × (requirement_refusal_of e ≡ Some f) × (line_reading_of x ≡ refused l p f)) (λ x. ReadsParts l p (line_reading_of x))
+    (λ x r. inr (text, inr (r.0, subst (λ o. IfSome o (RefusesRequirement p.requirement)) r.1 why, r.2))) read

@@ -1,0 +1,67 @@
+-- Steps of loops over lists that make something of each element.
+use Rattle.std.proofs.Common.{◌≡◌, ◌+◌, ◌<◌, ◌≤◌, ◌∙◌, ℕ, List, [], ◌∷◌, ◌++◌, Bool, true, false, length, get_or, take, drop, map, refl, sym, ap, if◌then◌else◌}
+use Rattle.std.proofs.lemmas.List.{append-nil, append_assoc, drop_all, drop_more, map-append, take_more}
+use Rattle.std.proofs.lemmas.List.Concat.{flat_map-append}
+use Rattle.std.specs.List.{flat_map, list_any}
+use Rattle.pyver_findings.specs.Asked.{Asked}
+use Rattle.pyver_findings.specs.Conflicts.{firsts}
+
+-- the rest of a list at an element
+pub rest_at : {X : Type 0} (xs : List X) (i : ℕ) (x : X) → i < length xs → x ≡ get_or xs i x → drop i xs ≡ x ∷ drop (i + 1) xs
+rest_at xs i x inside is = drop_more xs i x inside ∙ ap (λ y. y ∷ drop (i + 1) xs) (sym is)
+
+-- what is made of one element more
+pub one_more : {X A B : Type 0} (view : X → A) (f : A → List B) (xs : List X) (i : ℕ) (x : X) (old new total : List B) → i < length xs → x ≡ get_or xs i x → new ≡ old ++ f (view x)
+    → old ++ flat_map f (map view (drop i xs)) ≡ total → new ++ flat_map f (map view (drop (i + 1) xs)) ≡ total
+one_more view f xs i x old new total inside is more so =
+    ap (λ n. n ++ flat_map f (map view (drop (i + 1) xs))) more ∙ append_assoc old (f (view x)) (flat_map f (map view (drop (i + 1) xs)))
+    ∙ ap (λ r. old ++ flat_map f (map view r)) (sym (rest_at xs i x inside is)) ∙ so
+
+-- what is made of all elements
+pub all_made : {X A B : Type 0} (view : X → A) (f : A → List B) (xs : List X) (i : ℕ) (old total : List B) → length xs ≤ i → old ++ flat_map f (map view (drop i xs)) ≡ total → old ≡ total
+all_made view f xs i old total end so = sym (append-nil old) ∙ ap (λ r. old ++ flat_map f (map view r)) (sym (drop_all i xs end)) ∙ so
+
+-- ---- first mentions
+
+-- what is made of an element, if none before is the same
+abbrev pub made_first : {B : Type 0} → (Asked → Asked → Bool) → (Asked → List B) → List Asked → Asked → List B
+made_first same f before a = if list_any (same a) before then [] else f a
+
+made_is : {B : Type 0} (b : Bool) (f : Asked → List B) (a : Asked) → flat_map f (if b then [] else a ∷ []) ≡ (if b then [] else f a)
+made_is true f a = refl
+made_is false f a = append-nil (f a)
+
+-- one element more, which is a first mention or none
+pub first_more : {X B : Type 0} (view : X → Asked) (same : Asked → Asked → Bool) (f : Asked → List B) (xs : List X) (i : ℕ) (x : X) (old new total : List B) → i < length xs → x ≡ get_or xs i x
+    → new ≡ old ++ made_first same f (map view (take i xs)) (view x) → old ++ flat_map f (firsts same (map view (take i xs)) (map view (drop i xs))) ≡ total
+    → new ++ flat_map f (firsts same (map view (take (i + 1) xs)) (map view (drop (i + 1) xs))) ≡ total
+first_more view same f xs i x old new total inside is more so =
+    let before = map view (take i xs) in
+    let after = map view (drop (i + 1) xs) in
+    let taken : map view (take (i + 1) xs) ≡ before ++ view x ∷ [] = ap (map view) (take_more xs i x inside ∙ ap (λ y. take i xs ++ y ∷ []) (sym is)) ∙ map-append view (take i xs) (x ∷ []) in
+    let one = if list_any (same (view x)) before then [] else view x ∷ [] in
+    let rest = firsts same (before ++ view x ∷ []) after in
+    let split : flat_map f (one ++ rest) ≡ made_first same f before (view x) ++ flat_map f rest = flat_map-append f one rest ∙ ap (λ m. m ++ flat_map f rest) (made_is (list_any (same (view x)) before) f (view x)) in
+    (λ j. more j ++ flat_map f (firsts same (taken j) after)) ∙ append_assoc old (made_first same f before (view x)) (flat_map f rest) ∙ ap (λ r. old ++ r) (sym split)
+    ∙ ap (λ r. old ++ flat_map f (firsts same before (map view r))) (sym (rest_at xs i x inside is)) ∙ so
+
+-- what is made of all first mentions
+pub all_firsts : {X B : Type 0} (view : X → Asked) (same : Asked → Asked → Bool) (f : Asked → List B) (xs : List X) (i : ℕ) (old total : List B) → length xs ≤ i
+    → old ++ flat_map f (firsts same (map view (take i xs)) (map view (drop i xs))) ≡ total → old ≡ total
+all_firsts view same f xs i old total end so = sym (append-nil old) ∙ ap (λ r. old ++ flat_map f (firsts same (map view (take i xs)) (map view r))) (sym (drop_all i xs end)) ∙ so
+
+-- one blank more
+pub blanks_more : (xs : List ℕ) (i : ℕ) (old new total : List ℕ) → i < length xs → new ≡ old ++ 32 ∷ [] → old ++ map (λ _. 32) (drop i xs) ≡ total → new ++ map (λ _. 32) (drop (i + 1) xs) ≡ total
+blanks_more xs i old new total inside more so =
+    ap (λ n. n ++ map (λ _. 32) (drop (i + 1) xs)) more ∙ append_assoc old (32 ∷ []) (map (λ _. 32) (drop (i + 1) xs)) ∙ ap (λ r. old ++ map (λ _. 32) r) (sym (drop_more xs i 0 inside)) ∙ so
+
+-- ---- parts that are written one after another
+
+regroup : (o a b c d e : List ℕ) → ((((o ++ a) ++ b) ++ c) ++ d) ++ e ≡ o ++ (a ++ (b ++ (c ++ (d ++ e))))
+regroup o a b c d e = simp append_assoc
+
+pub five_parts : (o a b c d e n1 n2 n3 n4 n5 : List ℕ) → n1 ≡ o ++ a → n2 ≡ n1 ++ b → n3 ≡ n2 ++ c → n4 ≡ n3 ++ d → n5 ≡ n4 ++ e → n5 ≡ o ++ (a ++ (b ++ (c ++ (d ++ e))))
+five_parts o a b c d e n1 n2 n3 n4 n5 e1 e2 e3 e4 e5 = let whole : n5 ≡ ((((o ++ a) ++ b) ++ c) ++ d) ++ e = cc in whole ∙ regroup o a b c d e
+
+pub three_parts : (o a b c n1 n2 n3 : List ℕ) → o ≡ [] → n1 ≡ o ++ a → n2 ≡ n1 ++ b → n3 ≡ n2 ++ c → n3 ≡ a ++ (b ++ c)
+three_parts o a b c n1 n2 n3 e0 e1 e2 e3 = e3 ∙ (λ j. (e2 ∙ (λ i. (e1 ∙ (λ k. e0 k ++ a)) i ++ b)) j ++ c) ∙ append_assoc a b c

@@ -1,0 +1,5 @@
+use Rattle.pep440_pick.proofs.Blanks.{start_trimmed}
+use Rattle.pyver_findings.proofs.column.skip_blanks.Goals as goal
+
+pub returns : goal.returns
+returns c = start_trimmed c.args.text.now c.trim_ascii_start.result.now c.trim_ascii_start.ensures.value

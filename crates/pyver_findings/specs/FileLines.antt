@@ -1,0 +1,27 @@
+-- The logical lines of requirements files.
+use Rattle.std.specs.Prelude.{ℕ, List, map}
+use Rattle.std.specs.List.{flat_map}
+use Rattle.pyver_requirements.specs.LogicalLines.{Line, logical_lines}
+
+-- a file: its name, and its bytes
+pub record File : Type 0 where
+  pub name : List ℕ
+  pub text : List ℕ
+
+-- a logical line: the name of its file, the number of its first physical line, and its text
+pub record FileLine : Type 0 where
+  pub file : List ℕ
+  pub number : ℕ
+  pub text : List ℕ
+
+-- a line of the file with this name
+abbrev pub line_of : List ℕ → Line → FileLine
+line_of file l = record { file = file; number = l.number; text = l.text }
+
+-- the lines of a file
+abbrev pub lines_of : File → List FileLine
+lines_of f = map (line_of f.name) (logical_lines f.text)
+
+-- the lines of all files
+abbrev pub all_lines : List File → List FileLine
+all_lines files = flat_map lines_of files

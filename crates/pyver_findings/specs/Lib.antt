@@ -1,0 +1,12 @@
+pub mod FileLines
+pub mod Asked
+pub mod Columns
+pub mod LineReadings
+pub mod Findings
+pub mod Conflicts
+pub mod Reports
+pub mod Views
+pub mod ReadingViews
+pub mod ReportTexts
+pub mod ReportObjects
+pub mod FindingLaws

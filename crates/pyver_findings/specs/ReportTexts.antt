@@ -1,0 +1,83 @@
+-- The findings of a report as lines for people, and its counts; what is quoted is escaped.
+use Rattle.std.specs.Prelude.{ℕ, ◌==◌, List, [], ◌∷◌, ◌++◌, Bool, true, false, codes, count_by, map, take, if◌then◌else◌}
+use Rattle.std.specs.Fmt.{decimal}
+use Rattle.std.specs.List.{flat_map}
+use Rattle.pyver_findings.specs.FileLines.{FileLine}
+use Rattle.pyver_findings.specs.Findings.{Conflicting, Finding, NoRequirement}
+use Rattle.pyver_findings.specs.Reports.{Report}
+use Rattle.pyver_findings.specs.declared.cause.Cause.{Cause}
+use Rattle.pyver_findings.specs.declared.cause.Cause.TheVariants as cause
+use Rattle.pyver_findings.specs.declared.finding.Conflict.{Conflict}
+use Rattle.pyver_findings.specs.declared.finding.Conflict.TheVariants.{NoVersion, PinOutside, TwoPins}
+use Rattle.pyver_text.specs.Escapes.{escaped}
+
+-- ---- findings
+
+-- the file and the number of the line
+abbrev pub place_text : FileLine → List ℕ
+place_text l = escaped l.file ++ (codes ":" ++ (decimal l.number ++ codes ": "))
+
+-- the place of the first line
+abbrev pub first_place : List FileLine → List ℕ
+first_place [] = []
+first_place (l ∷ rest) = place_text l
+
+-- a blank for each character that is printed before the column, and a caret
+abbrev pub caret_text : List ℕ → ℕ → List ℕ
+caret_text text column = map (λ _. 32) (escaped (take column text)) ++ codes "^\n"
+
+-- a line with its place, indented
+abbrev pub quoted_line : FileLine → List ℕ
+quoted_line l = codes "    " ++ (place_text l ++ (escaped l.text ++ codes "\n"))
+
+-- a line, indented, and the caret under it
+abbrev pub marked_line : List ℕ → ℕ → List ℕ
+marked_line text column = codes "\n    " ++ (escaped text ++ (codes "\n    " ++ caret_text text column))
+
+abbrev pub conflict_text : Conflict → List ℕ
+conflict_text NoVersion = codes "no version satisfies:\n"
+conflict_text PinOutside = codes "a version is named and excluded:\n"
+conflict_text TwoPins = codes "two versions are named:\n"
+
+-- the place and the reason, and then the line, with a caret where it is none, or the lines
+abbrev pub finding_text : Finding → List ℕ
+finding_text (NoRequirement l reason column) = place_text l ++ (escaped reason ++ marked_line l.text column)
+finding_text (Conflicting conflict lines) = first_place lines ++ (conflict_text conflict ++ flat_map quoted_line lines)
+
+-- one finding after another
+abbrev pub report_text : Report → List ℕ
+report_text r = flat_map finding_text r.findings
+
+-- ---- counts
+
+abbrev pub same_cause : Cause → Cause → Bool
+same_cause cause.Editable cause.Editable = true
+same_cause cause.PipOption cause.PipOption = true
+same_cause cause.Variable cause.Variable = true
+same_cause cause.Location cause.Location = true
+same_cause cause.Url cause.Url = true
+same_cause _ _ = false
+
+abbrev pub cause_text : Cause → List ℕ
+cause_text cause.Editable = codes "pyver: editable requirements left out: "
+cause_text cause.PipOption = codes "pyver: options of pip left out: "
+cause_text cause.Variable = codes "pyver: lines with a variable left out: "
+cause_text cause.Location = codes "pyver: paths, archives and URLs left out: "
+cause_text cause.Url = codes "pyver: requirements and files by URL left out: "
+
+-- a line with a number
+abbrev pub count_text : List ℕ → ℕ → List ℕ
+count_text start count = start ++ (decimal count ++ codes "\n")
+
+-- how many lines were left out for the cause; nothing if there are none
+abbrev pub left_out_text : List Cause → Cause → List ℕ
+left_out_text causes c = if count_by (same_cause c) causes == 0 then [] else count_text (cause_text c) (count_by (same_cause c) causes)
+
+-- how many lines were left out, by cause
+abbrev pub left_out_texts : List Cause → List ℕ
+left_out_texts causes = left_out_text causes cause.Editable ++ (left_out_text causes cause.PipOption ++ (left_out_text causes cause.Variable
+    ++ (left_out_text causes cause.Location ++ left_out_text causes cause.Url)))
+
+-- how many files and lines were read, and how many lines were left out
+abbrev pub summary_text : Report → List ℕ
+summary_text r = count_text (codes "pyver: files read: ") r.files ++ (count_text (codes "pyver: lines read: ") r.lines ++ left_out_texts r.left_out)

@@ -1,0 +1,81 @@
+// What a line asks for that is a requirement.
+ghost use Rattle.std.specs.Prelude.{◌≡◌, IfOk, option_map};
+ghost use Rattle.pep440_pick.specs.Requirements.{needed};
+ghost use Rattle.pyver_findings.specs.Asked.{asked, cover_or_all, is_pin_operator, is_pinned};
+ghost use Rattle.pyver_findings.specs.Views.{asked_of, file_line_of};
+
+use crate::file_line::FileLine;
+use pep440_pick::Requirement;
+use pep440_rs::{
+    Operator, RangeError, Ranges, Version, VersionSpecifier, VersionSpecifiers, specifiers_to_cover,
+};
+use std::alloc::{AllocError, Global};
+
+/// What a line asks for: versions of a package, under a marker or always.
+#[derive(Drop)]
+pub(crate) struct Asked {
+    pub(crate) line: FileLine,
+    pub(crate) name: String,
+    pub(crate) marker: Option<Vec<u8>>,
+    /// Whether some member of the list names one version.
+    pub(crate) pinned: bool,
+    /// A range that holds every version that the list contains.
+    pub(crate) cover: Ranges<Version>,
+}
+
+fn is_pin_operator(operator: Operator) -> bool
+    ensures { result ≡ is_pin_operator operator }
+{
+    matches!(operator, Operator::Equal | Operator::ExactEqual)
+}
+
+fn is_pinned(members: &[VersionSpecifier]) -> bool
+    ensures { result ≡ is_pinned members.now }
+{
+    members
+        .iter()
+        .any(|member| is_pin_operator(*member.operator()))
+}
+
+/// The cover of the list; all versions where a number in it cannot be raised.
+fn cover_or_all(alloc: Global, list: VersionSpecifiers) -> Result<Ranges<Version>, AllocError>
+    ensures { IfOk result (λ cover. cover ≡ cover_or_all list) }
+{
+    match specifiers_to_cover(alloc, list) {
+        Ok(cover) => Ok(cover),
+        Err(RangeError::NumberAtMax) => Ranges::full(alloc),
+        Err(RangeError::OutOfMemory) => Err(AllocError),
+    }
+}
+
+fn copy_marker(alloc: Global, marker: Option<&[u8]>) -> Result<Option<Vec<u8>>, AllocError>
+    ensures { IfOk result (λ copy. option_map (λ m. m.items) copy ≡ option_map (λ m. m.now) marker.entry) }
+{
+    match marker {
+        Some(text) => Ok(Some(Vec::from_slice(alloc, text)?)),
+        None => Ok(None),
+    }
+}
+
+impl Asked {
+    /// What the line asks for under this marker.
+    pub(crate) fn new(
+        alloc: Global,
+        line: &FileLine,
+        marker: Option<&[u8]>,
+        requirement: &Requirement,
+    ) -> Result<Asked, AllocError>
+        ensures { IfOk result (λ a. asked_of a ≡ asked (file_line_of line.now) (option_map (λ m. m.now) marker.entry) (needed requirement.now)) }
+    {
+        let pinned = is_pinned(requirement.specifiers.as_slice());
+        let cover = cover_or_all(alloc, requirement.specifiers.clone()?)?;
+        let marker = copy_marker(alloc, marker)?;
+        Ok(Asked {
+            line: line.clone()?,
+            name: requirement.name.clone()?,
+            marker,
+            pinned,
+            cover,
+        })
+    }
+}

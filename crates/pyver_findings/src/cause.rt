@@ -1,0 +1,16 @@
+// Why a line is left out.
+
+/// Why a line is left out.
+#[derive(Clone, Copy, Debug, PartialEq, Eq)]
+pub enum Cause {
+    /// `-e` or `--editable`.
+    Editable,
+    /// Another option of pip.
+    PipOption,
+    /// A line with `${NAME}`.
+    Variable,
+    /// A path or an archive, or a URL without a name.
+    Location,
+    /// A name with a URL, or a URL of another file.
+    Url,
+}

@@ -1,0 +1,135 @@
+// The column at which a requirement is invalid.
+ghost use Rattle.std.specs.Prelude.{◌≡◌, ◌≤◌, ◌==◌, drop, length, not, IfSome};
+ghost use Rattle.std.specs.Char.{is_ascii_whitespace};
+ghost use Rattle.std.specs.List.{prefix_len};
+ghost use Rattle.pep440_pick.specs.Names.{is_name_byte};
+ghost use Rattle.pep440_pick.specs.RequirementReading.{behind_name};
+ghost use Rattle.pep440_pick.specs.Requirements.{requirement_refusal_of};
+ghost use Rattle.pep440_version.specs.Reading.{past};
+ghost use Rattle.pyver_findings.specs.Columns.{behind_bracket, behind_extras, behind_front, column, in_parenthesis, list_part, rest_at};
+ghost use Rattle.pep440_rs.specs.ListAnswers.{list_kind_of};
+ghost use Rattle.pep440_rs.specs.ListErrors.{list_refusal_of};
+
+use pep440_pick::RequirementError;
+use pep440_rs::{SpecifiersErrorKind, VersionSpecifiersParseError};
+
+fn is_name_byte(byte: u8) -> bool
+    ensures { result ≡ is_name_byte byte }
+{
+    byte.is_ascii_alphanumeric() || matches!(byte, b'.' | b'-' | b'_')
+}
+
+fn count_name_bytes(text: &[u8]) -> usize
+    ensures count { result ≡ prefix_len is_name_byte text.now }
+    ensures inside { result ≤ length text.now }
+{
+    text.iter().take_while(|byte| is_name_byte(**byte)).count()
+}
+
+/// What stands behind the blanks at the start.
+fn skip_blanks(text: &[u8]) -> &[u8]
+    ensures { result.now ≡ past is_ascii_whitespace text.now }
+{
+    text.trim_ascii_start()
+}
+
+/// What stands behind the name and the blanks after it.
+fn behind_name(text: &[u8]) -> &[u8]
+    ensures { result.now ≡ behind_name text.now }
+{
+    let named = skip_blanks(text);
+    skip_blanks(&named[count_name_bytes(named)..])
+}
+
+fn count_before_bracket(text: &[u8]) -> usize
+    ensures count { result ≡ prefix_len (λ x. not (x == 93)) text.now }
+    ensures inside { result ≤ length text.now }
+{
+    text.iter().take_while(|byte| **byte != b']').count()
+}
+
+fn without_first(text: &[u8]) -> &[u8]
+    ensures { result.now ≡ drop 1 text.now }
+{
+    match text {
+        [] => text,
+        [_, rest @ ..] => rest,
+    }
+}
+
+fn behind_bracket(text: &[u8]) -> &[u8]
+    ensures { result.now ≡ behind_bracket text.now }
+{
+    without_first(&text[count_before_bracket(text)..])
+}
+
+fn behind_extras(text: &[u8]) -> &[u8]
+    ensures { result.now ≡ behind_extras text.now }
+{
+    match text {
+        [b'[', ..] => behind_bracket(text),
+        _ => text,
+    }
+}
+
+fn behind_front(text: &[u8]) -> &[u8]
+    ensures { result.now ≡ behind_front text.now }
+{
+    skip_blanks(behind_extras(behind_name(text)))
+}
+
+fn in_parenthesis(text: &[u8]) -> &[u8]
+    ensures { result.now ≡ in_parenthesis text.now }
+{
+    match text {
+        [b'(', rest @ ..] => skip_blanks(rest),
+        _ => text,
+    }
+}
+
+/// What stands from the list of specifiers on.
+fn list_part(text: &[u8]) -> &[u8]
+    ensures { result.now ≡ list_part text.now }
+{
+    in_parenthesis(behind_front(text))
+}
+
+fn skip_bytes(text: &[u8], count: usize) -> &[u8]
+    ensures { result.now ≡ drop count text.now }
+{
+    if count <= text.len() {
+        &text[count..]
+    } else {
+        &[]
+    }
+}
+
+fn piece_start(error: &VersionSpecifiersParseError) -> usize
+    ensures { IfSome (list_refusal_of (list_kind_of error.now)) (λ f. result ≡ f.start) }
+{
+    match error.kind() {
+        SpecifiersErrorKind::Piece { start, .. } => *start,
+        SpecifiersErrorKind::OutOfMemory => 0,
+    }
+}
+
+/// What stands from the place on at which the requirement is invalid.
+fn rest_at<'a>(text: &'a [u8], error: &RequirementError) -> &'a [u8]
+    ensures { IfSome (requirement_refusal_of error.now) (λ f. result.now ≡ rest_at text.now f) }
+{
+    match error {
+        RequirementError::InvalidExtras => behind_name(text),
+        RequirementError::Unclosed => behind_front(text),
+        RequirementError::Specifiers(error) => {
+            skip_blanks(skip_bytes(list_part(text), piece_start(error)))
+        }
+        _ => text,
+    }
+}
+
+/// The column of that place, in bytes from 0.
+pub(crate) fn column(text: &[u8], error: &RequirementError) -> usize
+    ensures { IfSome (requirement_refusal_of error.now) (λ f. result ≡ column text.now f) }
+{
+    text.len().saturating_sub(rest_at(text, error).len())
+}

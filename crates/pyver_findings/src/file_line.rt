@@ -1,0 +1,90 @@
+// Requirements files, and their logical lines.
+ghost use Rattle.std.specs.Prelude.{◌≡◌, ◌∷◌, ◌++◌, [], IfOk, map};
+ghost use Rattle.pyver_findings.specs.FileLines.{all_lines, line_of, lines_of};
+ghost use Rattle.pyver_findings.specs.Views.{file_line_of, file_of};
+ghost use Rattle.pyver_requirements.specs.LineViews.{logical_line_of};
+
+use pyver_requirements::{LogicalLine, logical_lines};
+use std::alloc::{AllocError, Global};
+
+/// A requirements file that was read.
+#[derive(Debug, Drop)]
+pub struct SourceFile {
+    /// Its name in findings.
+    pub name: Vec<u8>,
+    pub text: Vec<u8>,
+}
+
+/// A logical line of a requirements file.
+#[derive(Debug, Drop)]
+pub struct FileLine {
+    /// The name of its file.
+    pub file: Vec<u8>,
+    /// The number of its first physical line, from 1.
+    pub number: u64,
+    pub text: Vec<u8>,
+}
+
+impl Clone for FileLine {
+    ghost use Rattle.pyver_findings.specs.Views.{file_line_of};
+
+    ghost is_clone = { λ line copy. file_line_of copy ≡ file_line_of line };
+
+    fn clone(&self) -> Result<FileLine, AllocError> {
+        Ok(FileLine {
+            file: self.file.clone()?,
+            number: self.number,
+            text: self.text.clone()?,
+        })
+    }
+}
+
+fn push_line(
+    alloc: Global,
+    lines: &mut Vec<FileLine>,
+    file: &[u8],
+    line: &LogicalLine,
+) -> Result<(), AllocError>
+    ensures { IfOk result (λ _. map file_line_of lines.new.items ≡ map file_line_of lines.old.items ++ line_of file.now (logical_line_of line.now) ∷ []) }
+{
+    let file = Vec::from_slice(alloc, file)?;
+    let text = Vec::from_slice(alloc, line.text.as_slice())?;
+    lines.push(FileLine {
+        file,
+        number: line.number,
+        text,
+    })?;
+    Ok(())
+}
+
+fn push_lines(
+    alloc: Global,
+    lines: &mut Vec<FileLine>,
+    file: &[u8],
+    found: &[LogicalLine],
+) -> Result<(), AllocError>
+    ensures { IfOk result (λ _. map file_line_of lines.new.items ≡ map file_line_of lines.old.items ++ map (line_of file.now) (map logical_line_of found.now)) }
+{
+    for line in found {
+        push_line(alloc, lines, file, line)?;
+    }
+    Ok(())
+}
+
+fn push_file(alloc: Global, lines: &mut Vec<FileLine>, file: &SourceFile) -> Result<(), AllocError>
+    ensures { IfOk result (λ _. map file_line_of lines.new.items ≡ map file_line_of lines.old.items ++ lines_of (file_of file.now)) }
+{
+    let found = logical_lines(alloc, file.text.as_slice())?;
+    push_lines(alloc, lines, file.name.as_slice(), found.as_slice())
+}
+
+/// The logical lines of the files.
+pub(crate) fn all_lines(alloc: Global, files: &[SourceFile]) -> Result<Vec<FileLine>, AllocError>
+    ensures { IfOk result (λ lines. map file_line_of lines.items ≡ all_lines (map file_of files.now)) }
+{
+    let mut lines = Vec::new(alloc);
+    for file in files {
+        push_file(alloc, &mut lines, file)?;
+    }
+    Ok(lines)
+}

@@ -1,0 +1,73 @@
+// What a line of a requirements file is to the check.
+ghost use Rattle.std.specs.Prelude.{◌≡◌, IfOk};
+ghost use Rattle.pyver_findings.specs.LineReadings.{ReadsKind, ReadsLine, has_scheme, names_file};
+ghost use Rattle.pyver_findings.specs.Views.{file_line_of, line_reading_of};
+ghost use Rattle.pyver_requirements.specs.LineKindViews.{line_kind_of};
+
+use crate::asked::Asked;
+use crate::cause::Cause;
+use crate::file_line::FileLine;
+use crate::finding::Finding;
+use crate::requirement::read_requirement;
+use pyver_requirements::{LineKind, classify, has_variable};
+use std::alloc::{AllocError, Global};
+
+/// What a line is.
+#[derive(Drop)]
+pub(crate) enum LineReading {
+    /// A requirement.
+    Asks(Asked),
+    /// None.
+    IsNone(Finding),
+    /// It is left out.
+    LeftOut(Cause),
+    /// It names another file.
+    NamesFile,
+}
+
+/// `://` stands somewhere in the text.
+fn has_scheme(text: &[u8]) -> bool
+    ensures { result ≡ has_scheme text.now }
+{
+    let mut rest = text;
+    while let [_, later @ ..] = rest {
+        if rest.starts_with("://".as_bytes()) {
+            return true;
+        }
+        rest = later;
+    }
+    false
+}
+
+fn name_file(path: &[u8]) -> LineReading
+    ensures { line_reading_of result ≡ names_file path.now }
+{
+    if has_variable(path) {
+        LineReading::LeftOut(Cause::Variable)
+    } else if has_scheme(path) {
+        LineReading::LeftOut(Cause::Url)
+    } else {
+        LineReading::NamesFile
+    }
+}
+
+fn read_kind(alloc: Global, line: &FileLine, kind: LineKind<'_>) -> Result<LineReading, AllocError>
+    ensures { IfOk result (λ x. ReadsKind (file_line_of line.now) (line_kind_of kind.entry) (line_reading_of x)) }
+{
+    match kind {
+        LineKind::RequirementsFile(path) => Ok(name_file(path)),
+        LineKind::ConstraintsFile(path) => Ok(name_file(path)),
+        LineKind::Editable => Ok(LineReading::LeftOut(Cause::Editable)),
+        LineKind::PipOption => Ok(LineReading::LeftOut(Cause::PipOption)),
+        LineKind::Variable => Ok(LineReading::LeftOut(Cause::Variable)),
+        LineKind::Location => Ok(LineReading::LeftOut(Cause::Location)),
+        LineKind::Requirement => read_requirement(alloc, line),
+    }
+}
+
+/// What the line is.
+pub(crate) fn read_line(alloc: Global, line: &FileLine) -> Result<LineReading, AllocError>
+    ensures { IfOk result (λ x. ReadsLine (file_line_of line.now) (line_reading_of x)) }
+{
+    read_kind(alloc, line, classify(line.text.as_slice()))
+}

@@ -1,0 +1,87 @@
+//! The report of requirements files.
+ghost use Rattle.std.specs.Prelude.{◌≡◌, ◌++◌, IfOk, map};
+ghost use Rattle.pyver_findings.specs.ReadingViews.{KeepsReadings};
+ghost use Rattle.pyver_findings.specs.Reports.{IsReport, asked_in, invalid_in, left_out_in};
+ghost use Rattle.pyver_findings.specs.Views.{asked_of, file_line_of, file_of, finding_of, line_reading_of, report_of};
+
+use crate::asked::Asked;
+use crate::cause::Cause;
+use crate::conflicts::push_conflicts;
+use crate::file_line::{FileLine, SourceFile, all_lines};
+use crate::finding::Finding;
+use crate::line_reading::{LineReading, read_line};
+use std::alloc::{AllocError, Global};
+
+/// What is wrong in requirements files, and how much of them was read.
+#[derive(Debug, Drop)]
+pub struct Report {
+    /// First the lines that are no requirements, in order; then what is wrong with lines together, by name.
+    pub findings: Vec<Finding>,
+    /// How many lines were read that are neither empty nor comments.
+    pub lines: usize,
+    /// How many files were read.
+    pub files: usize,
+    /// Of each line that was left out, why.
+    pub left_out: Vec<Cause>,
+}
+
+/// What the lines so far are.
+#[derive(Drop)]
+struct Readings {
+    invalid: Vec<Finding>,
+    asked: Vec<Asked>,
+    left_out: Vec<Cause>,
+}
+
+impl Readings {
+    fn push(&mut self, reading: LineReading) -> Result<(), AllocError>
+        ensures invalid { IfOk result (λ _. map finding_of self.new.invalid.items ≡ map finding_of self.old.invalid.items ++ invalid_in (line_reading_of reading)) }
+        ensures asked { IfOk result (λ _. map asked_of self.new.asked.items ≡ map asked_of self.old.asked.items ++ asked_in (line_reading_of reading)) }
+        ensures left_out { IfOk result (λ _. self.new.left_out.items ≡ self.old.left_out.items ++ left_out_in (line_reading_of reading)) }
+    {
+        match reading {
+            LineReading::Asks(asked) => self.asked.push(asked)?,
+            LineReading::IsNone(finding) => self.invalid.push(finding)?,
+            LineReading::LeftOut(cause) => self.left_out.push(cause)?,
+            LineReading::NamesFile => {}
+        }
+        Ok(())
+    }
+}
+
+fn read_lines(alloc: Global, lines: &[FileLine]) -> Result<Readings, AllocError>
+    ensures { IfOk result (KeepsReadings (map file_line_of lines.now)) }
+{
+    let mut readings = Readings {
+        invalid: Vec::new(alloc),
+        asked: Vec::new(alloc),
+        left_out: Vec::new(alloc),
+    };
+    for line in lines {
+        let reading = read_line(alloc, line)?;
+        readings.push(reading)?;
+    }
+    Ok(readings)
+}
+
+/// What is wrong in these files, of which each is read once, in this order: first the lines that are no requirements, in
+/// order; then for each name, in the order in which names are first mentioned, the lines that no version satisfies, those
+/// of which one names a version that the other excludes, and those that no version satisfies together. What one line or two
+/// explain is not reported again. Lines with different markers do not count together, and lines without a marker count with
+/// those of each.
+///
+/// Allocates.
+pub fn find_problems(alloc: Global, files: &[SourceFile]) -> Result<Report, AllocError>
+    ensures { IfOk result (λ r. IsReport (map file_of files.now) (report_of r)) }
+{
+    let lines = all_lines(alloc, files)?;
+    let readings = read_lines(alloc, lines.as_slice())?;
+    let mut findings = readings.invalid;
+    push_conflicts(alloc, &mut findings, readings.asked.as_slice())?;
+    Ok(Report {
+        findings,
+        lines: lines.len(),
+        files: files.len(),
+        left_out: readings.left_out,
+    })
+}

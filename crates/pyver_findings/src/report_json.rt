@@ -1,0 +1,182 @@
+//! A report as JSON.
+ghost use Rattle.std.specs.Prelude.{◌≡◌, ◌++◌, IfOk, map};
+ghost use Rattle.std.specs.List.{flat_map};
+ghost use Rattle.pyver_findings.specs.Findings.{Conflicting, NoRequirement};
+ghost use Rattle.pyver_findings.specs.ReportObjects.{conflict_word, finding_array, finding_object, line_array, line_members, line_object, next_finding, next_line, reason_members, report_object};
+ghost use Rattle.pyver_findings.specs.Views.{file_line_of, finding_of, report_of};
+
+use crate::file_line::FileLine;
+use crate::finding::{Conflict, Finding};
+use crate::report::Report;
+use crate::report_text::{push_number, push_text};
+use pyver_text::push_json_string;
+use std::alloc::{AllocError, Global};
+
+fn push_members(alloc: Global, bytes: &mut Vec<u8>, line: &FileLine) -> Result<(), AllocError>
+    ensures { IfOk result (λ _. bytes.new.items ≡ bytes.old.items ++ line_members (file_line_of line.now)) }
+{
+    push_text(bytes, "\"file\":")?;
+    push_json_string(alloc, bytes, line.file.as_slice())?;
+    push_text(bytes, ",\"line\":")?;
+    push_number(alloc, bytes, line.number)?;
+    push_text(bytes, ",\"text\":")?;
+    push_json_string(alloc, bytes, line.text.as_slice())
+}
+
+fn push_line(alloc: Global, bytes: &mut Vec<u8>, line: &FileLine) -> Result<(), AllocError>
+    ensures { IfOk result (λ _. bytes.new.items ≡ bytes.old.items ++ line_object (file_line_of line.now)) }
+{
+    push_text(bytes, "{")?;
+    push_members(alloc, bytes, line)?;
+    push_text(bytes, "}")
+}
+
+fn push_next_line(alloc: Global, bytes: &mut Vec<u8>, line: &FileLine) -> Result<(), AllocError>
+    ensures { IfOk result (λ _. bytes.new.items ≡ bytes.old.items ++ next_line (file_line_of line.now)) }
+{
+    push_text(bytes, ",")?;
+    push_line(alloc, bytes, line)
+}
+
+fn push_next_lines(alloc: Global, bytes: &mut Vec<u8>, lines: &[FileLine]) -> Result<(), AllocError>
+    ensures { IfOk result (λ _. bytes.new.items ≡ bytes.old.items ++ flat_map next_line (map file_line_of lines.now)) }
+{
+    for line in lines {
+        push_next_line(alloc, bytes, line)?;
+    }
+    Ok(())
+}
+
+fn push_lines(alloc: Global, bytes: &mut Vec<u8>, lines: &[FileLine]) -> Result<(), AllocError>
+    ensures { IfOk result (λ _. bytes.new.items ≡ bytes.old.items ++ line_array (map file_line_of lines.now)) }
+{
+    match lines {
+        [] => push_text(bytes, "[]"),
+        [first, rest @ ..] => {
+            push_text(bytes, "[")?;
+            push_line(alloc, bytes, first)?;
+            push_next_lines(alloc, bytes, rest)?;
+            push_text(bytes, "]")
+        }
+    }
+}
+
+fn conflict_word(conflict: Conflict) -> &'static str
+    ensures { result.now ≡ conflict_word conflict }
+{
+    match conflict {
+        Conflict::NoVersion => "\"no-version\"",
+        Conflict::PinOutside => "\"pin-outside\"",
+        Conflict::TwoPins => "\"two-pins\"",
+    }
+}
+
+fn push_conflict(
+    alloc: Global,
+    bytes: &mut Vec<u8>,
+    conflict: Conflict,
+    lines: &[FileLine],
+) -> Result<(), AllocError>
+    ensures { IfOk result (λ _. bytes.new.items ≡ bytes.old.items ++ finding_object (Conflicting conflict (map file_line_of lines.now))) }
+{
+    push_text(bytes, "{\"kind\":")?;
+    push_text(bytes, conflict_word(conflict))?;
+    push_text(bytes, ",\"lines\":")?;
+    push_lines(alloc, bytes, lines)?;
+    push_text(bytes, "}")
+}
+
+fn push_reason(
+    alloc: Global,
+    bytes: &mut Vec<u8>,
+    reason: &str,
+    column: usize,
+) -> Result<(), AllocError>
+    ensures { IfOk result (λ _. bytes.new.items ≡ bytes.old.items ++ reason_members reason.now column) }
+{
+    push_text(bytes, ",\"reason\":")?;
+    push_json_string(alloc, bytes, reason.as_bytes())?;
+    push_text(bytes, ",\"column\":")?;
+    push_number(alloc, bytes, column as u64)
+}
+
+fn push_no_requirement(
+    alloc: Global,
+    bytes: &mut Vec<u8>,
+    line: &FileLine,
+    reason: &str,
+    column: usize,
+) -> Result<(), AllocError>
+    ensures { IfOk result (λ _. bytes.new.items ≡ bytes.old.items ++ finding_object (NoRequirement (file_line_of line.now) reason.now column)) }
+{
+    push_text(bytes, "{\"kind\":\"no-requirement\",")?;
+    push_members(alloc, bytes, line)?;
+    push_reason(alloc, bytes, reason, column)?;
+    push_text(bytes, "}")
+}
+
+fn push_finding(alloc: Global, bytes: &mut Vec<u8>, finding: &Finding) -> Result<(), AllocError>
+    ensures { IfOk result (λ _. bytes.new.items ≡ bytes.old.items ++ finding_object (finding_of finding.now)) }
+{
+    match finding {
+        Finding::NoRequirement(line, reason, column) => {
+            push_no_requirement(alloc, bytes, line, reason.as_str(), *column)
+        }
+        Finding::Conflicting(conflict, lines) => {
+            push_conflict(alloc, bytes, *conflict, lines.as_slice())
+        }
+    }
+}
+
+fn push_next_finding(
+    alloc: Global,
+    bytes: &mut Vec<u8>,
+    finding: &Finding,
+) -> Result<(), AllocError>
+    ensures { IfOk result (λ _. bytes.new.items ≡ bytes.old.items ++ next_finding (finding_of finding.now)) }
+{
+    push_text(bytes, ",")?;
+    push_finding(alloc, bytes, finding)
+}
+
+fn push_next_findings(
+    alloc: Global,
+    bytes: &mut Vec<u8>,
+    findings: &[Finding],
+) -> Result<(), AllocError>
+    ensures { IfOk result (λ _. bytes.new.items ≡ bytes.old.items ++ flat_map next_finding (map finding_of findings.now)) }
+{
+    for finding in findings {
+        push_next_finding(alloc, bytes, finding)?;
+    }
+    Ok(())
+}
+
+fn push_findings(alloc: Global, bytes: &mut Vec<u8>, findings: &[Finding]) -> Result<(), AllocError>
+    ensures { IfOk result (λ _. bytes.new.items ≡ bytes.old.items ++ finding_array (map finding_of findings.now)) }
+{
+    match findings {
+        [] => push_text(bytes, "[]"),
+        [first, rest @ ..] => {
+            push_text(bytes, "[")?;
+            push_finding(alloc, bytes, first)?;
+            push_next_findings(alloc, bytes, rest)?;
+            push_text(bytes, "]")
+        }
+    }
+}
+
+impl Report {
+    /// The findings as a JSON array of objects, and a newline: the kind of each, and then the line with the reason and the column,
+    /// or the lines. Strings are escaped as in `to_text`, and then as JSON wants it.
+    ///
+    /// Allocates.
+    pub fn to_json(&self, alloc: Global) -> Result<Vec<u8>, AllocError>
+        ensures { IfOk result (λ bytes. bytes.items ≡ report_object (report_of self.now)) }
+    {
+        let mut bytes = Vec::new(alloc);
+        push_findings(alloc, &mut bytes, self.findings.as_slice())?;
+        push_text(&mut bytes, "\n")?;
+        Ok(bytes)
+    }
+}

@@ -1,0 +1,281 @@
+//! A report as lines for people.
+ghost use Rattle.std.specs.Prelude.{◌≡◌, ◌++◌, IfOk, count_by, map, take};
+ghost use Rattle.std.specs.Fmt.{decimal};
+ghost use Rattle.std.specs.List.{flat_map};
+ghost use Rattle.pyver_findings.specs.Findings.{Conflicting, NoRequirement};
+ghost use Rattle.pyver_findings.specs.ReportTexts.{caret_text, cause_text, conflict_text, count_text, finding_text, first_place, left_out_text, left_out_texts, marked_line, place_text, quoted_line, report_text, same_cause, summary_text};
+ghost use Rattle.pyver_findings.specs.Views.{file_line_of, finding_of, report_of};
+
+use crate::cause::Cause;
+use crate::file_line::FileLine;
+use crate::finding::{Conflict, Finding};
+use crate::report::Report;
+use pyver_text::push_escaped;
+use std::alloc::{AllocError, Global};
+
+/// The string at the end.
+pub(crate) fn push_text(bytes: &mut Vec<u8>, text: &str) -> Result<(), AllocError>
+    ensures { IfOk result (λ _. bytes.new.items ≡ bytes.old.items ++ text.now) }
+{
+    bytes.extend_from_slice(text.as_bytes())
+}
+
+/// The number at the end.
+pub(crate) fn push_number(alloc: Global, bytes: &mut Vec<u8>, number: u64) -> Result<(), AllocError>
+    ensures { IfOk result (λ _. bytes.new.items ≡ bytes.old.items ++ decimal number) }
+{
+    push_text(bytes, number.to_string(alloc)?.as_str())
+}
+
+fn push_place(alloc: Global, bytes: &mut Vec<u8>, line: &FileLine) -> Result<(), AllocError>
+    ensures { IfOk result (λ _. bytes.new.items ≡ bytes.old.items ++ place_text (file_line_of line.now)) }
+{
+    push_escaped(bytes, line.file.as_slice())?;
+    push_text(bytes, ":")?;
+    push_number(alloc, bytes, line.number)?;
+    push_text(bytes, ": ")
+}
+
+fn push_first_place(
+    alloc: Global,
+    bytes: &mut Vec<u8>,
+    lines: &[FileLine],
+) -> Result<(), AllocError>
+    ensures { IfOk result (λ _. bytes.new.items ≡ bytes.old.items ++ first_place (map file_line_of lines.now)) }
+{
+    match lines {
+        [] => Ok(()),
+        [first, ..] => push_place(alloc, bytes, first),
+    }
+}
+
+/// A blank for each of the characters.
+fn push_blanks(bytes: &mut Vec<u8>, characters: &[u8]) -> Result<(), AllocError>
+    ensures { IfOk result (λ _. bytes.new.items ≡ bytes.old.items ++ map (λ _. 32) characters.now) }
+{
+    for _character in characters {
+        bytes.push(b' ')?;
+    }
+    Ok(())
+}
+
+fn start_of(text: &[u8], column: usize) -> &[u8]
+    ensures { result.now ≡ take column text.now }
+{
+    if column <= text.len() {
+        &text[..column]
+    } else {
+        text
+    }
+}
+
+/// A caret under the column.
+fn push_caret(
+    alloc: Global,
+    bytes: &mut Vec<u8>,
+    text: &[u8],
+    column: usize,
+) -> Result<(), AllocError>
+    ensures { IfOk result (λ _. bytes.new.items ≡ bytes.old.items ++ caret_text text.now column) }
+{
+    let mut before = Vec::new(alloc);
+    push_escaped(&mut before, start_of(text, column))?;
+    push_blanks(bytes, before.as_slice())?;
+    push_text(bytes, "^\n")
+}
+
+/// The line, indented, and the caret under it.
+fn push_marked_line(
+    alloc: Global,
+    bytes: &mut Vec<u8>,
+    text: &[u8],
+    column: usize,
+) -> Result<(), AllocError>
+    ensures { IfOk result (λ _. bytes.new.items ≡ bytes.old.items ++ marked_line text.now column) }
+{
+    push_text(bytes, "\n    ")?;
+    push_escaped(bytes, text)?;
+    push_text(bytes, "\n    ")?;
+    push_caret(alloc, bytes, text, column)
+}
+
+fn push_quoted_line(alloc: Global, bytes: &mut Vec<u8>, line: &FileLine) -> Result<(), AllocError>
+    ensures { IfOk result (λ _. bytes.new.items ≡ bytes.old.items ++ quoted_line (file_line_of line.now)) }
+{
+    push_text(bytes, "    ")?;
+    push_place(alloc, bytes, line)?;
+    push_escaped(bytes, line.text.as_slice())?;
+    push_text(bytes, "\n")
+}
+
+fn push_quoted_lines(
+    alloc: Global,
+    bytes: &mut Vec<u8>,
+    lines: &[FileLine],
+) -> Result<(), AllocError>
+    ensures { IfOk result (λ _. bytes.new.items ≡ bytes.old.items ++ flat_map quoted_line (map file_line_of lines.now)) }
+{
+    for line in lines {
+        push_quoted_line(alloc, bytes, line)?;
+    }
+    Ok(())
+}
+
+fn conflict_text(conflict: Conflict) -> &'static str
+    ensures { result.now ≡ conflict_text conflict }
+{
+    match conflict {
+        Conflict::NoVersion => "no version satisfies:\n",
+        Conflict::PinOutside => "a version is named and excluded:\n",
+        Conflict::TwoPins => "two versions are named:\n",
+    }
+}
+
+fn push_conflict(
+    alloc: Global,
+    bytes: &mut Vec<u8>,
+    conflict: Conflict,
+    lines: &[FileLine],
+) -> Result<(), AllocError>
+    ensures { IfOk result (λ _. bytes.new.items ≡ bytes.old.items ++ finding_text (Conflicting conflict (map file_line_of lines.now))) }
+{
+    push_first_place(alloc, bytes, lines)?;
+    push_text(bytes, conflict_text(conflict))?;
+    push_quoted_lines(alloc, bytes, lines)
+}
+
+fn push_no_requirement(
+    alloc: Global,
+    bytes: &mut Vec<u8>,
+    line: &FileLine,
+    reason: &str,
+    column: usize,
+) -> Result<(), AllocError>
+    ensures { IfOk result (λ _. bytes.new.items ≡ bytes.old.items ++ finding_text (NoRequirement (file_line_of line.now) reason.now column)) }
+{
+    push_place(alloc, bytes, line)?;
+    push_escaped(bytes, reason.as_bytes())?;
+    push_marked_line(alloc, bytes, line.text.as_slice(), column)
+}
+
+fn push_finding(alloc: Global, bytes: &mut Vec<u8>, finding: &Finding) -> Result<(), AllocError>
+    ensures { IfOk result (λ _. bytes.new.items ≡ bytes.old.items ++ finding_text (finding_of finding.now)) }
+{
+    match finding {
+        Finding::NoRequirement(line, reason, column) => {
+            push_no_requirement(alloc, bytes, line, reason.as_str(), *column)
+        }
+        Finding::Conflicting(conflict, lines) => {
+            push_conflict(alloc, bytes, *conflict, lines.as_slice())
+        }
+    }
+}
+
+fn push_findings(alloc: Global, bytes: &mut Vec<u8>, findings: &[Finding]) -> Result<(), AllocError>
+    ensures { IfOk result (λ _. bytes.new.items ≡ bytes.old.items ++ flat_map finding_text (map finding_of findings.now)) }
+{
+    for finding in findings {
+        push_finding(alloc, bytes, finding)?;
+    }
+    Ok(())
+}
+
+fn same_cause(one: Cause, other: Cause) -> bool
+    ensures { result ≡ same_cause one other }
+{
+    matches!(
+        (one, other),
+        (Cause::Editable, Cause::Editable)
+            | (Cause::PipOption, Cause::PipOption)
+            | (Cause::Variable, Cause::Variable)
+            | (Cause::Location, Cause::Location)
+            | (Cause::Url, Cause::Url)
+    )
+}
+
+fn cause_text(cause: Cause) -> &'static str
+    ensures { result.now ≡ cause_text cause }
+{
+    match cause {
+        Cause::Editable => "pyver: editable requirements left out: ",
+        Cause::PipOption => "pyver: options of pip left out: ",
+        Cause::Variable => "pyver: lines with a variable left out: ",
+        Cause::Location => "pyver: paths, archives and URLs left out: ",
+        Cause::Url => "pyver: requirements and files by URL left out: ",
+    }
+}
+
+fn count_cause(causes: &[Cause], cause: Cause) -> usize
+    ensures { result ≡ count_by (same_cause cause) causes.now }
+{
+    causes
+        .iter()
+        .filter(|other| same_cause(cause, **other))
+        .count()
+}
+
+fn push_count(
+    alloc: Global,
+    bytes: &mut Vec<u8>,
+    start: &str,
+    count: usize,
+) -> Result<(), AllocError>
+    ensures { IfOk result (λ _. bytes.new.items ≡ bytes.old.items ++ count_text start.now count) }
+{
+    push_text(bytes, start)?;
+    push_number(alloc, bytes, count as u64)?;
+    push_text(bytes, "\n")
+}
+
+fn push_left_out(
+    alloc: Global,
+    bytes: &mut Vec<u8>,
+    causes: &[Cause],
+    cause: Cause,
+) -> Result<(), AllocError>
+    ensures { IfOk result (λ _. bytes.new.items ≡ bytes.old.items ++ left_out_text causes.now cause) }
+{
+    let count = count_cause(causes, cause);
+    if count == 0 {
+        return Ok(());
+    }
+    push_count(alloc, bytes, cause_text(cause), count)
+}
+
+fn push_all_left_out(alloc: Global, bytes: &mut Vec<u8>, causes: &[Cause]) -> Result<(), AllocError>
+    ensures { IfOk result (λ _. bytes.new.items ≡ bytes.old.items ++ left_out_texts causes.now) }
+{
+    push_left_out(alloc, bytes, causes, Cause::Editable)?;
+    push_left_out(alloc, bytes, causes, Cause::PipOption)?;
+    push_left_out(alloc, bytes, causes, Cause::Variable)?;
+    push_left_out(alloc, bytes, causes, Cause::Location)?;
+    push_left_out(alloc, bytes, causes, Cause::Url)
+}
+
+impl Report {
+    /// The findings as lines: for each its file and its line and the reason, and then the line with a caret under the place at
+    /// which it is no requirement, or the lines that cannot be satisfied together. What is quoted is escaped: a byte that is not
+    /// printable ASCII is written as `\x` and two digits.
+    ///
+    /// Allocates.
+    pub fn to_text(&self, alloc: Global) -> Result<Vec<u8>, AllocError>
+        ensures { IfOk result (λ bytes. bytes.items ≡ report_text (report_of self.now)) }
+    {
+        let mut bytes = Vec::new(alloc);
+        push_findings(alloc, &mut bytes, self.findings.as_slice())?;
+        Ok(bytes)
+    }
+
+    /// How many files and lines were read, and how many lines were left out, by cause, each on a line.
+    ///
+    /// Allocates.
+    pub fn summarize(&self, alloc: Global) -> Result<Vec<u8>, AllocError>
+        ensures { IfOk result (λ bytes. bytes.items ≡ summary_text (report_of self.now)) }
+    {
+        let mut bytes = Vec::new(alloc);
+        push_count(alloc, &mut bytes, "pyver: files read: ", self.files)?;
+        push_count(alloc, &mut bytes, "pyver: lines read: ", self.lines)?;
+        push_all_left_out(alloc, &mut bytes, self.left_out.as_slice())?;
+        Ok(bytes)
+    }
+}

@@ -1,0 +1,112 @@
+//! Two hundred made files: two lines of one name among lines of every kind, and what is found follows from the two alone.
+use crate::findings::write_findings;
+use std::alloc::{AllocError, Global};
+use std::test::Fail;
+
+// Lines that are no part of a finding, each with its number of physical lines.
+const OTHERS: [(&str, u64); 16] = [
+    ("# comment\n", 1),
+    ("\n", 1),
+    ("-r other.txt\n", 1),
+    ("-c limits.txt\n", 1),
+    ("--index-url https://host/simple\n", 1),
+    ("-e .\n", 1),
+    ("./demo\n", 1),
+    ("demo-1.0-py3-none-any.whl\n", 1),
+    ("demo==${VERSION}\n", 1),
+    ("demo @ https://host/demo.zip\n", 1),
+    ("free>=1\n", 1),
+    ("# a comment does not go on \\\n", 1),
+    ("free \\\n  >=1 \\\n  # why\n", 3),
+    ("free>=1 ; python_version < \"3\"\n", 1),
+    ("  \t\n\n", 2),
+    ("free[one]<9 --hash=sha256:0a --hash=sha256:0b\n", 1),
+];
+
+// What stands before and behind a list in a line that asks for a version, and the number of physical lines.
+const FORMS: [(&str, &str, u64); 8] = [
+    ("demo", "\n", 1),
+    ("demo[one,two] ", "\n", 1),
+    ("demo ", " --hash=sha256:0a\n", 1),
+    ("demo \\\n ", "\n", 2),
+    ("demo (", ") # why\n", 1),
+    ("Demo", "\r\n", 1),
+    ("  DEMO ", " \\\n\n", 2),
+    ("demo", " ; os_name == \"a\"\n", 1),
+];
+
+// Two lists, and the word for what is found of the two.
+const PAIRS: [(&str, &str, &str); 10] = [
+    ("==1", "==2", "pins"),
+    ("==1", ">2", "outside"),
+    ("<1", "===1.5", "outside"),
+    (">=2", "<1", "none"),
+    ("~=1.4", ">=2,<3", "none"),
+    (">=1", "<3", ""),
+    ("===1", "==1.0", ""),
+    ("==2.1.0+cu118", "<=2.1.0", ""),
+    ("==1.0", "==1.0+cu1", ""),
+    ("<1.0.post1", ">=1.0", ""),
+];
+
+// A file that grows, and the number of its next line.
+#[derive(Drop)]
+struct MadeFile {
+    text: String,
+    next: u64,
+}
+
+impl MadeFile {
+    fn push_other(&mut self, number: usize) -> Result<(), AllocError> {
+        let (line, count) = OTHERS[number % 16];
+        self.text.push_str(line)?;
+        self.next += count;
+        Ok(())
+    }
+
+    // The number of the line.
+    fn push_asking(&mut self, number: usize, list: &str) -> Result<u64, AllocError> {
+        let (before, behind, count) = FORMS[number % 8];
+        self.text.push_str(before)?;
+        self.text.push_str(list)?;
+        self.text.push_str(behind)?;
+        let first = self.next;
+        self.next += count;
+        Ok(first)
+    }
+}
+
+// The file with this number, and what is found in it.
+fn make_file(alloc: Global, number: usize) -> Result<(String, String), AllocError> {
+    let (one, other, word) = PAIRS[number % 10];
+    let mark = if number % 9 == 0 { "\u{feff}" } else { "" };
+    let mut file = MadeFile {
+        text: String::from_str(alloc, mark)?,
+        next: 1,
+    };
+    file.push_other(number)?;
+    let first = file.push_asking(number / 3, one)?;
+    file.push_other(number / 2)?;
+    file.push_other(number / 5)?;
+    let second = file.push_asking(number / 7, other)?;
+    file.push_other(number / 11)?;
+    let mut want = String::new(alloc);
+    if !word.is_empty() {
+        want = format!(in alloc; "{word} {first} {second}\n")?;
+    }
+    Ok((file.text, want))
+}
+
+#[test]
+fn made_files_have_their_findings(rt: HostRuntime) -> Result<(), Fail> {
+    for number in 0..200 {
+        let (text, want) = make_file(rt.alloc(), number)?;
+        let written = write_findings(rt.alloc(), text.as_str())?;
+        assert!(rt;
+            written.as_str() == want.as_str(),
+            "{number}: {}",
+            written.as_str()
+        );
+    }
+    Ok(())
+}

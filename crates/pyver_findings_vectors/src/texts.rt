@@ -1,0 +1,109 @@
+//! Reports, and the bytes that are printed of them.
+use crate::support::{report_of, source_file};
+use pyver_findings::find_problems;
+use std::test::Fail;
+
+// Files between bars, and the report as text.
+const TEXTS: [(&str, &str); 6] = [
+    ("demo>=1\n", ""),
+    (
+        "\ndemo[a>=1\n",
+        "a.txt:2: not valid extras\n    demo[a>=1\n        ^\n",
+    ),
+    (
+        "d\u{e9}mo\n",
+        "a.txt:1: Unexpected end of version specifier, expected operator\n    d\\xc3\\xa9mo\n     ^\n",
+    ),
+    (
+        "demo>=2 # two\n|x\ndemo<1;a\n",
+        "a.txt:1: no version satisfies:\n    a.txt:1: demo>=2\n    b.txt:2: demo<1;a\n",
+    ),
+    (
+        "demo==2\ndemo<1\n",
+        "a.txt:1: a version is named and excluded:\n    a.txt:1: demo==2\n    a.txt:2: demo<1\n",
+    ),
+    (
+        "demo==2|demo===1",
+        "a.txt:1: two versions are named:\n    a.txt:1: demo==2\n    b.txt:1: demo===1\n",
+    ),
+];
+
+// The same as JSON.
+const OBJECTS: [(&str, &str); 5] = [
+    ("demo>=1\n", "[]\n"),
+    (
+        "=\"1\"\n",
+        "[{\"kind\":\"no-requirement\",\"file\":\"a.txt\",\"line\":1,\"text\":\"=\\\"1\\\"\",\"reason\":\"not a valid name\",\"column\":0}]\n",
+    ),
+    (
+        "demo==2|demo===1",
+        "[{\"kind\":\"two-pins\",\"lines\":[{\"file\":\"a.txt\",\"line\":1,\"text\":\"demo==2\"},{\"file\":\"b.txt\",\"line\":1,\"text\":\"demo===1\"}]}]\n",
+    ),
+    (
+        "demo==2,<1\na==1\na>1.5",
+        "[{\"kind\":\"no-version\",\"lines\":[{\"file\":\"a.txt\",\"line\":1,\"text\":\"demo==2,<1\"}]},{\"kind\":\"pin-outside\",\"lines\":[{\"file\":\"a.txt\",\"line\":2,\"text\":\"a==1\"},{\"file\":\"a.txt\",\"line\":3,\"text\":\"a>1.5\"}]}]\n",
+    ),
+    (
+        "d\u{e9}[",
+        "[{\"kind\":\"no-requirement\",\"file\":\"a.txt\",\"line\":1,\"text\":\"d\\\\xc3\\\\xa9[\",\"reason\":\"Unexpected end of version specifier, expected operator\",\"column\":1}]\n",
+    ),
+];
+
+// Files between bars, and the counts.
+const SUMMARIES: [(&str, &str); 4] = [
+    ("", "pyver: files read: 1\npyver: lines read: 0\n"),
+    (
+        "demo\n# why\n\n|-r other.txt\n",
+        "pyver: files read: 2\npyver: lines read: 2\n",
+    ),
+    (
+        "-e .\n--pre\ndemo==${V}\n./demo\na @ https://host/a\n",
+        "pyver: files read: 1\npyver: lines read: 5\npyver: editable requirements left out: 1\npyver: options of pip left out: 1\npyver: lines with a variable left out: 1\npyver: paths, archives and URLs left out: 1\npyver: requirements and files by URL left out: 1\n",
+    ),
+    (
+        "-r https://host/a\n-c ${A}\na.whl\nb.zip\n",
+        "pyver: files read: 1\npyver: lines read: 4\npyver: lines with a variable left out: 1\npyver: paths, archives and URLs left out: 2\npyver: requirements and files by URL left out: 1\n",
+    ),
+];
+
+#[test]
+fn reports_as_text(rt: HostRuntime) -> Result<(), Fail> {
+    for (files, want) in TEXTS {
+        let text = report_of(rt.alloc(), files)?.to_text(rt.alloc())?;
+        assert!(rt; text.as_slice() == want.as_bytes(), "{files}");
+    }
+    Ok(())
+}
+
+#[test]
+fn reports_as_json(rt: HostRuntime) -> Result<(), Fail> {
+    for (files, want) in OBJECTS {
+        let text = report_of(rt.alloc(), files)?.to_json(rt.alloc())?;
+        assert!(rt; text.as_slice() == want.as_bytes(), "{files}");
+    }
+    Ok(())
+}
+
+#[test]
+fn reports_are_counted(rt: HostRuntime) -> Result<(), Fail> {
+    for (files, want) in SUMMARIES {
+        let text = report_of(rt.alloc(), files)?.summarize(rt.alloc())?;
+        assert!(rt; text.as_slice() == want.as_bytes(), "{files}");
+    }
+    Ok(())
+}
+
+#[test]
+fn names_of_files_are_escaped(rt: HostRuntime) -> Result<(), Fail> {
+    let mut files = Vec::new(rt.alloc());
+    files.push(source_file(rt.alloc(), "a\n\"b", "=\n")?)?;
+    let report = find_problems(rt.alloc(), files.as_slice())?;
+    let text = report.to_text(rt.alloc())?;
+    let want = "a\\x0a\"b:1: not a valid name\n    =\n    ^\n";
+    assert!(rt; text.as_slice() == want.as_bytes(), "as text");
+    let json = report.to_json(rt.alloc())?;
+    let want =
+        "[{\"kind\":\"no-requirement\",\"file\":\"a\\\\x0a\\\"b\",\"line\":1,\"text\":\"=\",\"reason\":\"not a valid name\",\"column\":0}]\n";
+    assert!(rt; json.as_slice() == want.as_bytes(), "as JSON");
+    Ok(())
+}
