@@ -1,4 +1,4 @@
--- Lines that have no version in common: some of them are reported together.
+-- Lines that have no version in common_cover: some of them are reported together.
 use Rattle.std.proofs.Common.{arith, ◌≡◌, ◌==◌, ◌<◌, ◌⊎◌, ◌∙◌, ℕ, List, [], ◌∷◌, ◌++◌, ◌&&◌, ◌||◌, Bool, true, false, Option, Some, None, bytes_eq, get_or, is_none, length, map, refl, sym, ap, subst, inl, inr, suc, zero, if◌then◌else◌}
 use Rattle.std.proofs.lemmas.Bool.{true≢false}
 use Rattle.std.proofs.lemmas.List.Concat.{flat_map-append}
@@ -7,8 +7,8 @@ use Rattle.std.proofs.lemmas.Slice.Eq.{bytes_eq-Decides}
 use Rattle.std.proofs.lemmas.List.Elements.{All-append, All-cons, All-contains_itself, All-filter, All-head, All-nil, All-tail}
 use Rattle.std.specs.List.{All, Any, Contains, filter, flat_map, list_any}
 use Rattle.pep440_pick.specs.Names.{normal}
-use Rattle.pyver_findings.specs.Asked.{Asked}
-use Rattle.pyver_findings.specs.Conflicts.{common, conflicts, counts_under, excludes, firsts, is_empty, of_all, of_few, of_markers, of_name, of_one, of_pairs, of_two, pin_conflict, same_marked, same_marker, same_named, under}
+use Rattle.pyver_findings.specs.Demands.{Demand}
+use Rattle.pyver_findings.specs.Conflicts.{common_cover, conflicts, counts_under, excludes, first_mentions, is_empty, of_all, of_few, of_markers, of_name, of_one, of_pairs, of_two, pin_conflict, same_marked, same_marker, same_named, under}
 use Rattle.pyver_findings.specs.FileLines.{FileLine}
 use Rattle.pyver_findings.specs.FindingLaws.{ConflictsAreFound, IsAmong}
 use Rattle.pyver_findings.specs.Findings.{Conflicting, Finding}
@@ -50,75 +50,75 @@ first_is P (f ∷ fs) some all = inl (All-head P f fs all)
 
 module _ (lines : List FileLine) where
   -- the line is one of these
-  abbrev pub IsOne : Asked → Type 0
+  abbrev pub IsOne : Demand → Type 0
   IsOne a = Contains lines a.line
 
   where_true : (b : Bool) (f : Finding) → IsAmong lines f → All (IsAmong lines) (if b then f ∷ [] else [])
   where_true true f among = All-cons (IsAmong lines) f [] among (All-nil (IsAmong lines))
   where_true false f among = All-nil (IsAmong lines)
 
-  one_among : (a : Asked) → IsOne a → All (IsAmong lines) (of_one a)
+  one_among : (a : Demand) → IsOne a → All (IsAmong lines) (of_one a)
   one_among a one = where_true (is_empty a.cover) (Conflicting NoVersion (a.line ∷ [])) (All-cons (Contains lines) a.line [] one (All-nil (Contains lines)))
 
-  two_among : (a b : Asked) → IsOne a → IsOne b → All (IsAmong lines) (of_two a b)
+  two_among : (a b : Demand) → IsOne a → IsOne b → All (IsAmong lines) (of_two a b)
   two_among a b one other =
       where_true (excludes a b) (Conflicting (pin_conflict a b) (a.line ∷ b.line ∷ [])) (All-cons (Contains lines) a.line (b.line ∷ []) one (All-cons (Contains lines) b.line [] other (All-nil (Contains lines))))
 
-  each_among : (f : Asked → List Finding) → ((a : Asked) → IsOne a → All (IsAmong lines) (f a)) → (some : List Asked) → All IsOne some → All (IsAmong lines) (flat_map f some)
+  each_among : (f : Demand → List Finding) → ((a : Demand) → IsOne a → All (IsAmong lines) (f a)) → (some : List Demand) → All IsOne some → All (IsAmong lines) (flat_map f some)
   each_among f among [] k = All-nil (IsAmong lines)
   each_among f among (a ∷ some) k = All-append (IsAmong lines) (f a) (flat_map f some) (among a (All-head IsOne a some k)) (each_among f among some (All-tail IsOne a some k))
 
-  pairs_among : (some : List Asked) → All IsOne some → All (IsAmong lines) (of_pairs some)
+  pairs_among : (some : List Demand) → All IsOne some → All (IsAmong lines) (of_pairs some)
   pairs_among [] k = All-nil (IsAmong lines)
   pairs_among (a ∷ rest) k =
       let one = All-head IsOne a rest k in
       let others = All-tail IsOne a rest k in
       All-append (IsAmong lines) (flat_map (of_two a) rest) (of_pairs rest) (each_among (of_two a) (λ b other. two_among a b one other) rest others) (pairs_among rest others)
 
-  few_among : (some : List Asked) → All IsOne some → All (IsAmong lines) (of_few some)
+  few_among : (some : List Demand) → All IsOne some → All (IsAmong lines) (of_few some)
   few_among some k = All-append (IsAmong lines) (flat_map of_one some) (of_pairs some) (each_among of_one one_among some k) (pairs_among some k)
 
-  mapped : (some : List Asked) → All IsOne some → All (Contains lines) (map (λ (a : Asked). a.line) some)
+  mapped : (some : List Demand) → All IsOne some → All (Contains lines) (map (λ (a : Demand). a.line) some)
   mapped [] k = All-nil (Contains lines)
-  mapped (a ∷ some) k = All-cons (Contains lines) a.line (map (λ (b : Asked). b.line) some) (All-head IsOne a some k) (mapped some (All-tail IsOne a some k))
+  mapped (a ∷ some) k = All-cons (Contains lines) a.line (map (λ (b : Demand). b.line) some) (All-head IsOne a some k) (mapped some (All-tail IsOne a some k))
 
-  unmapped : (some : List Asked) → All (Contains lines) (map (λ (a : Asked). a.line) some) → All IsOne some
+  unmapped : (some : List Demand) → All (Contains lines) (map (λ (a : Demand). a.line) some) → All IsOne some
   unmapped [] k = All-nil IsOne
-  unmapped (a ∷ some) k = All-cons IsOne a some (All-head (Contains lines) a.line (map (λ (b : Asked). b.line) some) k) (unmapped some (All-tail (Contains lines) a.line (map (λ (b : Asked). b.line) some) k))
+  unmapped (a ∷ some) k = All-cons IsOne a some (All-head (Contains lines) a.line (map (λ (b : Demand). b.line) some) k) (unmapped some (All-tail (Contains lines) a.line (map (λ (b : Demand). b.line) some) k))
 
-  -- lines with nothing in common are reported, or some of them are
-  by_few : (some : List Asked) → All IsOne some → (b : Bool) → (length (of_few some) == 0) ≡ b
-      → Some_is (IsAmong lines) (if true && b then Conflicting NoVersion (map (λ (a : Asked). a.line) some) ∷ [] else []) ⊎ Some_is (IsAmong lines) (of_few some)
+  -- lines with nothing in common_cover are reported, or some of them are
+  by_few : (some : List Demand) → All IsOne some → (b : Bool) → (length (of_few some) == 0) ≡ b
+      → Some_is (IsAmong lines) (if true && b then Conflicting NoVersion (map (λ (a : Demand). a.line) some) ∷ [] else []) ⊎ Some_is (IsAmong lines) (of_few some)
   by_few some k true is = inl (inl (mapped some k))
   by_few some k false is = inr (first_is (IsAmong lines) (of_few some) is (few_among some k))
 
-  all_or_few : (some : List Asked) → All IsOne some → is_empty (common some) ≡ true → Some_is (IsAmong lines) (of_all some) ⊎ Some_is (IsAmong lines) (of_few some)
+  all_or_few : (some : List Demand) → All IsOne some → is_empty (common_cover some) ≡ true → Some_is (IsAmong lines) (of_all some) ⊎ Some_is (IsAmong lines) (of_few some)
   all_or_few some k empty =
-      subst (λ e. Some_is (IsAmong lines) (if e && (length (of_few some) == 0) then Conflicting NoVersion (map (λ (a : Asked). a.line) some) ∷ [] else []) ⊎ Some_is (IsAmong lines) (of_few some)) (sym empty)
+      subst (λ e. Some_is (IsAmong lines) (if e && (length (of_few some) == 0) then Conflicting NoVersion (map (λ (a : Demand). a.line) some) ∷ [] else []) ⊎ Some_is (IsAmong lines) (of_few some)) (sym empty)
       (by_few some k (length (of_few some) == 0) refl)
 
 -- ---- what is found of some of the lines is found of all
 
-module _ (P : Finding → Type 0) (p : Asked → Bool) where
-  one_kept : (b : Bool) (f : Asked → List Finding) (a : Asked) (lines : List Asked) → (Some_is P (flat_map f (filter p lines)) → Some_is P (flat_map f lines))
+module _ (P : Finding → Type 0) (p : Demand → Bool) where
+  one_kept : (b : Bool) (f : Demand → List Finding) (a : Demand) (lines : List Demand) → (Some_is P (flat_map f (filter p lines)) → Some_is P (flat_map f lines))
       → Some_is P (flat_map f (if b then a ∷ filter p lines else filter p lines)) → Some_is P (f a ++ flat_map f lines)
   one_kept true f a lines others h = in_either P (f a) (flat_map f (filter p lines)) (f a) (flat_map f lines) (λ q. q) others h
   one_kept false f a lines others h = in_right P (f a) (flat_map f lines) (others h)
 
-  each_kept : (f : Asked → List Finding) (lines : List Asked) → Some_is P (flat_map f (filter p lines)) → Some_is P (flat_map f lines)
+  each_kept : (f : Demand → List Finding) (lines : List Demand) → Some_is P (flat_map f (filter p lines)) → Some_is P (flat_map f lines)
   each_kept f [] h = h
   each_kept f (a ∷ lines) h = one_kept (p a) f a lines (each_kept f lines) h
 
-  pair_kept : (b : Bool) (a : Asked) (lines : List Asked) → (Some_is P (of_pairs (filter p lines)) → Some_is P (of_pairs lines))
+  pair_kept : (b : Bool) (a : Demand) (lines : List Demand) → (Some_is P (of_pairs (filter p lines)) → Some_is P (of_pairs lines))
       → Some_is P (of_pairs (if b then a ∷ filter p lines else filter p lines)) → Some_is P (flat_map (of_two a) lines ++ of_pairs lines)
   pair_kept true a lines others h = in_either P (flat_map (of_two a) (filter p lines)) (of_pairs (filter p lines)) (flat_map (of_two a) lines) (of_pairs lines) (each_kept (of_two a) lines) others h
   pair_kept false a lines others h = in_right P (flat_map (of_two a) lines) (of_pairs lines) (others h)
 
-  pairs_kept : (lines : List Asked) → Some_is P (of_pairs (filter p lines)) → Some_is P (of_pairs lines)
+  pairs_kept : (lines : List Demand) → Some_is P (of_pairs (filter p lines)) → Some_is P (of_pairs lines)
   pairs_kept [] h = h
   pairs_kept (a ∷ lines) h = pair_kept (p a) a lines (pairs_kept lines) h
 
-  few_kept : (lines : List Asked) → Some_is P (of_few (filter p lines)) → Some_is P (of_few lines)
+  few_kept : (lines : List Demand) → Some_is P (of_few (filter p lines)) → Some_is P (of_few lines)
   few_kept lines h = in_either P (flat_map of_one (filter p lines)) (of_pairs (filter p lines)) (flat_map of_one lines) (of_pairs lines) (each_kept of_one lines) (pairs_kept lines) h
 
 -- ---- first mentions
@@ -135,19 +135,19 @@ right_false : (a b : Bool) → (a || b) ≡ false → b ≡ false
 right_false true b e = absurd (true≢false e)
 right_false false b e = e
 
-module _ {K : Type 0} (key : Asked → K) where
+module _ {K : Type 0} (key : Demand → K) where
   -- some line has this key
-  abbrev pub HasKey : K → List Asked → Type 0
+  abbrev pub HasKey : K → List Demand → Type 0
   HasKey k [] = ⊥
   HasKey k (x ∷ rest) = (key x ≡ k) ⊎ HasKey k rest
 
-  contains_key : (a : Asked) (lines : List Asked) (k : ℕ) → k < length lines → get_or lines k a ≡ a → HasKey (key a) lines
+  contains_key : (a : Demand) (lines : List Demand) (k : ℕ) → k < length lines → get_or lines k a ≡ a → HasKey (key a) lines
   contains_key a [] k inside is = absurd (omega arith)
   contains_key a (x ∷ lines) zero inside is = inl (ap key is)
   contains_key a (x ∷ lines) (suc k) inside is = inr (contains_key a lines k (omega arith) is)
 
-  module _ (same : Asked → Asked → Bool) (keyed : (a b : Asked) → same a b ≡ true → key a ≡ key b) (alike : (a b : Asked) → key a ≡ key b → same a b ≡ true) where
-    none_before : (a x : Asked) → key x ≡ key a → (before : List Asked) → list_any (same a) before ≡ false → list_any (same x) before ≡ false
+  module _ (same : Demand → Demand → Bool) (keyed : (a b : Demand) → same a b ≡ true → key a ≡ key b) (alike : (a b : Demand) → key a ≡ key b → same a b ≡ true) where
+    none_before : (a x : Demand) → key x ≡ key a → (before : List Demand) → list_any (same a) before ≡ false → list_any (same x) before ≡ false
     none_before a x k [] none = refl
     none_before a x k (y ∷ before) none =
         let here = left_false (same a y) (list_any (same a) before) none in
@@ -155,35 +155,35 @@ module _ {K : Type 0} (key : Asked → K) where
         let others : list_any (same x) before ≡ false = none_before a x k before (right_false (same a y) (list_any (same a) before) none) in
         (λ j. apart j || others j)
 
-    module _ (P : Finding → Type 0) (F : Asked → List Finding) (a : Asked) (found : (b : Asked) → key b ≡ key a → Some_is P (F b)) where
-      joined : (one rest : List Asked) → Some_is P (flat_map F one ++ flat_map F rest) → Some_is P (flat_map F (one ++ rest))
+    module _ (P : Finding → Type 0) (F : Demand → List Finding) (a : Demand) (found : (b : Demand) → key b ≡ key a → Some_is P (F b)) where
+      joined : (one rest : List Demand) → Some_is P (flat_map F one ++ flat_map F rest) → Some_is P (flat_map F (one ++ rest))
       joined one rest h = subst (Some_is P) (sym (flat_map-append F one rest)) h
 
-      here_is : (x : Asked) (before rest : List Asked) → key x ≡ key a → list_any (same a) before ≡ false → Some_is P (flat_map F ((if list_any (same x) before then [] else x ∷ []) ++ rest))
+      here_is : (x : Demand) (before rest : List Demand) → key x ≡ key a → list_any (same a) before ≡ false → Some_is P (flat_map F ((if list_any (same x) before then [] else x ∷ []) ++ rest))
       here_is x before rest k none =
           subst (λ b. Some_is P (flat_map F ((if b then [] else x ∷ []) ++ rest))) (sym (none_before a x k before none))
           (joined (x ∷ []) rest (in_left P (F x ++ []) (flat_map F rest) (in_left P (F x) [] (found x k))))
 
-      reach_by : (b : Bool) (x : Asked) (before rest : List Asked) → same a x ≡ b → list_any (same a) before ≡ false → (key x ≡ key a) ⊎ HasKey (key a) rest
-          → (list_any (same a) (before ++ x ∷ []) ≡ false → HasKey (key a) rest → Some_is P (flat_map F (firsts same (before ++ x ∷ []) rest)))
-          → Some_is P (flat_map F ((if list_any (same x) before then [] else x ∷ []) ++ firsts same (before ++ x ∷ []) rest))
-      reach_by true x before rest is none has later = here_is x before (firsts same (before ++ x ∷ []) rest) (sym (keyed a x is)) none
+      reach_by : (b : Bool) (x : Demand) (before rest : List Demand) → same a x ≡ b → list_any (same a) before ≡ false → (key x ≡ key a) ⊎ HasKey (key a) rest
+          → (list_any (same a) (before ++ x ∷ []) ≡ false → HasKey (key a) rest → Some_is P (flat_map F (first_mentions same (before ++ x ∷ []) rest)))
+          → Some_is P (flat_map F ((if list_any (same x) before then [] else x ∷ []) ++ first_mentions same (before ++ x ∷ []) rest))
+      reach_by true x before rest is none has later = here_is x before (first_mentions same (before ++ x ∷ []) rest) (sym (keyed a x is)) none
       reach_by false x before rest is none (inl k) later = absurd (true≢false (sym (alike a x (sym k)) ∙ is))
       reach_by false x before rest is none (inr has) later =
-          joined (if list_any (same x) before then [] else x ∷ []) (firsts same (before ++ x ∷ []) rest)
-          (in_right P (flat_map F (if list_any (same x) before then [] else x ∷ [])) (flat_map F (firsts same (before ++ x ∷ []) rest))
+          joined (if list_any (same x) before then [] else x ∷ []) (first_mentions same (before ++ x ∷ []) rest)
+          (in_right P (flat_map F (if list_any (same x) before then [] else x ∷ [])) (flat_map F (first_mentions same (before ++ x ∷ []) rest))
           (later (list_any-append (same a) before (x ∷ []) ∙ (λ j. none j || (is j || false))) has))
 
-      pub reach : (before lines : List Asked) → list_any (same a) before ≡ false → HasKey (key a) lines → Some_is P (flat_map F (firsts same before lines))
+      pub reach : (before lines : List Demand) → list_any (same a) before ≡ false → HasKey (key a) lines → Some_is P (flat_map F (first_mentions same before lines))
       reach before [] none has = absurd has
       reach before (x ∷ rest) none has = reach_by (same a x) x before rest refl none has (λ more left. reach (before ++ x ∷ []) rest more left)
 
 -- ---- names and markers
 
-name_yes : (a b : Asked) → same_named a b ≡ true → normal a.name ≡ normal b.name
+name_yes : (a b : Demand) → same_named a b ≡ true → normal a.name ≡ normal b.name
 name_yes a b e = (bytes_eq-Decides (normal a.name) (normal b.name)).0 e
 
-name_alike : (a b : Asked) → normal a.name ≡ normal b.name → same_named a b ≡ true
+name_alike : (a b : Demand) → normal a.name ≡ normal b.name → same_named a b ≡ true
 name_alike a b e = (bytes_eq-Decides (normal a.name) (normal b.name)).1 e
 
 marker_yes : (m n : Option (List ℕ)) → same_marker m n ≡ true → m ≡ n
@@ -213,7 +213,7 @@ agree None m = inr refl
 agree (Some n) m = elim (agree_by (bytes_eq n m) n m refl) [ inl e ↦ inl (ap Some e) | inr e ↦ inr e ]
 
 -- some line has the marker, or only lines without one count under it
-marked : (m : List ℕ) (lines : List Asked) → ((a : Asked) × HasKey (λ (x : Asked). x.marker) a.marker lines × (a.marker ≡ Some m)) ⊎ (under (Some m) lines ≡ under None lines)
+marked : (m : List ℕ) (lines : List Demand) → ((a : Demand) × HasKey (λ (x : Demand). x.marker) a.marker lines × (a.marker ≡ Some m)) ⊎ (under (Some m) lines ≡ under None lines)
 marked m [] = inr refl
 marked m (x ∷ rest) =
     elim (agree x.marker m) [
@@ -224,69 +224,69 @@ marked m (x ∷ rest) =
       ]
     ]
 
-sub_by : (Q : Asked → Type 0) (p q : Asked → Bool) (a b : Bool) (x : Asked) (rest : List Asked) → (a ≡ true → b ≡ true) → (All Q (filter q rest) → All Q (filter p rest)) → All Q (if b then x ∷ filter q rest else filter q rest)
+sub_by : (Q : Demand → Type 0) (p q : Demand → Bool) (a b : Bool) (x : Demand) (rest : List Demand) → (a ≡ true → b ≡ true) → (All Q (filter q rest) → All Q (filter p rest)) → All Q (if b then x ∷ filter q rest else filter q rest)
     → All Q (if a then x ∷ filter p rest else filter p rest)
 sub_by Q p q true true x rest so others k = All-cons Q x (filter p rest) (All-head Q x (filter q rest) k) (others (All-tail Q x (filter q rest) k))
 sub_by Q p q true false x rest so others k = absurd (true≢false (sym (so refl)))
 sub_by Q p q false true x rest so others k = others (All-tail Q x (filter q rest) k)
 sub_by Q p q false false x rest so others k = others k
 
-all_sub : (Q : Asked → Type 0) (p q : Asked → Bool) → ((x : Asked) → p x ≡ true → q x ≡ true) → (lines : List Asked) → All Q (filter q lines) → All Q (filter p lines)
+all_sub : (Q : Demand → Type 0) (p q : Demand → Bool) → ((x : Demand) → p x ≡ true → q x ≡ true) → (lines : List Demand) → All Q (filter q lines) → All Q (filter p lines)
 all_sub Q p q so [] k = k
 all_sub Q p q so (x ∷ rest) k = sub_by Q p q (p x) (q x) x rest (so x) (all_sub Q p q so rest) k
 
 -- ---- all together
 
-module _ (lines : List Asked) (marker : Option (List ℕ)) where
+module _ (lines : List Demand) (marker : Option (List ℕ)) where
   -- a finding of some of the lines under the marker
   abbrev pub Fits : Finding → Type 0
-  Fits = IsAmong (map (λ (a : Asked). a.line) (under marker lines))
+  Fits = IsAmong (map (λ (a : Demand). a.line) (under marker lines))
 
-  all_ones : All (IsOne (map (λ (a : Asked). a.line) (under marker lines))) (under marker lines)
-  all_ones = unmapped (map (λ (a : Asked). a.line) (under marker lines)) (under marker lines) (All-contains_itself (map (λ (a : Asked). a.line) (under marker lines)))
+  all_ones : All (IsOne (map (λ (a : Demand). a.line) (under marker lines))) (under marker lines)
+  all_ones = unmapped (map (λ (a : Demand). a.line) (under marker lines)) (under marker lines) (All-contains_itself (map (λ (a : Demand). a.line) (under marker lines)))
 
-  -- the lines without a marker have nothing in common
-  by_none : is_empty (common (under None lines)) ≡ true → Some_is Fits (of_few lines ++ of_all (under None lines))
+  -- the lines without a marker have nothing in common_cover
+  by_none : is_empty (common_cover (under None lines)) ≡ true → Some_is Fits (of_few lines ++ of_all (under None lines))
   by_none e =
-      elim (all_or_few (map (λ (a : Asked). a.line) (under marker lines)) (under None lines)
-      (all_sub (IsOne (map (λ (a : Asked). a.line) (under marker lines))) (counts_under None) (counts_under marker) (λ x. none_counts x.marker marker) lines all_ones) e) [
+      elim (all_or_few (map (λ (a : Demand). a.line) (under marker lines)) (under None lines)
+      (all_sub (IsOne (map (λ (a : Demand). a.line) (under marker lines))) (counts_under None) (counts_under marker) (λ x. none_counts x.marker marker) lines all_ones) e) [
         | inl r ↦ in_right Fits (of_few lines) (of_all (under None lines)) r
         | inr r ↦ in_left Fits (of_few lines) (of_all (under None lines)) (few_kept Fits (counts_under None) lines r)
       ]
 
   -- a line has the marker
-  by_line : is_empty (common (under marker lines)) ≡ true → (a : Asked) → HasKey (λ (x : Asked). x.marker) a.marker lines → a.marker ≡ marker
-      → Some_is Fits (of_few lines ++ flat_map (λ (b : Asked). of_all (under b.marker lines)) (firsts same_marked [] lines))
+  by_line : is_empty (common_cover (under marker lines)) ≡ true → (a : Demand) → HasKey (λ (x : Demand). x.marker) a.marker lines → a.marker ≡ marker
+      → Some_is Fits (of_few lines ++ flat_map (λ (b : Demand). of_all (under b.marker lines)) (first_mentions same_marked [] lines))
   by_line none a has is =
-      let each = flat_map (λ (b : Asked). of_all (under b.marker lines)) (firsts same_marked [] lines) in
-      elim (all_or_few (map (λ (b : Asked). b.line) (under marker lines)) (under marker lines) all_ones none) [
+      let each = flat_map (λ (b : Demand). of_all (under b.marker lines)) (first_mentions same_marked [] lines) in
+      elim (all_or_few (map (λ (b : Demand). b.line) (under marker lines)) (under marker lines) all_ones none) [
         | inl r ↦ in_right Fits (of_few lines) each
-            (reach (λ (x : Asked). x.marker) same_marked (λ x y. marker_yes x.marker y.marker) (λ x y. marker_alike x.marker y.marker) Fits (λ (b : Asked). of_all (under b.marker lines)) a
+            (reach (λ (x : Demand). x.marker) same_marked (λ x y. marker_yes x.marker y.marker) (λ x y. marker_alike x.marker y.marker) Fits (λ (b : Demand). of_all (under b.marker lines)) a
             (λ b e. subst (λ n. Some_is Fits (of_all (under n lines))) (sym (e ∙ is)) r) [] lines refl has)
         | inr r ↦ in_left Fits (of_few lines) each (few_kept Fits (counts_under marker) lines r)
       ]
 
-by_marker : (lines : List Asked) (marker : Option (List ℕ)) → is_empty (common (under marker lines)) ≡ true → is_empty (common (under None lines)) ≡ false
-    → Some_is (Fits lines marker) (of_few lines ++ flat_map (λ (b : Asked). of_all (under b.marker lines)) (firsts same_marked [] lines))
+by_marker : (lines : List Demand) (marker : Option (List ℕ)) → is_empty (common_cover (under marker lines)) ≡ true → is_empty (common_cover (under None lines)) ≡ false
+    → Some_is (Fits lines marker) (of_few lines ++ flat_map (λ (b : Demand). of_all (under b.marker lines)) (first_mentions same_marked [] lines))
 by_marker lines None none e = absurd (true≢false (sym none ∙ e))
 by_marker lines (Some m) none e =
     elim (marked m lines) [
       | inl r ↦ by_line lines (Some m) none r.0 r.1 r.2
-      | inr same ↦ absurd (true≢false (sym none ∙ ap (λ u. is_empty (common u)) same ∙ e))
+      | inr same ↦ absurd (true≢false (sym none ∙ ap (λ u. is_empty (common_cover u)) same ∙ e))
     ]
 
-by_both : (lines : List Asked) (marker : Option (List ℕ)) (b : Bool) → is_empty (common (under marker lines)) ≡ true → is_empty (common (under None lines)) ≡ b
-    → Some_is (Fits lines marker) (of_few lines ++ (if b then of_all (under None lines) else flat_map (λ (a : Asked). of_all (under a.marker lines)) (firsts same_marked [] lines)))
+by_both : (lines : List Demand) (marker : Option (List ℕ)) (b : Bool) → is_empty (common_cover (under marker lines)) ≡ true → is_empty (common_cover (under None lines)) ≡ b
+    → Some_is (Fits lines marker) (of_few lines ++ (if b then of_all (under None lines) else flat_map (λ (a : Demand). of_all (under a.marker lines)) (first_mentions same_marked [] lines)))
 by_both lines marker true none e = by_none lines marker e
 by_both lines marker false none e = by_marker lines marker none e
 
-in_name : (lines : List Asked) (marker : Option (List ℕ)) → common (under marker lines) ≡ [] → Some_is (Fits lines marker) (of_name lines)
-in_name lines marker none = by_both lines marker (is_empty (common (under None lines))) (ap is_empty none) refl
+in_name : (lines : List Demand) (marker : Option (List ℕ)) → common_cover (under marker lines) ≡ [] → Some_is (Fits lines marker) (of_name lines)
+in_name lines marker none = by_both lines marker (is_empty (common_cover (under None lines))) (ap is_empty none) refl
 
 pub conflicts_are_found : ConflictsAreFound
 conflicts_are_found lines a marker (k, inside, is) none =
     let P = Fits (filter (same_named a) lines) marker in
     any_is P (conflicts lines)
-    (reach (λ (x : Asked). normal x.name) same_named name_yes name_alike P (λ (b : Asked). of_name (filter (same_named b) lines)) a
-    (λ b e. subst (λ n. Some_is P (of_name (filter (λ (c : Asked). bytes_eq n (normal c.name)) lines))) (sym e) (in_name (filter (same_named a) lines) marker none)) [] lines refl
-    (contains_key (λ (x : Asked). normal x.name) a lines k inside is))
+    (reach (λ (x : Demand). normal x.name) same_named name_yes name_alike P (λ (b : Demand). of_name (filter (same_named b) lines)) a
+    (λ b e. subst (λ n. Some_is P (of_name (filter (λ (c : Demand). bytes_eq n (normal c.name)) lines))) (sym e) (in_name (filter (same_named a) lines) marker none)) [] lines refl
+    (contains_key (λ (x : Demand). normal x.name) a lines k inside is))

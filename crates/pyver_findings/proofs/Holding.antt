@@ -16,13 +16,13 @@ use Rattle.pep440_rs.specs.Matching.{list_matches}
 use Rattle.pep440_version.specs.Key.{record_cmp}
 use Rattle.pep440_version.specs.KeyLaws.{record_total}
 use Rattle.pep440_version.specs.Record.{Record}
-use Rattle.pyver_findings.specs.Asked.{Asked, asked, or_all}
-use Rattle.pyver_findings.specs.Conflicts.{common, conflicts, counts_under, excludes, firsts, is_apart, is_empty, meets, of_all, of_few, of_markers, of_name, of_one, of_pairs, of_two, pin_conflict, same_marked, same_named, under}
+use Rattle.pyver_findings.specs.Demands.{Demand, line_demand, or_all}
+use Rattle.pyver_findings.specs.Conflicts.{common_cover, conflicts, counts_under, excludes, first_mentions, pin_is_apart, is_empty, meets, of_all, of_few, of_markers, of_name, of_one, of_pairs, of_two, pin_conflict, same_marked, same_named, under}
 use Rattle.pyver_findings.specs.FileLines.{File, FileLine, all_lines}
-use Rattle.pyver_findings.specs.FindingLaws.{AllowsVersion, FindingsHold, IsRight}
+use Rattle.pyver_findings.specs.FindingLaws.{LineAllows, FindingsHold, IsRight}
 use Rattle.pyver_findings.specs.Findings.{Conflicting, Finding, NoRequirement}
-use Rattle.pyver_findings.specs.LineReadings.{IsNone, LeftOut, LineReading, NamesFile, ReadsKind, ReadsLine, counted, has_scheme, names_file, with_marker, with_url}
-use Rattle.pyver_findings.specs.Reports.{IsReport, Report, asked_in, found_in, invalid_in}
+use Rattle.pyver_findings.specs.LineMeanings.{IsNone, LeftOut, LineMeaning, NamesFile, IsKindMeaning, IsMeaning, requirement_meaning, has_scheme, names_file, with_marker, with_url}
+use Rattle.pyver_findings.specs.Reports.{IsReport, Report, demands_in, found_in, invalid_in}
 use Rattle.pyver_findings.specs.declared.cause.Cause.TheVariants as cause
 use Rattle.pyver_findings.specs.declared.finding.Conflict.TheVariants.{NoVersion}
 use Rattle.pyver_requirements.specs.LineKinds.{ConstraintsFile, Editable, LineKind, Location, PipOption, Requirement, RequirementsFile, Variable, has_variable, line_kind}
@@ -31,43 +31,43 @@ use Rattle.pyver_requirements.specs.LineParts.{LineParts, line_parts}
 -- ---- the cover of what a line asks for
 
 -- the cover holds every version that the line allows
-abbrev pub IsCovered : Asked → Type 0
-IsCovered a = (v : Record) → IsDenoted v → AllowsVersion v a.line → contains record_cmp a.cover v ≡ true
+abbrev pub IsCovered : Demand → Type 0
+IsCovered a = (v : Record) → IsDenoted v → LineAllows v a.line → contains record_cmp a.cover v ≡ true
 
 list_covered : (text : List ℕ) (n : Needed) → DerivesRequirement text n → (o : Option Segments) → list_range cover_of n.specifiers ≡ o → (v : Record) → IsDenoted v → IsTrue (list_matches n.specifiers v) → contains record_cmp (or_all o) v ≡ true
 list_covered text n d None is v denoted holds = refl
 list_covered text n d (Some cover) is v denoted holds = list_text_covers n.specifiers cover is (list_has_texts d.0 n.specifiers d.2) v denoted holds
 
-asked_covered : (l : FileLine) (marker : Option (List ℕ)) (n : Needed) → DerivesRequirement (line_parts l.text).requirement n → IsCovered (asked l marker n)
-asked_covered l marker n d v denoted (m, dm, hm) =
+demand_covered : (l : FileLine) (marker : Option (List ℕ)) (n : Needed) → DerivesRequirement (line_parts l.text).requirement n → IsCovered (line_demand l marker n)
+demand_covered l marker n d v denoted (m, dm, hm) =
     list_covered (line_parts l.text).requirement n d (list_range cover_of n.specifiers) refl v denoted
     (subst (λ (q : Needed). IsTrue (list_matches q.specifiers v)) (one_requirement (line_parts l.text).requirement m n dm d) hm)
 
 -- ---- what lines ask for
 
-of_file : (a b : Bool) → All IsCovered (asked_in (if a then LeftOut cause.Variable else (if b then LeftOut cause.Url else NamesFile)))
+of_file : (a b : Bool) → All IsCovered (demands_in (if a then LeftOut cause.Variable else (if b then LeftOut cause.Url else NamesFile)))
 of_file true b = All-nil IsCovered
 of_file false true = All-nil IsCovered
 of_file false false = All-nil IsCovered
 
-of_specifiers : (b : Bool) (f : Finding) → All IsCovered (asked_in (if b then LeftOut cause.Url else IsNone f))
+of_specifiers : (b : Bool) (f : Finding) → All IsCovered (demands_in (if b then LeftOut cause.Url else IsNone f))
 of_specifiers true f = All-nil IsCovered
 of_specifiers false f = All-nil IsCovered
 
-of_url : (l : FileLine) (n : Needed) → DerivesRequirement (line_parts l.text).requirement n → (url : Option (List ℕ)) → All IsCovered (asked_in (with_url l (line_parts l.text) n url))
-of_url l n d None = All-cons IsCovered (asked l (line_parts l.text).marker n) [] (asked_covered l (line_parts l.text).marker n d) (All-nil IsCovered)
+of_url : (l : FileLine) (n : Needed) → DerivesRequirement (line_parts l.text).requirement n → (url : Option (List ℕ)) → All IsCovered (demands_in (with_url l (line_parts l.text) n url))
+of_url l n d None = All-cons IsCovered (line_demand l (line_parts l.text).marker n) [] (demand_covered l (line_parts l.text).marker n d) (All-nil IsCovered)
 of_url l n d (Some []) = All-nil IsCovered
 of_url l n d (Some (b ∷ url)) = of_specifiers (length n.specifiers == 0) _
 
-of_marker : (l : FileLine) (n : Needed) → DerivesRequirement (line_parts l.text).requirement n → (marker : Option (List ℕ)) → All IsCovered (asked_in (with_marker l (line_parts l.text) n marker))
+of_marker : (l : FileLine) (n : Needed) → DerivesRequirement (line_parts l.text).requirement n → (marker : Option (List ℕ)) → All IsCovered (demands_in (with_marker l (line_parts l.text) n marker))
 of_marker l n d None = of_url l n d (line_parts l.text).url
 of_marker l n d (Some []) = All-nil IsCovered
 of_marker l n d (Some (b ∷ marker)) = of_url l n d (line_parts l.text).url
 
-same_reading : (x y : LineReading) → x ≡ y → All IsCovered (asked_in y) → All IsCovered (asked_in x)
-same_reading x y is k = subst (λ (z : LineReading). All IsCovered (asked_in z)) (sym is) k
+same_reading : (x y : LineMeaning) → x ≡ y → All IsCovered (demands_in y) → All IsCovered (demands_in x)
+same_reading x y is k = subst (λ (z : LineMeaning). All IsCovered (demands_in z)) (sym is) k
 
-of_kind : (l : FileLine) (kind : LineKind) (x : LineReading) → ReadsKind l kind x → All IsCovered (asked_in x)
+of_kind : (l : FileLine) (kind : LineKind) (x : LineMeaning) → IsKindMeaning l kind x → All IsCovered (demands_in x)
 of_kind l (RequirementsFile path) x is = same_reading x (names_file path) is (of_file (has_variable path) (has_scheme path))
 of_kind l (ConstraintsFile path) x is = same_reading x (names_file path) is (of_file (has_variable path) (has_scheme path))
 of_kind l Editable x is = same_reading x _ is (All-nil IsCovered)
@@ -75,14 +75,14 @@ of_kind l PipOption x is = same_reading x _ is (All-nil IsCovered)
 of_kind l Variable x is = same_reading x _ is (All-nil IsCovered)
 of_kind l Location x is = same_reading x _ is (All-nil IsCovered)
 of_kind l Requirement x (inl (not_text, is)) = same_reading x _ is (All-nil IsCovered)
-of_kind l Requirement x (inr (text, inl (n, d, is))) = same_reading x (counted l (line_parts l.text) n) is (of_marker l n d (line_parts l.text).marker)
+of_kind l Requirement x (inr (text, inl (n, d, is))) = same_reading x (requirement_meaning l (line_parts l.text) n) is (of_marker l n d (line_parts l.text).marker)
 of_kind l Requirement x (inr (text, inr (f, r, is))) = same_reading x _ is (All-nil IsCovered)
 
-all_covered : (lines : List FileLine) (xs : List LineReading) → AllZip ReadsLine lines xs → All IsCovered (flat_map asked_in xs)
+all_covered : (lines : List FileLine) (xs : List LineMeaning) → AllZip IsMeaning lines xs → All IsCovered (flat_map demands_in xs)
 all_covered [] [] h = All-nil IsCovered
 all_covered [] (x ∷ xs) h = absurd h
 all_covered (l ∷ lines) [] h = absurd h
-all_covered (l ∷ lines) (x ∷ xs) h = All-append IsCovered (asked_in x) (flat_map asked_in xs) (of_kind l (line_kind l.text) x h.0) (all_covered lines xs h.1)
+all_covered (l ∷ lines) (x ∷ xs) h = All-append IsCovered (demands_in x) (flat_map demands_in xs) (of_kind l (line_kind l.text) x h.0) (all_covered lines xs h.1)
 
 -- ---- one line, and two
 
@@ -106,54 +106,54 @@ where_true : (b : Bool) (f : Finding) → (b ≡ true → IsRight f) → All IsR
 where_true true f right = All-cons IsRight f [] (right refl) (All-nil IsRight)
 where_true false f right = All-nil IsRight
 
-one_right : (a : Asked) → IsCovered a → All IsRight (of_one a)
-one_right a k = where_true (is_empty a.cover) (Conflicting NoVersion (a.line ∷ [])) (λ e v denoted all. holds_none a.cover v e (k v denoted (All-head (AllowsVersion v) a.line [] all)))
+one_right : (a : Demand) → IsCovered a → All IsRight (of_one a)
+one_right a k = where_true (is_empty a.cover) (Conflicting NoVersion (a.line ∷ [])) (λ e v denoted all. holds_none a.cover v e (k v denoted (All-head (LineAllows v) a.line [] all)))
 
 both_hold : (a b : Segments) (v : Record) → contains record_cmp a v ≡ true → contains record_cmp b v ≡ true → contains record_cmp (overlaps record_cmp a b) v ≡ true
 both_hold a b v one other = overlaps_hold_both record_total a b v ∙ (λ j. one j && other j)
 
-two_right : (a b : Asked) → IsCovered a → IsCovered b → All IsRight (of_two a b)
+two_right : (a b : Demand) → IsCovered a → IsCovered b → All IsRight (of_two a b)
 two_right a b one other =
     where_true (excludes a b) (Conflicting (pin_conflict a b) (a.line ∷ b.line ∷ [])) (λ e v denoted all.
-    let apart : is_apart a b ≡ true = right_of (not (is_empty a.cover) && not (is_empty b.cover)) (is_apart a b) (right_of (meets a b) _ e) in
+    let apart : pin_is_apart a b ≡ true = right_of (not (is_empty a.cover) && not (is_empty b.cover)) (pin_is_apart a b) (right_of (meets a b) _ e) in
     let empty : is_empty (overlaps record_cmp a.cover b.cover) ≡ true = right_of (a.pinned || b.pinned) _ apart in
     holds_none (overlaps record_cmp a.cover b.cover) v empty
-    (both_hold a.cover b.cover v (one v denoted (All-head (AllowsVersion v) a.line (b.line ∷ []) all))
-    (other v denoted (All-head (AllowsVersion v) b.line [] (All-tail (AllowsVersion v) a.line (b.line ∷ []) all)))))
+    (both_hold a.cover b.cover v (one v denoted (All-head (LineAllows v) a.line (b.line ∷ []) all))
+    (other v denoted (All-head (LineAllows v) b.line [] (All-tail (LineAllows v) a.line (b.line ∷ []) all)))))
 
-each_right : (f : Asked → List Finding) → ((a : Asked) → IsCovered a → All IsRight (f a)) → (lines : List Asked) → All IsCovered lines → All IsRight (flat_map f lines)
+each_right : (f : Demand → List Finding) → ((a : Demand) → IsCovered a → All IsRight (f a)) → (lines : List Demand) → All IsCovered lines → All IsRight (flat_map f lines)
 each_right f right [] k = All-nil IsRight
 each_right f right (a ∷ lines) k = All-append IsRight (f a) (flat_map f lines) (right a (All-head IsCovered a lines k)) (each_right f right lines (All-tail IsCovered a lines k))
 
-pairs_right : (lines : List Asked) → All IsCovered lines → All IsRight (of_pairs lines)
+pairs_right : (lines : List Demand) → All IsCovered lines → All IsRight (of_pairs lines)
 pairs_right [] k = All-nil IsRight
 pairs_right (a ∷ rest) k =
     let one = All-head IsCovered a rest k in
     let others = All-tail IsCovered a rest k in
     All-append IsRight (flat_map (of_two a) rest) (of_pairs rest) (each_right (of_two a) (λ b other. two_right a b one other) rest others) (pairs_right rest others)
 
-few_right : (lines : List Asked) → All IsCovered lines → All IsRight (of_few lines)
+few_right : (lines : List Demand) → All IsCovered lines → All IsRight (of_few lines)
 few_right lines k = All-append IsRight (flat_map of_one lines) (of_pairs lines) (each_right of_one one_right lines k) (pairs_right lines k)
 
 -- ---- lines that count together
 
-all_hold : (v : Record) → IsDenoted v → (cover : Segments) (lines : List Asked) → contains record_cmp cover v ≡ true → All IsCovered lines → All (AllowsVersion v) (map (λ (a : Asked). a.line) lines)
-    → contains record_cmp (fold (λ c (a : Asked). overlaps record_cmp c a.cover) cover lines) v ≡ true
+all_hold : (v : Record) → IsDenoted v → (cover : Segments) (lines : List Demand) → contains record_cmp cover v ≡ true → All IsCovered lines → All (LineAllows v) (map (λ (a : Demand). a.line) lines)
+    → contains record_cmp (fold (λ c (a : Demand). overlaps record_cmp c a.cover) cover lines) v ≡ true
 all_hold v denoted cover [] holds k all = holds
 all_hold v denoted cover (a ∷ lines) holds k all =
     all_hold v denoted (overlaps record_cmp cover a.cover) lines
-    (both_hold cover a.cover v holds (All-head IsCovered a lines k v denoted (All-head (AllowsVersion v) a.line (map (λ (b : Asked). b.line) lines) all)))
-    (All-tail IsCovered a lines k) (All-tail (AllowsVersion v) a.line (map (λ (b : Asked). b.line) lines) all)
+    (both_hold cover a.cover v holds (All-head IsCovered a lines k v denoted (All-head (LineAllows v) a.line (map (λ (b : Demand). b.line) lines) all)))
+    (All-tail IsCovered a lines k) (All-tail (LineAllows v) a.line (map (λ (b : Demand). b.line) lines) all)
 
-all_right : (lines : List Asked) → All IsCovered lines → All IsRight (of_all lines)
+all_right : (lines : List Demand) → All IsCovered lines → All IsRight (of_all lines)
 all_right lines k =
-    where_true (is_empty (common lines) && (length (of_few lines) == 0)) (Conflicting NoVersion (map (λ (a : Asked). a.line) lines)) (λ e v denoted all.
-    holds_none (common lines) v (left_of (is_empty (common lines)) _ e) (all_hold v denoted full lines refl k all))
+    where_true (is_empty (common_cover lines) && (length (of_few lines) == 0)) (Conflicting NoVersion (map (λ (a : Demand). a.line) lines)) (λ e v denoted all.
+    holds_none (common_cover lines) v (left_of (is_empty (common_cover lines)) _ e) (all_hold v denoted full lines refl k all))
 
-under_right : (marker : Option (List ℕ)) (lines : List Asked) → All IsCovered lines → All IsRight (of_all (under marker lines))
+under_right : (marker : Option (List ℕ)) (lines : List Demand) → All IsCovered lines → All IsRight (of_all (under marker lines))
 under_right marker lines k = all_right (under marker lines) (All-filter (counts_under marker) IsCovered lines k)
 
-any_right : (f : Asked → List Finding) → ((a : Asked) → All IsRight (f a)) → (lines : List Asked) → All IsRight (flat_map f lines)
+any_right : (f : Demand → List Finding) → ((a : Demand) → All IsRight (f a)) → (lines : List Demand) → All IsRight (flat_map f lines)
 any_right f right [] = All-nil IsRight
 any_right f right (a ∷ lines) = All-append IsRight (f a) (flat_map f lines) (right a) (any_right f right lines)
 
@@ -161,17 +161,17 @@ by_empty : (b : Bool) (one other : List Finding) → All IsRight one → All IsR
 by_empty true one other right also = right
 by_empty false one other right also = also
 
-markers_right : (lines : List Asked) → All IsCovered lines → All IsRight (of_markers lines)
+markers_right : (lines : List Demand) → All IsCovered lines → All IsRight (of_markers lines)
 markers_right lines k =
-    by_empty (is_empty (common (under None lines))) _ _ (under_right None lines k)
-    (any_right (λ (a : Asked). of_all (under a.marker lines)) (λ a. under_right a.marker lines k) (firsts same_marked [] lines))
+    by_empty (is_empty (common_cover (under None lines))) _ _ (under_right None lines k)
+    (any_right (λ (a : Demand). of_all (under a.marker lines)) (λ a. under_right a.marker lines k) (first_mentions same_marked [] lines))
 
-name_right : (lines : List Asked) → All IsCovered lines → All IsRight (of_name lines)
+name_right : (lines : List Demand) → All IsCovered lines → All IsRight (of_name lines)
 name_right lines k = All-append IsRight (of_few lines) (of_markers lines) (few_right lines k) (markers_right lines k)
 
-conflicts_right : (lines : List Asked) → All IsCovered lines → All IsRight (conflicts lines)
+conflicts_right : (lines : List Demand) → All IsCovered lines → All IsRight (conflicts lines)
 conflicts_right lines k =
-    any_right (λ (a : Asked). of_name (filter (same_named a) lines)) (λ a. name_right (filter (same_named a) lines) (All-filter (same_named a) IsCovered lines k)) (firsts same_named [] lines)
+    any_right (λ (a : Demand). of_name (filter (same_named a) lines)) (λ a. name_right (filter (same_named a) lines) (All-filter (same_named a) IsCovered lines k)) (first_mentions same_named [] lines)
 
 -- ---- all findings
 
@@ -197,10 +197,10 @@ none_of_marker l p n None = none_of_url l p n p.url
 none_of_marker l p n (Some []) = one_invalid l _ _
 none_of_marker l p n (Some (b ∷ marker)) = none_of_url l p n p.url
 
-same_invalid : (x y : LineReading) → x ≡ y → All IsRight (invalid_in y) → All IsRight (invalid_in x)
-same_invalid x y is k = subst (λ (z : LineReading). All IsRight (invalid_in z)) (sym is) k
+same_invalid : (x y : LineMeaning) → x ≡ y → All IsRight (invalid_in y) → All IsRight (invalid_in x)
+same_invalid x y is k = subst (λ (z : LineMeaning). All IsRight (invalid_in z)) (sym is) k
 
-invalid_of_kind : (l : FileLine) (kind : LineKind) (x : LineReading) → ReadsKind l kind x → All IsRight (invalid_in x)
+invalid_of_kind : (l : FileLine) (kind : LineKind) (x : LineMeaning) → IsKindMeaning l kind x → All IsRight (invalid_in x)
 invalid_of_kind l (RequirementsFile path) x is = same_invalid x (names_file path) is (none_of_file (has_variable path) (has_scheme path))
 invalid_of_kind l (ConstraintsFile path) x is = same_invalid x (names_file path) is (none_of_file (has_variable path) (has_scheme path))
 invalid_of_kind l Editable x is = same_invalid x _ is (All-nil IsRight)
@@ -208,10 +208,10 @@ invalid_of_kind l PipOption x is = same_invalid x _ is (All-nil IsRight)
 invalid_of_kind l Variable x is = same_invalid x _ is (All-nil IsRight)
 invalid_of_kind l Location x is = same_invalid x _ is (All-nil IsRight)
 invalid_of_kind l Requirement x (inl (not_text, is)) = same_invalid x _ is (one_invalid l _ _)
-invalid_of_kind l Requirement x (inr (text, inl (n, d, is))) = same_invalid x (counted l (line_parts l.text) n) is (none_of_marker l (line_parts l.text) n (line_parts l.text).marker)
+invalid_of_kind l Requirement x (inr (text, inl (n, d, is))) = same_invalid x (requirement_meaning l (line_parts l.text) n) is (none_of_marker l (line_parts l.text) n (line_parts l.text).marker)
 invalid_of_kind l Requirement x (inr (text, inr (f, r, is))) = same_invalid x _ is (one_invalid l _ _)
 
-invalid_right : (lines : List FileLine) (xs : List LineReading) → AllZip ReadsLine lines xs → All IsRight (flat_map invalid_in xs)
+invalid_right : (lines : List FileLine) (xs : List LineMeaning) → AllZip IsMeaning lines xs → All IsRight (flat_map invalid_in xs)
 invalid_right [] [] h = All-nil IsRight
 invalid_right [] (x ∷ xs) h = absurd h
 invalid_right (l ∷ lines) [] h = absurd h
@@ -220,4 +220,4 @@ invalid_right (l ∷ lines) (x ∷ xs) h = All-append IsRight (invalid_in x) (fl
 pub findings_hold : FindingsHold
 findings_hold files r (xs, h, is) =
     subst (λ (q : Report). All IsRight q.findings) (sym is)
-    (All-append IsRight (flat_map invalid_in xs) (conflicts (flat_map asked_in xs)) (invalid_right (all_lines files) xs h) (conflicts_right (flat_map asked_in xs) (all_covered (all_lines files) xs h)))
+    (All-append IsRight (flat_map invalid_in xs) (conflicts (flat_map demands_in xs)) (invalid_right (all_lines files) xs h) (conflicts_right (flat_map demands_in xs) (all_covered (all_lines files) xs h)))

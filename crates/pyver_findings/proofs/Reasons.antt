@@ -16,10 +16,10 @@ use Rattle.pep440_rs.specs.SpecifierGrammar.{SpecifierRefusal}
 use Rattle.pep440_rs.specs.declared.list.error.SpecifiersErrorKind.{SpecifiersErrorKind}
 use Rattle.pep440_rs.specs.declared.list.error.SpecifiersErrorKind.TheVariants as list
 use Rattle.pyver_findings.specs.FileLines.{FileLine}
-use Rattle.pyver_findings.specs.LineReadings.{ReadsParts, refused, requirement_reason}
-use Rattle.pyver_findings.specs.ReadingViews.{lacks_memory, piece_text_of, reason_text_of}
-use Rattle.pyver_findings.specs.Views.{line_reading_of}
-use Rattle.pyver_findings.specs.declared.line_reading.LineReading.{LineReading}
+use Rattle.pyver_findings.specs.LineMeanings.{IsPartsMeaning, refusal_meaning, requirement_reason}
+use Rattle.pyver_findings.specs.ReadingViews.{is_memory_error, piece_text_of, reason_text_of}
+use Rattle.pyver_findings.specs.Views.{line_meaning_of}
+use Rattle.pyver_findings.specs.declared.line_meaning.LineMeaning.{LineMeaning}
 use Rattle.pyver_requirements.specs.LineParts.{LineParts}
 use Rattle.std.specs.Str.{IsUtf8}
 use Rattle.std.specs.declared.alloc.AllocError.{AllocError}
@@ -61,13 +61,13 @@ reason_is (error.Specifiers e) f s is text so = of_list (list_kind_of e) (line_o
 reason_is error.OutOfMemory f s is text so = cc is
 
 -- the refusal of an error that is not 'out of memory'
-pub refusal_in : (o : Option RequirementRefusal) (e : RequirementError) → lacks_memory e ≡ false → (o ≡ None → e ≡ error.OutOfMemory) → (f : RequirementRefusal) × (o ≡ Some f)
-refusal_in None e lacks lifted = let full : lacks_memory e ≡ true = ap lacks_memory (lifted refl) in cc (full, lacks)
+pub refusal_in : (o : Option RequirementRefusal) (e : RequirementError) → is_memory_error e ≡ false → (o ≡ None → e ≡ error.OutOfMemory) → (f : RequirementRefusal) × (o ≡ Some f)
+refusal_in None e lacks lifted = let full : is_memory_error e ≡ true = ap is_memory_error (lifted refl) in cc (full, lacks)
 refusal_in (Some f) e lacks lifted = (f, refl)
 
 -- the line of an error is none for its reason
-pub error_read : (result : Result LineReading AllocError) (l : FileLine) (p : LineParts) (e : RequirementError) → IsUtf8 p.requirement → IfSome (requirement_refusal_of e) (RefusesRequirement p.requirement)
-    → IfOk result (λ x. (f : RequirementRefusal) × (requirement_refusal_of e ≡ Some f) × (line_reading_of x ≡ refused l p f)) → IfOk result (λ x. ReadsParts l p (line_reading_of x))
+pub error_read : (result : Result LineMeaning AllocError) (l : FileLine) (p : LineParts) (e : RequirementError) → IsUtf8 p.requirement → IfSome (requirement_refusal_of e) (RefusesRequirement p.requirement)
+    → IfOk result (λ x. (f : RequirementRefusal) × (requirement_refusal_of e ≡ Some f) × (line_meaning_of x ≡ refusal_meaning l p f)) → IfOk result (λ x. IsPartsMeaning l p (line_meaning_of x))
 error_read result l p e text why read =
-    IfOk-weaker result (λ x. (f : RequirementRefusal) × (requirement_refusal_of e ≡ Some f) × (line_reading_of x ≡ refused l p f)) (λ x. ReadsParts l p (line_reading_of x))
+    IfOk-weaker result (λ x. (f : RequirementRefusal) × (requirement_refusal_of e ≡ Some f) × (line_meaning_of x ≡ refusal_meaning l p f)) (λ x. IsPartsMeaning l p (line_meaning_of x))
     (λ x r. inr (text, inr (r.0, subst (λ o. IfSome o (RefusesRequirement p.requirement)) r.1 why, r.2))) read

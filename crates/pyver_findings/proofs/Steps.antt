@@ -3,8 +3,8 @@ use Rattle.std.proofs.Common.{◌≡◌, ◌+◌, ◌<◌, ◌≤◌, ◌∙◌,
 use Rattle.std.proofs.lemmas.List.{append-nil, append_assoc, drop_all, drop_more, map-append, take_more}
 use Rattle.std.proofs.lemmas.List.Concat.{flat_map-append}
 use Rattle.std.specs.List.{flat_map, list_any}
-use Rattle.pyver_findings.specs.Asked.{Asked}
-use Rattle.pyver_findings.specs.Conflicts.{firsts}
+use Rattle.pyver_findings.specs.Demands.{Demand}
+use Rattle.pyver_findings.specs.Conflicts.{first_mentions}
 
 -- the rest of a list at an element
 pub rest_at : {X : Type 0} (xs : List X) (i : ℕ) (x : X) → i < length xs → x ≡ get_or xs i x → drop i xs ≡ x ∷ drop (i + 1) xs
@@ -24,31 +24,31 @@ all_made view f xs i old total end so = sym (append-nil old) ∙ ap (λ r. old +
 -- ---- first mentions
 
 -- what is made of an element, if none before is the same
-abbrev pub made_first : {B : Type 0} → (Asked → Asked → Bool) → (Asked → List B) → List Asked → Asked → List B
+abbrev pub made_first : {B : Type 0} → (Demand → Demand → Bool) → (Demand → List B) → List Demand → Demand → List B
 made_first same f before a = if list_any (same a) before then [] else f a
 
-made_is : {B : Type 0} (b : Bool) (f : Asked → List B) (a : Asked) → flat_map f (if b then [] else a ∷ []) ≡ (if b then [] else f a)
+made_is : {B : Type 0} (b : Bool) (f : Demand → List B) (a : Demand) → flat_map f (if b then [] else a ∷ []) ≡ (if b then [] else f a)
 made_is true f a = refl
 made_is false f a = append-nil (f a)
 
 -- one element more, which is a first mention or none
-pub first_more : {X B : Type 0} (view : X → Asked) (same : Asked → Asked → Bool) (f : Asked → List B) (xs : List X) (i : ℕ) (x : X) (old new total : List B) → i < length xs → x ≡ get_or xs i x
-    → new ≡ old ++ made_first same f (map view (take i xs)) (view x) → old ++ flat_map f (firsts same (map view (take i xs)) (map view (drop i xs))) ≡ total
-    → new ++ flat_map f (firsts same (map view (take (i + 1) xs)) (map view (drop (i + 1) xs))) ≡ total
+pub first_more : {X B : Type 0} (view : X → Demand) (same : Demand → Demand → Bool) (f : Demand → List B) (xs : List X) (i : ℕ) (x : X) (old new total : List B) → i < length xs → x ≡ get_or xs i x
+    → new ≡ old ++ made_first same f (map view (take i xs)) (view x) → old ++ flat_map f (first_mentions same (map view (take i xs)) (map view (drop i xs))) ≡ total
+    → new ++ flat_map f (first_mentions same (map view (take (i + 1) xs)) (map view (drop (i + 1) xs))) ≡ total
 first_more view same f xs i x old new total inside is more so =
     let before = map view (take i xs) in
     let after = map view (drop (i + 1) xs) in
     let taken : map view (take (i + 1) xs) ≡ before ++ view x ∷ [] = ap (map view) (take_more xs i x inside ∙ ap (λ y. take i xs ++ y ∷ []) (sym is)) ∙ map-append view (take i xs) (x ∷ []) in
     let one = if list_any (same (view x)) before then [] else view x ∷ [] in
-    let rest = firsts same (before ++ view x ∷ []) after in
+    let rest = first_mentions same (before ++ view x ∷ []) after in
     let split : flat_map f (one ++ rest) ≡ made_first same f before (view x) ++ flat_map f rest = flat_map-append f one rest ∙ ap (λ m. m ++ flat_map f rest) (made_is (list_any (same (view x)) before) f (view x)) in
-    (λ j. more j ++ flat_map f (firsts same (taken j) after)) ∙ append_assoc old (made_first same f before (view x)) (flat_map f rest) ∙ ap (λ r. old ++ r) (sym split)
-    ∙ ap (λ r. old ++ flat_map f (firsts same before (map view r))) (sym (rest_at xs i x inside is)) ∙ so
+    (λ j. more j ++ flat_map f (first_mentions same (taken j) after)) ∙ append_assoc old (made_first same f before (view x)) (flat_map f rest) ∙ ap (λ r. old ++ r) (sym split)
+    ∙ ap (λ r. old ++ flat_map f (first_mentions same before (map view r))) (sym (rest_at xs i x inside is)) ∙ so
 
 -- what is made of all first mentions
-pub all_firsts : {X B : Type 0} (view : X → Asked) (same : Asked → Asked → Bool) (f : Asked → List B) (xs : List X) (i : ℕ) (old total : List B) → length xs ≤ i
-    → old ++ flat_map f (firsts same (map view (take i xs)) (map view (drop i xs))) ≡ total → old ≡ total
-all_firsts view same f xs i old total end so = sym (append-nil old) ∙ ap (λ r. old ++ flat_map f (firsts same (map view (take i xs)) (map view r))) (sym (drop_all i xs end)) ∙ so
+pub all_firsts : {X B : Type 0} (view : X → Demand) (same : Demand → Demand → Bool) (f : Demand → List B) (xs : List X) (i : ℕ) (old total : List B) → length xs ≤ i
+    → old ++ flat_map f (first_mentions same (map view (take i xs)) (map view (drop i xs))) ≡ total → old ≡ total
+all_firsts view same f xs i old total end so = sym (append-nil old) ∙ ap (λ r. old ++ flat_map f (first_mentions same (map view (take i xs)) (map view r))) (sym (drop_all i xs end)) ∙ so
 
 -- one blank more
 pub blanks_more : (xs : List ℕ) (i : ℕ) (old new total : List ℕ) → i < length xs → new ≡ old ++ 32 ∷ [] → old ++ map (λ _. 32) (drop i xs) ≡ total → new ++ map (λ _. 32) (drop (i + 1) xs) ≡ total

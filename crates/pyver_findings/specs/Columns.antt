@@ -24,14 +24,14 @@ abbrev pub in_parenthesis : List ℕ → List ℕ
 in_parenthesis text = if opens 40 text then past is_ascii_whitespace (drop 1 text) else text
 
 -- what stands from the list of specifiers on
-abbrev pub list_part : List ℕ → List ℕ
-list_part text = in_parenthesis (behind_front text)
+abbrev pub from_list : List ℕ → List ℕ
+from_list text = in_parenthesis (behind_front text)
 
 -- what stands from the place on at which the requirement is invalid: the extras, the parenthesis, or the invalid specifier
 abbrev pub rest_at : List ℕ → RequirementRefusal → List ℕ
 rest_at text InvalidExtras = behind_name text
 rest_at text Unclosed = behind_front text
-rest_at text (Specifiers list f) = past is_ascii_whitespace (drop f.start (list_part text))
+rest_at text (Specifiers list f) = past is_ascii_whitespace (drop f.start (from_list text))
 rest_at text _ = text
 
 -- the column of that place, in bytes from 0

@@ -6,7 +6,7 @@ use Rattle.pep440_pick.specs.Names.{same_name}
 use Rattle.pep440_ranges.specs.Intersection.{overlaps}
 use Rattle.pep440_rs.specs.Bounds.{Segments, full}
 use Rattle.pep440_version.specs.Key.{record_cmp}
-use Rattle.pyver_findings.specs.Asked.{Asked}
+use Rattle.pyver_findings.specs.Demands.{Demand}
 use Rattle.pyver_findings.specs.Findings.{Conflicting, Finding}
 use Rattle.pyver_findings.specs.declared.finding.Conflict.{Conflict}
 use Rattle.pyver_findings.specs.declared.finding.Conflict.TheVariants.{NoVersion, PinOutside, TwoPins}
@@ -14,7 +14,7 @@ use Rattle.pyver_findings.specs.declared.finding.Conflict.TheVariants.{NoVersion
 -- ---- which lines count together
 
 -- the two lines have one name
-abbrev pub same_named : Asked → Asked → Bool
+abbrev pub same_named : Demand → Demand → Bool
 same_named a b = same_name a.name b.name
 
 -- both markers are the same bytes, or there is neither
@@ -25,21 +25,21 @@ same_marker (Some a) None = false
 same_marker (Some a) (Some b) = bytes_eq a b
 
 -- the two lines have the same marker
-abbrev pub same_marked : Asked → Asked → Bool
+abbrev pub same_marked : Demand → Demand → Bool
 same_marked a b = same_marker a.marker b.marker
 
 -- the line counts under the marker: it has none, or this one
-abbrev pub counts_under : Option (List ℕ) → Asked → Bool
+abbrev pub counts_under : Option (List ℕ) → Demand → Bool
 counts_under marker a = is_none a.marker || same_marker a.marker marker
 
 -- two lines of one name count together
-abbrev pub meets : Asked → Asked → Bool
+abbrev pub meets : Demand → Demand → Bool
 meets a b = is_none b.marker || counts_under b.marker a
 
 -- the lines before which no other is the same, behind those
-abbrev pub firsts : (Asked → Asked → Bool) → List Asked → List Asked → List Asked
-firsts same before [] = []
-firsts same before (a ∷ rest) = (if list_any (same a) before then [] else a ∷ []) ++ firsts same (before ++ a ∷ []) rest
+abbrev pub first_mentions : (Demand → Demand → Bool) → List Demand → List Demand → List Demand
+first_mentions same before [] = []
+first_mentions same before (a ∷ rest) = (if list_any (same a) before then [] else a ∷ []) ++ first_mentions same (before ++ a ∷ []) rest
 
 -- ---- one line, and two
 
@@ -47,58 +47,58 @@ abbrev pub is_empty : Segments → Bool
 is_empty segments = length segments == 0
 
 -- no version can satisfy the line
-abbrev pub of_one : Asked → List Finding
+abbrev pub of_one : Demand → List Finding
 of_one a = if is_empty a.cover then Conflicting NoVersion (a.line ∷ []) ∷ [] else []
 
 -- one of the lines names a version, and their covers are apart
-abbrev pub is_apart : Asked → Asked → Bool
-is_apart a b = (a.pinned || b.pinned) && is_empty (overlaps record_cmp a.cover b.cover)
+abbrev pub pin_is_apart : Demand → Demand → Bool
+pin_is_apart a b = (a.pinned || b.pinned) && is_empty (overlaps record_cmp a.cover b.cover)
 
 -- each of the lines can be satisfied, and not both, since one names a version
-abbrev pub excludes : Asked → Asked → Bool
-excludes a b = meets a b && ((not (is_empty a.cover) && not (is_empty b.cover)) && is_apart a b)
+abbrev pub excludes : Demand → Demand → Bool
+excludes a b = meets a b && ((not (is_empty a.cover) && not (is_empty b.cover)) && pin_is_apart a b)
 
 -- both lines name a version, or one does
-abbrev pub pin_conflict : Asked → Asked → Conflict
+abbrev pub pin_conflict : Demand → Demand → Conflict
 pin_conflict a b = if a.pinned && b.pinned then TwoPins else PinOutside
 
-abbrev pub of_two : Asked → Asked → List Finding
+abbrev pub of_two : Demand → Demand → List Finding
 of_two a b = if excludes a b then Conflicting (pin_conflict a b) (a.line ∷ b.line ∷ []) ∷ [] else []
 
 -- of each line and each that follows it
-abbrev pub of_pairs : List Asked → List Finding
+abbrev pub of_pairs : List Demand → List Finding
 of_pairs [] = []
 of_pairs (a ∷ rest) = flat_map (of_two a) rest ++ of_pairs rest
 
 -- what one line or two explain
-abbrev pub of_few : List Asked → List Finding
+abbrev pub of_few : List Demand → List Finding
 of_few lines = flat_map of_one lines ++ of_pairs lines
 
 -- ---- lines that count together
 
 -- the intersection of the covers
-abbrev pub common : List Asked → Segments
-common lines = fold (λ cover (a : Asked). overlaps record_cmp cover a.cover) full lines
+abbrev pub common_cover : List Demand → Segments
+common_cover lines = fold (λ cover (a : Demand). overlaps record_cmp cover a.cover) full lines
 
 -- the intersection is empty, and neither one line nor two explain it
-abbrev pub of_all : List Asked → List Finding
-of_all lines = if is_empty (common lines) && (length (of_few lines) == 0) then Conflicting NoVersion (map (λ (a : Asked). a.line) lines) ∷ [] else []
+abbrev pub of_all : List Demand → List Finding
+of_all lines = if is_empty (common_cover lines) && (length (of_few lines) == 0) then Conflicting NoVersion (map (λ (a : Demand). a.line) lines) ∷ [] else []
 
 -- the lines without a marker, and those with this one
-abbrev pub under : Option (List ℕ) → List Asked → List Asked
+abbrev pub under : Option (List ℕ) → List Demand → List Demand
 under marker lines = filter (counts_under marker) lines
 
 -- the lines without a marker decide where their intersection is empty, and otherwise those of each marker
-abbrev pub of_markers : List Asked → List Finding
-of_markers lines = if is_empty (common (under None lines)) then of_all (under None lines)
-    else flat_map (λ (a : Asked). of_all (under a.marker lines)) (firsts same_marked [] lines)
+abbrev pub of_markers : List Demand → List Finding
+of_markers lines = if is_empty (common_cover (under None lines)) then of_all (under None lines)
+    else flat_map (λ (a : Demand). of_all (under a.marker lines)) (first_mentions same_marked [] lines)
 
 -- of all lines of one name
-abbrev pub of_name : List Asked → List Finding
+abbrev pub of_name : List Demand → List Finding
 of_name lines = of_few lines ++ of_markers lines
 
 -- ---- all names
 
 -- of each name, in the order in which they are first mentioned
-abbrev pub conflicts : List Asked → List Finding
-conflicts lines = flat_map (λ (a : Asked). of_name (filter (same_named a) lines)) (firsts same_named [] lines)
+abbrev pub conflicts : List Demand → List Finding
+conflicts lines = flat_map (λ (a : Demand). of_name (filter (same_named a) lines)) (first_mentions same_named [] lines)

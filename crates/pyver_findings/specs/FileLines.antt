@@ -15,13 +15,13 @@ pub record FileLine : Type 0 where
   pub text : List ℕ
 
 -- a line of the file with this name
-abbrev pub line_of : List ℕ → Line → FileLine
-line_of file l = record { file = file; number = l.number; text = l.text }
+abbrev pub file_line : List ℕ → Line → FileLine
+file_line file l = record { file = file; number = l.number; text = l.text }
 
 -- the lines of a file
-abbrev pub lines_of : File → List FileLine
-lines_of f = map (line_of f.name) (logical_lines f.text)
+abbrev pub file_lines : File → List FileLine
+file_lines f = map (file_line f.name) (logical_lines f.text)
 
 -- the lines of all files
 abbrev pub all_lines : List File → List FileLine
-all_lines files = flat_map lines_of files
+all_lines files = flat_map file_lines files

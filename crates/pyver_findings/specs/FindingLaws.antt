@@ -1,4 +1,4 @@
--- What holds of findings: lines that are reported together cannot be satisfied, and those that have no version in common are
+-- What holds of findings: lines that are reported together cannot be satisfied, and those that have no version in common_cover are
 -- reported.
 use Rattle.std.specs.Prelude.{◌≡◌, ℕ, List, [], IsTrue, Option, map}
 use Rattle.std.specs.List.{All, Any, Contains, filter}
@@ -6,22 +6,22 @@ use Rattle.pep440_pick.specs.RequirementGrammar.{DerivesRequirement, Needed}
 use Rattle.pep440_rs.specs.Cover.{IsDenoted}
 use Rattle.pep440_rs.specs.Matching.{list_matches}
 use Rattle.pep440_version.specs.Record.{Record}
-use Rattle.pyver_findings.specs.Asked.{Asked}
-use Rattle.pyver_findings.specs.Conflicts.{common, conflicts, same_named, under}
+use Rattle.pyver_findings.specs.Demands.{Demand}
+use Rattle.pyver_findings.specs.Conflicts.{common_cover, conflicts, same_named, under}
 use Rattle.pyver_findings.specs.FileLines.{File, FileLine}
 use Rattle.pyver_findings.specs.Findings.{Conflicting, Finding, NoRequirement}
-use Rattle.pyver_findings.specs.LineReadings.{LineReading}
+use Rattle.pyver_findings.specs.LineMeanings.{LineMeaning}
 use Rattle.pyver_findings.specs.Reports.{IsReport, Report}
 use Rattle.pyver_requirements.specs.LineParts.{line_parts}
 
 -- the line is a requirement whose list contains the version
-abbrev pub AllowsVersion : Record → FileLine → Type 0
-AllowsVersion v l = (n : Needed) × DerivesRequirement (line_parts l.text).requirement n × IsTrue (list_matches n.specifiers v)
+abbrev pub LineAllows : Record → FileLine → Type 0
+LineAllows v l = (n : Needed) × DerivesRequirement (line_parts l.text).requirement n × IsTrue (list_matches n.specifiers v)
 
 -- of lines that are reported together, no version is allowed by all
 abbrev pub IsRight : Finding → Type 0
 IsRight (NoRequirement l reason column) = Unit {0}
-IsRight (Conflicting conflict lines) = (v : Record) → IsDenoted v → ¬ All (AllowsVersion v) lines
+IsRight (Conflicting conflict lines) = (v : Record) → IsDenoted v → ¬ All (LineAllows v) lines
 
 -- each finding of a report is right
 abbrev pub FindingsHold : Type 0
@@ -32,7 +32,7 @@ abbrev pub IsAmong : List FileLine → Finding → Type 0
 IsAmong lines (NoRequirement l reason column) = ⊥
 IsAmong lines (Conflicting conflict reported) = All (Contains lines) reported
 
--- where the covers of the lines of a name that count under a marker have nothing in common, some of these lines are reported together
+-- where the covers of the lines of a name that count under a marker have nothing in common_cover, some of these lines are reported together
 abbrev pub ConflictsAreFound : Type 0
-ConflictsAreFound = (lines : List Asked) (a : Asked) (marker : Option (List ℕ)) → Contains lines a → common (under marker (filter (same_named a) lines)) ≡ []
-    → Any (IsAmong (map (λ (b : Asked). b.line) (under marker (filter (same_named a) lines)))) (conflicts lines)
+ConflictsAreFound = (lines : List Demand) (a : Demand) (marker : Option (List ℕ)) → Contains lines a → common_cover (under marker (filter (same_named a) lines)) ≡ []
+    → Any (IsAmong (map (λ (b : Demand). b.line) (under marker (filter (same_named a) lines)))) (conflicts lines)

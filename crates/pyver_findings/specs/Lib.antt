@@ -1,7 +1,7 @@
 pub mod FileLines
-pub mod Asked
+pub mod Demands
 pub mod Columns
-pub mod LineReadings
+pub mod LineMeanings
 pub mod Findings
 pub mod Conflicts
 pub mod Reports

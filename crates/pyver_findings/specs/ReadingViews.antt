@@ -11,9 +11,9 @@ use Rattle.pep440_rs.specs.ListAnswers.{list_kind_of}
 use Rattle.pep440_rs.specs.declared.list.error.SpecifiersErrorKind.{SpecifiersErrorKind}
 use Rattle.pep440_rs.specs.declared.list.error.SpecifiersErrorKind.TheVariants as list
 use Rattle.pyver_findings.specs.FileLines.{FileLine}
-use Rattle.pyver_findings.specs.LineReadings.{LineReading, ReadsLine}
-use Rattle.pyver_findings.specs.Reports.{asked_in, invalid_in, left_out_in}
-use Rattle.pyver_findings.specs.Views.{asked_of, finding_of}
+use Rattle.pyver_findings.specs.LineMeanings.{LineMeaning, IsMeaning}
+use Rattle.pyver_findings.specs.Reports.{demands_in, invalid_in, left_out_in}
+use Rattle.pyver_findings.specs.Views.{demand_of, finding_of}
 use Rattle.pyver_findings.specs.declared.report.Readings.{Readings}
 
 -- the message of the invalid piece of a list, or None if memory ran out
@@ -28,11 +28,11 @@ reason_text_of error.OutOfMemory = None
 reason_text_of e = option_map requirement_refusal_text (requirement_refusal_of e)
 
 -- a requirement was not read for want of memory
-abbrev pub lacks_memory : RequirementError → Bool
-lacks_memory error.OutOfMemory = true
-lacks_memory _ = false
+abbrev pub is_memory_error : RequirementError → Bool
+is_memory_error error.OutOfMemory = true
+is_memory_error _ = false
 
 -- the lines were read, and this is kept of what they are
 abbrev pub KeepsReadings : List FileLine → Readings → Type 0
-KeepsReadings lines kept = (xs : List LineReading) × AllZip ReadsLine lines xs × (map finding_of kept.invalid.items ≡ flat_map invalid_in xs)
-    × (map asked_of kept.asked.items ≡ flat_map asked_in xs) × (kept.left_out.items ≡ flat_map left_out_in xs)
+KeepsReadings lines kept = (xs : List LineMeaning) × AllZip IsMeaning lines xs × (map finding_of kept.invalid.items ≡ flat_map invalid_in xs)
+    × (map demand_of kept.demands.items ≡ flat_map demands_in xs) × (kept.left_out.items ≡ flat_map left_out_in xs)

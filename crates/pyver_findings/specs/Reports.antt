@@ -1,11 +1,11 @@
 -- What the check of requirements files reports.
 use Rattle.std.specs.Prelude.{◌≡◌, ℕ, List, [], ◌∷◌, ◌++◌, length}
 use Rattle.std.specs.List.{AllZip, flat_map}
-use Rattle.pyver_findings.specs.Asked.{Asked}
+use Rattle.pyver_findings.specs.Demands.{Demand}
 use Rattle.pyver_findings.specs.Conflicts.{conflicts}
 use Rattle.pyver_findings.specs.FileLines.{File, all_lines}
 use Rattle.pyver_findings.specs.Findings.{Finding}
-use Rattle.pyver_findings.specs.LineReadings.{Asks, IsNone, LeftOut, LineReading, NamesFile, ReadsLine}
+use Rattle.pyver_findings.specs.LineMeanings.{Asks, IsNone, LeftOut, LineMeaning, NamesFile, IsMeaning}
 use Rattle.pyver_findings.specs.declared.cause.Cause.{Cause}
 
 -- the findings, the number of lines and of files, and for each line that was left out why
@@ -16,31 +16,31 @@ pub record Report : Type 0 where
   pub left_out : List Cause
 
 -- the requirement of a line that is one
-abbrev pub asked_in : LineReading → List Asked
-asked_in (Asks a) = a ∷ []
-asked_in (IsNone f) = []
-asked_in (LeftOut c) = []
-asked_in NamesFile = []
+abbrev pub demands_in : LineMeaning → List Demand
+demands_in (Asks a) = a ∷ []
+demands_in (IsNone f) = []
+demands_in (LeftOut c) = []
+demands_in NamesFile = []
 
 -- the finding of a line that is no requirement
-abbrev pub invalid_in : LineReading → List Finding
+abbrev pub invalid_in : LineMeaning → List Finding
 invalid_in (Asks a) = []
 invalid_in (IsNone f) = f ∷ []
 invalid_in (LeftOut c) = []
 invalid_in NamesFile = []
 
 -- why a line is left out
-abbrev pub left_out_in : LineReading → List Cause
+abbrev pub left_out_in : LineMeaning → List Cause
 left_out_in (Asks a) = []
 left_out_in (IsNone f) = []
 left_out_in (LeftOut c) = c ∷ []
 left_out_in NamesFile = []
 
 -- the findings of lines that are read so: first those that are no requirements, in order
-abbrev pub found_in : List LineReading → List Finding
-found_in xs = flat_map invalid_in xs ++ conflicts (flat_map asked_in xs)
+abbrev pub found_in : List LineMeaning → List Finding
+found_in xs = flat_map invalid_in xs ++ conflicts (flat_map demands_in xs)
 
 -- the report of the files
 abbrev pub IsReport : List File → Report → Type 0
-IsReport files r = (xs : List LineReading) × AllZip ReadsLine (all_lines files) xs
+IsReport files r = (xs : List LineMeaning) × AllZip IsMeaning (all_lines files) xs
     × (r ≡ record { findings = found_in xs; lines = length (all_lines files); files = length files; left_out = flat_map left_out_in xs })

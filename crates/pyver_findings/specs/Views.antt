@@ -1,17 +1,17 @@
 -- What the crate's own types hold, apart from where they lie in memory.
 use Rattle.std.specs.Prelude.{map, option_map, string_bytes}
-use Rattle.pyver_findings.specs.Asked.{Asked}
+use Rattle.pyver_findings.specs.Demands.{Demand}
 use Rattle.pyver_findings.specs.FileLines.{File, FileLine}
 use Rattle.pyver_findings.specs.Findings.{Conflicting, Finding, NoRequirement}
-use Rattle.pyver_findings.specs.LineReadings.{Asks, IsNone, LeftOut, LineReading, NamesFile}
+use Rattle.pyver_findings.specs.LineMeanings.{Asks, IsNone, LeftOut, LineMeaning, NamesFile}
 use Rattle.pyver_findings.specs.Reports.{Report}
-use Rattle.pyver_findings.specs.declared.asked.Asked.{Asked as AskedValue}
+use Rattle.pyver_findings.specs.declared.demand.Demand.{Demand as DemandValue}
 use Rattle.pyver_findings.specs.declared.file_line.FileLine.{FileLine as FileLineValue}
 use Rattle.pyver_findings.specs.declared.file_line.SourceFile.{SourceFile}
 use Rattle.pyver_findings.specs.declared.finding.Finding.{Finding as FindingValue}
 use Rattle.pyver_findings.specs.declared.finding.Finding.TheVariants as finding
-use Rattle.pyver_findings.specs.declared.line_reading.LineReading.{LineReading as LineReadingValue}
-use Rattle.pyver_findings.specs.declared.line_reading.LineReading.TheVariants as reading
+use Rattle.pyver_findings.specs.declared.line_meaning.LineMeaning.{LineMeaning as LineMeaningValue}
+use Rattle.pyver_findings.specs.declared.line_meaning.LineMeaning.TheVariants as reading
 use Rattle.pyver_findings.specs.declared.report.Report.{Report as ReportValue}
 
 abbrev pub file_of : SourceFile → File
@@ -20,18 +20,18 @@ file_of f = record { name = f.name.items; text = f.text.items }
 abbrev pub file_line_of : FileLineValue → FileLine
 file_line_of l = record { file = l.file.items; number = l.number; text = l.text.items }
 
-abbrev pub asked_of : AskedValue → Asked
-asked_of a = record { line = file_line_of a.line; name = string_bytes a.name; marker = option_map (λ m. m.items) a.marker; pinned = a.pinned; cover = a.cover }
+abbrev pub demand_of : DemandValue → Demand
+demand_of a = record { line = file_line_of a.line; name = string_bytes a.name; marker = option_map (λ m. m.items) a.marker; pinned = a.pinned; cover = a.cover }
 
 abbrev pub finding_of : FindingValue → Finding
 finding_of (finding.NoRequirement line reason column) = NoRequirement (file_line_of line) (string_bytes reason) column
 finding_of (finding.Conflicting kind lines) = Conflicting kind (map file_line_of lines.items)
 
-abbrev pub line_reading_of : LineReadingValue → LineReading
-line_reading_of (reading.Asks a) = Asks (asked_of a)
-line_reading_of (reading.IsNone f) = IsNone (finding_of f)
-line_reading_of (reading.LeftOut c) = LeftOut c
-line_reading_of reading.NamesFile = NamesFile
+abbrev pub line_meaning_of : LineMeaningValue → LineMeaning
+line_meaning_of (reading.Asks a) = Asks (demand_of a)
+line_meaning_of (reading.IsNone f) = IsNone (finding_of f)
+line_meaning_of (reading.LeftOut c) = LeftOut c
+line_meaning_of reading.NamesFile = NamesFile
 
 abbrev pub report_of : ReportValue → Report
 report_of r = record { findings = map finding_of r.findings.items; lines = r.lines; files = r.files; left_out = r.left_out.items }

@@ -6,7 +6,7 @@ ghost use Rattle.pep440_pick.specs.Names.{is_name_byte};
 ghost use Rattle.pep440_pick.specs.RequirementReading.{behind_name};
 ghost use Rattle.pep440_pick.specs.Requirements.{requirement_refusal_of};
 ghost use Rattle.pep440_version.specs.Reading.{past};
-ghost use Rattle.pyver_findings.specs.Columns.{behind_bracket, behind_extras, behind_front, column, in_parenthesis, list_part, rest_at};
+ghost use Rattle.pyver_findings.specs.Columns.{behind_bracket, behind_extras, behind_front, column, in_parenthesis, from_list, rest_at};
 ghost use Rattle.pep440_rs.specs.ListAnswers.{list_kind_of};
 ghost use Rattle.pep440_rs.specs.ListErrors.{list_refusal_of};
 
@@ -88,8 +88,8 @@ fn in_parenthesis(text: &[u8]) -> &[u8]
 }
 
 /// What stands from the list of specifiers on.
-fn list_part(text: &[u8]) -> &[u8]
-    ensures { result.now ≡ list_part text.now }
+fn from_list(text: &[u8]) -> &[u8]
+    ensures { result.now ≡ from_list text.now }
 {
     in_parenthesis(behind_front(text))
 }
@@ -121,7 +121,7 @@ fn rest_at<'a>(text: &'a [u8], error: &RequirementError) -> &'a [u8]
         RequirementError::InvalidExtras => behind_name(text),
         RequirementError::Unclosed => behind_front(text),
         RequirementError::Specifiers(error) => {
-            skip_blanks(skip_bytes(list_part(text), piece_start(error)))
+            skip_blanks(skip_bytes(from_list(text), piece_start(error)))
         }
         _ => text,
     }

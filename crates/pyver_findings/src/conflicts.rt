@@ -2,16 +2,16 @@
 ghost use Rattle.std.specs.Prelude.{◌≡◌, ◌++◌, [], IfOk, map, if◌then◌else◌};
 ghost use Rattle.std.specs.List.{filter, list_any};
 ghost use Rattle.pyver_findings.specs.Conflicts.{conflicts, of_name, same_named};
-ghost use Rattle.pyver_findings.specs.Views.{asked_of, finding_of};
+ghost use Rattle.pyver_findings.specs.Views.{demand_of, finding_of};
 
-use crate::asked::Asked;
+use crate::demand::Demand;
 use crate::finding::Finding;
 use crate::group::push_of_name;
 use pep440_pick::same_name;
 use std::alloc::{AllocError, Global};
 
-fn same_named(one: &Asked, other: &Asked) -> bool
-    ensures { result ≡ same_named (asked_of one.now) (asked_of other.now) }
+fn same_named(one: &Demand, other: &Demand) -> bool
+    ensures { result ≡ same_named (demand_of one.now) (demand_of other.now) }
 {
     same_name(one.name.as_str(), other.name.as_str())
 }
@@ -19,10 +19,10 @@ fn same_named(one: &Asked, other: &Asked) -> bool
 /// The lines with the name of this one.
 fn of_same_name<'a>(
     alloc: Global,
-    line: &Asked,
-    lines: &'a [Asked],
-) -> Result<Vec<&'a Asked>, AllocError>
-    ensures { IfOk result (λ kept. map (λ x. asked_of x.now) kept.items ≡ filter (same_named (asked_of line.now)) (map asked_of lines.now)) }
+    line: &Demand,
+    lines: &'a [Demand],
+) -> Result<Vec<&'a Demand>, AllocError>
+    ensures { IfOk result (λ kept. map (λ x. demand_of x.now) kept.items ≡ filter (same_named (demand_of line.now)) (map demand_of lines.now)) }
 {
     let mut kept = Vec::new(alloc);
     for other in lines {
@@ -33,8 +33,8 @@ fn of_same_name<'a>(
     Ok(kept)
 }
 
-fn has_name(lines: &[Asked], line: &Asked) -> bool
-    ensures { result ≡ list_any (same_named (asked_of line.now)) (map asked_of lines.now) }
+fn has_name(lines: &[Demand], line: &Demand) -> bool
+    ensures { result ≡ list_any (same_named (demand_of line.now)) (map demand_of lines.now) }
 {
     for other in lines {
         if same_named(line, other) {
@@ -48,11 +48,11 @@ fn has_name(lines: &[Asked], line: &Asked) -> bool
 fn push_with_name(
     alloc: Global,
     findings: &mut Vec<Finding>,
-    lines: &[Asked],
-    before: &[Asked],
-    line: &Asked,
+    lines: &[Demand],
+    before: &[Demand],
+    line: &Demand,
 ) -> Result<(), AllocError>
-    ensures { IfOk result (λ _. map finding_of findings.new.items ≡ map finding_of findings.old.items ++ (if list_any (same_named (asked_of line.now)) (map asked_of before.now) then [] else of_name (filter (same_named (asked_of line.now)) (map asked_of lines.now)))) }
+    ensures { IfOk result (λ _. map finding_of findings.new.items ≡ map finding_of findings.old.items ++ (if list_any (same_named (demand_of line.now)) (map demand_of before.now) then [] else of_name (filter (same_named (demand_of line.now)) (map demand_of lines.now)))) }
 {
     if has_name(before, line) {
         return Ok(());
@@ -65,9 +65,9 @@ fn push_with_name(
 pub(crate) fn push_conflicts(
     alloc: Global,
     findings: &mut Vec<Finding>,
-    lines: &[Asked],
+    lines: &[Demand],
 ) -> Result<(), AllocError>
-    ensures { IfOk result (λ _. map finding_of findings.new.items ≡ map finding_of findings.old.items ++ conflicts (map asked_of lines.now)) }
+    ensures { IfOk result (λ _. map finding_of findings.new.items ≡ map finding_of findings.old.items ++ conflicts (map demand_of lines.now)) }
 {
     for (at, line) in lines.iter().enumerate() {
         push_with_name(alloc, findings, lines, &lines[..at], line)?;

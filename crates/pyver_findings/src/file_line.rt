@@ -1,6 +1,6 @@
 // Requirements files, and their logical lines.
 ghost use Rattle.std.specs.Prelude.{◌≡◌, ◌∷◌, ◌++◌, [], IfOk, map};
-ghost use Rattle.pyver_findings.specs.FileLines.{all_lines, line_of, lines_of};
+ghost use Rattle.pyver_findings.specs.FileLines.{all_lines, file_line, file_lines};
 ghost use Rattle.pyver_findings.specs.Views.{file_line_of, file_of};
 ghost use Rattle.pyver_requirements.specs.LineViews.{logical_line_of};
 
@@ -45,7 +45,7 @@ fn push_line(
     file: &[u8],
     line: &LogicalLine,
 ) -> Result<(), AllocError>
-    ensures { IfOk result (λ _. map file_line_of lines.new.items ≡ map file_line_of lines.old.items ++ line_of file.now (logical_line_of line.now) ∷ []) }
+    ensures { IfOk result (λ _. map file_line_of lines.new.items ≡ map file_line_of lines.old.items ++ file_line file.now (logical_line_of line.now) ∷ []) }
 {
     let file = Vec::from_slice(alloc, file)?;
     let text = Vec::from_slice(alloc, line.text.as_slice())?;
@@ -63,7 +63,7 @@ fn push_lines(
     file: &[u8],
     found: &[LogicalLine],
 ) -> Result<(), AllocError>
-    ensures { IfOk result (λ _. map file_line_of lines.new.items ≡ map file_line_of lines.old.items ++ map (line_of file.now) (map logical_line_of found.now)) }
+    ensures { IfOk result (λ _. map file_line_of lines.new.items ≡ map file_line_of lines.old.items ++ map (file_line file.now) (map logical_line_of found.now)) }
 {
     for line in found {
         push_line(alloc, lines, file, line)?;
@@ -72,7 +72,7 @@ fn push_lines(
 }
 
 fn push_file(alloc: Global, lines: &mut Vec<FileLine>, file: &SourceFile) -> Result<(), AllocError>
-    ensures { IfOk result (λ _. map file_line_of lines.new.items ≡ map file_line_of lines.old.items ++ lines_of (file_of file.now)) }
+    ensures { IfOk result (λ _. map file_line_of lines.new.items ≡ map file_line_of lines.old.items ++ file_lines (file_of file.now)) }
 {
     let found = logical_lines(alloc, file.text.as_slice())?;
     push_lines(alloc, lines, file.name.as_slice(), found.as_slice())

@@ -1,10 +1,10 @@
 // Lines of one name, as they count together.
 ghost use Rattle.std.specs.Prelude.{◌≡◌, ◌++◌, ◌==◌, [], IfOk, length, map, option_map, if◌then◌else◌};
 ghost use Rattle.std.specs.List.{flat_map, list_any};
-ghost use Rattle.pyver_findings.specs.Conflicts.{common, firsts, of_all, of_few, of_markers, of_name, same_marked, under};
-ghost use Rattle.pyver_findings.specs.Views.{asked_of, finding_of};
+ghost use Rattle.pyver_findings.specs.Conflicts.{common_cover, first_mentions, of_all, of_few, of_markers, of_name, same_marked, under};
+ghost use Rattle.pyver_findings.specs.Views.{demand_of, finding_of};
 
-use crate::asked::Asked;
+use crate::demand::Demand;
 use crate::finding::{Conflict, Finding};
 use crate::pairs::{counts_under, push_conflict, push_of_few, same_marker};
 use pep440_rs::{Ranges, Version};
@@ -14,9 +14,9 @@ use std::alloc::{AllocError, Global};
 fn under<'a>(
     alloc: Global,
     marker: &Option<Vec<u8>>,
-    lines: &[&'a Asked],
-) -> Result<Vec<&'a Asked>, AllocError>
-    ensures { IfOk result (λ kept. map (λ x. asked_of x.now) kept.items ≡ under (option_map (λ m. m.items) marker.now) (map (λ x. asked_of x.now) lines.now)) }
+    lines: &[&'a Demand],
+) -> Result<Vec<&'a Demand>, AllocError>
+    ensures { IfOk result (λ kept. map (λ x. demand_of x.now) kept.items ≡ under (option_map (λ m. m.items) marker.now) (map (λ x. demand_of x.now) lines.now)) }
 {
     let mut kept = Vec::new(alloc);
     for line in lines {
@@ -28,8 +28,8 @@ fn under<'a>(
 }
 
 /// The intersection of the covers.
-fn common(alloc: Global, lines: &[&Asked]) -> Result<Ranges<Version>, AllocError>
-    ensures { IfOk result (λ cover. cover ≡ common (map (λ x. asked_of x.now) lines.now)) }
+fn common_cover(alloc: Global, lines: &[&Demand]) -> Result<Ranges<Version>, AllocError>
+    ensures { IfOk result (λ cover. cover ≡ common_cover (map (λ x. demand_of x.now) lines.now)) }
 {
     let mut cover = Ranges::full(alloc)?;
     for line in lines {
@@ -39,8 +39,8 @@ fn common(alloc: Global, lines: &[&Asked]) -> Result<Ranges<Version>, AllocError
 }
 
 /// Neither one line nor two explain that no version satisfies all.
-fn is_unexplained(alloc: Global, lines: &[&Asked]) -> Result<bool, AllocError>
-    ensures { IfOk result (λ b. b ≡ (length (of_few (map (λ x. asked_of x.now) lines.now)) == 0)) }
+fn is_unexplained(alloc: Global, lines: &[&Demand]) -> Result<bool, AllocError>
+    ensures { IfOk result (λ b. b ≡ (length (of_few (map (λ x. demand_of x.now) lines.now)) == 0)) }
 {
     let mut findings = Vec::new(alloc);
     push_of_few(alloc, &mut findings, lines)?;
@@ -50,19 +50,19 @@ fn is_unexplained(alloc: Global, lines: &[&Asked]) -> Result<bool, AllocError>
 fn push_of_all(
     alloc: Global,
     findings: &mut Vec<Finding>,
-    lines: &[&Asked],
+    lines: &[&Demand],
 ) -> Result<(), AllocError>
-    ensures { IfOk result (λ _. map finding_of findings.new.items ≡ map finding_of findings.old.items ++ of_all (map (λ x. asked_of x.now) lines.now)) }
+    ensures { IfOk result (λ _. map finding_of findings.new.items ≡ map finding_of findings.old.items ++ of_all (map (λ x. demand_of x.now) lines.now)) }
 {
-    if !common(alloc, lines)?.is_empty() || !is_unexplained(alloc, lines)? {
+    if !common_cover(alloc, lines)?.is_empty() || !is_unexplained(alloc, lines)? {
         return Ok(());
     }
     push_conflict(alloc, findings, Conflict::NoVersion, lines)
 }
 
 /// One of the lines has the same marker.
-fn has_marker(lines: &[&Asked], line: &Asked) -> bool
-    ensures { result ≡ list_any (same_marked (asked_of line.now)) (map (λ x. asked_of x.now) lines.now) }
+fn has_marker(lines: &[&Demand], line: &Demand) -> bool
+    ensures { result ≡ list_any (same_marked (demand_of line.now)) (map (λ x. demand_of x.now) lines.now) }
 {
     for other in lines {
         if same_marker(&line.marker, &other.marker) {
@@ -76,25 +76,25 @@ fn has_marker(lines: &[&Asked], line: &Asked) -> bool
 fn push_of_marker(
     alloc: Global,
     findings: &mut Vec<Finding>,
-    lines: &[&Asked],
-    before: &[&Asked],
-    line: &Asked,
+    lines: &[&Demand],
+    before: &[&Demand],
+    line: &Demand,
 ) -> Result<(), AllocError>
-    ensures { IfOk result (λ _. map finding_of findings.new.items ≡ map finding_of findings.old.items ++ (if list_any (same_marked (asked_of line.now)) (map (λ x. asked_of x.now) before.now) then [] else of_all (under (asked_of line.now).marker (map (λ x. asked_of x.now) lines.now)))) }
+    ensures { IfOk result (λ _. map finding_of findings.new.items ≡ map finding_of findings.old.items ++ (if list_any (same_marked (demand_of line.now)) (map (λ x. demand_of x.now) before.now) then [] else of_all (under (demand_of line.now).marker (map (λ x. demand_of x.now) lines.now)))) }
 {
     if has_marker(before, line) {
         return Ok(());
     }
-    let counted = under(alloc, &line.marker, lines)?;
-    push_of_all(alloc, findings, counted.as_slice())
+    let requirement_meaning = under(alloc, &line.marker, lines)?;
+    push_of_all(alloc, findings, requirement_meaning.as_slice())
 }
 
 fn push_of_each_marker(
     alloc: Global,
     findings: &mut Vec<Finding>,
-    lines: &[&Asked],
+    lines: &[&Demand],
 ) -> Result<(), AllocError>
-    ensures { IfOk result (λ _. map finding_of findings.new.items ≡ map finding_of findings.old.items ++ flat_map (λ a. of_all (under a.marker (map (λ x. asked_of x.now) lines.now))) (firsts same_marked [] (map (λ x. asked_of x.now) lines.now))) }
+    ensures { IfOk result (λ _. map finding_of findings.new.items ≡ map finding_of findings.old.items ++ flat_map (λ a. of_all (under a.marker (map (λ x. demand_of x.now) lines.now))) (first_mentions same_marked [] (map (λ x. demand_of x.now) lines.now))) }
 {
     for (at, line) in lines.iter().enumerate() {
         push_of_marker(alloc, findings, lines, &lines[..at], line)?;
@@ -105,12 +105,12 @@ fn push_of_each_marker(
 fn push_of_markers(
     alloc: Global,
     findings: &mut Vec<Finding>,
-    lines: &[&Asked],
+    lines: &[&Demand],
 ) -> Result<(), AllocError>
-    ensures { IfOk result (λ _. map finding_of findings.new.items ≡ map finding_of findings.old.items ++ of_markers (map (λ x. asked_of x.now) lines.now)) }
+    ensures { IfOk result (λ _. map finding_of findings.new.items ≡ map finding_of findings.old.items ++ of_markers (map (λ x. demand_of x.now) lines.now)) }
 {
     let always = under(alloc, &None, lines)?;
-    if common(alloc, always.as_slice())?.is_empty() {
+    if common_cover(alloc, always.as_slice())?.is_empty() {
         return push_of_all(alloc, findings, always.as_slice());
     }
     push_of_each_marker(alloc, findings, lines)
@@ -120,9 +120,9 @@ fn push_of_markers(
 pub(crate) fn push_of_name(
     alloc: Global,
     findings: &mut Vec<Finding>,
-    lines: &[&Asked],
+    lines: &[&Demand],
 ) -> Result<(), AllocError>
-    ensures { IfOk result (λ _. map finding_of findings.new.items ≡ map finding_of findings.old.items ++ of_name (map (λ x. asked_of x.now) lines.now)) }
+    ensures { IfOk result (λ _. map finding_of findings.new.items ≡ map finding_of findings.old.items ++ of_name (map (λ x. demand_of x.now) lines.now)) }
 {
     push_of_few(alloc, findings, lines)?;
     push_of_markers(alloc, findings, lines)

@@ -6,7 +6,7 @@ pub fn findings_hold()
     ensures { FindingsHold }
 {}
 
-/// Where the covers of the lines of a name that count under a marker have nothing in common, some of these lines are reported
+/// Where the covers of the lines of a name that count under a marker have nothing in common_cover, some of these lines are reported
 /// together.
 pub fn conflicts_are_found()
     ensures { ConflictsAreFound }

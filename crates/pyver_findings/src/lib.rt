@@ -1,15 +1,15 @@
 //! What is wrong in requirements files: lines that are no requirements, and lines that no version can satisfy together.
 #![tactic(auto)]
 
-mod asked;
 mod cause;
 mod column;
 mod conflicts;
+mod demand;
 mod file_line;
 mod finding;
 mod group;
 pub mod laws;
-mod line_reading;
+mod line_meaning;
 mod pairs;
 mod report;
 mod report_json;

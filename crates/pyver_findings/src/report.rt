@@ -1,15 +1,15 @@
 //! The report of requirements files.
 ghost use Rattle.std.specs.Prelude.{◌≡◌, ◌++◌, IfOk, map};
 ghost use Rattle.pyver_findings.specs.ReadingViews.{KeepsReadings};
-ghost use Rattle.pyver_findings.specs.Reports.{IsReport, asked_in, invalid_in, left_out_in};
-ghost use Rattle.pyver_findings.specs.Views.{asked_of, file_line_of, file_of, finding_of, line_reading_of, report_of};
+ghost use Rattle.pyver_findings.specs.Reports.{IsReport, demands_in, invalid_in, left_out_in};
+ghost use Rattle.pyver_findings.specs.Views.{demand_of, file_line_of, file_of, finding_of, line_meaning_of, report_of};
 
-use crate::asked::Asked;
 use crate::cause::Cause;
 use crate::conflicts::push_conflicts;
+use crate::demand::Demand;
 use crate::file_line::{FileLine, SourceFile, all_lines};
 use crate::finding::Finding;
-use crate::line_reading::{LineReading, read_line};
+use crate::line_meaning::{LineMeaning, read_line};
 use std::alloc::{AllocError, Global};
 
 /// What is wrong in requirements files, and how much of them was read.
@@ -29,21 +29,21 @@ pub struct Report {
 #[derive(Drop)]
 struct Readings {
     invalid: Vec<Finding>,
-    asked: Vec<Asked>,
+    demands: Vec<Demand>,
     left_out: Vec<Cause>,
 }
 
 impl Readings {
-    fn push(&mut self, reading: LineReading) -> Result<(), AllocError>
-        ensures invalid { IfOk result (λ _. map finding_of self.new.invalid.items ≡ map finding_of self.old.invalid.items ++ invalid_in (line_reading_of reading)) }
-        ensures asked { IfOk result (λ _. map asked_of self.new.asked.items ≡ map asked_of self.old.asked.items ++ asked_in (line_reading_of reading)) }
-        ensures left_out { IfOk result (λ _. self.new.left_out.items ≡ self.old.left_out.items ++ left_out_in (line_reading_of reading)) }
+    fn push(&mut self, reading: LineMeaning) -> Result<(), AllocError>
+        ensures invalid { IfOk result (λ _. map finding_of self.new.invalid.items ≡ map finding_of self.old.invalid.items ++ invalid_in (line_meaning_of reading)) }
+        ensures demands { IfOk result (λ _. map demand_of self.new.demands.items ≡ map demand_of self.old.demands.items ++ demands_in (line_meaning_of reading)) }
+        ensures left_out { IfOk result (λ _. self.new.left_out.items ≡ self.old.left_out.items ++ left_out_in (line_meaning_of reading)) }
     {
         match reading {
-            LineReading::Asks(asked) => self.asked.push(asked)?,
-            LineReading::IsNone(finding) => self.invalid.push(finding)?,
-            LineReading::LeftOut(cause) => self.left_out.push(cause)?,
-            LineReading::NamesFile => {}
+            LineMeaning::Asks(demand) => self.demands.push(demand)?,
+            LineMeaning::IsNone(finding) => self.invalid.push(finding)?,
+            LineMeaning::LeftOut(cause) => self.left_out.push(cause)?,
+            LineMeaning::NamesFile => {}
         }
         Ok(())
     }
@@ -54,7 +54,7 @@ fn read_lines(alloc: Global, lines: &[FileLine]) -> Result<Readings, AllocError>
 {
     let mut readings = Readings {
         invalid: Vec::new(alloc),
-        asked: Vec::new(alloc),
+        demands: Vec::new(alloc),
         left_out: Vec::new(alloc),
     };
     for line in lines {
@@ -77,7 +77,7 @@ pub fn find_problems(alloc: Global, files: &[SourceFile]) -> Result<Report, Allo
     let lines = all_lines(alloc, files)?;
     let readings = read_lines(alloc, lines.as_slice())?;
     let mut findings = readings.invalid;
-    push_conflicts(alloc, &mut findings, readings.asked.as_slice())?;
+    push_conflicts(alloc, &mut findings, readings.demands.as_slice())?;
     Ok(Report {
         findings,
         lines: lines.len(),

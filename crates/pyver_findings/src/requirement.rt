@@ -5,18 +5,18 @@ ghost use Rattle.pep440_pick.specs.Requirements.{IsRequirementLifted, needed, re
 ghost use Rattle.pep440_pick.specs.RequirementTexts.{requirement_refusal_text, requirement_text_of};
 ghost use Rattle.pep440_rs.specs.ListAnswers.{list_kind_of};
 ghost use Rattle.pyver_findings.specs.Findings.{NoRequirement};
-ghost use Rattle.pyver_findings.specs.LineReadings.{IsNone, ReadsParts, before_url, counted, refused, with_url};
-ghost use Rattle.pyver_findings.specs.ReadingViews.{lacks_memory, piece_text_of, reason_text_of};
-ghost use Rattle.pyver_findings.specs.Views.{file_line_of, line_reading_of};
+ghost use Rattle.pyver_findings.specs.LineMeanings.{IsNone, IsPartsMeaning, before_url, requirement_meaning, refusal_meaning, with_url};
+ghost use Rattle.pyver_findings.specs.ReadingViews.{is_memory_error, piece_text_of, reason_text_of};
+ghost use Rattle.pyver_findings.specs.Views.{file_line_of, line_meaning_of};
 ghost use Rattle.pyver_requirements.specs.LineParts.{line_parts};
 ghost use Rattle.pyver_requirements.specs.LinePartViews.{line_parts_of};
 
-use crate::asked::Asked;
 use crate::cause::Cause;
 use crate::column::column;
+use crate::demand::Demand;
 use crate::file_line::FileLine;
 use crate::finding::Finding;
-use crate::line_reading::LineReading;
+use crate::line_meaning::LineMeaning;
 use pep440_pick::{Requirement, RequirementError};
 use pep440_rs::{SpecifiersErrorKind, VersionSpecifiersParseError};
 use pyver_requirements::{LineParts, split_requirement};
@@ -28,11 +28,11 @@ fn reject(
     line: &FileLine,
     reason: &str,
     column: usize,
-) -> Result<LineReading, AllocError>
-    ensures { IfOk result (λ x. line_reading_of x ≡ IsNone (NoRequirement (file_line_of line.now) reason.now column)) }
+) -> Result<LineMeaning, AllocError>
+    ensures { IfOk result (λ x. line_meaning_of x ≡ IsNone (NoRequirement (file_line_of line.now) reason.now column)) }
 {
     let reason = String::from_str(alloc, reason)?;
-    Ok(LineReading::IsNone(Finding::NoRequirement(line.clone()?, reason, column)))
+    Ok(LineMeaning::IsNone(Finding::NoRequirement(line.clone()?, reason, column)))
 }
 
 /// The reason of a list, without what its message repeats.
@@ -48,7 +48,7 @@ fn list_reason(alloc: Global, error: &VersionSpecifiersParseError) -> Result<Str
 /// The reason, unless memory ran out.
 fn print_reason(alloc: Global, error: &RequirementError) -> Result<String, AllocError>
     ensures text { IfOk result (λ s. IfSome (reason_text_of error.now) (λ t. string_bytes s ≡ t)) }
-    ensures memory { IfOk result (λ _. lacks_memory error.now ≡ false) }
+    ensures memory { IfOk result (λ _. is_memory_error error.now ≡ false) }
 {
     match error {
         RequirementError::Specifiers(error) => list_reason(alloc, error),
@@ -62,10 +62,10 @@ fn read_error(
     line: &FileLine,
     parts: LineParts<'_>,
     error: &RequirementError,
-) -> Result<LineReading, AllocError>
+) -> Result<LineMeaning, AllocError>
     requires lifted { IsRequirementLifted error.now }
     requires message { IfSome (requirement_refusal_of error.now) (λ f. requirement_text_of error.now ≡ Some (requirement_refusal_text f)) }
-    ensures { IfOk result (λ x. (f : RequirementRefusal) × (requirement_refusal_of error.now ≡ Some f) × (line_reading_of x ≡ refused (file_line_of line.now) (line_parts_of parts.entry) f)) }
+    ensures { IfOk result (λ x. (f : RequirementRefusal) × (requirement_refusal_of error.now ≡ Some f) × (line_meaning_of x ≡ refusal_meaning (file_line_of line.now) (line_parts_of parts.entry) f)) }
 {
     let reason = print_reason(alloc, error)?;
     let column = column(parts.requirement, error);
@@ -78,11 +78,11 @@ fn read_before_url(
     line: &FileLine,
     column: usize,
     requirement: &Requirement,
-) -> Result<LineReading, AllocError>
-    ensures { IfOk result (λ x. line_reading_of x ≡ before_url (file_line_of line.now) column (needed requirement.now)) }
+) -> Result<LineMeaning, AllocError>
+    ensures { IfOk result (λ x. line_meaning_of x ≡ before_url (file_line_of line.now) column (needed requirement.now)) }
 {
     if requirement.specifiers.as_slice().is_empty() {
-        return Ok(LineReading::LeftOut(Cause::Url));
+        return Ok(LineMeaning::LeftOut(Cause::Url));
     }
     reject(alloc, line, "version specifiers stand before a URL", column)
 }
@@ -93,12 +93,12 @@ fn read_url(
     line: &FileLine,
     parts: LineParts<'_>,
     requirement: &Requirement,
-) -> Result<LineReading, AllocError>
-    ensures { IfOk result (λ x. line_reading_of x ≡ with_url (file_line_of line.now) (line_parts_of parts.entry) (needed requirement.now) (line_parts_of parts.entry).url) }
+) -> Result<LineMeaning, AllocError>
+    ensures { IfOk result (λ x. line_meaning_of x ≡ with_url (file_line_of line.now) (line_parts_of parts.entry) (needed requirement.now) (line_parts_of parts.entry).url) }
 {
     let column = parts.requirement.len();
     match parts.url {
-        None => Ok(LineReading::Asks(Asked::new(alloc, line, parts.marker, requirement)?)),
+        None => Ok(LineMeaning::Asks(Demand::new(alloc, line, parts.marker, requirement)?)),
         Some([]) => reject(alloc, line, "no URL follows '@'", column),
         Some([_, ..]) => read_before_url(alloc, line, column, requirement),
     }
@@ -110,8 +110,8 @@ fn read_rest(
     line: &FileLine,
     parts: LineParts<'_>,
     requirement: &Requirement,
-) -> Result<LineReading, AllocError>
-    ensures { IfOk result (λ x. line_reading_of x ≡ counted (file_line_of line.now) (line_parts_of parts.entry) (needed requirement.now)) }
+) -> Result<LineMeaning, AllocError>
+    ensures { IfOk result (λ x. line_meaning_of x ≡ requirement_meaning (file_line_of line.now) (line_parts_of parts.entry) (needed requirement.now)) }
 {
     match parts.marker {
         Some([]) => reject(
@@ -128,8 +128,8 @@ fn read_parts(
     alloc: Global,
     line: &FileLine,
     parts: LineParts<'_>,
-) -> Result<LineReading, AllocError>
-    ensures { IfOk result (λ x. ReadsParts (file_line_of line.now) (line_parts_of parts.entry) (line_reading_of x)) }
+) -> Result<LineMeaning, AllocError>
+    ensures { IfOk result (λ x. IsPartsMeaning (file_line_of line.now) (line_parts_of parts.entry) (line_meaning_of x)) }
 {
     let Ok(text) = std::str::from_utf8(parts.requirement) else {
         return reject(alloc, line, "not UTF-8", 0);
@@ -141,8 +141,8 @@ fn read_parts(
 }
 
 /// What the line is, which is a requirement or none.
-pub(crate) fn read_requirement(alloc: Global, line: &FileLine) -> Result<LineReading, AllocError>
-    ensures { IfOk result (λ x. ReadsParts (file_line_of line.now) (line_parts (file_line_of line.now).text) (line_reading_of x)) }
+pub(crate) fn read_requirement(alloc: Global, line: &FileLine) -> Result<LineMeaning, AllocError>
+    ensures { IfOk result (λ x. IsPartsMeaning (file_line_of line.now) (line_parts (file_line_of line.now).text) (line_meaning_of x)) }
 {
     read_parts(alloc, line, split_requirement(line.text.as_slice()))
 }

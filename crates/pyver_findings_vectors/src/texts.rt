@@ -1,6 +1,8 @@
 //! Reports, and the bytes that are printed of them.
 use crate::support::{report_of, source_file};
-use pyver_findings::find_problems;
+use pyver_findings::{FileLine, find_problems};
+use pyver_text::push_json_string;
+use std::alloc::{AllocError, Global};
 use std::test::Fail;
 
 // Files between bars, and the report as text.
@@ -105,5 +107,83 @@ fn names_of_files_are_escaped(rt: HostRuntime) -> Result<(), Fail> {
     let want =
         "[{\"kind\":\"no-requirement\",\"file\":\"a\\\\x0a\\\"b\",\"line\":1,\"text\":\"=\",\"reason\":\"not a valid name\",\"column\":0}]\n";
     assert!(rt; json.as_slice() == want.as_bytes(), "as JSON");
+    Ok(())
+}
+
+// The report as text, as JSON, and its counts.
+fn write_report(alloc: Global, files: &str) -> Result<Vec<u8>, AllocError> {
+    let report = report_of(alloc, files)?;
+    let mut written = report.to_text(alloc)?;
+    written.extend_from_slice(report.to_json(alloc)?.as_slice())?;
+    written.extend_from_slice(report.summarize(alloc)?.as_slice())?;
+    Ok(written)
+}
+
+fn write_report_again(rt: HostRuntime, files: &str) -> Result<Vec<u8>, Fail> {
+    match write_report(rt.alloc(), files) {
+        Ok(written) => Ok(written),
+        Err(_) => Ok(write_report(rt.alloc(), files)?),
+    }
+}
+
+#[test]
+fn sweep_reports(rt: HostRuntime) -> Result<(), Fail> {
+    let written = write_report_again(rt, "demo==2|-e .")?;
+    let want =
+        "[]\npyver: files read: 2\npyver: lines read: 2\npyver: editable requirements left out: 1\n";
+    assert!(rt; written.as_slice() == want.as_bytes(), "without findings");
+    let written = write_report_again(rt, "a>1,<1")?;
+    let want =
+        "a.txt:1: no version satisfies:\n    a.txt:1: a>1,<1\n[{\"kind\":\"no-version\",\"lines\":[{\"file\":\"a.txt\",\"line\":1,\"text\":\"a>1,<1\"}]}]\npyver: files read: 1\npyver: lines read: 1\n";
+    assert!(rt; written.as_slice() == want.as_bytes(), "with a finding");
+    Ok(())
+}
+
+fn copy_line(alloc: Global) -> Result<FileLine, AllocError> {
+    let line = FileLine {
+        file: Vec::from_slice(alloc, b"a.txt")?,
+        number: 1,
+        text: Vec::from_slice(alloc, b"demo")?,
+    };
+    line.clone()
+}
+
+fn copy_line_again(rt: HostRuntime) -> Result<FileLine, Fail> {
+    match copy_line(rt.alloc()) {
+        Ok(line) => Ok(line),
+        Err(_) => Ok(copy_line(rt.alloc())?),
+    }
+}
+
+#[test]
+fn sweep_copied_lines(rt: HostRuntime) -> Result<(), Fail> {
+    let line = copy_line_again(rt)?;
+    let holds = line.file.as_slice() == "a.txt".as_bytes() && line.number == 1;
+    assert!(rt; holds, "its place");
+    assert!(rt; line.text.as_slice() == "demo".as_bytes(), "its text");
+    Ok(())
+}
+
+fn write_string(alloc: Global, bytes: &[u8]) -> Result<Vec<u8>, AllocError> {
+    let mut written = Vec::new(alloc);
+    push_json_string(alloc, &mut written, bytes)?;
+    Ok(written)
+}
+
+fn write_string_again(rt: HostRuntime, bytes: &[u8]) -> Result<Vec<u8>, Fail> {
+    match write_string(rt.alloc(), bytes) {
+        Ok(written) => Ok(written),
+        Err(_) => Ok(write_string(rt.alloc(), bytes)?),
+    }
+}
+
+#[test]
+fn sweep_json_strings(rt: HostRuntime) -> Result<(), Fail> {
+    let written = write_string_again(rt, b"a\"b\\\n")?;
+    let want = "\"a\\\"b\\\\\\\\x0a\"";
+    assert!(rt;
+        written.as_slice() == want.as_bytes(),
+        "a quote, a backslash and a newline"
+    );
     Ok(())
 }

@@ -1,11 +1,11 @@
 // What a line of a requirements file is to the check.
 ghost use Rattle.std.specs.Prelude.{◌≡◌, IfOk};
-ghost use Rattle.pyver_findings.specs.LineReadings.{ReadsKind, ReadsLine, has_scheme, names_file};
-ghost use Rattle.pyver_findings.specs.Views.{file_line_of, line_reading_of};
+ghost use Rattle.pyver_findings.specs.LineMeanings.{IsKindMeaning, IsMeaning, has_scheme, names_file};
+ghost use Rattle.pyver_findings.specs.Views.{file_line_of, line_meaning_of};
 ghost use Rattle.pyver_requirements.specs.LineKindViews.{line_kind_of};
 
-use crate::asked::Asked;
 use crate::cause::Cause;
+use crate::demand::Demand;
 use crate::file_line::FileLine;
 use crate::finding::Finding;
 use crate::requirement::read_requirement;
@@ -14,9 +14,9 @@ use std::alloc::{AllocError, Global};
 
 /// What a line is.
 #[derive(Drop)]
-pub(crate) enum LineReading {
+pub(crate) enum LineMeaning {
     /// A requirement.
-    Asks(Asked),
+    Asks(Demand),
     /// None.
     IsNone(Finding),
     /// It is left out.
@@ -39,35 +39,35 @@ fn has_scheme(text: &[u8]) -> bool
     false
 }
 
-fn name_file(path: &[u8]) -> LineReading
-    ensures { line_reading_of result ≡ names_file path.now }
+fn name_file(path: &[u8]) -> LineMeaning
+    ensures { line_meaning_of result ≡ names_file path.now }
 {
     if has_variable(path) {
-        LineReading::LeftOut(Cause::Variable)
+        LineMeaning::LeftOut(Cause::Variable)
     } else if has_scheme(path) {
-        LineReading::LeftOut(Cause::Url)
+        LineMeaning::LeftOut(Cause::Url)
     } else {
-        LineReading::NamesFile
+        LineMeaning::NamesFile
     }
 }
 
-fn read_kind(alloc: Global, line: &FileLine, kind: LineKind<'_>) -> Result<LineReading, AllocError>
-    ensures { IfOk result (λ x. ReadsKind (file_line_of line.now) (line_kind_of kind.entry) (line_reading_of x)) }
+fn read_kind(alloc: Global, line: &FileLine, kind: LineKind<'_>) -> Result<LineMeaning, AllocError>
+    ensures { IfOk result (λ x. IsKindMeaning (file_line_of line.now) (line_kind_of kind.entry) (line_meaning_of x)) }
 {
     match kind {
         LineKind::RequirementsFile(path) => Ok(name_file(path)),
         LineKind::ConstraintsFile(path) => Ok(name_file(path)),
-        LineKind::Editable => Ok(LineReading::LeftOut(Cause::Editable)),
-        LineKind::PipOption => Ok(LineReading::LeftOut(Cause::PipOption)),
-        LineKind::Variable => Ok(LineReading::LeftOut(Cause::Variable)),
-        LineKind::Location => Ok(LineReading::LeftOut(Cause::Location)),
+        LineKind::Editable => Ok(LineMeaning::LeftOut(Cause::Editable)),
+        LineKind::PipOption => Ok(LineMeaning::LeftOut(Cause::PipOption)),
+        LineKind::Variable => Ok(LineMeaning::LeftOut(Cause::Variable)),
+        LineKind::Location => Ok(LineMeaning::LeftOut(Cause::Location)),
         LineKind::Requirement => read_requirement(alloc, line),
     }
 }
 
 /// What the line is.
-pub(crate) fn read_line(alloc: Global, line: &FileLine) -> Result<LineReading, AllocError>
-    ensures { IfOk result (λ x. ReadsLine (file_line_of line.now) (line_reading_of x)) }
+pub(crate) fn read_line(alloc: Global, line: &FileLine) -> Result<LineMeaning, AllocError>
+    ensures { IfOk result (λ x. IsMeaning (file_line_of line.now) (line_meaning_of x)) }
 {
     read_kind(alloc, line, classify(line.text.as_slice()))
 }

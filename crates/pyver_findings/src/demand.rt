@@ -1,8 +1,8 @@
 // What a line asks for that is a requirement.
 ghost use Rattle.std.specs.Prelude.{◌≡◌, IfOk, option_map};
 ghost use Rattle.pep440_pick.specs.Requirements.{needed};
-ghost use Rattle.pyver_findings.specs.Asked.{asked, cover_or_all, is_pin_operator, is_pinned};
-ghost use Rattle.pyver_findings.specs.Views.{asked_of, file_line_of};
+ghost use Rattle.pyver_findings.specs.Demands.{line_demand, cover_or_all, is_pin_operator, is_pinned};
+ghost use Rattle.pyver_findings.specs.Views.{demand_of, file_line_of};
 
 use crate::file_line::FileLine;
 use pep440_pick::Requirement;
@@ -13,7 +13,7 @@ use std::alloc::{AllocError, Global};
 
 /// What a line asks for: versions of a package, under a marker or always.
 #[derive(Drop)]
-pub(crate) struct Asked {
+pub(crate) struct Demand {
     pub(crate) line: FileLine,
     pub(crate) name: String,
     pub(crate) marker: Option<Vec<u8>>,
@@ -57,20 +57,20 @@ fn copy_marker(alloc: Global, marker: Option<&[u8]>) -> Result<Option<Vec<u8>>, 
     }
 }
 
-impl Asked {
+impl Demand {
     /// What the line asks for under this marker.
     pub(crate) fn new(
         alloc: Global,
         line: &FileLine,
         marker: Option<&[u8]>,
         requirement: &Requirement,
-    ) -> Result<Asked, AllocError>
-        ensures { IfOk result (λ a. asked_of a ≡ asked (file_line_of line.now) (option_map (λ m. m.now) marker.entry) (needed requirement.now)) }
+    ) -> Result<Demand, AllocError>
+        ensures { IfOk result (λ a. demand_of a ≡ line_demand (file_line_of line.now) (option_map (λ m. m.now) marker.entry) (needed requirement.now)) }
     {
         let pinned = is_pinned(requirement.specifiers.as_slice());
         let cover = cover_or_all(alloc, requirement.specifiers.clone()?)?;
         let marker = copy_marker(alloc, marker)?;
-        Ok(Asked {
+        Ok(Demand {
             line: line.clone()?,
             name: requirement.name.clone()?,
             marker,

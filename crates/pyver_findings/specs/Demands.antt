@@ -9,7 +9,7 @@ use Rattle.pep440_rs.specs.declared.specifier.operator.Operator.{Operator}
 use Rattle.pep440_rs.specs.declared.specifier.operator.Operator.TheVariants.{Equal, ExactEqual}
 use Rattle.pyver_findings.specs.FileLines.{FileLine}
 
-pub record Asked : Type 0 where
+pub record Demand : Type 0 where
   pub line : FileLine
   pub name : List ℕ
   pub marker : Option (List ℕ)
@@ -36,5 +36,5 @@ abbrev pub cover_or_all : List Spec → Segments
 cover_or_all list = or_all (list_range cover_of list)
 
 -- what the line asks for
-abbrev pub asked : FileLine → Option (List ℕ) → Needed → Asked
-asked line marker n = record { line = line; name = n.name; marker = marker; pinned = is_pinned n.specifiers; cover = cover_or_all n.specifiers }
+abbrev pub line_demand : FileLine → Option (List ℕ) → Needed → Demand
+line_demand line marker n = record { line = line; name = n.name; marker = marker; pinned = is_pinned n.specifiers; cover = cover_or_all n.specifiers }

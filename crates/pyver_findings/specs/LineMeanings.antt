@@ -7,7 +7,7 @@ use Rattle.pep440_pick.specs.RequirementTexts.{requirement_refusal_text}
 use Rattle.pep440_rs.specs.ErrorTexts.{specifier_refusal_text}
 use Rattle.pyver_requirements.specs.LineKinds.{ConstraintsFile, Editable, LineKind, Location, PipOption, Requirement, RequirementsFile, Variable, has_variable, line_kind}
 use Rattle.pyver_requirements.specs.LineParts.{LineParts, line_parts}
-use Rattle.pyver_findings.specs.Asked.{Asked, asked}
+use Rattle.pyver_findings.specs.Demands.{Demand, line_demand}
 use Rattle.pyver_findings.specs.Columns.{column}
 use Rattle.pyver_findings.specs.FileLines.{FileLine}
 use Rattle.pyver_findings.specs.Findings.{Finding, NoRequirement}
@@ -15,11 +15,11 @@ use Rattle.pyver_findings.specs.declared.cause.Cause.{Cause}
 use Rattle.pyver_findings.specs.declared.cause.Cause.TheVariants as cause
 
 -- a requirement; a line that is none; a line that is left out, and why; the name of another file
-pub data LineReading : Type 0 where
-  Asks : Asked → LineReading
-  IsNone : Finding → LineReading
-  LeftOut : Cause → LineReading
-  NamesFile : LineReading
+pub data LineMeaning : Type 0 where
+  Asks : Demand → LineMeaning
+  IsNone : Finding → LineMeaning
+  LeftOut : Cause → LineMeaning
+  NamesFile : LineMeaning
 
 -- ---- another file
 
@@ -29,7 +29,7 @@ has_scheme [] = false
 has_scheme (b ∷ rest) = starts_with nat_eq (b ∷ rest) (codes "://") || has_scheme rest
 
 -- the line that names this file
-abbrev pub names_file : List ℕ → LineReading
+abbrev pub names_file : List ℕ → LineMeaning
 names_file path = if has_variable path then LeftOut cause.Variable else (if has_scheme path then LeftOut cause.Url else NamesFile)
 
 -- ---- a requirement
@@ -40,50 +40,50 @@ requirement_reason (Specifiers list f) = specifier_refusal_text f.error
 requirement_reason f = requirement_refusal_text f
 
 -- what the line is with a URL: it is left out, and has no list before the URL
-abbrev pub before_url : FileLine → ℕ → Needed → LineReading
+abbrev pub before_url : FileLine → ℕ → Needed → LineMeaning
 before_url line column n = if length n.specifiers == 0 then LeftOut cause.Url else IsNone (NoRequirement line (codes "version specifiers stand before a URL") column)
 
 -- behind `@` a URL stands; this is what the line is
-abbrev pub with_url : FileLine → LineParts → Needed → Option (List ℕ) → LineReading
-with_url line p n None = Asks (asked line p.marker n)
+abbrev pub with_url : FileLine → LineParts → Needed → Option (List ℕ) → LineMeaning
+with_url line p n None = Asks (line_demand line p.marker n)
 with_url line p n (Some []) = IsNone (NoRequirement line (codes "no URL follows '@'") (length p.requirement))
 with_url line p n (Some (b ∷ url)) = before_url line (length p.requirement) n
 
 -- behind `;` a marker stands; this is what the line is
-abbrev pub with_marker : FileLine → LineParts → Needed → Option (List ℕ) → LineReading
+abbrev pub with_marker : FileLine → LineParts → Needed → Option (List ℕ) → LineMeaning
 with_marker line p n (Some []) = IsNone (NoRequirement line (codes "no marker follows ';'") (length p.requirement))
 with_marker line p n _ = with_url line p n p.url
 
 -- what the line is whose part before `@` and `;` is this requirement
-abbrev pub counted : FileLine → LineParts → Needed → LineReading
-counted line p n = with_marker line p n p.marker
+abbrev pub requirement_meaning : FileLine → LineParts → Needed → LineMeaning
+requirement_meaning line p n = with_marker line p n p.marker
 
 -- what the line is whose part before `@` and `;` is none, for this reason
-abbrev pub refused : FileLine → LineParts → RequirementRefusal → LineReading
-refused line p f = IsNone (NoRequirement line (requirement_reason f) (column p.requirement f))
+abbrev pub refusal_meaning : FileLine → LineParts → RequirementRefusal → LineMeaning
+refusal_meaning line p f = IsNone (NoRequirement line (requirement_reason f) (column p.requirement f))
 
 -- what the line is whose part before `@` and `;` is not UTF-8
-abbrev pub not_utf8 : FileLine → LineReading
+abbrev pub not_utf8 : FileLine → LineMeaning
 not_utf8 line = IsNone (NoRequirement line (codes "not UTF-8") 0)
 
 -- what a line with these parts is
-abbrev pub ReadsParts : FileLine → LineParts → LineReading → Type 0
-ReadsParts line p x = ((¬ IsUtf8 p.requirement) × (x ≡ not_utf8 line))
-    ⊎ (IsUtf8 p.requirement × (((n : Needed) × DerivesRequirement p.requirement n × (x ≡ counted line p n))
-    ⊎ ((f : RequirementRefusal) × RefusesRequirement p.requirement f × (x ≡ refused line p f))))
+abbrev pub IsPartsMeaning : FileLine → LineParts → LineMeaning → Type 0
+IsPartsMeaning line p x = ((¬ IsUtf8 p.requirement) × (x ≡ not_utf8 line))
+    ⊎ (IsUtf8 p.requirement × (((n : Needed) × DerivesRequirement p.requirement n × (x ≡ requirement_meaning line p n))
+    ⊎ ((f : RequirementRefusal) × RefusesRequirement p.requirement f × (x ≡ refusal_meaning line p f))))
 
 -- ---- all lines
 
 -- what a line of this kind is
-abbrev pub ReadsKind : FileLine → LineKind → LineReading → Type 0
-ReadsKind line (RequirementsFile path) x = x ≡ names_file path
-ReadsKind line (ConstraintsFile path) x = x ≡ names_file path
-ReadsKind line Editable x = x ≡ LeftOut cause.Editable
-ReadsKind line PipOption x = x ≡ LeftOut cause.PipOption
-ReadsKind line Variable x = x ≡ LeftOut cause.Variable
-ReadsKind line Location x = x ≡ LeftOut cause.Location
-ReadsKind line Requirement x = ReadsParts line (line_parts line.text) x
+abbrev pub IsKindMeaning : FileLine → LineKind → LineMeaning → Type 0
+IsKindMeaning line (RequirementsFile path) x = x ≡ names_file path
+IsKindMeaning line (ConstraintsFile path) x = x ≡ names_file path
+IsKindMeaning line Editable x = x ≡ LeftOut cause.Editable
+IsKindMeaning line PipOption x = x ≡ LeftOut cause.PipOption
+IsKindMeaning line Variable x = x ≡ LeftOut cause.Variable
+IsKindMeaning line Location x = x ≡ LeftOut cause.Location
+IsKindMeaning line Requirement x = IsPartsMeaning line (line_parts line.text) x
 
 -- what a line is
-abbrev pub ReadsLine : FileLine → LineReading → Type 0
-ReadsLine line x = ReadsKind line (line_kind line.text) x
+abbrev pub IsMeaning : FileLine → LineMeaning → Type 0
+IsMeaning line x = IsKindMeaning line (line_kind line.text) x
