@@ -6,6 +6,7 @@ use Rattle.std.specs.declared.cmp.Ordering.{Ordering}
 use Rattle.pep440_rs.specs.Arrangement.{ArrangesBy}
 use Rattle.pep440_version.specs.Key.{record_cmp}
 use Rattle.pep440_version.specs.Record.{Record}
+use Rattle.pyver_core.specs.InputLines.{Source}
 use Rattle.pyver_core.specs.Outcomes.{Outcome}
 use Rattle.pyver_core.specs.VersionLines.{OfVersions, VersionLine}
 use Rattle.pyver_core.specs.declared.sort.SortOptions.{SortOptions}
@@ -47,6 +48,6 @@ sort_outcome options sorted = record { output = lines_text (last_lines options.l
 abbrev pub SortsVersions : SortOptions → List VersionLine → Outcome → Type 0
 SortsVersions options lines o = (sorted : List VersionLine) × ArrangesBy (line_order options.reversed) lines sorted × (o ≡ sort_outcome options sorted)
 
--- what is written of the lines of the input
-abbrev pub SortsLines : SortOptions → List (List ℕ) → Outcome → Type 0
-SortsLines options texts o = OfVersions (SortsVersions options) texts o
+-- what is written of the lines of the sources
+abbrev pub SortsLines : SortOptions → List Source → Outcome → Type 0
+SortsLines options sources o = OfVersions (SortsVersions options) sources o

@@ -1,10 +1,11 @@
 -- Commands that read the whole input before they write.
 use Rattle.std.specs.Prelude.{◌≡◌, ℕ, List, [], ◌++◌, Option}
 use Rattle.std.specs.Io.KnownBytes.{Appends, Consumes, IsAtEnd}
-use Rattle.pyver_core.specs.InputLines.{input_lines}
+use Rattle.pyver_core.specs.InputLines.{Source, input_lines}
 use Rattle.pyver_core.specs.Outcomes.{Outcome}
 use Rattle.pyver_core.specs.Runs.{WroteBeginning}
 use Rattle.pyver_core.specs.Sorts.{SortsVersions}
+use Rattle.pyver_core.specs.Sources.{of_input}
 use Rattle.pyver_core.specs.VersionLines.{OfVersions, VersionLine}
 use Rattle.pyver_core.specs.declared.whole_input.Question.{Question}
 use Rattle.pyver_core.specs.declared.whole_input.Question.TheVariants as question
@@ -13,9 +14,9 @@ use Rattle.pyver_core.specs.declared.whole_input.Question.TheVariants as questio
 abbrev pub AnswersVersions : Question → List VersionLine → Outcome → Type 0
 AnswersVersions (question.Sort options) lines o = SortsVersions options lines o
 
--- what is written of the lines of the input
-abbrev pub AnswersInput : Question → List (List ℕ) → Outcome → Type 0
-AnswersInput asked texts o = OfVersions (AnswersVersions asked) texts o
+-- what is written of the lines of the sources
+abbrev pub AnswersInput : Question → List Source → Outcome → Type 0
+AnswersInput asked sources o = OfVersions (AnswersVersions asked) sources o
 
 module _ {R W E : Type 0} (remaining : R → Option (List ℕ)) (contents : W → Option (List ℕ)) (error_contents : E → Option (List ℕ)) where
   -- the whole input was read, and all was written
@@ -24,7 +25,7 @@ module _ {R W E : Type 0} (remaining : R → Option (List ℕ)) (contents : W �
     pub consumed : Consumes (remaining reader) (remaining reader') read
     pub end : IsAtEnd (remaining reader')
     pub outcome : Outcome
-    pub is : AnswersInput asked (input_lines read) outcome
+    pub is : AnswersInput asked (of_input (input_lines read)) outcome
     pub output : Appends (contents out) (contents out') outcome.output
     pub errors : Appends (error_contents err) (error_contents err') outcome.errors
     pub ended : status ≡ outcome.status
@@ -39,6 +40,6 @@ module _ {R W E : Type 0} (remaining : R → Option (List ℕ)) (contents : W �
     pub whole : rest ≡ [] → IsAtEnd (remaining reader')
     pub silent : ¬ (rest ≡ []) → front ≡ []
     pub outcome : Outcome
-    pub is : AnswersInput asked front outcome
+    pub is : AnswersInput asked (of_input front) outcome
     pub output : WroteBeginning (contents out) (contents out') outcome.output
     pub errors : WroteBeginning (error_contents err) (error_contents err') outcome.errors

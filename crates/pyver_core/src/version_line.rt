@@ -47,6 +47,7 @@ impl<'a> VersionLines<'a> {
     ghost use Rattle.pyver_core.specs.AnswerViews.{reading_of};
     ghost use Rattle.pyver_core.specs.ReadLines.{Entry};
     ghost use Rattle.pyver_core.specs.Readings.{Denotes, Fails};
+    ghost use Rattle.pyver_core.specs.Sources.{input_line};
     ghost use Rattle.pyver_core.specs.VersionLineViews.{IsOfLines, KeepsLines, KeepsOne};
 
     fn new(alloc: Global) -> VersionLines<'a>
@@ -61,7 +62,7 @@ impl<'a> VersionLines<'a> {
     }
 
     fn push_version(&mut self, text: &'a [u8], version: Version) -> Result<(), AllocError>
-        ensures { IfOk result (λ _. KeepsOne (record { line = (self.old.line_count, text.now); reading = Entry (Denotes version) }) self.old self.new) }
+        ensures { IfOk result (λ _. KeepsOne (record { line = input_line self.old.line_count text.now; reading = Entry (Denotes version) }) self.old self.new) }
     {
         self.lines.push(VersionLine { text, version })?;
         Ok(())
@@ -69,10 +70,10 @@ impl<'a> VersionLines<'a> {
 
     fn push_fault(&mut self, alloc: Global, text: &'a [u8], reason: &str) -> Result<(), AllocError>
         requires { (self.old.fault_count < self.old.line_count) × (self.old.line_count ≤ 2 ^ 63) }
-        ensures { IfOk result (λ _. KeepsOne (record { line = (self.old.line_count, text.now); reading = Entry (Fails reason.now) }) self.old self.new) }
+        ensures { IfOk result (λ _. KeepsOne (record { line = input_line self.old.line_count text.now; reading = Entry (Fails reason.now) }) self.old self.new) }
     {
         if self.fault_count < MESSAGE_LIMIT {
-            push_line_fault(alloc, &mut self.errors, self.line_count, reason)?;
+            push_line_fault(alloc, &mut self.errors, "-", self.line_count, reason)?;
         }
         self.fault_count += 1;
         Ok(())
@@ -85,7 +86,7 @@ impl<'a> VersionLines<'a> {
         reading: Reading,
     ) -> Result<(), AllocError>
         requires { (self.old.fault_count < self.old.line_count) × (self.old.line_count ≤ 2 ^ 63) }
-        ensures { IfOk result (λ _. KeepsOne (record { line = (self.old.line_count, text.now); reading = Entry (reading_of reading) }) self.old self.new) }
+        ensures { IfOk result (λ _. KeepsOne (record { line = input_line self.old.line_count text.now; reading = Entry (reading_of reading) }) self.old self.new) }
     {
         match reading {
             Reading::Version(version) => self.push_version(text, version),

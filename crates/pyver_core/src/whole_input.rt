@@ -1,8 +1,10 @@
 // Commands that read the whole input before they write.
-ghost use Rattle.std.specs.Prelude.{◌≤◌, IfErr, IfOk, List, ℕ, map};
+ghost use Rattle.std.specs.Prelude.{◌≤◌, IfErr, IfOk, List, Some, ℕ, map};
 ghost use Rattle.std.specs.Io.KnownBytes.{Consumes, IsAtEnd};
 ghost use Rattle.pyver_core.specs.AnswerViews.{outcome_of};
 ghost use Rattle.pyver_core.specs.InputLines.{input_lines};
+ghost use Rattle.pyver_core.specs.Sources.{input_name, of_input};
+ghost use Rattle.pyver_core.specs.SourceViews.{IsStopOf};
 ghost use Rattle.pyver_core.specs.VersionLineViews.{version_line_of};
 ghost use Rattle.pyver_core.specs.WholeInputs.{AnswersInput, AnswersVersions, WholeFinishes, WholeStops};
 
@@ -27,6 +29,7 @@ pub(crate) enum Question {
 fn read_whole<R: Read>(alloc: Global, input: &mut R) -> Result<Vec<u8>, Stop>
     ensures whole { IfOk result (λ text. Consumes (R.remaining input.old) (R.remaining input.new) text.items × IsAtEnd (R.remaining input.new)) }
     ensures part { IfErr result (λ _. (read : List ℕ) × Consumes (R.remaining input.old) (R.remaining input.new) read) }
+    ensures stop { IfErr result (IsStopOf (Some input_name)) }
 {
     let mut text = Vec::new(alloc);
     let mut buffer = [0u8; READ_SIZE];
@@ -58,7 +61,7 @@ fn answer_versions(
 
 /// What is to be written, where this is the whole input.
 fn answer_text(alloc: Global, question: Question, text: &[u8]) -> Result<Answer, AllocError>
-    ensures { IfOk result (λ a. AnswersInput question (input_lines text.now) (outcome_of a)) }
+    ensures { IfOk result (λ a. AnswersInput question (of_input (input_lines text.now)) (outcome_of a)) }
 {
     let read = VersionLines::read(alloc, text)?;
     if read.fault_count > 0 {
@@ -81,6 +84,7 @@ pub(crate) fn answer_input<R: Read, W: Write, E: Write>(
 ) -> Result<u8, Stop>
     ensures finished { IfOk result (λ status. (status ≤ 2) × WholeFinishes R.remaining W.contents E.contents question input.old input.new out.old out.new err.old err.new status) }
     ensures stopped { IfErr result (λ _. WholeStops R.remaining W.contents E.contents question input.old input.new out.old out.new err.old err.new) }
+    ensures stop { IfErr result (IsStopOf (Some input_name)) }
 {
     let text = match read_whole(alloc, input) {
         Ok(text) => text,
