@@ -44,7 +44,7 @@ pub(crate) fn filter_input<R: Read, W: Write, E: Write>(
     ensures finished { IfOk result (λ _. SourceFinishes R.remaining W.contents E.contents rule.now (origin_of origin.entry) state.old state.new input.old input.new out.old out.new err.old err.new) }
     ensures room { IfOk result (λ _. state.new.fault_count ≤ 8192 * state.new.read_count) }
     ensures stopped { IfErr result (λ _. SourceStops R.remaining W.contents E.contents rule.now (origin_of origin.entry) state.old input.old input.new out.old out.new err.old err.new) }
-    ensures stop { IfErr result (IsStopOf (Some origin.name.now)) }
+    ensures stop { IfErr result (IsStopOf (Some (origin_of origin.entry).name)) }
 {
     let mut buffer = [0u8; READ_SIZE];
     let mut line = Vec::new(alloc);
