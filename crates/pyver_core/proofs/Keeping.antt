@@ -4,31 +4,29 @@ use Rattle.std.proofs.lemmas.Grind.{flat_map-append}
 use Rattle.std.specs.List.{AllZip, concat, filter}
 use Rattle.std.specs.Option.{option_map_or}
 use Rattle.pyver_core.proofs.Filtering.{first-append, length-faults}
-use Rattle.pyver_core.proofs.InputLines.{all_append, filled_lines_from-append}
+use Rattle.pyver_core.proofs.InputLines.{all_append, filled_lines_from-append, filled_one}
 use Rattle.pyver_core.specs.InputLines.{filled_lines_from, input_lines, is_blank, numbered}
 use Rattle.pyver_core.specs.Messages.{more_faults_message}
 use Rattle.pyver_core.specs.LineOptions.{is_header, no_line_options}
 use Rattle.pyver_core.specs.ReadLines.{IsEntry, IsRead, LineReading, ReadLine, faults}
+use Rattle.pyver_core.specs.Sources.{input_line, input_origin}
 use Rattle.pyver_core.specs.VersionLines.{line_with, version_lines}
 use Rattle.pyver_core.specs.VersionLineViews.{IsOfLines, KeepsLines, KeepsOne, version_line_of}
 use Rattle.pyver_core.specs.declared.version_line.VersionLines.{VersionLines}
 
 version_lines-append : (xs ys : List ReadLine) → version_lines (xs ++ ys) ≡ version_lines xs ++ version_lines ys
-version_lines-append xs ys = flat_map-append (λ (x : ReadLine). line_with x.line.1 x.reading) xs ys
+version_lines-append xs ys = flat_map-append (λ (x : ReadLine). line_with x.line.text x.reading) xs ys
 
 -- ---- one line more
-
-filled_one : (n : ℕ) (line text : List ℕ) → (n, text) ≡ numbered (n, line) → filled_lines_from n (line ∷ []) ≡ cond (not (is_blank text)) ((n, text) ∷ []) []
-filled_one n line text is = ap (λ (p : ℕ × List ℕ). filter (λ (l : ℕ × List ℕ). not (is_blank l.1)) (p ∷ [])) (sym is)
 
 -- a blank line
 pub keeps_blank : (line text : List ℕ) (a b : VersionLines) → (a.line_count + 1, text) ≡ numbered (a.line_count + 1, line) → is_blank text ≡ true
     → b.line_count ≡ a.line_count + 1 → b.lines.items ≡ a.lines.items → b.fault_count ≡ a.fault_count → b.errors.items ≡ a.errors.items
     → (texts : List (List ℕ)) → KeepsLines texts a → KeepsLines (texts ++ line ∷ []) b
 keeps_blank line text a b is blank count lines fault errors texts k =
-    let none : filled_lines_from (a.line_count + 1) (line ∷ []) ≡ [] = filled_one (a.line_count + 1) line text is ∙ ap (λ c. cond (not c) ((a.line_count + 1, text) ∷ []) []) blank in
-    let all : filled_lines_from 1 (texts ++ line ∷ []) ≡ filled_lines_from 1 texts =
-    filled_lines_from-append 1 (a.line_count + 1) texts (line ∷ []) (omega (arith, k.line_count)) ∙ ap (λ l. filled_lines_from 1 texts ++ l) none ∙ append-nil (filled_lines_from 1 texts) in
+    let none : filled_lines_from input_origin (a.line_count + 1) (line ∷ []) ≡ [] = filled_one input_origin (a.line_count + 1) line text is ∙ ap (λ c. cond (not c) (input_line (a.line_count + 1) text ∷ []) []) blank in
+    let all : filled_lines_from input_origin 1 (texts ++ line ∷ []) ≡ filled_lines_from input_origin 1 texts =
+    filled_lines_from-append input_origin 1 (a.line_count + 1) texts (line ∷ []) (omega (arith, k.line_count)) ∙ ap (λ l. filled_lines_from input_origin 1 texts ++ l) none ∙ append-nil (filled_lines_from input_origin 1 texts) in
     record {
       found = k.found;
       are = subst (λ l. AllZip (IsRead no_line_options) l k.found) (sym all) k.are;
@@ -41,16 +39,16 @@ keeps_blank line text a b is blank count lines fault errors texts k =
 -- a line that is read
 pub keeps_line : (line text : List ℕ) (reading : LineReading) (a mid b : VersionLines) → (a.line_count + 1, text) ≡ numbered (a.line_count + 1, line) → is_blank text ≡ false → IsEntry (is_header no_line_options (a.line_count + 1)) no_line_options text reading
     → mid.line_count ≡ a.line_count + 1 → mid.lines.items ≡ a.lines.items → mid.fault_count ≡ a.fault_count → mid.errors.items ≡ a.errors.items
-    → KeepsOne (record { line = (mid.line_count, text); reading = reading }) mid b → (texts : List (List ℕ)) → KeepsLines texts a → KeepsLines (texts ++ line ∷ []) b
+    → KeepsOne (record { line = input_line mid.line_count text; reading = reading }) mid b → (texts : List (List ℕ)) → KeepsLines texts a → KeepsLines (texts ++ line ∷ []) b
 keeps_line line text reading a mid b is filled reads count lines fault errors one texts k =
     let n = a.line_count + 1 in
-    let x : ReadLine = record { line = (mid.line_count, text); reading = reading } in
-    let left : filled_lines_from n (line ∷ []) ≡ (n, text) ∷ [] = filled_one n line text is ∙ ap (λ c. cond (not c) ((n, text) ∷ []) []) filled in
-    let all : filled_lines_from 1 (texts ++ line ∷ []) ≡ filled_lines_from 1 texts ++ (n, text) ∷ [] =
-    filled_lines_from-append 1 n texts (line ∷ []) (omega (arith, k.line_count)) ∙ ap (λ l. filled_lines_from 1 texts ++ l) left in
+    let x : ReadLine = record { line = input_line mid.line_count text; reading = reading } in
+    let left : filled_lines_from input_origin n (line ∷ []) ≡ input_line n text ∷ [] = filled_one input_origin n line text is ∙ ap (λ c. cond (not c) (input_line n text ∷ []) []) filled in
+    let all : filled_lines_from input_origin 1 (texts ++ line ∷ []) ≡ filled_lines_from input_origin 1 texts ++ input_line n text ∷ [] =
+    filled_lines_from-append input_origin 1 n texts (line ∷ []) (omega (arith, k.line_count)) ∙ ap (λ l. filled_lines_from input_origin 1 texts ++ l) left in
     record {
       found = k.found ++ x ∷ [];
-      are = subst (λ l. AllZip (IsRead no_line_options) l (k.found ++ x ∷ [])) (sym all) (all_append (IsRead no_line_options) (filled_lines_from 1 texts) k.found ((n, text) ∷ []) (x ∷ []) k.are ((ap (λ m. (m, text)) count, reads), tt));
+      are = subst (λ l. AllZip (IsRead no_line_options) l (k.found ++ x ∷ [])) (sym all) (all_append (IsRead no_line_options) (filled_lines_from input_origin 1 texts) k.found (input_line n text ∷ []) (x ∷ []) k.are ((ap (λ m. input_line m text) count, reads), tt));
       line_count = omega (arith, one.line_count, count, k.line_count, length-append texts (line ∷ []));
       lines = one.lines ∙ ap (λ l. l ++ version_lines (x ∷ [])) (ap (map version_line_of) lines ∙ k.lines) ∙ sym (version_lines-append k.found (x ∷ []));
       fault_count = omega (arith, one.fault_count, fault, k.fault_count, length-faults k.found (x ∷ []));
@@ -64,7 +62,7 @@ pub is_of_lines : (a b : VersionLines) → b.lines.items ≡ a.lines.items → b
     → (texts : List (List ℕ)) → KeepsLines texts a → IsOfLines texts b
 is_of_lines a b lines fault errors texts k = record {
   found = k.found;
-  are = k.are;
+  are = subst (λ l. AllZip (IsRead no_line_options) l k.found) (sym (append-nil (filled_lines_from input_origin 1 texts))) k.are;
   lines = ap (map version_line_of) lines ∙ k.lines;
   fault_count = fault ∙ k.fault_count;
   errors = errors ∙ ap (λ n. a.errors.items ++ more_faults_message (n - 20)) k.fault_count ∙ ap (λ t. t ++ more_faults_message (length (faults k.found) - 20)) k.errors;

@@ -8,12 +8,13 @@ use Rattle.pyver_core.specs.InputLines.{input_lines}
 use Rattle.pyver_core.specs.Outcomes.{Outcome}
 use Rattle.pyver_core.specs.Runs.{WroteBeginning}
 use Rattle.pyver_core.specs.Sorts.{sort_outcome}
+use Rattle.pyver_core.specs.Sources.{of_input}
 use Rattle.pyver_core.specs.WholeInputs.{AnswersInput, WholeStops}
 use Rattle.pyver_core.specs.declared.whole_input.Question.{Question}
 use Rattle.pyver_core.specs.declared.whole_input.Question.TheVariants as question
 
 -- there is an answer where there are no lines
-pub no_lines : (asked : Question) → (o : Outcome) × AnswersInput asked [] o
+pub no_lines : (asked : Question) → (o : Outcome) × AnswersInput asked (of_input []) o
 no_lines (question.Sort options) = (sort_outcome options [], ([], tt, inl (refl, ([], none_sorted options.reversed, refl))))
 
 module _ {R W E : Type 0} (remaining : R → Option (List ℕ)) (contents : W → Option (List ℕ)) (error_contents : E → Option (List ℕ)) (asked : Question) (reader reader' : R) (out out' : W) (err err' : E) where
@@ -34,7 +35,7 @@ module _ {R W E : Type 0} (remaining : R → Option (List ℕ)) (contents : W �
   }
 
   -- a beginning was written
-  pub stops_written : (read : List ℕ) (o : Outcome) → Consumes (remaining reader) (remaining reader') read → IsAtEnd (remaining reader') → AnswersInput asked (input_lines read) o
+  pub stops_written : (read : List ℕ) (o : Outcome) → Consumes (remaining reader) (remaining reader') read → IsAtEnd (remaining reader') → AnswersInput asked (of_input (input_lines read)) o
       → WroteBeginning (contents out) (contents out') o.output → WroteBeginning (error_contents err) (error_contents err') o.errors → WholeStops remaining contents error_contents asked reader reader' out out' err err'
   stops_written read o consumed end is output errors = record {
     read = read;
