@@ -117,30 +117,30 @@ began a b c xs ys rest all wrote k is = record {
 }
 
 -- all of a beginning
-pub wrote_front : (a b : Option (List ℕ)) (xs rest all : List ℕ) → Appends a b xs → all ≡ xs ++ rest → WroteBeginning a b all
-wrote_front a b xs rest all wrote is = record { written = xs; left = rest; wrote = wrote; whole = is }
+pub wrote_front : (earlier b : Option (List ℕ)) (xs rest all : List ℕ) → Appends earlier b xs → all ≡ xs ++ rest → WroteBeginning earlier b all
+wrote_front earlier b xs rest all wrote is = record { written = xs; left = rest; wrote = wrote; whole = is }
 
 module _ {W E : Type 0} (contents : W → Option (List ℕ)) (error_contents : E → Option (List ℕ)) (rule : FilterRule) (origin : Origin) where
-  pub wrote_none : (a b : FilterState) (out : W) (err : E) → b.fault_count ≡ a.fault_count → b.output.items ≡ [] → b.errors.items ≡ [] → Wrote contents error_contents rule (record { origin = origin; lines = [] }) a b out out err err
-  wrote_none a b out err fault output errors = record {
+  pub wrote_none : (earlier : ℕ) (b : FilterState) (out : W) (err : E) → b.fault_count ≡ earlier → b.output.items ≡ [] → b.errors.items ≡ [] → Wrote contents error_contents rule (record { origin = origin; lines = [] }) earlier b out out err err
+  wrote_none earlier b out err fault output errors = record {
     found = [];
     are = tt;
     fault_count = omega (arith, fault);
     output = Appends-nil (contents out);
-    errors = subst (Appends (error_contents err) (error_contents err)) (ap concat (sym (take-nil (message_limit rule.lines.invalid - a.fault_count)))) (Appends-nil (error_contents err));
+    errors = subst (Appends (error_contents err) (error_contents err)) (ap concat (sym (take-nil (message_limit rule.lines.invalid - earlier)))) (Appends-nil (error_contents err));
     no_output = output;
     no_errors = errors;
   }
 
-  pub some_of_all : (source : Source) (a b : FilterState) (out out' : W) (err err' : E) → Wrote contents error_contents rule source a b out out' err err' → WroteSome contents error_contents rule source a out out' err err'
-  some_of_all source a b out out' err err' k = record {
+  pub some_of_all : (source : Source) (earlier : ℕ) (b : FilterState) (out out' : W) (err err' : E) → Wrote contents error_contents rule source earlier b out out' err err' → WroteSome contents error_contents rule source earlier out out' err err'
+  some_of_all source earlier b out out' err err' k = record {
     found = k.found;
     are = k.are;
     output = wrote_front _ _ (printed_lines rule k.found) [] _ k.output (sym (append-nil (printed_lines rule k.found)));
-    errors = wrote_front _ _ (concat (take (message_limit rule.lines.invalid - a.fault_count) (faults k.found))) [] _ k.errors (sym (append-nil _));
+    errors = wrote_front _ _ (concat (take (message_limit rule.lines.invalid - earlier) (faults k.found))) [] _ k.errors (sym (append-nil _));
   }
 
-  module _ (ended texts : List (List ℕ)) (a b next : FilterState) (out out' out'' : W) (err err' err'' : E) (k : Wrote contents error_contents rule (record { origin = origin; lines = ended }) a b out out' err err') (count : b.line_count ≡ length ended)
+  module _ (ended texts : List (List ℕ)) (earlier : ℕ) (b next : FilterState) (out out' out'' : W) (err err' err'' : E) (k : Wrote contents error_contents rule (record { origin = origin; lines = ended }) earlier b out out' err err') (count : b.line_count ≡ length ended)
       (s : Steps rule origin texts b next) where
     found_more : AllZip (IsRead rule.lines) (filled_lines_from origin 1 (ended ++ texts)) (k.found ++ s.found)
     found_more = subst (λ l. AllZip (IsRead rule.lines) l (k.found ++ s.found)) (sym (filled_lines_from-append origin 1 (b.line_count + 1) ended texts (omega (arith, count)))) (all_append (IsRead rule.lines) _ k.found _ s.found k.are s.are)
@@ -148,70 +148,73 @@ module _ {W E : Type 0} (contents : W → Option (List ℕ)) (error_contents : E
     printed_more : printed_lines rule (k.found ++ s.found) ≡ printed_lines rule k.found ++ next.output.items
     printed_more = printed_lines-append rule k.found s.found ∙ ap (λ t. printed_lines rule k.found ++ t) (sym (s.output ∙ ap (λ t. t ++ printed_lines rule s.found) k.no_output))
 
-    faults_more : concat (take (message_limit rule.lines.invalid - a.fault_count) (faults (k.found ++ s.found))) ≡ concat (take (message_limit rule.lines.invalid - a.fault_count) (faults k.found)) ++ next.errors.items
+    faults_more : concat (take (message_limit rule.lines.invalid - earlier) (faults (k.found ++ s.found))) ≡ concat (take (message_limit rule.lines.invalid - earlier) (faults k.found)) ++ next.errors.items
     faults_more =
-        first-append (message_limit rule.lines.invalid - a.fault_count) (message_limit rule.lines.invalid - b.fault_count) k.found s.found (omega (arith, k.fault_count))
-        ∙ ap (λ t. concat (take (message_limit rule.lines.invalid - a.fault_count) (faults k.found)) ++ t) (sym (s.errors ∙ ap (λ t. t ++ concat (take (message_limit rule.lines.invalid - b.fault_count) (faults s.found))) k.no_errors))
+        first-append (message_limit rule.lines.invalid - earlier) (message_limit rule.lines.invalid - b.fault_count) k.found s.found (omega (arith, k.fault_count))
+        ∙ ap (λ t. concat (take (message_limit rule.lines.invalid - earlier) (faults k.found)) ++ t) (sym (s.errors ∙ ap (λ t. t ++ concat (take (message_limit rule.lines.invalid - b.fault_count) (faults s.found))) k.no_errors))
 
     pub wrote_more : (cleared : FilterState) → Appends (contents out') (contents out'') next.output.items → Appends (error_contents err') (error_contents err'') next.errors.items
-        → cleared.fault_count ≡ next.fault_count → cleared.output.items ≡ [] → cleared.errors.items ≡ [] → Wrote contents error_contents rule (record { origin = origin; lines = ended ++ texts }) a cleared out out'' err err''
+        → cleared.fault_count ≡ next.fault_count → cleared.output.items ≡ [] → cleared.errors.items ≡ [] → Wrote contents error_contents rule (record { origin = origin; lines = ended ++ texts }) earlier cleared out out'' err err''
     wrote_more cleared output errors fault no_output no_errors = record {
       found = k.found ++ s.found;
       are = found_more;
       fault_count = omega (arith, fault, s.fault_count, k.fault_count, length-faults k.found s.found);
       output = subst (Appends (contents out) (contents out'')) (sym printed_more) (Appends-trans (contents out) (contents out') (contents out'') (printed_lines rule k.found) next.output.items k.output output);
       errors = subst (Appends (error_contents err) (error_contents err'')) (sym faults_more)
-          (Appends-trans (error_contents err) (error_contents err') (error_contents err'') (concat (take (message_limit rule.lines.invalid - a.fault_count) (faults k.found))) next.errors.items k.errors errors);
+          (Appends-trans (error_contents err) (error_contents err') (error_contents err'') (concat (take (message_limit rule.lines.invalid - earlier) (faults k.found))) next.errors.items k.errors errors);
       no_output = no_output;
       no_errors = no_errors;
     }
 
     pub some_more : WroteBeginning (contents out') (contents out'') next.output.items → WroteBeginning (error_contents err') (error_contents err'') next.errors.items
-        → WroteSome contents error_contents rule (record { origin = origin; lines = ended ++ texts }) a out out'' err err''
+        → WroteSome contents error_contents rule (record { origin = origin; lines = ended ++ texts }) earlier out out'' err err''
     some_more output errors = record {
       found = k.found ++ s.found;
       are = found_more;
       output = began _ _ _ (printed_lines rule k.found) next.output.items [] _ k.output output (printed_more ∙ sym (append-nil (printed_lines rule k.found ++ next.output.items)));
-      errors = began _ _ _ (concat (take (message_limit rule.lines.invalid - a.fault_count) (faults k.found))) next.errors.items [] _ k.errors errors (faults_more ∙ sym (append-nil _));
+      errors = began _ _ _ (concat (take (message_limit rule.lines.invalid - earlier) (faults k.found))) next.errors.items [] _ k.errors errors (faults_more ∙ sym (append-nil _));
     }
 
 -- ---- the loop over a source
 
+-- the state where a read more was made
+abbrev pub counted : FilterState → FilterState
+counted s = record { read_count = s.read_count + 1; line_count = s.line_count; fault_count = s.fault_count; output = s.output; errors = s.errors }
+
 module _ {S W E : Type 0} (remaining : S → Option (List ℕ)) (contents : W → Option (List ℕ)) (error_contents : E → Option (List ℕ)) (rule : FilterRule) (origin : Origin) where
-  pub goes_none : (a b : FilterState) (reader : S) (out : W) (err : E) (line : List ℕ) → b.line_count ≡ 0 → b.fault_count ≡ a.fault_count → b.output.items ≡ [] → b.errors.items ≡ [] → line ≡ []
-      → Goes remaining contents error_contents rule origin a b reader reader out out err err line
-  goes_none a b reader out err line count fault output errors none = record {
+  pub goes_none : (earlier : ℕ) (b : FilterState) (reader : S) (out : W) (err : E) (line : List ℕ) → b.line_count ≡ 0 → b.fault_count ≡ earlier → b.output.items ≡ [] → b.errors.items ≡ [] → line ≡ []
+      → Goes remaining contents error_contents rule origin earlier b reader reader out out err err line
+  goes_none earlier b reader out err line count fault output errors none = record {
     read = [];
     consumed = Consumes-nil (remaining reader);
     ended = [];
     cut = subst (Cuts [] []) (sym none) (record { all = λ rest. refl; one = no_newline_none });
     line_count = count;
-    wrote = wrote_none contents error_contents rule origin a b out err fault output errors;
+    wrote = wrote_none contents error_contents rule origin earlier b out err fault output errors;
   }
 
-  module _ (a b : FilterState) (reader reader' : S) (out out' : W) (err err' : E) (line : List ℕ) (g : Goes remaining contents error_contents rule origin a b reader reader' out out' err err' line) where
+  module _ (earlier : ℕ) (b : FilterState) (reader reader' : S) (out out' : W) (err err' : E) (line : List ℕ) (g : Goes remaining contents error_contents rule origin earlier b reader reader' out out' err err' line) where
     -- a read more is counted
-    pub goes_counted : (c : FilterState) → c.line_count ≡ b.line_count → c.fault_count ≡ b.fault_count → c.output.items ≡ b.output.items → c.errors.items ≡ b.errors.items
-        → Goes remaining contents error_contents rule origin a c reader reader' out out' err err' line
-    goes_counted c count fault output errors = record {
+    pub goes_counted : Goes remaining contents error_contents rule origin earlier (counted b) reader reader' out out' err err' line
+    goes_counted = record {
       read = g.read;
       consumed = g.consumed;
       ended = g.ended;
       cut = g.cut;
-      line_count = count ∙ g.line_count;
+      line_count = g.line_count;
       wrote = record {
         found = g.wrote.found;
         are = g.wrote.are;
-        fault_count = fault ∙ g.wrote.fault_count;
+        fault_count = g.wrote.fault_count;
         output = g.wrote.output;
         errors = g.wrote.errors;
-        no_output = output ∙ g.wrote.no_output;
-        no_errors = errors ∙ g.wrote.no_errors;
+        no_output = g.wrote.no_output;
+        no_errors = g.wrote.no_errors;
       };
     }
 
     -- nothing was written of the bytes that were read
-    pub stops_reading : (reader'' : S) (bytes : List ℕ) → Consumes (remaining reader') (remaining reader'') bytes → SourceStops remaining contents error_contents rule origin a reader reader'' out out' err err'
+    pub stops_reading : (reader'' : S) (bytes : List ℕ) → Consumes (remaining reader') (remaining reader'') bytes → SourceStops remaining contents error_contents rule origin earlier reader reader'' out out' err err'
     stops_reading reader'' bytes took = record {
       read = g.read ++ bytes;
       consumed = Consumes-trans (remaining reader) (remaining reader') (remaining reader'') g.read bytes g.consumed took;
@@ -219,7 +222,7 @@ module _ {S W E : Type 0} (remaining : S → Option (List ℕ)) (contents : W �
       rest = input_lines (line ++ bytes);
       split = g.cut.all bytes;
       whole = λ none. absurd (some_line (line ++ bytes) none);
-      wrote = some_of_all contents error_contents rule origin (record { origin = origin; lines = g.ended }) a b out out' err err' g.wrote;
+      wrote = some_of_all contents error_contents rule origin (record { origin = origin; lines = g.ended }) earlier b out out' err err' g.wrote;
     }
 
     module _ (reader'' : S) (out'' : W) (err'' : E) (next : FilterState) where
@@ -227,20 +230,20 @@ module _ {S W E : Type 0} (remaining : S → Option (List ℕ)) (contents : W �
       pub goes_more : (bytes : List ℕ) (texts : List (List ℕ)) (begun : List ℕ) (cleared : FilterState) → Consumes (remaining reader') (remaining reader'') bytes → Cuts (line ++ bytes) texts begun → Steps rule origin texts b next
           → Appends (contents out') (contents out'') next.output.items → Appends (error_contents err') (error_contents err'') next.errors.items
           → cleared.line_count ≡ next.line_count → cleared.fault_count ≡ next.fault_count → cleared.output.items ≡ [] → cleared.errors.items ≡ []
-          → Goes remaining contents error_contents rule origin a cleared reader reader'' out out'' err err'' begun
+          → Goes remaining contents error_contents rule origin earlier cleared reader reader'' out out'' err err'' begun
       goes_more bytes texts begun cleared took cut s output errors count fault no_output no_errors = record {
         read = g.read ++ bytes;
         consumed = Consumes-trans (remaining reader) (remaining reader') (remaining reader'') g.read bytes g.consumed took;
         ended = g.ended ++ texts;
         cut = cuts_more g.read g.ended line bytes texts begun g.cut cut;
         line_count = omega (arith, count, s.line_count, g.line_count, length-append g.ended texts);
-        wrote = wrote_more contents error_contents rule origin g.ended texts a b next out out' out'' err err' err'' g.wrote g.line_count s cleared output errors fault no_output no_errors;
+        wrote = wrote_more contents error_contents rule origin g.ended texts earlier b next out out' out'' err err' err'' g.wrote g.line_count s cleared output errors fault no_output no_errors;
       }
 
       -- a beginning was written of what their lines ask for
       pub stops_writing : (bytes : List ℕ) (texts : List (List ℕ)) (begun : List ℕ) → Consumes (remaining reader') (remaining reader'') bytes → Cuts (line ++ bytes) texts begun → Steps rule origin texts b next
           → WroteBeginning (contents out') (contents out'') next.output.items → WroteBeginning (error_contents err') (error_contents err'') next.errors.items
-          → SourceStops remaining contents error_contents rule origin a reader reader'' out out'' err err''
+          → SourceStops remaining contents error_contents rule origin earlier reader reader'' out out'' err err''
       stops_writing bytes texts begun took cut s output errors = record {
         read = g.read ++ bytes;
         consumed = Consumes-trans (remaining reader) (remaining reader') (remaining reader'') g.read bytes g.consumed took;
@@ -248,26 +251,26 @@ module _ {S W E : Type 0} (remaining : S → Option (List ℕ)) (contents : W �
         rest = input_lines (begun ++ []);
         split = ap input_lines (sym (append-nil (g.read ++ bytes))) ∙ (cuts_more g.read g.ended line bytes texts begun g.cut cut).all [];
         whole = λ none. absurd (some_line (begun ++ []) none);
-        wrote = some_more contents error_contents rule origin g.ended texts a b next out out' out'' err err' err'' g.wrote g.line_count s output errors;
+        wrote = some_more contents error_contents rule origin g.ended texts earlier b next out out' out'' err err' err'' g.wrote g.line_count s output errors;
       }
 
       -- the source ended, and all was written
       pub finishes : (cleared : FilterState) → Consumes (remaining reader') (remaining reader'') [] → IsAtEnd (remaining reader'') → Steps rule origin (line ∷ []) b next
           → Appends (contents out') (contents out'') next.output.items → Appends (error_contents err') (error_contents err'') next.errors.items
           → cleared.fault_count ≡ next.fault_count → cleared.output.items ≡ [] → cleared.errors.items ≡ []
-          → SourceFinishes remaining contents error_contents rule origin a cleared reader reader'' out out'' err err''
+          → SourceFinishes remaining contents error_contents rule origin earlier cleared reader reader'' out out'' err err''
       finishes cleared took end s output errors fault no_output no_errors = record {
         read = g.read ++ [];
         consumed = Consumes-trans (remaining reader) (remaining reader') (remaining reader'') g.read [] g.consumed took;
         end = end;
-        wrote = subst (λ l. Wrote contents error_contents rule (record { origin = origin; lines = l }) a cleared out out'' err err'') (sym (cuts_all g.read g.ended line g.cut ∙ append-nil (g.ended ++ line ∷ [])))
-            (wrote_more contents error_contents rule origin g.ended (line ∷ []) a b next out out' out'' err err' err'' g.wrote g.line_count s cleared output errors fault no_output no_errors);
+        wrote = subst (λ l. Wrote contents error_contents rule (record { origin = origin; lines = l }) earlier cleared out out'' err err'') (sym (cuts_all g.read g.ended line g.cut ∙ append-nil (g.ended ++ line ∷ [])))
+            (wrote_more contents error_contents rule origin g.ended (line ∷ []) earlier b next out out' out'' err err' err'' g.wrote g.line_count s cleared output errors fault no_output no_errors);
       }
 
       -- the source ended, and a beginning was written
       pub stops_finishing : Consumes (remaining reader') (remaining reader'') [] → IsAtEnd (remaining reader'') → Steps rule origin (line ∷ []) b next
           → WroteBeginning (contents out') (contents out'') next.output.items → WroteBeginning (error_contents err') (error_contents err'') next.errors.items
-          → SourceStops remaining contents error_contents rule origin a reader reader'' out out'' err err''
+          → SourceStops remaining contents error_contents rule origin earlier reader reader'' out out'' err err''
       stops_finishing took end s output errors = record {
         read = g.read ++ [];
         consumed = Consumes-trans (remaining reader) (remaining reader') (remaining reader'') g.read [] g.consumed took;
@@ -275,5 +278,5 @@ module _ {S W E : Type 0} (remaining : S → Option (List ℕ)) (contents : W �
         rest = [];
         split = cuts_all g.read g.ended line g.cut;
         whole = λ _. end;
-        wrote = some_more contents error_contents rule origin g.ended (line ∷ []) a b next out out' out'' err err' err'' g.wrote g.line_count s output errors;
+        wrote = some_more contents error_contents rule origin g.ended (line ∷ []) earlier b next out out' out'' err err' err'' g.wrote g.line_count s output errors;
       }

@@ -51,24 +51,24 @@ pub record FinishesBy (rule : FilterRule) (unopened : Option Unopened) (a b : Fi
   pub low : status ≤ 2
 
 module _ {W E : Type 0} (contents : W → Option (List ℕ)) (error_contents : E → Option (List ℕ)) where
-  -- from one state to another, all that these lines ask for was written
-  pub record Wrote (rule : FilterRule) (source : Source) (a b : FilterState) (out out' : W) (err err' : E) : Type 0 where
+  -- all that these lines ask for was written, behind lines of which so many were invalid
+  pub record Wrote (rule : FilterRule) (source : Source) (earlier : ℕ) (b : FilterState) (out out' : W) (err err' : E) : Type 0 where
     pub found : List ReadLine
     pub are : AllZip (IsRead rule.lines) (source_lines source) found
-    pub fault_count : b.fault_count ≡ a.fault_count + length (faults found)
+    pub fault_count : b.fault_count ≡ earlier + length (faults found)
     pub output : Appends (contents out) (contents out') (printed_lines rule found)
-    pub errors : Appends (error_contents err) (error_contents err') (concat (take (message_limit rule.lines.invalid - a.fault_count) (faults found)))
+    pub errors : Appends (error_contents err) (error_contents err') (concat (take (message_limit rule.lines.invalid - earlier) (faults found)))
     pub no_output : b.output.items ≡ []
     pub no_errors : b.errors.items ≡ []
 
-  -- from a state on, a beginning of what these lines ask for was written
-  pub record WroteSome (rule : FilterRule) (source : Source) (a : FilterState) (out out' : W) (err err' : E) : Type 0 where
+  -- a beginning of what these lines ask for was written, behind lines of which so many were invalid
+  pub record WroteSome (rule : FilterRule) (source : Source) (earlier : ℕ) (out out' : W) (err err' : E) : Type 0 where
     pub found : List ReadLine
     pub are : AllZip (IsRead rule.lines) (source_lines source) found
     pub output : WroteBeginning (contents out) (contents out') (printed_lines rule found)
-    pub errors : WroteBeginning (error_contents err) (error_contents err') (concat (take (message_limit rule.lines.invalid - a.fault_count) (faults found)))
+    pub errors : WroteBeginning (error_contents err) (error_contents err') (concat (take (message_limit rule.lines.invalid - earlier) (faults found)))
 
-  -- of the first state, all that the lines of these sources ask for was written
+  -- all that the lines of these sources ask for was written
   pub record WroteAll (rule : FilterRule) (sources : List Source) (b : FilterState) (out out' : W) (err err' : E) : Type 0 where
     pub found : List ReadLine
     pub are : AllZip (IsRead rule.lines) (filled_lines sources) found
@@ -80,37 +80,37 @@ module _ {W E : Type 0} (contents : W → Option (List ℕ)) (error_contents : E
 
 module _ {S W E : Type 0} (remaining : S → Option (List ℕ)) (contents : W → Option (List ℕ)) (error_contents : E → Option (List ℕ)) where
   -- the source was read so far, and all that its ended lines ask for was written
-  pub record Goes (rule : FilterRule) (origin : Origin) (a b : FilterState) (reader reader' : S) (out out' : W) (err err' : E) (line : List ℕ) : Type 0 where
+  pub record Goes (rule : FilterRule) (origin : Origin) (earlier : ℕ) (b : FilterState) (reader reader' : S) (out out' : W) (err err' : E) (line : List ℕ) : Type 0 where
     pub read : List ℕ
     pub consumed : Consumes (remaining reader) (remaining reader') read
     pub ended : List (List ℕ)
     pub cut : Cuts read ended line
     pub line_count : b.line_count ≡ length ended
-    pub wrote : Wrote contents error_contents rule (record { origin = origin; lines = ended }) a b out out' err err'
+    pub wrote : Wrote contents error_contents rule (record { origin = origin; lines = ended }) earlier b out out' err err'
 
   -- the whole source was read, and all that it asks for was written
-  pub record SourceFinishes (rule : FilterRule) (origin : Origin) (a b : FilterState) (reader reader' : S) (out out' : W) (err err' : E) : Type 0 where
+  pub record SourceFinishes (rule : FilterRule) (origin : Origin) (earlier : ℕ) (b : FilterState) (reader reader' : S) (out out' : W) (err err' : E) : Type 0 where
     pub read : List ℕ
     pub consumed : Consumes (remaining reader) (remaining reader') read
     pub end : IsAtEnd (remaining reader')
-    pub wrote : Wrote contents error_contents rule (record { origin = origin; lines = input_lines read }) a b out out' err err'
+    pub wrote : Wrote contents error_contents rule (record { origin = origin; lines = input_lines read }) earlier b out out' err err'
 
   -- some lines were read, and a beginning of what they ask for was written
-  pub record SourceStops (rule : FilterRule) (origin : Origin) (a : FilterState) (reader reader' : S) (out out' : W) (err err' : E) : Type 0 where
+  pub record SourceStops (rule : FilterRule) (origin : Origin) (earlier : ℕ) (reader reader' : S) (out out' : W) (err err' : E) : Type 0 where
     pub read : List ℕ
     pub consumed : Consumes (remaining reader) (remaining reader') read
     pub front : List (List ℕ)
     pub rest : List (List ℕ)
     pub split : input_lines read ≡ front ++ rest
     pub whole : rest ≡ [] → IsAtEnd (remaining reader')
-    pub wrote : WroteSome contents error_contents rule (record { origin = origin; lines = front }) a out out' err err'
+    pub wrote : WroteSome contents error_contents rule (record { origin = origin; lines = front }) earlier out out' err err'
 
 module _ {R W E : Type 0} (files : List ℕ → KnownFile) (remaining : R → Option (List ℕ)) (contents : W → Option (List ℕ)) (error_contents : E → Option (List ℕ)) where
   -- the source with this name was read, and all that it asks for was written
-  pub record NamedReads (rule : FilterRule) (origin : Origin) (a b : FilterState) (reader reader' : R) (out out' : W) (err err' : E) : Type 0 where
+  pub record NamedReads (rule : FilterRule) (origin : Origin) (earlier : ℕ) (b : FilterState) (reader reader' : R) (out out' : W) (err err' : E) : Type 0 where
     pub source : Source
     pub reads : ReadsSource files remaining origin reader reader' source
-    pub wrote : Wrote contents error_contents rule source a b out out' err err'
+    pub wrote : Wrote contents error_contents rule source earlier b out out' err err'
 
   -- the file with this name was not opened, and nothing was done
   pub record NamedRefuses (origin : Origin) (failure : OpenFailure) (a b : FilterState) (reader reader' : R) (out out' : W) (err err' : E) : Type 0 where
@@ -122,14 +122,14 @@ module _ {R W E : Type 0} (files : List ℕ → KnownFile) (remaining : R → Op
     pub err_kept : err' ≡ err
 
   abbrev pub NamedFinishes : FilterRule → Origin → FilterState → FilterState → R → R → W → W → E → E → Option OpenFailure → Type 0
-  NamedFinishes rule origin a b reader reader' out out' err err' None = NamedReads rule origin a b reader reader' out out' err err'
+  NamedFinishes rule origin a b reader reader' out out' err err' None = NamedReads rule origin a.fault_count b reader reader' out out' err err'
   NamedFinishes rule origin a b reader reader' out out' err err' (Some failure) = NamedRefuses origin failure a b reader reader' out out' err err'
 
   -- some lines of the source with this name were read, and a beginning of what they ask for was written
-  pub record NamedStops (rule : FilterRule) (origin : Origin) (a : FilterState) (reader reader' : R) (out out' : W) (err err' : E) (stop : Stop) : Type 0 where
+  pub record NamedStops (rule : FilterRule) (origin : Origin) (earlier : ℕ) (reader reader' : R) (out out' : W) (err err' : E) (stop : Stop) : Type 0 where
     pub source : Source
     pub lines : ReadsLines files remaining origin reader reader' source
-    pub wrote : WroteSome contents error_contents rule source a out out' err err'
+    pub wrote : WroteSome contents error_contents rule source earlier out out' err err'
     pub stops : IsStopOf (Some origin.name) stop
 
   -- the sources with these names were read, up to one that was not opened if there was one, and all that they ask for was written

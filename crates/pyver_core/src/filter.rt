@@ -1,5 +1,5 @@
 // The command `filter`: which lines are printed, and what is to be written of them.
-ghost use Rattle.std.specs.Prelude.{◌≡◌, ◌++◌, IfOk};
+ghost use Rattle.std.specs.Prelude.{◌≡◌, ◌≤◌, ◌++◌, IfOk};
 ghost use Rattle.std.specs.Option.{option_map};
 ghost use Rattle.pyver_core.specs.Messages.{line_fault_message};
 ghost use Rattle.pyver_core.specs.Sources.{unopened_message, unopened_status};
@@ -83,7 +83,9 @@ fn push_unopened(errors: &mut Vec<u8>, unopened: Option<Unopened<'_>>) -> Result
 
 /// The status, where it is this one without the file.
 fn unopened_status(unopened: Option<Unopened<'_>>, status: u8) -> u8
-    ensures { result ≡ unopened_status (option_map unopened_of unopened.entry) status }
+    requires { status ≤ 2 }
+    ensures is { result ≡ unopened_status (option_map unopened_of unopened.entry) status }
+    ensures low { result ≤ 2 }
 {
     match unopened {
         Some(_) => 2,
@@ -105,7 +107,7 @@ pub(crate) struct FilterState {
 }
 
 impl FilterState {
-    ghost use Rattle.std.specs.Prelude.{◌+◌, ◌*◌, ◌<◌, ◌≤◌, ◌^◌, ◌∷◌, [], List, ℕ, length};
+    ghost use Rattle.std.specs.Prelude.{◌+◌, ◌*◌, ◌<◌, ◌^◌, ◌∷◌, [], List, ℕ, length};
     ghost use Rattle.pyver_core.specs.AnswerViews.{reading_of};
     ghost use Rattle.pyver_core.specs.FilterSteps.{Cuts, FinishesBy, HasNoNewline, Steps, StepsBy};
     ghost use Rattle.pyver_core.specs.ReadLines.{Entry, Header, ReadLine};

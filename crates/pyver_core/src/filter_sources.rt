@@ -29,7 +29,7 @@ fn filter_named<F: Files, R: Read, W: Write, E: Write>(
     requires room { state.old.fault_count ≤ 8192 * state.old.read_count }
     ensures finished { IfOk result (NamedFinishes (F.known files.old) R.remaining W.contents E.contents rule.now (origin_of origin.entry) state.old state.new input.old input.new out.old out.new err.old err.new) }
     ensures room { IfOk result (λ _. state.new.fault_count ≤ 8192 * state.new.read_count) }
-    ensures stopped { IfErr result (NamedStops (F.known files.old) R.remaining W.contents E.contents rule.now (origin_of origin.entry) state.old input.old input.new out.old out.new err.old err.new) }
+    ensures stopped { IfErr result (NamedStops (F.known files.old) R.remaining W.contents E.contents rule.now (origin_of origin.entry) state.old.fault_count input.old input.new out.old out.new err.old err.new) }
     ensures kept { F.known files.new ≡ F.known files.old }
 {
     if is_input(origin.name) {
