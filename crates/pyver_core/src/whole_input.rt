@@ -29,6 +29,7 @@ pub(crate) enum Question {
     Newest(NewestRule),
 }
 
+/// How lines are read.
 fn question_lines(question: &Question) -> LineOptions
     ensures { result ≡ question_lines question.now }
 {
@@ -59,6 +60,7 @@ fn read_whole<R: Read>(alloc: Global, input: &mut R) -> Result<Vec<u8>, Stop>
     Err(Stop::Read)
 }
 
+/// What is to be written of these lines, of which no invalid one is an error.
 fn answer_valid(
     alloc: Global,
     question: &Question,
@@ -72,7 +74,7 @@ fn answer_valid(
     }
 }
 
-/// Nothing is printed where invalid lines are an error and there are some.
+/// The same of any lines: nothing is printed where invalid lines are an error and there are some.
 fn answer_lines(
     alloc: Global,
     question: &Question,
