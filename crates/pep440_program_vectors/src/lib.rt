@@ -5,6 +5,8 @@
 #[cfg(test)]
 mod change_words;
 #[cfg(test)]
+mod held_files;
+#[cfg(test)]
 mod lists;
 #[cfg(test)]
 mod long;

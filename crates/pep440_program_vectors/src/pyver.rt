@@ -1,4 +1,5 @@
 //! Runs of `pyver` over writers of its own kind, with each request for memory refused in turn.
+use super::held_files::NoFiles;
 use super::support::{After, Manner, Sink, Trickle, split_words};
 use pyver_core::run;
 use std::alloc::Global;
@@ -35,7 +36,7 @@ pub fn writes(alloc: Global, words: &[String], output: &str, errors: &str, statu
     let mut out = Sink::new(Manner::TakesAtMost(7));
     let mut err = Sink::new(Manner::TakesAtMost(512));
     let mut input = Trickle::new(b"never read", After::Fails);
-    let ended = run(alloc, words, &mut input, &mut out, &mut err);
+    let ended = run(alloc, words, &mut NoFiles, &mut input, &mut out, &mut err);
     if input.calls != 0 {
         return false;
     }
@@ -67,7 +68,7 @@ fn tells_failed_write(alloc: Global, words: &[String], manner: Manner, front: &s
     let mut out = Sink::new(manner);
     let mut err = Sink::new(Manner::TakesAtMost(512));
     let mut input = Trickle::new(b"", After::End);
-    match run(alloc, words, &mut input, &mut out, &mut err) {
+    match run(alloc, words, &mut NoFiles, &mut input, &mut out, &mut err) {
         3 => out.bytes().is_empty() && err.bytes() == LACK.as_bytes(),
         4 => out.bytes() == front.as_bytes() && err.bytes() == "pyver: a write failed\n".as_bytes(),
         _ => false,
@@ -90,7 +91,14 @@ fn sweep_errors_that_fail(rt: HostRuntime) -> Result<(), Fail> {
     let mut out = Sink::new(Manner::TakesAtMost(512));
     let mut err = Sink::new(Manner::FailsPast(5));
     let mut input = Trickle::new(b"", After::End);
-    let ended = run(rt.alloc(), words.as_slice(), &mut input, &mut out, &mut err);
+    let ended = run(
+        rt.alloc(),
+        words.as_slice(),
+        &mut NoFiles,
+        &mut input,
+        &mut out,
+        &mut err,
+    );
     assert!(rt; ended == 4 || ended == 3, "the status");
     assert!(rt; out.bytes().is_empty(), "nothing is answered");
     assert!(rt;

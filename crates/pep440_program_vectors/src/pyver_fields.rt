@@ -101,7 +101,7 @@ const WRONG_FIELDS: [(&str, &str); 9] = [
     ),
     (
         "filter|-k",
-        "pyver: usage: pyver filter [-v] [--pre | --no-pre] [-k N] [-d C] [--header] [--invalid HOW] SPECS\nTry 'pyver filter --help'.\n",
+        "pyver: usage: pyver filter [-v] [--pre | --no-pre] [-k N] [-d C] [--header] [--invalid HOW] SPECS [FILE..]\nTry 'pyver filter --help'.\n",
     ),
     (
         "filter|--headre|",

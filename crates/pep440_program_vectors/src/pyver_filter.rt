@@ -1,4 +1,5 @@
 //! Runs of `pyver filter` over readers and writers of their own kinds, with each request for memory refused in turn.
+use super::held_files::NoFiles;
 use super::support::{After, Manner, Sink, Trickle, split_words};
 use pyver_core::run;
 use std::alloc::Global;
@@ -91,7 +92,7 @@ const FILTERED: [(&str, &[u8], &str, &str, u8); 20] = [
         "filter",
         b"",
         "",
-        "pyver: usage: pyver filter [-v] [--pre | --no-pre] [-k N] [-d C] [--header] [--invalid HOW] SPECS\nTry 'pyver filter --help'.\n",
+        "pyver: usage: pyver filter [-v] [--pre | --no-pre] [-k N] [-d C] [--header] [--invalid HOW] SPECS [FILE..]\nTry 'pyver filter --help'.\n",
         2,
     ),
     (
@@ -159,7 +160,7 @@ const INVALID_LINES: [(&str, &[u8], &str, &str, u8); 10] = [
         "filter|--invalid",
         b"",
         "",
-        "pyver: usage: pyver filter [-v] [--pre | --no-pre] [-k N] [-d C] [--header] [--invalid HOW] SPECS\nTry 'pyver filter --help'.\n",
+        "pyver: usage: pyver filter [-v] [--pre | --no-pre] [-k N] [-d C] [--header] [--invalid HOW] SPECS [FILE..]\nTry 'pyver filter --help'.\n",
         2,
     ),
     (
@@ -190,7 +191,7 @@ pub(super) fn writes(
     let mut input = Trickle::new(text, After::End);
     let mut out = Sink::new(Manner::TakesAtMost(7));
     let mut err = Sink::new(Manner::TakesAtMost(512));
-    let ended = run(alloc, words, &mut input, &mut out, &mut err);
+    let ended = run(alloc, words, &mut NoFiles, &mut input, &mut out, &mut err);
     if ended == 3 {
         return output.as_bytes().starts_with(out.bytes()) && ends_with(err.bytes(), errors, LACK);
     }
@@ -223,8 +224,15 @@ pub(super) fn rejects_list(alloc: Global, filter: &[String], matching: &[String]
     let mut out = Sink::new(Manner::TakesAtMost(512));
     let mut err = Sink::new(Manner::TakesAtMost(512));
     let mut told = Sink::new(Manner::TakesAtMost(512));
-    let ended = run(alloc, filter, &mut input, &mut out, &mut err);
-    let wanted = run(alloc, matching, &mut input, &mut out, &mut told);
+    let ended = run(alloc, filter, &mut NoFiles, &mut input, &mut out, &mut err);
+    let wanted = run(
+        alloc,
+        matching,
+        &mut NoFiles,
+        &mut input,
+        &mut out,
+        &mut told,
+    );
     let same = ended == 2 && wanted == 2 && err.bytes() == told.bytes();
     (same || ended == 3 || wanted == 3) && input.calls == 0 && out.bytes().is_empty()
 }
@@ -279,7 +287,7 @@ fn stops(alloc: Global, words: &[String], row: (After, Manner, Manner, &str, &st
     let mut input = Trickle::new(b"x\n1.0\n2.0\n3", after);
     let mut out = Sink::new(out_manner);
     let mut err = Sink::new(err_manner);
-    match run(alloc, words, &mut input, &mut out, &mut err) {
+    match run(alloc, words, &mut NoFiles, &mut input, &mut out, &mut err) {
         3 => output.as_bytes().starts_with(out.bytes()),
         4 => out.bytes() == output.as_bytes() && ends_with(err.bytes(), FAULT, message),
         _ => false,
@@ -315,7 +323,14 @@ fn sweep_many_invalid_lines(rt: HostRuntime) -> Result<(), Fail> {
         b"x\nx\nx\nx\nx\nx\nx\nx\nx\nx\nx\nx\nx\nx\nx\nx\nx\nx\nx\nx\nx\nx\nx\nx\n1.0\nx";
     let mut out = Sink::new(Manner::TakesAtMost(512));
     let mut err = Vec::new(rt.alloc());
-    let status = run(rt.alloc(), words.as_slice(), &mut input, &mut out, &mut err);
+    let status = run(
+        rt.alloc(),
+        words.as_slice(),
+        &mut NoFiles,
+        &mut input,
+        &mut out,
+        &mut err,
+    );
     assert!(rt; status == 2 || status == 3 || status == 4, "the status");
     if status == 2 {
         let lines = err.as_slice().iter().filter(|byte| **byte == b'\n').count();

@@ -1,4 +1,5 @@
 //! Runs of `pyver range`, with each request for memory refused in turn.
+use super::held_files::NoFiles;
 use super::support::{After, Manner, Sink, Trickle, split_words};
 use pyver_core::run;
 use std::alloc::Global;
@@ -131,7 +132,7 @@ fn writes(alloc: Global, words: &[String], output: &str, errors: &str, status: u
     let mut out = Sink::new(Manner::TakesAtMost(512));
     let mut err = Sink::new(Manner::TakesAtMost(512));
     let mut input = Trickle::new(b"never read", After::Fails);
-    let ended = run(alloc, words, &mut input, &mut out, &mut err);
+    let ended = run(alloc, words, &mut NoFiles, &mut input, &mut out, &mut err);
     if input.calls != 0 {
         return false;
     }
@@ -185,7 +186,14 @@ fn sweep_ranges_that_cannot_be_written(rt: HostRuntime) -> Result<(), Fail> {
         let mut out = Sink::new(manner);
         let mut err = Sink::new(Manner::TakesAtMost(512));
         let mut input = Trickle::new(b"", After::End);
-        let ended = run(rt.alloc(), words.as_slice(), &mut input, &mut out, &mut err);
+        let ended = run(
+            rt.alloc(),
+            words.as_slice(),
+            &mut NoFiles,
+            &mut input,
+            &mut out,
+            &mut err,
+        );
         let written = if ended == 3 { "" } else { front };
         assert!(rt; ended == 4 || ended == 3, "{front}");
         assert!(rt; out.bytes() == written.as_bytes(), "{front}");

@@ -1,4 +1,5 @@
 //! Runs of `pyver show`, with each request for memory refused in turn.
+use super::held_files::NoFiles;
 use super::support::{After, Manner, Sink, Trickle, split_words};
 use pyver_core::run;
 use std::alloc::Global;
@@ -101,7 +102,7 @@ fn writes(alloc: Global, words: &[String], output: &str, errors: &str, status: u
     let mut out = Sink::new(Manner::TakesAtMost(512));
     let mut err = Sink::new(Manner::TakesAtMost(512));
     let mut input = Trickle::new(b"", After::End);
-    let ended = run(alloc, words, &mut input, &mut out, &mut err);
+    let ended = run(alloc, words, &mut NoFiles, &mut input, &mut out, &mut err);
     if ended == 3 {
         return out.bytes().is_empty() && err.bytes() == "pyver: out of memory\n".as_bytes();
     }

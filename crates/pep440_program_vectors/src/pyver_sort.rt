@@ -1,4 +1,5 @@
 //! Runs of `pyver sort` over readers and writers of their own kinds, with each request for memory refused in turn.
+use super::held_files::NoFiles;
 use super::pyver_filter::{ends_with, writes};
 use super::support::{After, Manner, Sink, Trickle, split_words};
 use pyver_core::run;
@@ -442,7 +443,7 @@ pub(super) fn stops(
     let mut input = Trickle::new(text, after);
     let mut out = Sink::new(out_manner);
     let mut err = Sink::new(err_manner);
-    match run(alloc, words, &mut input, &mut out, &mut err) {
+    match run(alloc, words, &mut NoFiles, &mut input, &mut out, &mut err) {
         0 => errors.is_empty() && message.is_empty() && out.bytes() == output.as_bytes(),
         3 => out.bytes().is_empty(),
         4 => out.bytes() == output.as_bytes() && ends_with(err.bytes(), errors, message),
@@ -466,7 +467,7 @@ pub(super) fn names_twenty(alloc: Global, words: &[String]) -> bool {
         b"x\nx\nx\nx\nx\nx\nx\nx\nx\nx\nx\nx\nx\nx\nx\nx\nx\nx\nx\nx\nx\nx\nx\nx\n1.0\nx";
     let mut out = Sink::new(Manner::TakesAtMost(512));
     let mut err = Vec::new(alloc);
-    let status = run(alloc, words, &mut input, &mut out, &mut err);
+    let status = run(alloc, words, &mut NoFiles, &mut input, &mut out, &mut err);
     if !out.bytes().is_empty() {
         return false;
     }

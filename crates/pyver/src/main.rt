@@ -1,10 +1,13 @@
-//! The program `pyver`: its arguments, standard input, standard output and standard error.
+//! The program `pyver`: its arguments, files, standard input, standard output and standard error.
 #![tactic(auto)]
+
+mod system_files;
 
 use pyver_core::{refuse, run};
 use std::env;
 use std::io::{self, ErrorKind};
 use std::process::ExitCode;
+use system_files::SystemFiles;
 
 /// The arguments after the program's own name.
 fn words(rt: &HostRuntime) -> io::Result<Vec<String>> {
@@ -29,6 +32,7 @@ fn main(rt: HostRuntime) -> ExitCode {
     let status = run(
         rt.alloc(),
         words.as_slice(),
+        &mut SystemFiles::new(&rt),
         &mut rt.stdin(),
         &mut rt.stdout(),
         &mut rt.stderr(),

@@ -1,11 +1,12 @@
 -- Lines of a text that grows byte by byte, and lines with their numbers.
-use Rattle.std.proofs.Common.{◌≡◌, ◌∙◌, ◌+◌, ◌==◌, ◌<◌, ℕ, List, [], ◌∷◌, ◌++◌, false, not, length, take, map, get_or, refl, sym, ap, subst, arith, append_assoc, append-nil, drop, take-append-drop}
+use Rattle.std.proofs.Common.{◌≡◌, ◌∙◌, ◌+◌, ◌==◌, ◌<◌, ℕ, List, [], ◌∷◌, ◌++◌, cond, false, not, length, take, map, get_or, refl, sym, ap, subst, arith, append_assoc, append-nil, drop, take-append-drop}
 use Rattle.std.specs.List.{AllZip, enumerate_from, filter}
+use Rattle.std.proofs.lemmas.Grind.{flat_map-append}
 use Rattle.std.proofs.lemmas.List.{drop_more, map-append, take_more}
 use Rattle.std.proofs.lemmas.List.Elements.{All-nil, All-push, filter-append}
 use Rattle.std.proofs.lemmas.List.Splits.{length-slice_split, slice_split_at, slice_split_none}
 use Rattle.pyver_core.specs.FilterSteps.{Cuts, HasNoNewline}
-use Rattle.pyver_core.specs.InputLines.{is_blank, input_lines, numbered, filled_lines_from}
+use Rattle.pyver_core.specs.InputLines.{Line, Origin, Source, filled_lines, filled_lines_from, input_lines, is_blank, line_in, numbered, source_lines}
 
 -- ---- the lines of a text
 
@@ -72,11 +73,19 @@ enumerate_from-append : {X : Type 0} (n : ℕ) (xs ys : List X) → enumerate_fr
 enumerate_from-append n [] ys = ap (λ m. enumerate_from m ys) (omega arith)
 enumerate_from-append n (x ∷ xs) ys = ap (λ l. (n, x) ∷ l) (enumerate_from-append (n + 1) xs ys ∙ ap (λ m. enumerate_from (n + 1) xs ++ enumerate_from m ys) (omega arith))
 
-pub filled_lines_from-append : (n m : ℕ) (xs ys : List (List ℕ)) → m ≡ n + length xs → filled_lines_from n (xs ++ ys) ≡ filled_lines_from n xs ++ filled_lines_from m ys
-filled_lines_from-append n m xs ys e =
-    let test = λ (line : ℕ × List ℕ). not (is_blank line.1) in
-    ap (λ l. filter test (map numbered l)) (enumerate_from-append n xs ys) ∙ ap (filter test) (map-append numbered (enumerate_from n xs) (enumerate_from (n + length xs) ys))
-    ∙ filter-append test (map numbered (enumerate_from n xs)) (map numbered (enumerate_from (n + length xs) ys)) ∙ ap (λ k. filled_lines_from n xs ++ filled_lines_from k ys) (sym e)
+pub filled_lines_from-append : (origin : Origin) (n m : ℕ) (xs ys : List (List ℕ)) → m ≡ n + length xs → filled_lines_from origin n (xs ++ ys) ≡ filled_lines_from origin n xs ++ filled_lines_from origin m ys
+filled_lines_from-append origin n m xs ys e =
+    let test = λ (line : Line). not (is_blank line.text) in
+    ap (λ l. filter test (map (line_in origin) l)) (enumerate_from-append n xs ys) ∙ ap (filter test) (map-append (line_in origin) (enumerate_from n xs) (enumerate_from (n + length xs) ys))
+    ∙ filter-append test (map (line_in origin) (enumerate_from n xs)) (map (line_in origin) (enumerate_from (n + length xs) ys)) ∙ ap (λ k. filled_lines_from origin n xs ++ filled_lines_from origin k ys) (sym e)
+
+-- one line
+pub filled_one : (origin : Origin) (n : ℕ) (line text : List ℕ) → (n, text) ≡ numbered (n, line) → filled_lines_from origin n (line ∷ []) ≡ cond (not (is_blank text)) (record { origin = origin; number = n; text = text } ∷ []) []
+filled_one origin n line text is = ap (λ (p : ℕ × List ℕ). filter (λ (l : Line). not (is_blank l.text)) (record { origin = origin; number = p.0; text = p.1 } ∷ [])) (sym is)
+
+-- one source more
+pub filled_lines-last : (xs : List Source) (s : Source) → filled_lines (xs ++ s ∷ []) ≡ filled_lines xs ++ source_lines s
+filled_lines-last xs s = flat_map-append source_lines xs (s ∷ []) ∙ ap (λ l. filled_lines xs ++ l) (append-nil (source_lines s))
 
 pub all_append : {A B : Type 0} (R : A → B → Type 0) (xs : List A) (ys : List B) (us : List A) (vs : List B) → AllZip R xs ys → AllZip R us vs → AllZip R (xs ++ us) (ys ++ vs)
 all_append R [] [] us vs h k = k

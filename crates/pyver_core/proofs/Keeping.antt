@@ -2,14 +2,15 @@
 use Rattle.std.proofs.Common.{Bor, ◌≡◌, ◌∙◌, ◌+◌, ◌-◌, ◌<◌, ◌^◌, ℕ, List, [], ◌∷◌, ◌++◌, true, false, cond, not, Option, Some, IfSome, length, take, map, refl, sym, ap, subst, arith, append_assoc, append-nil, length-append}
 use Rattle.std.proofs.Math.Seq.{take-nil}
 use Rattle.std.proofs.lemmas.Grind.{flat_map-append}
-use Rattle.std.specs.List.{AllZip, concat, filter}
+use Rattle.std.specs.List.{AllZip, concat}
 use Rattle.std.specs.Option.{option_map_or}
 use Rattle.pyver_core.proofs.Filtering.{first-append, length-faults}
-use Rattle.pyver_core.proofs.InputLines.{all_append, filled_lines_from-append}
+use Rattle.pyver_core.proofs.InputLines.{all_append, filled_lines_from-append, filled_one}
 use Rattle.pyver_core.specs.InputLines.{filled_lines_from, input_lines, is_blank, numbered}
 use Rattle.pyver_core.specs.InvalidLines.{last_message, message_limit}
 use Rattle.pyver_core.specs.LineOptions.{is_header}
 use Rattle.pyver_core.specs.ReadLines.{IsEntry, IsRead, LineReading, ReadLine, faults}
+use Rattle.pyver_core.specs.Sources.{input_line, input_origin}
 use Rattle.pyver_core.specs.VersionLines.{header_text, header_with, kept_lines, kept_with, line_with, version_lines}
 use Rattle.pyver_core.specs.VersionLineViews.{IsOfLines, KeepsLines, KeepsOne, version_line_of}
 use Rattle.pyver_core.specs.declared.invalid_lines.InvalidLines.{InvalidLines}
@@ -17,13 +18,13 @@ use Rattle.pyver_core.specs.declared.line_options.LineOptions.{LineOptions}
 use Rattle.pyver_core.specs.declared.version_line.VersionLines.{VersionLines}
 
 header_text-append : (xs ys : List ReadLine) → header_text (xs ++ ys) ≡ header_text xs ++ header_text ys
-header_text-append xs ys = flat_map-append (λ (x : ReadLine). header_with x.line.1 x.reading) xs ys
+header_text-append xs ys = flat_map-append (λ (x : ReadLine). header_with x.line x.reading) xs ys
 
 version_lines-append : (xs ys : List ReadLine) → version_lines (xs ++ ys) ≡ version_lines xs ++ version_lines ys
-version_lines-append xs ys = flat_map-append (λ (x : ReadLine). line_with x.line.1 x.reading) xs ys
+version_lines-append xs ys = flat_map-append (λ (x : ReadLine). line_with x.line.text x.reading) xs ys
 
 kept_lines-append : (how : InvalidLines) (xs ys : List ReadLine) → kept_lines how (xs ++ ys) ≡ kept_lines how xs ++ kept_lines how ys
-kept_lines-append how xs ys = flat_map-append (λ (x : ReadLine). kept_with how x.line.1 x.reading) xs ys
+kept_lines-append how xs ys = flat_map-append (λ (x : ReadLine). kept_with how x.line.text x.reading) xs ys
 
 -- ---- no line, and one line more
 
@@ -39,9 +40,6 @@ keeps_none options s count header versions invalid fault errors = record {
   errors = errors ∙ ap concat (sym (take-nil (message_limit options.invalid)));
 }
 
-filled_one : (n : ℕ) (line text : List ℕ) → (n, text) ≡ numbered (n, line) → filled_lines_from n (line ∷ []) ≡ cond (not (is_blank text)) ((n, text) ∷ []) []
-filled_one n line text is = ap (λ (p : ℕ × List ℕ). filter (λ (l : ℕ × List ℕ). not (is_blank l.1)) (p ∷ [])) (sym is)
-
 -- only the count of lines is new
 pub record SameBut (a b : VersionLines) : Type 0 where
   pub line_count : b.line_count ≡ a.line_count + 1
@@ -55,9 +53,9 @@ pub record SameBut (a b : VersionLines) : Type 0 where
 pub keeps_blank : (options : LineOptions) (line text : List ℕ) (a b : VersionLines) → (a.line_count + 1, text) ≡ numbered (a.line_count + 1, line) → is_blank text ≡ true → SameBut a b
     → (texts : List (List ℕ)) → KeepsLines options texts a → KeepsLines options (texts ++ line ∷ []) b
 keeps_blank options line text a b is blank same texts k =
-    let none : filled_lines_from (a.line_count + 1) (line ∷ []) ≡ [] = filled_one (a.line_count + 1) line text is ∙ ap (λ c. cond (not c) ((a.line_count + 1, text) ∷ []) []) blank in
-    let all : filled_lines_from 1 (texts ++ line ∷ []) ≡ filled_lines_from 1 texts =
-    filled_lines_from-append 1 (a.line_count + 1) texts (line ∷ []) (omega (arith, k.line_count)) ∙ ap (λ l. filled_lines_from 1 texts ++ l) none ∙ append-nil (filled_lines_from 1 texts) in
+    let none : filled_lines_from input_origin (a.line_count + 1) (line ∷ []) ≡ [] = filled_one input_origin (a.line_count + 1) line text is ∙ ap (λ c. cond (not c) (input_line (a.line_count + 1) text ∷ []) []) blank in
+    let all : filled_lines_from input_origin 1 (texts ++ line ∷ []) ≡ filled_lines_from input_origin 1 texts =
+    filled_lines_from-append input_origin 1 (a.line_count + 1) texts (line ∷ []) (omega (arith, k.line_count)) ∙ ap (λ l. filled_lines_from input_origin 1 texts ++ l) none ∙ append-nil (filled_lines_from input_origin 1 texts) in
     record {
       found = k.found;
       are = subst (λ l. AllZip (IsRead options) l k.found) (sym all) k.are;
@@ -72,17 +70,17 @@ keeps_blank options line text a b is blank same texts k =
 -- a line that is read
 pub keeps_line : (options : LineOptions) (line text : List ℕ) (reading : LineReading) (a mid b : VersionLines) → (a.line_count + 1, text) ≡ numbered (a.line_count + 1, line) → is_blank text ≡ false
     → IsEntry (is_header options (a.line_count + 1)) options text reading → SameBut a mid
-    → KeepsOne options (record { line = (mid.line_count, text); reading = reading }) mid b → (texts : List (List ℕ)) → KeepsLines options texts a → KeepsLines options (texts ++ line ∷ []) b
+    → KeepsOne options (record { line = input_line mid.line_count text; reading = reading }) mid b → (texts : List (List ℕ)) → KeepsLines options texts a → KeepsLines options (texts ++ line ∷ []) b
 keeps_line options line text reading a mid b is filled reads same one texts k =
     let n = a.line_count + 1 in
-    let x : ReadLine = record { line = (mid.line_count, text); reading = reading } in
-    let left : filled_lines_from n (line ∷ []) ≡ (n, text) ∷ [] = filled_one n line text is ∙ ap (λ c. cond (not c) ((n, text) ∷ []) []) filled in
-    let all : filled_lines_from 1 (texts ++ line ∷ []) ≡ filled_lines_from 1 texts ++ (n, text) ∷ [] =
-    filled_lines_from-append 1 n texts (line ∷ []) (omega (arith, k.line_count)) ∙ ap (λ l. filled_lines_from 1 texts ++ l) left in
+    let x : ReadLine = record { line = input_line mid.line_count text; reading = reading } in
+    let left : filled_lines_from input_origin n (line ∷ []) ≡ input_line n text ∷ [] = filled_one input_origin n line text is ∙ ap (λ c. cond (not c) (input_line n text ∷ []) []) filled in
+    let all : filled_lines_from input_origin 1 (texts ++ line ∷ []) ≡ filled_lines_from input_origin 1 texts ++ input_line n text ∷ [] =
+    filled_lines_from-append input_origin 1 n texts (line ∷ []) (omega (arith, k.line_count)) ∙ ap (λ l. filled_lines_from input_origin 1 texts ++ l) left in
     let limit = message_limit options.invalid in
     record {
       found = k.found ++ x ∷ [];
-      are = subst (λ l. AllZip (IsRead options) l (k.found ++ x ∷ [])) (sym all) (all_append (IsRead options) (filled_lines_from 1 texts) k.found ((n, text) ∷ []) (x ∷ []) k.are ((ap (λ m. (m, text)) same.line_count, reads), tt));
+      are = subst (λ l. AllZip (IsRead options) l (k.found ++ x ∷ [])) (sym all) (all_append (IsRead options) (filled_lines_from input_origin 1 texts) k.found (input_line n text ∷ []) (x ∷ []) k.are ((ap (λ m. input_line m text) same.line_count, reads), tt));
       line_count = omega (arith, one.line_count, same.line_count, k.line_count, length-append texts (line ∷ []));
       header = one.header ∙ ap (λ l. l ++ header_text (x ∷ [])) (same.header ∙ k.header) ∙ sym (header_text-append k.found (x ∷ []));
       versions = one.versions ∙ ap (λ l. l ++ version_lines (x ∷ [])) (ap (map version_line_of) same.versions ∙ k.versions) ∙ sym (version_lines-append k.found (x ∷ []));
@@ -103,7 +101,7 @@ is_of_lines options a b header versions invalid fault errors texts k =
     let messages = errors ∙ ap (λ n. a.errors.items ++ last_message options.invalid n) k.fault_count ∙ ap (λ t. t ++ last_message options.invalid (length (faults k.found))) k.errors in
     record {
       found = k.found;
-      are = k.are;
+      are = subst (λ l. AllZip (IsRead options) l k.found) (sym (append-nil (filled_lines_from input_origin 1 texts))) k.are;
       fault_count = fault ∙ k.fault_count;
       parts = λ i. record { header = headers i; versions = lines i; invalid = kept i; messages = messages i };
     }

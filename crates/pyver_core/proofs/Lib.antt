@@ -2,6 +2,7 @@ pub mod Told
 pub mod InTurn
 pub mod InputLines
 pub mod Filtering
+pub mod SourceFilters
 pub mod Keeping
 pub mod Sorting
 pub mod Choosing

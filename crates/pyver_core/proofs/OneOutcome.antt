@@ -15,7 +15,7 @@ use Rattle.pyver_core.specs.CommonRanges.{FindsCommon, RangeReading, ReadsRange,
 use Rattle.pyver_core.specs.Comparisons.{Compares, comparison_outcome}
 use Rattle.pyver_core.specs.Fields.{field}
 use Rattle.pyver_core.specs.Filters.{Filters, FiltersBy, FiltersLines, filter_outcome, rule_of}
-use Rattle.pyver_core.specs.InputLines.{filled_lines_from}
+use Rattle.pyver_core.specs.InputLines.{Line, Source, filled_lines}
 use Rattle.pyver_core.specs.LineOptions.{is_header}
 use Rattle.pyver_core.specs.Matches.{Matches, MatchesBy, MatchesWord, MatchesWords, ReadsSpecifiers, SpecifiersReading, DenotesList, ListFails, word_outcome}
 use Rattle.pyver_core.specs.Newest.{FindsNewest, FindsNewestBy, FindsNewestLine, candidates, newest_outcome, newest_rule}
@@ -25,6 +25,7 @@ use Rattle.pyver_core.specs.ReadLines.{Entry, Header, IsEntry, IsRead, LineReadi
 use Rattle.pyver_core.specs.Readings.{Reading, Reads, Denotes, Fails}
 use Rattle.pyver_core.specs.Shows.{Shows, ShowsWord, show_outcome}
 use Rattle.pyver_core.specs.Sorts.{SortsParts, sort_outcome}
+use Rattle.pyver_core.specs.Sources.{Input}
 use Rattle.pyver_core.specs.Tasks.{Help, NameVersion, Compare, Match, Filter, Sort, Newest, Show, Bump, Range, Misused}
 use Rattle.pyver_core.specs.VersionLines.{InputParts, OfFound, OfVersions, input_parts}
 use Rattle.pyver_core.specs.declared.allowed.MatchOptions.{MatchOptions}
@@ -90,10 +91,10 @@ entry_once header options text Header (Entry y) h k = let both : true ≡ false 
 entry_once header options text (Entry x) Header h k = let both : true ≡ false = sym k ∙ h.0 in cc both
 entry_once header options text (Entry x) (Entry y) h k = ap Entry (part_once options.field options.delimiter text x y h.1 k.1)
 
-is_read_once : (options : LineOptions) (line : ℕ × List ℕ) (x y : ReadLine) → IsRead options line x → IsRead options line y → x ≡ y
+is_read_once : (options : LineOptions) (line : Line) (x y : ReadLine) → IsRead options line x → IsRead options line y → x ≡ y
 is_read_once options line x y h k =
     let lines_same = h.0 ∙ sym k.0 in
-    let readings = entry_once (is_header options line.0) options line.1 x.reading y.reading h.1 k.1 in
+    let readings = entry_once (is_header options line.number) options line.text x.reading y.reading h.1 k.1 in
     λ i. record { line = lines_same i; reading = readings i }
 
 words_once : (quiet takes : Bool) (list : List Spec) (words : List (List ℕ)) (a b : Outcome) → MatchesWords quiet takes list words a → MatchesWords quiet takes list words b → a ≡ b
@@ -106,15 +107,15 @@ by_once options (ListFails message) words a b h k = h ∙ sym k
 match_once : (options : MatchOptions) (specifiers : List ℕ) (words : List (List ℕ)) (a b : Outcome) → Matches options specifiers words a → Matches options specifiers words b → a ≡ b
 match_once options specifiers words a b (x, hx, h) (u, hu, k) = by_once options x words a b h (subst (λ (z : SpecifiersReading). MatchesBy options z words b) (sym (specifiers_once specifiers x u hx hu)) k)
 
-filters_once : (rule : FilterRule) (texts : List (List ℕ)) (a b : Outcome) → Filters rule texts a → Filters rule texts b → a ≡ b
-filters_once rule texts a b (es, h, is) (fs, k, so) = is ∙ ap (filter_outcome rule) (all_once (IsRead rule.lines) (is_read_once rule.lines) (filled_lines_from 1 texts) es fs h k) ∙ sym so
+filters_once : (rule : FilterRule) (input : Input) (a b : Outcome) → Filters rule input a → Filters rule input b → a ≡ b
+filters_once rule input a b (es, h, is) (fs, k, so) = is ∙ ap (λ l. filter_outcome rule l input.unopened) (all_once (IsRead rule.lines) (is_read_once rule.lines) (filled_lines input.sources) es fs h k) ∙ sym so
 
-filter_by_once : (options : FilterOptions) (x : SpecifiersReading) (texts : List (List ℕ)) (a b : Outcome) → FiltersBy options x texts a → FiltersBy options x texts b → a ≡ b
-filter_by_once options (DenotesList list) texts a b h k = filters_once (rule_of options list) texts a b h k
-filter_by_once options (ListFails message) texts a b h k = h ∙ sym k
+filter_by_once : (options : FilterOptions) (x : SpecifiersReading) (input : Input) (a b : Outcome) → FiltersBy options x input a → FiltersBy options x input b → a ≡ b
+filter_by_once options (DenotesList list) input a b h k = filters_once (rule_of options list) input a b h k
+filter_by_once options (ListFails message) input a b h k = h ∙ sym k
 
-filter_once : (options : FilterOptions) (specifiers : List ℕ) (texts : List (List ℕ)) (a b : Outcome) → FiltersLines options specifiers texts a → FiltersLines options specifiers texts b → a ≡ b
-filter_once options specifiers texts a b (x, hx, h) (u, hu, k) = filter_by_once options x texts a b h (subst (λ (z : SpecifiersReading). FiltersBy options z texts b) (sym (specifiers_once specifiers x u hx hu)) k)
+filter_once : (options : FilterOptions) (specifiers : List ℕ) (input : Input) (a b : Outcome) → FiltersLines options specifiers input a → FiltersLines options specifiers input b → a ≡ b
+filter_once options specifiers input a b (x, hx, h) (u, hu, k) = filter_by_once options x input a b h (subst (λ (z : SpecifiersReading). FiltersBy options z input b) (sym (specifiers_once specifiers x u hx hu)) k)
 
 -- what is written where no invalid line is an error is one outcome, and so is what is written of any lines
 of_found_once : (how : InvalidLines) (Gives : InputParts → Outcome → Type 0) → ((parts : InputParts) (a b : Outcome) → Gives parts a → Gives parts b → a ≡ b) → (found : List ReadLine) (a b : Outcome) → OfFound how Gives found a → OfFound how Gives found b → a ≡ b
@@ -123,9 +124,9 @@ of_found_once how Gives once found a b (inl (none, h)) (inr (some, k)) = absurd 
 of_found_once how Gives once found a b (inr (some, h)) (inl (none, k)) = absurd (omega (arith, none, some))
 of_found_once how Gives once found a b (inr (some, is)) (inr (also, so)) = is ∙ sym so
 
-of_versions_once : (options : LineOptions) (Gives : InputParts → Outcome → Type 0) → ((parts : InputParts) (a b : Outcome) → Gives parts a → Gives parts b → a ≡ b) → (texts : List (List ℕ)) (a b : Outcome) → OfVersions options Gives texts a → OfVersions options Gives texts b → a ≡ b
-of_versions_once options Gives once texts a b (es, h, is) (fs, k, so) =
-    of_found_once options.invalid Gives once es a b is (subst (λ (l : List ReadLine). OfFound options.invalid Gives l b) (sym (all_once (IsRead options) (is_read_once options) (filled_lines_from 1 texts) es fs h k)) so)
+of_versions_once : (options : LineOptions) (Gives : InputParts → Outcome → Type 0) → ((parts : InputParts) (a b : Outcome) → Gives parts a → Gives parts b → a ≡ b) → (sources : List Source) (a b : Outcome) → OfVersions options Gives sources a → OfVersions options Gives sources b → a ≡ b
+of_versions_once options Gives once sources a b (es, h, is) (fs, k, so) =
+    of_found_once options.invalid Gives once es a b is (subst (λ (l : List ReadLine). OfFound options.invalid Gives l b) (sym (all_once (IsRead options) (is_read_once options) (filled_lines sources) es fs h k)) so)
 
 sort_once : (options : SortOptions) (parts : InputParts) (a b : Outcome) → SortsParts options parts a → SortsParts options parts b → a ≡ b
 sort_once options parts a b (xs, h, is) (ys, k, so) = is ∙ ap (sort_outcome options parts) (one_sorted options.reversed parts.versions xs ys h k) ∙ sym so
@@ -133,12 +134,12 @@ sort_once options parts a b (xs, h, is) (ys, k, so) = is ∙ ap (sort_outcome op
 finds_once : (rule : NewestRule) (parts : InputParts) (a b : Outcome) → FindsNewest rule parts a → FindsNewest rule parts b → a ≡ b
 finds_once rule parts a b (x, h, is) (y, k, so) = is ∙ ap (newest_outcome parts.messages) (one_newest (candidates rule parts.versions) x y h k) ∙ sym so
 
-newest_by_once : (options : NewestOptions) (x : SpecifiersReading) (texts : List (List ℕ)) (a b : Outcome) → FindsNewestBy options x texts a → FindsNewestBy options x texts b → a ≡ b
-newest_by_once options (DenotesList list) texts a b h k = let rule = newest_rule options list in of_versions_once options.lines (FindsNewest rule) (finds_once rule) texts a b h k
-newest_by_once options (ListFails message) texts a b h k = h ∙ sym k
+newest_by_once : (options : NewestOptions) (x : SpecifiersReading) (sources : List Source) (a b : Outcome) → FindsNewestBy options x sources a → FindsNewestBy options x sources b → a ≡ b
+newest_by_once options (DenotesList list) sources a b h k = let rule = newest_rule options list in of_versions_once options.lines (FindsNewest rule) (finds_once rule) sources a b h k
+newest_by_once options (ListFails message) sources a b h k = h ∙ sym k
 
-newest_once : (options : NewestOptions) (specifiers : List ℕ) (texts : List (List ℕ)) (a b : Outcome) → FindsNewestLine options specifiers texts a → FindsNewestLine options specifiers texts b → a ≡ b
-newest_once options specifiers texts a b (x, hx, h) (u, hu, k) = newest_by_once options x texts a b h (subst (λ (z : SpecifiersReading). FindsNewestBy options z texts b) (sym (specifiers_once specifiers x u hx hu)) k)
+newest_once : (options : NewestOptions) (specifiers : List ℕ) (sources : List Source) (a b : Outcome) → FindsNewestLine options specifiers sources a → FindsNewestLine options specifiers sources b → a ≡ b
+newest_once options specifiers sources a b (x, hx, h) (u, hu, k) = newest_by_once options x sources a b h (subst (λ (z : SpecifiersReading). FindsNewestBy options z sources b) (sym (specifiers_once specifiers x u hx hu)) k)
 
 show_word_once : (format : ShowFormat) (word : List ℕ) (a b : Outcome) → ShowsWord format word a → ShowsWord format word b → a ≡ b
 show_word_once format word a b (x, hx, is) (u, hu, so) = is ∙ ap (show_outcome format word) (reading_once word x u hx hu) ∙ sym so
@@ -156,14 +157,14 @@ common_once : (options : RangeOptions) (words : List (List ℕ)) (a b : Outcome)
 common_once options words a b (xs, h, is) (ys, k, so) = is ∙ ap (found_outcome options) (all_once ReadsRange range_once words xs ys h k) ∙ sym so
 
 pub outcomes_once : OutcomesOnce
-outcomes_once (Help topic) texts a b h k = h ∙ sym k
-outcomes_once NameVersion texts a b h k = h ∙ sym k
-outcomes_once (Compare left operator right) texts a b h k = compare_once left operator right a b h k
-outcomes_once (Match options specifiers words) texts a b h k = match_once options specifiers words a b h k
-outcomes_once (Filter options specifiers) texts a b h k = filter_once options specifiers texts a b h k
-outcomes_once (Sort options) texts a b h k = of_versions_once options.lines (SortsParts options) (sort_once options) texts a b h k
-outcomes_once (Newest options specifiers) texts a b h k = newest_once options specifiers texts a b h k
-outcomes_once (Show format words) texts a b h k = show_once format words a b h k
-outcomes_once (Bump to parts word) texts a b h k = bump_once to parts word a b h k
-outcomes_once (Range options words) texts a b h k = common_once options words a b h k
-outcomes_once (Misused message) texts a b h k = h ∙ sym k
+outcomes_once (Help topic) input a b h k = h ∙ sym k
+outcomes_once NameVersion input a b h k = h ∙ sym k
+outcomes_once (Compare left operator right) input a b h k = compare_once left operator right a b h k
+outcomes_once (Match options specifiers words) input a b h k = match_once options specifiers words a b h k
+outcomes_once (Filter options specifiers names) input a b h k = filter_once options specifiers input a b h k
+outcomes_once (Sort options) input a b h k = of_versions_once options.lines (SortsParts options) (sort_once options) input.sources a b h k
+outcomes_once (Newest options specifiers) input a b h k = newest_once options specifiers input.sources a b h k
+outcomes_once (Show format words) input a b h k = show_once format words a b h k
+outcomes_once (Bump to parts word) input a b h k = bump_once to parts word a b h k
+outcomes_once (Range options words) input a b h k = common_once options words a b h k
+outcomes_once (Misused message) input a b h k = h ∙ sym k

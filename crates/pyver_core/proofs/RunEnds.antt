@@ -1,60 +1,85 @@
 -- How runs end, by what they wrote.
-use Rattle.std.proofs.Common.{◌≡◌, ◌⊎◌, ◌∙◌, ◌≤◌, ◌==◌, ℕ, List, [], ◌++◌, Bool, true, false, Option, cond, inl, inr, length, refl, sym, ap, subst, arith, append_assoc}
+use Rattle.std.proofs.Common.{◌≡◌, ◌⊎◌, ◌∙◌, ◌≤◌, ℕ, List, [], ◌∷◌, ◌++◌, Bool, true, false, Option, None, Some, inl, inr, length, refl, sym, ap, subst, arith, append_assoc, append-nil}
 use Rattle.std.proofs.KnownBytes.{Appends-nil, Appends-trans, Consumes-nil}
 use Rattle.std.specs.Io.KnownBytes.{Appends, Consumes, IsAtEnd}
+use Rattle.pyver_core.proofs.InputLines.{some_line}
 use Rattle.pyver_core.proofs.Whole.{no_lines}
 use Rattle.pyver_core.specs.FilterSteps.{FilterFinishes, FilterStops}
 use Rattle.pyver_core.specs.Filters.{Filters, filter_outcome, rule_of}
-use Rattle.pyver_core.specs.InputLines.{input_lines}
-use Rattle.pyver_core.specs.InvalidLines.{lines_status}
+use Rattle.pyver_core.specs.InputLines.{Source, filled_lines, input_lines}
 use Rattle.pyver_core.specs.Matches.{DenotesList}
 use Rattle.pyver_core.specs.Newest.{newest_rule}
 use Rattle.pyver_core.specs.Outcomes.{Outcome}
-use Rattle.pyver_core.specs.ReadLines.{faults}
-use Rattle.pyver_core.specs.Runs.{Ends, IsLast, WritesAnswer, WroteBeginning, memory_message}
-use Rattle.pyver_core.specs.Tasks.{Bump, Compare, Filter, Help, IsOutcome, IsStream, Match, Misused, NameVersion, NeedsInput, Newest, Range, Show, Sort, Task, task_of}
-use Rattle.pyver_core.specs.WholeInputs.{AnswersInput, WholeStops}
+use Rattle.pyver_core.specs.Runs.{Ends, IsLast, IsReadMessage, ReadsSome, WritesAnswer, WroteBeginning, memory_message}
+use Rattle.pyver_core.specs.SourceViews.{IsStopOf, Reports}
+use Rattle.pyver_core.specs.Sources.{Input, KnownFile, ReadsInput, ReadsPart, ReadsText, input_name, input_origin, is_input, known_bytes, last_name, no_input, of_input, source_names}
+use Rattle.pyver_core.specs.Tasks.{Bump, Compare, Filter, Help, IsOutcome, IsStream, Match, Misused, NameVersion, NeedsInput, Newest, Range, Show, Sort, Task, names_of, task_of}
+use Rattle.pyver_core.specs.WholeInputs.{AnswersInput, WholeFinishes, WholeStops}
 use Rattle.pyver_core.specs.declared.filter.FilterRule.{FilterRule}
-use Rattle.pyver_core.specs.declared.invalid_lines.InvalidLines.{InvalidLines}
-use Rattle.pyver_core.specs.declared.invalid_lines.InvalidLines.TheVariants as invalid
+use Rattle.pyver_core.specs.declared.stream.Stop.{Stop}
+use Rattle.pyver_core.specs.declared.stream.Stop.TheVariants as stop
 use Rattle.pyver_core.specs.declared.whole_input.Question.{Question}
 use Rattle.pyver_core.specs.declared.whole_input.Question.TheVariants as question
 
+-- the first source, of which no line was read
+abbrev pub blank_source : List ℕ → Source
+blank_source name = record { origin = record { is_first = true; name = name }; lines = [] }
+
+abbrev pub blank_input : List ℕ → Input
+blank_input name = record { sources = blank_source name ∷ []; unopened = None }
+
 -- before a line is read there is an outcome
-first_outcome : (task : Task) → NeedsInput task → (o : Outcome) × IsOutcome task [] o
-first_outcome (Help about) n = absurd n
-first_outcome NameVersion n = absurd n
-first_outcome (Compare left operator right) n = absurd n
-first_outcome (Match options specifiers words) n = absurd n
-first_outcome (Filter options specifiers) n = (filter_outcome (rule_of options n.0) [], (DenotesList n.0, n.1, ([], tt, refl)))
-first_outcome (Sort options) n = no_lines (question.Sort options)
-first_outcome (Newest options specifiers) n = let k = no_lines (question.Newest (newest_rule options n.0)) in (k.0, (DenotesList n.0, n.1, k.1))
-first_outcome (Show asked words) n = absurd n
-first_outcome (Bump to parts word) n = absurd n
-first_outcome (Range options words) n = absurd n
-first_outcome (Misused message) n = absurd n
+first_outcome : (task : Task) → NeedsInput task → (name : List ℕ) → (o : Outcome) × IsOutcome task (blank_input name) o
+first_outcome (Help about) n name = absurd n
+first_outcome NameVersion n name = absurd n
+first_outcome (Compare left operator right) n name = absurd n
+first_outcome (Match options specifiers words) n name = absurd n
+first_outcome (Filter options specifiers names) n name = (filter_outcome (rule_of options n.0) [] None, (DenotesList n.0, n.1, ([], tt, refl)))
+first_outcome (Sort options) n name = no_lines (question.Sort options)
+first_outcome (Newest options specifiers) n name = let k = no_lines (question.Newest (newest_rule options n.0)) in (k.0, (DenotesList n.0, n.1, k.1))
+first_outcome (Show asked words) n name = absurd n
+first_outcome (Bump to parts word) n name = absurd n
+first_outcome (Range options words) n name = absurd n
+first_outcome (Misused message) n name = absurd n
 
-zero_or_two : (b : Bool) → cond b 0 2 ≤ 2
-zero_or_two true = omega arith
-zero_or_two false = omega arith
+-- there is a first source
+some_source : (names : List (List ℕ)) → (name : List ℕ) × (left : List (List ℕ)) × (source_names names ≡ name ∷ left)
+some_source [] = (input_name, [], refl)
+some_source (name ∷ names) = (name, names, refl)
 
-low_status : (lines : InvalidLines) (count : ℕ) → lines_status lines count ≤ 2
-low_status invalid.Error count = zero_or_two (count == 0)
-low_status invalid.Skip count = omega arith
-low_status invalid.Keep count = omega arith
+first_source : (task : Task) → NeedsInput task → (name : List ℕ) × (left : List (List ℕ)) × (names_of task ≡ name ∷ left)
+first_source (Help about) n = absurd n
+first_source NameVersion n = absurd n
+first_source (Compare left operator right) n = absurd n
+first_source (Match options specifiers words) n = absurd n
+first_source (Filter options specifiers names) n = some_source names
+first_source (Sort options) n = some_source []
+first_source (Newest options specifiers) n = some_source []
+first_source (Show asked words) n = absurd n
+first_source (Bump to parts word) n = absurd n
+first_source (Range options words) n = absurd n
+first_source (Misused message) n = absurd n
 
-filtered_status : (rule : FilterRule) (texts : List (List ℕ)) (o : Outcome) → Filters rule texts o → o.status ≤ 2
-filtered_status rule texts o k = subst (λ (x : Outcome). x.status ≤ 2) (sym k.2) (low_status rule.lines.invalid (length (faults k.0)))
+-- ---- how a run that stopped ends
 
-not_low : (status : ℕ) (message : List ℕ) → IsLast status message → status ≤ 2 → ⊥
-not_low status message (inl h) low = absurd (omega (arith, h.0))
-not_low status message (inr (inl h)) low = absurd (omega (arith, h.0))
-not_low status message (inr (inr h)) low = absurd (omega (arith, h.0))
+is_last : (last : Option (List ℕ)) (why : Stop) (status : ℕ) (message : List ℕ) → IsStopOf last why → Reports why status message → IsLast last status message
+is_last last stop.OutOfMemory status message is h = inl h
+is_last last stop.Read status message is h = inr (inl (h.0, subst (IsReadMessage last) (sym h.1) is))
+is_last last (stop.ReadFile told) status message is h = inr (inl (h.0, subst (IsReadMessage last) (sym h.1) is))
+is_last last (stop.Output failure) status message is h = inr (inr h)
+is_last last (stop.Errors failure) status message is h = inr (inr h)
 
-last_known : (status : ℕ) (message : List ℕ) → IsLast status message → (status ≤ 4) ⊎ (status ≡ 141)
-last_known status message (inl h) = inl (omega (arith, h.0))
-last_known status message (inr (inl h)) = inl (omega (arith, h.0))
-last_known status message (inr (inr h)) = inr h.0
+not_low : (last : Option (List ℕ)) (status : ℕ) (message : List ℕ) → IsLast last status message → status ≤ 2 → ⊥
+not_low last status message (inl h) low = absurd (omega (arith, h.0, low))
+not_low last status message (inr (inl h)) low = absurd (omega (arith, h.0, low))
+not_low last status message (inr (inr (inl h))) low = absurd (omega (arith, h.0, low))
+not_low last status message (inr (inr (inr h))) low = absurd (omega (arith, h.0, low))
+
+last_known : (last : Option (List ℕ)) (status : ℕ) (message : List ℕ) → IsLast last status message → (status ≤ 4) ⊎ (status ≡ 141)
+last_known last status message (inl h) = inl (omega (arith, h.0))
+last_known last status message (inr (inl h)) = inl (omega (arith, h.0))
+last_known last status message (inr (inr (inl h))) = inl (omega (arith, h.0))
+last_known last status message (inr (inr (inr h))) = inr h.0
 
 -- a beginning of the message behind what was written before
 told_more : (a b c : Option (List ℕ)) (xs message : List ℕ) → Appends a b xs → WroteBeginning b c message → WroteBeginning a c (xs ++ message)
@@ -65,14 +90,34 @@ told_more a b c xs message wrote k = record {
   whole = ap (λ t. xs ++ t) k.whole ∙ sym (append_assoc xs k.written k.left);
 }
 
-module _ {R W E : Type 0} (remaining : R → Option (List ℕ)) (contents : W → Option (List ℕ)) (error_contents : E → Option (List ℕ)) (words : List (List ℕ)) (reader reader' : R) (out out' : W) (err err' : E) (status : ℕ) where
+-- nothing was read of the first source
+module _ {R : Type 0} (files : List ℕ → KnownFile) (remaining : R → Option (List ℕ)) where
+  reads_nothing : (b : Bool) (file : KnownFile) (reader : R) → (left : Option (List ℕ)) × ReadsText files remaining b file reader reader [] left
+  reads_nothing true file reader = (remaining reader, (Consumes-nil (remaining reader), refl))
+  reads_nothing false file reader = (known_bytes file, (Consumes-nil (known_bytes file), refl))
+
+  part_none : (names : List (List ℕ)) (name : List ℕ) (left : List (List ℕ)) (reader : R) → names ≡ name ∷ left → ReadsPart files remaining names reader reader (blank_source name ∷ [])
+  part_none names name left reader is = let nothing = reads_nothing (is_input name) (files name) reader in record {
+    read = [];
+    name = name;
+    left = left;
+    split = is;
+    middle = reader;
+    before = [];
+    whole = (refl, refl);
+    part = blank_source name;
+    lines = record { text = []; left = nothing.0; reads = nothing.1; rest = input_lines []; split = refl; whole = λ none. absurd (some_line [] none); is = refl };
+    are = refl;
+  }
+
+module _ {F R W E : Type 0} (known : F → List ℕ → KnownFile) (remaining : R → Option (List ℕ)) (contents : W → Option (List ℕ)) (error_contents : E → Option (List ℕ)) (words : List (List ℕ)) (files files' : F) (reader reader' : R) (out out' : W) (err err' : E) (status : ℕ) where
   -- an answer that needs no input
-  pub ends_by_answer : (o : Outcome) → ¬ NeedsInput (task_of words) → ((texts : List (List ℕ)) → IsOutcome (task_of words) texts o) → reader' ≡ reader → WritesAnswer contents error_contents o out out' err err' status
-      → Ends remaining contents error_contents words reader reader' out out' err err' status
-  ends_by_answer o needless is same (inl k) = record {
-    known = inl (omega (arith, k.0));
-    unread = λ _. same;
-    finished = λ _. record { read = []; consumed = subst (λ r. Consumes (remaining reader) (remaining r) []) (sym same) (Consumes-nil (remaining reader)); end = λ n. absurd (needless n); outcome = o; is = is (input_lines []); written = k.1 };
+  pub ends_by_answer : (o : Outcome) → ¬ NeedsInput (task_of words) → ((input : Input) → IsOutcome (task_of words) input o) → reader' ≡ reader → files' ≡ files → WritesAnswer contents error_contents o out out' err err' status
+      → Ends known remaining contents error_contents words files files' reader reader' out out' err err' status
+  ends_by_answer o needless is same kept (inl k) = record {
+    known_status = inl (omega (arith, k.0));
+    unread = λ _. (same, kept);
+    finished = λ _. record { input = no_input; read = λ n. absurd (needless n); outcome = o; is = is no_input; written = k.1 };
     stopped = λ n _. absurd (needless n);
     memory = λ _ e. absurd (omega (arith, k.0, e));
     failed = λ _ e. failed_low e k.0;
@@ -81,13 +126,13 @@ module _ {R W E : Type 0} (remaining : R → Option (List ℕ)) (contents : W �
       failed_low : {A : Type 0} → (status ≡ 4) ⊎ (status ≡ 141) → status ≤ 2 → A
       failed_low (inl e) low = absurd (omega (arith, e, low))
       failed_low (inr e) low = absurd (omega (arith, e, low))
-  ends_by_answer o needless is same (inr k) = record {
-    known = known_of k.0;
-    unread = λ _. same;
+  ends_by_answer o needless is same kept (inr k) = record {
+    known_status = known_of k.0;
+    unread = λ _. (same, kept);
     finished = λ low. absurd (high k.0 low);
     stopped = λ n _. absurd (needless n);
     memory = λ _ e. absurd (other k.0 e);
-    failed = λ _ _. record { outcome = o; is = is []; cut = k.1 };
+    failed = λ _ _. record { outcome = o; is = is no_input; cut = k.1 };
   }
     where
       known_of : (status ≡ 4) ⊎ (status ≡ 141) → (status ≤ 4) ⊎ (status ≡ 141)
@@ -102,119 +147,152 @@ module _ {R W E : Type 0} (remaining : R → Option (List ℕ)) (contents : W �
       other (inl e) three = absurd (omega (arith, e, three))
       other (inr e) three = absurd (omega (arith, e, three))
 
-  -- the whole input was filtered
-  pub ends_by_filter : (rule : FilterRule) → NeedsInput (task_of words) → ((texts : List (List ℕ)) (o : Outcome) → Filters rule texts o → IsOutcome (task_of words) texts o)
-      → FilterFinishes remaining contents error_contents rule reader reader' out out' err err' status → Ends remaining contents error_contents words reader reader' out out' err err' status
-  ends_by_filter rule needs is k =
-      let low : status ≤ 2 = subst (λ n. n ≤ 2) (sym k.ended) (filtered_status rule (input_lines k.read) k.outcome k.is) in
-      record {
-        known = inl (omega (arith, low));
-        unread = λ needless. absurd (needless needs);
-        finished = λ _. record { read = k.read; consumed = k.consumed; end = λ _. k.end; outcome = k.outcome; is = is (input_lines k.read) k.outcome k.is; written = record { output = k.output; errors = k.errors; ended = k.ended } };
-        stopped = λ _ high. absurd (high low);
-        memory = λ needless _. absurd (needless needs);
-        failed = λ needless _. absurd (needless needs);
-      }
-
-  -- what was read and written before the last message
-  pub record Began (told : E) : Type 0 where
-    pub read : List ℕ
-    pub consumed : Consumes (remaining reader) (remaining reader') read
-    pub front : List (List ℕ)
-    pub rest : List (List ℕ)
-    pub split : input_lines read ≡ front ++ rest
-    pub whole : rest ≡ [] → IsAtEnd (remaining reader')
-    pub silent : ¬ IsStream (task_of words) → ¬ (rest ≡ []) → front ≡ []
-    pub outcome : Outcome
-    pub is : IsOutcome (task_of words) front outcome
-    pub output : WroteBeginning (contents out) (contents out') outcome.output
-    pub errors : WroteBeginning (error_contents err) (error_contents told) outcome.errors
-
-  pub filter_began : (rule : FilterRule) (told : E) → IsStream (task_of words) → ((texts : List (List ℕ)) (o : Outcome) → Filters rule texts o → IsOutcome (task_of words) texts o)
-      → FilterStops remaining contents error_contents rule reader reader' out out' err told → Began told
-  filter_began rule told stream is k = record {
-    read = k.read;
-    consumed = k.consumed;
-    front = k.front;
-    rest = k.rest;
-    split = k.split;
-    whole = k.whole;
-    silent = λ no_stream _. absurd (no_stream stream);
-    outcome = k.outcome;
-    is = is k.front k.outcome k.is;
-    output = k.output;
-    errors = k.errors;
-  }
-
-  pub whole_began : (asked : Question) (told : E) → ((texts : List (List ℕ)) (o : Outcome) → AnswersInput asked texts o → IsOutcome (task_of words) texts o)
-      → WholeStops remaining contents error_contents asked reader reader' out out' err told → Began told
-  whole_began asked told is k = record {
-    read = k.read;
-    consumed = k.consumed;
-    front = k.front;
-    rest = k.rest;
-    split = k.split;
-    whole = k.whole;
-    silent = λ _. k.silent;
-    outcome = k.outcome;
-    is = is k.front k.outcome k.is;
-    output = k.output;
-    errors = k.errors;
-  }
-
-  -- a run stopped, and then the last message was written
-  pub ends_by_stop : (told : E) (message : List ℕ) → NeedsInput (task_of words) → Began told → IsLast status message → WroteBeginning (error_contents told) (error_contents err') message
-      → Ends remaining contents error_contents words reader reader' out out' err err' status
-  ends_by_stop told message needs k last wrote = record {
-    known = last_known status message last;
+  -- all was read and written
+  pub ends_by_all : (input : Input) (o : Outcome) → NeedsInput (task_of words) → status ≤ 2 → ReadsInput (known files) remaining (names_of (task_of words)) reader reader' input → IsOutcome (task_of words) input o
+      → Appends (contents out) (contents out') o.output → Appends (error_contents err) (error_contents err') o.errors → status ≡ o.status → Ends known remaining contents error_contents words files files' reader reader' out out' err err' status
+  ends_by_all input o needs low read is output errors ended = record {
+    known_status = inl (omega (arith, low));
     unread = λ needless. absurd (needless needs);
-    finished = λ low. absurd (not_low status message last low);
-    stopped = λ _ _. record {
-      read = k.read;
-      consumed = k.consumed;
-      front = k.front;
-      rest = k.rest;
-      split = k.split;
-      whole = k.whole;
-      silent = k.silent;
-      outcome = k.outcome;
-      is = k.is;
-      output = k.output;
-      told = k.errors.written;
-      untold = k.errors.left;
-      errors_are = k.errors.whole;
-      message = message;
-      last = last;
-      errors = told_more _ _ _ k.errors.written message k.errors.wrote wrote;
-    };
+    finished = λ _. record { input = input; read = λ _. read; outcome = o; is = is; written = record { output = output; errors = errors; ended = ended } };
+    stopped = λ _ high. absurd (high low);
     memory = λ needless _. absurd (needless needs);
     failed = λ needless _. absurd (needless needs);
   }
 
+  -- the sources were filtered
+  pub ends_by_filter : (rule : FilterRule) (names : List (List ℕ)) → NeedsInput (task_of words) → names_of (task_of words) ≡ names → ((input : Input) (o : Outcome) → Filters rule input o → IsOutcome (task_of words) input o)
+      → status ≤ 2 → FilterFinishes (known files) remaining contents error_contents rule names reader reader' out out' err err' status → Ends known remaining contents error_contents words files files' reader reader' out out' err err' status
+  ends_by_filter rule names needs same is low k =
+      ends_by_all k.input k.outcome needs low (subst (λ n. ReadsInput (known files) remaining n reader reader' k.input) (sym same) k.reads) (is k.input k.outcome k.is) k.output k.errors k.ended
+
+  -- standard input was read
+  input_reads : (read : List ℕ) → Consumes (remaining reader) (remaining reader') read → IsAtEnd (remaining reader') → names_of (task_of words) ≡ source_names []
+      → ReadsInput (known files) remaining (names_of (task_of words)) reader reader' (record { sources = of_input (input_lines read); unopened = None })
+  input_reads read consumed end same = subst (λ n. ReadsInput (known files) remaining n reader reader' (record { sources = of_input (input_lines read); unopened = None })) (sym same) (record {
+    read = source_names [];
+    left = [];
+    split = refl;
+    sources = (reader', record { origin = input_origin; lines = input_lines read }, [], record { text = read; left = remaining reader'; reads = (consumed, refl); end = end; is = refl }, (refl, refl), refl);
+    ends = tt;
+  })
+
+  pub ends_by_whole : (asked : Question) → NeedsInput (task_of words) → names_of (task_of words) ≡ source_names [] → ((input : Input) (o : Outcome) → AnswersInput asked input.sources o → IsOutcome (task_of words) input o) → status ≤ 2
+      → WholeFinishes remaining contents error_contents asked reader reader' out out' err err' status → Ends known remaining contents error_contents words files files' reader reader' out out' err err' status
+  ends_by_whole asked needs same is low k =
+      ends_by_all (record { sources = of_input (input_lines k.read); unopened = None }) k.outcome needs low (input_reads k.read k.consumed k.end same) (is (record { sources = of_input (input_lines k.read); unopened = None }) k.outcome k.is) k.output k.errors k.ended
+
+  -- what was read and written before the last message
+  pub record Began (why : Stop) (told : E) : Type 0 where
+    pub input : Input
+    pub read : ReadsSome known remaining contents error_contents words files reader reader' input
+    pub outcome : Outcome
+    pub is : IsOutcome (task_of words) input outcome
+    pub output : WroteBeginning (contents out) (contents out') outcome.output
+    pub errors : WroteBeginning (error_contents err) (error_contents told) outcome.errors
+    pub stops : IsStopOf (last_name input.sources) why
+
+  pub filter_began : (rule : FilterRule) (names : List (List ℕ)) (why : Stop) (told : E) → IsStream (task_of words) → names_of (task_of words) ≡ names → ((input : Input) (o : Outcome) → Filters rule input o → IsOutcome (task_of words) input o)
+      → FilterStops (known files) remaining contents error_contents rule names reader reader' out out' err told why → Began why told
+  filter_began rule names why told stream same is k = record {
+    input = k.input;
+    read = some_of k.reads;
+    outcome = k.outcome;
+    is = is k.input k.outcome k.is;
+    output = k.output;
+    errors = k.errors;
+    stops = k.stops;
+  }
+    where
+      some_of : ReadsInput (known files) remaining names reader reader' k.input ⊎ (ReadsPart (known files) remaining names reader reader' k.input.sources × (k.input.unopened ≡ None)) → ReadsSome known remaining contents error_contents words files reader reader' k.input
+      some_of (inl r) = inl (subst (λ n. ReadsInput (known files) remaining n reader reader' k.input) (sym same) r)
+      some_of (inr r) = inr (subst (λ n. ReadsPart (known files) remaining n reader reader' k.input.sources) (sym same) r.0, r.1, λ no_stream. absurd (no_stream stream))
+
+  -- of standard input, all was read, or no line was used
+  input_some : (read : List ℕ) (front rest : List (List ℕ)) → Consumes (remaining reader) (remaining reader') read → input_lines read ≡ front ++ rest → (rest ≡ [] → IsAtEnd (remaining reader')) → (¬ (rest ≡ []) → front ≡ []) → names_of (task_of words) ≡ source_names []
+      → ReadsSome known remaining contents error_contents words files reader reader' (record { sources = of_input front; unopened = None })
+  input_some read front [] consumed split whole silent same =
+      inl (subst (λ l. ReadsInput (known files) remaining (names_of (task_of words)) reader reader' (record { sources = of_input l; unopened = None })) (split ∙ append-nil front) (input_reads read consumed (whole refl) same))
+  input_some read front (line ∷ rest) consumed split whole silent same =
+      let none : front ≡ [] = silent (λ e. absurd (omega (arith, ap length e))) in
+      inr (
+        subst (λ n. ReadsPart (known files) remaining n reader reader' (of_input front)) (sym same) (record {
+          read = [];
+          name = input_name;
+          left = [];
+          split = refl;
+          middle = reader;
+          before = [];
+          whole = (refl, refl);
+          part = record { origin = input_origin; lines = front };
+          lines = record { text = read; left = remaining reader'; reads = (consumed, refl); rest = line ∷ rest; split = split; whole = whole; is = refl };
+          are = refl;
+        }),
+        refl,
+        λ _. ap (λ l. filled_lines (of_input l)) none,
+      )
+
+  pub whole_began : (asked : Question) (why : Stop) (told : E) → names_of (task_of words) ≡ source_names [] → ((input : Input) (o : Outcome) → AnswersInput asked input.sources o → IsOutcome (task_of words) input o) → IsStopOf (Some input_name) why
+      → WholeStops remaining contents error_contents asked reader reader' out out' err told → Began why told
+  whole_began asked why told same is stops k = record {
+    input = record { sources = of_input k.front; unopened = None };
+    read = input_some k.read k.front k.rest k.consumed k.split k.whole k.silent same;
+    outcome = k.outcome;
+    is = is (record { sources = of_input k.front; unopened = None }) k.outcome k.is;
+    output = k.output;
+    errors = k.errors;
+    stops = stops;
+  }
+
+  -- a run stopped, and then the last message was written
+  pub ends_by_stop : (why : Stop) (told : E) (message : List ℕ) → NeedsInput (task_of words) → Began why told → Reports why status message → WroteBeginning (error_contents told) (error_contents err') message
+      → Ends known remaining contents error_contents words files files' reader reader' out out' err err' status
+  ends_by_stop why told message needs k reports wrote =
+      let last = is_last (last_name k.input.sources) why status message k.stops reports in
+      record {
+        known_status = last_known (last_name k.input.sources) status message last;
+        unread = λ needless. absurd (needless needs);
+        finished = λ low. absurd (not_low (last_name k.input.sources) status message last low);
+        stopped = λ _ _. record {
+          input = k.input;
+          read = k.read;
+          outcome = k.outcome;
+          is = k.is;
+          output = k.output;
+          told = k.errors.written;
+          untold = k.errors.left;
+          errors_are = k.errors.whole;
+          message = message;
+          last = last;
+          errors = told_more _ _ _ k.errors.written message k.errors.wrote wrote;
+        };
+        memory = λ needless _. absurd (needless needs);
+        failed = λ needless _. absurd (needless needs);
+      }
+
   -- memory ran out before anything was read or written
-  pub ends_at_once : reader' ≡ reader → out' ≡ out → status ≡ 3 → WroteBeginning (error_contents err) (error_contents err') memory_message → Ends remaining contents error_contents words reader reader' out out' err err' status
-  ends_at_once same kept three wrote = record {
-    known = inl (omega (arith, three));
-    unread = λ _. same;
+  pub ends_at_once : reader' ≡ reader → files' ≡ files → out' ≡ out → status ≡ 3 → WroteBeginning (error_contents err) (error_contents err') memory_message
+      → Ends known remaining contents error_contents words files files' reader reader' out out' err err' status
+  ends_at_once same unopened kept three wrote = record {
+    known_status = inl (omega (arith, three));
+    unread = λ _. (same, unopened);
     finished = λ low. absurd (omega (arith, low, three));
-    stopped = λ needs _. let o = first_outcome (task_of words) needs in record {
-      read = [];
-      consumed = subst (λ r. Consumes (remaining reader) (remaining r) []) (sym same) (Consumes-nil (remaining reader));
-      front = [];
-      rest = input_lines [];
-      split = refl;
-      whole = λ none. absurd (omega (arith, ap length none));
-      silent = λ _ _. refl;
-      outcome = o.0;
-      is = o.1;
-      output = record { written = []; left = o.0.output; wrote = subst (λ w. Appends (contents out) (contents w) []) (sym kept) (Appends-nil (contents out)); whole = refl };
-      told = [];
-      untold = o.0.errors;
-      errors_are = refl;
-      message = memory_message;
-      last = inl (three, refl);
-      errors = wrote;
-    };
+    stopped = λ needs _.
+        let first = first_source (task_of words) needs in
+        let o = first_outcome (task_of words) needs first.0 in
+        let part = part_none (known files) remaining (names_of (task_of words)) first.0 first.1 reader first.2 in
+        record {
+          input = blank_input first.0;
+          read = inr (subst (λ r. ReadsPart (known files) remaining (names_of (task_of words)) reader r (blank_source first.0 ∷ [])) (sym same) part, refl, λ _. refl);
+          outcome = o.0;
+          is = o.1;
+          output = record { written = []; left = o.0.output; wrote = subst (λ w. Appends (contents out) (contents w) []) (sym kept) (Appends-nil (contents out)); whole = refl };
+          told = [];
+          untold = o.0.errors;
+          errors_are = refl;
+          message = memory_message;
+          last = inl (three, refl);
+          errors = wrote;
+        };
     memory = λ _ _. (kept, wrote);
     failed = λ _ e. absurd (other e);
   }

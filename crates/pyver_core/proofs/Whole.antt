@@ -11,6 +11,7 @@ use Rattle.pyver_core.specs.Newest.{newest_outcome}
 use Rattle.pyver_core.specs.Outcomes.{Outcome}
 use Rattle.pyver_core.specs.Runs.{WroteBeginning}
 use Rattle.pyver_core.specs.Sorts.{sort_outcome}
+use Rattle.pyver_core.specs.Sources.{of_input}
 use Rattle.pyver_core.specs.VersionLines.{line_messages, input_parts}
 use Rattle.pyver_core.specs.WholeInputs.{AnswersInput, WholeStops}
 use Rattle.pyver_core.specs.declared.invalid_lines.InvalidLines.{InvalidLines}
@@ -25,7 +26,7 @@ none_invalid invalid.Skip = refl
 none_invalid invalid.Keep = refl
 
 -- there is an answer where there are no lines
-pub no_lines : (asked : Question) → (o : Outcome) × AnswersInput asked [] o
+pub no_lines : (asked : Question) → (o : Outcome) × AnswersInput asked (of_input []) o
 no_lines (question.Sort options) = let how = options.lines.invalid in (sort_outcome options (input_parts how []) [], ([], tt, inl (none_invalid how, ([], none_sorted options.reversed, refl))))
 no_lines (question.Newest rule) = let how = rule.lines.invalid in (newest_outcome (line_messages how []) None, ([], tt, inl (none_invalid how, (None, or_none rule.prereleases, refl))))
 
@@ -47,7 +48,7 @@ module _ {R W E : Type 0} (remaining : R → Option (List ℕ)) (contents : W �
   }
 
   -- a beginning was written
-  pub stops_written : (read : List ℕ) (o : Outcome) → Consumes (remaining reader) (remaining reader') read → IsAtEnd (remaining reader') → AnswersInput asked (input_lines read) o
+  pub stops_written : (read : List ℕ) (o : Outcome) → Consumes (remaining reader) (remaining reader') read → IsAtEnd (remaining reader') → AnswersInput asked (of_input (input_lines read)) o
       → WroteBeginning (contents out) (contents out') o.output → WroteBeginning (error_contents err) (error_contents err') o.errors → WholeStops remaining contents error_contents asked reader reader' out out' err err'
   stops_written read o consumed end is output errors = record {
     read = read;

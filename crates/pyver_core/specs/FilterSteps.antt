@@ -1,15 +1,19 @@
--- What the loop over the input has done, as the clauses of its steps say it.
-use Rattle.std.specs.Prelude.{◌≡◌, ℕ, ◌+◌, ◌-◌, ◌==◌, List, [], ◌∷◌, ◌++◌, Option, false, length, take}
+-- What the loop over the sources has done, as the clauses of its steps say it.
+use Rattle.std.specs.Prelude.{◌≡◌, ◌⊎◌, ◌≤◌, ℕ, ◌+◌, ◌-◌, ◌==◌, List, [], ◌∷◌, ◌++◌, Option, None, Some, false, length, take}
 use Rattle.std.specs.Io.KnownBytes.{Appends, Consumes, IsAtEnd}
 use Rattle.std.specs.List.{All, AllZip, concat}
 use Rattle.pyver_core.specs.Filters.{Filters, printed_lines}
-use Rattle.pyver_core.specs.InputLines.{filled_lines_from, input_lines}
+use Rattle.pyver_core.specs.InputLines.{Origin, Source, filled_lines, filled_lines_from, input_lines, source_lines}
 use Rattle.pyver_core.specs.InvalidLines.{last_message, lines_status, message_limit}
 use Rattle.pyver_core.specs.Outcomes.{Outcome}
 use Rattle.pyver_core.specs.ReadLines.{IsRead, ReadLine, faults}
 use Rattle.pyver_core.specs.Runs.{WroteBeginning}
+use Rattle.pyver_core.specs.SourceViews.{IsStopOf}
+use Rattle.pyver_core.specs.Sources.{Input, KnownFile, ReadsAll, EndsAt, ReadsInput, ReadsLines, ReadsPart, ReadsSource, Refuses, Unopened, is_input, last_name, unopened_message, unopened_status}
 use Rattle.pyver_core.specs.declared.filter.FilterRule.{FilterRule}
 use Rattle.pyver_core.specs.declared.filter.FilterState.{FilterState}
+use Rattle.pyver_core.specs.declared.open_failure.OpenFailure.{OpenFailure}
+use Rattle.pyver_core.specs.declared.stream.Stop.{Stop}
 
 abbrev pub HasNoNewline : List ℕ → Type 0
 HasNoNewline line = All (λ b. (b == 10) ≡ false) line
@@ -19,66 +23,147 @@ pub record Cuts (text : List ℕ) (ended : List (List ℕ)) (line : List ℕ) : 
   pub all : (rest : List ℕ) → input_lines (text ++ rest) ≡ ended ++ input_lines (line ++ rest)
   pub one : HasNoNewline line
 
--- from one state to another by these lines
-pub record Steps (rule : FilterRule) (ended : List (List ℕ)) (a b : FilterState) : Type 0 where
+-- from one state to another by these lines of a source
+pub record Steps (rule : FilterRule) (origin : Origin) (ended : List (List ℕ)) (a b : FilterState) : Type 0 where
   pub found : List ReadLine
-  pub are : AllZip (IsRead rule.lines) (filled_lines_from (a.line_count + 1) ended) found
+  pub are : AllZip (IsRead rule.lines) (filled_lines_from origin (a.line_count + 1) ended) found
+  pub read_count : b.read_count ≡ a.read_count
   pub line_count : b.line_count ≡ a.line_count + length ended
   pub fault_count : b.fault_count ≡ a.fault_count + length (faults found)
+  pub few_faults : b.fault_count ≤ a.fault_count + length ended
   pub output : b.output.items ≡ a.output.items ++ printed_lines rule found
   pub errors : b.errors.items ≡ a.errors.items ++ concat (take (message_limit rule.lines.invalid - a.fault_count) (faults found))
 
 -- by one line, that is read so
 pub record StepsBy (rule : FilterRule) (x : ReadLine) (a b : FilterState) : Type 0 where
+  pub read_count : b.read_count ≡ a.read_count
   pub line_count : b.line_count ≡ a.line_count
   pub fault_count : b.fault_count ≡ a.fault_count + length (faults (x ∷ []))
+  pub few_faults : b.fault_count ≤ a.fault_count + 1
   pub output : b.output.items ≡ a.output.items ++ printed_lines rule (x ∷ [])
   pub errors : b.errors.items ≡ a.errors.items ++ concat (take (message_limit rule.lines.invalid - a.fault_count) (faults (x ∷ [])))
 
--- by the last line, and the end of the messages
-pub record FinishesBy (rule : FilterRule) (line : List ℕ) (a b : FilterState) (status : ℕ) : Type 0 where
-  pub last : FilterState
-  pub step : Steps rule (line ∷ []) a last
-  pub output : b.output.items ≡ last.output.items
-  pub errors : b.errors.items ≡ last.errors.items ++ last_message rule.lines.invalid last.fault_count
-  pub ended : status ≡ lines_status rule.lines.invalid last.fault_count
+-- by the end of the messages, where the last is of a file that was not opened
+pub record FinishesBy (rule : FilterRule) (unopened : Option Unopened) (a b : FilterState) (status : ℕ) : Type 0 where
+  pub output : b.output.items ≡ a.output.items
+  pub errors : b.errors.items ≡ a.errors.items ++ (last_message rule.lines.invalid a.fault_count ++ unopened_message unopened)
+  pub ended : status ≡ unopened_status unopened (lines_status rule.lines.invalid a.fault_count)
+  pub low : status ≤ 2
 
-module _ {R W E : Type 0} (remaining : R → Option (List ℕ)) (contents : W → Option (List ℕ)) (error_contents : E → Option (List ℕ)) where
-  -- the input was read so far, and all that its ended lines ask for was written
-  pub record Goes (rule : FilterRule) (reader reader' : R) (out out' : W) (err err' : E) (state : FilterState) (line : List ℕ) : Type 0 where
+module _ {W E : Type 0} (contents : W → Option (List ℕ)) (error_contents : E → Option (List ℕ)) where
+  -- all that these lines ask for was written, behind lines of which so many were invalid
+  pub record Wrote (rule : FilterRule) (source : Source) (earlier : ℕ) (b : FilterState) (out out' : W) (err err' : E) : Type 0 where
+    pub found : List ReadLine
+    pub are : AllZip (IsRead rule.lines) (source_lines source) found
+    pub fault_count : b.fault_count ≡ earlier + length (faults found)
+    pub output : Appends (contents out) (contents out') (printed_lines rule found)
+    pub errors : Appends (error_contents err) (error_contents err') (concat (take (message_limit rule.lines.invalid - earlier) (faults found)))
+    pub no_output : b.output.items ≡ []
+    pub no_errors : b.errors.items ≡ []
+
+  -- a beginning of what these lines ask for was written, behind lines of which so many were invalid
+  pub record WroteSome (rule : FilterRule) (source : Source) (earlier : ℕ) (out out' : W) (err err' : E) : Type 0 where
+    pub found : List ReadLine
+    pub are : AllZip (IsRead rule.lines) (source_lines source) found
+    pub output : WroteBeginning (contents out) (contents out') (printed_lines rule found)
+    pub errors : WroteBeginning (error_contents err) (error_contents err') (concat (take (message_limit rule.lines.invalid - earlier) (faults found)))
+
+  -- all that the lines of these sources ask for was written
+  pub record WroteAll (rule : FilterRule) (sources : List Source) (b : FilterState) (out out' : W) (err err' : E) : Type 0 where
+    pub found : List ReadLine
+    pub are : AllZip (IsRead rule.lines) (filled_lines sources) found
+    pub fault_count : b.fault_count ≡ length (faults found)
+    pub output : Appends (contents out) (contents out') (printed_lines rule found)
+    pub errors : Appends (error_contents err) (error_contents err') (concat (take (message_limit rule.lines.invalid) (faults found)))
+    pub no_output : b.output.items ≡ []
+    pub no_errors : b.errors.items ≡ []
+
+module _ {S W E : Type 0} (remaining : S → Option (List ℕ)) (contents : W → Option (List ℕ)) (error_contents : E → Option (List ℕ)) where
+  -- the source was read so far, and all that its ended lines ask for was written
+  pub record Goes (rule : FilterRule) (origin : Origin) (earlier : ℕ) (b : FilterState) (reader reader' : S) (out out' : W) (err err' : E) (line : List ℕ) : Type 0 where
     pub read : List ℕ
     pub consumed : Consumes (remaining reader) (remaining reader') read
     pub ended : List (List ℕ)
     pub cut : Cuts read ended line
-    pub found : List ReadLine
-    pub are : AllZip (IsRead rule.lines) (filled_lines_from 1 ended) found
-    pub line_count : state.line_count ≡ length ended
-    pub fault_count : state.fault_count ≡ length (faults found)
-    pub output : Appends (contents out) (contents out') (printed_lines rule found)
-    pub errors : Appends (error_contents err) (error_contents err') (concat (take (message_limit rule.lines.invalid) (faults found)))
-    pub no_output : state.output.items ≡ []
-    pub no_errors : state.errors.items ≡ []
+    pub line_count : b.line_count ≡ length ended
+    pub wrote : Wrote contents error_contents rule (record { origin = origin; lines = ended }) earlier b out out' err err'
 
-  -- the whole input was read, and all was written
-  pub record FilterFinishes (rule : FilterRule) (reader reader' : R) (out out' : W) (err err' : E) (status : ℕ) : Type 0 where
+  -- the whole source was read, and all that it asks for was written
+  pub record SourceFinishes (rule : FilterRule) (origin : Origin) (earlier : ℕ) (b : FilterState) (reader reader' : S) (out out' : W) (err err' : E) : Type 0 where
     pub read : List ℕ
     pub consumed : Consumes (remaining reader) (remaining reader') read
     pub end : IsAtEnd (remaining reader')
-    pub outcome : Outcome
-    pub is : Filters rule (input_lines read) outcome
-    pub output : Appends (contents out) (contents out') outcome.output
-    pub errors : Appends (error_contents err) (error_contents err') outcome.errors
-    pub ended : status ≡ outcome.status
+    pub wrote : Wrote contents error_contents rule (record { origin = origin; lines = input_lines read }) earlier b out out' err err'
 
   -- some lines were read, and a beginning of what they ask for was written
-  pub record FilterStops (rule : FilterRule) (reader reader' : R) (out out' : W) (err err' : E) : Type 0 where
+  pub record SourceStops (rule : FilterRule) (origin : Origin) (earlier : ℕ) (reader reader' : S) (out out' : W) (err err' : E) : Type 0 where
     pub read : List ℕ
     pub consumed : Consumes (remaining reader) (remaining reader') read
     pub front : List (List ℕ)
     pub rest : List (List ℕ)
     pub split : input_lines read ≡ front ++ rest
     pub whole : rest ≡ [] → IsAtEnd (remaining reader')
+    pub wrote : WroteSome contents error_contents rule (record { origin = origin; lines = front }) earlier out out' err err'
+
+module _ {R W E : Type 0} (files : List ℕ → KnownFile) (remaining : R → Option (List ℕ)) (contents : W → Option (List ℕ)) (error_contents : E → Option (List ℕ)) where
+  -- the source with this name was read, and all that it asks for was written
+  pub record NamedReads (rule : FilterRule) (origin : Origin) (earlier : ℕ) (b : FilterState) (reader reader' : R) (out out' : W) (err err' : E) : Type 0 where
+    pub source : Source
+    pub reads : ReadsSource files remaining origin reader reader' source
+    pub wrote : Wrote contents error_contents rule source earlier b out out' err err'
+
+  -- the file with this name was not opened, and nothing was done
+  pub record NamedRefuses (origin : Origin) (failure : OpenFailure) (a b : FilterState) (reader reader' : R) (out out' : W) (err err' : E) : Type 0 where
+    pub file : is_input origin.name ≡ false
+    pub refuses : Refuses (files origin.name) failure
+    pub state : b ≡ a
+    pub reader_kept : reader' ≡ reader
+    pub out_kept : out' ≡ out
+    pub err_kept : err' ≡ err
+
+  abbrev pub NamedFinishes : FilterRule → Origin → FilterState → FilterState → R → R → W → W → E → E → Option OpenFailure → Type 0
+  NamedFinishes rule origin a b reader reader' out out' err err' None = NamedReads rule origin a.fault_count b reader reader' out out' err err'
+  NamedFinishes rule origin a b reader reader' out out' err err' (Some failure) = NamedRefuses origin failure a b reader reader' out out' err err'
+
+  -- some lines of the source with this name were read, and a beginning of what they ask for was written
+  pub record NamedStops (rule : FilterRule) (origin : Origin) (earlier : ℕ) (reader reader' : R) (out out' : W) (err err' : E) (stop : Stop) : Type 0 where
+    pub source : Source
+    pub lines : ReadsLines files remaining origin reader reader' source
+    pub wrote : WroteSome contents error_contents rule source earlier out out' err err'
+    pub stops : IsStopOf (Some origin.name) stop
+
+  -- the sources with these names were read, up to one that was not opened if there was one, and all that they ask for was written
+  pub record AllFinish (rule : FilterRule) (names : List (List ℕ)) (unopened : Option Unopened) (b : FilterState) (reader reader' : R) (out out' : W) (err err' : E) : Type 0 where
+    pub sources : List Source
+    pub reads : ReadsInput files remaining names reader reader' (record { sources = sources; unopened = unopened })
+    pub wrote : WroteAll contents error_contents rule sources b out out' err err'
+
+  -- some of the lines of the sources with these names were read, and a beginning of what they ask for was written
+  pub record AllStop (rule : FilterRule) (names : List (List ℕ)) (reader reader' : R) (out out' : W) (err err' : E) (stop : Stop) : Type 0 where
+    pub sources : List Source
+    pub reads : ReadsPart files remaining names reader reader' sources
+    pub found : List ReadLine
+    pub are : AllZip (IsRead rule.lines) (filled_lines sources) found
+    pub output : WroteBeginning (contents out) (contents out') (printed_lines rule found)
+    pub errors : WroteBeginning (error_contents err) (error_contents err') (concat (take (message_limit rule.lines.invalid) (faults found)))
+    pub stops : IsStopOf (last_name sources) stop
+
+  -- all was read, up to a file that was not opened if there was one, and all was written
+  pub record FilterFinishes (rule : FilterRule) (names : List (List ℕ)) (reader reader' : R) (out out' : W) (err err' : E) (status : ℕ) : Type 0 where
+    pub input : Input
+    pub reads : ReadsInput files remaining names reader reader' input
     pub outcome : Outcome
-    pub is : Filters rule front outcome
+    pub is : Filters rule input outcome
+    pub output : Appends (contents out) (contents out') outcome.output
+    pub errors : Appends (error_contents err) (error_contents err') outcome.errors
+    pub ended : status ≡ outcome.status
+
+  -- some lines were read, and a beginning of what they ask for was written
+  pub record FilterStops (rule : FilterRule) (names : List (List ℕ)) (reader reader' : R) (out out' : W) (err err' : E) (stop : Stop) : Type 0 where
+    pub input : Input
+    pub reads : ReadsInput files remaining names reader reader' input ⊎ (ReadsPart files remaining names reader reader' input.sources × (input.unopened ≡ None))
+    pub outcome : Outcome
+    pub is : Filters rule input outcome
     pub output : WroteBeginning (contents out) (contents out') outcome.output
     pub errors : WroteBeginning (error_contents err) (error_contents err') outcome.errors
+    pub stops : IsStopOf (last_name input.sources) stop

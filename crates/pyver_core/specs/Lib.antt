@@ -17,6 +17,7 @@ pub mod Bumps
 pub mod BumpLaws
 pub mod AnswerViews
 pub mod InputLines
+pub mod Sources
 pub mod InvalidLines
 pub mod LineOptions
 pub mod Fields
@@ -28,6 +29,7 @@ pub mod Newest
 pub mod Tasks
 pub mod TaskViews
 pub mod Runs
+pub mod SourceViews
 pub mod FilterSteps
 pub mod VersionLineViews
 pub mod WholeInputs

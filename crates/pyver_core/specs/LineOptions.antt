@@ -13,7 +13,7 @@ use Rattle.pyver_core.specs.declared.line_options.ValueOption.TheVariants as val
 abbrev pub no_line_options : LineOptions
 no_line_options = record { invalid = invalid.Error; field = None; delimiter = 9; header = false }
 
--- the line with this number is the header: the first, if there is one
+-- the line with this number is the header of its source: the first, if there is one
 abbrev pub is_header : LineOptions → ℕ → Bool
 is_header options number = options.header && (number == 1)
 

@@ -8,9 +8,13 @@ use Rattle.pyver_core.specs.Nearest.{nearest}
 abbrev pub fault_message : List ℕ → List ℕ → List ℕ
 fault_message word reason = codes "pyver: '" ++ (escaped word ++ (codes "': " ++ (escaped reason ++ codes "\n")))
 
--- the message of a line that is no version
-abbrev pub line_fault_message : ℕ → List ℕ → List ℕ
-line_fault_message number reason = codes "pyver: -: line " ++ (decimal number ++ (codes ": " ++ (escaped reason ++ codes "\n")))
+-- the message of a line that is no version: the name of its source, `-` for standard input, and its number there
+abbrev pub line_fault_message : List ℕ → ℕ → List ℕ → List ℕ
+line_fault_message name number reason = codes "pyver: " ++ (escaped name ++ (codes ": line " ++ (decimal number ++ (codes ": " ++ (escaped reason ++ codes "\n")))))
+
+-- the message of a file that is not opened or not read
+abbrev pub file_message : List ℕ → List ℕ → List ℕ
+file_message name reason = codes "pyver: " ++ (escaped name ++ (codes ": " ++ (reason ++ codes "\n")))
 
 -- the message of a number of lines; nothing if there are none
 abbrev pub count_message : List ℕ → ℕ → List ℕ

@@ -1,8 +1,9 @@
--- Lines of the input with their numbers and what they are read as, and the messages of those that are invalid.
+-- Lines of the input with their sources and numbers and what they are read as, and the messages of those that are invalid.
 use Rattle.std.specs.Prelude.{◌≡◌, ◌⊎◌, ℕ, ◌-◌, List, [], ◌∷◌, ◌++◌, Bool, true, false, Option, Some, None, codes, length, take}
 use Rattle.std.specs.List.{concat, flat_map}
 use Rattle.std.specs.Str.{IsUtf8}
 use Rattle.pyver_core.specs.Fields.{field, no_field_reason}
+use Rattle.pyver_core.specs.InputLines.{Line}
 use Rattle.pyver_core.specs.LineOptions.{is_header}
 use Rattle.pyver_core.specs.Messages.{line_fault_message, more_faults_message}
 use Rattle.pyver_core.specs.Readings.{Denotes, Fails, Reading, Reads}
@@ -30,9 +31,9 @@ pub data LineReading : Type 0 where
   Header : LineReading
   Entry : Reading → LineReading
 
--- a line with its number, and what it is
+-- a line, and what it is
 pub record ReadLine : Type 0 where
-  pub line : ℕ × List ℕ
+  pub line : Line
   pub reading : LineReading
 
 -- the line is the header, or it is not and is read so
@@ -40,17 +41,17 @@ abbrev pub IsEntry : Bool → LineOptions → List ℕ → LineReading → Type 
 IsEntry header options text Header = header ≡ true
 IsEntry header options text (Entry x) = (header ≡ false) × ReadsLine options text x
 
-abbrev pub IsRead : LineOptions → ℕ × List ℕ → ReadLine → Type 0
-IsRead options line x = (x.line ≡ line) × IsEntry (is_header options line.0) options line.1 x.reading
+abbrev pub IsRead : LineOptions → Line → ReadLine → Type 0
+IsRead options line x = (x.line ≡ line) × IsEntry (is_header options line.number) options line.text x.reading
 
 -- the message of an invalid line
-abbrev pub fault_at : ℕ → LineReading → List (List ℕ)
-fault_at number Header = []
-fault_at number (Entry (Denotes r)) = []
-fault_at number (Entry (Fails reason)) = line_fault_message number reason ∷ []
+abbrev pub fault_at : Line → LineReading → List (List ℕ)
+fault_at line Header = []
+fault_at line (Entry (Denotes r)) = []
+fault_at line (Entry (Fails reason)) = line_fault_message line.origin.name line.number reason ∷ []
 
 abbrev pub faults : List ReadLine → List (List ℕ)
-faults found = flat_map (λ (x : ReadLine). fault_at x.line.0 x.reading) found
+faults found = flat_map (λ (x : ReadLine). fault_at x.line x.reading) found
 
 -- the first 20 invalid lines are named, and then how many more there are
 abbrev pub fault_messages : List ReadLine → List ℕ

@@ -1,10 +1,11 @@
--- How a run of the program may end. `remaining` are the bytes that the reader has left, `contents` and `error_contents` those
--- that the writers hold.
-use Rattle.std.specs.Prelude.{◌≡◌, ◌⊎◌, ◌≤◌, ℕ, List, [], ◌++◌, Option, codes}
-use Rattle.std.specs.Io.KnownBytes.{Appends, Consumes, IsAtEnd}
-use Rattle.pyver_core.specs.InputLines.{input_lines}
+-- How a run of the program may end. `known` is what is known of each file, `remaining` are the bytes that the reader has left,
+-- `contents` and `error_contents` those that the writers hold.
+use Rattle.std.specs.Prelude.{◌≡◌, ◌⊎◌, ◌≤◌, ℕ, List, [], ◌++◌, Option, None, Some, codes}
+use Rattle.std.specs.Io.KnownBytes.{Appends}
+use Rattle.pyver_core.specs.InputLines.{filled_lines}
 use Rattle.pyver_core.specs.Outcomes.{Outcome}
-use Rattle.pyver_core.specs.Tasks.{IsOutcome, IsStream, NeedsInput, task_of}
+use Rattle.pyver_core.specs.Sources.{Input, KnownFile, ReadsInput, ReadsPart, last_name, no_input, read_message}
+use Rattle.pyver_core.specs.Tasks.{IsOutcome, IsStream, NeedsInput, names_of, task_of}
 
 -- a prefix of `all` was written, which may be empty or the whole
 pub record WroteBeginning (old new : Option (List ℕ)) (all : List ℕ) : Type 0 where
@@ -17,19 +18,22 @@ pub record WroteBeginning (old new : Option (List ℕ)) (all : List ℕ) : Type 
 abbrev pub memory_message : List ℕ
 memory_message = codes "pyver: out of memory\n"
 
--- the message that a read failed
-abbrev pub read_message : List ℕ
-read_message = codes "pyver: a read failed\n"
-
 -- the message that a write failed
 abbrev pub write_message : List ℕ
 write_message = codes "pyver: a write failed\n"
 
--- the last message of a run that stopped early, by its status; none if standard error failed or nobody reads
-abbrev pub IsLast : ℕ → List ℕ → Type 0
-IsLast status message = ((status ≡ 3) × (message ≡ memory_message))
-    ⊎ ((status ≡ 4) × ((message ≡ read_message) ⊎ ((message ≡ write_message) ⊎ (message ≡ []))))
-    ⊎ ((status ≡ 141) × (message ≡ []))
+-- a read of the source with this name failed, and this is its message
+abbrev pub IsReadMessage : Option (List ℕ) → List ℕ → Type 0
+IsReadMessage None message = ⊥
+IsReadMessage (Some name) message = message ≡ read_message name
+
+-- the status and the message of a failed write; none if standard error failed or nobody reads
+abbrev pub IsWriteFailure : ℕ → List ℕ → Type 0
+IsWriteFailure status message = ((status ≡ 4) × ((message ≡ write_message) ⊎ (message ≡ []))) ⊎ ((status ≡ 141) × (message ≡ []))
+
+-- the last message of a run that stopped early, by its status, where the last source has this name
+abbrev pub IsLast : Option (List ℕ) → ℕ → List ℕ → Type 0
+IsLast last status message = ((status ≡ 3) × (message ≡ memory_message)) ⊎ (((status ≡ 4) × IsReadMessage last message) ⊎ IsWriteFailure status message)
 
 module _ {W E : Type 0} (contents : W → Option (List ℕ)) (error_contents : E → Option (List ℕ)) where
   -- a write to standard output failed: a prefix of the output was written, and then nothing or a prefix of the message
@@ -53,48 +57,50 @@ module _ {W E : Type 0} (contents : W → Option (List ℕ)) (error_contents : E
   WritesAnswer outcome out out' err err' status = ((status ≤ 2) × IsWritten outcome out out' err err' status)
       ⊎ (((status ≡ 4) ⊎ (status ≡ 141)) × (IsCutOutput outcome out out' err err' ⊎ IsCutErrors outcome out out' err err'))
 
-module _ {R W E : Type 0} (remaining : R → Option (List ℕ)) (contents : W → Option (List ℕ)) (error_contents : E → Option (List ℕ)) where
-  -- the whole outcome was written, with its status; if the task needs the input, all of it was read
-  pub record IsFinished (words : List (List ℕ)) (reader reader' : R) (out out' : W) (err err' : E) (status : ℕ) : Type 0 where
-    pub read : List ℕ
-    pub consumed : Consumes (remaining reader) (remaining reader') read
-    pub end : NeedsInput (task_of words) → IsAtEnd (remaining reader')
+module _ {F R W E : Type 0} (known : F → List ℕ → KnownFile) (remaining : R → Option (List ℕ)) (contents : W → Option (List ℕ)) (error_contents : E → Option (List ℕ)) where
+  -- the whole outcome was written, with its status; if the task needs sources, all of them were read, or all before a file that
+  -- was not opened
+  pub record IsFinished (words : List (List ℕ)) (files : F) (reader reader' : R) (out out' : W) (err err' : E) (status : ℕ) : Type 0 where
+    pub input : Input
+    pub read : NeedsInput (task_of words) → ReadsInput (known files) remaining (names_of (task_of words)) reader reader' input
     pub outcome : Outcome
-    pub is : IsOutcome (task_of words) (input_lines read) outcome
+    pub is : IsOutcome (task_of words) input outcome
     pub written : IsWritten contents error_contents outcome out out' err err' status
 
+  -- what was read: everything, or the first sources and some lines of the next one; a command that prints nothing before the end
+  -- of the sources has used no line then
+  abbrev pub ReadsSome : List (List ℕ) → F → R → R → Input → Type 0
+  ReadsSome words files reader reader' input =
+      ReadsInput (known files) remaining (names_of (task_of words)) reader reader' input
+      ⊎ (ReadsPart (known files) remaining (names_of (task_of words)) reader reader' input.sources × (input.unopened ≡ None) × (¬ IsStream (task_of words) → filled_lines input.sources ≡ []))
+
   -- A run stopped early: standard output has a prefix of the outcome of the first lines read, and standard error a prefix of
-  -- its errors and of the last message. A command that prints nothing before the end of the input has all lines, or none.
-  pub record IsStopped (words : List (List ℕ)) (reader reader' : R) (out out' : W) (err err' : E) (status : ℕ) : Type 0 where
-    pub read : List ℕ
-    pub consumed : Consumes (remaining reader) (remaining reader') read
-    pub front : List (List ℕ)
-    pub rest : List (List ℕ)
-    pub split : input_lines read ≡ front ++ rest
-    pub whole : rest ≡ [] → IsAtEnd (remaining reader')
-    pub silent : ¬ IsStream (task_of words) → ¬ (rest ≡ []) → front ≡ []
+  -- its errors and of the last message.
+  pub record IsStopped (words : List (List ℕ)) (files : F) (reader reader' : R) (out out' : W) (err err' : E) (status : ℕ) : Type 0 where
+    pub input : Input
+    pub read : ReadsSome words files reader reader' input
     pub outcome : Outcome
-    pub is : IsOutcome (task_of words) front outcome
+    pub is : IsOutcome (task_of words) input outcome
     pub output : WroteBeginning (contents out) (contents out') outcome.output
     pub told : List ℕ
     pub untold : List ℕ
     pub errors_are : outcome.errors ≡ told ++ untold
     pub message : List ℕ
-    pub last : IsLast status message
+    pub last : IsLast (last_name input.sources) status message
     pub errors : WroteBeginning (error_contents err) (error_contents err') (told ++ message)
 
   -- a write of the answer failed, by a command that reads nothing
   pub record IsCut (words : List (List ℕ)) (out out' : W) (err err' : E) : Type 0 where
     pub outcome : Outcome
-    pub is : IsOutcome (task_of words) [] outcome
+    pub is : IsOutcome (task_of words) no_input outcome
     pub cut : IsCutOutput contents error_contents outcome out out' err err' ⊎ IsCutErrors contents error_contents outcome out out' err err'
 
   -- what a run wrote, by its status: 3 if memory ran out, 4 if a read or a write failed, 141 if nobody reads. Without an input
   -- nothing is written before memory ran out
-  pub record Ends (words : List (List ℕ)) (reader reader' : R) (out out' : W) (err err' : E) (status : ℕ) : Type 0 where
-    pub known : (status ≤ 4) ⊎ (status ≡ 141)
-    pub unread : ¬ NeedsInput (task_of words) → reader' ≡ reader
-    pub finished : status ≤ 2 → IsFinished words reader reader' out out' err err' status
-    pub stopped : NeedsInput (task_of words) → ¬ (status ≤ 2) → IsStopped words reader reader' out out' err err' status
+  pub record Ends (words : List (List ℕ)) (files files' : F) (reader reader' : R) (out out' : W) (err err' : E) (status : ℕ) : Type 0 where
+    pub known_status : (status ≤ 4) ⊎ (status ≡ 141)
+    pub unread : ¬ NeedsInput (task_of words) → (reader' ≡ reader) × (files' ≡ files)
+    pub finished : status ≤ 2 → IsFinished words files reader reader' out out' err err' status
+    pub stopped : NeedsInput (task_of words) → ¬ (status ≤ 2) → IsStopped words files reader reader' out out' err err' status
     pub memory : ¬ NeedsInput (task_of words) → status ≡ 3 → (out' ≡ out) × WroteBeginning (error_contents err) (error_contents err') memory_message
     pub failed : ¬ NeedsInput (task_of words) → (status ≡ 4) ⊎ (status ≡ 141) → IsCut words out out' err err'

@@ -6,6 +6,7 @@ use Rattle.std.specs.declared.cmp.Ordering.{Ordering}
 use Rattle.pep440_rs.specs.Arrangement.{ArrangesBy}
 use Rattle.pep440_version.specs.Key.{record_cmp}
 use Rattle.pep440_version.specs.Record.{Record}
+use Rattle.pyver_core.specs.InputLines.{Source}
 use Rattle.pyver_core.specs.Outcomes.{Outcome}
 use Rattle.pyver_core.specs.VersionLines.{InputParts, OfVersions, VersionLine}
 use Rattle.pyver_core.specs.declared.sort.SortOptions.{SortOptions}
@@ -55,6 +56,6 @@ sort_outcome options parts sorted = record {
 abbrev pub SortsParts : SortOptions → InputParts → Outcome → Type 0
 SortsParts options parts o = (sorted : List VersionLine) × ArrangesBy (line_order options.reversed) parts.versions sorted × (o ≡ sort_outcome options parts sorted)
 
--- what is written of the lines of the input
-abbrev pub SortsLines : SortOptions → List (List ℕ) → Outcome → Type 0
-SortsLines options texts o = OfVersions options.lines (SortsParts options) texts o
+-- what is written of the lines of the sources
+abbrev pub SortsLines : SortOptions → List Source → Outcome → Type 0
+SortsLines options sources o = OfVersions options.lines (SortsParts options) sources o

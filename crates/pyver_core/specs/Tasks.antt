@@ -16,6 +16,7 @@ use Rattle.pyver_core.specs.Outcomes.{Outcome}
 use Rattle.pyver_core.specs.Parts.{part_of}
 use Rattle.pyver_core.specs.Shows.{Shows}
 use Rattle.pyver_core.specs.Sorts.{SortsLines}
+use Rattle.pyver_core.specs.Sources.{Input, source_names}
 use Rattle.pyver_core.specs.declared.allowed.MatchOptions.{MatchOptions}
 use Rattle.pyver_core.specs.declared.bump.BumpPart.{BumpPart}
 use Rattle.pyver_core.specs.declared.comparison.Comparison.{Comparison}
@@ -41,7 +42,7 @@ pub data Task : Type 0 where
   NameVersion : Task
   Compare : List ℕ → Comparison → List ℕ → Task
   Match : MatchOptions → List ℕ → List (List ℕ) → Task
-  Filter : FilterOptions → List ℕ → Task
+  Filter : FilterOptions → List ℕ → List (List ℕ) → Task
   Sort : SortOptions → Task
   Newest : NewestOptions → List ℕ → Task
   Show : ShowFormat → List (List ℕ) → Task
@@ -199,12 +200,12 @@ match_task options (word ∷ rest) =
 abbrev pub no_match_options : MatchOptions
 no_match_options = record { quiet = false; prereleases = prereleases.Listed }
 
--- ---- `filter [-v] [--pre | --no-pre] [-k N] [-d C] [--header] [--invalid HOW] SPECS`
+-- ---- `filter [-v] [--pre | --no-pre] [-k N] [-d C] [--header] [--invalid HOW] SPECS [FILE..]`
 
--- exactly one list
+-- a list, and the names of the sources
 abbrev pub filter_operands : FilterOptions → List (List ℕ) → Task
-filter_operands options (specifiers ∷ []) = Filter options specifiers
-filter_operands options _ = wrong_count topic.Filter
+filter_operands options [] = wrong_count topic.Filter
+filter_operands options (specifiers ∷ names) = Filter options specifiers names
 
 -- the options with what this word sets, if it is one of them
 abbrev pub filter_option : FilterOptions → List ℕ → Option FilterOptions
@@ -499,28 +500,35 @@ printed text = record { output = text; errors = []; status = 0 }
 abbrev pub misuse : List ℕ → Outcome
 misuse message = record { output = []; errors = message; status = 2 }
 
--- the outcome of a task, if the input has these lines
-abbrev pub IsOutcome : Task → List (List ℕ) → Outcome → Type 0
-IsOutcome (Help about) texts o = o ≡ printed (help_text about)
-IsOutcome NameVersion texts o = o ≡ printed VERSION_LINE.now
-IsOutcome (Compare left operator right) texts o = Compares left operator right o
-IsOutcome (Match options specifiers words) texts o = Matches options specifiers words o
-IsOutcome (Filter options specifiers) texts o = FiltersLines options specifiers texts o
-IsOutcome (Sort options) texts o = SortsLines options texts o
-IsOutcome (Newest options specifiers) texts o = FindsNewestLine options specifiers texts o
-IsOutcome (Show asked words) texts o = Shows asked words o
-IsOutcome (Bump to parts word) texts o = Bumps to parts word o
-IsOutcome (Range options words) texts o = FindsCommon options words o
-IsOutcome (Misused message) texts o = o ≡ misuse message
+-- the outcome of a task, if this is what is read
+abbrev pub IsOutcome : Task → Input → Outcome → Type 0
+IsOutcome (Help about) input o = o ≡ printed (help_text about)
+IsOutcome NameVersion input o = o ≡ printed VERSION_LINE.now
+IsOutcome (Compare left operator right) input o = Compares left operator right o
+IsOutcome (Match options specifiers words) input o = Matches options specifiers words o
+IsOutcome (Filter options specifiers names) input o = FiltersLines options specifiers input o
+IsOutcome (Sort options) input o = SortsLines options input.sources o
+IsOutcome (Newest options specifiers) input o = FindsNewestLine options specifiers input.sources o
+IsOutcome (Show asked words) input o = Shows asked words o
+IsOutcome (Bump to parts word) input o = Bumps to parts word o
+IsOutcome (Range options words) input o = FindsCommon options words o
+IsOutcome (Misused message) input o = o ≡ misuse message
 
--- only `sort`, and `filter` and `newest` with a valid list, read the input
+-- only `sort`, and `filter` and `newest` with a valid list, read sources
 abbrev pub NeedsInput : Task → Type 0
-NeedsInput (Filter options specifiers) = (list : List Spec) × DerivesList specifiers list
+NeedsInput (Filter options specifiers names) = (list : List Spec) × DerivesList specifiers list
 NeedsInput (Sort options) = ⊤
 NeedsInput (Newest options specifiers) = (list : List Spec) × DerivesList specifiers list
 NeedsInput _ = ⊥
 
+-- the names of the sources that are read
+abbrev pub names_of : Task → List (List ℕ)
+names_of (Filter options specifiers names) = source_names names
+names_of (Sort options) = source_names []
+names_of (Newest options specifiers) = source_names []
+names_of _ = []
+
 -- lines are printed before all are read
 abbrev pub IsStream : Task → Type 0
-IsStream (Filter options specifiers) = ⊤
+IsStream (Filter options specifiers names) = ⊤
 IsStream _ = ⊥

@@ -1,8 +1,8 @@
 -- The lines of the input by what they are, for commands that print nothing before all are read.
-use Rattle.std.specs.Prelude.{◌≡◌, ◌⊎◌, ◌<◌, ℕ, List, [], ◌∷◌, ◌++◌, codes, length, take}
+use Rattle.std.specs.Prelude.{◌≡◌, ◌⊎◌, ◌<◌, ℕ, List, [], ◌∷◌, ◌++◌, codes, length, take, if◌then◌else◌}
 use Rattle.std.specs.List.{AllZip, concat, flat_map}
 use Rattle.pep440_version.specs.Record.{Record}
-use Rattle.pyver_core.specs.InputLines.{filled_lines_from}
+use Rattle.pyver_core.specs.InputLines.{Line, Source, filled_lines}
 use Rattle.pyver_core.specs.InvalidLines.{last_message, lines_status, message_limit}
 use Rattle.pyver_core.specs.Outcomes.{Outcome}
 use Rattle.pyver_core.specs.ReadLines.{Entry, Header, IsRead, LineReading, ReadLine, faults}
@@ -24,13 +24,13 @@ pub record InputParts : Type 0 where
   pub invalid : List (List ℕ)
   pub messages : List ℕ
 
--- the header and its newline
-abbrev pub header_with : List ℕ → LineReading → List ℕ
-header_with text Header = text ++ codes "\n"
-header_with text (Entry x) = []
+-- the header of the first source and its newline
+abbrev pub header_with : Line → LineReading → List ℕ
+header_with line Header = if line.origin.is_first then line.text ++ codes "\n" else []
+header_with line (Entry x) = []
 
 abbrev pub header_text : List ReadLine → List ℕ
-header_text found = flat_map (λ (x : ReadLine). header_with x.line.1 x.reading) found
+header_text found = flat_map (λ (x : ReadLine). header_with x.line x.reading) found
 
 -- the line with its version, where it is one
 abbrev pub line_with : List ℕ → LineReading → List VersionLine
@@ -39,7 +39,7 @@ line_with text (Entry (Denotes r)) = record { text = text; version = r } ∷ []
 line_with text (Entry (Fails reason)) = []
 
 abbrev pub version_lines : List ReadLine → List VersionLine
-version_lines found = flat_map (λ (x : ReadLine). line_with x.line.1 x.reading) found
+version_lines found = flat_map (λ (x : ReadLine). line_with x.line.text x.reading) found
 
 -- an invalid line as it was written, where such lines are kept
 abbrev pub kept_text : InvalidLines → List ℕ → List (List ℕ)
@@ -53,7 +53,7 @@ kept_with how text (Entry (Denotes r)) = []
 kept_with how text (Entry (Fails reason)) = kept_text how text
 
 abbrev pub kept_lines : InvalidLines → List ReadLine → List (List ℕ)
-kept_lines how found = flat_map (λ (x : ReadLine). kept_with how x.line.1 x.reading) found
+kept_lines how found = flat_map (λ (x : ReadLine). kept_with how x.line.text x.reading) found
 
 -- the messages of the first invalid lines, and the last message
 abbrev pub line_messages : InvalidLines → List ReadLine → List ℕ
@@ -71,6 +71,6 @@ abbrev pub OfFound : InvalidLines → (InputParts → Outcome → Type 0) → Li
 OfFound how Gives found o = ((lines_status how (length (faults found)) ≡ 0) × Gives (input_parts how found) o)
     ⊎ ((0 < lines_status how (length (faults found))) × (o ≡ invalid_outcome how found))
 
--- what is written of the lines of the input
-abbrev pub OfVersions : LineOptions → (InputParts → Outcome → Type 0) → List (List ℕ) → Outcome → Type 0
-OfVersions options Gives texts o = (found : List ReadLine) × AllZip (IsRead options) (filled_lines_from 1 texts) found × OfFound options.invalid Gives found o
+-- what is written of the lines of the sources
+abbrev pub OfVersions : LineOptions → (InputParts → Outcome → Type 0) → List Source → Outcome → Type 0
+OfVersions options Gives sources o = (found : List ReadLine) × AllZip (IsRead options) (filled_lines sources) found × OfFound options.invalid Gives found o

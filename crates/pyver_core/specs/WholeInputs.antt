@@ -1,11 +1,12 @@
 -- Commands that read the whole input before they write.
 use Rattle.std.specs.Prelude.{◌≡◌, ℕ, List, [], ◌++◌, Option}
 use Rattle.std.specs.Io.KnownBytes.{Appends, Consumes, IsAtEnd}
-use Rattle.pyver_core.specs.InputLines.{input_lines}
+use Rattle.pyver_core.specs.InputLines.{Source, input_lines}
 use Rattle.pyver_core.specs.Outcomes.{Outcome}
 use Rattle.pyver_core.specs.Runs.{WroteBeginning}
 use Rattle.pyver_core.specs.Newest.{FindsNewest}
 use Rattle.pyver_core.specs.Sorts.{SortsParts}
+use Rattle.pyver_core.specs.Sources.{of_input}
 use Rattle.pyver_core.specs.VersionLines.{InputParts, OfVersions}
 use Rattle.pyver_core.specs.declared.line_options.LineOptions.{LineOptions}
 use Rattle.pyver_core.specs.declared.whole_input.Question.{Question}
@@ -21,9 +22,9 @@ abbrev pub AnswersParts : Question → InputParts → Outcome → Type 0
 AnswersParts (question.Sort options) parts o = SortsParts options parts o
 AnswersParts (question.Newest rule) parts o = FindsNewest rule parts o
 
--- what is written of the lines of the input
-abbrev pub AnswersInput : Question → List (List ℕ) → Outcome → Type 0
-AnswersInput asked texts o = OfVersions (question_lines asked) (AnswersParts asked) texts o
+-- what is written of the lines of the sources
+abbrev pub AnswersInput : Question → List Source → Outcome → Type 0
+AnswersInput asked sources o = OfVersions (question_lines asked) (AnswersParts asked) sources o
 
 module _ {R W E : Type 0} (remaining : R → Option (List ℕ)) (contents : W → Option (List ℕ)) (error_contents : E → Option (List ℕ)) where
   -- the whole input was read, and all was written
@@ -32,7 +33,7 @@ module _ {R W E : Type 0} (remaining : R → Option (List ℕ)) (contents : W �
     pub consumed : Consumes (remaining reader) (remaining reader') read
     pub end : IsAtEnd (remaining reader')
     pub outcome : Outcome
-    pub is : AnswersInput asked (input_lines read) outcome
+    pub is : AnswersInput asked (of_input (input_lines read)) outcome
     pub output : Appends (contents out) (contents out') outcome.output
     pub errors : Appends (error_contents err) (error_contents err') outcome.errors
     pub ended : status ≡ outcome.status
@@ -47,6 +48,6 @@ module _ {R W E : Type 0} (remaining : R → Option (List ℕ)) (contents : W �
     pub whole : rest ≡ [] → IsAtEnd (remaining reader')
     pub silent : ¬ (rest ≡ []) → front ≡ []
     pub outcome : Outcome
-    pub is : AnswersInput asked front outcome
+    pub is : AnswersInput asked (of_input front) outcome
     pub output : WroteBeginning (contents out) (contents out') outcome.output
     pub errors : WroteBeginning (error_contents err) (error_contents err') outcome.errors

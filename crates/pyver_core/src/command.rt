@@ -36,7 +36,8 @@ pub(crate) enum Command<'a> {
     Version,
     Compare(&'a str, Comparison, &'a str),
     Match(MatchOptions, &'a str, &'a [String]),
-    Filter(FilterOptions, &'a str),
+    /// The specifiers, and the names of the sources.
+    Filter(FilterOptions, &'a str, &'a [String]),
     Sort(SortOptions),
     Newest(NewestOptions, &'a str),
     Show(ShowFormat, &'a [String]),
@@ -48,11 +49,11 @@ pub(crate) enum Command<'a> {
 
 /// What is to be done for a command.
 #[derive(Drop)]
-pub(crate) enum Work {
+pub(crate) enum Work<'a> {
     /// Nothing but to write this.
     Answer(Answer),
-    /// To read the input, whose lines are filtered so.
-    Filter(FilterRule),
+    /// To read the sources with these names, whose lines are filtered so.
+    Filter(FilterRule, &'a [String]),
     /// To read the whole input, of which this is asked.
     Whole(Question),
 }
@@ -201,7 +202,7 @@ impl<'a> Command<'a> {
     }
 
     /// What is to be done for it.
-    pub(crate) fn run(self, alloc: Global) -> Result<Work, AllocError>
+    pub(crate) fn run(self, alloc: Global) -> Result<Work<'a>, AllocError>
         ensures { IfOk result (λ w. IsWork (task self.entry) w) }
     {
         match self {
@@ -213,7 +214,9 @@ impl<'a> Command<'a> {
             Command::Match(options, specifiers, words) => {
                 Ok(Work::Answer(match_versions(alloc, options, specifiers, words)?))
             }
-            Command::Filter(options, specifiers) => start_filter(alloc, options, specifiers),
+            Command::Filter(options, specifiers, names) => {
+                start_filter(alloc, options, specifiers, names)
+            }
             Command::Sort(options) => Ok(Work::Whole(Question::Sort(options))),
             Command::Newest(options, specifiers) => start_newest(alloc, options, specifiers),
             Command::Show(format, words) => {
@@ -230,19 +233,25 @@ impl<'a> Command<'a> {
     }
 }
 
-/// `filter SPECS`: the rule, or why SPECS is no list.
-fn start_filter(alloc: Global, options: FilterOptions, specifiers: &str) -> Result<Work, AllocError>
-    ensures { IfOk result (λ w. IsWork (Filter options specifiers.now) w) }
+/// `filter SPECS [FILE..]`: the rule, or why SPECS is no list.
+fn start_filter<'a>(
+    alloc: Global,
+    options: FilterOptions,
+    specifiers: &str,
+    names: &'a [String],
+) -> Result<Work<'a>, AllocError>
+    ensures { IfOk result (λ w. IsWork (Filter options specifiers.now (map string_bytes names.now)) w) }
 {
     match read_specifiers(alloc, specifiers)? {
         SpecifiersReading::Specifiers(list) => {
             let takes = takes_prereleases(options.prereleases, &list);
-            Ok(Work::Filter(FilterRule {
+            let rule = FilterRule {
                 inverted: options.inverted,
                 takes,
                 lines: options.lines,
                 list,
-            }))
+            };
+            Ok(Work::Filter(rule, names))
         }
         SpecifiersReading::Invalid(message) => {
             let mut answer = Answer::silent(alloc, 0);

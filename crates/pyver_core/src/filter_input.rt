@@ -1,8 +1,11 @@
-// The loop of `filter` over its input.
-ghost use Rattle.std.specs.Prelude.{IfErr, IfOk};
-ghost use Rattle.pyver_core.specs.FilterSteps.{FilterFinishes, FilterStops};
+// The loop of `filter` over a source.
+ghost use Rattle.std.specs.Prelude.{◌≡◌, ◌≤◌, ◌*◌, [], Some, IfErr, IfOk};
+ghost use Rattle.pyver_core.specs.FilterSteps.{SourceFinishes, SourceStops};
+ghost use Rattle.pyver_core.specs.SourceViews.{IsStopOf, origin_of};
 
 use crate::filter::{FilterRule, FilterState};
+use crate::open_failure::push_file_fault;
+use crate::origin::{Origin, is_input};
 use crate::stream::{Stop, write_both};
 use std::alloc::Global;
 use std::io::{Read, Write};
@@ -12,26 +15,47 @@ const MOST_READS: u64 = 562949953421312;
 
 const READ_SIZE: usize = 8192;
 
-/// Writes what the rule asks for of each line of the input, before more is read, and returns the status.
+/// A read of the source with this name failed.
+fn stop_reading(alloc: Global, name: &str) -> Stop
+    ensures { IsStopOf (Some name.now) result }
+{
+    if is_input(name) {
+        return Stop::Read;
+    }
+    let mut message = Vec::new(alloc);
+    match push_file_fault(&mut message, name, "a read failed") {
+        Ok(()) => Stop::ReadFile(message),
+        Err(_) => Stop::OutOfMemory,
+    }
+}
+
+/// Writes what the rule asks for of each line of the source, before more is read.
 pub(crate) fn filter_input<R: Read, W: Write, E: Write>(
     alloc: Global,
     rule: &FilterRule,
+    origin: Origin<'_>,
+    state: &mut FilterState,
     input: &mut R,
     out: &mut W,
     err: &mut E,
-) -> Result<u8, Stop>
-    ensures finished { IfOk result (λ status. FilterFinishes R.remaining W.contents E.contents rule.now input.old input.new out.old out.new err.old err.new status) }
-    ensures stopped { IfErr result (λ _. FilterStops R.remaining W.contents E.contents rule.now input.old input.new out.old out.new err.old err.new) }
+) -> Result<(), Stop>
+    requires nothing { (state.old.output.items ≡ []) × (state.old.errors.items ≡ []) }
+    requires room { state.old.fault_count ≤ 8192 * state.old.read_count }
+    ensures finished { IfOk result (λ _. SourceFinishes R.remaining W.contents E.contents rule.now (origin_of origin.entry) state.old.fault_count state.new input.old input.new out.old out.new err.old err.new) }
+    ensures room { IfOk result (λ _. state.new.fault_count ≤ 8192 * state.new.read_count) }
+    ensures stopped { IfErr result (λ _. SourceStops R.remaining W.contents E.contents rule.now (origin_of origin.entry) state.old.fault_count input.old input.new out.old out.new err.old err.new) }
+    ensures stop { IfErr result (IsStopOf (Some (origin_of origin.entry).name)) }
 {
     let mut buffer = [0u8; READ_SIZE];
     let mut line = Vec::new(alloc);
-    let mut state = FilterState::new(alloc);
-    for _ in 0..MOST_READS {
+    state.line_count = 0;
+    while state.read_count < MOST_READS {
+        state.read_count += 1;
         let Ok(count) = input.read(&mut buffer) else {
-            return Err(Stop::Read);
+            return Err(stop_reading(alloc, origin.name));
         };
         if count == 0 {
-            let Ok(status) = state.finish(alloc, rule, line.as_slice()) else {
+            let Ok(()) = state.push_line(alloc, rule, origin, line.as_slice()) else {
                 return Err(Stop::OutOfMemory);
             };
             if let Err(stop) = write_both(
@@ -42,9 +66,10 @@ pub(crate) fn filter_input<R: Read, W: Write, E: Write>(
             ) {
                 return Err(stop);
             }
-            return Ok(status);
+            state.clear();
+            return Ok(());
         }
-        let Ok(()) = state.push_bytes(alloc, rule, &mut line, &buffer[..count]) else {
+        let Ok(()) = state.push_bytes(alloc, rule, origin, &mut line, &buffer[..count]) else {
             return Err(Stop::OutOfMemory);
         };
         if let Err(stop) = write_both(out, err, state.output.as_slice(), state.errors.as_slice()) {
@@ -52,5 +77,5 @@ pub(crate) fn filter_input<R: Read, W: Write, E: Write>(
         }
         state.clear();
     }
-    Err(Stop::Read)
+    Err(stop_reading(alloc, origin.name))
 }

@@ -16,7 +16,7 @@ fn parse_filter_operands<'a>(options: FilterOptions, words: &'a [String]) -> Com
     ensures { task result ≡ filter_operands options (map string_bytes words.now) }
 {
     match words {
-        [specifiers] => Command::Filter(options, specifiers.as_str()),
+        [specifiers, names @ ..] => Command::Filter(options, specifiers.as_str(), names),
         _ => Command::Misused(Misuse::Count(Topic::Filter)),
     }
 }

@@ -23,7 +23,7 @@ const COMPARE_USAGE: &str = "pyver compare A OP B";
 const MATCH_USAGE: &str = "pyver match [-q] [--pre | --no-pre] SPECS V..";
 
 const FILTER_USAGE: &str =
-    "pyver filter [-v] [--pre | --no-pre] [-k N] [-d C] [--header] [--invalid HOW] SPECS";
+    "pyver filter [-v] [--pre | --no-pre] [-k N] [-d C] [--header] [--invalid HOW] SPECS [FILE..]";
 
 const SORT_USAGE: &str = "pyver sort [-r] [-u] [-n K] [-k N] [-d C] [--header] [--invalid HOW]";
 
@@ -95,7 +95,7 @@ examples:
 ";
 
 const FILTER_HELP: &str =
-    "usage: pyver filter [-v] [--pre | --no-pre] [-k N] [-d C] [--header] [--invalid HOW] SPECS
+    "usage: pyver filter [-v] [--pre | --no-pre] [-k N] [-d C] [--header] [--invalid HOW] SPECS [FILE..]
 
 Prints the lines of standard input whose version the specifiers allow, as they were written and as
 they come. '' allows any version. Blank lines are dropped, and so are a byte order mark before the

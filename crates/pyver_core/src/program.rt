@@ -1,11 +1,13 @@
 // The program over any reader and any writers.
 ghost use Rattle.std.specs.Prelude.{◌≡◌, ◌⊎◌, ◌≤◌, List, ℕ, map, string_bytes};
 ghost use Rattle.pyver_core.specs.AnswerViews.{outcome_of};
-ghost use Rattle.pyver_core.specs.Runs.{Ends, IsLast, WritesAnswer, WroteBeginning, memory_message, write_message};
+ghost use Rattle.pyver_core.specs.Runs.{Ends, IsWriteFailure, WritesAnswer, WroteBeginning, memory_message, write_message};
+ghost use Rattle.pyver_core.specs.SourceViews.{Reports};
 
 use crate::answer::Answer;
 use crate::command::{Command, Work};
-use crate::filter_input::filter_input;
+use crate::files::Files;
+use crate::filter_sources::filter_sources;
 use crate::stream::{Stop, WriteFailure, write_whole};
 use crate::whole_input::answer_input;
 use std::alloc::Global;
@@ -30,7 +32,7 @@ fn failure_status(failure: WriteFailure) -> u8
 fn report_failure<E: Write>(failure: WriteFailure, err: &mut E) -> u8
     ensures status { (result ≡ 4) ⊎ (result ≡ 141) }
     ensures written { WroteBeginning (E.contents err.old) (E.contents err.new) write_message }
-    ensures last { (message : List ℕ) × IsLast result message × WroteBeginning (E.contents err.old) (E.contents err.new) message }
+    ensures last { (message : List ℕ) × IsWriteFailure result message × WroteBeginning (E.contents err.old) (E.contents err.new) message }
 {
     match failure {
         WriteFailure::BrokenPipe => 141,
@@ -56,12 +58,16 @@ fn write_answer<W: Write, E: Write>(answer: &Answer, out: &mut W, err: &mut E) -
 
 /// Writes why a run stopped, where somebody reads that, and returns the status.
 fn report_stop<E: Write>(stop: Stop, err: &mut E) -> u8
-    ensures { (message : List ℕ) × IsLast result message × WroteBeginning (E.contents err.old) (E.contents err.new) message }
+    ensures { (message : List ℕ) × Reports stop.entry result message × WroteBeginning (E.contents err.old) (E.contents err.new) message }
 {
     match stop {
         Stop::OutOfMemory => refuse(err),
         Stop::Read => {
             let _ = write_whole(err, READ.as_bytes());
+            4
+        }
+        Stop::ReadFile(message) => {
+            let _ = write_whole(err, message.as_slice());
             4
         }
         Stop::Output(failure) => report_failure(failure, err),
@@ -70,22 +76,26 @@ fn report_stop<E: Write>(stop: Stop, err: &mut E) -> u8
 }
 
 /// Runs the command of the words and returns the status of the process: answers go to `out` and faults to `err`. Only
-/// `sort`, and `filter` and `newest` with a valid list, read `input`.
-pub fn run<R: Read, W: Write, E: Write>(
+/// `sort`, and `filter` and `newest` with a valid list, read `input`; only `filter` with a
+/// valid list opens files.
+pub fn run<F: Files, R: Read, W: Write, E: Write>(
     alloc: Global,
     words: &[String],
+    files: &mut F,
     input: &mut R,
     out: &mut W,
     err: &mut E,
 ) -> u8
-    ensures { Ends R.remaining W.contents E.contents (map string_bytes words.now) input.old input.new out.old out.new err.old err.new result }
+    ensures { Ends F.known R.remaining W.contents E.contents (map string_bytes words.now) files.old files.new input.old input.new out.old out.new err.old err.new result }
 {
     match Command::parse(words).run(alloc) {
         Ok(Work::Answer(answer)) => write_answer(&answer, out, err),
-        Ok(Work::Filter(rule)) => match filter_input(alloc, &rule, input, out, err) {
-            Ok(status) => status,
-            Err(stop) => report_stop(stop, err),
-        },
+        Ok(Work::Filter(rule, names)) => {
+            match filter_sources(alloc, &rule, names, files, input, out, err) {
+                Ok(status) => status,
+                Err(stop) => report_stop(stop, err),
+            }
+        }
         Ok(Work::Whole(question)) => match answer_input(alloc, &question, input, out, err) {
             Ok(status) => status,
             Err(stop) => report_stop(stop, err),

@@ -1,7 +1,8 @@
 // Writing whole, with no call made twice.
-ghost use Rattle.std.specs.Prelude.{OnOk};
+ghost use Rattle.std.specs.Prelude.{IfErr, List, OnOk, Option, ℕ};
 ghost use Rattle.std.specs.Io.KnownBytes.{Appends, Keeps};
 ghost use Rattle.pyver_core.specs.Runs.{WroteBeginning};
+ghost use Rattle.pyver_core.specs.SourceViews.{IsStopOf};
 
 use std::io::{ErrorKind, Write};
 
@@ -46,10 +47,13 @@ fn failure(kind: ErrorKind) -> WriteFailure {
 }
 
 /// Why a run stopped before its end.
-#[derive(Clone, Copy)]
+#[derive(Drop)]
 pub(crate) enum Stop {
     OutOfMemory,
+    /// A read of standard input.
     Read,
+    /// A read of a file, with its message.
+    ReadFile(Vec<u8>),
     /// A write of the output.
     Output(WriteFailure),
     /// A write of the errors, after the output.
@@ -66,6 +70,7 @@ pub(crate) fn write_both<W: Write, E: Write>(
     ensures whole { OnOk result (Appends (W.contents out.old) (W.contents out.new) output.now × Appends (E.contents err.old) (E.contents err.new) errors.now) }
     ensures output { WroteBeginning (W.contents out.old) (W.contents out.new) output.now }
     ensures errors { WroteBeginning (E.contents err.old) (E.contents err.new) errors.now }
+    ensures stop { IfErr result (λ stop. (last : Option (List ℕ)) → IsStopOf last stop) }
 {
     if let Err(failure) = write_whole(out, output) {
         return Err(Stop::Output(failure));

@@ -71,6 +71,7 @@ impl<'a> VersionLines<'a> {
     ghost use Rattle.pyver_core.specs.InvalidLines.{lines_status};
     ghost use Rattle.pyver_core.specs.ReadLines.{Entry, Header};
     ghost use Rattle.pyver_core.specs.Readings.{Denotes, Fails};
+    ghost use Rattle.pyver_core.specs.Sources.{input_line};
     ghost use Rattle.pyver_core.specs.VersionLineViews.{IsOfLines, KeepsLines, KeepsOne};
 
     fn new(alloc: Global) -> VersionLines<'a>
@@ -87,7 +88,7 @@ impl<'a> VersionLines<'a> {
     }
 
     fn push_header(&mut self, options: LineOptions, text: &'a [u8]) -> Result<(), AllocError>
-        ensures { IfOk result (λ _. KeepsOne options (record { line = (self.old.line_count, text.now); reading = Header }) self.old self.new) }
+        ensures { IfOk result (λ _. KeepsOne options (record { line = input_line self.old.line_count text.now; reading = Header }) self.old self.new) }
     {
         self.header.extend_from_slice(text)?;
         self.header.push(b'\n')?;
@@ -100,7 +101,7 @@ impl<'a> VersionLines<'a> {
         text: &'a [u8],
         version: Version,
     ) -> Result<(), AllocError>
-        ensures { IfOk result (λ _. KeepsOne options (record { line = (self.old.line_count, text.now); reading = Entry (Denotes version) }) self.old self.new) }
+        ensures { IfOk result (λ _. KeepsOne options (record { line = input_line self.old.line_count text.now; reading = Entry (Denotes version) }) self.old self.new) }
     {
         self.versions.push(VersionLine { text, version })?;
         Ok(())
@@ -114,10 +115,10 @@ impl<'a> VersionLines<'a> {
         reason: &str,
     ) -> Result<(), AllocError>
         requires { (self.old.fault_count < self.old.line_count) × (self.old.line_count ≤ 2 ^ 63) }
-        ensures { IfOk result (λ _. KeepsOne options (record { line = (self.old.line_count, text.now); reading = Entry (Fails reason.now) }) self.old self.new) }
+        ensures { IfOk result (λ _. KeepsOne options (record { line = input_line self.old.line_count text.now; reading = Entry (Fails reason.now) }) self.old self.new) }
     {
         if self.fault_count < options.invalid.message_limit() {
-            push_line_fault(alloc, &mut self.errors, self.line_count, reason)?;
+            push_line_fault(alloc, &mut self.errors, "-", self.line_count, reason)?;
         }
         keep_text(options.invalid, &mut self.invalid, text)?;
         self.fault_count += 1;
@@ -132,7 +133,7 @@ impl<'a> VersionLines<'a> {
         reading: Reading,
     ) -> Result<(), AllocError>
         requires { (self.old.fault_count < self.old.line_count) × (self.old.line_count ≤ 2 ^ 63) }
-        ensures { IfOk result (λ _. KeepsOne options (record { line = (self.old.line_count, text.now); reading = Entry (reading_of reading) }) self.old self.new) }
+        ensures { IfOk result (λ _. KeepsOne options (record { line = input_line self.old.line_count text.now; reading = Entry (reading_of reading) }) self.old self.new) }
     {
         match reading {
             Reading::Version(version) => self.push_version(options, text, version),

@@ -1,8 +1,10 @@
 // Commands that read the whole input before they write.
-ghost use Rattle.std.specs.Prelude.{◌≡◌, ◌≤◌, IfErr, IfOk, List, ℕ};
+ghost use Rattle.std.specs.Prelude.{◌≡◌, ◌≤◌, IfErr, IfOk, List, Some, ℕ};
 ghost use Rattle.std.specs.Io.KnownBytes.{Consumes, IsAtEnd};
 ghost use Rattle.pyver_core.specs.AnswerViews.{outcome_of};
 ghost use Rattle.pyver_core.specs.InputLines.{input_lines};
+ghost use Rattle.pyver_core.specs.Sources.{input_name, of_input};
+ghost use Rattle.pyver_core.specs.SourceViews.{IsStopOf};
 ghost use Rattle.pyver_core.specs.VersionLineViews.{IsOfLines, input_parts_of};
 ghost use Rattle.pyver_core.specs.WholeInputs.{AnswersInput, AnswersParts, WholeFinishes, WholeStops, question_lines};
 
@@ -40,6 +42,7 @@ fn question_lines(question: &Question) -> LineOptions
 fn read_whole<R: Read>(alloc: Global, input: &mut R) -> Result<Vec<u8>, Stop>
     ensures whole { IfOk result (λ text. Consumes (R.remaining input.old) (R.remaining input.new) text.items × IsAtEnd (R.remaining input.new)) }
     ensures part { IfErr result (λ _. (read : List ℕ) × Consumes (R.remaining input.old) (R.remaining input.new) read) }
+    ensures stop { IfErr result (IsStopOf (Some input_name)) }
 {
     let mut text = Vec::new(alloc);
     let mut buffer = [0u8; READ_SIZE];
@@ -77,7 +80,7 @@ fn answer_lines(
     question: &Question,
     lines: VersionLines<'_>,
 ) -> Result<Answer, AllocError>
-    ensures { IfOk result (λ a. (texts : List (List ℕ)) → IsOfLines (question_lines question.now) texts lines.entry → AnswersInput question.now texts (outcome_of a)) }
+    ensures { IfOk result (λ a. (texts : List (List ℕ)) → IsOfLines (question_lines question.now) texts lines.entry → AnswersInput question.now (of_input texts) (outcome_of a)) }
 {
     let status = lines.status(question_lines(question));
     if status > 0 {
@@ -92,7 +95,7 @@ fn answer_lines(
 
 /// What is to be written, where this is the whole input.
 fn answer_text(alloc: Global, question: &Question, text: &[u8]) -> Result<Answer, AllocError>
-    ensures { IfOk result (λ a. AnswersInput question.now (input_lines text.now) (outcome_of a)) }
+    ensures { IfOk result (λ a. AnswersInput question.now (of_input (input_lines text.now)) (outcome_of a)) }
 {
     let lines = VersionLines::read(alloc, question_lines(question), text)?;
     answer_lines(alloc, question, lines)
@@ -108,6 +111,7 @@ pub(crate) fn answer_input<R: Read, W: Write, E: Write>(
 ) -> Result<u8, Stop>
     ensures finished { IfOk result (λ status. (status ≤ 2) × WholeFinishes R.remaining W.contents E.contents question.now input.old input.new out.old out.new err.old err.new status) }
     ensures stopped { IfErr result (λ _. WholeStops R.remaining W.contents E.contents question.now input.old input.new out.old out.new err.old err.new) }
+    ensures stop { IfErr result (IsStopOf (Some input_name)) }
 {
     let text = match read_whole(alloc, input) {
         Ok(text) => text,

@@ -1,7 +1,12 @@
-use Rattle.std.proofs.Common.{◌*◌, ◌≤◌}
+use Rattle.std.proofs.Common.{◌*◌, ◌-◌, ◌≤◌}
 use Rattle.pyver_core.specs.FilterSteps.{Goes}
+use Rattle.pyver_core.specs.SourceViews.{origin_of}
 use Rattle.pyver_core.proofs.filter_input.filter_input.Given as goal
 
-abbrev pub invariant-loop : goal.invariant-loop
-invariant-loop g l =
-    Goes g.R.Read.remaining g.W.Write.contents g.E.Write.contents l.rule l.initial.input l.input l.initial.out l.out l.initial.err l.err l.state l.line.items × (l.state.line_count ≤ 8192 * l.counter)
+abbrev pub invariant-loop-state : goal.invariant-loop-state
+invariant-loop-state g l =
+    Goes g.R.Read.remaining g.W.Write.contents g.E.Write.contents l.rule (origin_of l.origin) l.initial.state.fault_count l.state l.initial.input l.input l.initial.out l.out l.initial.err l.err l.line.items
+    × (l.state.line_count ≤ 8192 * l.state.read_count) × (l.state.fault_count ≤ 8192 * l.state.read_count)
+
+abbrev pub decreases-loop-state : goal.decreases-loop-state
+decreases-loop-state g l = 562949953421312 - l.state.read_count

@@ -1,0 +1,46 @@
+// The files of the system, which are opened by their names.
+use pyver_core::{Files, OpenFailure};
+use std::alloc::Global;
+use std::fs::{self, OpenFile};
+use std::io::{Error, ErrorKind};
+use std::rt;
+
+/// The files that a runtime reaches.
+#[derive(Drop)]
+pub(crate) struct SystemFiles<'a, R> {
+    runtime: &'a R,
+}
+
+impl<'a, R: rt::Files> SystemFiles<'a, R> {
+    pub(crate) fn new(runtime: &'a R) -> SystemFiles<'a, R> {
+        SystemFiles { runtime }
+    }
+}
+
+fn failure(error: &Error) -> OpenFailure {
+    match error.kind() {
+        ErrorKind::NotFound => OpenFailure::NotFound,
+        ErrorKind::NotADirectory => OpenFailure::NotFound,
+        ErrorKind::PermissionDenied => OpenFailure::PermissionDenied,
+        ErrorKind::IsADirectory => OpenFailure::IsDirectory,
+        ErrorKind::OutOfMemory => OpenFailure::OutOfMemory,
+        _ => OpenFailure::Other,
+    }
+}
+
+impl<R: rt::Files> Files for SystemFiles<'_, R> {
+    type File = R::File;
+
+    // The system opens a directory, too, and fails only where it is read.
+    fn open(&mut self, _alloc: Global, name: &str) -> Result<R::File, OpenFailure> {
+        let file = match fs::open(self.runtime, name) {
+            Ok(file) => file,
+            Err(error) => return Err(failure(&error)),
+        };
+        match file.metadata() {
+            Ok(metadata) if metadata.is_dir() => Err(OpenFailure::IsDirectory),
+            Ok(_) => Ok(file),
+            Err(error) => Err(failure(&error)),
+        }
+    }
+}

@@ -1,0 +1,123 @@
+// The sources of `filter`, one after another.
+ghost use Rattle.std.specs.Prelude.{◌≡◌, ◌≤◌, ◌*◌, ◌∷◌, [], IfErr, IfOk, map, string_bytes};
+ghost use Rattle.std.specs.Option.{option_map};
+ghost use Rattle.pyver_core.specs.FilterSteps.{AllFinish, AllStop, FilterFinishes, FilterStops, NamedFinishes, NamedStops};
+ghost use Rattle.pyver_core.specs.Sources.{source_names};
+ghost use Rattle.pyver_core.specs.SourceViews.{origin_of, unopened_of};
+
+use crate::files::Files;
+use crate::filter::{FilterRule, FilterState, Unopened};
+use crate::filter_input::filter_input;
+use crate::open_failure::OpenFailure;
+use crate::origin::{Origin, is_input};
+use crate::stream::{Stop, write_both};
+use std::alloc::Global;
+use std::io::{Read, Write};
+
+/// Filters a source, or returns why it is not opened.
+fn filter_named<F: Files, R: Read, W: Write, E: Write>(
+    alloc: Global,
+    rule: &FilterRule,
+    origin: Origin<'_>,
+    state: &mut FilterState,
+    files: &mut F,
+    input: &mut R,
+    out: &mut W,
+    err: &mut E,
+) -> Result<Option<OpenFailure>, Stop>
+    requires nothing { (state.old.output.items ≡ []) × (state.old.errors.items ≡ []) }
+    requires room { state.old.fault_count ≤ 8192 * state.old.read_count }
+    ensures finished { IfOk result (NamedFinishes (F.known files.old) R.remaining W.contents E.contents rule.now (origin_of origin.entry) state.old state.new input.old input.new out.old out.new err.old err.new) }
+    ensures room { IfOk result (λ _. state.new.fault_count ≤ 8192 * state.new.read_count) }
+    ensures stopped { IfErr result (NamedStops (F.known files.old) R.remaining W.contents E.contents rule.now (origin_of origin.entry) state.old.fault_count input.old input.new out.old out.new err.old err.new) }
+    ensures kept { F.known files.new ≡ F.known files.old }
+{
+    if is_input(origin.name) {
+        filter_input(alloc, rule, origin, state, input, out, err)?;
+        return Ok(None);
+    }
+    match files.open(alloc, origin.name) {
+        Ok(mut file) => {
+            filter_input(alloc, rule, origin, state, &mut file, out, err)?;
+            Ok(None)
+        }
+        Err(OpenFailure::OutOfMemory) => Err(Stop::OutOfMemory),
+        Err(failure) => Ok(Some(failure)),
+    }
+}
+
+/// Filters the first source and then the others, up to one that is not opened.
+fn filter_all<'a, F: Files, R: Read, W: Write, E: Write>(
+    alloc: Global,
+    rule: &FilterRule,
+    first: &'a str,
+    others: &'a [String],
+    state: &mut FilterState,
+    files: &mut F,
+    input: &mut R,
+    out: &mut W,
+    err: &mut E,
+) -> Result<Option<Unopened<'a>>, Stop>
+    requires new { (state.old.read_count ≡ 0) × (state.old.fault_count ≡ 0) × (state.old.output.items ≡ []) × (state.old.errors.items ≡ []) }
+    ensures finished { IfOk result (λ unopened. AllFinish (F.known files.old) R.remaining W.contents E.contents rule.now (first.now ∷ map string_bytes others.now) (option_map unopened_of unopened) state.new input.old input.new out.old out.new err.old err.new) }
+    ensures stopped { IfErr result (AllStop (F.known files.old) R.remaining W.contents E.contents rule.now (first.now ∷ map string_bytes others.now) input.old input.new out.old out.new err.old err.new) }
+{
+    let origin = Origin {
+        is_first: true,
+        name: first,
+    };
+    if let Some(failure) = filter_named(alloc, rule, origin, state, files, input, out, err)? {
+        return Ok(Some(Unopened {
+            name: first,
+            failure,
+        }));
+    }
+    for other in others {
+        let name = other.as_str();
+        let origin = Origin {
+            is_first: false,
+            name,
+        };
+        if let Some(failure) = filter_named(alloc, rule, origin, state, files, input, out, err)? {
+            return Ok(Some(Unopened { name, failure }));
+        }
+    }
+    Ok(None)
+}
+
+/// The name of the first source, and the names of the others.
+fn split_names<'a>(names: &'a [String]) -> (&'a str, &'a [String])
+    ensures { result.0.now ∷ map string_bytes result.1.now ≡ source_names (map string_bytes names.now) }
+{
+    match names {
+        [] => ("-", names),
+        [first, others @ ..] => (first.as_str(), others),
+    }
+}
+
+/// Writes what the rule asks for of the sources, of each before the next is read, and returns the status.
+pub(crate) fn filter_sources<F: Files, R: Read, W: Write, E: Write>(
+    alloc: Global,
+    rule: &FilterRule,
+    names: &[String],
+    files: &mut F,
+    input: &mut R,
+    out: &mut W,
+    err: &mut E,
+) -> Result<u8, Stop>
+    ensures finished { IfOk result (λ status. (status ≤ 2) × FilterFinishes (F.known files.old) R.remaining W.contents E.contents rule.now (source_names (map string_bytes names.now)) input.old input.new out.old out.new err.old err.new status) }
+    ensures stopped { IfErr result (FilterStops (F.known files.old) R.remaining W.contents E.contents rule.now (source_names (map string_bytes names.now)) input.old input.new out.old out.new err.old err.new) }
+{
+    let mut state = FilterState::new(alloc);
+    let (first, others) = split_names(names);
+    let unopened = filter_all(
+        alloc, rule, first, others, &mut state, files, input, out, err,
+    )?;
+    let Ok(status) = state.finish(alloc, rule, unopened) else {
+        return Err(Stop::OutOfMemory);
+    };
+    if let Err(stop) = write_both(out, err, state.output.as_slice(), state.errors.as_slice()) {
+        return Err(stop);
+    }
+    Ok(status)
+}
