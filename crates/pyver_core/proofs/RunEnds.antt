@@ -211,19 +211,22 @@ module _ {F R W E : Type 0} (known : F → List ℕ → KnownFile) (remaining : 
       inl (subst (λ l. ReadsInput (known files) remaining (names_of (task_of words)) reader reader' (record { sources = of_input l; unopened = None })) (split ∙ append-nil front) (input_reads read consumed (whole refl) same))
   input_some read front (line ∷ rest) consumed split whole silent same =
       let none : front ≡ [] = silent (λ e. absurd (omega (arith, ap length e))) in
-      inr
-      (subst (λ n. ReadsPart (known files) remaining n reader reader' (of_input front)) (sym same) (record {
-        read = [];
-        name = input_name;
-        left = [];
-        split = refl;
-        middle = reader;
-        before = [];
-        whole = (refl, refl);
-        part = record { origin = input_origin; lines = front };
-        lines = record { text = read; left = remaining reader'; reads = (consumed, refl); rest = line ∷ rest; split = split; whole = whole; is = refl };
-        are = refl;
-      }), refl, λ _. ap (λ l. filled_lines (of_input l)) none)
+      inr (
+        subst (λ n. ReadsPart (known files) remaining n reader reader' (of_input front)) (sym same) (record {
+          read = [];
+          name = input_name;
+          left = [];
+          split = refl;
+          middle = reader;
+          before = [];
+          whole = (refl, refl);
+          part = record { origin = input_origin; lines = front };
+          lines = record { text = read; left = remaining reader'; reads = (consumed, refl); rest = line ∷ rest; split = split; whole = whole; is = refl };
+          are = refl;
+        }),
+        refl,
+        λ _. ap (λ l. filled_lines (of_input l)) none,
+      )
 
   pub whole_began : (asked : Question) (why : Stop) (told : E) → names_of (task_of words) ≡ source_names [] → ((input : Input) (o : Outcome) → AnswersInput asked input.sources o → IsOutcome (task_of words) input o) → IsStopOf (Some input_name) why
       → WholeStops remaining contents error_contents asked reader reader' out out' err told → Began why told
