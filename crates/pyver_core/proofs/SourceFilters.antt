@@ -14,14 +14,14 @@ use Rattle.pyver_core.specs.InvalidLines.{last_message, lines_status, message_li
 use Rattle.pyver_core.specs.ReadLines.{IsRead, ReadLine, faults}
 use Rattle.pyver_core.specs.Runs.{WroteBeginning}
 use Rattle.pyver_core.specs.SourceViews.{IsStopOf}
-use Rattle.pyver_core.specs.Sources.{Holds, Fails, KnownFile, Opens, ReadsAll, ReadsInput, ReadsPart, ReadsSource, ReadsText, Unknown, Unopened, input_name, input_origin, is_input, is_none, known_bytes, last_name, source_names, unopened_message, unopened_status}
+use Rattle.pyver_core.specs.Sources.{Holds, Fails, KnownFile, MayOpen, ReadsAll, ReadsInput, ReadsFront, ReadsSource, ReadsText, Unknown, Unopened, input_name, input_origin, is_input, is_none, known_bytes, last_name, source_names, unopened_message, unopened_status}
 use Rattle.pyver_core.specs.declared.filter.FilterRule.{FilterRule}
 use Rattle.pyver_core.specs.declared.filter.FilterState.{FilterState}
 use Rattle.pyver_core.specs.declared.open_failure.OpenFailure.{OpenFailure}
 use Rattle.pyver_core.specs.declared.stream.Stop.{Stop}
 
 -- what is known of a file that was opened
-opened_consumes : (known : KnownFile) (left left' : Option (List ℕ)) (text : List ℕ) → Opens known left → Consumes left left' text → Consumes (known_bytes known) left' text
+opened_consumes : (known : KnownFile) (left left' : Option (List ℕ)) (text : List ℕ) → MayOpen known left → Consumes left left' text → Consumes (known_bytes known) left' text
 opened_consumes Unknown left left' text o k = tt
 opened_consumes (Holds bytes) left left' text o k = subst (λ l. Consumes l left' text) o k
 opened_consumes (Fails why) left left' text o k = absurd o
@@ -91,7 +91,7 @@ module _ {R W E : Type 0} (files : List ℕ → KnownFile) (remaining : R → Op
     stops = stops;
   }
 
-  pub file_reads : {S : Type 0} (left_of : S → Option (List ℕ)) (b : FilterState) (file file' : S) (reader : R) (out out' : W) (err err' : E) → is_input origin.name ≡ false → Opens (files origin.name) (left_of file)
+  pub file_reads : {S : Type 0} (left_of : S → Option (List ℕ)) (b : FilterState) (file file' : S) (reader : R) (out out' : W) (err err' : E) → is_input origin.name ≡ false → MayOpen (files origin.name) (left_of file)
       → SourceFinishes left_of contents error_contents rule origin earlier b file file' out out' err err' → NamedReads files remaining contents error_contents rule origin earlier b reader reader out out' err err'
   file_reads left_of b file file' reader out out' err err' named opens k = record {
     source = record { origin = origin; lines = input_lines k.read };
@@ -105,7 +105,7 @@ module _ {R W E : Type 0} (files : List ℕ → KnownFile) (remaining : R → Op
     wrote = k.wrote;
   }
 
-  pub file_stops : {S : Type 0} (left_of : S → Option (List ℕ)) (file file' : S) (reader : R) (out out' : W) (err err' : E) (stop : Stop) → is_input origin.name ≡ false → Opens (files origin.name) (left_of file)
+  pub file_stops : {S : Type 0} (left_of : S → Option (List ℕ)) (file file' : S) (reader : R) (out out' : W) (err err' : E) (stop : Stop) → is_input origin.name ≡ false → MayOpen (files origin.name) (left_of file)
       → SourceStops left_of contents error_contents rule origin earlier file file' out out' err err' → IsStopOf (Some origin.name) stop → NamedStops files remaining contents error_contents rule origin earlier reader reader out out' err err' stop
   file_stops left_of file file' reader out out' err err' stop named opens k stops = record {
     source = record { origin = origin; lines = k.front };
