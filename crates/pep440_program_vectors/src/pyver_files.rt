@@ -12,7 +12,10 @@ const FILES: [(&str, HeldFile<'static>); 10] = [
     ("a.txt", HeldFile::Text(b"1.0\n2.0rc1\n0.9\n")),
     ("b.txt", HeldFile::Text(b"\xEF\xBB\xBF1.5\r\n\r\n3.0")),
     ("c.csv", HeldFile::Text(b"name,version\na,1.9\n")),
-    ("d.csv", HeldFile::Text(b"\xEF\xBB\xBFname,version\r\nb,1.10\r\n")),
+    (
+        "d.csv",
+        HeldFile::Text(b"\xEF\xBB\xBFname,version\r\nb,1.10\r\n"),
+    ),
     ("bad", HeldFile::Text(b"x\n1.0\n")),
     ("damaged", HeldFile::Damaged(b"1.0\n2")),
     ("folder", HeldFile::Refused(OpenFailure::IsDirectory)),
@@ -79,9 +82,27 @@ const FAILING: [(&str, &[u8], &str, &str, u8); 8] = [
         "pyver: nowhere: no such file\n",
         2,
     ),
-    ("filter|>=1|folder|a.txt", b"", "", "pyver: folder: is a directory\n", 2),
-    ("filter|>=1|-|secret", b"7.0", "7.0\n", "pyver: secret: permission denied\n", 2),
-    ("filter|>=1|odd\u{7}", b"", "", "pyver: odd\\x07: cannot be opened\n", 2),
+    (
+        "filter|>=1|folder|a.txt",
+        b"",
+        "",
+        "pyver: folder: is a directory\n",
+        2,
+    ),
+    (
+        "filter|>=1|-|secret",
+        b"7.0",
+        "7.0\n",
+        "pyver: secret: permission denied\n",
+        2,
+    ),
+    (
+        "filter|>=1|odd\u{7}",
+        b"",
+        "",
+        "pyver: odd\\x07: cannot be opened\n",
+        2,
+    ),
     (
         "filter|--invalid=skip|>=1|bad|nowhere",
         b"",
@@ -89,7 +110,13 @@ const FAILING: [(&str, &[u8], &str, &str, u8); 8] = [
         "pyver: invalid lines left out: 1\npyver: nowhere: no such file\n",
         2,
     ),
-    ("filter|>=1|a.txt|full", b"", "1.0\n", "pyver: out of memory\n", 3),
+    (
+        "filter|>=1|a.txt|full",
+        b"",
+        "1.0\n",
+        "pyver: out of memory\n",
+        3,
+    ),
     (
         "filter|>=1|a.txt|damaged|a.txt",
         b"",
@@ -97,7 +124,13 @@ const FAILING: [(&str, &[u8], &str, &str, u8); 8] = [
         "pyver: damaged: a read failed\n",
         4,
     ),
-    ("filter|>=1|--|a.txt", b"", "", "pyver: --: no such file\n", 2),
+    (
+        "filter|>=1|--|a.txt",
+        b"",
+        "",
+        "pyver: --: no such file\n",
+        2,
+    ),
 ];
 
 // Whether a run that reads a byte a call writes this, or a beginning of it and that memory is out.
@@ -111,9 +144,7 @@ fn writes(alloc: Global, words: &[String], text: &[u8], wanted: (&str, &str, u8)
     if ended == status && out.bytes() == output.as_bytes() && err.bytes() == errors.as_bytes() {
         return true;
     }
-    ended == 3
-        && output.as_bytes().starts_with(out.bytes())
-        && ends_with(err.bytes(), errors, LACK)
+    ended == 3 && output.as_bytes().starts_with(out.bytes()) && ends_with(err.bytes(), errors, LACK)
 }
 
 #[test]
