@@ -1,5 +1,5 @@
 -- Sources that are read and filtered one after another.
-use Rattle.std.proofs.Common.{◌≡◌, ◌∙◌, ◌+◌, ◌-◌, ◌<◌, ◌==◌, ℕ, List, [], ◌∷◌, ◌++◌, true, false, Bool, Option, None, Some, inl, inr, length, map, get_or, take, drop, refl, sym, ap, subst, arith, append_assoc, append-nil, take-append-drop}
+use Rattle.std.proofs.Common.{◌≡◌, ◌∙◌, ◌+◌, ◌-◌, ◌<◌, ◌==◌, ℕ, List, [], ◌∷◌, ◌++◌, true, false, Bool, Option, None, Some, inl, inr, length, map, get_or, take, drop, refl, sym, ap, subst, arith, append_assoc, append-nil, take-append-drop, ne_eqb}
 use Rattle.std.proofs.KnownBytes.{Appends-nil, Appends-trans, Consumes-nil}
 use Rattle.std.proofs.Math.Seq.{take-nil}
 use Rattle.std.proofs.lemmas.List.{drop_more, map-append, take_more}
@@ -46,7 +46,7 @@ not_none (n ∷ names) name = refl
 
 pub none_names : {X : Type 0} (f : X → List ℕ) (xs : List X) → (length xs == 0) ≡ true → map f xs ≡ []
 none_names f [] e = refl
-none_names f (x ∷ xs) e = let both : false ≡ true = e in cc both
+none_names f (x ∷ xs) e = let both : false ≡ true = sym (ne_eqb (length (x ∷ xs)) 0 (λ z. absurd (omega (arith, z)))) ∙ e in cc both
 
 -- a beginning of more
 begun_more : (a b : Option (List ℕ)) (xs rest all : List ℕ) → WroteBeginning a b xs → all ≡ xs ++ rest → WroteBeginning a b all
