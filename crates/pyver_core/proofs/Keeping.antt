@@ -1,7 +1,7 @@
 -- Lines that are read one after another and kept, where they are versions.
 use Rattle.std.proofs.Common.{Bor, ◌≡◌, ◌∙◌, ◌+◌, ◌-◌, ◌<◌, ◌^◌, ℕ, List, [], ◌∷◌, ◌++◌, true, false, cond, not, Option, Some, IfSome, length, take, map, refl, sym, ap, subst, arith, append_assoc, append-nil, length-append}
 use Rattle.std.proofs.lemmas.Grind.{flat_map-append}
-use Rattle.std.specs.List.{AllZip, concat, filter}
+use Rattle.std.specs.List.{AllZip, concat}
 use Rattle.std.specs.Option.{option_map_or}
 use Rattle.pyver_core.proofs.Filtering.{first-append, length-faults}
 use Rattle.pyver_core.proofs.InputLines.{all_append, filled_lines_from-append, filled_one}

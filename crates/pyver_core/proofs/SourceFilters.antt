@@ -3,18 +3,18 @@ use Rattle.std.proofs.Common.{◌≡◌, ◌∙◌, ◌+◌, ◌-◌, ◌<◌, �
 use Rattle.std.proofs.KnownBytes.{Appends-nil, Appends-trans, Consumes-nil}
 use Rattle.std.proofs.Math.Seq.{take-nil}
 use Rattle.std.proofs.lemmas.List.{drop_more, map-append, take_more}
-use Rattle.std.specs.Io.KnownBytes.{Appends, Consumes, IsAtEnd}
+use Rattle.std.specs.Io.KnownBytes.{Appends, Consumes}
 use Rattle.std.specs.List.{AllZip, concat}
 use Rattle.pyver_core.proofs.Filtering.{began, first-append, length-faults, printed_lines-append, some_of_all, wrote_front, wrote_none}
 use Rattle.pyver_core.proofs.InputLines.{all_append, filled_lines-last, some_line}
-use Rattle.pyver_core.specs.FilterSteps.{AllFinish, AllStop, FilterFinishes, FilterStops, FinishesBy, NamedReads, NamedRefuses, NamedStops, SourceFinishes, SourceStops, Wrote, WroteAll, WroteSome}
+use Rattle.pyver_core.specs.FilterSteps.{AllFinish, AllStop, FilterFinishes, FilterStops, FinishesBy, NamedReads, NamedRefuses, NamedStops, SourceFinishes, SourceStops, WroteAll}
 use Rattle.pyver_core.specs.Filters.{filter_outcome, printed_lines}
-use Rattle.pyver_core.specs.InputLines.{Origin, Source, filled_lines, input_lines}
+use Rattle.pyver_core.specs.InputLines.{Origin, Source, input_lines}
 use Rattle.pyver_core.specs.InvalidLines.{last_message, lines_status, message_limit}
-use Rattle.pyver_core.specs.ReadLines.{IsRead, ReadLine, faults}
+use Rattle.pyver_core.specs.ReadLines.{IsRead, faults}
 use Rattle.pyver_core.specs.Runs.{WroteBeginning}
 use Rattle.pyver_core.specs.SourceViews.{IsStopOf}
-use Rattle.pyver_core.specs.Sources.{Holds, Fails, KnownFile, MayOpen, ReadsAll, ReadsInput, ReadsFront, ReadsSource, ReadsText, Unknown, Unopened, input_name, input_origin, is_input, is_none, known_bytes, last_name, source_names, unopened_message, unopened_status}
+use Rattle.pyver_core.specs.Sources.{Holds, Fails, KnownFile, MayOpen, ReadsAll, ReadsSource, ReadsText, Unknown, Unopened, input_name, input_origin, is_input, is_none, known_bytes, last_name, source_names, unopened_message, unopened_status}
 use Rattle.pyver_core.specs.declared.filter.FilterRule.{FilterRule}
 use Rattle.pyver_core.specs.declared.filter.FilterState.{FilterState}
 use Rattle.pyver_core.specs.declared.open_failure.OpenFailure.{OpenFailure}

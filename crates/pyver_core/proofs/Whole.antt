@@ -1,5 +1,5 @@
 -- Answers to questions of the whole input.
-use Rattle.std.proofs.Common.{◌≡◌, ℕ, List, [], Option, inl, refl, sym, append-nil}
+use Rattle.std.proofs.Common.{ℕ, List, [], Option, inl, refl, sym, append-nil}
 use Rattle.std.proofs.KnownBytes.{Appends-nil}
 use Rattle.std.specs.Io.KnownBytes.{Consumes, IsAtEnd}
 use Rattle.pyver_core.proofs.InputLines.{some_line}

@@ -9,7 +9,7 @@ use Rattle.pyver_core.specs.Outcomes.{Outcome}
 use Rattle.pyver_core.specs.ReadLines.{IsRead, ReadLine, faults}
 use Rattle.pyver_core.specs.Runs.{WroteBeginning}
 use Rattle.pyver_core.specs.SourceViews.{IsStopOf}
-use Rattle.pyver_core.specs.Sources.{Input, KnownFile, ReadsAll, EndsAt, ReadsInput, ReadsLines, ReadsFront, ReadsSource, MayRefuse, Unopened, is_input, last_name, unopened_message, unopened_status}
+use Rattle.pyver_core.specs.Sources.{Input, KnownFile, ReadsInput, ReadsLines, ReadsFront, ReadsSource, MayRefuse, Unopened, is_input, last_name, unopened_message, unopened_status}
 use Rattle.pyver_core.specs.declared.filter.FilterRule.{FilterRule}
 use Rattle.pyver_core.specs.declared.filter.FilterState.{FilterState}
 use Rattle.pyver_core.specs.declared.open_failure.OpenFailure.{OpenFailure}

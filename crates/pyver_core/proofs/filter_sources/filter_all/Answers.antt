@@ -1,4 +1,4 @@
-use Rattle.std.proofs.Common.{arith, ◌+◌, ◌∙◌, [], None, Some, ap, drop, map, refl, string_bytes, subst, sym, take, take_all}
+use Rattle.std.proofs.Common.{arith, ◌+◌, ◌∙◌, None, Some, ap, drop, map, refl, string_bytes, subst, sym, take, take_all}
 use Rattle.pyver_core.proofs.SourceFilters.{GoesOn, goes_on_ends, goes_on_more, goes_on_none, goes_on_refused, goes_on_stops, names_more, names_split, not_none, same_reads, same_refuses, same_stops}
 use Rattle.pyver_core.specs.FilterSteps.{AllFinish, AllStop, NamedFinishes}
 use Rattle.pyver_core.specs.Sources.{is_none}
