@@ -16,6 +16,7 @@ _pyver() {
                 -k | --field | -d | --delimiter) ;;
                 *) words='--help -v --invert-match --pre --no-pre -k --field -d --delimiter --header --invalid' ;;
             esac
+            compopt -o default 2> /dev/null
             ;;
         *,sort)
             case $before in

@@ -11,7 +11,8 @@ complete -c pyver -n '__fish_seen_subcommand_from match' -s q -l quiet -d 'print
 complete -c pyver -n '__fish_seen_subcommand_from match' -l pre -d 'allow pre-releases and dev releases too'
 complete -c pyver -n '__fish_seen_subcommand_from match' -l no-pre -d 'allow no pre-releases and no dev releases'
 
-complete -c pyver -n __fish_use_subcommand -a filter -d 'the lines of standard input whose version the specifiers allow'
+complete -c pyver -n __fish_use_subcommand -a filter -d 'the lines of files whose version the specifiers allow'
+complete -c pyver -n '__fish_seen_subcommand_from filter' -F
 complete -c pyver -n '__fish_seen_subcommand_from filter' -s v -l invert-match -d 'print the other lines, but no invalid ones'
 complete -c pyver -n '__fish_seen_subcommand_from filter' -l pre -d 'allow pre-releases and dev releases too'
 complete -c pyver -n '__fish_seen_subcommand_from filter' -l no-pre -d 'allow no pre-releases and no dev releases'

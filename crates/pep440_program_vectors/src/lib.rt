@@ -17,6 +17,8 @@ mod pyver_bump;
 #[cfg(test)]
 mod pyver_fields;
 #[cfg(test)]
+mod pyver_files;
+#[cfg(test)]
 mod pyver_filter;
 #[cfg(test)]
 mod pyver_newest;

@@ -10,7 +10,7 @@ use Rattle.std.specs.List.{AllZip, concat, filter, flat_map}
 use Rattle.pyver_core.proofs.InputLines.{all_append, cuts_all, cuts_more, filled_lines_from-append, filled_one, no_newline_none, some_line}
 use Rattle.pyver_core.specs.FilterSteps.{Cuts, Goes, SourceFinishes, SourceStops, Steps, StepsBy, Wrote, WroteSome}
 use Rattle.pyver_core.specs.Filters.{is_printed, printed_lines}
-use Rattle.pyver_core.specs.InputLines.{Line, Origin, Source, filled_lines_from, input_lines, is_blank, numbered}
+use Rattle.pyver_core.specs.InputLines.{SourceLine, Origin, Source, filled_lines_from, input_lines, is_blank, numbered}
 use Rattle.pyver_core.specs.InvalidLines.{message_limit}
 use Rattle.pyver_core.specs.LineOptions.{is_header}
 use Rattle.pyver_core.specs.ReadLines.{IsEntry, IsRead, LineReading, ReadLine, fault_at, faults}
@@ -92,7 +92,7 @@ pub steps_line : (rule : FilterRule) (origin : Origin) (line : List ℕ) (a mid 
 steps_line rule origin line a mid b text x is filled reads read count fault output errors k =
     let n = a.line_count + 1 in
     let e : ReadLine = record { line = record { origin = origin; number = mid.line_count; text = text }; reading = x } in
-    let here : Line = record { origin = origin; number = n; text = text } in
+    let here : SourceLine = record { origin = origin; number = n; text = text } in
     let left : filled_lines_from origin n (line ∷ []) ≡ here ∷ [] = filled_one origin n line text is ∙ ap (λ b. cond (not b) (here ∷ []) []) filled in
     record {
       found = e ∷ [];

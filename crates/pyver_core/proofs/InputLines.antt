@@ -6,7 +6,7 @@ use Rattle.std.proofs.lemmas.List.{drop_more, map-append, take_more}
 use Rattle.std.proofs.lemmas.List.Elements.{All-nil, All-push, filter-append}
 use Rattle.std.proofs.lemmas.List.Splits.{length-slice_split, slice_split_at, slice_split_none}
 use Rattle.pyver_core.specs.FilterSteps.{Cuts, HasNoNewline}
-use Rattle.pyver_core.specs.InputLines.{Line, Origin, Source, filled_lines, filled_lines_from, input_lines, is_blank, line_in, numbered, source_lines}
+use Rattle.pyver_core.specs.InputLines.{SourceLine, Origin, Source, filled_lines, filled_lines_from, input_lines, is_blank, line_in, numbered, source_lines}
 
 -- ---- the lines of a text
 
@@ -75,13 +75,13 @@ enumerate_from-append n (x ∷ xs) ys = ap (λ l. (n, x) ∷ l) (enumerate_from-
 
 pub filled_lines_from-append : (origin : Origin) (n m : ℕ) (xs ys : List (List ℕ)) → m ≡ n + length xs → filled_lines_from origin n (xs ++ ys) ≡ filled_lines_from origin n xs ++ filled_lines_from origin m ys
 filled_lines_from-append origin n m xs ys e =
-    let test = λ (line : Line). not (is_blank line.text) in
+    let test = λ (line : SourceLine). not (is_blank line.text) in
     ap (λ l. filter test (map (line_in origin) l)) (enumerate_from-append n xs ys) ∙ ap (filter test) (map-append (line_in origin) (enumerate_from n xs) (enumerate_from (n + length xs) ys))
     ∙ filter-append test (map (line_in origin) (enumerate_from n xs)) (map (line_in origin) (enumerate_from (n + length xs) ys)) ∙ ap (λ k. filled_lines_from origin n xs ++ filled_lines_from origin k ys) (sym e)
 
 -- one line
 pub filled_one : (origin : Origin) (n : ℕ) (line text : List ℕ) → (n, text) ≡ numbered (n, line) → filled_lines_from origin n (line ∷ []) ≡ cond (not (is_blank text)) (record { origin = origin; number = n; text = text } ∷ []) []
-filled_one origin n line text is = ap (λ (p : ℕ × List ℕ). filter (λ (l : Line). not (is_blank l.text)) (record { origin = origin; number = p.0; text = p.1 } ∷ [])) (sym is)
+filled_one origin n line text is = ap (λ (p : ℕ × List ℕ). filter (λ (l : SourceLine). not (is_blank l.text)) (record { origin = origin; number = p.0; text = p.1 } ∷ [])) (sym is)
 
 -- one source more
 pub filled_lines-last : (xs : List Source) (s : Source) → filled_lines (xs ++ s ∷ []) ≡ filled_lines xs ++ source_lines s

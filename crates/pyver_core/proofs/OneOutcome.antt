@@ -15,7 +15,7 @@ use Rattle.pyver_core.specs.CommonRanges.{FindsCommon, RangeReading, ReadsRange,
 use Rattle.pyver_core.specs.Comparisons.{Compares, comparison_outcome}
 use Rattle.pyver_core.specs.Fields.{field}
 use Rattle.pyver_core.specs.Filters.{Filters, FiltersBy, FiltersLines, filter_outcome, rule_of}
-use Rattle.pyver_core.specs.InputLines.{Line, Source, filled_lines}
+use Rattle.pyver_core.specs.InputLines.{SourceLine, Source, filled_lines}
 use Rattle.pyver_core.specs.LineOptions.{is_header}
 use Rattle.pyver_core.specs.Matches.{Matches, MatchesBy, MatchesWord, MatchesWords, ReadsSpecifiers, SpecifiersReading, DenotesList, ListFails, word_outcome}
 use Rattle.pyver_core.specs.Newest.{FindsNewest, FindsNewestBy, FindsNewestLine, candidates, newest_outcome, newest_rule}
@@ -91,7 +91,7 @@ entry_once header options text Header (Entry y) h k = let both : true ≡ false 
 entry_once header options text (Entry x) Header h k = let both : true ≡ false = sym k ∙ h.0 in cc both
 entry_once header options text (Entry x) (Entry y) h k = ap Entry (part_once options.field options.delimiter text x y h.1 k.1)
 
-is_read_once : (options : LineOptions) (line : Line) (x y : ReadLine) → IsRead options line x → IsRead options line y → x ≡ y
+is_read_once : (options : LineOptions) (line : SourceLine) (x y : ReadLine) → IsRead options line x → IsRead options line y → x ≡ y
 is_read_once options line x y h k =
     let lines_same = h.0 ∙ sym k.0 in
     let readings = entry_once (is_header options line.number) options line.text x.reading y.reading h.1 k.1 in

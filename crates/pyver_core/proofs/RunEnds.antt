@@ -12,7 +12,7 @@ use Rattle.pyver_core.specs.Newest.{newest_rule}
 use Rattle.pyver_core.specs.Outcomes.{Outcome}
 use Rattle.pyver_core.specs.Runs.{Ends, IsLast, IsReadMessage, ReadsSome, WritesAnswer, WroteBeginning, memory_message}
 use Rattle.pyver_core.specs.SourceViews.{IsStopOf, Reports}
-use Rattle.pyver_core.specs.Sources.{Input, KnownFile, ReadsInput, ReadsPart, ReadsText, input_name, input_origin, is_input, known_bytes, last_name, no_input, of_input, source_names}
+use Rattle.pyver_core.specs.Sources.{Input, KnownFile, ReadsInput, ReadsFront, ReadsText, input_name, input_origin, is_input, known_bytes, last_name, no_input, of_input, source_names}
 use Rattle.pyver_core.specs.Tasks.{Bump, Compare, Filter, Help, IsOutcome, IsStream, Match, Misused, NameVersion, NeedsInput, Newest, Range, Show, Sort, Task, names_of, task_of}
 use Rattle.pyver_core.specs.WholeInputs.{AnswersInput, WholeFinishes, WholeStops}
 use Rattle.pyver_core.specs.declared.filter.FilterRule.{FilterRule}
@@ -96,7 +96,7 @@ module _ {R : Type 0} (files : List ℕ → KnownFile) (remaining : R → Option
   reads_nothing true file reader = (remaining reader, (Consumes-nil (remaining reader), refl))
   reads_nothing false file reader = (known_bytes file, (Consumes-nil (known_bytes file), refl))
 
-  part_none : (names : List (List ℕ)) (name : List ℕ) (left : List (List ℕ)) (reader : R) → names ≡ name ∷ left → ReadsPart files remaining names reader reader (blank_source name ∷ [])
+  part_none : (names : List (List ℕ)) (name : List ℕ) (left : List (List ℕ)) (reader : R) → names ≡ name ∷ left → ReadsFront files remaining names reader reader (blank_source name ∷ [])
   part_none names name left reader is = let nothing = reads_nothing (is_input name) (files name) reader in record {
     read = [];
     name = name;
@@ -203,9 +203,9 @@ module _ {F R W E : Type 0} (known : F → List ℕ → KnownFile) (remaining : 
     stops = k.stops;
   }
     where
-      some_of : ReadsInput (known files) remaining names reader reader' k.input ⊎ (ReadsPart (known files) remaining names reader reader' k.input.sources × (k.input.unopened ≡ None)) → ReadsSome known remaining contents error_contents words files reader reader' k.input
+      some_of : ReadsInput (known files) remaining names reader reader' k.input ⊎ (ReadsFront (known files) remaining names reader reader' k.input.sources × (k.input.unopened ≡ None)) → ReadsSome known remaining contents error_contents words files reader reader' k.input
       some_of (inl r) = inl (subst (λ n. ReadsInput (known files) remaining n reader reader' k.input) (sym same) r)
-      some_of (inr r) = inr (subst (λ n. ReadsPart (known files) remaining n reader reader' k.input.sources) (sym same) r.0, r.1, λ no_stream. absurd (no_stream stream))
+      some_of (inr r) = inr (subst (λ n. ReadsFront (known files) remaining n reader reader' k.input.sources) (sym same) r.0, r.1, λ no_stream. absurd (no_stream stream))
 
   -- of standard input, all was read, or no line was used
   input_some : (read : List ℕ) (front rest : List (List ℕ)) → Consumes (remaining reader) (remaining reader') read → input_lines read ≡ front ++ rest → (rest ≡ [] → IsAtEnd (remaining reader')) → (¬ (rest ≡ []) → front ≡ []) → names_of (task_of words) ≡ source_names []
@@ -215,7 +215,7 @@ module _ {F R W E : Type 0} (known : F → List ℕ → KnownFile) (remaining : 
   input_some read front (line ∷ rest) consumed split whole silent same =
       let none : front ≡ [] = silent (λ e. absurd (omega (arith, ap length e))) in
       inr (
-        subst (λ n. ReadsPart (known files) remaining n reader reader' (of_input front)) (sym same) (record {
+        subst (λ n. ReadsFront (known files) remaining n reader reader' (of_input front)) (sym same) (record {
           read = [];
           name = input_name;
           left = [];
@@ -282,7 +282,7 @@ module _ {F R W E : Type 0} (known : F → List ℕ → KnownFile) (remaining : 
         let part = part_none (known files) remaining (names_of (task_of words)) first.0 first.1 reader first.2 in
         record {
           input = blank_input first.0;
-          read = inr (subst (λ r. ReadsPart (known files) remaining (names_of (task_of words)) reader r (blank_source first.0 ∷ [])) (sym same) part, refl, λ _. refl);
+          read = inr (subst (λ r. ReadsFront (known files) remaining (names_of (task_of words)) reader r (blank_source first.0 ∷ [])) (sym same) part, refl, λ _. refl);
           outcome = o.0;
           is = o.1;
           output = record { written = []; left = o.0.output; wrote = subst (λ w. Appends (contents out) (contents w) []) (sym kept) (Appends-nil (contents out)); whole = refl };

@@ -1,26 +1,27 @@
 -- Sources that are read and filtered one after another.
-use Rattle.std.proofs.Common.{◌≡◌, ◌∙◌, ◌+◌, ◌-◌, ◌≤◌, ℕ, List, [], ◌∷◌, ◌++◌, true, false, Bool, Option, None, Some, inl, inr, length, take, refl, sym, ap, subst, arith, append_assoc, append-nil}
+use Rattle.std.proofs.Common.{◌≡◌, ◌∙◌, ◌+◌, ◌-◌, ◌<◌, ◌==◌, ℕ, List, [], ◌∷◌, ◌++◌, true, false, Bool, Option, None, Some, inl, inr, length, map, get_or, take, drop, refl, sym, ap, subst, arith, append_assoc, append-nil, take-append-drop, ne_eqb}
 use Rattle.std.proofs.KnownBytes.{Appends-nil, Appends-trans, Consumes-nil}
 use Rattle.std.proofs.Math.Seq.{take-nil}
-use Rattle.std.specs.Io.KnownBytes.{Appends, Consumes, IsAtEnd}
+use Rattle.std.proofs.lemmas.List.{drop_more, map-append, take_more}
+use Rattle.std.specs.Io.KnownBytes.{Appends, Consumes}
 use Rattle.std.specs.List.{AllZip, concat}
 use Rattle.pyver_core.proofs.Filtering.{began, first-append, length-faults, printed_lines-append, some_of_all, wrote_front, wrote_none}
 use Rattle.pyver_core.proofs.InputLines.{all_append, filled_lines-last, some_line}
-use Rattle.pyver_core.specs.FilterSteps.{AllFinish, AllStop, FilterFinishes, FilterStops, FinishesBy, NamedReads, NamedRefuses, NamedStops, SourceFinishes, SourceStops, Wrote, WroteAll, WroteSome}
+use Rattle.pyver_core.specs.FilterSteps.{AllFinish, AllStop, FilterFinishes, FilterStops, FinishesBy, NamedReads, NamedRefuses, NamedStops, SourceFinishes, SourceStops, WroteAll}
 use Rattle.pyver_core.specs.Filters.{filter_outcome, printed_lines}
-use Rattle.pyver_core.specs.InputLines.{Origin, Source, filled_lines, input_lines}
+use Rattle.pyver_core.specs.InputLines.{Origin, Source, input_lines}
 use Rattle.pyver_core.specs.InvalidLines.{last_message, lines_status, message_limit}
-use Rattle.pyver_core.specs.ReadLines.{IsRead, ReadLine, faults}
+use Rattle.pyver_core.specs.ReadLines.{IsRead, faults}
 use Rattle.pyver_core.specs.Runs.{WroteBeginning}
 use Rattle.pyver_core.specs.SourceViews.{IsStopOf}
-use Rattle.pyver_core.specs.Sources.{Holds, Fails, KnownFile, Opens, ReadsAll, ReadsInput, ReadsPart, ReadsSource, ReadsText, Unknown, Unopened, is_input, is_none, known_bytes, last_name, unopened_message, unopened_status}
+use Rattle.pyver_core.specs.Sources.{Holds, Fails, KnownFile, MayOpen, ReadsAll, ReadsSource, ReadsText, Unknown, Unopened, input_name, input_origin, is_input, is_none, known_bytes, last_name, source_names, unopened_message, unopened_status}
 use Rattle.pyver_core.specs.declared.filter.FilterRule.{FilterRule}
 use Rattle.pyver_core.specs.declared.filter.FilterState.{FilterState}
 use Rattle.pyver_core.specs.declared.open_failure.OpenFailure.{OpenFailure}
 use Rattle.pyver_core.specs.declared.stream.Stop.{Stop}
 
 -- what is known of a file that was opened
-opened_consumes : (known : KnownFile) (left left' : Option (List ℕ)) (text : List ℕ) → Opens known left → Consumes left left' text → Consumes (known_bytes known) left' text
+opened_consumes : (known : KnownFile) (left left' : Option (List ℕ)) (text : List ℕ) → MayOpen known left → Consumes left left' text → Consumes (known_bytes known) left' text
 opened_consumes Unknown left left' text o k = tt
 opened_consumes (Holds bytes) left left' text o k = subst (λ l. Consumes l left' text) o k
 opened_consumes (Fails why) left left' text o k = absurd o
@@ -29,6 +30,23 @@ pub last_is : (sources : List Source) (source : Source) → last_name (sources +
 last_is [] source = refl
 last_is (s ∷ []) source = refl
 last_is (s ∷ (t ∷ rest)) source = last_is (t ∷ rest) source
+
+-- the names that were read, and the next one
+pub names_more : {X : Type 0} (f : X → List ℕ) (xs : List X) (i : ℕ) (x d : X) (text : List ℕ) → i < length xs → x ≡ get_or xs i d → text ≡ f x → map f (take (i + 1) xs) ≡ map f (take i xs) ++ text ∷ []
+names_more f xs i x d text inside is same =
+    ap (map f) (take_more xs i d inside) ∙ map-append f (take i xs) (get_or xs i d ∷ []) ∙ ap (λ t. map f (take i xs) ++ t ∷ []) (ap f (sym is) ∙ sym same)
+
+pub names_split : {X : Type 0} (f : X → List ℕ) (xs : List X) (i : ℕ) (x d : X) (text : List ℕ) → i < length xs → x ≡ get_or xs i d → text ≡ f x → map f xs ≡ map f (take i xs) ++ text ∷ map f (drop (i + 1) xs)
+names_split f xs i x d text inside is same =
+    ap (map f) (sym (take-append-drop i xs) ∙ ap (λ ys. take i xs ++ ys) (drop_more xs i d inside)) ∙ map-append f (take i xs) (get_or xs i d ∷ drop (i + 1) xs) ∙ ap (λ t. map f (take i xs) ++ t ∷ map f (drop (i + 1) xs)) (ap f (sym is) ∙ sym same)
+
+pub not_none : (names : List (List ℕ)) (name : List ℕ) → false ≡ is_none (names ++ name ∷ [])
+not_none [] name = refl
+not_none (n ∷ names) name = refl
+
+pub none_names : {X : Type 0} (f : X → List ℕ) (xs : List X) → (length xs == 0) ≡ true → map f xs ≡ []
+none_names f [] e = refl
+none_names f (x ∷ xs) e = let both : false ≡ true = sym (ne_eqb (length (x ∷ xs)) 0 (λ z. absurd (omega (arith, z)))) ∙ e in cc both
 
 -- a beginning of more
 begun_more : (a b : Option (List ℕ)) (xs rest all : List ℕ) → WroteBeginning a b xs → all ≡ xs ++ rest → WroteBeginning a b all
@@ -73,7 +91,7 @@ module _ {R W E : Type 0} (files : List ℕ → KnownFile) (remaining : R → Op
     stops = stops;
   }
 
-  pub file_reads : {S : Type 0} (left_of : S → Option (List ℕ)) (b : FilterState) (file file' : S) (reader : R) (out out' : W) (err err' : E) → is_input origin.name ≡ false → Opens (files origin.name) (left_of file)
+  pub file_reads : {S : Type 0} (left_of : S → Option (List ℕ)) (b : FilterState) (file file' : S) (reader : R) (out out' : W) (err err' : E) → is_input origin.name ≡ false → MayOpen (files origin.name) (left_of file)
       → SourceFinishes left_of contents error_contents rule origin earlier b file file' out out' err err' → NamedReads files remaining contents error_contents rule origin earlier b reader reader out out' err err'
   file_reads left_of b file file' reader out out' err err' named opens k = record {
     source = record { origin = origin; lines = input_lines k.read };
@@ -87,7 +105,7 @@ module _ {R W E : Type 0} (files : List ℕ → KnownFile) (remaining : R → Op
     wrote = k.wrote;
   }
 
-  pub file_stops : {S : Type 0} (left_of : S → Option (List ℕ)) (file file' : S) (reader : R) (out out' : W) (err err' : E) (stop : Stop) → is_input origin.name ≡ false → Opens (files origin.name) (left_of file)
+  pub file_stops : {S : Type 0} (left_of : S → Option (List ℕ)) (file file' : S) (reader : R) (out out' : W) (err err' : E) (stop : Stop) → is_input origin.name ≡ false → MayOpen (files origin.name) (left_of file)
       → SourceStops left_of contents error_contents rule origin earlier file file' out out' err err' → IsStopOf (Some origin.name) stop → NamedStops files remaining contents error_contents rule origin earlier reader reader out out' err err' stop
   file_stops left_of file file' reader out out' err err' stop named opens k stops = record {
     source = record { origin = origin; lines = k.front };
@@ -221,6 +239,24 @@ module _ {R W E : Type 0} (files : List ℕ → KnownFile) (remaining : R → Op
     wrote = k.wrote;
   }
 
+  -- ---- standard input alone
+
+  pub alone_finishes : (rule : FilterRule) (names : List (List ℕ)) (a b : FilterState) (reader reader' : R) (out out' : W) (err err' : E) → names ≡ [] → a.fault_count ≡ 0 → a.output.items ≡ [] → a.errors.items ≡ []
+      → SourceFinishes remaining contents error_contents rule input_origin a.fault_count b reader reader' out out' err err' → AllFinish files remaining contents error_contents rule (source_names names) None b reader reader' out out' err err'
+  alone_finishes rule names a b reader reader' out out' err err' empty fault output errors k =
+      subst (λ n. AllFinish files remaining contents error_contents rule (source_names n) None b reader reader' out out' err err') (sym empty)
+      (goes_on_ends rule (source_names []) b reader reader' out out' err err'
+      (goes_on_more rule [] a reader reader reader' out out out' err err err' (goes_on_none rule a reader out err fault output errors) input_name b
+      (input_reads files remaining contents error_contents rule input_origin a.fault_count b reader reader' out out' err err' refl k)))
+
+  pub alone_stops : (rule : FilterRule) (names : List (List ℕ)) (a : FilterState) (reader reader' : R) (out out' : W) (err err' : E) (stop : Stop) → names ≡ [] → a.fault_count ≡ 0 → a.output.items ≡ [] → a.errors.items ≡ []
+      → SourceStops remaining contents error_contents rule input_origin a.fault_count reader reader' out out' err err' → IsStopOf (Some input_name) stop
+      → AllStop files remaining contents error_contents rule (source_names names) reader reader' out out' err err' stop
+  alone_stops rule names a reader reader' out out' err err' stop empty fault output errors k stops =
+      subst (λ n. AllStop files remaining contents error_contents rule (source_names n) reader reader' out out' err err' stop) (sym empty)
+      (goes_on_stops rule [] a reader reader reader' out out out' err err err' (goes_on_none rule a reader out err fault output errors) input_name [] stop
+      (input_stops files remaining contents error_contents rule input_origin a.fault_count reader reader' out out' err err' stop refl k stops))
+
   -- ---- the end
 
   module _ (rule : FilterRule) (names : List (List ℕ)) (unopened : Option Unopened) (b : FilterState) (reader reader' : R) (out out' : W) (err err' : E) (k : AllFinish files remaining contents error_contents rule names unopened b reader reader' out out' err err') where
@@ -284,3 +320,24 @@ module _ {R W E : Type 0} (files : List ℕ → KnownFile) (remaining : R → Op
     errors = begun_more _ _ (concat (take (message_limit rule.lines.invalid) (faults k.found))) (last_message rule.lines.invalid (length (faults k.found)) ++ []) _ k.errors refl;
     stops = k.stops;
   }
+
+-- what was said of a source, of equal files, and of a source that is the first or not
+module _ {R W E : Type 0} (files files' : List ℕ → KnownFile) (remaining : R → Option (List ℕ)) (contents : W → Option (List ℕ)) (error_contents : E → Option (List ℕ)) (rule : FilterRule) (read : List (List ℕ)) (first : Bool) (next : List ℕ)
+    (same : files' ≡ files) (is : first ≡ is_none read) where
+  pub same_reads : (earlier : ℕ) (b : FilterState) (reader reader' : R) (out out' : W) (err err' : E) → NamedReads files' remaining contents error_contents rule (record { is_first = first; name = next }) earlier b reader reader' out out' err err'
+      → NamedReads files remaining contents error_contents rule (record { is_first = is_none read; name = next }) earlier b reader reader' out out' err err'
+  same_reads earlier b reader reader' out out' err err' k =
+      subst (λ f. NamedReads f remaining contents error_contents rule (record { is_first = is_none read; name = next }) earlier b reader reader' out out' err err') same
+      (subst (λ first. NamedReads files' remaining contents error_contents rule (record { is_first = first; name = next }) earlier b reader reader' out out' err err') is k)
+
+  pub same_refuses : (failure : OpenFailure) (a b : FilterState) (reader reader' : R) (out out' : W) (err err' : E) → NamedRefuses files' remaining contents error_contents (record { is_first = first; name = next }) failure a b reader reader' out out' err err'
+      → NamedRefuses files remaining contents error_contents (record { is_first = is_none read; name = next }) failure a b reader reader' out out' err err'
+  same_refuses failure a b reader reader' out out' err err' k =
+      subst (λ f. NamedRefuses f remaining contents error_contents (record { is_first = is_none read; name = next }) failure a b reader reader' out out' err err') same
+      (subst (λ first. NamedRefuses files' remaining contents error_contents (record { is_first = first; name = next }) failure a b reader reader' out out' err err') is k)
+
+  pub same_stops : (earlier : ℕ) (reader reader' : R) (out out' : W) (err err' : E) (stop : Stop) → NamedStops files' remaining contents error_contents rule (record { is_first = first; name = next }) earlier reader reader' out out' err err' stop
+      → NamedStops files remaining contents error_contents rule (record { is_first = is_none read; name = next }) earlier reader reader' out out' err err' stop
+  same_stops earlier reader reader' out out' err err' stop k =
+      subst (λ f. NamedStops f remaining contents error_contents rule (record { is_first = is_none read; name = next }) earlier reader reader' out out' err err' stop) same
+      (subst (λ first. NamedStops files' remaining contents error_contents rule (record { is_first = first; name = next }) earlier reader reader' out out' err err' stop) is k)

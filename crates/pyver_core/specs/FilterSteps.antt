@@ -9,7 +9,7 @@ use Rattle.pyver_core.specs.Outcomes.{Outcome}
 use Rattle.pyver_core.specs.ReadLines.{IsRead, ReadLine, faults}
 use Rattle.pyver_core.specs.Runs.{WroteBeginning}
 use Rattle.pyver_core.specs.SourceViews.{IsStopOf}
-use Rattle.pyver_core.specs.Sources.{Input, KnownFile, ReadsAll, EndsAt, ReadsInput, ReadsLines, ReadsPart, ReadsSource, Refuses, Unopened, is_input, last_name, unopened_message, unopened_status}
+use Rattle.pyver_core.specs.Sources.{Input, KnownFile, ReadsInput, ReadsLines, ReadsFront, ReadsSource, MayRefuse, Unopened, is_input, last_name, unopened_message, unopened_status}
 use Rattle.pyver_core.specs.declared.filter.FilterRule.{FilterRule}
 use Rattle.pyver_core.specs.declared.filter.FilterState.{FilterState}
 use Rattle.pyver_core.specs.declared.open_failure.OpenFailure.{OpenFailure}
@@ -115,7 +115,7 @@ module _ {R W E : Type 0} (files : List ℕ → KnownFile) (remaining : R → Op
   -- the file with this name was not opened, and nothing was done
   pub record NamedRefuses (origin : Origin) (failure : OpenFailure) (a b : FilterState) (reader reader' : R) (out out' : W) (err err' : E) : Type 0 where
     pub file : is_input origin.name ≡ false
-    pub refuses : Refuses (files origin.name) failure
+    pub refuses : MayRefuse (files origin.name) failure
     pub state : b ≡ a
     pub reader_kept : reader' ≡ reader
     pub out_kept : out' ≡ out
@@ -141,7 +141,7 @@ module _ {R W E : Type 0} (files : List ℕ → KnownFile) (remaining : R → Op
   -- some of the lines of the sources with these names were read, and a beginning of what they ask for was written
   pub record AllStop (rule : FilterRule) (names : List (List ℕ)) (reader reader' : R) (out out' : W) (err err' : E) (stop : Stop) : Type 0 where
     pub sources : List Source
-    pub reads : ReadsPart files remaining names reader reader' sources
+    pub reads : ReadsFront files remaining names reader reader' sources
     pub found : List ReadLine
     pub are : AllZip (IsRead rule.lines) (filled_lines sources) found
     pub output : WroteBeginning (contents out) (contents out') (printed_lines rule found)
@@ -161,7 +161,7 @@ module _ {R W E : Type 0} (files : List ℕ → KnownFile) (remaining : R → Op
   -- some lines were read, and a beginning of what they ask for was written
   pub record FilterStops (rule : FilterRule) (names : List (List ℕ)) (reader reader' : R) (out out' : W) (err err' : E) (stop : Stop) : Type 0 where
     pub input : Input
-    pub reads : ReadsInput files remaining names reader reader' input ⊎ (ReadsPart files remaining names reader reader' input.sources × (input.unopened ≡ None))
+    pub reads : ReadsInput files remaining names reader reader' input ⊎ (ReadsFront files remaining names reader reader' input.sources × (input.unopened ≡ None))
     pub outcome : Outcome
     pub is : Filters rule input outcome
     pub output : WroteBeginning (contents out) (contents out') outcome.output

@@ -10,7 +10,7 @@ pub record Origin : Type 0 where
   pub name : List ℕ
 
 -- a line: its source, its number there, and its text
-pub record Line : Type 0 where
+pub record SourceLine : Type 0 where
   pub origin : Origin
   pub number : ℕ
   pub text : List ℕ
@@ -34,7 +34,7 @@ abbrev pub numbered : ℕ × List ℕ → ℕ × List ℕ
 numbered line = (line.0, strip_carriage_return (if line.0 == 1 then without_mark line.1 else line.1))
 
 -- the same as a line of its source
-abbrev pub line_in : Origin → ℕ × List ℕ → Line
+abbrev pub line_in : Origin → ℕ × List ℕ → SourceLine
 line_in origin line = record { origin = origin; number = (numbered line).0; text = (numbered line).1 }
 
 -- an empty line, or one of tabs, form feeds, carriage returns and spaces alone
@@ -42,13 +42,13 @@ abbrev pub is_blank : List ℕ → Bool
 is_blank text = list_all is_ascii_whitespace text
 
 -- the lines that are not blank, each with its number, counted from this number
-abbrev pub filled_lines_from : Origin → ℕ → List (List ℕ) → List Line
-filled_lines_from origin first texts = filter (λ (line : Line). not (is_blank line.text)) (map (line_in origin) (enumerate_from first texts))
+abbrev pub filled_lines_from : Origin → ℕ → List (List ℕ) → List SourceLine
+filled_lines_from origin first texts = filter (λ (line : SourceLine). not (is_blank line.text)) (map (line_in origin) (enumerate_from first texts))
 
 -- the lines of a source that are not blank, counted from 1
-abbrev pub source_lines : Source → List Line
+abbrev pub source_lines : Source → List SourceLine
 source_lines source = filled_lines_from source.origin 1 source.lines
 
 -- the lines of sources that are not blank, of one source after the other
-abbrev pub filled_lines : List Source → List Line
+abbrev pub filled_lines : List Source → List SourceLine
 filled_lines sources = flat_map source_lines sources

@@ -3,7 +3,7 @@ use Rattle.std.specs.Prelude.{◌≡◌, ◌⊎◌, ℕ, ◌-◌, List, [], ◌�
 use Rattle.std.specs.List.{concat, flat_map}
 use Rattle.std.specs.Str.{IsUtf8}
 use Rattle.pyver_core.specs.Fields.{field, no_field_reason}
-use Rattle.pyver_core.specs.InputLines.{Line}
+use Rattle.pyver_core.specs.InputLines.{SourceLine}
 use Rattle.pyver_core.specs.LineOptions.{is_header}
 use Rattle.pyver_core.specs.Messages.{line_fault_message, more_faults_message}
 use Rattle.pyver_core.specs.Readings.{Denotes, Fails, Reading, Reads}
@@ -33,7 +33,7 @@ pub data LineReading : Type 0 where
 
 -- a line, and what it is
 pub record ReadLine : Type 0 where
-  pub line : Line
+  pub line : SourceLine
   pub reading : LineReading
 
 -- the line is the header, or it is not and is read so
@@ -41,11 +41,11 @@ abbrev pub IsEntry : Bool → LineOptions → List ℕ → LineReading → Type 
 IsEntry header options text Header = header ≡ true
 IsEntry header options text (Entry x) = (header ≡ false) × ReadsLine options text x
 
-abbrev pub IsRead : LineOptions → Line → ReadLine → Type 0
+abbrev pub IsRead : LineOptions → SourceLine → ReadLine → Type 0
 IsRead options line x = (x.line ≡ line) × IsEntry (is_header options line.number) options line.text x.reading
 
 -- the message of an invalid line
-abbrev pub fault_at : Line → LineReading → List (List ℕ)
+abbrev pub fault_at : SourceLine → LineReading → List (List ℕ)
 fault_at line Header = []
 fault_at line (Entry (Denotes r)) = []
 fault_at line (Entry (Fails reason)) = line_fault_message line.origin.name line.number reason ∷ []

@@ -4,7 +4,7 @@ use Rattle.std.specs.Prelude.{◌≡◌, ◌⊎◌, ◌≤◌, ℕ, List, [], �
 use Rattle.std.specs.Io.KnownBytes.{Appends}
 use Rattle.pyver_core.specs.InputLines.{filled_lines}
 use Rattle.pyver_core.specs.Outcomes.{Outcome}
-use Rattle.pyver_core.specs.Sources.{Input, KnownFile, ReadsInput, ReadsPart, last_name, no_input, read_message}
+use Rattle.pyver_core.specs.Sources.{Input, KnownFile, ReadsInput, ReadsFront, last_name, no_input, read_message}
 use Rattle.pyver_core.specs.Tasks.{IsOutcome, IsStream, NeedsInput, names_of, task_of}
 
 -- a prefix of `all` was written, which may be empty or the whole
@@ -72,7 +72,7 @@ module _ {F R W E : Type 0} (known : F → List ℕ → KnownFile) (remaining : 
   abbrev pub ReadsSome : List (List ℕ) → F → R → R → Input → Type 0
   ReadsSome words files reader reader' input =
       ReadsInput (known files) remaining (names_of (task_of words)) reader reader' input
-      ⊎ (ReadsPart (known files) remaining (names_of (task_of words)) reader reader' input.sources × (input.unopened ≡ None) × (¬ IsStream (task_of words) → filled_lines input.sources ≡ []))
+      ⊎ (ReadsFront (known files) remaining (names_of (task_of words)) reader reader' input.sources × (input.unopened ≡ None) × (¬ IsStream (task_of words) → filled_lines input.sources ≡ []))
 
   -- A run stopped early: standard output has a prefix of the outcome of the first lines read, and standard error a prefix of
   -- its errors and of the last message.

@@ -1,6 +1,6 @@
 -- What the program's types of sources say, apart from where they lie in memory.
 use Rattle.std.specs.Prelude.{◌≡◌, ⊤, ℕ, List, Option}
-use Rattle.pyver_core.specs.InputLines.{Line}
+use Rattle.pyver_core.specs.InputLines.{SourceLine}
 use Rattle.pyver_core.specs.InputLines.{Origin as OriginValue}
 use Rattle.pyver_core.specs.Runs.{IsReadMessage, IsWriteFailure, memory_message}
 use Rattle.pyver_core.specs.Sources.{input_name, read_message}
@@ -13,8 +13,8 @@ use Rattle.pyver_core.specs.declared.stream.Stop.TheVariants as stop
 abbrev pub origin_of : Origin → OriginValue
 origin_of origin = record { is_first = origin.is_first; name = origin.name.now }
 
-abbrev pub line_of : Origin → ℕ → List ℕ → Line
-line_of origin number text = record { origin = origin_of origin; number = number; text = text }
+abbrev pub origin_line : Origin → ℕ → List ℕ → SourceLine
+origin_line origin number text = record { origin = origin_of origin; number = number; text = text }
 
 abbrev pub unopened_of : Unopened → UnopenedValue
 unopened_of file = record { name = file.name.now; failure = file.failure }

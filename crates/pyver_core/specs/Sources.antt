@@ -1,7 +1,7 @@
 -- The sources that a run reads, standard input and files, by their names.
 use Rattle.std.specs.Prelude.{◌≡◌, ⊤, ℕ, List, [], ◌∷◌, ◌++◌, Bool, true, false, Option, Some, None, bytes_eq, codes, if◌then◌else◌}
 use Rattle.std.specs.Io.KnownBytes.{Consumes, IsAtEnd}
-use Rattle.pyver_core.specs.InputLines.{Line, Origin, Source, input_lines}
+use Rattle.pyver_core.specs.InputLines.{SourceLine, Origin, Source, input_lines}
 use Rattle.pyver_core.specs.Messages.{file_message}
 use Rattle.pyver_core.specs.declared.open_failure.OpenFailure.{OpenFailure}
 use Rattle.pyver_core.specs.declared.open_failure.OpenFailure.TheVariants as failure
@@ -24,7 +24,7 @@ source_names (name ∷ names) = name ∷ names
 abbrev pub input_origin : Origin
 input_origin = record { is_first = true; name = input_name }
 
-abbrev pub input_line : ℕ → List ℕ → Line
+abbrev pub input_line : ℕ → List ℕ → SourceLine
 input_line number text = record { origin = input_origin; number = number; text = text }
 
 -- these lines of standard input, and no other source
@@ -56,16 +56,16 @@ known_bytes (Holds bytes) = Some bytes
 known_bytes (Fails why) = None
 
 -- the file may be opened, and then these bytes are left of it, where they are known
-abbrev pub Opens : KnownFile → Option (List ℕ) → Type 0
-Opens Unknown left = ⊤
-Opens (Holds bytes) left = left ≡ Some bytes
-Opens (Fails why) left = ⊥
+abbrev pub MayOpen : KnownFile → Option (List ℕ) → Type 0
+MayOpen Unknown left = ⊤
+MayOpen (Holds bytes) left = left ≡ Some bytes
+MayOpen (Fails why) left = ⊥
 
 -- the file may fail to be opened, for this reason
-abbrev pub Refuses : KnownFile → OpenFailure → Type 0
-Refuses Unknown reason = ⊤
-Refuses (Holds bytes) reason = ⊥
-Refuses (Fails why) reason = reason ≡ why
+abbrev pub MayRefuse : KnownFile → OpenFailure → Type 0
+MayRefuse Unknown reason = ⊤
+MayRefuse (Holds bytes) reason = ⊥
+MayRefuse (Fails why) reason = reason ≡ why
 
 -- the reason in words
 abbrev pub failure_reason : OpenFailure → List ℕ
@@ -145,7 +145,7 @@ module _ {R : Type 0} (files : List ℕ → KnownFile) (remaining : R → Option
   EndsAt [] None = ⊤
   EndsAt [] (Some file) = ⊥
   EndsAt (name ∷ names) None = ⊥
-  EndsAt (name ∷ names) (Some file) = (file.name ≡ name) × (is_input name ≡ false) × Refuses (files name) file.failure
+  EndsAt (name ∷ names) (Some file) = (file.name ≡ name) × (is_input name ≡ false) × MayRefuse (files name) file.failure
 
   -- all sources were read to their ends, or all before a file that was not opened
   pub record ReadsInput (names : List (List ℕ)) (reader reader' : R) (input : Input) : Type 0 where
@@ -156,7 +156,7 @@ module _ {R : Type 0} (files : List ℕ → KnownFile) (remaining : R → Option
     pub ends : EndsAt left input.unopened
 
   -- some sources were read to their ends, and of the next one some lines
-  pub record ReadsPart (names : List (List ℕ)) (reader reader' : R) (sources : List Source) : Type 0 where
+  pub record ReadsFront (names : List (List ℕ)) (reader reader' : R) (sources : List Source) : Type 0 where
     pub read : List (List ℕ)
     pub name : List ℕ
     pub left : List (List ℕ)

@@ -2,7 +2,7 @@
 use Rattle.std.specs.Prelude.{◌≡◌, ◌⊎◌, ◌<◌, ℕ, List, [], ◌∷◌, ◌++◌, codes, length, take, if◌then◌else◌}
 use Rattle.std.specs.List.{AllZip, concat, flat_map}
 use Rattle.pep440_version.specs.Record.{Record}
-use Rattle.pyver_core.specs.InputLines.{Line, Source, filled_lines}
+use Rattle.pyver_core.specs.InputLines.{SourceLine, Source, filled_lines}
 use Rattle.pyver_core.specs.InvalidLines.{last_message, lines_status, message_limit}
 use Rattle.pyver_core.specs.Outcomes.{Outcome}
 use Rattle.pyver_core.specs.ReadLines.{Entry, Header, IsRead, LineReading, ReadLine, faults}
@@ -25,7 +25,7 @@ pub record InputParts : Type 0 where
   pub messages : List ℕ
 
 -- the header of the first source and its newline
-abbrev pub header_with : Line → LineReading → List ℕ
+abbrev pub header_with : SourceLine → LineReading → List ℕ
 header_with line Header = if line.origin.is_first then line.text ++ codes "\n" else []
 header_with line (Entry x) = []
 

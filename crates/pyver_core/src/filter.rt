@@ -112,7 +112,7 @@ impl FilterState {
     ghost use Rattle.pyver_core.specs.FilterSteps.{Cuts, FinishesBy, HasNoNewline, Steps, StepsBy};
     ghost use Rattle.pyver_core.specs.ReadLines.{Entry, Header, ReadLine};
     ghost use Rattle.pyver_core.specs.Readings.{Denotes, Fails};
-    ghost use Rattle.pyver_core.specs.SourceViews.{line_of, origin_of};
+    ghost use Rattle.pyver_core.specs.SourceViews.{origin_line, origin_of};
 
     pub(crate) fn new(alloc: Global) -> FilterState
         ensures counts { (result.read_count ≡ 0) × (result.fault_count ≡ 0) }
@@ -134,12 +134,13 @@ impl FilterState {
         origin: Origin<'_>,
         text: &[u8],
     ) -> Result<(), AllocError>
-        ensures { IfOk result (λ _. StepsBy rule.now (record { line = line_of origin.entry self.old.line_count text.now; reading = Header }) self.old self.new) }
+        ensures { IfOk result (λ _. StepsBy rule.now (record { line = origin_line origin.entry self.old.line_count text.now; reading = Header }) self.old self.new) }
     {
-        if origin.is_first {
-            self.output.extend_from_slice(text)?;
-            self.output.push(b'\n')?;
+        if !origin.is_first {
+            return Ok(());
         }
+        self.output.extend_from_slice(text)?;
+        self.output.push(b'\n')?;
         Ok(())
     }
 
@@ -151,7 +152,7 @@ impl FilterState {
         text: &[u8],
         version: &Version,
     ) -> Result<(), AllocError>
-        ensures { IfOk result (λ _. StepsBy rule.now (record { line = line_of origin.entry self.old.line_count text.now; reading = Entry (Denotes version.now) }) self.old self.new) }
+        ensures { IfOk result (λ _. StepsBy rule.now (record { line = origin_line origin.entry self.old.line_count text.now; reading = Entry (Denotes version.now) }) self.old self.new) }
     {
         if rule.shows(alloc, version)? {
             self.output.extend_from_slice(text)?;
@@ -169,7 +170,7 @@ impl FilterState {
         reason: &str,
     ) -> Result<(), AllocError>
         requires { self.old.fault_count + 1 < 2 ^ 63 }
-        ensures { IfOk result (λ _. StepsBy rule.now (record { line = line_of origin.entry self.old.line_count text.now; reading = Entry (Fails reason.now) }) self.old self.new) }
+        ensures { IfOk result (λ _. StepsBy rule.now (record { line = origin_line origin.entry self.old.line_count text.now; reading = Entry (Fails reason.now) }) self.old self.new) }
     {
         if self.fault_count < rule.lines.invalid.message_limit() {
             push_line_fault(
@@ -193,7 +194,7 @@ impl FilterState {
         reading: &Reading,
     ) -> Result<(), AllocError>
         requires { self.old.fault_count + 1 < 2 ^ 63 }
-        ensures { IfOk result (λ _. StepsBy rule.now (record { line = line_of origin.entry self.old.line_count text.now; reading = Entry (reading_of reading.now) }) self.old self.new) }
+        ensures { IfOk result (λ _. StepsBy rule.now (record { line = origin_line origin.entry self.old.line_count text.now; reading = Entry (reading_of reading.now) }) self.old self.new) }
     {
         match reading {
             Reading::Version(version) => self.push_version(alloc, rule, origin, text, version),

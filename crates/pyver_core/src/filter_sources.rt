@@ -1,5 +1,5 @@
 // The sources of `filter`, one after another.
-ghost use Rattle.std.specs.Prelude.{◌≡◌, ◌≤◌, ◌*◌, ◌∷◌, [], IfErr, IfOk, map, string_bytes};
+ghost use Rattle.std.specs.Prelude.{◌≡◌, ◌≤◌, ◌*◌, [], IfErr, IfOk, map, string_bytes};
 ghost use Rattle.std.specs.Option.{option_map};
 ghost use Rattle.pyver_core.specs.FilterSteps.{AllFinish, AllStop, FilterFinishes, FilterStops, NamedFinishes, NamedStops};
 ghost use Rattle.pyver_core.specs.Sources.{source_names};
@@ -33,25 +33,26 @@ fn filter_named<F: Files, R: Read, W: Write, E: Write>(
     ensures kept { F.known files.new ≡ F.known files.old }
 {
     if is_input(origin.name) {
-        filter_input(alloc, rule, origin, state, input, out, err)?;
-        return Ok(None);
+        return match filter_input(alloc, rule, origin, state, input, out, err) {
+            Ok(()) => Ok(None),
+            Err(stop) => Err(stop),
+        };
     }
     match files.open(alloc, origin.name) {
-        Ok(mut file) => {
-            filter_input(alloc, rule, origin, state, &mut file, out, err)?;
-            Ok(None)
-        }
+        Ok(mut file) => match filter_input(alloc, rule, origin, state, &mut file, out, err) {
+            Ok(()) => Ok(None),
+            Err(stop) => Err(stop),
+        },
         Err(OpenFailure::OutOfMemory) => Err(Stop::OutOfMemory),
         Err(failure) => Ok(Some(failure)),
     }
 }
 
-/// Filters the first source and then the others, up to one that is not opened.
+/// Filters the sources with these names, up to one that is not opened.
 fn filter_all<'a, F: Files, R: Read, W: Write, E: Write>(
     alloc: Global,
     rule: &FilterRule,
-    first: &'a str,
-    others: &'a [String],
+    names: &'a [String],
     state: &mut FilterState,
     files: &mut F,
     input: &mut R,
@@ -59,39 +60,47 @@ fn filter_all<'a, F: Files, R: Read, W: Write, E: Write>(
     err: &mut E,
 ) -> Result<Option<Unopened<'a>>, Stop>
     requires new { (state.old.read_count ≡ 0) × (state.old.fault_count ≡ 0) × (state.old.output.items ≡ []) × (state.old.errors.items ≡ []) }
-    ensures finished { IfOk result (λ unopened. AllFinish (F.known files.old) R.remaining W.contents E.contents rule.now (first.now ∷ map string_bytes others.now) (option_map unopened_of unopened) state.new input.old input.new out.old out.new err.old err.new) }
-    ensures stopped { IfErr result (AllStop (F.known files.old) R.remaining W.contents E.contents rule.now (first.now ∷ map string_bytes others.now) input.old input.new out.old out.new err.old err.new) }
+    ensures finished { IfOk result (λ unopened. AllFinish (F.known files.old) R.remaining W.contents E.contents rule.now (map string_bytes names.now) (option_map unopened_of unopened) state.new input.old input.new out.old out.new err.old err.new) }
+    ensures stopped { IfErr result (AllStop (F.known files.old) R.remaining W.contents E.contents rule.now (map string_bytes names.now) input.old input.new out.old out.new err.old err.new) }
 {
-    let origin = Origin {
-        is_first: true,
-        name: first,
-    };
-    if let Some(failure) = filter_named(alloc, rule, origin, state, files, input, out, err)? {
-        return Ok(Some(Unopened {
-            name: first,
-            failure,
-        }));
-    }
-    for other in others {
-        let name = other.as_str();
-        let origin = Origin {
-            is_first: false,
-            name,
-        };
-        if let Some(failure) = filter_named(alloc, rule, origin, state, files, input, out, err)? {
-            return Ok(Some(Unopened { name, failure }));
+    let mut is_first = true;
+    for name in names {
+        let name = name.as_str();
+        let origin = Origin { is_first, name };
+        match filter_named(alloc, rule, origin, state, files, input, out, err) {
+            Ok(None) => is_first = false,
+            Ok(Some(failure)) => return Ok(Some(Unopened { name, failure })),
+            Err(stop) => return Err(stop),
         }
     }
     Ok(None)
 }
 
-/// The name of the first source, and the names of the others.
-fn split_names<'a>(names: &'a [String]) -> (&'a str, &'a [String])
-    ensures { result.0.now ∷ map string_bytes result.1.now ≡ source_names (map string_bytes names.now) }
+/// Filters the sources that the names mean, up to one that is not opened.
+fn filter_meant<'a, F: Files, R: Read, W: Write, E: Write>(
+    alloc: Global,
+    rule: &FilterRule,
+    names: &'a [String],
+    state: &mut FilterState,
+    files: &mut F,
+    input: &mut R,
+    out: &mut W,
+    err: &mut E,
+) -> Result<Option<Unopened<'a>>, Stop>
+    requires new { (state.old.read_count ≡ 0) × (state.old.fault_count ≡ 0) × (state.old.output.items ≡ []) × (state.old.errors.items ≡ []) }
+    ensures finished { IfOk result (λ unopened. AllFinish (F.known files.old) R.remaining W.contents E.contents rule.now (source_names (map string_bytes names.now)) (option_map unopened_of unopened) state.new input.old input.new out.old out.new err.old err.new) }
+    ensures stopped { IfErr result (AllStop (F.known files.old) R.remaining W.contents E.contents rule.now (source_names (map string_bytes names.now)) input.old input.new out.old out.new err.old err.new) }
 {
-    match names {
-        [] => ("-", names),
-        [first, others @ ..] => (first.as_str(), others),
+    if !names.is_empty() {
+        return filter_all(alloc, rule, names, state, files, input, out, err);
+    }
+    let origin = Origin {
+        is_first: true,
+        name: "-",
+    };
+    match filter_input(alloc, rule, origin, state, input, out, err) {
+        Ok(()) => Ok(None),
+        Err(stop) => Err(stop),
     }
 }
 
@@ -109,10 +118,10 @@ pub(crate) fn filter_sources<F: Files, R: Read, W: Write, E: Write>(
     ensures stopped { IfErr result (FilterStops (F.known files.old) R.remaining W.contents E.contents rule.now (source_names (map string_bytes names.now)) input.old input.new out.old out.new err.old err.new) }
 {
     let mut state = FilterState::new(alloc);
-    let (first, others) = split_names(names);
-    let unopened = filter_all(
-        alloc, rule, first, others, &mut state, files, input, out, err,
-    )?;
+    let unopened = match filter_meant(alloc, rule, names, &mut state, files, input, out, err) {
+        Ok(unopened) => unopened,
+        Err(stop) => return Err(stop),
+    };
     let Ok(status) = state.finish(alloc, rule, unopened) else {
         return Err(Stop::OutOfMemory);
     };

@@ -45,7 +45,7 @@ Python versions and version specifiers (PEP 440) for people and for shell script
 commands:
   compare A OP B     whether A stands so to B, by the exit status
   match SPECS V..    which of the versions the specifiers allow
-  filter SPECS       the lines of standard input whose version the specifiers allow
+  filter SPECS       the lines of files whose version the specifiers allow
   sort               the lines of standard input in the order of their versions
   newest SPECS       the line of the newest version that the specifiers allow
   show V..           versions in normal form, or their parts
@@ -59,7 +59,7 @@ The exit status is 0 for yes or done, 1 for no, 2 for a wrong use or an invalid 
 examples:
   pyver compare 1.9 lt 1.10 && echo older
   pyver match '>=1.16,<2.0' 1.19
-  pyver filter '>=1.0,<2.0' < versions.txt
+  pyver filter '>=1.0,<2.0' versions.txt
   git tag | pyver sort -n 3
   git tag | pyver newest '<2.0'
   pyver show --part major 1.19
@@ -97,12 +97,13 @@ examples:
 const FILTER_HELP: &str =
     "usage: pyver filter [-v] [--pre | --no-pre] [-k N] [-d C] [--header] [--invalid HOW] SPECS [FILE..]
 
-Prints the lines of standard input whose version the specifiers allow, as they were written and as
-they come. '' allows any version. Blank lines are dropped, and so are a byte order mark before the
-first line and a carriage return at the end of a line. Each invalid line is named on standard error,
-the first 20 and then how many more there are, and the exit status is 2 at the end: HOW is error.
-With skip it is only said at the end how many were left out, and with keep nothing; neither counts
-for the status. HOW is error, skip or keep.
+Prints the lines of the files whose version the specifiers allow, as they were written and as they
+come. '-' and no file mean standard input. '' allows any version. Blank lines are dropped, and so
+are a byte order mark before the first line and a carriage return at the end of a line.
+Each invalid line is named on standard error by file and number, the first 20 and then how many more
+there are, and the exit status is 2 at the end: HOW is error. With skip it is only said at the end
+how many were left out, and with keep nothing; neither counts for the status. HOW is error, skip or
+keep. At a file that cannot be opened it stops, and the exit status is 2.
 Pre-releases and dev releases are left out, unless a specifier other than != has such a version.
 They are left out too where nothing else is allowed: that is not known before the last line.
 Fields stand between bytes C, also where they are quoted: quotes are not read.
@@ -113,12 +114,12 @@ options:
   --no-pre            allow none of them
   -k, --field N       the version is field N, counted from 1, and not the whole line
   -d, --delimiter C   the byte between fields, one ASCII character, and not a tab
-  --header            print the first line first, which is no version
+  --header            the first line of a file is no version; that of the first file is printed
   --invalid HOW       what is done with invalid lines
   --                  all words after it are no options
 
 examples:
-  pyver filter '>=1.0,<2.0,!=1.5.*' < versions.txt
+  pyver filter '>=1.0,<2.0,!=1.5.*' versions.txt more.txt
   git tag | pyver filter --pre '' 2> /dev/null
   pyver filter -d , -k 2 --header '>=1.0' < packages.csv
 ";

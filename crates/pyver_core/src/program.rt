@@ -58,7 +58,7 @@ fn write_answer<W: Write, E: Write>(answer: &Answer, out: &mut W, err: &mut E) -
 
 /// Writes why a run stopped, where somebody reads that, and returns the status.
 fn report_stop<E: Write>(stop: Stop, err: &mut E) -> u8
-    ensures { (message : List ℕ) × Reports stop.entry result message × WroteBeginning (E.contents err.old) (E.contents err.new) message }
+    ensures { (message : List ℕ) × Reports stop result message × WroteBeginning (E.contents err.old) (E.contents err.new) message }
 {
     match stop {
         Stop::OutOfMemory => refuse(err),
