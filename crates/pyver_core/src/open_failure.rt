@@ -3,7 +3,7 @@ ghost use Rattle.std.specs.Prelude.{◌≡◌, ◌++◌, IfOk};
 ghost use Rattle.pyver_core.specs.Messages.{file_message};
 ghost use Rattle.pyver_core.specs.Sources.{failure_reason};
 
-use crate::escape::push_escaped;
+use pyver_text::push_escaped;
 use std::alloc::AllocError;
 
 /// Why a file could not be opened.
