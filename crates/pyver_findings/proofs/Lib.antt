@@ -3,3 +3,4 @@ pub mod Reasons
 pub mod Readings
 pub mod Holding
 pub mod Found
+pub mod Once

@@ -1,5 +1,5 @@
--- What holds of findings: lines that are reported together cannot be satisfied, and those that have no version in common_cover are
--- reported.
+-- What holds of findings: lines that are reported together cannot be satisfied, those that have no version in common are reported,
+-- and there is one report.
 use Rattle.std.specs.Prelude.{◌≡◌, ℕ, List, [], IsTrue, Option, map}
 use Rattle.std.specs.List.{All, Any, Contains, filter}
 use Rattle.pep440_pick.specs.RequirementGrammar.{DerivesRequirement, Needed}
@@ -10,7 +10,7 @@ use Rattle.pyver_findings.specs.Demands.{Demand}
 use Rattle.pyver_findings.specs.Conflicts.{common_cover, conflicts, same_named, under}
 use Rattle.pyver_findings.specs.FileLines.{File, FileLine}
 use Rattle.pyver_findings.specs.Findings.{Conflicting, Finding, NoRequirement}
-use Rattle.pyver_findings.specs.LineMeanings.{LineMeaning}
+use Rattle.pyver_findings.specs.LineMeanings.{IsMeaning, LineMeaning}
 use Rattle.pyver_findings.specs.Reports.{IsReport, Report}
 use Rattle.pyver_requirements.specs.LineParts.{line_parts}
 
@@ -32,7 +32,15 @@ abbrev pub IsAmong : List FileLine → Finding → Type 0
 IsAmong lines (NoRequirement l reason column) = ⊥
 IsAmong lines (Conflicting conflict reported) = All (Contains lines) reported
 
--- where the covers of the lines of a name that count under a marker have nothing in common_cover, some of these lines are reported together
+-- where the covers of the lines of a name that count under a marker have in common, some of these lines are reported together
 abbrev pub ConflictsAreFound : Type 0
 ConflictsAreFound = (lines : List Demand) (a : Demand) (marker : Option (List ℕ)) → Contains lines a → common_cover (under marker (filter (same_named a) lines)) ≡ []
     → Any (IsAmong (map (λ (b : Demand). b.line) (under marker (filter (same_named a) lines)))) (conflicts lines)
+
+-- a line has at most one meaning
+abbrev pub MeaningsOnce : Type 0
+MeaningsOnce = (l : FileLine) (x y : LineMeaning) → IsMeaning l x → IsMeaning l y → x ≡ y
+
+-- files have at most one report
+abbrev pub ReportsOnce : Type 0
+ReportsOnce = (files : List File) (r s : Report) → IsReport files r → IsReport files s → r ≡ s

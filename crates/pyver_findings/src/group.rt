@@ -85,8 +85,8 @@ fn push_of_marker(
     if has_marker(before, line) {
         return Ok(());
     }
-    let requirement_meaning = under(alloc, &line.marker, lines)?;
-    push_of_all(alloc, findings, requirement_meaning.as_slice())
+    let together = under(alloc, &line.marker, lines)?;
+    push_of_all(alloc, findings, together.as_slice())
 }
 
 fn push_of_each_marker(

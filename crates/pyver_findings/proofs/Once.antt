@@ -1,0 +1,44 @@
+-- A line has at most one meaning, and files have at most one report.
+use Rattle.std.proofs.Common.{◌≡◌, ◌∙◌, ℕ, List, [], ◌∷◌, ◌++◌, length, refl, sym, ap, inl, inr}
+use Rattle.std.specs.List.{AllZip, flat_map}
+use Rattle.pep440_pick.proofs.Once.{not_both_requirement, one_refusal, one_requirement}
+use Rattle.pep440_pick.specs.RequirementGrammar.{Needed, RequirementRefusal}
+use Rattle.pyver_findings.specs.FileLines.{File, FileLine, all_lines}
+use Rattle.pyver_findings.specs.FindingLaws.{MeaningsOnce, ReportsOnce}
+use Rattle.pyver_findings.specs.LineMeanings.{IsKindMeaning, IsMeaning, LineMeaning, refusal_meaning, requirement_meaning}
+use Rattle.pyver_findings.specs.Reports.{IsReport, Report, found_in, left_out_in}
+use Rattle.pyver_requirements.specs.LineKinds.{ConstraintsFile, Editable, LineKind, Location, PipOption, Requirement, RequirementsFile, Variable, line_kind}
+use Rattle.pyver_requirements.specs.LineParts.{line_parts}
+
+of_kind : (l : FileLine) (kind : LineKind) (x y : LineMeaning) → IsKindMeaning l kind x → IsKindMeaning l kind y → x ≡ y
+of_kind l (RequirementsFile path) x y a b = a ∙ sym b
+of_kind l (ConstraintsFile path) x y a b = a ∙ sym b
+of_kind l Editable x y a b = a ∙ sym b
+of_kind l PipOption x y a b = a ∙ sym b
+of_kind l Variable x y a b = a ∙ sym b
+of_kind l Location x y a b = a ∙ sym b
+of_kind l Requirement x y (inl (none, a)) (inl (again, b)) = a ∙ sym b
+of_kind l Requirement x y (inl (none, a)) (inr (text, b)) = absurd (none text)
+of_kind l Requirement x y (inr (text, a)) (inl (none, b)) = absurd (none text)
+of_kind l Requirement x y (inr (text, inl (n, d, a))) (inr (again, inl (m, e, b))) =
+    a ∙ ap (λ (q : Needed). requirement_meaning l (line_parts l.text) q) (one_requirement (line_parts l.text).requirement n m d e) ∙ sym b
+of_kind l Requirement x y (inr (text, inl (n, d, a))) (inr (again, inr (f, r, b))) = absurd (not_both_requirement (line_parts l.text).requirement n f d r)
+of_kind l Requirement x y (inr (text, inr (f, r, a))) (inr (again, inl (n, d, b))) = absurd (not_both_requirement (line_parts l.text).requirement n f d r)
+of_kind l Requirement x y (inr (text, inr (f, r, a))) (inr (again, inr (g, s, b))) =
+    a ∙ ap (λ (h : RequirementRefusal). refusal_meaning l (line_parts l.text) h) (one_refusal (line_parts l.text).requirement f g r s) ∙ sym b
+
+pub meanings_once : MeaningsOnce
+meanings_once l x y a b = of_kind l (line_kind l.text) x y a b
+
+of_lines : (lines : List FileLine) (xs ys : List LineMeaning) → AllZip IsMeaning lines xs → AllZip IsMeaning lines ys → xs ≡ ys
+of_lines [] [] [] h k = refl
+of_lines [] [] (y ∷ ys) h k = absurd k
+of_lines [] (x ∷ xs) ys h k = absurd h
+of_lines (l ∷ lines) [] ys h k = absurd h
+of_lines (l ∷ lines) (x ∷ xs) [] h k = absurd k
+of_lines (l ∷ lines) (x ∷ xs) (y ∷ ys) h k = λ j. meanings_once l x y h.0 k.0 j ∷ of_lines lines xs ys h.1 k.1 j
+
+pub reports_once : ReportsOnce
+reports_once files r s (xs, h, a) (ys, k, b) =
+    let same = of_lines (all_lines files) xs ys h k in
+    a ∙ (λ j. record { findings = found_in (same j); lines = length (all_lines files); files = length files; left_out = flat_map left_out_in (same j) }) ∙ sym b
