@@ -16,7 +16,6 @@ _pyver() {
                 -k | --field | -d | --delimiter) ;;
                 *) words='--help -v --invert-match --pre --no-pre -k --field -d --delimiter --header --invalid' ;;
             esac
-            compopt -o default 2> /dev/null
             ;;
         *,sort)
             case $before in
@@ -50,5 +49,7 @@ _pyver() {
     while IFS= read -r word; do
         COMPREPLY+=("$word")
     done < <(compgen -W "$words" -- "$word")
+    # Names of files are words of what reads them.
+    [[ ${COMP_WORDS[1]} != filter ]] || compopt -o default 2> /dev/null
 }
 complete -F _pyver pyver
