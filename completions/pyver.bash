@@ -24,6 +24,7 @@ _pyver() {
                 -n | --last | -k | --field | -d | --delimiter) ;;
                 *) words='--help -r --reverse -u --unique -n --last -k --field -d --delimiter --header --invalid' ;;
             esac
+            compopt -o default 2> /dev/null
             ;;
         *,newest)
             case $before in
@@ -31,6 +32,7 @@ _pyver() {
                 -k | --field | -d | --delimiter) ;;
                 *) words='--help --pre --no-pre -k --field -d --delimiter --header --invalid' ;;
             esac
+            compopt -o default 2> /dev/null
             ;;
         *,show)
             case $before in

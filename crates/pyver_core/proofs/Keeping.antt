@@ -42,6 +42,13 @@ keeps_none options s header versions invalid fault errors = record {
   errors = errors ∙ ap concat (sym (take-nil (message_limit options.invalid)));
 }
 
+no_faults : (options : LineOptions) (found : List ReadLine) → AllZip (IsRead options) [] found → length (faults found) ≡ 0
+no_faults options [] are = refl
+no_faults options (x ∷ found) are = absurd are
+
+pub none_faults : (options : LineOptions) (s : VersionLines) → KeepsLines options [] s → s.fault_count ≡ 0
+none_faults options s k = k.fault_count ∙ no_faults options k.found k.are
+
 -- only the count of lines is new
 pub record SameBut (a b : VersionLines) : Type 0 where
   pub header : b.header.items ≡ a.header.items
@@ -133,12 +140,12 @@ pub record KeepsFront (options : LineOptions) (origin : Origin) (text : List ℕ
   pub line_count : s.line_count ≡ length ended
   pub keeps : (lines : List SourceLine) → KeepsLines options lines a → KeepsLines options (lines ++ filled_lines_from origin 1 ended) s
 
-pub front_none : (options : LineOptions) (origin : Origin) (text : Bor (List ℕ)) (a s : VersionLines) → s.line_count ≡ 0 → SameBut a s → KeepsFront options origin text.now (Some text) a s
-front_none options origin text a s zero same = record {
+pub front_none : (options : LineOptions) (origin : Origin) (text : Bor (List ℕ)) (s : VersionLines) → s.line_count ≡ 0 → KeepsFront options origin text.now (Some text) s s
+front_none options origin text s zero = record {
   ended = [];
   split = refl;
   line_count = zero;
-  keeps = λ lines k. subst (λ l. KeepsLines options l s) (sym (append-nil lines)) (keeps_same options a s same lines k);
+  keeps = λ lines k. subst (λ l. KeepsLines options l s) (sym (append-nil lines)) k;
 }
 
 pub front_more : (options : LineOptions) (origin : Origin) (text : List ℕ) (rest : Option (Bor (List ℕ))) (left : Bor (List ℕ)) (line : List ℕ) (later : Option (Bor (List ℕ))) (first a b : VersionLines) → rest ≡ Some left → input_lines left.now ≡ line ∷ lines_left later
@@ -162,15 +169,17 @@ front_all options origin text rest a b none k lines kept =
 
 -- ---- one source after another
 
-size_of-append : (xs ys : List SourceText) → size_of (xs ++ ys) ≡ size_of xs + size_of ys
-size_of-append [] ys = refl
+pub size_of-append : (xs ys : List SourceText) → size_of (xs ++ ys) ≡ size_of xs + size_of ys
+size_of-append [] ys = omega arith
 size_of-append (x ∷ xs) ys = omega (arith, size_of-append xs ys)
 
 pub size_more : (xs : List SourceText) (i : ℕ) (x d : SourceText) → i < length xs → x ≡ get_or xs i d → size_of (take (i + 1) xs) ≡ size_of (take i xs) + (length x.text.items + 1)
 size_more xs i x d inside is = ap size_of (take_more xs i d inside) ∙ size_of-append (take i xs) (get_or xs i d ∷ []) ∙ ap (λ y. size_of (take i xs) + size_of (y ∷ [])) (sym is) ∙ omega arith
 
 pub size_front : (xs : List SourceText) (i : ℕ) → size_of (take i xs) ≤ size_of xs
-size_front xs i = omega (arith, size_of-append (take i xs) (drop i xs), ap size_of (take-append-drop i xs))
+size_front xs i =
+    let whole : size_of (take i xs ++ drop i xs) ≡ size_of xs = ap size_of (take-append-drop i xs) in
+    omega (arith, size_of-append (take i xs) (drop i xs), whole)
 
 pub lines_more : (xs : List SourceText) (i : ℕ) (x d : SourceText) → i < length xs → x ≡ get_or xs i d → filled_lines (map source_of (take (i + 1) xs)) ≡ filled_lines (map source_of (take i xs)) ++ source_lines (source_of x)
 lines_more xs i x d inside is =

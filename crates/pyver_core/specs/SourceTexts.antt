@@ -34,14 +34,14 @@ pub record ReadsTo {R : Type 0} (remaining : R → Option (List ℕ)) (origin : 
 
 module _ {R : Type 0} (files : List ℕ → KnownFile) (remaining : R → Option (List ℕ)) where
   -- the source with this name was read to its end, behind others; or its file was not opened
-  abbrev pub NamedReads : Origin → List Source → List Source → R → R → Option OpenFailure → Type 0
-  NamedReads origin a b reader reader' None = (source : Source) × ReadsSource files remaining origin reader reader' source × (b ≡ a ++ source ∷ [])
-  NamedReads origin a b reader reader' (Some failure) = (is_input origin.name ≡ false) × MayRefuse (files origin.name) failure × (b ≡ a) × (reader' ≡ reader)
+  abbrev pub GainsSource : Origin → List Source → List Source → R → R → Option OpenFailure → Type 0
+  GainsSource origin a b reader reader' None = (source : Source) × ReadsSource files remaining origin reader reader' source × (b ≡ a ++ source ∷ [])
+  GainsSource origin a b reader reader' (Some failure) = (is_input origin.name ≡ false) × MayRefuse (files origin.name) failure × (b ≡ a) × (reader' ≡ reader)
 
   -- some of the source with this name was read
-  abbrev pub NamedStops : Origin → R → R → Stop → Type 0
-  NamedStops origin reader reader' stop = (source : Source) × ReadsLines files remaining origin reader reader' source × IsStopOf (Some origin.name) stop
+  abbrev pub StopsInSource : Origin → R → R → Stop → Type 0
+  StopsInSource origin reader reader' stop = (source : Source) × ReadsLines files remaining origin reader reader' source × IsStopOf (Some origin.name) stop
 
   -- some sources were read to their ends, and some of the next one
-  abbrev pub AllStop : List (List ℕ) → R → R → Stop → Type 0
-  AllStop names reader reader' stop = (sources : List Source) × ReadsFront files remaining names reader reader' sources × IsStopOf (last_name sources) stop
+  abbrev pub StopsInSources : List (List ℕ) → R → R → Stop → Type 0
+  StopsInSources names reader reader' stop = (sources : List Source) × ReadsFront files remaining names reader reader' sources × IsStopOf (last_name sources) stop

@@ -4,7 +4,7 @@ ghost use Rattle.std.specs.Io.KnownBytes.{Consumes, IsAtEnd};
 ghost use Rattle.std.specs.Option.{option_map};
 ghost use Rattle.pyver_core.specs.Sources.{ReadsInput, source_names};
 ghost use Rattle.pyver_core.specs.SourceViews.{IsStopOf, origin_of, unopened_of};
-ghost use Rattle.pyver_core.specs.SourceTexts.{AllStop, HasRoom, NamedReads, NamedStops, ReadsTo, sources_of};
+ghost use Rattle.pyver_core.specs.SourceTexts.{StopsInSources, HasRoom, GainsSource, StopsInSource, ReadsTo, sources_of};
 
 use crate::files::Files;
 use crate::filter::Unopened;
@@ -76,9 +76,9 @@ fn read_source<'a, R: Read>(
         Ok(text) => text,
         Err(stop) => return Err(stop),
     };
-    if state.texts.push(SourceText { origin, text }).is_err() {
+    let Ok(()) = state.texts.push(SourceText { origin, text }) else {
         return Err(Stop::OutOfMemory);
-    }
+    };
     Ok(())
 }
 
@@ -91,9 +91,9 @@ fn read_named<'a, F: Files, R: Read>(
     input: &mut R,
 ) -> Result<Option<OpenFailure>, Stop>
     requires { HasRoom state.old }
-    ensures read { IfOk result (NamedReads (F.known files.old) R.remaining (origin_of origin.entry) (sources_of state.old) (sources_of state.new) input.old input.new) }
+    ensures read { IfOk result (GainsSource (F.known files.old) R.remaining (origin_of origin.entry) (sources_of state.old) (sources_of state.new) input.old input.new) }
     ensures room { IfOk result (λ _. HasRoom state.new) }
-    ensures stopped { IfErr result (NamedStops (F.known files.old) R.remaining (origin_of origin.entry) input.old input.new) }
+    ensures stopped { IfErr result (StopsInSource (F.known files.old) R.remaining (origin_of origin.entry) input.old input.new) }
     ensures kept { F.known files.new ≡ F.known files.old }
 {
     if is_input(origin.name) {
@@ -123,7 +123,7 @@ fn read_all<'a, F: Files, R: Read>(
     requires new { (state.old.texts.items ≡ []) × (state.old.read_count ≡ 0) }
     ensures read { IfOk result (λ unopened. ReadsInput (F.known files.old) R.remaining (map string_bytes names.now) input.old input.new (record { sources = sources_of state.new; unopened = option_map unopened_of unopened })) }
     ensures room { IfOk result (λ _. HasRoom state.new) }
-    ensures stopped { IfErr result (AllStop (F.known files.old) R.remaining (map string_bytes names.now) input.old input.new) }
+    ensures stopped { IfErr result (StopsInSources (F.known files.old) R.remaining (map string_bytes names.now) input.old input.new) }
 {
     let mut is_first = true;
     for name in names {
@@ -149,7 +149,7 @@ pub(crate) fn read_sources<'a, F: Files, R: Read>(
     requires new { (state.old.texts.items ≡ []) × (state.old.read_count ≡ 0) }
     ensures read { IfOk result (λ unopened. ReadsInput (F.known files.old) R.remaining (source_names (map string_bytes names.now)) input.old input.new (record { sources = sources_of state.new; unopened = option_map unopened_of unopened })) }
     ensures room { IfOk result (λ _. HasRoom state.new) }
-    ensures stopped { IfErr result (AllStop (F.known files.old) R.remaining (source_names (map string_bytes names.now)) input.old input.new) }
+    ensures stopped { IfErr result (StopsInSources (F.known files.old) R.remaining (source_names (map string_bytes names.now)) input.old input.new) }
 {
     if !names.is_empty() {
         return read_all(alloc, names, state, files, input);

@@ -1,4 +1,4 @@
-use Rattle.std.proofs.Common.{◌×◌, ◌+◌, ◌≤◌, length}
+use Rattle.std.proofs.Common.{◌+◌, ◌≤◌, length}
 use Rattle.pyver_core.proofs.Keeping.{KeepsFront, size_left}
 use Rattle.pyver_core.specs.SourceViews.{origin_of}
 use Rattle.pyver_core.proofs.version_line.VersionLines.push_source.Given as goal
