@@ -195,7 +195,7 @@ module _ {F R W E : Type 0} (known : F → List ℕ → KnownFile) (remaining : 
     where
       some_of : ReadsInput (known files) remaining names reader reader' k.input ⊎ (ReadsFront (known files) remaining names reader reader' k.input.sources × (k.input.unopened ≡ None)) → ReadsSome known remaining contents error_contents words files reader reader' k.input
       some_of (inl r) = inl (subst (λ n. ReadsInput (known files) remaining n reader reader' k.input) (sym same) r)
-      some_of (inr r) = inr (k.input.sources, inr (subst (λ n. ReadsFront (known files) remaining n reader reader' k.input.sources) (sym same) r.0), r.1, λ _. refl, λ whole. absurd (whole stream))
+      some_of (inr r) = inr (k.input.sources, inr (subst (λ n. ReadsFront (known files) remaining n reader reader' k.input.sources) (sym same) r.0), (r.1, λ _. refl, λ whole. absurd (whole stream)))
 
   pub whole_began : (asked : Question) (names : List (List ℕ)) (why : Stop) (told : E) → ¬ IsStream (task_of words) → names_of (task_of words) ≡ names → ((input : Input) (o : Outcome) → AnswersInput asked input o → IsOutcome (task_of words) input o)
       → WholeStops (known files) remaining contents error_contents asked names reader reader' out out' err told why → Began why told
@@ -211,7 +211,7 @@ module _ {F R W E : Type 0} (known : F → List ℕ → KnownFile) (remaining : 
     where
       some_of : ReadsUnused (known files) remaining contents error_contents names reader reader' k.input → ReadsSome known remaining contents error_contents words files reader reader' k.input
       some_of (inl r) = inl (subst (λ n. ReadsInput (known files) remaining n reader reader' k.input) (sym same) r)
-      some_of (inr (read, first, none, without)) = inr (read, subst (λ n. ReadsFirst (known files) remaining n reader reader' read) (sym same) first, none, λ stream. absurd (whole stream), λ _. without)
+      some_of (inr (read, first, none, without)) = inr (read, subst (λ n. ReadsFirst (known files) remaining n reader reader' read) (sym same) first, (none, λ stream. absurd (whole stream), λ _. without))
 
   -- a run stopped, and then the last message was written
   pub ends_by_stop : (why : Stop) (told : E) (message : List ℕ) → NeedsInput (task_of words) → Began why told → Reports why status message → WroteBeginning (error_contents told) (error_contents err') message
@@ -252,7 +252,7 @@ module _ {F R W E : Type 0} (known : F → List ℕ → KnownFile) (remaining : 
         let part = part_none (known files) remaining (names_of (task_of words)) first.0 first.1 reader first.2 in
         record {
           input = blank_input first.0;
-          read = inr (blank_source first.0 ∷ [], inr (subst (λ r. ReadsFront (known files) remaining (names_of (task_of words)) reader r (blank_source first.0 ∷ [])) (sym same) part), refl, λ _. refl, λ _. refl);
+          read = inr (blank_source first.0 ∷ [], inr (subst (λ r. ReadsFront (known files) remaining (names_of (task_of words)) reader r (blank_source first.0 ∷ [])) (sym same) part), (refl, λ _. refl, λ _. refl));
           outcome = o.0;
           is = o.1;
           output = record { written = []; left = o.0.output; wrote = subst (λ w. Appends (contents out) (contents w) []) (sym kept) (Appends-nil (contents out)); whole = refl };

@@ -1,4 +1,4 @@
-use Rattle.std.proofs.Common.{◌∙◌, refl, sym}
+use Rattle.std.proofs.Common.{◌∙◌, sym}
 use Rattle.pyver_core.proofs.SourceReads.{file_stopped, input_read, input_stopped, unopened_stopped}
 use Rattle.pyver_core.specs.SourceViews.{origin_of}
 use Rattle.pyver_core.specs.declared.stream.Stop.TheVariants as stop

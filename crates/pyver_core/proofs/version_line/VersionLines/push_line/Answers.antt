@@ -2,7 +2,7 @@ use Rattle.std.proofs.Common.{◌∙◌, refl, sym}
 use Rattle.pyver_core.proofs.Keeping.{keeps_blank, keeps_line, one_fault}
 use Rattle.pyver_core.specs.AnswerViews.{reading_of}
 use Rattle.pyver_core.specs.ReadLines.{Entry, Header}
-use Rattle.pyver_core.specs.SourceViews.{origin_line, origin_of}
+use Rattle.pyver_core.specs.SourceViews.{origin_of}
 use Rattle.pyver_core.proofs.version_line.VersionLines.push_line.Goals as goal
 
 pub returns-then-is_blank-clause-lines : goal.returns-then-is_blank-clause-lines

@@ -1,7 +1,7 @@
-use Rattle.std.proofs.Common.{◌≡◌, ◌+◌, ap, arith, length, map, subst, sym, take, take_all}
+use Rattle.std.proofs.Common.{◌≡◌, ◌+◌, ap, arith, length, map, subst, sym, take_all}
 use Rattle.pyver_core.proofs.Keeping.{lines_more, none_faults, size_front, size_more}
 use Rattle.pyver_core.specs.InputLines.{filled_lines}
-use Rattle.pyver_core.specs.SourceTexts.{size_of, source_of}
+use Rattle.pyver_core.specs.SourceTexts.{source_of}
 use Rattle.pyver_core.specs.VersionLineViews.{IsOfLines, KeepsLines}
 use Rattle.pyver_core.proofs.version_line.VersionLines.read.Goals as goal
 
