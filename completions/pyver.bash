@@ -16,6 +16,7 @@ _pyver() {
                 -k | --field | -d | --delimiter) ;;
                 *) words='--help -v --invert-match --pre --no-pre -k --field -d --delimiter --header --invalid' ;;
             esac
+            compopt -o default 2> /dev/null
             ;;
         *,sort)
             case $before in
@@ -23,6 +24,7 @@ _pyver() {
                 -n | --last | -k | --field | -d | --delimiter) ;;
                 *) words='--help -r --reverse -u --unique -n --last -k --field -d --delimiter --header --invalid' ;;
             esac
+            compopt -o default 2> /dev/null
             ;;
         *,newest)
             case $before in
@@ -30,6 +32,7 @@ _pyver() {
                 -k | --field | -d | --delimiter) ;;
                 *) words='--help --pre --no-pre -k --field -d --delimiter --header --invalid' ;;
             esac
+            compopt -o default 2> /dev/null
             ;;
         *,show)
             case $before in
@@ -49,7 +52,5 @@ _pyver() {
     while IFS= read -r word; do
         COMPREPLY+=("$word")
     done < <(compgen -W "$words" -- "$word")
-    # Names of files are words of what reads them.
-    [[ ${COMP_WORDS[1]} != filter ]] || compopt -o default 2> /dev/null
 }
 complete -F _pyver pyver

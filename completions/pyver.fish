@@ -21,7 +21,8 @@ complete -c pyver -n '__fish_seen_subcommand_from filter' -s d -l delimiter -x -
 complete -c pyver -n '__fish_seen_subcommand_from filter' -l header -d 'print the first line first, which is no version'
 complete -c pyver -n '__fish_seen_subcommand_from filter' -l invalid -x -a 'error skip keep' -d 'what is done with invalid lines'
 
-complete -c pyver -n __fish_use_subcommand -a sort -d 'the lines of standard input in the order of their versions'
+complete -c pyver -n __fish_use_subcommand -a sort -d 'the lines of files in the order of their versions'
+complete -c pyver -n '__fish_seen_subcommand_from sort' -F
 complete -c pyver -n '__fish_seen_subcommand_from sort' -s r -l reverse -d 'the newest first'
 complete -c pyver -n '__fish_seen_subcommand_from sort' -s u -l unique -d 'of lines of equal versions the first alone'
 complete -c pyver -n '__fish_seen_subcommand_from sort' -s n -l last -x -d 'the last lines alone'
@@ -31,6 +32,7 @@ complete -c pyver -n '__fish_seen_subcommand_from sort' -l header -d 'print the 
 complete -c pyver -n '__fish_seen_subcommand_from sort' -l invalid -x -a 'error skip keep' -d 'what is done with invalid lines'
 
 complete -c pyver -n __fish_use_subcommand -a newest -d 'the line of the newest version that the specifiers allow'
+complete -c pyver -n '__fish_seen_subcommand_from newest' -F
 complete -c pyver -n '__fish_seen_subcommand_from newest' -l pre -d 'allow pre-releases and dev releases as all others'
 complete -c pyver -n '__fish_seen_subcommand_from newest' -l no-pre -d 'allow no pre-releases and no dev releases'
 complete -c pyver -n '__fish_seen_subcommand_from newest' -s k -l field -x -d 'the field that is the version, from 1'

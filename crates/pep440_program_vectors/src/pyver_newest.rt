@@ -106,19 +106,19 @@ const NEWEST: [(&str, &[u8], &str, &str, u8); 27] = [
 const WRONG_NEWEST: [(&str, &str); 10] = [
     (
         "newest",
-        "pyver: usage: pyver newest [--pre | --no-pre] [-k N] [-d C] [--header] [--invalid HOW] SPECS\nTry 'pyver newest --help'.\n",
+        "pyver: usage: pyver newest [--pre | --no-pre] [-k N] [-d C] [--header] [--invalid HOW] SPECS [FILE..]\nTry 'pyver newest --help'.\n",
     ),
     (
-        "newest|>=1|versions.txt",
-        "pyver: usage: pyver newest [--pre | --no-pre] [-k N] [-d C] [--header] [--invalid HOW] SPECS\nTry 'pyver newest --help'.\n",
+        "newest|-d",
+        "pyver: usage: pyver newest [--pre | --no-pre] [-k N] [-d C] [--header] [--invalid HOW] SPECS [FILE..]\nTry 'pyver newest --help'.\n",
     ),
     (
         "newest|--pre",
-        "pyver: usage: pyver newest [--pre | --no-pre] [-k N] [-d C] [--header] [--invalid HOW] SPECS\nTry 'pyver newest --help'.\n",
+        "pyver: usage: pyver newest [--pre | --no-pre] [-k N] [-d C] [--header] [--invalid HOW] SPECS [FILE..]\nTry 'pyver newest --help'.\n",
     ),
     (
         "newest|-k",
-        "pyver: usage: pyver newest [--pre | --no-pre] [-k N] [-d C] [--header] [--invalid HOW] SPECS\nTry 'pyver newest --help'.\n",
+        "pyver: usage: pyver newest [--pre | --no-pre] [-k N] [-d C] [--header] [--invalid HOW] SPECS [FILE..]\nTry 'pyver newest --help'.\n",
     ),
     (
         "newest|--per|",

@@ -108,7 +108,7 @@ const SORTED: [(&str, &[u8], &str, &str, u8); 25] = [
         "sort|-n",
         b"",
         "",
-        "pyver: usage: pyver sort [-r] [-u] [-n K] [-k N] [-d C] [--header] [--invalid HOW]\nTry 'pyver sort --help'.\n",
+        "pyver: usage: pyver sort [-r] [-u] [-n K] [-k N] [-d C] [--header] [--invalid HOW] [FILE..]\nTry 'pyver sort --help'.\n",
         2,
     ),
     (
@@ -147,10 +147,10 @@ const SORTED: [(&str, &[u8], &str, &str, u8); 25] = [
         2,
     ),
     (
-        "sort|versions.txt",
+        "sort|-d",
         b"",
         "",
-        "pyver: usage: pyver sort [-r] [-u] [-n K] [-k N] [-d C] [--header] [--invalid HOW]\nTry 'pyver sort --help'.\n",
+        "pyver: usage: pyver sort [-r] [-u] [-n K] [-k N] [-d C] [--header] [--invalid HOW] [FILE..]\nTry 'pyver sort --help'.\n",
         2,
     ),
     (
@@ -240,7 +240,7 @@ const INVALID_LINES: [(&str, &[u8], &str, &str, u8); 13] = [
         "sort|--invalid",
         b"",
         "",
-        "pyver: usage: pyver sort [-r] [-u] [-n K] [-k N] [-d C] [--header] [--invalid HOW]\nTry 'pyver sort --help'.\n",
+        "pyver: usage: pyver sort [-r] [-u] [-n K] [-k N] [-d C] [--header] [--invalid HOW] [FILE..]\nTry 'pyver sort --help'.\n",
         2,
     ),
 ];
@@ -339,7 +339,7 @@ const SORTED_FIELDS: [(&str, &[u8], &str, &str, u8); 18] = [
         "sort|-k",
         b"",
         "",
-        "pyver: usage: pyver sort [-r] [-u] [-n K] [-k N] [-d C] [--header] [--invalid HOW]\nTry 'pyver sort --help'.\n",
+        "pyver: usage: pyver sort [-r] [-u] [-n K] [-k N] [-d C] [--header] [--invalid HOW] [FILE..]\nTry 'pyver sort --help'.\n",
         2,
     ),
     (

@@ -4,6 +4,7 @@ pub mod InputLines
 pub mod Filtering
 pub mod SourceFilters
 pub mod Keeping
+pub mod SourceReads
 pub mod Sorting
 pub mod Choosing
 pub mod Whole

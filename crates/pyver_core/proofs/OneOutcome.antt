@@ -25,9 +25,9 @@ use Rattle.pyver_core.specs.ReadLines.{Entry, Header, IsEntry, IsRead, LineReadi
 use Rattle.pyver_core.specs.Readings.{Reading, Reads, Denotes, Fails}
 use Rattle.pyver_core.specs.Shows.{Shows, ShowsWord, show_outcome}
 use Rattle.pyver_core.specs.Sorts.{SortsParts, sort_outcome}
-use Rattle.pyver_core.specs.Sources.{Input}
+use Rattle.pyver_core.specs.Sources.{Input, Unopened}
 use Rattle.pyver_core.specs.Tasks.{Help, NameVersion, Compare, Match, Filter, Sort, Newest, Show, Bump, Range, Misused}
-use Rattle.pyver_core.specs.VersionLines.{InputParts, OfFound, OfVersions, input_parts}
+use Rattle.pyver_core.specs.VersionLines.{InputParts, OfFound, OfSources, OfVersions, input_parts}
 use Rattle.pyver_core.specs.declared.allowed.MatchOptions.{MatchOptions}
 use Rattle.pyver_core.specs.declared.bump.BumpPart.{BumpPart}
 use Rattle.pyver_core.specs.declared.comparison.Comparison.{Comparison}
@@ -124,9 +124,14 @@ of_found_once how Gives once found a b (inl (none, h)) (inr (some, k)) = absurd 
 of_found_once how Gives once found a b (inr (some, h)) (inl (none, k)) = absurd (omega (arith, none, some))
 of_found_once how Gives once found a b (inr (some, is)) (inr (also, so)) = is ∙ sym so
 
-of_versions_once : (options : LineOptions) (Gives : InputParts → Outcome → Type 0) → ((parts : InputParts) (a b : Outcome) → Gives parts a → Gives parts b → a ≡ b) → (sources : List Source) (a b : Outcome) → OfVersions options Gives sources a → OfVersions options Gives sources b → a ≡ b
-of_versions_once options Gives once sources a b (es, h, is) (fs, k, so) =
+of_sources_once : (options : LineOptions) (Gives : InputParts → Outcome → Type 0) → ((parts : InputParts) (a b : Outcome) → Gives parts a → Gives parts b → a ≡ b) → (sources : List Source) (unopened : Option Unopened) (a b : Outcome)
+    → OfSources options Gives sources unopened a → OfSources options Gives sources unopened b → a ≡ b
+of_sources_once options Gives once sources None a b (es, h, is) (fs, k, so) =
     of_found_once options.invalid Gives once es a b is (subst (λ (l : List ReadLine). OfFound options.invalid Gives l b) (sym (all_once (IsRead options) (is_read_once options) (filled_lines sources) es fs h k)) so)
+of_sources_once options Gives once sources (Some file) a b is so = is ∙ sym so
+
+of_versions_once : (options : LineOptions) (Gives : InputParts → Outcome → Type 0) → ((parts : InputParts) (a b : Outcome) → Gives parts a → Gives parts b → a ≡ b) → (input : Input) (a b : Outcome) → OfVersions options Gives input a → OfVersions options Gives input b → a ≡ b
+of_versions_once options Gives once input a b h k = of_sources_once options Gives once input.sources input.unopened a b h k
 
 sort_once : (options : SortOptions) (parts : InputParts) (a b : Outcome) → SortsParts options parts a → SortsParts options parts b → a ≡ b
 sort_once options parts a b (xs, h, is) (ys, k, so) = is ∙ ap (sort_outcome options parts) (one_sorted options.reversed parts.versions xs ys h k) ∙ sym so
@@ -134,12 +139,12 @@ sort_once options parts a b (xs, h, is) (ys, k, so) = is ∙ ap (sort_outcome op
 finds_once : (rule : NewestRule) (parts : InputParts) (a b : Outcome) → FindsNewest rule parts a → FindsNewest rule parts b → a ≡ b
 finds_once rule parts a b (x, h, is) (y, k, so) = is ∙ ap (newest_outcome parts.messages) (one_newest (candidates rule parts.versions) x y h k) ∙ sym so
 
-newest_by_once : (options : NewestOptions) (x : SpecifiersReading) (sources : List Source) (a b : Outcome) → FindsNewestBy options x sources a → FindsNewestBy options x sources b → a ≡ b
-newest_by_once options (DenotesList list) sources a b h k = let rule = newest_rule options list in of_versions_once options.lines (FindsNewest rule) (finds_once rule) sources a b h k
-newest_by_once options (ListFails message) sources a b h k = h ∙ sym k
+newest_by_once : (options : NewestOptions) (x : SpecifiersReading) (input : Input) (a b : Outcome) → FindsNewestBy options x input a → FindsNewestBy options x input b → a ≡ b
+newest_by_once options (DenotesList list) input a b h k = let rule = newest_rule options list in of_versions_once options.lines (FindsNewest rule) (finds_once rule) input a b h k
+newest_by_once options (ListFails message) input a b h k = h ∙ sym k
 
-newest_once : (options : NewestOptions) (specifiers : List ℕ) (sources : List Source) (a b : Outcome) → FindsNewestLine options specifiers sources a → FindsNewestLine options specifiers sources b → a ≡ b
-newest_once options specifiers sources a b (x, hx, h) (u, hu, k) = newest_by_once options x sources a b h (subst (λ (z : SpecifiersReading). FindsNewestBy options z sources b) (sym (specifiers_once specifiers x u hx hu)) k)
+newest_once : (options : NewestOptions) (specifiers : List ℕ) (input : Input) (a b : Outcome) → FindsNewestLine options specifiers input a → FindsNewestLine options specifiers input b → a ≡ b
+newest_once options specifiers input a b (x, hx, h) (u, hu, k) = newest_by_once options x input a b h (subst (λ (z : SpecifiersReading). FindsNewestBy options z input b) (sym (specifiers_once specifiers x u hx hu)) k)
 
 show_word_once : (format : ShowFormat) (word : List ℕ) (a b : Outcome) → ShowsWord format word a → ShowsWord format word b → a ≡ b
 show_word_once format word a b (x, hx, is) (u, hu, so) = is ∙ ap (show_outcome format word) (reading_once word x u hx hu) ∙ sym so
@@ -162,8 +167,8 @@ outcomes_once NameVersion input a b h k = h ∙ sym k
 outcomes_once (Compare left operator right) input a b h k = compare_once left operator right a b h k
 outcomes_once (Match options specifiers words) input a b h k = match_once options specifiers words a b h k
 outcomes_once (Filter options specifiers names) input a b h k = filter_once options specifiers input a b h k
-outcomes_once (Sort options) input a b h k = of_versions_once options.lines (SortsParts options) (sort_once options) input.sources a b h k
-outcomes_once (Newest options specifiers) input a b h k = newest_once options specifiers input.sources a b h k
+outcomes_once (Sort options names) input a b h k = of_versions_once options.lines (SortsParts options) (sort_once options) input a b h k
+outcomes_once (Newest options specifiers names) input a b h k = newest_once options specifiers input a b h k
 outcomes_once (Show format words) input a b h k = show_once format words a b h k
 outcomes_once (Bump to parts word) input a b h k = bump_once to parts word a b h k
 outcomes_once (Range options words) input a b h k = common_once options words a b h k

@@ -1,20 +1,20 @@
 -- How runs end, by what they wrote.
 use Rattle.std.proofs.Common.{◌≡◌, ◌⊎◌, ◌∙◌, ◌≤◌, ℕ, List, [], ◌∷◌, ◌++◌, Bool, true, false, Option, None, Some, inl, inr, length, refl, sym, ap, subst, arith, append_assoc, append-nil}
 use Rattle.std.proofs.KnownBytes.{Appends-nil, Appends-trans, Consumes-nil}
-use Rattle.std.specs.Io.KnownBytes.{Appends, Consumes, IsAtEnd}
+use Rattle.std.specs.Io.KnownBytes.{Appends}
 use Rattle.pyver_core.proofs.InputLines.{some_line}
-use Rattle.pyver_core.proofs.Whole.{no_lines}
+use Rattle.pyver_core.proofs.Whole.{unused}
 use Rattle.pyver_core.specs.FilterSteps.{FilterFinishes, FilterStops}
 use Rattle.pyver_core.specs.Filters.{Filters, filter_outcome, rule_of}
-use Rattle.pyver_core.specs.InputLines.{Source, filled_lines, input_lines}
+use Rattle.pyver_core.specs.InputLines.{Source, input_lines}
 use Rattle.pyver_core.specs.Matches.{DenotesList}
 use Rattle.pyver_core.specs.Newest.{newest_rule}
 use Rattle.pyver_core.specs.Outcomes.{Outcome}
 use Rattle.pyver_core.specs.Runs.{Ends, IsLast, IsReadMessage, ReadsSome, WritesAnswer, WroteBeginning, memory_message}
 use Rattle.pyver_core.specs.SourceViews.{IsStopOf, Reports}
-use Rattle.pyver_core.specs.Sources.{Input, KnownFile, ReadsInput, ReadsFront, ReadsText, input_name, input_origin, is_input, known_bytes, last_name, no_input, of_input, source_names}
+use Rattle.pyver_core.specs.Sources.{Input, KnownFile, ReadsFirst, ReadsInput, ReadsFront, ReadsText, input_name, is_input, known_bytes, last_name, no_input, source_names}
 use Rattle.pyver_core.specs.Tasks.{Bump, Compare, Filter, Help, IsOutcome, IsStream, Match, Misused, NameVersion, NeedsInput, Newest, Range, Show, Sort, Task, names_of, task_of}
-use Rattle.pyver_core.specs.WholeInputs.{AnswersInput, WholeFinishes, WholeStops}
+use Rattle.pyver_core.specs.WholeInputs.{AnswersInput, ReadsUnused, WholeFinishes, WholeStops}
 use Rattle.pyver_core.specs.declared.filter.FilterRule.{FilterRule}
 use Rattle.pyver_core.specs.declared.stream.Stop.{Stop}
 use Rattle.pyver_core.specs.declared.stream.Stop.TheVariants as stop
@@ -35,8 +35,8 @@ first_outcome NameVersion n name = absurd n
 first_outcome (Compare left operator right) n name = absurd n
 first_outcome (Match options specifiers words) n name = absurd n
 first_outcome (Filter options specifiers names) n name = (filter_outcome (rule_of options n.0) [] None, (DenotesList n.0, n.1, ([], tt, refl)))
-first_outcome (Sort options) n name = no_lines (question.Sort options)
-first_outcome (Newest options specifiers) n name = let k = no_lines (question.Newest (newest_rule options n.0)) in (k.0, (DenotesList n.0, n.1, k.1))
+first_outcome (Sort options names) n name = unused (question.Sort options) (blank_source name ∷ [])
+first_outcome (Newest options specifiers names) n name = let k = unused (question.Newest (newest_rule options n.0)) (blank_source name ∷ []) in (k.0, (DenotesList n.0, n.1, k.1))
 first_outcome (Show asked words) n name = absurd n
 first_outcome (Bump to parts word) n name = absurd n
 first_outcome (Range options words) n name = absurd n
@@ -53,8 +53,8 @@ first_source NameVersion n = absurd n
 first_source (Compare left operator right) n = absurd n
 first_source (Match options specifiers words) n = absurd n
 first_source (Filter options specifiers names) n = some_source names
-first_source (Sort options) n = some_source []
-first_source (Newest options specifiers) n = some_source []
+first_source (Sort options names) n = some_source names
+first_source (Newest options specifiers names) n = some_source names
 first_source (Show asked words) n = absurd n
 first_source (Bump to parts word) n = absurd n
 first_source (Range options words) n = absurd n
@@ -165,21 +165,11 @@ module _ {F R W E : Type 0} (known : F → List ℕ → KnownFile) (remaining : 
   ends_by_filter rule names needs same is low k =
       ends_by_all k.input k.outcome needs low (subst (λ n. ReadsInput (known files) remaining n reader reader' k.input) (sym same) k.reads) (is k.input k.outcome k.is) k.output k.errors k.ended
 
-  -- standard input was read
-  input_reads : (read : List ℕ) → Consumes (remaining reader) (remaining reader') read → IsAtEnd (remaining reader') → names_of (task_of words) ≡ source_names []
-      → ReadsInput (known files) remaining (names_of (task_of words)) reader reader' (record { sources = of_input (input_lines read); unopened = None })
-  input_reads read consumed end same = subst (λ n. ReadsInput (known files) remaining n reader reader' (record { sources = of_input (input_lines read); unopened = None })) (sym same) (record {
-    read = source_names [];
-    left = [];
-    split = refl;
-    sources = (reader', record { origin = input_origin; lines = input_lines read }, [], record { text = read; left = remaining reader'; reads = (consumed, refl); end = end; is = refl }, (refl, refl), refl);
-    ends = tt;
-  })
-
-  pub ends_by_whole : (asked : Question) → NeedsInput (task_of words) → names_of (task_of words) ≡ source_names [] → ((input : Input) (o : Outcome) → AnswersInput asked input.sources o → IsOutcome (task_of words) input o) → status ≤ 2
-      → WholeFinishes remaining contents error_contents asked reader reader' out out' err err' status → Ends known remaining contents error_contents words files files' reader reader' out out' err err' status
-  ends_by_whole asked needs same is low k =
-      ends_by_all (record { sources = of_input (input_lines k.read); unopened = None }) k.outcome needs low (input_reads k.read k.consumed k.end same) (is (record { sources = of_input (input_lines k.read); unopened = None }) k.outcome k.is) k.output k.errors k.ended
+  -- all sources were read before anything was written
+  pub ends_by_whole : (asked : Question) (names : List (List ℕ)) → NeedsInput (task_of words) → names_of (task_of words) ≡ names → ((input : Input) (o : Outcome) → AnswersInput asked input o → IsOutcome (task_of words) input o)
+      → status ≤ 2 → WholeFinishes (known files) remaining contents error_contents asked names reader reader' out out' err err' status → Ends known remaining contents error_contents words files files' reader reader' out out' err err' status
+  ends_by_whole asked names needs same is low k =
+      ends_by_all k.input k.outcome needs low (subst (λ n. ReadsInput (known files) remaining n reader reader' k.input) (sym same) k.reads) (is k.input k.outcome k.is) k.output k.errors k.ended
 
   -- what was read and written before the last message
   pub record Began (why : Stop) (told : E) : Type 0 where
@@ -205,43 +195,23 @@ module _ {F R W E : Type 0} (known : F → List ℕ → KnownFile) (remaining : 
     where
       some_of : ReadsInput (known files) remaining names reader reader' k.input ⊎ (ReadsFront (known files) remaining names reader reader' k.input.sources × (k.input.unopened ≡ None)) → ReadsSome known remaining contents error_contents words files reader reader' k.input
       some_of (inl r) = inl (subst (λ n. ReadsInput (known files) remaining n reader reader' k.input) (sym same) r)
-      some_of (inr r) = inr (subst (λ n. ReadsFront (known files) remaining n reader reader' k.input.sources) (sym same) r.0, r.1, λ no_stream. absurd (no_stream stream))
+      some_of (inr r) = inr (k.input.sources, inr (subst (λ n. ReadsFront (known files) remaining n reader reader' k.input.sources) (sym same) r.0), (r.1, λ _. refl, λ whole. absurd (whole stream)))
 
-  -- of standard input, all was read, or no line was used
-  input_some : (read : List ℕ) (front rest : List (List ℕ)) → Consumes (remaining reader) (remaining reader') read → input_lines read ≡ front ++ rest → (rest ≡ [] → IsAtEnd (remaining reader')) → (¬ (rest ≡ []) → front ≡ []) → names_of (task_of words) ≡ source_names []
-      → ReadsSome known remaining contents error_contents words files reader reader' (record { sources = of_input front; unopened = None })
-  input_some read front [] consumed split whole silent same =
-      inl (subst (λ l. ReadsInput (known files) remaining (names_of (task_of words)) reader reader' (record { sources = of_input l; unopened = None })) (split ∙ append-nil front) (input_reads read consumed (whole refl) same))
-  input_some read front (line ∷ rest) consumed split whole silent same =
-      let none : front ≡ [] = silent (λ e. absurd (omega (arith, ap length e))) in
-      inr (
-        subst (λ n. ReadsFront (known files) remaining n reader reader' (of_input front)) (sym same) (record {
-          read = [];
-          name = input_name;
-          left = [];
-          split = refl;
-          middle = reader;
-          before = [];
-          whole = (refl, refl);
-          part = record { origin = input_origin; lines = front };
-          lines = record { text = read; left = remaining reader'; reads = (consumed, refl); rest = line ∷ rest; split = split; whole = whole; is = refl };
-          are = refl;
-        }),
-        refl,
-        λ _. ap (λ l. filled_lines (of_input l)) none,
-      )
-
-  pub whole_began : (asked : Question) (why : Stop) (told : E) → names_of (task_of words) ≡ source_names [] → ((input : Input) (o : Outcome) → AnswersInput asked input.sources o → IsOutcome (task_of words) input o) → IsStopOf (Some input_name) why
-      → WholeStops remaining contents error_contents asked reader reader' out out' err told → Began why told
-  whole_began asked why told same is stops k = record {
-    input = record { sources = of_input k.front; unopened = None };
-    read = input_some k.read k.front k.rest k.consumed k.split k.whole k.silent same;
+  pub whole_began : (asked : Question) (names : List (List ℕ)) (why : Stop) (told : E) → ¬ IsStream (task_of words) → names_of (task_of words) ≡ names → ((input : Input) (o : Outcome) → AnswersInput asked input o → IsOutcome (task_of words) input o)
+      → WholeStops (known files) remaining contents error_contents asked names reader reader' out out' err told why → Began why told
+  whole_began asked names why told whole same is k = record {
+    input = k.input;
+    read = some_of k.reads;
     outcome = k.outcome;
-    is = is (record { sources = of_input k.front; unopened = None }) k.outcome k.is;
+    is = is k.input k.outcome k.is;
     output = k.output;
     errors = k.errors;
-    stops = stops;
+    stops = k.stops;
   }
+    where
+      some_of : ReadsUnused (known files) remaining contents error_contents names reader reader' k.input → ReadsSome known remaining contents error_contents words files reader reader' k.input
+      some_of (inl r) = inl (subst (λ n. ReadsInput (known files) remaining n reader reader' k.input) (sym same) r)
+      some_of (inr (read, first, none, without)) = inr (read, subst (λ n. ReadsFirst (known files) remaining n reader reader' read) (sym same) first, (none, λ stream. absurd (whole stream), λ _. without))
 
   -- a run stopped, and then the last message was written
   pub ends_by_stop : (why : Stop) (told : E) (message : List ℕ) → NeedsInput (task_of words) → Began why told → Reports why status message → WroteBeginning (error_contents told) (error_contents err') message
@@ -282,7 +252,7 @@ module _ {F R W E : Type 0} (known : F → List ℕ → KnownFile) (remaining : 
         let part = part_none (known files) remaining (names_of (task_of words)) first.0 first.1 reader first.2 in
         record {
           input = blank_input first.0;
-          read = inr (subst (λ r. ReadsFront (known files) remaining (names_of (task_of words)) reader r (blank_source first.0 ∷ [])) (sym same) part, refl, λ _. refl);
+          read = inr (blank_source first.0 ∷ [], inr (subst (λ r. ReadsFront (known files) remaining (names_of (task_of words)) reader r (blank_source first.0 ∷ [])) (sym same) part), (refl, λ _. refl, λ _. refl));
           outcome = o.0;
           is = o.1;
           output = record { written = []; left = o.0.output; wrote = subst (λ w. Appends (contents out) (contents w) []) (sym kept) (Appends-nil (contents out)); whole = refl };

@@ -21,7 +21,7 @@ use Rattle.pyver_core.specs.declared.open_failure.OpenFailure.{OpenFailure}
 use Rattle.pyver_core.specs.declared.stream.Stop.{Stop}
 
 -- what is known of a file that was opened
-opened_consumes : (known : KnownFile) (left left' : Option (List ℕ)) (text : List ℕ) → MayOpen known left → Consumes left left' text → Consumes (known_bytes known) left' text
+pub opened_consumes : (known : KnownFile) (left left' : Option (List ℕ)) (text : List ℕ) → MayOpen known left → Consumes left left' text → Consumes (known_bytes known) left' text
 opened_consumes Unknown left left' text o k = tt
 opened_consumes (Holds bytes) left left' text o k = subst (λ l. Consumes l left' text) o k
 opened_consumes (Fails why) left left' text o k = absurd o
@@ -142,7 +142,7 @@ module _ {R W E : Type 0} (files : List ℕ → KnownFile) (remaining : R → Op
 
 -- ---- one source after another
 
-module _ {R W E : Type 0} (files : List ℕ → KnownFile) (remaining : R → Option (List ℕ)) (contents : W → Option (List ℕ)) (error_contents : E → Option (List ℕ)) where
+module _ {R : Type 0} (files : List ℕ → KnownFile) (remaining : R → Option (List ℕ)) where
   reads_more : (first : Bool) (name : List ℕ) (names : List (List ℕ)) (reader middle reader' : R) (sources : List Source) (next : List ℕ) (source : Source) → ReadsAll files remaining first (name ∷ names) reader middle sources
       → ReadsSource files remaining (record { is_first = false; name = next }) middle reader' source → ReadsAll files remaining first (name ∷ (names ++ next ∷ [])) reader reader' (sources ++ source ∷ [])
   reads_more first name [] reader middle reader' sources next source (m, s, rest, r, (e, n), is) q =
@@ -150,12 +150,13 @@ module _ {R W E : Type 0} (files : List ℕ → KnownFile) (remaining : R → Op
   reads_more first name (n ∷ ns) reader middle reader' sources next source (m, s, rest, r, k, is) q =
       (m, s, rest ++ source ∷ [], r, reads_more false n ns m middle reader' rest next source k q, ap (λ l. l ++ source ∷ []) is)
 
-  reads_last : (names : List (List ℕ)) (reader middle reader' : R) (sources : List Source) (next : List ℕ) (source : Source) → ReadsAll files remaining true names reader middle sources
+  pub reads_last : (names : List (List ℕ)) (reader middle reader' : R) (sources : List Source) (next : List ℕ) (source : Source) → ReadsAll files remaining true names reader middle sources
       → ReadsSource files remaining (record { is_first = is_none names; name = next }) middle reader' source → ReadsAll files remaining true (names ++ next ∷ []) reader reader' (sources ++ source ∷ [])
   reads_last [] reader middle reader' sources next source (e, n) q =
       (reader', source, [], subst (λ x. ReadsSource files remaining (record { is_first = true; name = next }) x reader' source) e q, (refl, refl), ap (λ l. l ++ source ∷ []) n)
   reads_last (name ∷ names) reader middle reader' sources next source k q = reads_more true name names reader middle reader' sources next source k q
 
+module _ {R W E : Type 0} (files : List ℕ → KnownFile) (remaining : R → Option (List ℕ)) (contents : W → Option (List ℕ)) (error_contents : E → Option (List ℕ)) where
   -- the sources with these names were read, and all that they ask for was written
   pub record GoesOn (rule : FilterRule) (read : List (List ℕ)) (b : FilterState) (reader reader' : R) (out out' : W) (err err' : E) : Type 0 where
     pub sources : List Source
@@ -186,7 +187,7 @@ module _ {R W E : Type 0} (files : List ℕ → KnownFile) (remaining : R → Op
         let limit = message_limit rule.lines.invalid in
         record {
           sources = k.sources ++ m.source ∷ [];
-          reads = reads_last read reader reader' reader'' k.sources next m.source k.reads m.reads;
+          reads = reads_last files remaining read reader reader' reader'' k.sources next m.source k.reads m.reads;
           wrote = record {
             found = w.found ++ n.found;
             are = subst (λ l. AllZip (IsRead rule.lines) l (w.found ++ n.found)) (sym (filled_lines-last k.sources m.source)) (all_append (IsRead rule.lines) _ w.found _ n.found w.are n.are);

@@ -1,21 +1,24 @@
--- Answers to questions of the whole input.
-use Rattle.std.proofs.Common.{◌≡◌, ℕ, List, [], Option, None, inl, refl, sym, append-nil}
+-- Answers to questions of all sources.
+use Rattle.std.proofs.Common.{◌≡◌, ◌⊎◌, ◌∙◌, ℕ, List, [], ◌∷◌, Option, None, Some, inl, inr, refl, sym, subst}
 use Rattle.std.proofs.KnownBytes.{Appends-nil}
-use Rattle.std.specs.Io.KnownBytes.{Consumes, IsAtEnd}
+use Rattle.std.specs.List.{AllZip}
 use Rattle.pyver_core.proofs.Choosing.{or_none}
-use Rattle.pyver_core.proofs.InputLines.{some_line}
 use Rattle.pyver_core.proofs.Sorting.{none_sorted}
-use Rattle.pyver_core.specs.InputLines.{input_lines}
+use Rattle.pyver_core.specs.InputLines.{Source, filled_lines}
 use Rattle.pyver_core.specs.InvalidLines.{lines_status}
 use Rattle.pyver_core.specs.Newest.{newest_outcome}
 use Rattle.pyver_core.specs.Outcomes.{Outcome}
+use Rattle.pyver_core.specs.ReadLines.{IsRead}
 use Rattle.pyver_core.specs.Runs.{WroteBeginning}
 use Rattle.pyver_core.specs.Sorts.{sort_outcome}
-use Rattle.pyver_core.specs.Sources.{of_input}
-use Rattle.pyver_core.specs.VersionLines.{line_messages, input_parts}
+use Rattle.pyver_core.specs.SourceViews.{IsStopOf}
+use Rattle.pyver_core.specs.Sources.{Input, KnownFile, ReadsFirst, ReadsInput, Unopened, last_name, without_lines}
+use Rattle.pyver_core.specs.VersionLines.{line_messages, input_parts, unopened_outcome}
 use Rattle.pyver_core.specs.WholeInputs.{AnswersInput, WholeStops}
 use Rattle.pyver_core.specs.declared.invalid_lines.InvalidLines.{InvalidLines}
 use Rattle.pyver_core.specs.declared.invalid_lines.InvalidLines.TheVariants as invalid
+use Rattle.pyver_core.specs.declared.line_options.LineOptions.{LineOptions}
+use Rattle.pyver_core.specs.declared.stream.Stop.{Stop}
 use Rattle.pyver_core.specs.declared.whole_input.Question.{Question}
 use Rattle.pyver_core.specs.declared.whole_input.Question.TheVariants as question
 
@@ -25,41 +28,58 @@ none_invalid invalid.Error = refl
 none_invalid invalid.Skip = refl
 none_invalid invalid.Keep = refl
 
--- there is an answer where there are no lines
-pub no_lines : (asked : Question) → (o : Outcome) × AnswersInput asked (of_input []) o
-no_lines (question.Sort options) = let how = options.lines.invalid in (sort_outcome options (input_parts how []) [], ([], tt, inl (none_invalid how, ([], none_sorted options.reversed, refl))))
-no_lines (question.Newest rule) = let how = rule.lines.invalid in (newest_outcome (line_messages how []) None, ([], tt, inl (none_invalid how, (None, or_none rule.prereleases, refl))))
+none_filled : (sources : List Source) → filled_lines (without_lines sources) ≡ []
+none_filled [] = refl
+none_filled (source ∷ sources) = none_filled sources
 
-module _ {R W E : Type 0} (remaining : R → Option (List ℕ)) (contents : W → Option (List ℕ)) (error_contents : E → Option (List ℕ)) (asked : Question) (reader reader' : R) (out out' : W) (err err' : E) where
-  -- nothing was written
-  pub stops_silent : (read : List ℕ) → Consumes (remaining reader) (remaining reader') read → WholeStops remaining contents error_contents asked reader reader' out out err err
-  stops_silent read consumed = let none = no_lines asked in record {
-    read = read;
-    consumed = consumed;
-    front = [];
-    rest = input_lines read;
-    split = refl;
-    whole = λ e. absurd (some_line read e);
-    silent = λ _. refl;
+none_read : (options : LineOptions) (sources : List Source) → AllZip (IsRead options) (filled_lines (without_lines sources)) []
+none_read options sources = subst (λ l. AllZip (IsRead options) l []) (sym (none_filled sources)) tt
+
+last_without : (sources : List Source) → last_name (without_lines sources) ≡ last_name sources
+last_without [] = refl
+last_without (source ∷ []) = refl
+last_without (source ∷ (next ∷ rest)) = last_without (next ∷ rest)
+
+-- there is an answer where no line is used
+pub unused : (asked : Question) (sources : List Source) → (o : Outcome) × AnswersInput asked (record { sources = without_lines sources; unopened = None }) o
+unused (question.Sort options) sources =
+    let how = options.lines.invalid in (sort_outcome options (input_parts how []) [], ([], none_read options.lines sources, inl (none_invalid how, ([], none_sorted options.reversed, refl))))
+unused (question.Newest rule) sources =
+    let how = rule.lines.invalid in (newest_outcome (line_messages how []) None, ([], none_read rule.lines sources, inl (none_invalid how, (None, or_none rule.prereleases, refl))))
+
+-- nothing of this was written
+wrote_nothing : (old : Option (List ℕ)) (all : List ℕ) → WroteBeginning old old all
+wrote_nothing old all = record { written = []; left = all; wrote = Appends-nil old; whole = refl }
+
+module _ {R W E : Type 0} (files : List ℕ → KnownFile) (remaining : R → Option (List ℕ)) (contents : W → Option (List ℕ)) (error_contents : E → Option (List ℕ)) (asked : Question) (names : List (List ℕ)) (reader reader' : R) (out out' : W) (err err' : E) (stop : Stop) where
+  -- nothing was written, and no line was used
+  pub stops_unused : (sources : List Source) → ReadsFirst files remaining names reader reader' sources → IsStopOf (last_name sources) stop → WholeStops files remaining contents error_contents asked names reader reader' out out err err stop
+  stops_unused sources reads stops = let none = unused asked sources in record {
+    input = record { sources = without_lines sources; unopened = None };
+    reads = inr (sources, reads, refl, refl);
     outcome = none.0;
     is = none.1;
-    output = record { written = []; left = none.0.output; wrote = Appends-nil (contents out); whole = refl };
-    errors = record { written = []; left = none.0.errors; wrote = Appends-nil (error_contents err); whole = refl };
+    output = wrote_nothing (contents out) none.0.output;
+    errors = wrote_nothing (error_contents err) none.0.errors;
+    stops = subst (λ l. IsStopOf l stop) (sym (last_without sources)) stops;
+  }
+
+  -- nothing was written after all was read
+  pub stops_silent : (sources : List Source) (unopened : Option Unopened) → ReadsInput files remaining names reader reader' (record { sources = sources; unopened = unopened }) → IsStopOf (last_name sources) stop
+      → WholeStops files remaining contents error_contents asked names reader reader' out out err err stop
+  stops_silent sources None reads stops = stops_unused sources (inl reads) stops
+  stops_silent sources (Some file) reads stops = record {
+    input = record { sources = sources; unopened = Some file };
+    reads = inl reads;
+    outcome = unopened_outcome file;
+    is = refl;
+    output = wrote_nothing (contents out) [];
+    errors = wrote_nothing (error_contents err) (unopened_outcome file).errors;
+    stops = stops;
   }
 
   -- a beginning was written
-  pub stops_written : (read : List ℕ) (o : Outcome) → Consumes (remaining reader) (remaining reader') read → IsAtEnd (remaining reader') → AnswersInput asked (of_input (input_lines read)) o
-      → WroteBeginning (contents out) (contents out') o.output → WroteBeginning (error_contents err) (error_contents err') o.errors → WholeStops remaining contents error_contents asked reader reader' out out' err err'
-  stops_written read o consumed end is output errors = record {
-    read = read;
-    consumed = consumed;
-    front = input_lines read;
-    rest = [];
-    split = sym (append-nil (input_lines read));
-    whole = λ _. end;
-    silent = λ some. absurd (some refl);
-    outcome = o;
-    is = is;
-    output = output;
-    errors = errors;
-  }
+  pub stops_written : (input : Input) (o : Outcome) → ReadsInput files remaining names reader reader' input → AnswersInput asked input o
+      → WroteBeginning (contents out) (contents out') o.output → WroteBeginning (error_contents err) (error_contents err') o.errors → IsStopOf (last_name input.sources) stop
+      → WholeStops files remaining contents error_contents asked names reader reader' out out' err err' stop
+  stops_written input o reads is output errors stops = record { input = input; reads = inl reads; outcome = o; is = is; output = output; errors = errors; stops = stops }

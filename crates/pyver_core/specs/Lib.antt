@@ -30,6 +30,7 @@ pub mod Tasks
 pub mod TaskViews
 pub mod Runs
 pub mod SourceViews
+pub mod SourceTexts
 pub mod FilterSteps
 pub mod VersionLineViews
 pub mod WholeInputs

@@ -4,10 +4,10 @@ use Rattle.std.specs.List.{All, filter}
 use Rattle.std.specs.Ordering.{is_le, is_lt}
 use Rattle.pep440_rs.specs.Specifiers.{Spec}
 use Rattle.pep440_version.specs.Key.{record_cmp}
-use Rattle.pyver_core.specs.InputLines.{Source}
 use Rattle.pyver_core.specs.Matches.{DenotesList, ListFails, ReadsSpecifiers, SpecifiersReading, list_fault}
 use Rattle.pyver_core.specs.Outcomes.{Outcome, followed_by, no_outcome}
 use Rattle.pyver_core.specs.Prereleases.{allows, takes_prereleases}
+use Rattle.pyver_core.specs.Sources.{Input}
 use Rattle.pyver_core.specs.VersionLines.{InputParts, OfVersions, VersionLine}
 use Rattle.pyver_core.specs.declared.newest.NewestOptions.{NewestOptions}
 use Rattle.pyver_core.specs.declared.newest.NewestRule.{NewestRule}
@@ -56,10 +56,10 @@ abbrev pub newest_rule : NewestOptions → List Spec → NewestRule
 newest_rule options list = record { prereleases = options.prereleases; lines = options.lines; list = list }
 
 -- what is written of the lines by a valid list, or the error of an invalid one
-abbrev pub FindsNewestBy : NewestOptions → SpecifiersReading → List Source → Outcome → Type 0
-FindsNewestBy options (DenotesList list) sources o = OfVersions options.lines (FindsNewest (newest_rule options list)) sources o
-FindsNewestBy options (ListFails message) sources o = o ≡ followed_by no_outcome (list_fault message)
+abbrev pub FindsNewestBy : NewestOptions → SpecifiersReading → Input → Outcome → Type 0
+FindsNewestBy options (DenotesList list) input o = OfVersions options.lines (FindsNewest (newest_rule options list)) input o
+FindsNewestBy options (ListFails message) input o = o ≡ followed_by no_outcome (list_fault message)
 
 -- what is written of the lines of the sources: SPECS is parsed, and then the lines
-abbrev pub FindsNewestLine : NewestOptions → List ℕ → List Source → Outcome → Type 0
-FindsNewestLine options specifiers sources o = (x : SpecifiersReading) × ReadsSpecifiers specifiers x × FindsNewestBy options x sources o
+abbrev pub FindsNewestLine : NewestOptions → List ℕ → Input → Outcome → Type 0
+FindsNewestLine options specifiers input o = (x : SpecifiersReading) × ReadsSpecifiers specifiers x × FindsNewestBy options x input o

@@ -2,10 +2,10 @@
 -- `contents` and `error_contents` those that the writers hold.
 use Rattle.std.specs.Prelude.{◌≡◌, ◌⊎◌, ◌≤◌, ℕ, List, [], ◌++◌, Option, None, Some, codes}
 use Rattle.std.specs.Io.KnownBytes.{Appends}
-use Rattle.pyver_core.specs.InputLines.{filled_lines}
+use Rattle.pyver_core.specs.InputLines.{Source}
 use Rattle.pyver_core.specs.Outcomes.{Outcome}
-use Rattle.pyver_core.specs.Sources.{Input, KnownFile, ReadsInput, ReadsFront, last_name, no_input, read_message}
-use Rattle.pyver_core.specs.Tasks.{IsOutcome, IsStream, NeedsInput, names_of, task_of}
+use Rattle.pyver_core.specs.Sources.{Input, KnownFile, ReadsFirst, ReadsInput, last_name, no_input, read_message, without_lines}
+use Rattle.pyver_core.specs.Tasks.{IsOutcome, IsStream, NeedsInput, Task, names_of, task_of}
 
 -- a prefix of `all` was written, which may be empty or the whole
 pub record WroteBeginning (old new : Option (List ℕ)) (all : List ℕ) : Type 0 where
@@ -34,6 +34,11 @@ IsWriteFailure status message = ((status ≡ 4) × ((message ≡ write_message) 
 -- the last message of a run that stopped early, by its status, where the last source has this name
 abbrev pub IsLast : Option (List ℕ) → ℕ → List ℕ → Type 0
 IsLast last status message = ((status ≡ 3) × (message ≡ memory_message)) ⊎ (((status ≡ 4) × IsReadMessage last message) ⊎ IsWriteFailure status message)
+
+-- of these sources a command that prints lines as they come used these; one that prints nothing before the end of all sources has
+-- used no line
+abbrev pub Uses : Task → List Source → Input → Type 0
+Uses task read input = (input.unopened ≡ None) × (IsStream task → input.sources ≡ read) × (¬ IsStream task → input.sources ≡ without_lines read)
 
 module _ {W E : Type 0} (contents : W → Option (List ℕ)) (error_contents : E → Option (List ℕ)) where
   -- a write to standard output failed: a prefix of the output was written, and then nothing or a prefix of the message
@@ -67,12 +72,11 @@ module _ {F R W E : Type 0} (known : F → List ℕ → KnownFile) (remaining : 
     pub is : IsOutcome (task_of words) input outcome
     pub written : IsWritten contents error_contents outcome out out' err err' status
 
-  -- what was read: everything, or the first sources and some lines of the next one; a command that prints nothing before the end
-  -- of the sources has used no line then
+  -- what was read: everything, or the first sources and some lines of the next one, as far as the command used them
   abbrev pub ReadsSome : List (List ℕ) → F → R → R → Input → Type 0
   ReadsSome words files reader reader' input =
       ReadsInput (known files) remaining (names_of (task_of words)) reader reader' input
-      ⊎ (ReadsFront (known files) remaining (names_of (task_of words)) reader reader' input.sources × (input.unopened ≡ None) × (¬ IsStream (task_of words) → filled_lines input.sources ≡ []))
+      ⊎ ((read : List Source) × ReadsFirst (known files) remaining (names_of (task_of words)) reader reader' read × Uses (task_of words) read input)
 
   -- A run stopped early: standard output has a prefix of the outcome of the first lines read, and standard error a prefix of
   -- its errors and of the last message.

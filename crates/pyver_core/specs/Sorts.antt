@@ -6,8 +6,8 @@ use Rattle.std.specs.declared.cmp.Ordering.{Ordering}
 use Rattle.pep440_rs.specs.Arrangement.{ArrangesBy}
 use Rattle.pep440_version.specs.Key.{record_cmp}
 use Rattle.pep440_version.specs.Record.{Record}
-use Rattle.pyver_core.specs.InputLines.{Source}
 use Rattle.pyver_core.specs.Outcomes.{Outcome}
+use Rattle.pyver_core.specs.Sources.{Input}
 use Rattle.pyver_core.specs.VersionLines.{InputParts, OfVersions, VersionLine}
 use Rattle.pyver_core.specs.declared.sort.SortOptions.{SortOptions}
 
@@ -57,5 +57,5 @@ abbrev pub SortsParts : SortOptions → InputParts → Outcome → Type 0
 SortsParts options parts o = (sorted : List VersionLine) × ArrangesBy (line_order options.reversed) parts.versions sorted × (o ≡ sort_outcome options parts sorted)
 
 -- what is written of the lines of the sources
-abbrev pub SortsLines : SortOptions → List Source → Outcome → Type 0
-SortsLines options sources o = OfVersions options.lines (SortsParts options) sources o
+abbrev pub SortsLines : SortOptions → Input → Outcome → Type 0
+SortsLines options input o = OfVersions options.lines (SortsParts options) input o

@@ -1,7 +1,7 @@
 -- The sources that a run reads, standard input and files, by their names.
-use Rattle.std.specs.Prelude.{◌≡◌, ⊤, ℕ, List, [], ◌∷◌, ◌++◌, Bool, true, false, Option, Some, None, bytes_eq, codes, if◌then◌else◌}
+use Rattle.std.specs.Prelude.{◌≡◌, ◌⊎◌, ⊤, ℕ, List, [], ◌∷◌, ◌++◌, Bool, true, false, Option, Some, None, bytes_eq, codes, map, if◌then◌else◌}
 use Rattle.std.specs.Io.KnownBytes.{Consumes, IsAtEnd}
-use Rattle.pyver_core.specs.InputLines.{SourceLine, Origin, Source, input_lines}
+use Rattle.pyver_core.specs.InputLines.{Origin, Source, input_lines}
 use Rattle.pyver_core.specs.Messages.{file_message}
 use Rattle.pyver_core.specs.declared.open_failure.OpenFailure.{OpenFailure}
 use Rattle.pyver_core.specs.declared.open_failure.OpenFailure.TheVariants as failure
@@ -23,13 +23,6 @@ source_names (name ∷ names) = name ∷ names
 -- standard input as the only source
 abbrev pub input_origin : Origin
 input_origin = record { is_first = true; name = input_name }
-
-abbrev pub input_line : ℕ → List ℕ → SourceLine
-input_line number text = record { origin = input_origin; number = number; text = text }
-
--- these lines of standard input, and no other source
-abbrev pub of_input : List (List ℕ) → List Source
-of_input lines = record { origin = input_origin; lines = lines } ∷ []
 
 -- there is no name
 abbrev pub is_none : List (List ℕ) → Bool
@@ -101,6 +94,10 @@ pub record Input : Type 0 where
   pub sources : List Source
   pub unopened : Option Unopened
 
+-- the sources without their lines
+abbrev pub without_lines : List Source → List Source
+without_lines sources = map (λ (source : Source). record { origin = source.origin; lines = [] }) sources
+
 -- no source
 abbrev pub no_input : Input
 no_input = record { sources = []; unopened = None }
@@ -167,3 +164,7 @@ module _ {R : Type 0} (files : List ℕ → KnownFile) (remaining : R → Option
     pub part : Source
     pub lines : ReadsLines (record { is_first = is_none read; name = name }) middle reader' part
     pub are : sources ≡ before ++ part ∷ []
+
+  -- these are all sources; or some that were read to their ends, and the next one with some lines
+  abbrev pub ReadsFirst : List (List ℕ) → R → R → List Source → Type 0
+  ReadsFirst names reader reader' sources = ReadsInput names reader reader' (record { sources = sources; unopened = None }) ⊎ ReadsFront names reader reader' sources

@@ -43,8 +43,8 @@ pub data Task : Type 0 where
   Compare : List ℕ → Comparison → List ℕ → Task
   Match : MatchOptions → List ℕ → List (List ℕ) → Task
   Filter : FilterOptions → List ℕ → List (List ℕ) → Task
-  Sort : SortOptions → Task
-  Newest : NewestOptions → List ℕ → Task
+  Sort : SortOptions → List (List ℕ) → Task
+  Newest : NewestOptions → List ℕ → List (List ℕ) → Task
   Show : ShowFormat → List (List ℕ) → Task
   Bump : Option ℕ → List BumpPart → List ℕ → Task
   Range : RangeOptions → List (List ℕ) → Task
@@ -253,12 +253,7 @@ filter_task options None (word ∷ rest) =
 abbrev pub no_filter_options : FilterOptions
 no_filter_options = record { inverted = false; prereleases = prereleases.Listed; lines = no_line_options }
 
--- ---- `sort [-r] [-u] [-n K] [-k N] [-d C] [--header] [--invalid HOW]`
-
--- no word
-abbrev pub sort_operands : SortOptions → List (List ℕ) → Task
-sort_operands options [] = Sort options
-sort_operands options (word ∷ rest) = wrong_count topic.Sort
+-- ---- `sort [-r] [-u] [-n K] [-k N] [-d C] [--header] [--invalid HOW] [FILE..]`
 
 -- the options with what this word sets, if it is one of them
 abbrev pub sort_option : SortOptions → List ℕ → Option SortOptions
@@ -287,12 +282,12 @@ abbrev pub wrong_sort_value : SortValue → List ℕ → Task
 wrong_sort_value sort_value.Last value = Misused (wrong_number_message topic.Sort value)
 wrong_sort_value (sort_value.Lines name) value = wrong_value topic.Sort name value
 
--- the words after the options, of which the first may be `--`
+-- the words after the options, of which the first may be `--`: the names of the sources
 abbrev pub sort_rest : SortOptions → List ℕ → List (List ℕ) → Task
 sort_rest options word rest =
-    if bytes_eq word (codes "--") then sort_operands options rest
+    if bytes_eq word (codes "--") then Sort options rest
     else by_joined topic.Sort (joined_value word)
-    (if is_option word then wrong_option topic.Sort word else sort_operands options (word ∷ rest))
+    (if is_option word then wrong_option topic.Sort word else Sort options (word ∷ rest))
 
 -- the task of an option that takes a value, or else this other one
 abbrev pub by_sort_value : Option SortValue → (SortValue → Task) → Task → Task
@@ -302,7 +297,7 @@ by_sort_value (Some name) with_name otherwise = with_name name
 -- the task of the words after `sort`: options come first, and of two that contradict each other the last counts; an option's
 -- name if its value comes next
 abbrev pub sort_task : SortOptions → Option SortValue → List (List ℕ) → Task
-sort_task options None [] = Sort options
+sort_task options None [] = Sort options []
 sort_task options (Some name) [] = wrong_count topic.Sort
 sort_task options (Some name) (value ∷ rest) = by_option (with_sort_value options name value) (λ taken. sort_task taken None rest) (wrong_sort_value name value)
 sort_task options None (word ∷ rest) =
@@ -314,12 +309,12 @@ sort_task options None (word ∷ rest) =
 abbrev pub no_sort_options : SortOptions
 no_sort_options = record { reversed = false; unique = false; last = None; lines = no_line_options }
 
--- ---- `newest [--pre | --no-pre] [-k N] [-d C] [--header] [--invalid HOW] SPECS`
+-- ---- `newest [--pre | --no-pre] [-k N] [-d C] [--header] [--invalid HOW] SPECS [FILE..]`
 
--- exactly one list
+-- a list, and the names of the sources
 abbrev pub newest_operands : NewestOptions → List (List ℕ) → Task
-newest_operands options (specifiers ∷ []) = Newest options specifiers
-newest_operands options _ = wrong_count topic.Newest
+newest_operands options [] = wrong_count topic.Newest
+newest_operands options (specifiers ∷ names) = Newest options specifiers names
 
 -- the options with what this word sets, if it is one of them
 abbrev pub newest_option : NewestOptions → List ℕ → Option NewestOptions
@@ -507,8 +502,8 @@ IsOutcome NameVersion input o = o ≡ printed VERSION_LINE.now
 IsOutcome (Compare left operator right) input o = Compares left operator right o
 IsOutcome (Match options specifiers words) input o = Matches options specifiers words o
 IsOutcome (Filter options specifiers names) input o = FiltersLines options specifiers input o
-IsOutcome (Sort options) input o = SortsLines options input.sources o
-IsOutcome (Newest options specifiers) input o = FindsNewestLine options specifiers input.sources o
+IsOutcome (Sort options names) input o = SortsLines options input o
+IsOutcome (Newest options specifiers names) input o = FindsNewestLine options specifiers input o
 IsOutcome (Show asked words) input o = Shows asked words o
 IsOutcome (Bump to parts word) input o = Bumps to parts word o
 IsOutcome (Range options words) input o = FindsCommon options words o
@@ -517,15 +512,15 @@ IsOutcome (Misused message) input o = o ≡ misuse message
 -- only `sort`, and `filter` and `newest` with a valid list, read sources
 abbrev pub NeedsInput : Task → Type 0
 NeedsInput (Filter options specifiers names) = (list : List Spec) × DerivesList specifiers list
-NeedsInput (Sort options) = ⊤
-NeedsInput (Newest options specifiers) = (list : List Spec) × DerivesList specifiers list
+NeedsInput (Sort options names) = ⊤
+NeedsInput (Newest options specifiers names) = (list : List Spec) × DerivesList specifiers list
 NeedsInput _ = ⊥
 
 -- the names of the sources that are read
 abbrev pub names_of : Task → List (List ℕ)
 names_of (Filter options specifiers names) = source_names names
-names_of (Sort options) = source_names []
-names_of (Newest options specifiers) = source_names []
+names_of (Sort options names) = source_names names
+names_of (Newest options specifiers names) = source_names names
 names_of _ = []
 
 -- lines are printed before all are read

@@ -2,11 +2,10 @@
 use Rattle.std.specs.Prelude.{◌≡◌, ℕ, ◌+◌, ◌-◌, List, [], ◌∷◌, ◌++◌, Bool, length, map, take}
 use Rattle.std.specs.List.{AllZip, concat}
 use Rattle.std.specs.declared.cmp.Ordering.{Ordering}
-use Rattle.pyver_core.specs.InputLines.{filled_lines, filled_lines_from}
+use Rattle.pyver_core.specs.InputLines.{SourceLine}
 use Rattle.pyver_core.specs.InvalidLines.{message_limit}
 use Rattle.pyver_core.specs.ReadLines.{IsRead, ReadLine, faults}
 use Rattle.pyver_core.specs.Sorts.{version_order}
-use Rattle.pyver_core.specs.Sources.{input_origin, of_input}
 use Rattle.pyver_core.specs.VersionLines.{InputParts, header_text, kept_lines, input_parts, version_lines}
 use Rattle.pyver_core.specs.VersionLines.{VersionLine as VersionLineValue}
 use Rattle.pyver_core.specs.declared.line_options.LineOptions.{LineOptions}
@@ -37,10 +36,9 @@ pub record KeepsOne (options : LineOptions) (x : ReadLine) (a b : VersionLines) 
   pub errors : b.errors.items ≡ a.errors.items ++ concat (take (message_limit options.invalid - a.fault_count) (faults (x ∷ [])))
 
 -- these lines were read
-pub record KeepsLines (options : LineOptions) (texts : List (List ℕ)) (s : VersionLines) : Type 0 where
+pub record KeepsLines (options : LineOptions) (lines : List SourceLine) (s : VersionLines) : Type 0 where
   pub found : List ReadLine
-  pub are : AllZip (IsRead options) (filled_lines_from input_origin 1 texts) found
-  pub line_count : s.line_count ≡ length texts
+  pub are : AllZip (IsRead options) lines found
   pub header : s.header.items ≡ header_text found
   pub versions : map version_line_of s.versions.items ≡ version_lines found
   pub invalid : map (λ t. t.now) s.invalid.items ≡ kept_lines options.invalid found
@@ -48,8 +46,8 @@ pub record KeepsLines (options : LineOptions) (texts : List (List ℕ)) (s : Ver
   pub errors : s.errors.items ≡ concat (take (message_limit options.invalid) (faults found))
 
 -- these are all lines, and all messages
-pub record IsOfLines (options : LineOptions) (texts : List (List ℕ)) (s : VersionLines) : Type 0 where
+pub record IsOfLines (options : LineOptions) (lines : List SourceLine) (s : VersionLines) : Type 0 where
   pub found : List ReadLine
-  pub are : AllZip (IsRead options) (filled_lines (of_input texts)) found
+  pub are : AllZip (IsRead options) lines found
   pub fault_count : s.fault_count ≡ length (faults found)
   pub parts : input_parts_of s ≡ input_parts options.invalid found

@@ -1,5 +1,5 @@
 -- The lines of the input by what they are, for commands that print nothing before all are read.
-use Rattle.std.specs.Prelude.{◌≡◌, ◌⊎◌, ◌<◌, ℕ, List, [], ◌∷◌, ◌++◌, codes, length, take, if◌then◌else◌}
+use Rattle.std.specs.Prelude.{◌≡◌, ◌⊎◌, ◌<◌, ℕ, List, [], ◌∷◌, ◌++◌, Option, None, Some, codes, length, take, if◌then◌else◌}
 use Rattle.std.specs.List.{AllZip, concat, flat_map}
 use Rattle.pep440_version.specs.Record.{Record}
 use Rattle.pyver_core.specs.InputLines.{SourceLine, Source, filled_lines}
@@ -7,6 +7,7 @@ use Rattle.pyver_core.specs.InvalidLines.{last_message, lines_status, message_li
 use Rattle.pyver_core.specs.Outcomes.{Outcome}
 use Rattle.pyver_core.specs.ReadLines.{Entry, Header, IsRead, LineReading, ReadLine, faults}
 use Rattle.pyver_core.specs.Readings.{Denotes, Fails}
+use Rattle.pyver_core.specs.Sources.{Input, Unopened, unopened_message}
 use Rattle.pyver_core.specs.declared.invalid_lines.InvalidLines.{InvalidLines}
 use Rattle.pyver_core.specs.declared.invalid_lines.InvalidLines.TheVariants as invalid
 use Rattle.pyver_core.specs.declared.line_options.LineOptions.{LineOptions}
@@ -71,6 +72,15 @@ abbrev pub OfFound : InvalidLines → (InputParts → Outcome → Type 0) → Li
 OfFound how Gives found o = ((lines_status how (length (faults found)) ≡ 0) × Gives (input_parts how found) o)
     ⊎ ((0 < lines_status how (length (faults found))) × (o ≡ invalid_outcome how found))
 
--- what is written of the lines of the sources
-abbrev pub OfVersions : LineOptions → (InputParts → Outcome → Type 0) → List Source → Outcome → Type 0
-OfVersions options Gives sources o = (found : List ReadLine) × AllZip (IsRead options) (filled_lines sources) found × OfFound options.invalid Gives found o
+-- a file was not opened: nothing is said but that
+abbrev pub unopened_outcome : Unopened → Outcome
+unopened_outcome file = record { output = []; errors = unopened_message (Some file); status = 2 }
+
+-- what is written of the lines of the sources, or of the file at which reading ended
+abbrev pub OfSources : LineOptions → (InputParts → Outcome → Type 0) → List Source → Option Unopened → Outcome → Type 0
+OfSources options Gives sources None o = (found : List ReadLine) × AllZip (IsRead options) (filled_lines sources) found × OfFound options.invalid Gives found o
+OfSources options Gives sources (Some file) o = o ≡ unopened_outcome file
+
+-- what is written of what was read
+abbrev pub OfVersions : LineOptions → (InputParts → Outcome → Type 0) → Input → Outcome → Type 0
+OfVersions options Gives input o = OfSources options Gives input.sources input.unopened o

@@ -1,14 +1,16 @@
--- Commands that read the whole input before they write.
-use Rattle.std.specs.Prelude.{◌≡◌, ℕ, List, [], ◌++◌, Option}
-use Rattle.std.specs.Io.KnownBytes.{Appends, Consumes, IsAtEnd}
-use Rattle.pyver_core.specs.InputLines.{Source, input_lines}
+-- Commands that read all sources before they write.
+use Rattle.std.specs.Prelude.{◌≡◌, ◌⊎◌, ℕ, List, Option, None}
+use Rattle.std.specs.Io.KnownBytes.{Appends}
+use Rattle.pyver_core.specs.InputLines.{Source}
 use Rattle.pyver_core.specs.Outcomes.{Outcome}
 use Rattle.pyver_core.specs.Runs.{WroteBeginning}
 use Rattle.pyver_core.specs.Newest.{FindsNewest}
 use Rattle.pyver_core.specs.Sorts.{SortsParts}
-use Rattle.pyver_core.specs.Sources.{of_input}
+use Rattle.pyver_core.specs.SourceViews.{IsStopOf}
+use Rattle.pyver_core.specs.Sources.{Input, KnownFile, ReadsFirst, ReadsInput, last_name, without_lines}
 use Rattle.pyver_core.specs.VersionLines.{InputParts, OfVersions}
 use Rattle.pyver_core.specs.declared.line_options.LineOptions.{LineOptions}
+use Rattle.pyver_core.specs.declared.stream.Stop.{Stop}
 use Rattle.pyver_core.specs.declared.whole_input.Question.{Question}
 use Rattle.pyver_core.specs.declared.whole_input.Question.TheVariants as question
 
@@ -22,32 +24,33 @@ abbrev pub AnswersParts : Question → InputParts → Outcome → Type 0
 AnswersParts (question.Sort options) parts o = SortsParts options parts o
 AnswersParts (question.Newest rule) parts o = FindsNewest rule parts o
 
--- what is written of the lines of the sources
-abbrev pub AnswersInput : Question → List Source → Outcome → Type 0
-AnswersInput asked sources o = OfVersions (question_lines asked) (AnswersParts asked) sources o
+-- what is written of what was read
+abbrev pub AnswersInput : Question → Input → Outcome → Type 0
+AnswersInput asked input o = OfVersions (question_lines asked) (AnswersParts asked) input o
 
-module _ {R W E : Type 0} (remaining : R → Option (List ℕ)) (contents : W → Option (List ℕ)) (error_contents : E → Option (List ℕ)) where
-  -- the whole input was read, and all was written
-  pub record WholeFinishes (asked : Question) (reader reader' : R) (out out' : W) (err err' : E) (status : ℕ) : Type 0 where
-    pub read : List ℕ
-    pub consumed : Consumes (remaining reader) (remaining reader') read
-    pub end : IsAtEnd (remaining reader')
+module _ {R W E : Type 0} (files : List ℕ → KnownFile) (remaining : R → Option (List ℕ)) (contents : W → Option (List ℕ)) (error_contents : E → Option (List ℕ)) where
+  -- all was read, up to a file that was not opened if there was one, and all was written
+  pub record WholeFinishes (asked : Question) (names : List (List ℕ)) (reader reader' : R) (out out' : W) (err err' : E) (status : ℕ) : Type 0 where
+    pub input : Input
+    pub reads : ReadsInput files remaining names reader reader' input
     pub outcome : Outcome
-    pub is : AnswersInput asked (of_input (input_lines read)) outcome
+    pub is : AnswersInput asked input outcome
     pub output : Appends (contents out) (contents out') outcome.output
     pub errors : Appends (error_contents err) (error_contents err') outcome.errors
     pub ended : status ≡ outcome.status
 
-  -- nothing was written, or a beginning of what is asked for by the whole input
-  pub record WholeStops (asked : Question) (reader reader' : R) (out out' : W) (err err' : E) : Type 0 where
-    pub read : List ℕ
-    pub consumed : Consumes (remaining reader) (remaining reader') read
-    pub front : List (List ℕ)
-    pub rest : List (List ℕ)
-    pub split : input_lines read ≡ front ++ rest
-    pub whole : rest ≡ [] → IsAtEnd (remaining reader')
-    pub silent : ¬ (rest ≡ []) → front ≡ []
+  -- all was read, or some of which no line was used
+  abbrev pub ReadsUnused : List (List ℕ) → R → R → Input → Type 0
+  ReadsUnused names reader reader' input =
+      ReadsInput files remaining names reader reader' input
+      ⊎ ((read : List Source) × ReadsFirst files remaining names reader reader' read × (input.unopened ≡ None) × (input.sources ≡ without_lines read))
+
+  -- nothing was written, or a beginning of what is asked for by all sources
+  pub record WholeStops (asked : Question) (names : List (List ℕ)) (reader reader' : R) (out out' : W) (err err' : E) (stop : Stop) : Type 0 where
+    pub input : Input
+    pub reads : ReadsUnused names reader reader' input
     pub outcome : Outcome
-    pub is : AnswersInput asked (of_input front) outcome
+    pub is : AnswersInput asked input outcome
     pub output : WroteBeginning (contents out) (contents out') outcome.output
     pub errors : WroteBeginning (error_contents err) (error_contents err') outcome.errors
+    pub stops : IsStopOf (last_name input.sources) stop

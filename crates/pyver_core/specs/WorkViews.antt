@@ -1,5 +1,5 @@
 -- What a command has to do, once its words are read.
-use Rattle.std.specs.Prelude.{◌≡◌, [], map, string_bytes}
+use Rattle.std.specs.Prelude.{◌≡◌, map, string_bytes}
 use Rattle.pyver_core.specs.AnswerViews.{outcome_of}
 use Rattle.pyver_core.specs.Filters.{Filters}
 use Rattle.pyver_core.specs.Outcomes.{Outcome}
@@ -10,10 +10,10 @@ use Rattle.pyver_core.specs.declared.command.Work.{Work}
 use Rattle.pyver_core.specs.declared.command.Work.TheVariants as work
 
 -- an answer where nothing has to be read, and otherwise the rule by which the lines of sources are filtered, or the question to
--- all lines of standard input
+-- all lines of sources
 abbrev pub IsWork : Task → Work → Type 0
 IsWork task (work.Answer a) = (¬ NeedsInput task) × ((input : Input) → IsOutcome task input (outcome_of a))
 IsWork task (work.Filter rule names) =
     NeedsInput task × IsStream task × (names_of task ≡ source_names (map string_bytes names.now)) × ((input : Input) (o : Outcome) → Filters rule input o → IsOutcome task input o)
-IsWork task (work.Whole question) =
-    NeedsInput task × (¬ IsStream task) × (names_of task ≡ source_names []) × ((input : Input) (o : Outcome) → AnswersInput question input.sources o → IsOutcome task input o)
+IsWork task (work.Whole question names) =
+    NeedsInput task × (¬ IsStream task) × (names_of task ≡ source_names (map string_bytes names.now)) × ((input : Input) (o : Outcome) → AnswersInput question input o → IsOutcome task input o)

@@ -38,8 +38,10 @@ pub(crate) enum Command<'a> {
     Match(MatchOptions, &'a str, &'a [String]),
     /// The specifiers, and the names of the sources.
     Filter(FilterOptions, &'a str, &'a [String]),
-    Sort(SortOptions),
-    Newest(NewestOptions, &'a str),
+    /// The names of the sources.
+    Sort(SortOptions, &'a [String]),
+    /// The specifiers, and the names of the sources.
+    Newest(NewestOptions, &'a str, &'a [String]),
     Show(ShowFormat, &'a [String]),
     /// The number of the last part, the names of the parts, and the version.
     Bump(Option<u64>, &'a [String], &'a str),
@@ -54,8 +56,8 @@ pub(crate) enum Work<'a> {
     Answer(Answer),
     /// To read the sources with these names, whose lines are filtered so.
     Filter(FilterRule, &'a [String]),
-    /// To read the whole input, of which this is asked.
-    Whole(Question),
+    /// To read the sources with these names to their ends, of which this is asked.
+    Whole(Question, &'a [String]),
 }
 
 pub(crate) fn is_help(word: &str) -> bool
@@ -217,8 +219,10 @@ impl<'a> Command<'a> {
             Command::Filter(options, specifiers, names) => {
                 start_filter(alloc, options, specifiers, names)
             }
-            Command::Sort(options) => Ok(Work::Whole(Question::Sort(options))),
-            Command::Newest(options, specifiers) => start_newest(alloc, options, specifiers),
+            Command::Sort(options, names) => Ok(Work::Whole(Question::Sort(options), names)),
+            Command::Newest(options, specifiers, names) => {
+                start_newest(alloc, options, specifiers, names)
+            }
             Command::Show(format, words) => {
                 Ok(Work::Answer(show_versions(alloc, format, words)?))
             }
@@ -261,16 +265,24 @@ fn start_filter<'a>(
     }
 }
 
-/// `newest SPECS`: what is asked, or why SPECS is no list.
-fn start_newest(alloc: Global, options: NewestOptions, specifiers: &str) -> Result<Work, AllocError>
-    ensures { IfOk result (λ w. IsWork (Newest options specifiers.now) w) }
+/// `newest SPECS [FILE..]`: what is asked, or why SPECS is no list.
+fn start_newest<'a>(
+    alloc: Global,
+    options: NewestOptions,
+    specifiers: &str,
+    names: &'a [String],
+) -> Result<Work<'a>, AllocError>
+    ensures { IfOk result (λ w. IsWork (Newest options specifiers.now (map string_bytes names.now)) w) }
 {
     match read_specifiers(alloc, specifiers)? {
-        SpecifiersReading::Specifiers(list) => Ok(Work::Whole(Question::Newest(NewestRule {
-            prereleases: options.prereleases,
-            lines: options.lines,
-            list,
-        }))),
+        SpecifiersReading::Specifiers(list) => {
+            let rule = NewestRule {
+                prereleases: options.prereleases,
+                lines: options.lines,
+                list,
+            };
+            Ok(Work::Whole(Question::Newest(rule), names))
+        }
         SpecifiersReading::Invalid(message) => {
             let mut answer = Answer::silent(alloc, 0);
             push_list_fault(&mut answer, message.as_str())?;

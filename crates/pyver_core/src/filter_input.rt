@@ -11,12 +11,12 @@ use std::alloc::Global;
 use std::io::{Read, Write};
 
 /// So many reads are made at most, which takes years.
-const MOST_READS: u64 = 562949953421312;
+pub(crate) const MOST_READS: u64 = 562949953421312;
 
-const READ_SIZE: usize = 8192;
+pub(crate) const READ_SIZE: usize = 8192;
 
 /// A read of the source with this name failed.
-fn stop_reading(alloc: Global, name: &str) -> Stop
+pub(crate) fn stop_reading(alloc: Global, name: &str) -> Stop
     ensures { IsStopOf (Some name.now) result }
 {
     if is_input(name) {

@@ -25,10 +25,11 @@ const MATCH_USAGE: &str = "pyver match [-q] [--pre | --no-pre] SPECS V..";
 const FILTER_USAGE: &str =
     "pyver filter [-v] [--pre | --no-pre] [-k N] [-d C] [--header] [--invalid HOW] SPECS [FILE..]";
 
-const SORT_USAGE: &str = "pyver sort [-r] [-u] [-n K] [-k N] [-d C] [--header] [--invalid HOW]";
+const SORT_USAGE: &str =
+    "pyver sort [-r] [-u] [-n K] [-k N] [-d C] [--header] [--invalid HOW] [FILE..]";
 
 const NEWEST_USAGE: &str =
-    "pyver newest [--pre | --no-pre] [-k N] [-d C] [--header] [--invalid HOW] SPECS";
+    "pyver newest [--pre | --no-pre] [-k N] [-d C] [--header] [--invalid HOW] SPECS [FILE..]";
 
 const SHOW_USAGE: &str = "pyver show [--part PART | --json] V..";
 
@@ -46,7 +47,7 @@ commands:
   compare A OP B     whether A stands so to B, by the exit status
   match SPECS V..    which of the versions the specifiers allow
   filter SPECS       the lines of files whose version the specifiers allow
-  sort               the lines of standard input in the order of their versions
+  sort               the lines of files in the order of their versions
   newest SPECS       the line of the newest version that the specifiers allow
   show V..           versions in normal form, or their parts
   bump PART.. V      the version with parts of it raised
@@ -124,16 +125,18 @@ examples:
   pyver filter -d , -k 2 --header '>=1.0' < packages.csv
 ";
 
-const SORT_HELP: &str = "usage: pyver sort [-r] [-u] [-n K] [-k N] [-d C] [--header] [--invalid HOW]
+const SORT_HELP: &str =
+    "usage: pyver sort [-r] [-u] [-n K] [-k N] [-d C] [--header] [--invalid HOW] [FILE..]
 
-Prints the lines of standard input in the order of their versions, as they were written; lines of
-equal versions, as 1.0 and v1.0.0, stay as they stood, with -r too. Nothing is printed before the
-input ends. Blank lines are dropped, and so are a byte order mark before the first line and a
-carriage return at the end of a line. Where a line is invalid nothing is printed: each such line is
-named on standard error, the first 20 and then how many more there are, and the exit status is 2:
-HOW is error. With skip it is only said how many were left out. With keep nothing is said, and they
-stand behind all others, with -r too, in the order in which they stood; -n counts them, and -u keeps
-them all. HOW is error, skip or keep.
+Prints the lines of the files in the order of their versions, as they were written; lines of equal
+versions, as 1.0 and v1.0.0, stay as they stood, with -r too. '-' and no file mean standard input.
+Nothing is printed before all files end. Blank lines are dropped, and so are a byte order mark
+before the first line and a carriage return at the end of a line. Where a line is invalid nothing is
+printed: each such line is named on standard error by file and number, the first 20 and then how
+many more there are, and the exit status is 2: HOW is error. With skip it is only said how many were
+left out. With keep nothing is said, and they stand behind all others, with -r too, in the order in
+which they stood; -n counts them, and -u keeps them all. HOW is error, skip or keep. Where a file
+cannot be opened nothing but that is said, and the exit status is 2.
 Fields stand between bytes C, also where they are quoted: quotes are not read.
 
 options:
@@ -142,26 +145,27 @@ options:
   -n, --last K       the last K of the lines that would be printed behind the header
   -k, --field N      the version is field N, counted from 1, and not the whole line
   -d, --delimiter C  the byte between fields, one ASCII character, and not a tab
-  --header           print the first line first, which is no version
+  --header           the first line of a file is no version; print that of the first file first
   --invalid HOW      what is done with invalid lines
   --                 all words after it are no options
 
 examples:
-  pyver sort -r < versions.txt
+  pyver sort -r versions.txt more.txt
   git tag | pyver sort -u -n 3 --invalid skip
   pyver sort -d , -k 2 --header < packages.csv
 ";
 
 const NEWEST_HELP: &str =
-    "usage: pyver newest [--pre | --no-pre] [-k N] [-d C] [--header] [--invalid HOW] SPECS
+    "usage: pyver newest [--pre | --no-pre] [-k N] [-d C] [--header] [--invalid HOW] SPECS [FILE..]
 
-Prints the line of the newest version that the specifiers allow, as it was written; of lines of
-equal versions the first. '' allows any version. Where none is allowed nothing is printed, and the
-exit status is 1. Blank lines are dropped, and so are a byte order mark before the first line and a
-carriage return at the end of a line. Where a line is invalid nothing is printed: each such line is
-named on standard error, the first 20 and then how many more there are, and the exit status is 2:
-HOW is error. With skip it is only said how many were left out, and with keep nothing. HOW is error,
-skip or keep.
+Prints the line of the newest version in the files that the specifiers allow, as it was written; of
+lines of equal versions the first. '-' and no file mean standard input. '' allows any version. Where
+none is allowed nothing is printed, and the exit status is 1. Blank lines are dropped, and so are a
+byte order mark before the first line and a carriage return at the end of a line. Where a line is
+invalid nothing is printed: each such line is named on standard error by file and number, the first
+20 and then how many more there are, and the exit status is 2: HOW is error. With skip it is only
+said how many were left out, and with keep nothing. HOW is error, skip or keep. Where a file cannot
+be opened nothing but that is said, and the exit status is 2.
 Pre-releases and dev releases are left out, unless a specifier other than != has such a version, or
 nothing else is allowed.
 Fields stand between bytes C, also where they are quoted: quotes are not read.
@@ -171,12 +175,12 @@ options:
   --no-pre           allow none of them
   -k, --field N      the version is field N, counted from 1, and not the whole line
   -d, --delimiter C  the byte between fields, one ASCII character, and not a tab
-  --header           leave out the first line, which is no version
+  --header           leave out the first line of a file, which is no version
   --invalid HOW      what is done with invalid lines
   --                 all words after it are no options
 
 examples:
-  pyver newest '<2.0' < versions.txt
+  pyver newest '<2.0' versions.txt more.txt
   git tag | pyver newest --invalid skip ''
   pyver newest -d , -k 2 --header --pre '>=1.0' < packages.csv
 ";

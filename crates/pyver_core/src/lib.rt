@@ -37,6 +37,7 @@ mod show;
 mod show_words;
 mod sort;
 mod sort_words;
+mod source_texts;
 mod stream;
 mod version_line;
 mod whole_input;

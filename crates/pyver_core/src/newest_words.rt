@@ -16,7 +16,7 @@ fn parse_newest_operands<'a>(options: NewestOptions, words: &'a [String]) -> Com
     ensures { task result ≡ newest_operands options (map string_bytes words.now) }
 {
     match words {
-        [specifiers] => Command::Newest(options, specifiers.as_str()),
+        [specifiers, names @ ..] => Command::Newest(options, specifiers.as_str(), names),
         _ => Command::Misused(Misuse::Count(Topic::Newest)),
     }
 }

@@ -76,8 +76,7 @@ fn report_stop<E: Write>(stop: Stop, err: &mut E) -> u8
 }
 
 /// Runs the command of the words and returns the status of the process: answers go to `out` and faults to `err`. Only
-/// `sort`, and `filter` and `newest` with a valid list, read `input`; only `filter` with a
-/// valid list opens files.
+/// `sort`, and `filter` and `newest` with a valid list, read `input` and open files.
 pub fn run<F: Files, R: Read, W: Write, E: Write>(
     alloc: Global,
     words: &[String],
@@ -96,10 +95,12 @@ pub fn run<F: Files, R: Read, W: Write, E: Write>(
                 Err(stop) => report_stop(stop, err),
             }
         }
-        Ok(Work::Whole(question)) => match answer_input(alloc, &question, input, out, err) {
-            Ok(status) => status,
-            Err(stop) => report_stop(stop, err),
-        },
+        Ok(Work::Whole(question, names)) => {
+            match answer_input(alloc, &question, names, files, input, out, err) {
+                Ok(status) => status,
+                Err(stop) => report_stop(stop, err),
+            }
+        }
         Err(_) => refuse(err),
     }
 }

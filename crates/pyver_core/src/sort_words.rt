@@ -1,7 +1,7 @@
 // The words of `sort`.
 ghost use Rattle.std.specs.Prelude.{◌≡◌, ◌∷◌, ◌<◌, IfErr, IfOk, None, Some, length, map, string_bytes};
 ghost use Rattle.pyver_core.specs.TaskViews.{misuse_message, task};
-ghost use Rattle.pyver_core.specs.Tasks.{Misused, is_last_option, no_sort_options, sort_operands, sort_option, sort_rest, sort_task, sort_value_of, with_sort_value, wrong_sort_value};
+ghost use Rattle.pyver_core.specs.Tasks.{Misused, is_last_option, no_sort_options, sort_option, sort_rest, sort_task, sort_value_of, with_sort_value, wrong_sort_value};
 
 use crate::command::{Command, is_help, is_option};
 use crate::help::Topic;
@@ -38,16 +38,6 @@ fn parse_sort_value(word: &str) -> Option<SortValue>
     }
 }
 
-fn parse_sort_operands<'a>(options: SortOptions, words: &'a [String]) -> Command<'a>
-    ensures { task result ≡ sort_operands options (map string_bytes words.now) }
-{
-    if words.is_empty() {
-        Command::Sort(options)
-    } else {
-        Command::Misused(Misuse::Count(Topic::Sort))
-    }
-}
-
 /// The options with what the word sets, if it is an option that sets some alone.
 fn parse_sort_option(options: SortOptions, word: &str) -> Option<SortOptions>
     ensures { result ≡ sort_option options word.now }
@@ -77,13 +67,13 @@ fn parse_sort_rest<'a>(
     ensures { task result ≡ sort_rest options word.now (map string_bytes rest.now) }
 {
     if word == "--" {
-        parse_sort_operands(options, rest)
+        Command::Sort(options, rest)
     } else if let Some((name, value)) = split_value(word) {
         Command::Misused(Misuse::Value(Topic::Sort, name, value))
     } else if is_option(word) {
         Command::Misused(Misuse::Option(Topic::Sort, word))
     } else {
-        parse_sort_operands(options, words)
+        Command::Sort(options, words)
     }
 }
 
@@ -158,5 +148,5 @@ pub(crate) fn parse_sort<'a>(words: &'a [String]) -> Command<'a>
             return parse_sort_rest(options, word, rest, left);
         }
     }
-    Command::Sort(options)
+    Command::Sort(options, left)
 }

@@ -1,4 +1,4 @@
-// The lines of a text by what they are: the header, versions, and others.
+// The lines of sources by what they are: the header, versions, and others.
 ghost use Rattle.std.specs.Prelude.{◌≡◌, ◌<◌, ◌≤◌, ◌∷◌, ◌++◌, [], IfOk, IfSome, length, map};
 ghost use Rattle.std.specs.Option.{option_map_or};
 ghost use Rattle.pyver_core.specs.InputLines.{input_lines};
@@ -8,7 +8,9 @@ use crate::filter::push_line_fault;
 use crate::invalid_lines::InvalidLines;
 use crate::line_options::LineOptions;
 use crate::lines::{is_blank, line_text, read_line};
+use crate::origin::Origin;
 use crate::reading::Reading;
+use crate::source_texts::SourceText;
 use pep440_rs::Version;
 use std::alloc::{AllocError, Global};
 
@@ -22,8 +24,9 @@ pub(crate) struct VersionLine<'a> {
 /// The lines by what they are, and what is to be said of the invalid ones.
 #[derive(Drop)]
 pub(crate) struct VersionLines<'a> {
+    /// How many lines of the source were read that is read last.
     line_count: u64,
-    /// The header and its newline, where there is one.
+    /// The header of the first source and its newline, where there is one.
     pub(crate) header: Vec<u8>,
     pub(crate) versions: Vec<VersionLine<'a>>,
     /// The invalid lines, where they are kept.
@@ -31,7 +34,6 @@ pub(crate) struct VersionLines<'a> {
     /// How many lines were invalid.
     pub(crate) fault_count: u64,
     pub(crate) errors: Vec<u8>,
-    ghost counted: { fault_count ≤ line_count },
 }
 
 /// The first line, and what stands behind its newline if it has one.
@@ -66,12 +68,14 @@ fn keep_text<'a>(
 }
 
 impl<'a> VersionLines<'a> {
-    ghost use Rattle.std.specs.Prelude.{◌+◌, ◌^◌, List, ℕ};
+    ghost use Rattle.std.specs.Prelude.{◌+◌, ◌^◌, List};
     ghost use Rattle.pyver_core.specs.AnswerViews.{reading_of};
     ghost use Rattle.pyver_core.specs.InvalidLines.{lines_status};
     ghost use Rattle.pyver_core.specs.ReadLines.{Entry, Header};
     ghost use Rattle.pyver_core.specs.Readings.{Denotes, Fails};
-    ghost use Rattle.pyver_core.specs.Sources.{input_line};
+    ghost use Rattle.pyver_core.specs.InputLines.{SourceLine, filled_lines, filled_lines_from, source_lines};
+    ghost use Rattle.pyver_core.specs.SourceTexts.{size_of, source_of};
+    ghost use Rattle.pyver_core.specs.SourceViews.{origin_line, origin_of};
     ghost use Rattle.pyver_core.specs.VersionLineViews.{IsOfLines, KeepsLines, KeepsOne};
 
     fn new(alloc: Global) -> VersionLines<'a>
@@ -87,21 +91,29 @@ impl<'a> VersionLines<'a> {
         }
     }
 
-    fn push_header(&mut self, options: LineOptions, text: &'a [u8]) -> Result<(), AllocError>
-        ensures { IfOk result (λ _. KeepsOne options (record { line = input_line self.old.line_count text.now; reading = Header }) self.old self.new) }
+    fn push_header(
+        &mut self,
+        options: LineOptions,
+        origin: Origin<'_>,
+        text: &'a [u8],
+    ) -> Result<(), AllocError>
+        ensures { IfOk result (λ _. KeepsOne options (record { line = origin_line origin.entry self.old.line_count text.now; reading = Header }) self.old self.new) }
     {
-        self.header.extend_from_slice(text)?;
-        self.header.push(b'\n')?;
+        if origin.is_first {
+            self.header.extend_from_slice(text)?;
+            self.header.push(b'\n')?;
+        }
         Ok(())
     }
 
     fn push_version(
         &mut self,
         options: LineOptions,
+        origin: Origin<'_>,
         text: &'a [u8],
         version: Version,
     ) -> Result<(), AllocError>
-        ensures { IfOk result (λ _. KeepsOne options (record { line = input_line self.old.line_count text.now; reading = Entry (Denotes version) }) self.old self.new) }
+        ensures { IfOk result (λ _. KeepsOne options (record { line = origin_line origin.entry self.old.line_count text.now; reading = Entry (Denotes version) }) self.old self.new) }
     {
         self.versions.push(VersionLine { text, version })?;
         Ok(())
@@ -111,14 +123,21 @@ impl<'a> VersionLines<'a> {
         &mut self,
         alloc: Global,
         options: LineOptions,
+        origin: Origin<'_>,
         text: &'a [u8],
         reason: &str,
     ) -> Result<(), AllocError>
-        requires { (self.old.fault_count < self.old.line_count) × (self.old.line_count ≤ 2 ^ 63) }
-        ensures { IfOk result (λ _. KeepsOne options (record { line = input_line self.old.line_count text.now; reading = Entry (Fails reason.now) }) self.old self.new) }
+        requires { self.old.fault_count < 2 ^ 63 }
+        ensures { IfOk result (λ _. KeepsOne options (record { line = origin_line origin.entry self.old.line_count text.now; reading = Entry (Fails reason.now) }) self.old self.new) }
     {
         if self.fault_count < options.invalid.message_limit() {
-            push_line_fault(alloc, &mut self.errors, "-", self.line_count, reason)?;
+            push_line_fault(
+                alloc,
+                &mut self.errors,
+                origin.name,
+                self.line_count,
+                reason,
+            )?;
         }
         keep_text(options.invalid, &mut self.invalid, text)?;
         self.fault_count += 1;
@@ -129,28 +148,33 @@ impl<'a> VersionLines<'a> {
         &mut self,
         alloc: Global,
         options: LineOptions,
+        origin: Origin<'_>,
         text: &'a [u8],
         reading: Reading,
     ) -> Result<(), AllocError>
-        requires { (self.old.fault_count < self.old.line_count) × (self.old.line_count ≤ 2 ^ 63) }
-        ensures { IfOk result (λ _. KeepsOne options (record { line = input_line self.old.line_count text.now; reading = Entry (reading_of reading) }) self.old self.new) }
+        requires { self.old.fault_count < 2 ^ 63 }
+        ensures { IfOk result (λ _. KeepsOne options (record { line = origin_line origin.entry self.old.line_count text.now; reading = Entry (reading_of reading) }) self.old self.new) }
     {
         match reading {
-            Reading::Version(version) => self.push_version(options, text, version),
-            Reading::Invalid(reason) => self.push_fault(alloc, options, text, reason.as_str()),
+            Reading::Version(version) => self.push_version(options, origin, text, version),
+            Reading::Invalid(reason) => {
+                self.push_fault(alloc, options, origin, text, reason.as_str())
+            }
         }
     }
 
-    /// One more line.
+    /// One more line of a source.
     fn push_line(
         &mut self,
         alloc: Global,
         options: LineOptions,
+        origin: Origin<'_>,
         line: &'a [u8],
     ) -> Result<(), AllocError>
-        requires { self.old.line_count < 2 ^ 63 }
-        ensures lines { IfOk result (λ _. (texts : List (List ℕ)) → KeepsLines options texts self.old → KeepsLines options (texts ++ line.now ∷ []) self.new) }
+        requires { (self.old.fault_count < 2 ^ 63) × (self.old.line_count < 2 ^ 63) }
+        ensures lines { IfOk result (λ _. (lines : List SourceLine) → KeepsLines options lines self.old → KeepsLines options (lines ++ filled_lines_from (origin_of origin.entry) (self.old.line_count + 1) (line.now ∷ [])) self.new) }
         ensures count { IfOk result (λ _. self.new.line_count ≡ self.old.line_count + 1) }
+        ensures faults { IfOk result (λ _. self.new.fault_count ≤ self.old.fault_count + 1) }
     {
         self.line_count += 1;
         let text = line_text(self.line_count, line);
@@ -158,17 +182,39 @@ impl<'a> VersionLines<'a> {
             return Ok(());
         }
         if options.is_header(self.line_count) {
-            self.push_header(options, text)?;
+            self.push_header(options, origin, text)?;
             return Ok(());
         }
         let reading = read_line(alloc, options, text)?;
-        self.push_reading(alloc, options, text, reading)?;
+        self.push_reading(alloc, options, origin, text, reading)?;
+        Ok(())
+    }
+
+    /// The lines of one more source.
+    fn push_source(
+        &mut self,
+        alloc: Global,
+        options: LineOptions,
+        origin: Origin<'_>,
+        text: &'a [u8],
+    ) -> Result<(), AllocError>
+        requires { self.old.fault_count + length text.now < 2 ^ 63 }
+        ensures lines { IfOk result (λ _. (lines : List SourceLine) → KeepsLines options lines self.old → KeepsLines options (lines ++ source_lines (record { origin = origin_of origin.entry; lines = input_lines text.now })) self.new) }
+        ensures faults { IfOk result (λ _. self.new.fault_count ≤ self.old.fault_count + length text.now + 1) }
+    {
+        self.line_count = 0;
+        let mut rest = Some(text);
+        while let Some(left) = rest {
+            let (line, later) = split_line(left);
+            self.push_line(alloc, options, origin, line)?;
+            rest = later;
+        }
         Ok(())
     }
 
     /// What is said of invalid lines at the end.
     fn finish(&mut self, alloc: Global, options: LineOptions) -> Result<(), AllocError>
-        ensures { IfOk result (λ _. (texts : List (List ℕ)) → KeepsLines options texts self.old → IsOfLines options texts self.new) }
+        ensures { IfOk result (λ _. (lines : List SourceLine) → KeepsLines options lines self.old → IsOfLines options lines self.new) }
     {
         options
             .invalid
@@ -184,20 +230,18 @@ impl<'a> VersionLines<'a> {
         options.invalid.status(self.fault_count)
     }
 
-    /// The lines of the text.
+    /// The lines of the sources.
     pub(crate) fn read(
         alloc: Global,
         options: LineOptions,
-        text: &'a [u8],
+        sources: &'a [SourceText<'_>],
     ) -> Result<VersionLines<'a>, AllocError>
-        ensures { IfOk result (IsOfLines options (input_lines text.now)) }
+        requires { size_of sources.now < 2 ^ 63 }
+        ensures { IfOk result (IsOfLines options (filled_lines (map source_of sources.now))) }
     {
         let mut lines = VersionLines::new(alloc);
-        let mut rest = Some(text);
-        while let Some(left) = rest {
-            let (line, later) = split_line(left);
-            lines.push_line(alloc, options, line)?;
-            rest = later;
+        for source in sources {
+            lines.push_source(alloc, options, source.origin, source.text.as_slice())?;
         }
         lines.finish(alloc, options)?;
         Ok(lines)

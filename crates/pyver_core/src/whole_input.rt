@@ -1,26 +1,27 @@
-// Commands that read the whole input before they write.
-ghost use Rattle.std.specs.Prelude.{◌≡◌, ◌≤◌, IfErr, IfOk, List, Some, ℕ};
-ghost use Rattle.std.specs.Io.KnownBytes.{Consumes, IsAtEnd};
+// Commands that read all sources before they write.
+ghost use Rattle.std.specs.Prelude.{◌≡◌, ◌≤◌, ◌<◌, ◌^◌, IfErr, IfOk, List, None, map, string_bytes};
+ghost use Rattle.std.specs.Option.{option_map};
 ghost use Rattle.pyver_core.specs.AnswerViews.{outcome_of};
-ghost use Rattle.pyver_core.specs.InputLines.{input_lines};
-ghost use Rattle.pyver_core.specs.Sources.{input_name, of_input};
-ghost use Rattle.pyver_core.specs.SourceViews.{IsStopOf};
+ghost use Rattle.pyver_core.specs.InputLines.{Source, filled_lines};
+ghost use Rattle.pyver_core.specs.Sources.{source_names};
+ghost use Rattle.pyver_core.specs.SourceTexts.{size_of, source_of};
+ghost use Rattle.pyver_core.specs.SourceViews.{unopened_of};
+ghost use Rattle.pyver_core.specs.VersionLines.{unopened_outcome};
 ghost use Rattle.pyver_core.specs.VersionLineViews.{IsOfLines, input_parts_of};
 ghost use Rattle.pyver_core.specs.WholeInputs.{AnswersInput, AnswersParts, WholeFinishes, WholeStops, question_lines};
 
 use crate::answer::Answer;
+use crate::files::Files;
+use crate::filter::Unopened;
 use crate::line_options::LineOptions;
 use crate::newest::{NewestRule, find_newest};
+use crate::open_failure::push_file_fault;
 use crate::sort::{SortOptions, sort_versions};
+use crate::source_texts::{SourceText, SourceTexts, read_sources};
 use crate::stream::{Stop, write_both};
 use crate::version_line::VersionLines;
 use std::alloc::{AllocError, Global};
 use std::io::{Read, Write};
-
-/// So many reads are made at most, which takes years.
-const MOST_READS: u64 = 562949953421312;
-
-const READ_SIZE: usize = 8192;
 
 /// What is asked of all lines together.
 #[derive(Drop)]
@@ -37,27 +38,6 @@ fn question_lines(question: &Question) -> LineOptions
         Question::Sort(options) => options.lines,
         Question::Newest(rule) => rule.lines,
     }
-}
-
-fn read_whole<R: Read>(alloc: Global, input: &mut R) -> Result<Vec<u8>, Stop>
-    ensures whole { IfOk result (λ text. Consumes (R.remaining input.old) (R.remaining input.new) text.items × IsAtEnd (R.remaining input.new)) }
-    ensures part { IfErr result (λ _. (read : List ℕ) × Consumes (R.remaining input.old) (R.remaining input.new) read) }
-    ensures stop { IfErr result (IsStopOf (Some input_name)) }
-{
-    let mut text = Vec::new(alloc);
-    let mut buffer = [0u8; READ_SIZE];
-    for _ in 0..MOST_READS {
-        let Ok(count) = input.read(&mut buffer) else {
-            return Err(Stop::Read);
-        };
-        if count == 0 {
-            return Ok(text);
-        }
-        if text.extend_from_slice(&buffer[..count]).is_err() {
-            return Err(Stop::OutOfMemory);
-        }
-    }
-    Err(Stop::Read)
 }
 
 /// What is to be written of these lines, of which no invalid one is an error.
@@ -80,7 +60,7 @@ fn answer_lines(
     question: &Question,
     lines: VersionLines<'_>,
 ) -> Result<Answer, AllocError>
-    ensures { IfOk result (λ a. (texts : List (List ℕ)) → IsOfLines (question_lines question.now) texts lines.entry → AnswersInput question.now (of_input texts) (outcome_of a)) }
+    ensures { IfOk result (λ a. (sources : List Source) → IsOfLines (question_lines question.now) (filled_lines sources) lines.entry → AnswersInput question.now (record { sources = sources; unopened = None }) (outcome_of a)) }
 {
     let status = lines.status(question_lines(question));
     if status > 0 {
@@ -93,31 +73,54 @@ fn answer_lines(
     answer_valid(alloc, question, lines)
 }
 
-/// What is to be written, where this is the whole input.
-fn answer_text(alloc: Global, question: &Question, text: &[u8]) -> Result<Answer, AllocError>
-    ensures { IfOk result (λ a. AnswersInput question.now (of_input (input_lines text.now)) (outcome_of a)) }
+/// The message of a file that is not opened, and nothing else.
+fn answer_unopened(alloc: Global, file: Unopened<'_>) -> Result<Answer, AllocError>
+    ensures { IfOk result (λ a. outcome_of a ≡ unopened_outcome (unopened_of file.entry)) }
 {
-    let lines = VersionLines::read(alloc, question_lines(question), text)?;
+    let mut answer = Answer::silent(alloc, 2);
+    push_file_fault(&mut answer.errors, file.name, file.failure.reason())?;
+    Ok(answer)
+}
+
+/// What is to be written of these sources, behind which a file may not be opened.
+fn answer_sources(
+    alloc: Global,
+    question: &Question,
+    sources: &[SourceText<'_>],
+    unopened: Option<Unopened<'_>>,
+) -> Result<Answer, AllocError>
+    requires { size_of sources.now < 2 ^ 63 }
+    ensures { IfOk result (λ a. AnswersInput question.now (record { sources = map source_of sources.now; unopened = option_map unopened_of unopened.entry }) (outcome_of a)) }
+{
+    if let Some(file) = unopened {
+        return answer_unopened(alloc, file);
+    }
+    let lines = VersionLines::read(alloc, question_lines(question), sources)?;
     answer_lines(alloc, question, lines)
 }
 
-/// Writes the answer to the question, once the whole input is read, and returns the status.
-pub(crate) fn answer_input<R: Read, W: Write, E: Write>(
+/// Writes the answer to the question, once all sources are read, and returns the status.
+pub(crate) fn answer_input<F: Files, R: Read, W: Write, E: Write>(
     alloc: Global,
     question: &Question,
+    names: &[String],
+    files: &mut F,
     input: &mut R,
     out: &mut W,
     err: &mut E,
 ) -> Result<u8, Stop>
-    ensures finished { IfOk result (λ status. (status ≤ 2) × WholeFinishes R.remaining W.contents E.contents question.now input.old input.new out.old out.new err.old err.new status) }
-    ensures stopped { IfErr result (λ _. WholeStops R.remaining W.contents E.contents question.now input.old input.new out.old out.new err.old err.new) }
-    ensures stop { IfErr result (IsStopOf (Some input_name)) }
+    ensures finished { IfOk result (λ status. (status ≤ 2) × WholeFinishes (F.known files.old) R.remaining W.contents E.contents question.now (source_names (map string_bytes names.now)) input.old input.new out.old out.new err.old err.new status) }
+    ensures stopped { IfErr result (WholeStops (F.known files.old) R.remaining W.contents E.contents question.now (source_names (map string_bytes names.now)) input.old input.new out.old out.new err.old err.new) }
 {
-    let text = match read_whole(alloc, input) {
-        Ok(text) => text,
+    let mut state = SourceTexts {
+        texts: Vec::new(alloc),
+        read_count: 0,
+    };
+    let unopened = match read_sources(alloc, names, &mut state, files, input) {
+        Ok(unopened) => unopened,
         Err(stop) => return Err(stop),
     };
-    let Ok(answer) = answer_text(alloc, question, text.as_slice()) else {
+    let Ok(answer) = answer_sources(alloc, question, state.texts.as_slice(), unopened) else {
         return Err(Stop::OutOfMemory);
     };
     if let Err(stop) = write_both(out, err, answer.output.as_slice(), answer.errors.as_slice()) {

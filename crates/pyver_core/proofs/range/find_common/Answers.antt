@@ -1,4 +1,4 @@
-use Rattle.std.proofs.Common.{◌∙◌, refl, string_bytes}
+use Rattle.std.proofs.Common.{string_bytes}
 use Rattle.pyver_core.specs.RangeViews.{range_reading_of}
 use Rattle.pyver_core.proofs.CommonRanges.{found_all, found_more}
 use Rattle.pyver_core.proofs.range.find_common.Goals as goal

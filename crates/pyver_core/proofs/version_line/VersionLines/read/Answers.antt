@@ -1,22 +1,26 @@
-use Rattle.std.proofs.Common.{◌<◌, ◌^◌, length, ap, arith}
-use Rattle.pyver_core.proofs.Keeping.{front_all, front_more, front_none, lines_left, room_more, room_none}
+use Rattle.std.proofs.Common.{◌≡◌, ◌+◌, ap, arith, length, map, subst, sym, take_all}
+use Rattle.pyver_core.proofs.Keeping.{lines_more, none_faults, size_front, size_more}
+use Rattle.pyver_core.specs.InputLines.{filled_lines}
+use Rattle.pyver_core.specs.SourceTexts.{source_of}
+use Rattle.pyver_core.specs.VersionLineViews.{IsOfLines, KeepsLines}
 use Rattle.pyver_core.proofs.version_line.VersionLines.read.Goals as goal
 
-pub loop-rest-init : goal.loop-rest-init
-loop-rest-init c =
-    let short : length c.args.text.now < 2 ^ 63 = omega arith in
-    record { front = front_none c.args.options c.args.text c.new-lines.result (c.new-lines.ensures c.args.options); room = room_none c.args.text c.new-lines.result.line_count (c.new-lines.ensures c.args.options).line_count short }
+pub loop-source-init : goal.loop-source-init
+loop-source-init c = record { keeps = c.new-lines.ensures c.args.options; room = omega (arith, none_faults c.args.options c.new-lines.result (c.new-lines.ensures c.args.options)) }
 
-pub push_line-requires : goal.push_line-requires
-push_line-requires c = omega (arith, c.loop-rest.invariant.room c.in-Some.left c.in-Some.is)
+pub push_source-requires : goal.push_source-requires
+push_source-requires c =
+    let same : length c.as_slice.result.now ≡ length c.source-item.result.text.items = ap length c.as_slice.ensures.value in
+    omega (arith, same, c.requires, c.loop-source.invariant.room, size_front c.args.sources.now (c.loop-source.source-index + 1), size_more c.args.sources.now c.loop-source.source-index c.source-item.result _ c.loop-source-test.true c.source-item.is)
 
-pub loop-rest-preserved : goal.loop-rest-preserved
-loop-rest-preserved c = record {
-  front = front_more c.args.options c.args.text.now c.loop-rest.rest c.in-Some.left _ c.split_line.result.1 c.loop-rest.lines c.push_line.new.self c.in-Some.is c.split_line.ensures.lines c.in_ok-push_line.ensures.lines
-      c.loop-rest.invariant.front;
-  room = room_more c.loop-rest.lines.line_count c.push_line.new.self.line_count c.loop-rest.rest c.in-Some.left c.split_line.result.1 c.in-Some.is c.in_ok-push_line.ensures.count c.split_line.ensures.shorter
-      c.loop-rest.invariant.room;
+pub loop-source-preserved : goal.loop-source-preserved
+loop-source-preserved c = let same : length c.as_slice.result.now ≡ length c.source-item.result.text.items = ap length c.as_slice.ensures.value in record {
+  keeps = subst (λ l. KeepsLines c.args.options l c.push_source.new.self) (sym (lines_more c.args.sources.now c.loop-source.source-index c.source-item.result _ c.loop-source-test.true c.source-item.is))
+      ((rw c.as_slice.ensures.value at c.in_ok-push_source.ensures.lines) _ c.loop-source.invariant.keeps);
+  room = omega (arith, same, c.loop-source.invariant.room, c.in_ok-push_source.ensures.faults, size_more c.args.sources.now c.loop-source.source-index c.source-item.result _ c.loop-source-test.true c.source-item.is);
 }
 
 pub returns : goal.returns
-returns c = front_all c.args.options c.args.text.now c.loop-rest.rest c.loop-rest.lines c.finish.new.self (ap lines_left c.in_default.is) c.in_ok-finish.ensures c.loop-rest.invariant.front
+returns c =
+    subst (λ l. IsOfLines c.args.options (filled_lines (map source_of l)) c.finish.new.self) (take_all c.loop-source.source-index c.args.sources.now c.loop-source-test.false)
+    (c.in_ok-finish.ensures _ c.loop-source.invariant.keeps)

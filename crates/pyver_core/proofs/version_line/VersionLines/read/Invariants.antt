@@ -1,13 +1,11 @@
-use Rattle.std.proofs.Common.{◌+◌, length}
-use Rattle.std.specs.Option.{option_map_or}
-use Rattle.pyver_core.proofs.Keeping.{HasRoom, KeepsFront}
+use Rattle.std.proofs.Common.{◌≤◌, map, take}
+use Rattle.pyver_core.specs.InputLines.{filled_lines}
+use Rattle.pyver_core.specs.SourceTexts.{size_of, source_of}
+use Rattle.pyver_core.specs.VersionLineViews.{KeepsLines}
 use Rattle.pyver_core.proofs.version_line.VersionLines.read.Given as goal
 
-abbrev pub invariant-loop-rest : goal.invariant-loop-rest
-invariant-loop-rest l = record {
-  front : KeepsFront l.options l.text l.rest l.lines;
-  room : HasRoom l.lines.line_count l.rest;
+abbrev pub invariant-loop-source : goal.invariant-loop-source
+invariant-loop-source l = record {
+  keeps : KeepsLines l.options (filled_lines (map source_of (take l.source-index l.sources))) l.lines;
+  room : l.lines.fault_count ≤ size_of (take l.source-index l.sources);
 }
-
-abbrev pub decreases-loop-rest : goal.decreases-loop-rest
-decreases-loop-rest l = option_map_or (λ r. length r.now + 1) l.rest 0
