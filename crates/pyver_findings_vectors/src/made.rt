@@ -60,7 +60,7 @@ impl MadeFile {
     fn push_other(&mut self, number: usize) -> Result<(), AllocError> {
         let (line, count) = OTHERS[number % 16];
         self.text.push_str(line)?;
-        self.next += count;
+        self.next = self.next.saturating_add(count);
         Ok(())
     }
 
@@ -71,7 +71,7 @@ impl MadeFile {
         self.text.push_str(list)?;
         self.text.push_str(behind)?;
         let first = self.next;
-        self.next += count;
+        self.next = self.next.saturating_add(count);
         Ok(first)
     }
 }
