@@ -1,6 +1,6 @@
 // The files of the system, which are opened by their names.
 use pyver_core::{Files, OpenFailure};
-use std::alloc::Global;
+use std::alloc::{AllocError, Global};
 use std::fs::{self, OpenFile};
 use std::io::{Error, ErrorKind};
 use std::rt;
@@ -41,6 +41,17 @@ impl<R: rt::Files> Files for SystemFiles<'_, R> {
             Ok(metadata) if metadata.is_dir() => Err(OpenFailure::IsDirectory),
             Ok(_) => Ok(file),
             Err(error) => Err(failure(&error)),
+        }
+    }
+
+    // Of a pipe and of what is missing there is none.
+    fn canonical_path(&mut self, alloc: Global, name: &str) -> Result<String, AllocError> {
+        match self.runtime.canonicalize(alloc, name) {
+            Ok(path) => Ok(path.into_string()),
+            Err(error) => match error.kind() {
+                ErrorKind::OutOfMemory => Err(AllocError),
+                _ => name.to_string(alloc),
+            },
         }
     }
 }

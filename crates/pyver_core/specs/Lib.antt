@@ -31,6 +31,8 @@ pub mod TaskViews
 pub mod Runs
 pub mod SourceViews
 pub mod SourceTexts
+pub mod RequirementFiles
+pub mod Checks
 pub mod FilterSteps
 pub mod VersionLineViews
 pub mod WholeInputs

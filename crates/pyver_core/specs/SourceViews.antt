@@ -27,6 +27,14 @@ IsStopOf last (stop.ReadFile message) = IsReadMessage last message.items
 IsStopOf last (stop.Output failure) = ⊤
 IsStopOf last (stop.Errors failure) = ⊤
 
+-- reading the source with this name may stop so
+abbrev pub IsReadingStop : List ℕ → Stop → Type 0
+IsReadingStop name stop.OutOfMemory = ⊤
+IsReadingStop name stop.Read = read_message input_name ≡ read_message name
+IsReadingStop name (stop.ReadFile message) = message.items ≡ read_message name
+IsReadingStop name (stop.Output failure) = ⊥
+IsReadingStop name (stop.Errors failure) = ⊥
+
 -- this status and message tell that a run stopped so
 abbrev pub Reports : Stop → ℕ → List ℕ → Type 0
 Reports stop.OutOfMemory status message = (status ≡ 3) × (message ≡ memory_message)

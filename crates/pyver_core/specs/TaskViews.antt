@@ -2,7 +2,7 @@
 use Rattle.std.specs.Prelude.{ℕ, List, [], codes, map, string_bytes}
 use Rattle.pyver_core.specs.LineOptions.{value_kind, value_names}
 use Rattle.pyver_core.specs.Messages.{unknown_message, usage_message}
-use Rattle.pyver_core.specs.Tasks.{Task, Help, NameVersion, Compare, Match, Filter, Sort, Newest, Show, Range, Misused, bump_from_words, bump_part_names, command_names, comparison_names, help_words, option_names, part_names, usage, wrong_number_message}
+use Rattle.pyver_core.specs.Tasks.{Task, Help, NameVersion, Compare, Match, Filter, Sort, Newest, Show, Range, Check, Misused, bump_from_words, bump_part_names, command_names, comparison_names, help_words, option_names, part_names, usage, wrong_number_message}
 use Rattle.pyver_core.specs.declared.command.Command.{Command}
 use Rattle.pyver_core.specs.declared.command.Command.TheVariants as command
 use Rattle.pyver_core.specs.declared.help.Topic.TheVariants as about
@@ -30,4 +30,5 @@ task (command.Newest options specifiers names) = Newest options specifiers.now (
 task (command.Show asked words) = Show asked (map string_bytes words.now)
 task (command.Bump to parts version) = bump_from_words to [] (map string_bytes parts.now) version.now
 task (command.Range options words) = Range options (map string_bytes words.now)
+task (command.Check json names) = Check json (map string_bytes names.now)
 task (command.Misused why) = Misused (misuse_message why)

@@ -23,7 +23,7 @@ use Rattle.pyver_core.specs.declared.comparison.Comparison.{Comparison}
 use Rattle.pyver_core.specs.declared.filter.FilterOptions.{FilterOptions}
 use Rattle.pyver_core.specs.declared.help.Topic.{Topic}
 use Rattle.pyver_core.specs.declared.help.Topic.TheVariants as topic
-use Rattle.pyver_core.specs.declared.help.TheConstants.{PROGRAM_HELP, COMPARE_HELP, MATCH_HELP, FILTER_HELP, SORT_HELP, NEWEST_HELP, SHOW_HELP, BUMP_HELP, RANGE_HELP, COMPARE_USAGE, MATCH_USAGE, FILTER_USAGE, SORT_USAGE, NEWEST_USAGE, SHOW_USAGE, BUMP_USAGE, RANGE_USAGE, PROGRAM_USAGE, VERSION_LINE}
+use Rattle.pyver_core.specs.declared.help.TheConstants.{PROGRAM_HELP, COMPARE_HELP, MATCH_HELP, FILTER_HELP, SORT_HELP, NEWEST_HELP, SHOW_HELP, BUMP_HELP, RANGE_HELP, CHECK_HELP, COMPARE_USAGE, MATCH_USAGE, FILTER_USAGE, SORT_USAGE, NEWEST_USAGE, SHOW_USAGE, BUMP_USAGE, RANGE_USAGE, CHECK_USAGE, PROGRAM_USAGE, VERSION_LINE}
 use Rattle.pyver_core.specs.declared.line_options.LineOptions.{LineOptions}
 use Rattle.pyver_core.specs.declared.line_options.ValueOption.{ValueOption}
 use Rattle.pyver_core.specs.declared.newest.NewestOptions.{NewestOptions}
@@ -48,13 +48,14 @@ pub data Task : Type 0 where
   Show : ShowFormat → List (List ℕ) → Task
   Bump : Option ℕ → List BumpPart → List ℕ → Task
   Range : RangeOptions → List (List ℕ) → Task
+  Check : Bool → List (List ℕ) → Task
   Misused : List ℕ → Task
 
 -- ---- the names of the program
 
 -- the names that a mistyped command is compared with
 abbrev pub command_names : List (List ℕ)
-command_names = codes "compare" ∷ (codes "match" ∷ (codes "filter" ∷ (codes "sort" ∷ (codes "newest" ∷ (codes "show" ∷ (codes "bump" ∷ (codes "range" ∷ (codes "--help" ∷ (codes "--version" ∷ [])))))))))
+command_names = codes "compare" ∷ (codes "match" ∷ (codes "filter" ∷ (codes "sort" ∷ (codes "newest" ∷ (codes "show" ∷ (codes "bump" ∷ (codes "range" ∷ (codes "check" ∷ (codes "--help" ∷ (codes "--version" ∷ []))))))))))
 
 -- the options of a command, with which a mistyped one is compared
 abbrev pub option_names : Topic → List (List ℕ)
@@ -67,6 +68,7 @@ option_names topic.Newest = codes "--help" ∷ (codes "--pre" ∷ (codes "--no-p
 option_names topic.Show = codes "--help" ∷ (codes "--part" ∷ (codes "--json" ∷ []))
 option_names topic.Bump = codes "--help" ∷ (codes "--to" ∷ [])
 option_names topic.Range = codes "--help" ∷ (codes "--cover" ∷ (codes "--json" ∷ []))
+option_names topic.Check = codes "--help" ∷ (codes "--json" ∷ [])
 
 -- the usage line of a command
 abbrev pub usage : Topic → List ℕ
@@ -79,6 +81,7 @@ usage topic.Newest = NEWEST_USAGE.now
 usage topic.Show = SHOW_USAGE.now
 usage topic.Bump = BUMP_USAGE.now
 usage topic.Range = RANGE_USAGE.now
+usage topic.Check = CHECK_USAGE.now
 
 -- the words that print the help of a command
 abbrev pub help_words : Topic → List ℕ
@@ -91,6 +94,7 @@ help_words topic.Newest = codes "pyver newest --help"
 help_words topic.Show = codes "pyver show --help"
 help_words topic.Bump = codes "pyver bump --help"
 help_words topic.Range = codes "pyver range --help"
+help_words topic.Check = codes "pyver check --help"
 
 -- the text of `--help`
 abbrev pub help_text : Topic → List ℕ
@@ -103,6 +107,7 @@ help_text topic.Newest = NEWEST_HELP.now
 help_text topic.Show = SHOW_HELP.now
 help_text topic.Bump = BUMP_HELP.now
 help_text topic.Range = RANGE_HELP.now
+help_text topic.Check = CHECK_HELP.now
 
 -- ---- words
 
@@ -469,6 +474,23 @@ range_task options (word ∷ rest) =
 abbrev pub no_range_options : RangeOptions
 no_range_options = record { cover = false; json = false }
 
+-- ---- `check [--json] [FILE..]`
+
+-- the words after the options, of which the first may be `--`
+abbrev pub check_rest : Bool → List ℕ → List (List ℕ) → Task
+check_rest json word rest =
+    if bytes_eq word (codes "--") then Check json rest
+    else if is_option word then wrong_option topic.Check word
+    else Check json (word ∷ rest)
+
+-- the task of the words after `check`: options come first
+abbrev pub check_task : Bool → List (List ℕ) → Task
+check_task json [] = Check json []
+check_task json (word ∷ rest) =
+    if is_help word then Help topic.Check
+    else if bytes_eq word (codes "--json") then check_task true rest
+    else check_rest json word rest
+
 -- ---- the program
 
 -- the task that the words ask for, of which the first is a command
@@ -485,6 +507,7 @@ task_of (word ∷ rest) =
     else if bytes_eq word (codes "show") then show_task (Some format.Normal) rest
     else if bytes_eq word (codes "bump") then bump_task (Some None) rest
     else if bytes_eq word (codes "range") then range_task no_range_options rest
+    else if bytes_eq word (codes "check") then check_task false rest
     else Misused (unknown_message (codes "command") word command_names (help_words topic.Program))
 
 -- the outcome of a text on standard output
@@ -495,7 +518,7 @@ printed text = record { output = text; errors = []; status = 0 }
 abbrev pub misuse : List ℕ → Outcome
 misuse message = record { output = []; errors = message; status = 2 }
 
--- the outcome of a task, if this is what is read
+-- the outcome of a task, if this is what is read; what `check` prints depends on whole files
 abbrev pub IsOutcome : Task → Input → Outcome → Type 0
 IsOutcome (Help about) input o = o ≡ printed (help_text about)
 IsOutcome NameVersion input o = o ≡ printed VERSION_LINE.now
@@ -507,9 +530,14 @@ IsOutcome (Newest options specifiers names) input o = FindsNewestLine options sp
 IsOutcome (Show asked words) input o = Shows asked words o
 IsOutcome (Bump to parts word) input o = Bumps to parts word o
 IsOutcome (Range options words) input o = FindsCommon options words o
+IsOutcome (Check json names) input o = ⊥
 IsOutcome (Misused message) input o = o ≡ misuse message
 
--- only `sort`, and `filter` and `newest` with a valid list, read sources
+-- the task is to check files
+abbrev pub IsCheck : Task → Type 0
+IsCheck task = (json : Bool) × (names : List (List ℕ)) × (task ≡ Check json names)
+
+-- of the others only `sort`, and `filter` and `newest` with a valid list, read sources
 abbrev pub NeedsInput : Task → Type 0
 NeedsInput (Filter options specifiers names) = (list : List Spec) × DerivesList specifiers list
 NeedsInput (Sort options names) = ⊤

@@ -12,6 +12,7 @@ use crate::allowed::{
 use crate::answer::Answer;
 use crate::bump::{bump_version, parse_bump_part};
 use crate::bump_words::parse_bump;
+use crate::check_words::parse_check;
 use crate::comparison::{Comparison, compare, parse_comparison};
 use crate::filter::{FilterOptions, FilterRule};
 use crate::filter_words::parse_filter;
@@ -46,6 +47,8 @@ pub(crate) enum Command<'a> {
     /// The number of the last part, the names of the parts, and the version.
     Bump(Option<u64>, &'a [String], &'a str),
     Range(RangeOptions, &'a [String]),
+    /// Whether JSON is asked for, and the names of the files.
+    Check(bool, &'a [String]),
     Misused(Misuse<'a>),
 }
 
@@ -58,6 +61,8 @@ pub(crate) enum Work<'a> {
     Filter(FilterRule, &'a [String]),
     /// To read the sources with these names to their ends, of which this is asked.
     Whole(Question, &'a [String]),
+    /// To check the files with these names, and to print JSON or not.
+    Check(bool, &'a [String]),
 }
 
 pub(crate) fn is_help(word: &str) -> bool
@@ -198,6 +203,7 @@ impl<'a> Command<'a> {
                 "show" => parse_show(rest),
                 "bump" => parse_bump(rest),
                 "range" => parse_range(rest),
+                "check" => parse_check(rest),
                 other => Command::Misused(Misuse::Command(other)),
             },
         }
@@ -232,6 +238,7 @@ impl<'a> Command<'a> {
             Command::Range(options, words) => {
                 Ok(Work::Answer(find_common(alloc, options, words)?))
             }
+            Command::Check(json, names) => Ok(Work::Check(json, names)),
             Command::Misused(misuse) => Ok(Work::Answer(report_misuse(alloc, misuse)?)),
         }
     }

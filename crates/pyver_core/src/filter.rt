@@ -76,7 +76,7 @@ fn push_unopened(errors: &mut Vec<u8>, unopened: Option<Unopened<'_>>) -> Result
     ensures { IfOk result (λ _. errors.new.items ≡ errors.old.items ++ unopened_message (option_map unopened_of unopened.entry)) }
 {
     match unopened {
-        Some(file) => push_file_fault(errors, file.name, file.failure.reason()),
+        Some(file) => push_file_fault(errors, file.name.as_bytes(), file.failure.reason()),
         None => Ok(()),
     }
 }

@@ -1,7 +1,7 @@
 // The loop of `filter` over a source.
 ghost use Rattle.std.specs.Prelude.{◌≡◌, ◌≤◌, ◌*◌, [], Some, IfErr, IfOk};
 ghost use Rattle.pyver_core.specs.FilterSteps.{SourceFinishes, SourceStops};
-ghost use Rattle.pyver_core.specs.SourceViews.{IsStopOf, origin_of};
+ghost use Rattle.pyver_core.specs.SourceViews.{IsReadingStop, IsStopOf, origin_of};
 
 use crate::filter::{FilterRule, FilterState};
 use crate::open_failure::push_file_fault;
@@ -17,13 +17,14 @@ pub(crate) const READ_SIZE: usize = 8192;
 
 /// A read of the source with this name failed.
 pub(crate) fn stop_reading(alloc: Global, name: &str) -> Stop
-    ensures { IsStopOf (Some name.now) result }
+    ensures of { IsStopOf (Some name.now) result }
+    ensures reading { IsReadingStop name.now result }
 {
     if is_input(name) {
         return Stop::Read;
     }
     let mut message = Vec::new(alloc);
-    match push_file_fault(&mut message, name, "a read failed") {
+    match push_file_fault(&mut message, name.as_bytes(), "a read failed") {
         Ok(()) => Stop::ReadFile(message),
         Err(_) => Stop::OutOfMemory,
     }

@@ -14,6 +14,7 @@ pub(crate) enum Topic {
     Show,
     Bump,
     Range,
+    Check,
 }
 
 const PROGRAM_USAGE: &str = "pyver COMMAND [WORD]..";
@@ -37,6 +38,8 @@ const BUMP_USAGE: &str = "pyver bump [--to N] PART.. V";
 
 const RANGE_USAGE: &str = "pyver range [--cover] [--json] SPECS..";
 
+const CHECK_USAGE: &str = "pyver check [--json] [FILE..]";
+
 pub(crate) const VERSION_LINE: &str = "pyver 0.2.0\n";
 
 const PROGRAM_HELP: &str = "usage: pyver COMMAND [WORD]..
@@ -52,6 +55,7 @@ commands:
   show V..           versions in normal form, or their parts
   bump PART.. V      the version with parts of it raised
   range SPECS..      the range of versions that all specifiers allow
+  check              what is wrong in requirements files
 
 'pyver COMMAND --help' tells more of a command. '--version' prints the program's version.
 The exit status is 0 for yes or done, 1 for no, 2 for a wrong use or an invalid version,
@@ -66,6 +70,7 @@ examples:
   pyver show --part major 1.19
   pyver bump minor 1.19
   pyver range '>=1,<2' '>=1.5'
+  pyver check requirements.txt
 ";
 
 const COMPARE_HELP: &str = "usage: pyver compare A OP B
@@ -248,6 +253,26 @@ examples:
   pyver range '>=1.16,!=1.18' '<2' '~=1.17'
 ";
 
+const CHECK_HELP: &str = "usage: pyver check [--json] [FILE..]
+
+Prints what is wrong in requirements files: lines that are no requirements, lines that no version
+satisfies together, and versions that one line names and another excludes. '-' and no file mean
+standard input. Files that lines name behind -r and -c are read too, each once; their paths are
+relative to the file that names them. Lines with different markers do not count together.
+How much was read is said on standard error, and how much was left out: options of pip, editables,
+paths, archives, URLs, and lines with a variable. The exit status is 0 where nothing is wrong, and 1
+where something is. Where a file cannot be opened nothing but that is said, and the exit status is 2.
+
+options:
+  --json  print an array of what is wrong
+  --      all words after it are no options
+
+examples:
+  pyver check requirements.txt
+  pyver check lock.txt constraints.txt
+  pip freeze | pyver check --json
+";
+
 /// What the help says.
 pub(crate) fn help(topic: Topic) -> &'static str
     ensures { result.now ≡ help_text topic }
@@ -262,6 +287,7 @@ pub(crate) fn help(topic: Topic) -> &'static str
         Topic::Show => SHOW_HELP,
         Topic::Bump => BUMP_HELP,
         Topic::Range => RANGE_HELP,
+        Topic::Check => CHECK_HELP,
     }
 }
 
@@ -279,6 +305,7 @@ pub(crate) fn help_words(topic: Topic) -> &'static str
         Topic::Show => "pyver show --help",
         Topic::Bump => "pyver bump --help",
         Topic::Range => "pyver range --help",
+        Topic::Check => "pyver check --help",
     }
 }
 
@@ -296,5 +323,6 @@ pub(crate) fn usage(topic: Topic) -> &'static str
         Topic::Show => SHOW_USAGE,
         Topic::Bump => BUMP_USAGE,
         Topic::Range => RANGE_USAGE,
+        Topic::Check => CHECK_USAGE,
     }
 }

@@ -33,13 +33,13 @@ impl OpenFailure {
 /// The message of a file at the end.
 pub(crate) fn push_file_fault(
     errors: &mut Vec<u8>,
-    name: &str,
+    name: &[u8],
     reason: &str,
 ) -> Result<(), AllocError>
     ensures { IfOk result (λ _. errors.new.items ≡ errors.old.items ++ file_message name.now reason.now) }
 {
     errors.extend_from_slice(b"pyver: ")?;
-    push_escaped(errors, name.as_bytes())?;
+    push_escaped(errors, name)?;
     errors.extend_from_slice(b": ")?;
     errors.extend_from_slice(reason.as_bytes())?;
     errors.push(b'\n')?;

@@ -1,10 +1,13 @@
 // The program over any reader and any writers.
-ghost use Rattle.std.specs.Prelude.{◌≡◌, ◌⊎◌, ◌≤◌, List, ℕ, map, string_bytes};
+ghost use Rattle.std.specs.Prelude.{◌≡◌, ◌⊎◌, ◌≤◌, Bool, List, ℕ, map, string_bytes};
 ghost use Rattle.pyver_core.specs.AnswerViews.{outcome_of};
+ghost use Rattle.pyver_core.specs.Checks.{EndsCheck};
 ghost use Rattle.pyver_core.specs.Runs.{Ends, IsWriteFailure, WritesAnswer, WroteBeginning, memory_message, write_message};
 ghost use Rattle.pyver_core.specs.SourceViews.{Reports};
+ghost use Rattle.pyver_core.specs.Tasks.{Check, IsCheck, task_of};
 
 use crate::answer::Answer;
+use crate::check::check_files;
 use crate::command::{Command, Work};
 use crate::files::Files;
 use crate::filter_sources::filter_sources;
@@ -76,7 +79,7 @@ fn report_stop<E: Write>(stop: Stop, err: &mut E) -> u8
 }
 
 /// Runs the command of the words and returns the status of the process: answers go to `out` and faults to `err`. Only
-/// `sort`, and `filter` and `newest` with a valid list, read `input` and open files.
+/// `sort` and `check`, and `filter` and `newest` with a valid list, read `input` and open files.
 pub fn run<F: Files, R: Read, W: Write, E: Write>(
     alloc: Global,
     words: &[String],
@@ -85,7 +88,8 @@ pub fn run<F: Files, R: Read, W: Write, E: Write>(
     out: &mut W,
     err: &mut E,
 ) -> u8
-    ensures { Ends F.known R.remaining W.contents E.contents (map string_bytes words.now) files.old files.new input.old input.new out.old out.new err.old err.new result }
+    ensures command { ¬ IsCheck (task_of (map string_bytes words.now)) → Ends F.known R.remaining W.contents E.contents (map string_bytes words.now) files.old files.new input.old input.new out.old out.new err.old err.new result }
+    ensures check { (json : Bool) (names : List (List ℕ)) → task_of (map string_bytes words.now) ≡ Check json names → EndsCheck F.known F.path R.remaining W.contents E.contents json names files.old files.new input.old input.new out.old out.new err.old err.new result }
 {
     match Command::parse(words).run(alloc) {
         Ok(Work::Answer(answer)) => write_answer(&answer, out, err),
@@ -101,6 +105,10 @@ pub fn run<F: Files, R: Read, W: Write, E: Write>(
                 Err(stop) => report_stop(stop, err),
             }
         }
+        Ok(Work::Check(json, names)) => match check_files(alloc, json, names, files, input) {
+            Ok(answer) => write_answer(&answer, out, err),
+            Err(stop) => report_stop(stop, err),
+        },
         Err(_) => refuse(err),
     }
 }

@@ -3,7 +3,7 @@ ghost use Rattle.std.specs.Prelude.{◌≡◌, ◌+◌, ◌<◌, ◌≤◌, ◌*
 ghost use Rattle.std.specs.Io.KnownBytes.{Consumes, IsAtEnd};
 ghost use Rattle.std.specs.Option.{option_map};
 ghost use Rattle.pyver_core.specs.Sources.{ReadsInput, source_names};
-ghost use Rattle.pyver_core.specs.SourceViews.{IsStopOf, origin_of, unopened_of};
+ghost use Rattle.pyver_core.specs.SourceViews.{IsReadingStop, IsStopOf, origin_of, unopened_of};
 ghost use Rattle.pyver_core.specs.SourceTexts.{StopsInSources, HasRoom, GainsSource, StopsInSource, ReadsTo, sources_of};
 
 use crate::files::Files;
@@ -30,7 +30,7 @@ pub(crate) struct SourceTexts<'a> {
 }
 
 /// What is left of the source with this name.
-fn read_text<R: Read>(
+pub(crate) fn read_text<R: Read>(
     alloc: Global,
     name: &str,
     read_count: &mut u64,
@@ -41,6 +41,7 @@ fn read_text<R: Read>(
     ensures room { IfOk result (λ text. (length text.items + 8192 * read_count.old < 8192 * read_count.new) × (read_count.new ≤ 562949953421312)) }
     ensures part { IfErr result (λ _. (read : List ℕ) × Consumes (R.remaining input.old) (R.remaining input.new) read) }
     ensures stop { IfErr result (IsStopOf (Some name.now)) }
+    ensures reading { IfErr result (IsReadingStop name.now) }
 {
     let mut text = Vec::new(alloc);
     let mut buffer = [0u8; READ_SIZE];

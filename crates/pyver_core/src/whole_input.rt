@@ -78,7 +78,11 @@ fn answer_unopened(alloc: Global, file: Unopened<'_>) -> Result<Answer, AllocErr
     ensures { IfOk result (λ a. outcome_of a ≡ unopened_outcome (unopened_of file.entry)) }
 {
     let mut answer = Answer::silent(alloc, 2);
-    push_file_fault(&mut answer.errors, file.name, file.failure.reason())?;
+    push_file_fault(
+        &mut answer.errors,
+        file.name.as_bytes(),
+        file.failure.reason(),
+    )?;
     Ok(answer)
 }
 

@@ -2,6 +2,7 @@ pub mod FileLines
 pub mod Demands
 pub mod Columns
 pub mod LineMeanings
+pub mod NamedFiles
 pub mod Findings
 pub mod Conflicts
 pub mod Reports

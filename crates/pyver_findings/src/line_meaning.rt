@@ -26,7 +26,7 @@ pub(crate) enum LineMeaning {
 }
 
 /// `://` stands somewhere in the text.
-fn has_scheme(text: &[u8]) -> bool
+pub(crate) fn has_scheme(text: &[u8]) -> bool
     ensures { result ≡ has_scheme text.now }
 {
     let mut rest = text;

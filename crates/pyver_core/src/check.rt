@@ -1,0 +1,78 @@
+// The command `check`: what is wrong in requirements files.
+ghost use Rattle.std.specs.Prelude.{◌≡◌, IfErr, IfOk, map, string_bytes};
+ghost use Rattle.pyver_core.specs.AnswerViews.{outcome_of};
+ghost use Rattle.pyver_core.specs.Checks.{Checks, ReportsFiles, StopsCheck};
+ghost use Rattle.pyver_findings.specs.Views.{file_of};
+
+use crate::answer::Answer;
+use crate::files::Files;
+use crate::open_failure::push_file_fault;
+use crate::requirement_files::{UnopenedFile, read_files};
+use crate::stream::Stop;
+use pyver_findings::{SourceFile, find_problems};
+use std::alloc::{AllocError, Global};
+use std::io::Read;
+
+/// What is to be written of these files.
+fn report_files(alloc: Global, json: bool, files: &[SourceFile]) -> Result<Answer, AllocError>
+    ensures { IfOk result (λ a. ReportsFiles json (map file_of files.now) (outcome_of a)) }
+{
+    let report = find_problems(alloc, files)?;
+    let output = if json {
+        report.to_json(alloc)?
+    } else {
+        report.to_text(alloc)?
+    };
+    let errors = report.summarize(alloc)?;
+    let status = if report.findings.is_empty() { 0 } else { 1 };
+    Ok(Answer {
+        output,
+        errors,
+        status,
+    })
+}
+
+/// The message of the file that was not opened, and nothing else.
+fn report_open_failure(alloc: Global, file: &UnopenedFile) -> Result<Answer, AllocError> {
+    let mut answer = Answer::silent(alloc, 2);
+    push_file_fault(
+        &mut answer.errors,
+        file.name.as_slice(),
+        file.failure.reason(),
+    )?;
+    Ok(answer)
+}
+
+fn answer_check(
+    alloc: Global,
+    json: bool,
+    files: &[SourceFile],
+    unopened: Option<&UnopenedFile>,
+) -> Result<Answer, AllocError> {
+    match unopened {
+        Some(file) => report_open_failure(alloc, file),
+        None => report_files(alloc, json, files),
+    }
+}
+
+/// Reads the files with these names and those that their lines name, and returns what is to be written.
+pub(crate) fn check_files<F: Files, R: Read>(
+    alloc: Global,
+    json: bool,
+    names: &[String],
+    files: &mut F,
+    input: &mut R,
+) -> Result<Answer, Stop>
+    ensures finished { IfOk result (λ a. Checks (F.known files.old) (F.path files.old) R.remaining json (map string_bytes names.now) input.old input.new (outcome_of a)) }
+    ensures stopped { IfErr result (StopsCheck (F.known files.old) (F.path files.old) R.remaining (map string_bytes names.now) input.old input.new) }
+    ensures kept { F.known files.new ≡ F.known files.old }
+{
+    let (read, unopened) = match read_files(alloc, names, files, input) {
+        Ok(found) => found,
+        Err(stop) => return Err(stop),
+    };
+    match answer_check(alloc, json, read.as_slice(), unopened.as_ref()) {
+        Ok(answer) => Ok(answer),
+        Err(_) => Err(Stop::OutOfMemory),
+    }
+}
