@@ -83,7 +83,7 @@ fn read_source<'a, R: Read>(
 }
 
 /// Reads the source with this name, or returns why it is not opened.
-fn read_named<'a, F: Files, R: Read>(
+fn open_and_read<'a, F: Files, R: Read>(
     alloc: Global,
     origin: Origin<'a>,
     state: &mut SourceTexts<'a>,
@@ -129,7 +129,7 @@ fn read_all<'a, F: Files, R: Read>(
     for name in names {
         let name = name.as_str();
         let origin = Origin { is_first, name };
-        match read_named(alloc, origin, state, files, input) {
+        match open_and_read(alloc, origin, state, files, input) {
             Ok(None) => is_first = false,
             Ok(Some(failure)) => return Ok(Some(Unopened { name, failure })),
             Err(stop) => return Err(stop),

@@ -74,7 +74,7 @@ fn answer_lines(
 }
 
 /// The message of a file that is not opened, and nothing else.
-fn answer_unopened(alloc: Global, file: Unopened<'_>) -> Result<Answer, AllocError>
+fn report_open_failure(alloc: Global, file: Unopened<'_>) -> Result<Answer, AllocError>
     ensures { IfOk result (λ a. outcome_of a ≡ unopened_outcome (unopened_of file.entry)) }
 {
     let mut answer = Answer::silent(alloc, 2);
@@ -93,7 +93,7 @@ fn answer_sources(
     ensures { IfOk result (λ a. AnswersInput question.now (record { sources = map source_of sources.now; unopened = option_map unopened_of unopened.entry }) (outcome_of a)) }
 {
     if let Some(file) = unopened {
-        return answer_unopened(alloc, file);
+        return report_open_failure(alloc, file);
     }
     let lines = VersionLines::read(alloc, question_lines(question), sources)?;
     answer_lines(alloc, question, lines)
