@@ -62,6 +62,7 @@ fn filter_all<'a, F: Files, R: Read, W: Write, E: Write>(
     requires new { (state.old.read_count ≡ 0) × (state.old.fault_count ≡ 0) × (state.old.output.items ≡ []) × (state.old.errors.items ≡ []) }
     ensures finished { IfOk result (λ unopened. AllFinish (F.known files.old) R.remaining W.contents E.contents rule.now (map string_bytes names.now) (option_map unopened_of unopened) state.new input.old input.new out.old out.new err.old err.new) }
     ensures stopped { IfErr result (AllStop (F.known files.old) R.remaining W.contents E.contents rule.now (map string_bytes names.now) input.old input.new out.old out.new err.old err.new) }
+    ensures kept { F.known files.new ≡ F.known files.old }
 {
     let mut is_first = true;
     for name in names {
@@ -90,6 +91,7 @@ fn filter_all_sources<'a, F: Files, R: Read, W: Write, E: Write>(
     requires new { (state.old.read_count ≡ 0) × (state.old.fault_count ≡ 0) × (state.old.output.items ≡ []) × (state.old.errors.items ≡ []) }
     ensures finished { IfOk result (λ unopened. AllFinish (F.known files.old) R.remaining W.contents E.contents rule.now (source_names (map string_bytes names.now)) (option_map unopened_of unopened) state.new input.old input.new out.old out.new err.old err.new) }
     ensures stopped { IfErr result (AllStop (F.known files.old) R.remaining W.contents E.contents rule.now (source_names (map string_bytes names.now)) input.old input.new out.old out.new err.old err.new) }
+    ensures kept { F.known files.new ≡ F.known files.old }
 {
     if !names.is_empty() {
         return filter_all(alloc, rule, names, state, files, input, out, err);
@@ -116,6 +118,7 @@ pub(crate) fn filter_sources<F: Files, R: Read, W: Write, E: Write>(
 ) -> Result<u8, Stop>
     ensures finished { IfOk result (λ status. (status ≤ 2) × FilterFinishes (F.known files.old) R.remaining W.contents E.contents rule.now (source_names (map string_bytes names.now)) input.old input.new out.old out.new err.old err.new status) }
     ensures stopped { IfErr result (FilterStops (F.known files.old) R.remaining W.contents E.contents rule.now (source_names (map string_bytes names.now)) input.old input.new out.old out.new err.old err.new) }
+    ensures kept { F.known files.new ≡ F.known files.old }
 {
     let mut state = FilterState::new(alloc);
     let unopened = match filter_all_sources(

@@ -124,6 +124,7 @@ fn read_all<'a, F: Files, R: Read>(
     ensures read { IfOk result (λ unopened. ReadsInput (F.known files.old) R.remaining (map string_bytes names.now) input.old input.new (record { sources = sources_of state.new; unopened = option_map unopened_of unopened })) }
     ensures room { IfOk result (λ _. HasRoom state.new) }
     ensures stopped { IfErr result (StopsInSources (F.known files.old) R.remaining (map string_bytes names.now) input.old input.new) }
+    ensures kept { F.known files.new ≡ F.known files.old }
 {
     let mut is_first = true;
     for name in names {
@@ -150,6 +151,7 @@ pub(crate) fn read_sources<'a, F: Files, R: Read>(
     ensures read { IfOk result (λ unopened. ReadsInput (F.known files.old) R.remaining (source_names (map string_bytes names.now)) input.old input.new (record { sources = sources_of state.new; unopened = option_map unopened_of unopened })) }
     ensures room { IfOk result (λ _. HasRoom state.new) }
     ensures stopped { IfErr result (StopsInSources (F.known files.old) R.remaining (source_names (map string_bytes names.now)) input.old input.new) }
+    ensures kept { F.known files.new ≡ F.known files.old }
 {
     if !names.is_empty() {
         return read_all(alloc, names, state, files, input);

@@ -111,6 +111,7 @@ pub(crate) fn answer_input<F: Files, R: Read, W: Write, E: Write>(
 ) -> Result<u8, Stop>
     ensures finished { IfOk result (λ status. (status ≤ 2) × WholeFinishes (F.known files.old) R.remaining W.contents E.contents question.now (source_names (map string_bytes names.now)) input.old input.new out.old out.new err.old err.new status) }
     ensures stopped { IfErr result (WholeStops (F.known files.old) R.remaining W.contents E.contents question.now (source_names (map string_bytes names.now)) input.old input.new out.old out.new err.old err.new) }
+    ensures kept { F.known files.new ≡ F.known files.old }
 {
     let mut state = SourceTexts {
         texts: Vec::new(alloc),
