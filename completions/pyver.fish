@@ -12,33 +12,25 @@ complete -c pyver -n '__fish_seen_subcommand_from match' -l pre -d 'allow pre-re
 complete -c pyver -n '__fish_seen_subcommand_from match' -l no-pre -d 'allow no pre-releases and no dev releases'
 
 complete -c pyver -n __fish_use_subcommand -a filter -d 'the lines of files whose version the specifiers allow'
-complete -c pyver -n '__fish_seen_subcommand_from filter' -F
 complete -c pyver -n '__fish_seen_subcommand_from filter' -s v -l invert-match -d 'print the other lines, but no invalid ones'
 complete -c pyver -n '__fish_seen_subcommand_from filter' -l pre -d 'allow pre-releases and dev releases too'
 complete -c pyver -n '__fish_seen_subcommand_from filter' -l no-pre -d 'allow no pre-releases and no dev releases'
-complete -c pyver -n '__fish_seen_subcommand_from filter' -s k -l field -x -d 'the field that is the version, from 1'
-complete -c pyver -n '__fish_seen_subcommand_from filter' -s d -l delimiter -x -d 'the byte between fields'
-complete -c pyver -n '__fish_seen_subcommand_from filter' -l header -d 'print the first line first, which is no version'
-complete -c pyver -n '__fish_seen_subcommand_from filter' -l invalid -x -a 'error skip keep' -d 'what is done with invalid lines'
 
 complete -c pyver -n __fish_use_subcommand -a sort -d 'the lines of files in the order of their versions'
-complete -c pyver -n '__fish_seen_subcommand_from sort' -F
 complete -c pyver -n '__fish_seen_subcommand_from sort' -s r -l reverse -d 'the newest first'
 complete -c pyver -n '__fish_seen_subcommand_from sort' -s u -l unique -d 'of lines of equal versions the first alone'
 complete -c pyver -n '__fish_seen_subcommand_from sort' -s n -l last -x -d 'the last lines alone'
-complete -c pyver -n '__fish_seen_subcommand_from sort' -s k -l field -x -d 'the field that is the version, from 1'
-complete -c pyver -n '__fish_seen_subcommand_from sort' -s d -l delimiter -x -d 'the byte between fields'
-complete -c pyver -n '__fish_seen_subcommand_from sort' -l header -d 'print the first line first, which is no version'
-complete -c pyver -n '__fish_seen_subcommand_from sort' -l invalid -x -a 'error skip keep' -d 'what is done with invalid lines'
 
 complete -c pyver -n __fish_use_subcommand -a newest -d 'the line of the newest version that the specifiers allow'
-complete -c pyver -n '__fish_seen_subcommand_from newest' -F
 complete -c pyver -n '__fish_seen_subcommand_from newest' -l pre -d 'allow pre-releases and dev releases as all others'
 complete -c pyver -n '__fish_seen_subcommand_from newest' -l no-pre -d 'allow no pre-releases and no dev releases'
-complete -c pyver -n '__fish_seen_subcommand_from newest' -s k -l field -x -d 'the field that is the version, from 1'
-complete -c pyver -n '__fish_seen_subcommand_from newest' -s d -l delimiter -x -d 'the byte between fields'
+
+complete -c pyver -n '__fish_seen_subcommand_from filter sort newest' -F
+complete -c pyver -n '__fish_seen_subcommand_from filter sort newest' -s k -l field -x -d 'the field that is the version, from 1'
+complete -c pyver -n '__fish_seen_subcommand_from filter sort newest' -s d -l delimiter -x -d 'the byte between fields'
+complete -c pyver -n '__fish_seen_subcommand_from filter sort' -l header -d 'print the first line first, which is no version'
 complete -c pyver -n '__fish_seen_subcommand_from newest' -l header -d 'leave out the first line, which is no version'
-complete -c pyver -n '__fish_seen_subcommand_from newest' -l invalid -x -a 'error skip keep' -d 'what is done with invalid lines'
+complete -c pyver -n '__fish_seen_subcommand_from filter sort newest' -l invalid -x -a 'error skip keep' -d 'what is done with invalid lines'
 
 complete -c pyver -n __fish_use_subcommand -a show -d 'versions in normal form, or their parts'
 complete -c pyver -n '__fish_seen_subcommand_from show' -l part -x -a 'epoch release major minor micro pre post dev local public base' -d 'print a part alone'

@@ -114,9 +114,10 @@ module _ {F R W E : Type 0} (known : F → List ℕ → KnownFile) (remaining : 
   -- an answer that needs no input
   pub ends_by_answer : (o : Outcome) → ¬ NeedsInput (task_of words) → ((input : Input) → IsOutcome (task_of words) input o) → reader' ≡ reader → files' ≡ files → WritesAnswer contents error_contents o out out' err err' status
       → Ends known remaining contents error_contents words files files' reader reader' out out' err err' status
-  ends_by_answer o needless is same kept (inl k) = record {
+  ends_by_answer o needless is same unopened (inl k) = record {
     known_status = inl (omega (arith, k.0));
-    unread = λ _. (same, kept);
+    unread = λ _. (same, unopened);
+    kept = ap known unopened;
     finished = λ _. record { input = no_input; read = λ n. absurd (needless n); outcome = o; is = is no_input; written = k.1 };
     stopped = λ n _. absurd (needless n);
     memory = λ _ e. absurd (omega (arith, k.0, e));
@@ -126,9 +127,10 @@ module _ {F R W E : Type 0} (known : F → List ℕ → KnownFile) (remaining : 
       failed_low : {A : Type 0} → (status ≡ 4) ⊎ (status ≡ 141) → status ≤ 2 → A
       failed_low (inl e) low = absurd (omega (arith, e, low))
       failed_low (inr e) low = absurd (omega (arith, e, low))
-  ends_by_answer o needless is same kept (inr k) = record {
+  ends_by_answer o needless is same unopened (inr k) = record {
     known_status = known_of k.0;
-    unread = λ _. (same, kept);
+    unread = λ _. (same, unopened);
+    kept = ap known unopened;
     finished = λ low. absurd (high k.0 low);
     stopped = λ n _. absurd (needless n);
     memory = λ _ e. absurd (other k.0 e);
@@ -148,11 +150,12 @@ module _ {F R W E : Type 0} (known : F → List ℕ → KnownFile) (remaining : 
       other (inr e) three = absurd (omega (arith, e, three))
 
   -- all was read and written
-  pub ends_by_all : (input : Input) (o : Outcome) → NeedsInput (task_of words) → status ≤ 2 → ReadsInput (known files) remaining (names_of (task_of words)) reader reader' input → IsOutcome (task_of words) input o
+  pub ends_by_all : (input : Input) (o : Outcome) → NeedsInput (task_of words) → known files' ≡ known files → status ≤ 2 → ReadsInput (known files) remaining (names_of (task_of words)) reader reader' input → IsOutcome (task_of words) input o
       → Appends (contents out) (contents out') o.output → Appends (error_contents err) (error_contents err') o.errors → status ≡ o.status → Ends known remaining contents error_contents words files files' reader reader' out out' err err' status
-  ends_by_all input o needs low read is output errors ended = record {
+  ends_by_all input o needs same low read is output errors ended = record {
     known_status = inl (omega (arith, low));
     unread = λ needless. absurd (needless needs);
+    kept = same;
     finished = λ _. record { input = input; read = λ _. read; outcome = o; is = is; written = record { output = output; errors = errors; ended = ended } };
     stopped = λ _ high. absurd (high low);
     memory = λ needless _. absurd (needless needs);
@@ -160,16 +163,16 @@ module _ {F R W E : Type 0} (known : F → List ℕ → KnownFile) (remaining : 
   }
 
   -- the sources were filtered
-  pub ends_by_filter : (rule : FilterRule) (names : List (List ℕ)) → NeedsInput (task_of words) → names_of (task_of words) ≡ names → ((input : Input) (o : Outcome) → Filters rule input o → IsOutcome (task_of words) input o)
+  pub ends_by_filter : (rule : FilterRule) (names : List (List ℕ)) → NeedsInput (task_of words) → known files' ≡ known files → names_of (task_of words) ≡ names → ((input : Input) (o : Outcome) → Filters rule input o → IsOutcome (task_of words) input o)
       → status ≤ 2 → FilterFinishes (known files) remaining contents error_contents rule names reader reader' out out' err err' status → Ends known remaining contents error_contents words files files' reader reader' out out' err err' status
-  ends_by_filter rule names needs same is low k =
-      ends_by_all k.input k.outcome needs low (subst (λ n. ReadsInput (known files) remaining n reader reader' k.input) (sym same) k.reads) (is k.input k.outcome k.is) k.output k.errors k.ended
+  ends_by_filter rule names needs kept same is low k =
+      ends_by_all k.input k.outcome needs kept low (subst (λ n. ReadsInput (known files) remaining n reader reader' k.input) (sym same) k.reads) (is k.input k.outcome k.is) k.output k.errors k.ended
 
   -- all sources were read before anything was written
-  pub ends_by_whole : (asked : Question) (names : List (List ℕ)) → NeedsInput (task_of words) → names_of (task_of words) ≡ names → ((input : Input) (o : Outcome) → AnswersInput asked input o → IsOutcome (task_of words) input o)
+  pub ends_by_whole : (asked : Question) (names : List (List ℕ)) → NeedsInput (task_of words) → known files' ≡ known files → names_of (task_of words) ≡ names → ((input : Input) (o : Outcome) → AnswersInput asked input o → IsOutcome (task_of words) input o)
       → status ≤ 2 → WholeFinishes (known files) remaining contents error_contents asked names reader reader' out out' err err' status → Ends known remaining contents error_contents words files files' reader reader' out out' err err' status
-  ends_by_whole asked names needs same is low k =
-      ends_by_all k.input k.outcome needs low (subst (λ n. ReadsInput (known files) remaining n reader reader' k.input) (sym same) k.reads) (is k.input k.outcome k.is) k.output k.errors k.ended
+  ends_by_whole asked names needs kept same is low k =
+      ends_by_all k.input k.outcome needs kept low (subst (λ n. ReadsInput (known files) remaining n reader reader' k.input) (sym same) k.reads) (is k.input k.outcome k.is) k.output k.errors k.ended
 
   -- what was read and written before the last message
   pub record Began (why : Stop) (told : E) : Type 0 where
@@ -214,13 +217,14 @@ module _ {F R W E : Type 0} (known : F → List ℕ → KnownFile) (remaining : 
       some_of (inr (read, first, none, without)) = inr (read, subst (λ n. ReadsFirst (known files) remaining n reader reader' read) (sym same) first, (none, λ stream. absurd (whole stream), λ _. without))
 
   -- a run stopped, and then the last message was written
-  pub ends_by_stop : (why : Stop) (told : E) (message : List ℕ) → NeedsInput (task_of words) → Began why told → Reports why status message → WroteBeginning (error_contents told) (error_contents err') message
+  pub ends_by_stop : (why : Stop) (told : E) (message : List ℕ) → NeedsInput (task_of words) → known files' ≡ known files → Began why told → Reports why status message → WroteBeginning (error_contents told) (error_contents err') message
       → Ends known remaining contents error_contents words files files' reader reader' out out' err err' status
-  ends_by_stop why told message needs k reports wrote =
+  ends_by_stop why told message needs same k reports wrote =
       let last = is_last (last_name k.input.sources) why status message k.stops reports in
       record {
         known_status = last_known (last_name k.input.sources) status message last;
         unread = λ needless. absurd (needless needs);
+        kept = same;
         finished = λ low. absurd (not_low (last_name k.input.sources) status message last low);
         stopped = λ _ _. record {
           input = k.input;
@@ -242,9 +246,10 @@ module _ {F R W E : Type 0} (known : F → List ℕ → KnownFile) (remaining : 
   -- memory ran out before anything was read or written
   pub ends_at_once : reader' ≡ reader → files' ≡ files → out' ≡ out → status ≡ 3 → WroteBeginning (error_contents err) (error_contents err') memory_message
       → Ends known remaining contents error_contents words files files' reader reader' out out' err err' status
-  ends_at_once same unopened kept three wrote = record {
+  ends_at_once same unopened unwritten three wrote = record {
     known_status = inl (omega (arith, three));
     unread = λ _. (same, unopened);
+    kept = ap known unopened;
     finished = λ low. absurd (omega (arith, low, three));
     stopped = λ needs _.
         let first = first_source (task_of words) needs in
@@ -255,7 +260,7 @@ module _ {F R W E : Type 0} (known : F → List ℕ → KnownFile) (remaining : 
           read = inr (blank_source first.0 ∷ [], inr (subst (λ r. ReadsFront (known files) remaining (names_of (task_of words)) reader r (blank_source first.0 ∷ [])) (sym same) part), (refl, λ _. refl, λ _. refl));
           outcome = o.0;
           is = o.1;
-          output = record { written = []; left = o.0.output; wrote = subst (λ w. Appends (contents out) (contents w) []) (sym kept) (Appends-nil (contents out)); whole = refl };
+          output = record { written = []; left = o.0.output; wrote = subst (λ w. Appends (contents out) (contents w) []) (sym unwritten) (Appends-nil (contents out)); whole = refl };
           told = [];
           untold = o.0.errors;
           errors_are = refl;
@@ -263,7 +268,7 @@ module _ {F R W E : Type 0} (known : F → List ℕ → KnownFile) (remaining : 
           last = inl (three, refl);
           errors = wrote;
         };
-    memory = λ _ _. (kept, wrote);
+    memory = λ _ _. (unwritten, wrote);
     failed = λ _ e. absurd (other e);
   }
     where

@@ -7,7 +7,7 @@ use Rattle.std.specs.Io.KnownBytes.{Appends, Consumes}
 use Rattle.std.specs.List.{AllZip, concat}
 use Rattle.pyver_core.proofs.Filtering.{began, first-append, length-faults, printed_lines-append, some_of_all, wrote_front, wrote_none}
 use Rattle.pyver_core.proofs.InputLines.{all_append, filled_lines-last, some_line}
-use Rattle.pyver_core.specs.FilterSteps.{AllFinish, AllStop, FilterFinishes, FilterStops, FinishesBy, NamedReads, NamedRefuses, NamedStops, SourceFinishes, SourceStops, WroteAll}
+use Rattle.pyver_core.specs.FilterSteps.{AllFinish, AllStop, FilterFinishes, FilterStops, FinishesBy, OneReads, OneRefuses, OneStops, SourceFinishes, SourceStops, WroteAll}
 use Rattle.pyver_core.specs.Filters.{filter_outcome, printed_lines}
 use Rattle.pyver_core.specs.InputLines.{Origin, Source, input_lines}
 use Rattle.pyver_core.specs.InvalidLines.{last_message, lines_status, message_limit}
@@ -61,7 +61,7 @@ begun_more a b xs rest all k is = record {
 
 module _ {R W E : Type 0} (files : List ℕ → KnownFile) (remaining : R → Option (List ℕ)) (contents : W → Option (List ℕ)) (error_contents : E → Option (List ℕ)) (rule : FilterRule) (origin : Origin) (earlier : ℕ) where
   pub input_reads : (b : FilterState) (reader reader' : R) (out out' : W) (err err' : E) → is_input origin.name ≡ true → SourceFinishes remaining contents error_contents rule origin earlier b reader reader' out out' err err'
-      → NamedReads files remaining contents error_contents rule origin earlier b reader reader' out out' err err'
+      → OneReads files remaining contents error_contents rule origin earlier b reader reader' out out' err err'
   input_reads b reader reader' out out' err err' named k = record {
     source = record { origin = origin; lines = input_lines k.read };
     reads = record {
@@ -75,7 +75,7 @@ module _ {R W E : Type 0} (files : List ℕ → KnownFile) (remaining : R → Op
   }
 
   pub input_stops : (reader reader' : R) (out out' : W) (err err' : E) (stop : Stop) → is_input origin.name ≡ true → SourceStops remaining contents error_contents rule origin earlier reader reader' out out' err err' → IsStopOf (Some origin.name) stop
-      → NamedStops files remaining contents error_contents rule origin earlier reader reader' out out' err err' stop
+      → OneStops files remaining contents error_contents rule origin earlier reader reader' out out' err err' stop
   input_stops reader reader' out out' err err' stop named k stops = record {
     source = record { origin = origin; lines = k.front };
     lines = record {
@@ -92,7 +92,7 @@ module _ {R W E : Type 0} (files : List ℕ → KnownFile) (remaining : R → Op
   }
 
   pub file_reads : {S : Type 0} (left_of : S → Option (List ℕ)) (b : FilterState) (file file' : S) (reader : R) (out out' : W) (err err' : E) → is_input origin.name ≡ false → MayOpen (files origin.name) (left_of file)
-      → SourceFinishes left_of contents error_contents rule origin earlier b file file' out out' err err' → NamedReads files remaining contents error_contents rule origin earlier b reader reader out out' err err'
+      → SourceFinishes left_of contents error_contents rule origin earlier b file file' out out' err err' → OneReads files remaining contents error_contents rule origin earlier b reader reader out out' err err'
   file_reads left_of b file file' reader out out' err err' named opens k = record {
     source = record { origin = origin; lines = input_lines k.read };
     reads = record {
@@ -106,7 +106,7 @@ module _ {R W E : Type 0} (files : List ℕ → KnownFile) (remaining : R → Op
   }
 
   pub file_stops : {S : Type 0} (left_of : S → Option (List ℕ)) (file file' : S) (reader : R) (out out' : W) (err err' : E) (stop : Stop) → is_input origin.name ≡ false → MayOpen (files origin.name) (left_of file)
-      → SourceStops left_of contents error_contents rule origin earlier file file' out out' err err' → IsStopOf (Some origin.name) stop → NamedStops files remaining contents error_contents rule origin earlier reader reader out out' err err' stop
+      → SourceStops left_of contents error_contents rule origin earlier file file' out out' err err' → IsStopOf (Some origin.name) stop → OneStops files remaining contents error_contents rule origin earlier reader reader out out' err err' stop
   file_stops left_of file file' reader out out' err err' stop named opens k stops = record {
     source = record { origin = origin; lines = k.front };
     lines = record {
@@ -124,7 +124,7 @@ module _ {R W E : Type 0} (files : List ℕ → KnownFile) (remaining : R → Op
 
   -- memory ran out before the file was opened
   pub unopened_stops : (a : FilterState) (reader : R) (out : W) (err : E) (stop : Stop) → is_input origin.name ≡ false → earlier ≡ a.fault_count → a.output.items ≡ [] → a.errors.items ≡ [] → IsStopOf (Some origin.name) stop
-      → NamedStops files remaining contents error_contents rule origin earlier reader reader out out err err stop
+      → OneStops files remaining contents error_contents rule origin earlier reader reader out out err err stop
   unopened_stops a reader out err stop named count output errors stops = record {
     source = record { origin = origin; lines = [] };
     lines = record {
@@ -179,7 +179,7 @@ module _ {R W E : Type 0} (files : List ℕ → KnownFile) (remaining : R → Op
   }
 
   module _ (rule : FilterRule) (read : List (List ℕ)) (b : FilterState) (reader reader' reader'' : R) (out out' out'' : W) (err err' err'' : E) (k : GoesOn rule read b reader reader' out out' err err') where
-    pub goes_on_more : (next : List ℕ) (c : FilterState) → NamedReads files remaining contents error_contents rule (record { is_first = is_none read; name = next }) b.fault_count c reader' reader'' out' out'' err' err''
+    pub goes_on_more : (next : List ℕ) (c : FilterState) → OneReads files remaining contents error_contents rule (record { is_first = is_none read; name = next }) b.fault_count c reader' reader'' out' out'' err' err''
         → GoesOn rule (read ++ next ∷ []) c reader reader'' out out'' err err''
     goes_on_more next c m =
         let w = k.wrote in
@@ -200,7 +200,7 @@ module _ {R W E : Type 0} (files : List ℕ → KnownFile) (remaining : R → Op
           };
         }
 
-    pub goes_on_refused : (next : List ℕ) (left : List (List ℕ)) (failure : OpenFailure) (c : FilterState) → NamedRefuses files remaining contents error_contents (record { is_first = is_none read; name = next }) failure b c reader' reader'' out' out'' err' err''
+    pub goes_on_refused : (next : List ℕ) (left : List (List ℕ)) (failure : OpenFailure) (c : FilterState) → OneRefuses files remaining contents error_contents (record { is_first = is_none read; name = next }) failure b c reader' reader'' out' out'' err' err''
         → AllFinish files remaining contents error_contents rule (read ++ next ∷ left) (Some (record { name = next; failure = failure })) c reader reader'' out out'' err err''
     goes_on_refused next left failure c m = record {
       sources = k.sources;
@@ -215,7 +215,7 @@ module _ {R W E : Type 0} (files : List ℕ → KnownFile) (remaining : R → Op
           (subst (λ o. WroteAll contents error_contents rule k.sources b out o err err'') (sym m.out_kept) (subst (λ e. WroteAll contents error_contents rule k.sources b out out' err e) (sym m.err_kept) k.wrote));
     }
 
-    pub goes_on_stops : (next : List ℕ) (left : List (List ℕ)) (stop : Stop) → NamedStops files remaining contents error_contents rule (record { is_first = is_none read; name = next }) b.fault_count reader' reader'' out' out'' err' err'' stop
+    pub goes_on_stops : (next : List ℕ) (left : List (List ℕ)) (stop : Stop) → OneStops files remaining contents error_contents rule (record { is_first = is_none read; name = next }) b.fault_count reader' reader'' out' out'' err' err'' stop
         → AllStop files remaining contents error_contents rule (read ++ next ∷ left) reader reader'' out out'' err err'' stop
     goes_on_stops next left stop m =
         let w = k.wrote in
@@ -325,20 +325,20 @@ module _ {R W E : Type 0} (files : List ℕ → KnownFile) (remaining : R → Op
 -- what was said of a source, of equal files, and of a source that is the first or not
 module _ {R W E : Type 0} (files files' : List ℕ → KnownFile) (remaining : R → Option (List ℕ)) (contents : W → Option (List ℕ)) (error_contents : E → Option (List ℕ)) (rule : FilterRule) (read : List (List ℕ)) (first : Bool) (next : List ℕ)
     (same : files' ≡ files) (is : first ≡ is_none read) where
-  pub same_reads : (earlier : ℕ) (b : FilterState) (reader reader' : R) (out out' : W) (err err' : E) → NamedReads files' remaining contents error_contents rule (record { is_first = first; name = next }) earlier b reader reader' out out' err err'
-      → NamedReads files remaining contents error_contents rule (record { is_first = is_none read; name = next }) earlier b reader reader' out out' err err'
+  pub same_reads : (earlier : ℕ) (b : FilterState) (reader reader' : R) (out out' : W) (err err' : E) → OneReads files' remaining contents error_contents rule (record { is_first = first; name = next }) earlier b reader reader' out out' err err'
+      → OneReads files remaining contents error_contents rule (record { is_first = is_none read; name = next }) earlier b reader reader' out out' err err'
   same_reads earlier b reader reader' out out' err err' k =
-      subst (λ f. NamedReads f remaining contents error_contents rule (record { is_first = is_none read; name = next }) earlier b reader reader' out out' err err') same
-      (subst (λ first. NamedReads files' remaining contents error_contents rule (record { is_first = first; name = next }) earlier b reader reader' out out' err err') is k)
+      subst (λ f. OneReads f remaining contents error_contents rule (record { is_first = is_none read; name = next }) earlier b reader reader' out out' err err') same
+      (subst (λ first. OneReads files' remaining contents error_contents rule (record { is_first = first; name = next }) earlier b reader reader' out out' err err') is k)
 
-  pub same_refuses : (failure : OpenFailure) (a b : FilterState) (reader reader' : R) (out out' : W) (err err' : E) → NamedRefuses files' remaining contents error_contents (record { is_first = first; name = next }) failure a b reader reader' out out' err err'
-      → NamedRefuses files remaining contents error_contents (record { is_first = is_none read; name = next }) failure a b reader reader' out out' err err'
+  pub same_refuses : (failure : OpenFailure) (a b : FilterState) (reader reader' : R) (out out' : W) (err err' : E) → OneRefuses files' remaining contents error_contents (record { is_first = first; name = next }) failure a b reader reader' out out' err err'
+      → OneRefuses files remaining contents error_contents (record { is_first = is_none read; name = next }) failure a b reader reader' out out' err err'
   same_refuses failure a b reader reader' out out' err err' k =
-      subst (λ f. NamedRefuses f remaining contents error_contents (record { is_first = is_none read; name = next }) failure a b reader reader' out out' err err') same
-      (subst (λ first. NamedRefuses files' remaining contents error_contents (record { is_first = first; name = next }) failure a b reader reader' out out' err err') is k)
+      subst (λ f. OneRefuses f remaining contents error_contents (record { is_first = is_none read; name = next }) failure a b reader reader' out out' err err') same
+      (subst (λ first. OneRefuses files' remaining contents error_contents (record { is_first = first; name = next }) failure a b reader reader' out out' err err') is k)
 
-  pub same_stops : (earlier : ℕ) (reader reader' : R) (out out' : W) (err err' : E) (stop : Stop) → NamedStops files' remaining contents error_contents rule (record { is_first = first; name = next }) earlier reader reader' out out' err err' stop
-      → NamedStops files remaining contents error_contents rule (record { is_first = is_none read; name = next }) earlier reader reader' out out' err err' stop
+  pub same_stops : (earlier : ℕ) (reader reader' : R) (out out' : W) (err err' : E) (stop : Stop) → OneStops files' remaining contents error_contents rule (record { is_first = first; name = next }) earlier reader reader' out out' err err' stop
+      → OneStops files remaining contents error_contents rule (record { is_first = is_none read; name = next }) earlier reader reader' out out' err err' stop
   same_stops earlier reader reader' out out' err err' stop k =
-      subst (λ f. NamedStops f remaining contents error_contents rule (record { is_first = is_none read; name = next }) earlier reader reader' out out' err err' stop) same
-      (subst (λ first. NamedStops files' remaining contents error_contents rule (record { is_first = first; name = next }) earlier reader reader' out out' err err' stop) is k)
+      subst (λ f. OneStops f remaining contents error_contents rule (record { is_first = is_none read; name = next }) earlier reader reader' out out' err err' stop) same
+      (subst (λ first. OneStops files' remaining contents error_contents rule (record { is_first = first; name = next }) earlier reader reader' out out' err err' stop) is k)

@@ -107,13 +107,13 @@ module _ {S W E : Type 0} (remaining : S → Option (List ℕ)) (contents : W �
 
 module _ {R W E : Type 0} (files : List ℕ → KnownFile) (remaining : R → Option (List ℕ)) (contents : W → Option (List ℕ)) (error_contents : E → Option (List ℕ)) where
   -- the source with this name was read, and all that it asks for was written
-  pub record NamedReads (rule : FilterRule) (origin : Origin) (earlier : ℕ) (b : FilterState) (reader reader' : R) (out out' : W) (err err' : E) : Type 0 where
+  pub record OneReads (rule : FilterRule) (origin : Origin) (earlier : ℕ) (b : FilterState) (reader reader' : R) (out out' : W) (err err' : E) : Type 0 where
     pub source : Source
     pub reads : ReadsSource files remaining origin reader reader' source
     pub wrote : Wrote contents error_contents rule source earlier b out out' err err'
 
   -- the file with this name was not opened, and nothing was done
-  pub record NamedRefuses (origin : Origin) (failure : OpenFailure) (a b : FilterState) (reader reader' : R) (out out' : W) (err err' : E) : Type 0 where
+  pub record OneRefuses (origin : Origin) (failure : OpenFailure) (a b : FilterState) (reader reader' : R) (out out' : W) (err err' : E) : Type 0 where
     pub file : is_input origin.name ≡ false
     pub refuses : MayRefuse (files origin.name) failure
     pub state : b ≡ a
@@ -121,12 +121,12 @@ module _ {R W E : Type 0} (files : List ℕ → KnownFile) (remaining : R → Op
     pub out_kept : out' ≡ out
     pub err_kept : err' ≡ err
 
-  abbrev pub NamedFinishes : FilterRule → Origin → FilterState → FilterState → R → R → W → W → E → E → Option OpenFailure → Type 0
-  NamedFinishes rule origin a b reader reader' out out' err err' None = NamedReads rule origin a.fault_count b reader reader' out out' err err'
-  NamedFinishes rule origin a b reader reader' out out' err err' (Some failure) = NamedRefuses origin failure a b reader reader' out out' err err'
+  abbrev pub OneFinishes : FilterRule → Origin → FilterState → FilterState → R → R → W → W → E → E → Option OpenFailure → Type 0
+  OneFinishes rule origin a b reader reader' out out' err err' None = OneReads rule origin a.fault_count b reader reader' out out' err err'
+  OneFinishes rule origin a b reader reader' out out' err err' (Some failure) = OneRefuses origin failure a b reader reader' out out' err err'
 
   -- some lines of the source with this name were read, and a beginning of what they ask for was written
-  pub record NamedStops (rule : FilterRule) (origin : Origin) (earlier : ℕ) (reader reader' : R) (out out' : W) (err err' : E) (stop : Stop) : Type 0 where
+  pub record OneStops (rule : FilterRule) (origin : Origin) (earlier : ℕ) (reader reader' : R) (out out' : W) (err err' : E) (stop : Stop) : Type 0 where
     pub source : Source
     pub lines : ReadsLines files remaining origin reader reader' source
     pub wrote : WroteSome contents error_contents rule source earlier out out' err err'

@@ -100,10 +100,11 @@ module _ {F R W E : Type 0} (known : F → List ℕ → KnownFile) (remaining : 
     pub cut : IsCutOutput contents error_contents outcome out out' err err' ⊎ IsCutErrors contents error_contents outcome out out' err err'
 
   -- what a run wrote, by its status: 3 if memory ran out, 4 if a read or a write failed, 141 if nobody reads. Without an input
-  -- nothing is written before memory ran out
+  -- nothing is written before memory ran out. What is known of each file stays
   pub record Ends (words : List (List ℕ)) (files files' : F) (reader reader' : R) (out out' : W) (err err' : E) (status : ℕ) : Type 0 where
     pub known_status : (status ≤ 4) ⊎ (status ≡ 141)
     pub unread : ¬ NeedsInput (task_of words) → (reader' ≡ reader) × (files' ≡ files)
+    pub kept : known files' ≡ known files
     pub finished : status ≤ 2 → IsFinished words files reader reader' out out' err err' status
     pub stopped : NeedsInput (task_of words) → ¬ (status ≤ 2) → IsStopped words files reader reader' out out' err err' status
     pub memory : ¬ NeedsInput (task_of words) → status ≡ 3 → (out' ≡ out) × WroteBeginning (error_contents err) (error_contents err') memory_message

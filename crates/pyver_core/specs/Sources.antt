@@ -110,14 +110,14 @@ module _ {R : Type 0} (files : List ℕ → KnownFile) (remaining : R → Option
   ReadsText false file reader reader' text left = Consumes (known_bytes file) left text × (reader' ≡ reader)
 
   -- this text was read of the source with this name
-  abbrev pub ReadsNamed : List ℕ → R → R → List ℕ → Option (List ℕ) → Type 0
-  ReadsNamed name reader reader' text left = ReadsText (is_input name) (files name) reader reader' text left
+  abbrev pub ReadsByName : List ℕ → R → R → List ℕ → Option (List ℕ) → Type 0
+  ReadsByName name reader reader' text left = ReadsText (is_input name) (files name) reader reader' text left
 
   -- a source was read to its end
   pub record ReadsSource (origin : Origin) (reader reader' : R) (source : Source) : Type 0 where
     pub text : List ℕ
     pub left : Option (List ℕ)
-    pub reads : ReadsNamed origin.name reader reader' text left
+    pub reads : ReadsByName origin.name reader reader' text left
     pub end : IsAtEnd left
     pub is : source ≡ record { origin = origin; lines = input_lines text }
 
@@ -125,7 +125,7 @@ module _ {R : Type 0} (files : List ℕ → KnownFile) (remaining : R → Option
   pub record ReadsLines (origin : Origin) (reader reader' : R) (source : Source) : Type 0 where
     pub text : List ℕ
     pub left : Option (List ℕ)
-    pub reads : ReadsNamed origin.name reader reader' text left
+    pub reads : ReadsByName origin.name reader reader' text left
     pub rest : List (List ℕ)
     pub split : input_lines text ≡ source.lines ++ rest
     pub whole : rest ≡ [] → IsAtEnd left

@@ -72,7 +72,7 @@ pub(crate) struct Unopened<'a> {
     pub(crate) failure: OpenFailure,
 }
 
-fn push_unopened(errors: &mut Vec<u8>, unopened: Option<Unopened<'_>>) -> Result<(), AllocError>
+fn push_open_failure(errors: &mut Vec<u8>, unopened: Option<Unopened<'_>>) -> Result<(), AllocError>
     ensures { IfOk result (λ _. errors.new.items ≡ errors.old.items ++ unopened_message (option_map unopened_of unopened.entry)) }
 {
     match unopened {
@@ -265,7 +265,7 @@ impl FilterState {
     {
         let invalid = rule.lines.invalid;
         invalid.push_last(alloc, &mut self.errors, self.fault_count)?;
-        push_unopened(&mut self.errors, unopened)?;
+        push_open_failure(&mut self.errors, unopened)?;
         Ok(unopened_status(unopened, invalid.status(self.fault_count)))
     }
 

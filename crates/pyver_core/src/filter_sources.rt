@@ -1,7 +1,7 @@
 // The sources of `filter`, one after another.
 ghost use Rattle.std.specs.Prelude.{◌≡◌, ◌≤◌, ◌*◌, [], IfErr, IfOk, map, string_bytes};
 ghost use Rattle.std.specs.Option.{option_map};
-ghost use Rattle.pyver_core.specs.FilterSteps.{AllFinish, AllStop, FilterFinishes, FilterStops, NamedFinishes, NamedStops};
+ghost use Rattle.pyver_core.specs.FilterSteps.{AllFinish, AllStop, FilterFinishes, FilterStops, OneFinishes, OneStops};
 ghost use Rattle.pyver_core.specs.Sources.{source_names};
 ghost use Rattle.pyver_core.specs.SourceViews.{origin_of, unopened_of};
 
@@ -15,7 +15,7 @@ use std::alloc::Global;
 use std::io::{Read, Write};
 
 /// Filters a source, or returns why it is not opened.
-fn filter_named<F: Files, R: Read, W: Write, E: Write>(
+fn open_and_filter<F: Files, R: Read, W: Write, E: Write>(
     alloc: Global,
     rule: &FilterRule,
     origin: Origin<'_>,
@@ -27,9 +27,9 @@ fn filter_named<F: Files, R: Read, W: Write, E: Write>(
 ) -> Result<Option<OpenFailure>, Stop>
     requires nothing { (state.old.output.items ≡ []) × (state.old.errors.items ≡ []) }
     requires room { state.old.fault_count ≤ 8192 * state.old.read_count }
-    ensures finished { IfOk result (NamedFinishes (F.known files.old) R.remaining W.contents E.contents rule.now (origin_of origin.entry) state.old state.new input.old input.new out.old out.new err.old err.new) }
+    ensures finished { IfOk result (OneFinishes (F.known files.old) R.remaining W.contents E.contents rule.now (origin_of origin.entry) state.old state.new input.old input.new out.old out.new err.old err.new) }
     ensures room { IfOk result (λ _. state.new.fault_count ≤ 8192 * state.new.read_count) }
-    ensures stopped { IfErr result (NamedStops (F.known files.old) R.remaining W.contents E.contents rule.now (origin_of origin.entry) state.old.fault_count input.old input.new out.old out.new err.old err.new) }
+    ensures stopped { IfErr result (OneStops (F.known files.old) R.remaining W.contents E.contents rule.now (origin_of origin.entry) state.old.fault_count input.old input.new out.old out.new err.old err.new) }
     ensures kept { F.known files.new ≡ F.known files.old }
 {
     if is_input(origin.name) {
@@ -62,12 +62,13 @@ fn filter_all<'a, F: Files, R: Read, W: Write, E: Write>(
     requires new { (state.old.read_count ≡ 0) × (state.old.fault_count ≡ 0) × (state.old.output.items ≡ []) × (state.old.errors.items ≡ []) }
     ensures finished { IfOk result (λ unopened. AllFinish (F.known files.old) R.remaining W.contents E.contents rule.now (map string_bytes names.now) (option_map unopened_of unopened) state.new input.old input.new out.old out.new err.old err.new) }
     ensures stopped { IfErr result (AllStop (F.known files.old) R.remaining W.contents E.contents rule.now (map string_bytes names.now) input.old input.new out.old out.new err.old err.new) }
+    ensures kept { F.known files.new ≡ F.known files.old }
 {
     let mut is_first = true;
     for name in names {
         let name = name.as_str();
         let origin = Origin { is_first, name };
-        match filter_named(alloc, rule, origin, state, files, input, out, err) {
+        match open_and_filter(alloc, rule, origin, state, files, input, out, err) {
             Ok(None) => is_first = false,
             Ok(Some(failure)) => return Ok(Some(Unopened { name, failure })),
             Err(stop) => return Err(stop),
@@ -77,7 +78,7 @@ fn filter_all<'a, F: Files, R: Read, W: Write, E: Write>(
 }
 
 /// Filters the sources that the names mean, up to one that is not opened.
-fn filter_meant<'a, F: Files, R: Read, W: Write, E: Write>(
+fn filter_all_sources<'a, F: Files, R: Read, W: Write, E: Write>(
     alloc: Global,
     rule: &FilterRule,
     names: &'a [String],
@@ -90,6 +91,7 @@ fn filter_meant<'a, F: Files, R: Read, W: Write, E: Write>(
     requires new { (state.old.read_count ≡ 0) × (state.old.fault_count ≡ 0) × (state.old.output.items ≡ []) × (state.old.errors.items ≡ []) }
     ensures finished { IfOk result (λ unopened. AllFinish (F.known files.old) R.remaining W.contents E.contents rule.now (source_names (map string_bytes names.now)) (option_map unopened_of unopened) state.new input.old input.new out.old out.new err.old err.new) }
     ensures stopped { IfErr result (AllStop (F.known files.old) R.remaining W.contents E.contents rule.now (source_names (map string_bytes names.now)) input.old input.new out.old out.new err.old err.new) }
+    ensures kept { F.known files.new ≡ F.known files.old }
 {
     if !names.is_empty() {
         return filter_all(alloc, rule, names, state, files, input, out, err);
@@ -116,9 +118,12 @@ pub(crate) fn filter_sources<F: Files, R: Read, W: Write, E: Write>(
 ) -> Result<u8, Stop>
     ensures finished { IfOk result (λ status. (status ≤ 2) × FilterFinishes (F.known files.old) R.remaining W.contents E.contents rule.now (source_names (map string_bytes names.now)) input.old input.new out.old out.new err.old err.new status) }
     ensures stopped { IfErr result (FilterStops (F.known files.old) R.remaining W.contents E.contents rule.now (source_names (map string_bytes names.now)) input.old input.new out.old out.new err.old err.new) }
+    ensures kept { F.known files.new ≡ F.known files.old }
 {
     let mut state = FilterState::new(alloc);
-    let unopened = match filter_meant(alloc, rule, names, &mut state, files, input, out, err) {
+    let unopened = match filter_all_sources(
+        alloc, rule, names, &mut state, files, input, out, err,
+    ) {
         Ok(unopened) => unopened,
         Err(stop) => return Err(stop),
     };

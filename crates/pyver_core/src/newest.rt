@@ -39,7 +39,7 @@ fn is_newer(newest: Option<&VersionLine<'_>>, version: &Version) -> bool
 }
 
 /// Of the lines that the list allows the newest, of equal ones the first.
-fn find_allowed<'t, 'a>(
+fn select_newest<'t, 'a>(
     alloc: Global,
     takes: bool,
     list: &VersionSpecifiers,
@@ -65,10 +65,10 @@ fn find_candidate<'t, 'a>(
     ensures { IfOk result (λ newest. NewestLine (candidates rule.now (map version_line_of lines.now)) (option_map (λ x. version_line_of x.now) newest)) }
 {
     let takes = takes_prereleases(rule.prereleases, &rule.list);
-    let newest = find_allowed(alloc, takes, &rule.list, lines)?;
+    let newest = select_newest(alloc, takes, &rule.list, lines)?;
     match rule.prereleases {
         Prereleases::Listed => match newest {
-            None => find_allowed(alloc, true, &rule.list, lines),
+            None => select_newest(alloc, true, &rule.list, lines),
             Some(_) => Ok(newest),
         },
         Prereleases::Always => Ok(newest),

@@ -84,7 +84,7 @@ fn read_source<'a, R: Read>(
 }
 
 /// Reads the source with this name, or returns why it is not opened.
-fn read_named<'a, F: Files, R: Read>(
+fn open_and_read<'a, F: Files, R: Read>(
     alloc: Global,
     origin: Origin<'a>,
     state: &mut SourceTexts<'a>,
@@ -125,12 +125,13 @@ fn read_all<'a, F: Files, R: Read>(
     ensures read { IfOk result (λ unopened. ReadsInput (F.known files.old) R.remaining (map string_bytes names.now) input.old input.new (record { sources = sources_of state.new; unopened = option_map unopened_of unopened })) }
     ensures room { IfOk result (λ _. HasRoom state.new) }
     ensures stopped { IfErr result (StopsInSources (F.known files.old) R.remaining (map string_bytes names.now) input.old input.new) }
+    ensures kept { F.known files.new ≡ F.known files.old }
 {
     let mut is_first = true;
     for name in names {
         let name = name.as_str();
         let origin = Origin { is_first, name };
-        match read_named(alloc, origin, state, files, input) {
+        match open_and_read(alloc, origin, state, files, input) {
             Ok(None) => is_first = false,
             Ok(Some(failure)) => return Ok(Some(Unopened { name, failure })),
             Err(stop) => return Err(stop),
@@ -151,6 +152,7 @@ pub(crate) fn read_sources<'a, F: Files, R: Read>(
     ensures read { IfOk result (λ unopened. ReadsInput (F.known files.old) R.remaining (source_names (map string_bytes names.now)) input.old input.new (record { sources = sources_of state.new; unopened = option_map unopened_of unopened })) }
     ensures room { IfOk result (λ _. HasRoom state.new) }
     ensures stopped { IfErr result (StopsInSources (F.known files.old) R.remaining (source_names (map string_bytes names.now)) input.old input.new) }
+    ensures kept { F.known files.new ≡ F.known files.old }
 {
     if !names.is_empty() {
         return read_all(alloc, names, state, files, input);

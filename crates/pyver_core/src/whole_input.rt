@@ -74,7 +74,7 @@ fn answer_lines(
 }
 
 /// The message of a file that is not opened, and nothing else.
-fn answer_unopened(alloc: Global, file: Unopened<'_>) -> Result<Answer, AllocError>
+fn report_open_failure(alloc: Global, file: Unopened<'_>) -> Result<Answer, AllocError>
     ensures { IfOk result (λ a. outcome_of a ≡ unopened_outcome (unopened_of file.entry)) }
 {
     let mut answer = Answer::silent(alloc, 2);
@@ -97,7 +97,7 @@ fn answer_sources(
     ensures { IfOk result (λ a. AnswersInput question.now (record { sources = map source_of sources.now; unopened = option_map unopened_of unopened.entry }) (outcome_of a)) }
 {
     if let Some(file) = unopened {
-        return answer_unopened(alloc, file);
+        return report_open_failure(alloc, file);
     }
     let lines = VersionLines::read(alloc, question_lines(question), sources)?;
     answer_lines(alloc, question, lines)
@@ -115,6 +115,7 @@ pub(crate) fn answer_input<F: Files, R: Read, W: Write, E: Write>(
 ) -> Result<u8, Stop>
     ensures finished { IfOk result (λ status. (status ≤ 2) × WholeFinishes (F.known files.old) R.remaining W.contents E.contents question.now (source_names (map string_bytes names.now)) input.old input.new out.old out.new err.old err.new status) }
     ensures stopped { IfErr result (WholeStops (F.known files.old) R.remaining W.contents E.contents question.now (source_names (map string_bytes names.now)) input.old input.new out.old out.new err.old err.new) }
+    ensures kept { F.known files.new ≡ F.known files.old }
 {
     let mut state = SourceTexts {
         texts: Vec::new(alloc),

@@ -8,7 +8,7 @@ use Rattle.std.proofs.lemmas.List.Elements.{All-append, All-cons, All-contains_i
 use Rattle.std.specs.List.{All, Any, Contains, filter, flat_map, list_any}
 use Rattle.pep440_pick.specs.Names.{normal}
 use Rattle.pyver_findings.specs.Demands.{Demand}
-use Rattle.pyver_findings.specs.Conflicts.{common_cover, conflicts, counts_under, excludes, first_mentions, is_empty, of_all, of_few, of_markers, of_name, of_one, of_pairs, of_two, pin_conflict, same_marked, same_marker, same_named, under}
+use Rattle.pyver_findings.specs.Conflicts.{common_cover, conflicts, counts_under, excludes, first_mentions, is_empty, of_all, of_few, of_markers, of_name, of_one, of_pairs, of_two, pin_conflict, has_same_marker, same_marker, has_same_name, under}
 use Rattle.pyver_findings.specs.FileLines.{FileLine}
 use Rattle.pyver_findings.specs.FindingLaws.{ConflictsAreFound, IsAmong}
 use Rattle.pyver_findings.specs.Findings.{Conflicting, Finding}
@@ -180,10 +180,10 @@ module _ {K : Type 0} (key : Demand → K) where
 
 -- ---- names and markers
 
-name_yes : (a b : Demand) → same_named a b ≡ true → normal a.name ≡ normal b.name
+name_yes : (a b : Demand) → has_same_name a b ≡ true → normal a.name ≡ normal b.name
 name_yes a b e = (bytes_eq-Decides (normal a.name) (normal b.name)).0 e
 
-name_alike : (a b : Demand) → normal a.name ≡ normal b.name → same_named a b ≡ true
+name_alike : (a b : Demand) → normal a.name ≡ normal b.name → has_same_name a b ≡ true
 name_alike a b e = (bytes_eq-Decides (normal a.name) (normal b.name)).1 e
 
 marker_yes : (m n : Option (List ℕ)) → same_marker m n ≡ true → m ≡ n
@@ -256,18 +256,18 @@ module _ (lines : List Demand) (marker : Option (List ℕ)) where
 
   -- a line has the marker
   by_line : is_empty (common_cover (under marker lines)) ≡ true → (a : Demand) → HasKey (λ (x : Demand). x.marker) a.marker lines → a.marker ≡ marker
-      → Some_is Fits (of_few lines ++ flat_map (λ (b : Demand). of_all (under b.marker lines)) (first_mentions same_marked [] lines))
+      → Some_is Fits (of_few lines ++ flat_map (λ (b : Demand). of_all (under b.marker lines)) (first_mentions has_same_marker [] lines))
   by_line none a has is =
-      let each = flat_map (λ (b : Demand). of_all (under b.marker lines)) (first_mentions same_marked [] lines) in
+      let each = flat_map (λ (b : Demand). of_all (under b.marker lines)) (first_mentions has_same_marker [] lines) in
       elim (all_or_few (map (λ (b : Demand). b.line) (under marker lines)) (under marker lines) all_ones none) [
         | inl r ↦ in_right Fits (of_few lines) each
-            (reach (λ (x : Demand). x.marker) same_marked (λ x y. marker_yes x.marker y.marker) (λ x y. marker_alike x.marker y.marker) Fits (λ (b : Demand). of_all (under b.marker lines)) a
+            (reach (λ (x : Demand). x.marker) has_same_marker (λ x y. marker_yes x.marker y.marker) (λ x y. marker_alike x.marker y.marker) Fits (λ (b : Demand). of_all (under b.marker lines)) a
             (λ b e. subst (λ n. Some_is Fits (of_all (under n lines))) (sym (e ∙ is)) r) [] lines refl has)
         | inr r ↦ in_left Fits (of_few lines) each (few_kept Fits (counts_under marker) lines r)
       ]
 
 by_marker : (lines : List Demand) (marker : Option (List ℕ)) → is_empty (common_cover (under marker lines)) ≡ true → is_empty (common_cover (under None lines)) ≡ false
-    → Some_is (Fits lines marker) (of_few lines ++ flat_map (λ (b : Demand). of_all (under b.marker lines)) (first_mentions same_marked [] lines))
+    → Some_is (Fits lines marker) (of_few lines ++ flat_map (λ (b : Demand). of_all (under b.marker lines)) (first_mentions has_same_marker [] lines))
 by_marker lines None none e = absurd (true≢false (sym none ∙ e))
 by_marker lines (Some m) none e =
     elim (marked m lines) [
@@ -276,7 +276,7 @@ by_marker lines (Some m) none e =
     ]
 
 by_both : (lines : List Demand) (marker : Option (List ℕ)) (b : Bool) → is_empty (common_cover (under marker lines)) ≡ true → is_empty (common_cover (under None lines)) ≡ b
-    → Some_is (Fits lines marker) (of_few lines ++ (if b then of_all (under None lines) else flat_map (λ (a : Demand). of_all (under a.marker lines)) (first_mentions same_marked [] lines)))
+    → Some_is (Fits lines marker) (of_few lines ++ (if b then of_all (under None lines) else flat_map (λ (a : Demand). of_all (under a.marker lines)) (first_mentions has_same_marker [] lines)))
 by_both lines marker true none e = by_none lines marker e
 by_both lines marker false none e = by_marker lines marker none e
 
@@ -285,8 +285,8 @@ in_name lines marker none = by_both lines marker (is_empty (common_cover (under 
 
 pub conflicts_are_found : ConflictsAreFound
 conflicts_are_found lines a marker (k, inside, is) none =
-    let P = Fits (filter (same_named a) lines) marker in
+    let P = Fits (filter (has_same_name a) lines) marker in
     any_is P (conflicts lines)
-    (reach (λ (x : Demand). normal x.name) same_named name_yes name_alike P (λ (b : Demand). of_name (filter (same_named b) lines)) a
-    (λ b e. subst (λ n. Some_is P (of_name (filter (λ (c : Demand). bytes_eq n (normal c.name)) lines))) (sym e) (in_name (filter (same_named a) lines) marker none)) [] lines refl
+    (reach (λ (x : Demand). normal x.name) has_same_name name_yes name_alike P (λ (b : Demand). of_name (filter (has_same_name b) lines)) a
+    (λ b e. subst (λ n. Some_is P (of_name (filter (λ (c : Demand). bytes_eq n (normal c.name)) lines))) (sym e) (in_name (filter (has_same_name a) lines) marker none)) [] lines refl
     (contains_key (λ (x : Demand). normal x.name) a lines k inside is))

@@ -17,7 +17,7 @@ use Rattle.pep440_version.specs.Key.{record_cmp}
 use Rattle.pep440_version.specs.KeyLaws.{record_total}
 use Rattle.pep440_version.specs.Record.{Record}
 use Rattle.pyver_findings.specs.Demands.{Demand, line_demand, or_all}
-use Rattle.pyver_findings.specs.Conflicts.{common_cover, conflicts, counts_under, excludes, first_mentions, pin_is_apart, is_empty, meets, of_all, of_few, of_markers, of_name, of_one, of_pairs, of_two, pin_conflict, same_marked, same_named, under}
+use Rattle.pyver_findings.specs.Conflicts.{common_cover, conflicts, counts_under, excludes, first_mentions, pin_is_apart, is_empty, meets, of_all, of_few, of_markers, of_name, of_one, of_pairs, of_two, pin_conflict, has_same_marker, has_same_name, under}
 use Rattle.pyver_findings.specs.FileLines.{File, FileLine, all_lines}
 use Rattle.pyver_findings.specs.FindingLaws.{LineAllows, FindingsHold, IsRight}
 use Rattle.pyver_findings.specs.Findings.{Conflicting, Finding, NoRequirement}
@@ -164,14 +164,14 @@ by_empty false one other right also = also
 markers_right : (lines : List Demand) → All IsCovered lines → All IsRight (of_markers lines)
 markers_right lines k =
     by_empty (is_empty (common_cover (under None lines))) _ _ (under_right None lines k)
-    (any_right (λ (a : Demand). of_all (under a.marker lines)) (λ a. under_right a.marker lines k) (first_mentions same_marked [] lines))
+    (any_right (λ (a : Demand). of_all (under a.marker lines)) (λ a. under_right a.marker lines k) (first_mentions has_same_marker [] lines))
 
 name_right : (lines : List Demand) → All IsCovered lines → All IsRight (of_name lines)
 name_right lines k = All-append IsRight (of_few lines) (of_markers lines) (few_right lines k) (markers_right lines k)
 
 conflicts_right : (lines : List Demand) → All IsCovered lines → All IsRight (conflicts lines)
 conflicts_right lines k =
-    any_right (λ (a : Demand). of_name (filter (same_named a) lines)) (λ a. name_right (filter (same_named a) lines) (All-filter (same_named a) IsCovered lines k)) (first_mentions same_named [] lines)
+    any_right (λ (a : Demand). of_name (filter (has_same_name a) lines)) (λ a. name_right (filter (has_same_name a) lines) (All-filter (has_same_name a) IsCovered lines k)) (first_mentions has_same_name [] lines)
 
 -- ---- all findings
 

@@ -14,8 +14,8 @@ use Rattle.pyver_findings.specs.declared.finding.Conflict.TheVariants.{NoVersion
 -- ---- which lines count together
 
 -- the two lines have one name
-abbrev pub same_named : Demand → Demand → Bool
-same_named a b = same_name a.name b.name
+abbrev pub has_same_name : Demand → Demand → Bool
+has_same_name a b = same_name a.name b.name
 
 -- both markers are the same bytes, or there is neither
 abbrev pub same_marker : Option (List ℕ) → Option (List ℕ) → Bool
@@ -25,8 +25,8 @@ same_marker (Some a) None = false
 same_marker (Some a) (Some b) = bytes_eq a b
 
 -- the two lines have the same marker
-abbrev pub same_marked : Demand → Demand → Bool
-same_marked a b = same_marker a.marker b.marker
+abbrev pub has_same_marker : Demand → Demand → Bool
+has_same_marker a b = same_marker a.marker b.marker
 
 -- the line counts under the marker: it has none, or this one
 abbrev pub counts_under : Option (List ℕ) → Demand → Bool
@@ -91,7 +91,7 @@ under marker lines = filter (counts_under marker) lines
 -- the lines without a marker decide where their intersection is empty, and otherwise those of each marker
 abbrev pub of_markers : List Demand → List Finding
 of_markers lines = if is_empty (common_cover (under None lines)) then of_all (under None lines)
-    else flat_map (λ (a : Demand). of_all (under a.marker lines)) (first_mentions same_marked [] lines)
+    else flat_map (λ (a : Demand). of_all (under a.marker lines)) (first_mentions has_same_marker [] lines)
 
 -- of all lines of one name
 abbrev pub of_name : List Demand → List Finding
@@ -101,4 +101,4 @@ of_name lines = of_few lines ++ of_markers lines
 
 -- of each name, in the order in which they are first mentioned
 abbrev pub conflicts : List Demand → List Finding
-conflicts lines = flat_map (λ (a : Demand). of_name (filter (same_named a) lines)) (first_mentions same_named [] lines)
+conflicts lines = flat_map (λ (a : Demand). of_name (filter (has_same_name a) lines)) (first_mentions has_same_name [] lines)

@@ -7,7 +7,7 @@ use Rattle.pep440_rs.specs.Cover.{IsDenoted}
 use Rattle.pep440_rs.specs.Matching.{list_matches}
 use Rattle.pep440_version.specs.Record.{Record}
 use Rattle.pyver_findings.specs.Demands.{Demand}
-use Rattle.pyver_findings.specs.Conflicts.{common_cover, conflicts, same_named, under}
+use Rattle.pyver_findings.specs.Conflicts.{common_cover, conflicts, has_same_name, under}
 use Rattle.pyver_findings.specs.FileLines.{File, FileLine}
 use Rattle.pyver_findings.specs.Findings.{Conflicting, Finding, NoRequirement}
 use Rattle.pyver_findings.specs.LineMeanings.{IsMeaning, LineMeaning}
@@ -34,8 +34,8 @@ IsAmong lines (Conflicting conflict reported) = All (Contains lines) reported
 
 -- where the covers of the lines of a name that count under a marker have in common, some of these lines are reported together
 abbrev pub ConflictsAreFound : Type 0
-ConflictsAreFound = (lines : List Demand) (a : Demand) (marker : Option (List ℕ)) → Contains lines a → common_cover (under marker (filter (same_named a) lines)) ≡ []
-    → Any (IsAmong (map (λ (b : Demand). b.line) (under marker (filter (same_named a) lines)))) (conflicts lines)
+ConflictsAreFound = (lines : List Demand) (a : Demand) (marker : Option (List ℕ)) → Contains lines a → common_cover (under marker (filter (has_same_name a) lines)) ≡ []
+    → Any (IsAmong (map (λ (b : Demand). b.line) (under marker (filter (has_same_name a) lines)))) (conflicts lines)
 
 -- a line has at most one meaning
 abbrev pub MeaningsOnce : Type 0

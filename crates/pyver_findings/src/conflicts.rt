@@ -1,7 +1,7 @@
 // The names in requirements files, and what is wrong with the lines of each.
 ghost use Rattle.std.specs.Prelude.{◌≡◌, ◌++◌, [], IfOk, map, if◌then◌else◌};
 ghost use Rattle.std.specs.List.{filter, list_any};
-ghost use Rattle.pyver_findings.specs.Conflicts.{conflicts, of_name, same_named};
+ghost use Rattle.pyver_findings.specs.Conflicts.{conflicts, of_name, has_same_name};
 ghost use Rattle.pyver_findings.specs.Views.{demand_of, finding_of};
 
 use crate::demand::Demand;
@@ -10,8 +10,8 @@ use crate::group::push_of_name;
 use pep440_pick::same_name;
 use std::alloc::{AllocError, Global};
 
-fn same_named(one: &Demand, other: &Demand) -> bool
-    ensures { result ≡ same_named (demand_of one.now) (demand_of other.now) }
+fn has_same_name(one: &Demand, other: &Demand) -> bool
+    ensures { result ≡ has_same_name (demand_of one.now) (demand_of other.now) }
 {
     same_name(one.name.as_str(), other.name.as_str())
 }
@@ -22,11 +22,11 @@ fn of_same_name<'a>(
     line: &Demand,
     lines: &'a [Demand],
 ) -> Result<Vec<&'a Demand>, AllocError>
-    ensures { IfOk result (λ kept. map (λ x. demand_of x.now) kept.items ≡ filter (same_named (demand_of line.now)) (map demand_of lines.now)) }
+    ensures { IfOk result (λ kept. map (λ x. demand_of x.now) kept.items ≡ filter (has_same_name (demand_of line.now)) (map demand_of lines.now)) }
 {
     let mut kept = Vec::new(alloc);
     for other in lines {
-        if same_named(line, other) {
+        if has_same_name(line, other) {
             kept.push(other)?;
         }
     }
@@ -34,10 +34,10 @@ fn of_same_name<'a>(
 }
 
 fn has_name(lines: &[Demand], line: &Demand) -> bool
-    ensures { result ≡ list_any (same_named (demand_of line.now)) (map demand_of lines.now) }
+    ensures { result ≡ list_any (has_same_name (demand_of line.now)) (map demand_of lines.now) }
 {
     for other in lines {
-        if same_named(line, other) {
+        if has_same_name(line, other) {
             return true;
         }
     }
@@ -52,7 +52,7 @@ fn push_with_name(
     before: &[Demand],
     line: &Demand,
 ) -> Result<(), AllocError>
-    ensures { IfOk result (λ _. map finding_of findings.new.items ≡ map finding_of findings.old.items ++ (if list_any (same_named (demand_of line.now)) (map demand_of before.now) then [] else of_name (filter (same_named (demand_of line.now)) (map demand_of lines.now)))) }
+    ensures { IfOk result (λ _. map finding_of findings.new.items ≡ map finding_of findings.old.items ++ (if list_any (has_same_name (demand_of line.now)) (map demand_of before.now) then [] else of_name (filter (has_same_name (demand_of line.now)) (map demand_of lines.now)))) }
 {
     if has_name(before, line) {
         return Ok(());

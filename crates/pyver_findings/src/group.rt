@@ -1,7 +1,7 @@
 // Lines of one name, as they count together.
 ghost use Rattle.std.specs.Prelude.{◌≡◌, ◌++◌, ◌==◌, [], IfOk, length, map, option_map, if◌then◌else◌};
 ghost use Rattle.std.specs.List.{flat_map, list_any};
-ghost use Rattle.pyver_findings.specs.Conflicts.{common_cover, first_mentions, of_all, of_few, of_markers, of_name, same_marked, under};
+ghost use Rattle.pyver_findings.specs.Conflicts.{common_cover, first_mentions, of_all, of_few, of_markers, of_name, has_same_marker, under};
 ghost use Rattle.pyver_findings.specs.Views.{demand_of, finding_of};
 
 use crate::demand::Demand;
@@ -62,7 +62,7 @@ fn push_of_all(
 
 /// One of the lines has the same marker.
 fn has_marker(lines: &[&Demand], line: &Demand) -> bool
-    ensures { result ≡ list_any (same_marked (demand_of line.now)) (map (λ x. demand_of x.now) lines.now) }
+    ensures { result ≡ list_any (has_same_marker (demand_of line.now)) (map (λ x. demand_of x.now) lines.now) }
 {
     for other in lines {
         if same_marker(&line.marker, &other.marker) {
@@ -80,7 +80,7 @@ fn push_of_marker(
     before: &[&Demand],
     line: &Demand,
 ) -> Result<(), AllocError>
-    ensures { IfOk result (λ _. map finding_of findings.new.items ≡ map finding_of findings.old.items ++ (if list_any (same_marked (demand_of line.now)) (map (λ x. demand_of x.now) before.now) then [] else of_all (under (demand_of line.now).marker (map (λ x. demand_of x.now) lines.now)))) }
+    ensures { IfOk result (λ _. map finding_of findings.new.items ≡ map finding_of findings.old.items ++ (if list_any (has_same_marker (demand_of line.now)) (map (λ x. demand_of x.now) before.now) then [] else of_all (under (demand_of line.now).marker (map (λ x. demand_of x.now) lines.now)))) }
 {
     if has_marker(before, line) {
         return Ok(());
@@ -94,7 +94,7 @@ fn push_of_each_marker(
     findings: &mut Vec<Finding>,
     lines: &[&Demand],
 ) -> Result<(), AllocError>
-    ensures { IfOk result (λ _. map finding_of findings.new.items ≡ map finding_of findings.old.items ++ flat_map (λ a. of_all (under a.marker (map (λ x. demand_of x.now) lines.now))) (first_mentions same_marked [] (map (λ x. demand_of x.now) lines.now))) }
+    ensures { IfOk result (λ _. map finding_of findings.new.items ≡ map finding_of findings.old.items ++ flat_map (λ a. of_all (under a.marker (map (λ x. demand_of x.now) lines.now))) (first_mentions has_same_marker [] (map (λ x. demand_of x.now) lines.now))) }
 {
     for (at, line) in lines.iter().enumerate() {
         push_of_marker(alloc, findings, lines, &lines[..at], line)?;

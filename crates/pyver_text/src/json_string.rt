@@ -27,7 +27,7 @@ fn push_json_characters(text: &mut Vec<u8>, characters: &[u8]) -> Result<(), All
 
 /// The bytes at the end as a JSON string: escaped as by `push_escaped`, and then each quote and backslash once more.
 ///
-/// Allocates.
+/// Allocates; returns `AllocError` if that fails.
 pub fn push_json_string(alloc: Global, text: &mut Vec<u8>, bytes: &[u8]) -> Result<(), AllocError>
     ensures { IfOk result (λ _. text.new.items ≡ text.old.items ++ json_string bytes.now) }
 {

@@ -27,7 +27,7 @@ const LINES: [(&str, &str, &str); 33] = [
     ("https://host/demo-1.0.zip", "location", ""),
     ("git+https://user@host/demo.git", "location", ""),
     ("./demo", "location", ""),
-    ("/tmp/demo", "location", ""),
+    ("/srv/demo", "location", ""),
     ("demo-1.0-py3-none-any.whl", "location", ""),
     ("demo-1.0.tar.gz", "location", ""),
     ("demo", "requirement", ""),

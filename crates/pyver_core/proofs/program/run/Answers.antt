@@ -16,7 +16,7 @@ pub returns-in-Ok-Filter : goal.returns-in-Ok-Filter
 returns-in-Ok-Filter g c =
     let is = subst (λ t. IsWork t (work.Filter c.in-Ok-Filter.rule c.in-Ok-Filter.names)) c.parse.ensures (subst (λ w. IsWork (task c.parse.result) w) c.in-Ok-Filter.field-0-is c.in-Ok-Filter.ensures) in
     ends_by_stop _ _ _ _ _ c.args.files.now c.filter_sources.new.files c.args.input.now c.filter_sources.new.input c.args.out.now c.filter_sources.new.out c.args.err.now c.report_stop.new.err c.report_stop.result
-    c.in-Err-filter_sources.stop c.filter_sources.new.err c.report_stop.ensures.0 is.0
+    c.in-Err-filter_sources.stop c.filter_sources.new.err c.report_stop.ensures.0 is.0 c.in-Err-filter_sources.ensures.kept
     (filter_began _ _ _ _ _ c.args.files.now c.filter_sources.new.files c.args.input.now c.filter_sources.new.input c.args.out.now c.filter_sources.new.out c.args.err.now c.report_stop.new.err c.report_stop.result c.in-Ok-Filter.rule _
     c.in-Err-filter_sources.stop c.filter_sources.new.err is.1 is.2 is.3 c.in-Err-filter_sources.ensures.stopped)
     c.report_stop.ensures.1 c.report_stop.ensures.2
@@ -29,7 +29,7 @@ pub returns-in-Ok-Whole : goal.returns-in-Ok-Whole
 returns-in-Ok-Whole g c =
     let is = subst (λ t. IsWork t (work.Whole c.in-Ok-Whole.question c.in-Ok-Whole.names)) c.parse.ensures (subst (λ w. IsWork (task c.parse.result) w) c.in-Ok-Whole.field-0-is c.in-Ok-Whole.ensures) in
     ends_by_stop _ _ _ _ _ c.args.files.now c.answer_input.new.files c.args.input.now c.answer_input.new.input c.args.out.now c.answer_input.new.out c.args.err.now c.report_stop-in-Err-answer_input.new.err c.report_stop-in-Err-answer_input.result
-    c.in-Err-answer_input.stop c.answer_input.new.err c.report_stop-in-Err-answer_input.ensures.0 is.0
+    c.in-Err-answer_input.stop c.answer_input.new.err c.report_stop-in-Err-answer_input.ensures.0 is.0 c.in-Err-answer_input.ensures.kept
     (whole_began _ _ _ _ _ c.args.files.now c.answer_input.new.files c.args.input.now c.answer_input.new.input c.args.out.now c.answer_input.new.out c.args.err.now c.report_stop-in-Err-answer_input.new.err
     c.report_stop-in-Err-answer_input.result c.in-Ok-Whole.question _ c.in-Err-answer_input.stop c.answer_input.new.err is.1 is.2 is.3 c.in-Err-answer_input.ensures.stopped)
     c.report_stop-in-Err-answer_input.ensures.1 c.report_stop-in-Err-answer_input.ensures.2
@@ -37,5 +37,5 @@ returns-in-Ok-Whole g c =
 pub returns-in-Ok-answer_input : goal.returns-in-Ok-answer_input
 returns-in-Ok-answer_input g c =
     let is = subst (λ t. IsWork t (work.Whole c.in-Ok-Whole.question c.in-Ok-Whole.names)) c.parse.ensures (subst (λ w. IsWork (task c.parse.result) w) c.in-Ok-Whole.field-0-is c.in-Ok-Whole.ensures) in
-    ends_by_whole _ _ _ _ _ c.args.files.now c.answer_input.new.files c.args.input.now c.answer_input.new.input c.args.out.now c.answer_input.new.out c.args.err.now c.answer_input.new.err c.in-Ok-answer_input.status c.in-Ok-Whole.question _ is.0 is.2
+    ends_by_whole _ _ _ _ _ c.args.files.now c.answer_input.new.files c.args.input.now c.answer_input.new.input c.args.out.now c.answer_input.new.out c.args.err.now c.answer_input.new.err c.in-Ok-answer_input.status c.in-Ok-Whole.question _ is.0 c.in-Ok-answer_input.ensures.kept is.2
     is.3 c.in-Ok-answer_input.ensures.finished.0 c.in-Ok-answer_input.ensures.finished.1

@@ -1,8 +1,8 @@
 use Rattle.std.proofs.Common.{◌+◌, ◌∙◌, sym, subst}
 use Rattle.pyver_core.proofs.Choosing.{allowed_front, below_more, found_more, newest_value, out_more}
 use Rattle.pyver_core.specs.Newest.{NewestLine}
-use Rattle.pyver_core.proofs.newest.find_allowed.Goals.{then-is_newer+in_ok-allows+then-branch, else-is_newer, else-is_newer-via-then-is_newer+in_ok-allows+else-branch, else-is_newer-via-else-is_newer}
-use Rattle.pyver_core.proofs.newest.find_allowed.Goals as goal
+use Rattle.pyver_core.proofs.newest.select_newest.Goals.{then-is_newer+in_ok-allows+then-branch, else-is_newer, else-is_newer-via-then-is_newer+in_ok-allows+else-branch, else-is_newer-via-else-is_newer}
+use Rattle.pyver_core.proofs.newest.select_newest.Goals as goal
 
 pub loop-line-preserved : goal.loop-line-preserved
 loop-line-preserved c =

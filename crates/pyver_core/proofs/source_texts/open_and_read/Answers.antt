@@ -2,7 +2,7 @@ use Rattle.std.proofs.Common.{◌∙◌, sym}
 use Rattle.pyver_core.proofs.SourceReads.{file_stopped, input_read, input_stopped, unopened_stopped}
 use Rattle.pyver_core.specs.SourceViews.{origin_of}
 use Rattle.pyver_core.specs.declared.stream.Stop.TheVariants as stop
-use Rattle.pyver_core.proofs.source_texts.read_named.Goals as goal
+use Rattle.pyver_core.proofs.source_texts.open_and_read.Goals as goal
 
 pub returns-in-Ok-clause-read : goal.returns-in-Ok-clause-read
 returns-in-Ok-clause-read g c =

@@ -1,7 +1,7 @@
 use Rattle.std.proofs.Common.{◌∙◌, refl, sym}
 use Rattle.pyver_core.proofs.SourceFilters.{file_stops, input_reads, input_stops, unopened_stops}
 use Rattle.pyver_core.specs.SourceViews.{origin_of}
-use Rattle.pyver_core.proofs.filter_sources.filter_named.Goals as goal
+use Rattle.pyver_core.proofs.filter_sources.open_and_filter.Goals as goal
 
 pub returns-in-Ok-clause-finished : goal.returns-in-Ok-clause-finished
 returns-in-Ok-clause-finished g c =

@@ -1,6 +1,6 @@
 use Rattle.std.proofs.Common.{◌≡◌, ◌∙◌, [], map, string_bytes, sym}
 use Rattle.pyver_core.proofs.SourceFilters.{alone_finishes, alone_stops, none_names}
-use Rattle.pyver_core.proofs.filter_sources.filter_meant.Goals as goal
+use Rattle.pyver_core.proofs.filter_sources.filter_all_sources.Goals as goal
 
 pub returns-in-Ok-clause-finished : goal.returns-in-Ok-clause-finished
 returns-in-Ok-clause-finished g c =
