@@ -5,6 +5,7 @@ pub mod Filtering
 pub mod SourceFilters
 pub mod Keeping
 pub mod SourceReads
+pub mod FileReads
 pub mod Sorting
 pub mod Choosing
 pub mod Whole

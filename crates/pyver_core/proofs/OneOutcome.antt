@@ -26,7 +26,7 @@ use Rattle.pyver_core.specs.Readings.{Reading, Reads, Denotes, Fails}
 use Rattle.pyver_core.specs.Shows.{Shows, ShowsWord, show_outcome}
 use Rattle.pyver_core.specs.Sorts.{SortsParts, sort_outcome}
 use Rattle.pyver_core.specs.Sources.{Input, Unopened}
-use Rattle.pyver_core.specs.Tasks.{Help, NameVersion, Compare, Match, Filter, Sort, Newest, Show, Bump, Range, Misused}
+use Rattle.pyver_core.specs.Tasks.{Help, NameVersion, Compare, Match, Filter, Sort, Newest, Show, Bump, Range, Check, Misused}
 use Rattle.pyver_core.specs.VersionLines.{InputParts, OfFound, OfSources, OfVersions, input_parts}
 use Rattle.pyver_core.specs.declared.allowed.MatchOptions.{MatchOptions}
 use Rattle.pyver_core.specs.declared.bump.BumpPart.{BumpPart}
@@ -172,4 +172,5 @@ outcomes_once (Newest options specifiers names) input a b h k = newest_once opti
 outcomes_once (Show format words) input a b h k = show_once format words a b h k
 outcomes_once (Bump to parts word) input a b h k = bump_once to parts word a b h k
 outcomes_once (Range options words) input a b h k = common_once options words a b h k
+outcomes_once (Check json names) input a b h k = absurd h
 outcomes_once (Misused message) input a b h k = h ∙ sym k

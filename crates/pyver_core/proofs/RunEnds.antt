@@ -13,7 +13,7 @@ use Rattle.pyver_core.specs.Outcomes.{Outcome}
 use Rattle.pyver_core.specs.Runs.{Ends, IsLast, IsReadMessage, ReadsSome, WritesAnswer, WroteBeginning, memory_message}
 use Rattle.pyver_core.specs.SourceViews.{IsStopOf, Reports}
 use Rattle.pyver_core.specs.Sources.{Input, KnownFile, ReadsFirst, ReadsInput, ReadsFront, ReadsText, input_name, is_input, known_bytes, last_name, no_input, source_names}
-use Rattle.pyver_core.specs.Tasks.{Bump, Compare, Filter, Help, IsOutcome, IsStream, Match, Misused, NameVersion, NeedsInput, Newest, Range, Show, Sort, Task, names_of, task_of}
+use Rattle.pyver_core.specs.Tasks.{Bump, Check, Compare, Filter, Help, IsOutcome, IsStream, Match, Misused, NameVersion, NeedsInput, Newest, Range, Show, Sort, Task, names_of, task_of}
 use Rattle.pyver_core.specs.WholeInputs.{AnswersInput, ReadsUnused, WholeFinishes, WholeStops}
 use Rattle.pyver_core.specs.declared.filter.FilterRule.{FilterRule}
 use Rattle.pyver_core.specs.declared.stream.Stop.{Stop}
@@ -40,10 +40,11 @@ first_outcome (Newest options specifiers names) n name = let k = unused (questio
 first_outcome (Show asked words) n name = absurd n
 first_outcome (Bump to parts word) n name = absurd n
 first_outcome (Range options words) n name = absurd n
+first_outcome (Check json names) n name = absurd n
 first_outcome (Misused message) n name = absurd n
 
 -- there is a first source
-some_source : (names : List (List ℕ)) → (name : List ℕ) × (left : List (List ℕ)) × (source_names names ≡ name ∷ left)
+pub some_source : (names : List (List ℕ)) → (name : List ℕ) × (left : List (List ℕ)) × (source_names names ≡ name ∷ left)
 some_source [] = (input_name, [], refl)
 some_source (name ∷ names) = (name, names, refl)
 
@@ -58,6 +59,7 @@ first_source (Newest options specifiers names) n = some_source names
 first_source (Show asked words) n = absurd n
 first_source (Bump to parts word) n = absurd n
 first_source (Range options words) n = absurd n
+first_source (Check json names) n = absurd n
 first_source (Misused message) n = absurd n
 
 -- ---- how a run that stopped ends
@@ -92,7 +94,7 @@ told_more a b c xs message wrote k = record {
 
 -- nothing was read of the first source
 module _ {R : Type 0} (files : List ℕ → KnownFile) (remaining : R → Option (List ℕ)) where
-  reads_nothing : (b : Bool) (file : KnownFile) (reader : R) → (left : Option (List ℕ)) × ReadsText files remaining b file reader reader [] left
+  pub reads_nothing : (b : Bool) (file : KnownFile) (reader : R) → (left : Option (List ℕ)) × ReadsText files remaining b file reader reader [] left
   reads_nothing true file reader = (remaining reader, (Consumes-nil (remaining reader), refl))
   reads_nothing false file reader = (known_bytes file, (Consumes-nil (known_bytes file), refl))
 

@@ -4,7 +4,7 @@ use Rattle.pyver_core.specs.Outcomes.{Outcome}
 use Rattle.pyver_core.specs.RequirementFiles.{FilesFound, ReadsFiles, StopsInFiles}
 use Rattle.pyver_core.specs.Runs.{WritesAnswer, WroteBeginning}
 use Rattle.pyver_core.specs.SourceViews.{Reports}
-use Rattle.pyver_core.specs.Sources.{KnownFile, Unopened}
+use Rattle.pyver_core.specs.Sources.{KnownFile, Unopened, source_names}
 use Rattle.pyver_core.specs.VersionLines.{unopened_outcome}
 use Rattle.pyver_core.specs.declared.stream.Stop.{Stop}
 use Rattle.pyver_core.specs.declared.stream.Stop.TheVariants as stop
@@ -35,12 +35,12 @@ ChecksFiles json files (Some file) o = o ≡ unopened_outcome file
 module _ {R : Type 0} (files : List ℕ → KnownFile) (paths : List ℕ → Option (List ℕ)) (remaining : R → Option (List ℕ)) where
   -- all files were read, and this is to be written
   abbrev pub Checks : Bool → List (List ℕ) → R → R → Outcome → Type 0
-  Checks json names reader reader' o = (found : FilesFound) × ReadsFiles files paths remaining names reader reader' found × ChecksFiles json found.files found.unopened o
+  Checks json names reader reader' o = (found : FilesFound) × ReadsFiles files paths remaining (source_names names) reader reader' found × ChecksFiles json found.files found.unopened o
 
   -- nothing is to be written: reading stopped, or memory ran out behind it
   abbrev pub StopsCheck : List (List ℕ) → R → R → Stop → Type 0
-  StopsCheck names reader reader' stop = StopsInFiles files paths remaining names reader reader' stop
-      ⊎ ((stop ≡ stop.OutOfMemory) × ((found : FilesFound) × ReadsFiles files paths remaining names reader reader' found))
+  StopsCheck names reader reader' stop = StopsInFiles files paths remaining (source_names names) reader reader' stop
+      ⊎ ((stop ≡ stop.OutOfMemory) × ((found : FilesFound) × ReadsFiles files paths remaining (source_names names) reader reader' found))
 
 module _ {F R W E : Type 0} (known : F → List ℕ → KnownFile) (path : F → List ℕ → Option (List ℕ)) (remaining : R → Option (List ℕ)) (contents : W → Option (List ℕ)) (error_contents : E → Option (List ℕ)) where
   -- nothing was written but a beginning of the message of why reading stopped, or that memory ran out

@@ -32,6 +32,7 @@ pub mod Runs
 pub mod SourceViews
 pub mod SourceTexts
 pub mod RequirementFiles
+pub mod FileSteps
 pub mod Checks
 pub mod FilterSteps
 pub mod VersionLineViews

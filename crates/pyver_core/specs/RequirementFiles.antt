@@ -1,10 +1,10 @@
 -- The requirements files that `check` reads: those that the words name, and those that their lines name.
-use Rattle.std.specs.Prelude.{◌≡◌, ◌⊎◌, ⊤, ℕ, List, [], ◌∷◌, ◌++◌, Bool, true, false, IsTrue, Option, Some, None, bytes_eq}
+use Rattle.std.specs.Prelude.{◌≡◌, ◌⊎◌, ⊤, ℕ, List, [], ◌∷◌, ◌++◌, Bool, true, false, Option, Some, None, bytes_eq}
 use Rattle.std.specs.Io.KnownBytes.{IsAtEnd}
 use Rattle.std.specs.List.{flat_map, list_any}
 use Rattle.std.specs.Str.{IsUtf8}
 use Rattle.pyver_core.specs.SourceViews.{IsReadingStop}
-use Rattle.pyver_core.specs.Sources.{KnownFile, MayRefuse, ReadsNamed, Unopened, is_input, source_names}
+use Rattle.pyver_core.specs.Sources.{KnownFile, MayRefuse, ReadsNamed, Unopened, is_input}
 use Rattle.pyver_core.specs.declared.open_failure.OpenFailure.{OpenFailure}
 use Rattle.pyver_core.specs.declared.open_failure.OpenFailure.TheVariants as failure
 use Rattle.pyver_core.specs.declared.stream.Stop.{Stop}
@@ -45,12 +45,8 @@ pub record FilesFound : Type 0 where
   pub files : List File
   pub unopened : Option Unopened
 
--- `files` is what is known of each file and `paths` what is known of its path; `remaining` are the bytes that standard input has left
-module _ {R : Type 0} (files : List ℕ → KnownFile) (paths : List ℕ → Option (List ℕ)) (remaining : R → Option (List ℕ)) where
-  -- the path of the source with this name
-  abbrev pub HasPath : List ℕ → List ℕ → Type 0
-  HasPath name path = IsSourcePath (is_input name) (paths name) name path
-
+-- `files` is what is known of each file, `remaining` are the bytes that standard input has left
+module _ {R : Type 0} (files : List ℕ → KnownFile) (remaining : R → Option (List ℕ)) where
   -- the source with this name was read to its end
   pub record ReadsFile (name : List ℕ) (reader reader' : R) (file : File) : Type 0 where
     pub text : List ℕ
@@ -59,11 +55,24 @@ module _ {R : Type 0} (files : List ℕ → KnownFile) (paths : List ℕ → Opt
     pub end : IsAtEnd left
     pub is : file ≡ record { name = name; text = text }
 
-  -- a file with the path of this name had been read; or the source with this name was read
+  -- a part of the source with this name was read, when reading stopped
+  pub record StopsInFile (name : List ℕ) (reader reader' : R) (stop : Stop) : Type 0 where
+    pub text : List ℕ
+    pub rest : Option (List ℕ)
+    pub part : ReadsNamed files remaining name reader reader' text rest
+    pub stops : IsReadingStop name stop
+
+-- `paths` is what is known of the path of each file
+module _ {R : Type 0} (files : List ℕ → KnownFile) (paths : List ℕ → Option (List ℕ)) (remaining : R → Option (List ℕ)) where
+  -- the path of the source with this name
+  abbrev pub HasPath : List ℕ → List ℕ → Type 0
+  HasPath name path = IsSourcePath (is_input name) (paths name) name path
+
+  -- a source with the path of this name had been read; or the source was read
   abbrev pub ReadsNext : List ℕ → FilesRead → FilesRead → R → R → Type 0
   ReadsNext name a b reader reader' = (path : List ℕ) × HasPath name path
       × (((has_path a path ≡ true) × (b ≡ a) × (reader' ≡ reader))
-      ⊎ ((has_path a path ≡ false) × ((file : File) × ReadsFile name reader reader' file × (b ≡ with_file a file path))))
+      ⊎ ((has_path a path ≡ false) × ((file : File) × ReadsFile files remaining name reader reader' file × (b ≡ with_file a file path))))
 
   -- the sources with these names, each in turn
   abbrev pub ReadsEach : List (List ℕ) → FilesRead → FilesRead → R → R → Type 0
@@ -83,21 +92,18 @@ module _ {R : Type 0} (files : List ℕ → KnownFile) (paths : List ℕ → Opt
     pub done : List (List ℕ)
     pub left : List (List ℕ)
     pub read : FilesRead
-    pub split : source_names names ++ flat_map named_files read.files ≡ done ++ left
+    pub split : names ++ flat_map named_files read.files ≡ done ++ left
     pub each : ReadsEach done none_read read reader reader'
     pub are : found.files ≡ read.files
     pub ends : EndsFiles left found.unopened
 
-  -- some names were read so, and of the source with the next one a part, when reading stopped
+  -- some names were read so, and a part of the source with the next one
   pub record StopsInFiles (names : List (List ℕ)) (reader reader' : R) (stop : Stop) : Type 0 where
     pub done : List (List ℕ)
     pub name : List ℕ
     pub left : List (List ℕ)
     pub read : FilesRead
-    pub split : source_names names ++ flat_map named_files read.files ≡ done ++ name ∷ left
+    pub split : names ++ flat_map named_files read.files ≡ done ++ name ∷ left
     pub middle : R
     pub each : ReadsEach done none_read read reader middle
-    pub text : List ℕ
-    pub rest : Option (List ℕ)
-    pub part : ReadsNamed files remaining name middle reader' text rest
-    pub stops : IsReadingStop name stop
+    pub part : StopsInFile files remaining name middle reader' stop

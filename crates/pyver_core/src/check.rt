@@ -1,7 +1,10 @@
 // The command `check`: what is wrong in requirements files.
 ghost use Rattle.std.specs.Prelude.{◌≡◌, IfErr, IfOk, map, string_bytes};
+ghost use Rattle.std.specs.Option.{option_map};
 ghost use Rattle.pyver_core.specs.AnswerViews.{outcome_of};
-ghost use Rattle.pyver_core.specs.Checks.{Checks, ReportsFiles, StopsCheck};
+ghost use Rattle.pyver_core.specs.Checks.{Checks, ChecksFiles, ReportsFiles, StopsCheck};
+ghost use Rattle.pyver_core.specs.FileSteps.{unopened_file_of};
+ghost use Rattle.pyver_core.specs.VersionLines.{unopened_outcome};
 ghost use Rattle.pyver_findings.specs.Views.{file_of};
 
 use crate::answer::Answer;
@@ -33,7 +36,9 @@ fn report_files(alloc: Global, json: bool, files: &[SourceFile]) -> Result<Answe
 }
 
 /// The message of the file that was not opened, and nothing else.
-fn report_open_failure(alloc: Global, file: &UnopenedFile) -> Result<Answer, AllocError> {
+fn report_open_failure(alloc: Global, file: &UnopenedFile) -> Result<Answer, AllocError>
+    ensures { IfOk result (λ a. outcome_of a ≡ unopened_outcome (unopened_file_of file.now)) }
+{
     let mut answer = Answer::silent(alloc, 2);
     push_file_fault(
         &mut answer.errors,
@@ -48,7 +53,9 @@ fn answer_check(
     json: bool,
     files: &[SourceFile],
     unopened: Option<&UnopenedFile>,
-) -> Result<Answer, AllocError> {
+) -> Result<Answer, AllocError>
+    ensures { IfOk result (λ a. ChecksFiles json (map file_of files.now) (option_map (λ file. unopened_file_of file.now) unopened.entry) (outcome_of a)) }
+{
     match unopened {
         Some(file) => report_open_failure(alloc, file),
         None => report_files(alloc, json, files),

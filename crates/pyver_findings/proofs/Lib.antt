@@ -4,3 +4,4 @@ pub mod Readings
 pub mod Holding
 pub mod Found
 pub mod Once
+pub mod Folders
