@@ -1,7 +1,7 @@
 //! Files that are held in memory, for runs that name some.
 use super::support::{After, Trickle};
 use pyver_core::{Files, OpenFailure};
-use std::alloc::Global;
+use std::alloc::{AllocError, Global};
 
 /// No file is there.
 #[derive(Drop)]
@@ -12,6 +12,10 @@ impl Files for NoFiles {
 
     fn open(&mut self, _alloc: Global, _name: &str) -> Result<Trickle<'static>, OpenFailure> {
         Err(OpenFailure::NotFound)
+    }
+
+    fn canonical_path(&mut self, alloc: Global, name: &str) -> Result<String, AllocError> {
+        name.to_string(alloc)
     }
 }
 
@@ -24,6 +28,12 @@ pub enum HeldFile<'a> {
     Damaged(&'a [u8]),
     /// A file that is not opened.
     Refused(OpenFailure),
+}
+
+// Without `sub/../` and then `./` at its start.
+fn canonical(name: &str) -> &str {
+    let name = name.strip_prefix("sub/../").unwrap_or(name);
+    name.strip_prefix("./").unwrap_or(name)
 }
 
 /// These files alone are there. It counts those that were asked for.
@@ -44,8 +54,9 @@ impl<'a> Files for HeldFiles<'a> {
 
     fn open(&mut self, _alloc: Global, name: &str) -> Result<Trickle<'a>, OpenFailure> {
         self.calls = self.calls.saturating_add(1);
+        let path = canonical(name);
         for (held, file) in self.files {
-            if *held == name {
+            if *held == path {
                 return match *file {
                     HeldFile::Text(text) => Ok(Trickle::new(text, After::End)),
                     HeldFile::Damaged(text) => Ok(Trickle::new(text, After::Fails)),
@@ -54,5 +65,9 @@ impl<'a> Files for HeldFiles<'a> {
             }
         }
         Err(OpenFailure::NotFound)
+    }
+
+    fn canonical_path(&mut self, alloc: Global, name: &str) -> Result<String, AllocError> {
+        canonical(name).to_string(alloc)
     }
 }

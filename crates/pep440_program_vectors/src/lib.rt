@@ -15,6 +15,8 @@ mod pyver;
 #[cfg(test)]
 mod pyver_bump;
 #[cfg(test)]
+mod pyver_check;
+#[cfg(test)]
 mod pyver_fields;
 #[cfg(test)]
 mod pyver_files;

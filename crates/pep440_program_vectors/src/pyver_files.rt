@@ -255,9 +255,15 @@ const CUT: [(&str, &[u8], &str, &str, u8); 4] = [
 ];
 
 // Whether a run that reads a byte a call writes this, or a beginning of it and that memory is out.
-fn writes(alloc: Global, words: &[String], text: &[u8], wanted: (&str, &str, u8)) -> bool {
+pub(super) fn writes<'a>(
+    alloc: Global,
+    held: &'a [(&'a str, HeldFile<'a>)],
+    words: &[String],
+    text: &[u8],
+    wanted: (&str, &str, u8),
+) -> bool {
     let (output, errors, status) = wanted;
-    let mut files = HeldFiles::new(&FILES);
+    let mut files = HeldFiles::new(held);
     let mut input = Trickle::new(text, After::End);
     let mut out = Sink::new(Manner::TakesAtMost(7));
     let mut err = Sink::new(Manner::TakesAtMost(512));
@@ -272,7 +278,13 @@ fn writes(alloc: Global, words: &[String], text: &[u8], wanted: (&str, &str, u8)
 fn sweep_named_files(rt: HostRuntime) -> Result<(), Fail> {
     for (line, text, output, errors, status) in NAMED {
         let words = split_words(rt.alloc(), line)?;
-        let holds = writes(rt.alloc(), words.as_slice(), text, (output, errors, status));
+        let holds = writes(
+            rt.alloc(),
+            &FILES,
+            words.as_slice(),
+            text,
+            (output, errors, status),
+        );
         assert!(rt; holds, "{line} of {text:?}");
     }
     Ok(())
@@ -282,7 +294,13 @@ fn sweep_named_files(rt: HostRuntime) -> Result<(), Fail> {
 fn sweep_files_that_fail(rt: HostRuntime) -> Result<(), Fail> {
     for (line, text, output, errors, status) in FAILING {
         let words = split_words(rt.alloc(), line)?;
-        let holds = writes(rt.alloc(), words.as_slice(), text, (output, errors, status));
+        let holds = writes(
+            rt.alloc(),
+            &FILES,
+            words.as_slice(),
+            text,
+            (output, errors, status),
+        );
         assert!(rt; holds, "{line} of {text:?}");
     }
     Ok(())
@@ -292,7 +310,13 @@ fn sweep_files_that_fail(rt: HostRuntime) -> Result<(), Fail> {
 fn sweep_files_read_to_their_ends(rt: HostRuntime) -> Result<(), Fail> {
     for (line, text, output, errors, status) in WHOLE {
         let words = split_words(rt.alloc(), line)?;
-        let holds = writes(rt.alloc(), words.as_slice(), text, (output, errors, status));
+        let holds = writes(
+            rt.alloc(),
+            &FILES,
+            words.as_slice(),
+            text,
+            (output, errors, status),
+        );
         assert!(rt; holds, "{line} of {text:?}");
     }
     Ok(())
@@ -302,7 +326,13 @@ fn sweep_files_read_to_their_ends(rt: HostRuntime) -> Result<(), Fail> {
 fn sweep_files_that_end_too_early(rt: HostRuntime) -> Result<(), Fail> {
     for (line, text, output, errors, status) in CUT {
         let words = split_words(rt.alloc(), line)?;
-        let holds = writes(rt.alloc(), words.as_slice(), text, (output, errors, status));
+        let holds = writes(
+            rt.alloc(),
+            &FILES,
+            words.as_slice(),
+            text,
+            (output, errors, status),
+        );
         assert!(rt; holds, "{line} of {text:?}");
     }
     Ok(())
