@@ -5,7 +5,6 @@ pub mod Filtering
 pub mod SourceFilters
 pub mod Keeping
 pub mod SourceReads
-pub mod FileReads
 pub mod Sorting
 pub mod Choosing
 pub mod Whole
@@ -14,6 +13,8 @@ pub mod Appended
 pub mod OneOutcome
 pub mod CommonRanges
 pub mod RunEnds
+pub mod FileReads
+pub mod CheckEnds
 pub mod Starts
 pub mod FilterWords
 pub mod LineWords

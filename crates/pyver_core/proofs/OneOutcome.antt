@@ -19,6 +19,9 @@ use Rattle.pyver_core.specs.InputLines.{SourceLine, Source, filled_lines}
 use Rattle.pyver_core.specs.LineOptions.{is_header}
 use Rattle.pyver_core.specs.Matches.{Matches, MatchesBy, MatchesWord, MatchesWords, ReadsSpecifiers, SpecifiersReading, DenotesList, ListFails, word_outcome}
 use Rattle.pyver_core.specs.Newest.{FindsNewest, FindsNewestBy, FindsNewestLine, candidates, newest_outcome, newest_rule}
+use Rattle.pyver_core.specs.CheckLaws.{ChecksOnce}
+use Rattle.pyver_core.specs.Checks.{report_outcome}
+use Rattle.pyver_findings.proofs.Once.{reports_once}
 use Rattle.pyver_core.specs.OneOutcome.{OutcomesOnce}
 use Rattle.pyver_core.specs.Outcomes.{Outcome, in_turn}
 use Rattle.pyver_core.specs.ReadLines.{Entry, Header, IsEntry, IsRead, LineReading, ReadLine, ReadsBytes, ReadsField, ReadsPart}
@@ -174,3 +177,7 @@ outcomes_once (Bump to parts word) input a b h k = bump_once to parts word a b h
 outcomes_once (Range options words) input a b h k = common_once options words a b h k
 outcomes_once (Check json names) input a b h k = absurd h
 outcomes_once (Misused message) input a b h k = h ∙ sym k
+
+pub checks_once : ChecksOnce
+checks_once json files None a b (r, hr, is) (s, hs, so) = is ∙ ap (report_outcome json) (reports_once files r s hr hs) ∙ sym so
+checks_once json files (Some file) a b h k = h ∙ sym k

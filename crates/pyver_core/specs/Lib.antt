@@ -34,6 +34,7 @@ pub mod SourceTexts
 pub mod RequirementFiles
 pub mod FileSteps
 pub mod Checks
+pub mod CheckLaws
 pub mod FilterSteps
 pub mod VersionLineViews
 pub mod WholeInputs

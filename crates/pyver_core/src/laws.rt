@@ -1,11 +1,17 @@
 //! What holds of the program's outcomes, as the contract of a function that does nothing.
 ghost use Rattle.pyver_core.specs.BumpLaws.{BumpsAreGreater, BumpsChangeOnly, ReleasesAreBumped};
+ghost use Rattle.pyver_core.specs.CheckLaws.{ChecksOnce};
 ghost use Rattle.pyver_core.specs.OneOutcome.{OutcomesOnce};
 ghost use Rattle.pyver_core.specs.RangeLaws.{CommonIsInEach, NoVersionHasItsStatus, NoVersionIsCommon};
 
 /// Of what is asked for there is at most one outcome.
 pub fn outcomes_once()
     ensures { OutcomesOnce }
+{}
+
+/// Of files that were checked one thing is written.
+pub fn checks_once()
+    ensures { ChecksOnce }
 {}
 
 /// A version that `bump` makes is greater, and differs in the stated parts alone; a number of the release can be
