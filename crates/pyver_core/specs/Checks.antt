@@ -1,5 +1,5 @@
 -- The command `check`: what is wrong in requirements files.
-use Rattle.std.specs.Prelude.{◌≡◌, ◌⊎◌, ℕ, List, [], Bool, true, false, Option, Some, None, if◌then◌else◌}
+use Rattle.std.specs.Prelude.{◌≡◌, ◌⊎◌, ℕ, List, [], ◌∷◌, Bool, true, false, Option, Some, None, if◌then◌else◌}
 use Rattle.pyver_core.specs.Outcomes.{Outcome}
 use Rattle.pyver_core.specs.RequirementFiles.{FilesFound, ReadsFiles, StopsInFiles}
 use Rattle.pyver_core.specs.Runs.{WritesAnswer, WroteBeginning}
@@ -19,9 +19,13 @@ abbrev pub findings_status : List Finding → ℕ
 findings_status [] = 0
 findings_status (f ∷ rest) = 1
 
--- the findings, as JSON or as lines; how much was read
+-- the findings, as JSON or as lines
+abbrev pub findings_text : Bool → Report → List ℕ
+findings_text json r = if json then report_object r else report_text r
+
+-- the findings, and how much was read
 abbrev pub report_outcome : Bool → Report → Outcome
-report_outcome json r = record { output = if json then report_object r else report_text r; errors = summary_text r; status = findings_status r.findings }
+report_outcome json r = record { output = findings_text json r; errors = summary_text r; status = findings_status r.findings }
 
 -- what is written of these files
 abbrev pub ReportsFiles : Bool → List File → Outcome → Type 0

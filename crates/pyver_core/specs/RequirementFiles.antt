@@ -4,7 +4,7 @@ use Rattle.std.specs.Io.KnownBytes.{IsAtEnd}
 use Rattle.std.specs.List.{flat_map, list_any}
 use Rattle.std.specs.Str.{IsUtf8}
 use Rattle.pyver_core.specs.SourceViews.{IsReadingStop}
-use Rattle.pyver_core.specs.Sources.{KnownFile, MayRefuse, ReadsNamed, Unopened, is_input}
+use Rattle.pyver_core.specs.Sources.{KnownFile, MayRefuse, ReadsByName, Unopened, is_input}
 use Rattle.pyver_core.specs.declared.open_failure.OpenFailure.{OpenFailure}
 use Rattle.pyver_core.specs.declared.open_failure.OpenFailure.TheVariants as failure
 use Rattle.pyver_core.specs.declared.stream.Stop.{Stop}
@@ -51,7 +51,7 @@ module _ {R : Type 0} (files : List ℕ → KnownFile) (remaining : R → Option
   pub record ReadsFile (name : List ℕ) (reader reader' : R) (file : File) : Type 0 where
     pub text : List ℕ
     pub left : Option (List ℕ)
-    pub reads : ReadsNamed files remaining name reader reader' text left
+    pub reads : ReadsByName files remaining name reader reader' text left
     pub end : IsAtEnd left
     pub is : file ≡ record { name = name; text = text }
 
@@ -59,7 +59,7 @@ module _ {R : Type 0} (files : List ℕ → KnownFile) (remaining : R → Option
   pub record StopsInFile (name : List ℕ) (reader reader' : R) (stop : Stop) : Type 0 where
     pub text : List ℕ
     pub rest : Option (List ℕ)
-    pub part : ReadsNamed files remaining name reader reader' text rest
+    pub part : ReadsByName files remaining name reader reader' text rest
     pub stops : IsReadingStop name stop
 
 -- `paths` is what is known of the path of each file

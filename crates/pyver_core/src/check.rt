@@ -1,37 +1,51 @@
 // The command `check`: what is wrong in requirements files.
-ghost use Rattle.std.specs.Prelude.{◌≡◌, IfErr, IfOk, map, string_bytes};
+ghost use Rattle.std.specs.Prelude.{◌≡◌, ◌≤◌, IfErr, IfOk, map, string_bytes};
 ghost use Rattle.std.specs.Option.{option_map};
 ghost use Rattle.pyver_core.specs.AnswerViews.{outcome_of};
-ghost use Rattle.pyver_core.specs.Checks.{Checks, ChecksFiles, ReportsFiles, StopsCheck};
+ghost use Rattle.pyver_core.specs.Checks.{Checks, ChecksFiles, ReportsFiles, StopsCheck, findings_status, findings_text};
 ghost use Rattle.pyver_core.specs.FileSteps.{unopened_file_of};
 ghost use Rattle.pyver_core.specs.VersionLines.{unopened_outcome};
-ghost use Rattle.pyver_findings.specs.Views.{file_of};
+ghost use Rattle.pyver_findings.specs.Views.{file_of, finding_of, report_of};
 
 use crate::answer::Answer;
 use crate::files::Files;
 use crate::open_failure::push_file_fault;
 use crate::requirement_files::{UnopenedFile, read_files};
 use crate::stream::Stop;
-use pyver_findings::{SourceFile, find_problems};
+use pyver_findings::{Finding, Report, SourceFile, find_problems};
 use std::alloc::{AllocError, Global};
 use std::io::Read;
+
+fn findings_status(findings: &[Finding]) -> u8
+    ensures is { result ≡ findings_status (map finding_of findings.now) }
+    ensures low { result ≤ 1 }
+{
+    match findings {
+        [] => 0,
+        [_, ..] => 1,
+    }
+}
+
+/// The findings, as JSON or as lines.
+fn print_findings(alloc: Global, json: bool, report: &Report) -> Result<Vec<u8>, AllocError>
+    ensures { IfOk result (λ output. output.items ≡ findings_text json (report_of report.now)) }
+{
+    if json {
+        report.to_json(alloc)
+    } else {
+        report.to_text(alloc)
+    }
+}
 
 /// What is to be written of these files.
 fn report_files(alloc: Global, json: bool, files: &[SourceFile]) -> Result<Answer, AllocError>
     ensures { IfOk result (λ a. ReportsFiles json (map file_of files.now) (outcome_of a)) }
 {
     let report = find_problems(alloc, files)?;
-    let output = if json {
-        report.to_json(alloc)?
-    } else {
-        report.to_text(alloc)?
-    };
-    let errors = report.summarize(alloc)?;
-    let status = if report.findings.is_empty() { 0 } else { 1 };
     Ok(Answer {
-        output,
-        errors,
-        status,
+        output: print_findings(alloc, json, &report)?,
+        errors: report.summarize(alloc)?,
+        status: findings_status(report.findings.as_slice()),
     })
 }
 

@@ -79,7 +79,7 @@ impl RequirementFiles {
     /// Nothing was read yet.
     fn new(alloc: Global, names: Vec<Vec<u8>>) -> RequirementFiles
         ensures read { read_of result ≡ none_read }
-        ensures names { names_of_files result ≡ map (λ name. name.items) names.entry.items }
+        ensures names { names_of_files result ≡ map (λ name. name.items) names.items }
         ensures count { result.read_count ≡ 0 }
     {
         RequirementFiles {
@@ -110,7 +110,7 @@ impl RequirementFiles {
         path: String,
         text: Vec<u8>,
     ) -> Result<(), AllocError>
-        ensures gains { IfOk result (λ _. GainsFile self.old self.new (record { name = name.now; text = text.entry.items }) (string_bytes path.entry)) }
+        ensures gains { IfOk result (λ _. GainsFile self.old self.new (record { name = name.now; text = text.items }) (string_bytes path)) }
         ensures count { IfOk result (λ _. self.new.read_count ≡ self.old.read_count) }
     {
         let name = Vec::from_slice(alloc, name.as_bytes())?;
@@ -130,7 +130,7 @@ impl RequirementFiles {
         input: &mut R,
     ) -> Result<(), Stop>
         requires { HasReads self.old }
-        ensures read { IfOk result (λ _. ReadsText R.remaining name.now (string_bytes path.entry) self.old self.new input.old input.new) }
+        ensures read { IfOk result (λ _. ReadsText R.remaining name.now (string_bytes path) self.old self.new input.old input.new) }
         ensures count { IfOk result (λ _. (self.old.read_count < self.new.read_count) × HasReads self.new) }
         ensures part { IfErr result (λ _. (read : List ℕ) × Consumes (R.remaining input.old) (R.remaining input.new) read) }
         ensures stop { IfErr result (IsReadingStop name.now) }
@@ -155,7 +155,7 @@ impl RequirementFiles {
         input: &mut R,
     ) -> Result<Option<OpenFailure>, Stop>
         requires { HasReads self.old }
-        ensures read { IfOk result (OpensOrRefused (F.known files.old) R.remaining name.now (string_bytes path.entry) self.old self.new input.old input.new) }
+        ensures read { IfOk result (OpensOrRefused (F.known files.old) R.remaining name.now (string_bytes path) self.old self.new input.old input.new) }
         ensures stopped { IfErr result (StopsInFile (F.known files.old) R.remaining name.now input.old input.new) }
         ensures kept { F.known files.new ≡ F.known files.old }
         ensures kept_paths { F.path files.new ≡ F.path files.old }
