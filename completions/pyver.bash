@@ -2,7 +2,7 @@
 _pyver() {
     local word=${COMP_WORDS[COMP_CWORD]} before=${COMP_WORDS[COMP_CWORD - 1]} words=
     case $COMP_CWORD,${COMP_WORDS[1]} in
-        1,*) words='compare match filter sort newest show bump range --help --version' ;;
+        1,*) words='compare match filter sort newest show bump range check --help --version' ;;
         *,compare)
             case $COMP_CWORD in
                 2) words='--help' ;;
@@ -47,6 +47,10 @@ _pyver() {
             esac
             ;;
         *,range) words='--help --cover --json' ;;
+        *,check)
+            words='--help --json'
+            compopt -o default 2> /dev/null
+            ;;
     esac
     COMPREPLY=()
     while IFS= read -r word; do

@@ -42,3 +42,7 @@ complete -c pyver -n '__fish_seen_subcommand_from bump' -a 'major minor patch st
 complete -c pyver -n __fish_use_subcommand -a range -d 'the range of versions that all specifiers allow'
 complete -c pyver -n '__fish_seen_subcommand_from range' -l cover -d 'print the cover in place of the range'
 complete -c pyver -n '__fish_seen_subcommand_from range' -l json -d 'print an array of segments'
+
+complete -c pyver -n __fish_use_subcommand -a check -d 'what is wrong in requirements files'
+complete -c pyver -n '__fish_seen_subcommand_from check' -F
+complete -c pyver -n '__fish_seen_subcommand_from check' -l json -d 'print an array of what is wrong'
