@@ -1,5 +1,5 @@
 -- Requirements files that are read one after another.
-use Rattle.std.proofs.Common.{◌≡◌, ◌⊎◌, ◌∙◌, ◌+◌, ◌-◌, ◌≤◌, ◌<◌, ℕ, List, [], ◌∷◌, ◌++◌, Bool, true, false, Option, None, Some, inl, inr, length, map, take, drop, refl, sym, ap, subst, arith, append_assoc, append-nil}
+use Rattle.std.proofs.Common.{◌≡◌, ◌⊎◌, ◌∙◌, ◌+◌, ◌-◌, ◌*◌, ◌≤◌, ◌<◌, ℕ, List, [], ◌∷◌, ◌++◌, Bool, true, false, Option, None, Some, inl, inr, length, map, take, drop, refl, sym, ap, subst, arith, append_assoc, append-nil, length-append}
 use Rattle.std.proofs.Math.Seq.{take-append_seam}
 use Rattle.std.proofs.lemmas.Grind.{flat_map-append}
 use Rattle.std.specs.Io.KnownBytes.{Consumes}
@@ -7,8 +7,8 @@ use Rattle.std.specs.List.{flat_map}
 use Rattle.std.specs.Str.{IsUtf8}
 use Rattle.pyver_core.proofs.RunEnds.{reads_nothing}
 use Rattle.pyver_core.proofs.SourceFilters.{opened_consumes}
-use Rattle.pyver_core.specs.FileSteps.{GainsFile, HasNames, HasReads, OpensOrRefused, ReadsStep, ReadsText, StepsOrRefused, names_of_files, read_of}
-use Rattle.pyver_core.specs.RequirementFiles.{FilesFound, FilesRead, HasPath, ReadsEach, ReadsFile, ReadsFiles, ReadsNext, StopsInFile, StopsInFiles, has_path, none_read}
+use Rattle.pyver_core.specs.FileSteps.{GainsFile, HasNames, HasReads, OpensOrRefused, ReadsStep, GainsText, StepsOrRefused, names_of_files, read_of}
+use Rattle.pyver_core.specs.RequirementFiles.{FilesFound, FilesRead, HasPath, ReadsFilesInTurn, ReadsFile, ReadsFiles, ReadsNext, StopsInFile, StopsInFiles, has_path, none_read}
 use Rattle.pyver_core.specs.SourceViews.{IsReadingStop}
 use Rattle.pyver_core.specs.Sources.{KnownFile, MayOpen, Unopened, is_input, known_bytes}
 use Rattle.pyver_core.specs.Sources.{ReadsText as ReadsSourceText}
@@ -22,7 +22,7 @@ use Rattle.pyver_findings.specs.NamedFiles.{named_files}
 -- ---- one source
 
 module _ {R : Type 0} (files : List ℕ → KnownFile) (remaining : R → Option (List ℕ)) (name path : List ℕ) (a b : RequirementFiles) where
-  pub input_opened : (reader reader' : R) → is_input name ≡ true → ReadsText remaining name path a b reader reader' → a.read_count < b.read_count → HasReads b → OpensOrRefused files remaining name path a b reader reader' None
+  pub input_opened : (reader reader' : R) → is_input name ≡ true → GainsText remaining name path a b reader reader' → a.read_count < b.read_count → HasReads b → OpensOrRefused files remaining name path a b reader reader' None
   input_opened reader reader' named k more has = (
     record { name = name; text = k.text },
     record {
@@ -37,7 +37,7 @@ module _ {R : Type 0} (files : List ℕ → KnownFile) (remaining : R → Option
     has,
   )
 
-  pub file_opened : {S : Type 0} (left_of : S → Option (List ℕ)) (file file' : S) (reader : R) → is_input name ≡ false → MayOpen (files name) (left_of file) → ReadsText left_of name path a b file file' → a.read_count < b.read_count → HasReads b
+  pub file_opened : {S : Type 0} (left_of : S → Option (List ℕ)) (file file' : S) (reader : R) → is_input name ≡ false → MayOpen (files name) (left_of file) → GainsText left_of name path a b file file' → a.read_count < b.read_count → HasReads b
       → OpensOrRefused files remaining name path a b reader reader None
   file_opened left_of file file' reader named opens k more has = (
     record { name = name; text = k.text },
@@ -108,14 +108,14 @@ module _ {R : Type 0} (files : List ℕ → KnownFile) (paths : List ℕ → Opt
 
   -- ---- one source after another
 
-  pub each_last : (done : List (List ℕ)) (name : List ℕ) (a c b : FilesRead) (reader middle reader' : R) → ReadsEach files paths remaining done a c reader middle → ReadsNext files paths remaining name c b middle reader'
-      → ReadsEach files paths remaining (done ++ name ∷ []) a b reader reader'
+  pub each_last : (done : List (List ℕ)) (name : List ℕ) (a c b : FilesRead) (reader middle reader' : R) → ReadsFilesInTurn files paths remaining done a c reader middle → ReadsNext files paths remaining name c b middle reader'
+      → ReadsFilesInTurn files paths remaining (done ++ name ∷ []) a b reader reader'
   each_last [] name a c b reader middle reader' (same, kept) next =
       (b, reader', subst (λ r. ReadsNext files paths remaining name a b r reader') kept (subst (λ (x : FilesRead). ReadsNext files paths remaining name x b middle reader') same next), (refl, refl))
   each_last (n ∷ done) name a c b reader middle reader' (x, r, step, rest) next = (x, r, step, each_last done name x c b r middle reader' rest next)
 
-  module _ (first : List (List ℕ)) (a b : RequirementFiles) (reader middle reader' : R) (front rest : List (List ℕ)) (name : List ℕ) (split : names_of_files a ≡ front ++ name ∷ rest) (k : ReadsEach files paths remaining front none_read (read_of a) reader middle) where
-    pub each_more : ReadsStep files paths remaining name a b middle reader' → ReadsEach files paths remaining (front ++ name ∷ []) none_read (read_of b) reader reader'
+  module _ (first : List (List ℕ)) (a b : RequirementFiles) (reader middle reader' : R) (front rest : List (List ℕ)) (name : List ℕ) (split : names_of_files a ≡ front ++ name ∷ rest) (k : ReadsFilesInTurn files paths remaining front none_read (read_of a) reader middle) where
+    pub each_more : ReadsStep files paths remaining name a b middle reader' → ReadsFilesInTurn files paths remaining (front ++ name ∷ []) none_read (read_of b) reader reader'
     each_more step = each_last front name none_read (read_of a) (read_of b) reader middle reader' k step.next
 
     -- the file with the next name was not opened
@@ -126,7 +126,7 @@ module _ {R : Type 0} (files : List ℕ → KnownFile) (paths : List ℕ → Opt
       left = name ∷ rest;
       read = read_of a;
       split = sym h ∙ split;
-      each = subst (λ r. ReadsEach files paths remaining front none_read (read_of a) reader r) (sym kept) k;
+      each = subst (λ r. ReadsFilesInTurn files paths remaining front none_read (read_of a) reader r) (sym kept) k;
       are = ap (λ (x : RequirementFiles). (read_of x).files) same;
       ends = (refl, refuses);
     }
@@ -144,7 +144,7 @@ module _ {R : Type 0} (files : List ℕ → KnownFile) (paths : List ℕ → Opt
     }
 
   -- all names were read
-  pub ends_whole : (first : List (List ℕ)) (a : RequirementFiles) (reader reader' : R) → HasNames first a → ReadsEach files paths remaining (names_of_files a) none_read (read_of a) reader reader'
+  pub ends_whole : (first : List (List ℕ)) (a : RequirementFiles) (reader reader' : R) → HasNames first a → ReadsFilesInTurn files paths remaining (names_of_files a) none_read (read_of a) reader reader'
       → ReadsFiles files paths remaining first reader reader' (record { files = (read_of a).files; unopened = None })
   ends_whole first a reader reader' h k = record {
     done = names_of_files a;
@@ -175,3 +175,8 @@ taken all more front rest name i is long =
     let size : length (front ++ name ∷ []) ≡ i + 1 = search (length-append, long, arith) in
     ap (λ l. take (i + 1) (l ++ more)) is ∙ ap (λ l. take (i + 1) (l ++ more)) (sym (append_assoc front (name ∷ []) rest)) ∙ ap (take (i + 1)) (append_assoc (front ++ name ∷ []) rest more)
     ∙ subst (λ n. take n ((front ++ name ∷ []) ++ (rest ++ more)) ≡ front ++ name ∷ []) size (take-append_seam (front ++ name ∷ []) (rest ++ more))
+
+-- the reads that may be made get fewer, or the names that are left
+pub measure_less : (a b i m n : ℕ) → (a < b) ⊎ ((b ≡ a) × (n ≡ m)) → b ≤ 562949953421312 → i < m → n < 18446744073709551616 → (562949953421312 - b) * 18446744073709551616 + (n - (i + 1)) < (562949953421312 - a) * 18446744073709551616 + (m - i)
+measure_less a b i m n (inl less) most inside fits = omega (arith, less, most, inside, fits)
+measure_less a b i m n (inr (same, long)) most inside fits = omega (arith, same, long, most, inside, fits)

@@ -43,16 +43,16 @@ module _ {R : Type 0} (files : List ℕ → KnownFile) (paths : List ℕ → Opt
 
   -- nothing is to be written: reading stopped, or memory ran out behind it
   abbrev pub StopsCheck : List (List ℕ) → R → R → Stop → Type 0
-  StopsCheck names reader reader' stop = StopsInFiles files paths remaining (source_names names) reader reader' stop
-      ⊎ ((stop ≡ stop.OutOfMemory) × ((found : FilesFound) × ReadsFiles files paths remaining (source_names names) reader reader' found))
+  StopsCheck names reader reader' why = StopsInFiles files paths remaining (source_names names) reader reader' why
+      ⊎ ((why ≡ stop.OutOfMemory) × ((found : FilesFound) × ReadsFiles files paths remaining (source_names names) reader reader' found))
 
 module _ {F R W E : Type 0} (known : F → List ℕ → KnownFile) (path : F → List ℕ → Option (List ℕ)) (remaining : R → Option (List ℕ)) (contents : W → Option (List ℕ)) (error_contents : E → Option (List ℕ)) where
   -- nothing was written but a beginning of the message of why reading stopped, or that memory ran out
   pub record EndsUnchecked (names : List (List ℕ)) (files : F) (reader reader' : R) (out out' : W) (err err' : E) (status : ℕ) : Type 0 where
-    pub stop : Stop
-    pub stops : StopsCheck (known files) (path files) remaining names reader reader' stop
+    pub why : Stop
+    pub stops : StopsCheck (known files) (path files) remaining names reader reader' why
     pub message : List ℕ
-    pub reports : Reports stop status message
+    pub reports : Reports why status message
     pub silent : out' ≡ out
     pub errors : WroteBeginning (error_contents err) (error_contents err') message
 

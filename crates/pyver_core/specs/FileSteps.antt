@@ -26,7 +26,7 @@ pub record GainsFile (a b : RequirementFiles) (file : File) (path : List ℕ) : 
   pub names : names_of_files b ≡ names_of_files a ++ named_files file
 
 -- a file more, whose text was read to its end
-pub record ReadsText {R : Type 0} (remaining : R → Option (List ℕ)) (name path : List ℕ) (a b : RequirementFiles) (reader reader' : R) : Type 0 where
+pub record GainsText {R : Type 0} (remaining : R → Option (List ℕ)) (name path : List ℕ) (a b : RequirementFiles) (reader reader' : R) : Type 0 where
   pub text : List ℕ
   pub consumed : Consumes (remaining reader) (remaining reader') text
   pub end : IsAtEnd (remaining reader')

@@ -75,9 +75,9 @@ module _ {R : Type 0} (files : List ℕ → KnownFile) (paths : List ℕ → Opt
       ⊎ ((has_path a path ≡ false) × ((file : File) × ReadsFile files remaining name reader reader' file × (b ≡ with_file a file path))))
 
   -- the sources with these names, each in turn
-  abbrev pub ReadsEach : List (List ℕ) → FilesRead → FilesRead → R → R → Type 0
-  ReadsEach [] a b reader reader' = (b ≡ a) × (reader' ≡ reader)
-  ReadsEach (name ∷ names) a b reader reader' = (c : FilesRead) × (middle : R) × ReadsNext name a c reader middle × ReadsEach names c b middle reader'
+  abbrev pub ReadsFilesInTurn : List (List ℕ) → FilesRead → FilesRead → R → R → Type 0
+  ReadsFilesInTurn [] a b reader reader' = (b ≡ a) × (reader' ≡ reader)
+  ReadsFilesInTurn (name ∷ names) a b reader reader' = (c : FilesRead) × (middle : R) × ReadsNext name a c reader middle × ReadsFilesInTurn names c b middle reader'
 
   -- no name is left; or the file with the first of them was not opened
   abbrev pub EndsFiles : List (List ℕ) → Option Unopened → Type 0
@@ -93,7 +93,7 @@ module _ {R : Type 0} (files : List ℕ → KnownFile) (paths : List ℕ → Opt
     pub left : List (List ℕ)
     pub read : FilesRead
     pub split : names ++ flat_map named_files read.files ≡ done ++ left
-    pub each : ReadsEach done none_read read reader reader'
+    pub each : ReadsFilesInTurn done none_read read reader reader'
     pub are : found.files ≡ read.files
     pub ends : EndsFiles left found.unopened
 
@@ -105,5 +105,5 @@ module _ {R : Type 0} (files : List ℕ → KnownFile) (paths : List ℕ → Opt
     pub read : FilesRead
     pub split : names ++ flat_map named_files read.files ≡ done ++ name ∷ left
     pub middle : R
-    pub each : ReadsEach done none_read read reader middle
+    pub each : ReadsFilesInTurn done none_read read reader middle
     pub part : StopsInFile files remaining name middle reader' stop

@@ -72,7 +72,7 @@ fn source_path<F: Files>(alloc: Global, name: &str, files: &mut F) -> Result<Str
 impl RequirementFiles {
     ghost use Rattle.std.specs.Prelude.{◌<◌, List, ℕ};
     ghost use Rattle.std.specs.Io.KnownBytes.{Consumes};
-    ghost use Rattle.pyver_core.specs.FileSteps.{GainsFile, HasReads, OpensOrRefused, ReadsText, StepsOrRefused, names_of_files, read_of};
+    ghost use Rattle.pyver_core.specs.FileSteps.{GainsFile, HasReads, OpensOrRefused, GainsText, StepsOrRefused, names_of_files, read_of};
     ghost use Rattle.pyver_core.specs.RequirementFiles.{StopsInFile, has_path, none_read};
     ghost use Rattle.pyver_core.specs.SourceViews.{IsReadingStop};
 
@@ -130,7 +130,7 @@ impl RequirementFiles {
         input: &mut R,
     ) -> Result<(), Stop>
         requires { HasReads self.old }
-        ensures read { IfOk result (λ _. ReadsText R.remaining name.now (string_bytes path) self.old self.new input.old input.new) }
+        ensures read { IfOk result (λ _. GainsText R.remaining name.now (string_bytes path) self.old self.new input.old input.new) }
         ensures count { IfOk result (λ _. (self.old.read_count < self.new.read_count) × HasReads self.new) }
         ensures part { IfErr result (λ _. (read : List ℕ) × Consumes (R.remaining input.old) (R.remaining input.new) read) }
         ensures stop { IfErr result (IsReadingStop name.now) }

@@ -1,11 +1,11 @@
 use Rattle.std.proofs.Common.{◌≡◌, ◌≤◌, ◌+◌, ◌-◌, ◌*◌, length, take}
 use Rattle.pyver_core.specs.FileSteps.{HasNames, HasReads, names_of_files, read_of}
-use Rattle.pyver_core.specs.RequirementFiles.{ReadsEach, none_read}
+use Rattle.pyver_core.specs.RequirementFiles.{ReadsFilesInTurn, none_read}
 use Rattle.pyver_core.proofs.requirement_files.RequirementFiles.read_all.Given as goal
 
 abbrev pub invariant-loop-index : goal.invariant-loop-index
 invariant-loop-index g l =
-    ReadsEach (g.F.Files.known l.initial.files) (g.F.Files.path l.initial.files) g.R.Read.remaining (take l.index (names_of_files l.self)) none_read (read_of l.self) l.initial.input l.input
+    ReadsFilesInTurn (g.F.Files.known l.initial.files) (g.F.Files.path l.initial.files) g.R.Read.remaining (take l.index (names_of_files l.self)) none_read (read_of l.self) l.initial.input l.input
     × HasNames (names_of_files l.initial.self) l.self × (g.F.Files.known l.files ≡ g.F.Files.known l.initial.files) × (g.F.Files.path l.files ≡ g.F.Files.path l.initial.files)
     × HasReads l.self × (l.count ≡ length l.self.names.items) × (l.index ≤ l.count)
 
