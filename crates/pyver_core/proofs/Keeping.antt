@@ -7,7 +7,7 @@ use Rattle.std.specs.List.{AllZip, concat}
 use Rattle.std.specs.Option.{option_map_or}
 use Rattle.pyver_core.proofs.Filtering.{first-append, length-faults}
 use Rattle.pyver_core.proofs.InputLines.{all_append, filled_lines-last, filled_lines_from-append, filled_one}
-use Rattle.pyver_core.specs.InputLines.{Origin, Source, SourceLine, filled_lines, filled_lines_from, input_lines, is_blank, numbered, source_lines}
+use Rattle.pyver_core.specs.InputLines.{Origin, SourceLine, filled_lines, filled_lines_from, input_lines, is_blank, numbered, source_lines}
 use Rattle.pyver_core.specs.InvalidLines.{last_message, message_limit}
 use Rattle.pyver_core.specs.LineOptions.{is_header}
 use Rattle.pyver_core.specs.ReadLines.{Entry, Header, IsEntry, IsRead, LineReading, ReadLine, faults}

@@ -1,5 +1,5 @@
 -- Sources that are read to their ends one after another.
-use Rattle.std.proofs.Common.{◌≡◌, ◌∙◌, ◌+◌, ◌*◌, ◌≤◌, ◌<◌, ℕ, List, [], ◌∷◌, ◌++◌, Bool, true, false, Option, None, Some, length, map, refl, sym, ap, subst, arith, append-nil}
+use Rattle.std.proofs.Common.{◌≡◌, ◌∙◌, ◌+◌, ℕ, List, [], ◌∷◌, ◌++◌, Bool, true, false, Option, None, Some, length, map, refl, sym, ap, subst, arith, append-nil}
 use Rattle.std.proofs.KnownBytes.{Consumes-nil}
 use Rattle.std.specs.Io.KnownBytes.{Consumes}
 use Rattle.std.proofs.lemmas.List.{map-append}
@@ -7,9 +7,9 @@ use Rattle.pyver_core.proofs.InputLines.{some_line}
 use Rattle.pyver_core.proofs.Keeping.{size_of-append}
 use Rattle.pyver_core.proofs.SourceFilters.{last_is, opened_consumes, reads_last}
 use Rattle.pyver_core.specs.InputLines.{Origin, Source, input_lines}
-use Rattle.pyver_core.specs.SourceTexts.{StopsInSources, HasRoom, GainsSource, StopsInSource, ReadsTo, size_of, source_of}
+use Rattle.pyver_core.specs.SourceTexts.{StopsInSources, GainsSource, StopsInSource, ReadsTo, size_of, source_of}
 use Rattle.pyver_core.specs.SourceViews.{IsStopOf}
-use Rattle.pyver_core.specs.Sources.{KnownFile, MayOpen, MayRefuse, ReadsAll, ReadsInput, ReadsLines, ReadsSource, ReadsText, Unopened, input_name, input_origin, is_input, is_none, known_bytes, last_name, source_names}
+use Rattle.pyver_core.specs.Sources.{KnownFile, MayOpen, ReadsAll, ReadsInput, ReadsLines, ReadsSource, ReadsText, input_name, input_origin, is_input, is_none, known_bytes, source_names}
 use Rattle.pyver_core.specs.declared.open_failure.OpenFailure.{OpenFailure}
 use Rattle.pyver_core.specs.declared.source_texts.SourceText.{SourceText}
 use Rattle.pyver_core.specs.declared.stream.Stop.{Stop}

@@ -1,5 +1,5 @@
 -- `range [--cover] [--json] SPECS..`: the versions that all lists allow, as a range.
-use Rattle.std.specs.Prelude.{◌≡◌, ℕ, List, [], ◌∷◌, ◌++◌, Bool, Option, Some, None, codes, fold, if◌then◌else◌}
+use Rattle.std.specs.Prelude.{◌≡◌, ℕ, List, [], ◌∷◌, ◌++◌, Bool, Option, Some, codes, fold, if◌then◌else◌}
 use Rattle.std.specs.List.{AllZip, flat_map}
 use Rattle.pep440_ranges.specs.Intersection.{overlaps}
 use Rattle.pep440_rs.specs.Bounds.{Segments, full, list_range, range_of}

@@ -1,5 +1,5 @@
 -- What lines that were read say, apart from where they lie in memory.
-use Rattle.std.specs.Prelude.{◌≡◌, ℕ, ◌+◌, ◌-◌, List, [], ◌∷◌, ◌++◌, Bool, length, map, take}
+use Rattle.std.specs.Prelude.{◌≡◌, ◌+◌, ◌-◌, List, [], ◌∷◌, ◌++◌, Bool, length, map, take}
 use Rattle.std.specs.List.{AllZip, concat}
 use Rattle.std.specs.declared.cmp.Ordering.{Ordering}
 use Rattle.pyver_core.specs.InputLines.{SourceLine}

@@ -4,11 +4,11 @@ use Rattle.std.proofs.lemmas.Bool.{true≢false}
 use Rattle.std.proofs.lemmas.List.Concat.{flat_map-append}
 use Rattle.std.proofs.lemmas.List.Folds.{list_any-append}
 use Rattle.std.proofs.lemmas.Slice.Eq.{bytes_eq-Decides}
-use Rattle.std.proofs.lemmas.List.Elements.{All-append, All-cons, All-contains_itself, All-filter, All-head, All-nil, All-tail}
+use Rattle.std.proofs.lemmas.List.Elements.{All-append, All-cons, All-contains_itself, All-head, All-nil, All-tail}
 use Rattle.std.specs.List.{All, Any, Contains, filter, flat_map, list_any}
 use Rattle.pep440_pick.specs.Names.{normal}
 use Rattle.pyver_findings.specs.Demands.{Demand}
-use Rattle.pyver_findings.specs.Conflicts.{common_cover, conflicts, counts_under, excludes, first_mentions, is_empty, of_all, of_few, of_markers, of_name, of_one, of_pairs, of_two, pin_conflict, has_same_marker, same_marker, has_same_name, under}
+use Rattle.pyver_findings.specs.Conflicts.{common_cover, conflicts, counts_under, excludes, first_mentions, is_empty, of_all, of_few, of_name, of_one, of_pairs, of_two, pin_conflict, has_same_marker, same_marker, has_same_name, under}
 use Rattle.pyver_findings.specs.FileLines.{FileLine}
 use Rattle.pyver_findings.specs.FindingLaws.{ConflictsAreFound, IsAmong}
 use Rattle.pyver_findings.specs.Findings.{Conflicting, Finding}

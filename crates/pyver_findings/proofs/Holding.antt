@@ -1,8 +1,8 @@
 -- What is reported of lines together: no version is allowed by all of them.
-use Rattle.std.proofs.Common.{arith, ◌≡◌, ◌==◌, ◌∙◌, ℕ, List, [], ◌∷◌, ◌++◌, ◌&&◌, ◌||◌, Bool, true, false, IsTrue, Option, Some, None, fold, length, map, not, refl, sym, ap, subst, inl, inr, if◌then◌else◌}
+use Rattle.std.proofs.Common.{arith, ◌≡◌, ◌==◌, ◌∙◌, ℕ, List, [], ◌∷◌, ◌&&◌, ◌||◌, Bool, true, false, IsTrue, Option, Some, None, fold, length, map, not, refl, sym, ap, subst, inl, inr, if◌then◌else◌}
 use Rattle.std.proofs.lemmas.Bool.{eqb-true, true≢false}
 use Rattle.std.proofs.lemmas.List.Elements.{All-append, All-cons, All-filter, All-head, All-nil, All-tail}
-use Rattle.std.specs.List.{All, AllZip, filter, flat_map, list_any}
+use Rattle.std.specs.List.{All, AllZip, filter, flat_map}
 use Rattle.pep440_pick.proofs.Once.{one_requirement}
 use Rattle.pep440_pick.specs.RequirementGrammar.{DerivesRequirement, Needed}
 use Rattle.pep440_ranges.proofs.Laws.{overlaps_hold_both}
@@ -18,11 +18,11 @@ use Rattle.pep440_version.specs.KeyLaws.{record_total}
 use Rattle.pep440_version.specs.Record.{Record}
 use Rattle.pyver_findings.specs.Demands.{Demand, line_demand, or_all}
 use Rattle.pyver_findings.specs.Conflicts.{common_cover, conflicts, counts_under, excludes, first_mentions, pin_is_apart, is_empty, meets, of_all, of_few, of_markers, of_name, of_one, of_pairs, of_two, pin_conflict, has_same_marker, has_same_name, under}
-use Rattle.pyver_findings.specs.FileLines.{File, FileLine, all_lines}
+use Rattle.pyver_findings.specs.FileLines.{FileLine, all_lines}
 use Rattle.pyver_findings.specs.FindingLaws.{LineAllows, FindingsHold, IsRight}
 use Rattle.pyver_findings.specs.Findings.{Conflicting, Finding, NoRequirement}
 use Rattle.pyver_findings.specs.LineMeanings.{IsNone, LeftOut, LineMeaning, NamesFile, IsKindMeaning, IsMeaning, requirement_meaning, has_scheme, names_file, with_marker, with_url}
-use Rattle.pyver_findings.specs.Reports.{IsReport, Report, demands_in, found_in, invalid_in}
+use Rattle.pyver_findings.specs.Reports.{Report, demands_in, invalid_in}
 use Rattle.pyver_findings.specs.declared.cause.Cause.TheVariants as cause
 use Rattle.pyver_findings.specs.declared.finding.Conflict.TheVariants.{NoVersion}
 use Rattle.pyver_requirements.specs.LineKinds.{ConstraintsFile, Editable, LineKind, Location, PipOption, Requirement, RequirementsFile, Variable, has_variable, line_kind}

@@ -1,12 +1,12 @@
 -- A line has at most one meaning, and files have at most one report.
-use Rattle.std.proofs.Common.{◌≡◌, ◌∙◌, ℕ, List, [], ◌∷◌, ◌++◌, length, refl, sym, ap, inl, inr}
+use Rattle.std.proofs.Common.{◌≡◌, ◌∙◌, List, [], ◌∷◌, length, refl, sym, ap, inl, inr}
 use Rattle.std.specs.List.{AllZip, flat_map}
 use Rattle.pep440_pick.proofs.Once.{not_both_requirement, one_refusal, one_requirement}
 use Rattle.pep440_pick.specs.RequirementGrammar.{Needed, RequirementRefusal}
-use Rattle.pyver_findings.specs.FileLines.{File, FileLine, all_lines}
+use Rattle.pyver_findings.specs.FileLines.{FileLine, all_lines}
 use Rattle.pyver_findings.specs.FindingLaws.{MeaningsOnce, ReportsOnce}
 use Rattle.pyver_findings.specs.LineMeanings.{IsKindMeaning, IsMeaning, LineMeaning, refusal_meaning, requirement_meaning}
-use Rattle.pyver_findings.specs.Reports.{IsReport, Report, found_in, left_out_in}
+use Rattle.pyver_findings.specs.Reports.{found_in, left_out_in}
 use Rattle.pyver_requirements.specs.LineKinds.{ConstraintsFile, Editable, LineKind, Location, PipOption, Requirement, RequirementsFile, Variable, line_kind}
 use Rattle.pyver_requirements.specs.LineParts.{line_parts}
 

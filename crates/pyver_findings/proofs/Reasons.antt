@@ -1,5 +1,5 @@
 -- The reasons of errors of requirements.
-use Rattle.std.proofs.Common.{◌≡◌, ◌∙◌, ℕ, List, ◌++◌, Bool, true, false, Option, Some, None, IfOk, IfSome, Result, codes, inl, inr, option_map, refl, sym, ap, subst}
+use Rattle.std.proofs.Common.{◌≡◌, ◌∙◌, ℕ, List, ◌++◌, true, false, Option, Some, None, IfOk, IfSome, Result, codes, inr, option_map, refl, sym, ap, subst}
 use Rattle.std.proofs.lemmas.List.{append_cancel_left, append_cancel_right}
 use Rattle.pep440_pick.specs.RequirementGrammar.{InvalidExtras, InvalidName, Marker, RefusesRequirement, RequirementRefusal, Specifiers, Unclosed, Url}
 use Rattle.pep440_pick.specs.RequirementTexts.{requirement_refusal_text, requirement_text_of}
