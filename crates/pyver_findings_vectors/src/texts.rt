@@ -1,8 +1,9 @@
 //! Reports, and the bytes that are printed of them.
 use crate::support::{report_of, source_file};
-use pyver_findings::{FileLine, find_problems};
+use pyver_findings::{FileLine, find_problems, push_named_files};
 use pyver_text::push_json_string;
 use std::alloc::{AllocError, Global};
+use std::str;
 use std::test::Fail;
 
 // Files between bars, and the report as text.
@@ -185,5 +186,35 @@ fn sweep_json_strings(rt: HostRuntime) -> Result<(), Fail> {
         written.as_slice() == want.as_bytes(),
         "a quote, a backslash and a newline"
     );
+    Ok(())
+}
+
+fn name_files(alloc: Global) -> Result<String, AllocError> {
+    let text =
+        "a\n-r b.txt\n--constraint ../c.txt\n-r /d.txt\n-r ${HOME}/e.txt\n-r https://h/f.txt\n--pre\n";
+    let file = source_file(alloc, "sub/a.txt", text)?;
+    let mut names = Vec::new(alloc);
+    names.push(Vec::from_slice(alloc, b"first")?)?;
+    push_named_files(alloc, &mut names, &file)?;
+    let mut line = String::new(alloc);
+    for name in &names {
+        line.push_str(str::from_utf8(name.as_slice()).unwrap_or("?"))?;
+        line.push('|')?;
+    }
+    Ok(line)
+}
+
+fn name_files_again(rt: HostRuntime) -> Result<String, Fail> {
+    match name_files(rt.alloc()) {
+        Ok(line) => Ok(line),
+        Err(_) => Ok(name_files(rt.alloc())?),
+    }
+}
+
+#[test]
+fn sweep_named_files(rt: HostRuntime) -> Result<(), Fail> {
+    let line = name_files_again(rt)?;
+    let holds = line.as_str() == "first|sub/b.txt|sub/../c.txt|/d.txt|";
+    assert!(rt; holds, "the files that lines name");
     Ok(())
 }
