@@ -1,5 +1,5 @@
 -- Requirements files that are read one after another.
-use Rattle.std.proofs.Common.{◌≡◌, ◌⊎◌, ◌∙◌, ◌+◌, ◌-◌, ◌*◌, ◌≤◌, ◌<◌, ℕ, List, [], ◌∷◌, ◌++◌, Bool, true, false, Option, None, Some, inl, inr, length, map, take, drop, refl, sym, ap, subst, arith, append_assoc, append-nil, length-append}
+use Rattle.std.proofs.Common.{◌≡◌, ◌⊎◌, ◌∙◌, ◌+◌, ◌-◌, ◌*◌, ◌≤◌, ◌<◌, ℕ, List, [], ◌∷◌, ◌++◌, true, false, Option, None, Some, inl, inr, length, take, refl, sym, ap, subst, arith, append_assoc, append-nil, length-append}
 use Rattle.std.proofs.Math.Seq.{take-append_seam}
 use Rattle.std.proofs.lemmas.Grind.{flat_map-append}
 use Rattle.std.specs.Io.KnownBytes.{Consumes}
@@ -8,9 +8,9 @@ use Rattle.std.specs.Str.{IsUtf8}
 use Rattle.pyver_core.proofs.RunEnds.{reads_nothing}
 use Rattle.pyver_core.proofs.SourceFilters.{opened_consumes}
 use Rattle.pyver_core.specs.FileSteps.{GainsFile, HasNames, HasReads, OpensOrRefused, ReadsStep, GainsText, StepsOrRefused, names_of_files, read_of}
-use Rattle.pyver_core.specs.RequirementFiles.{FilesFound, FilesRead, HasPath, ReadsFilesInTurn, ReadsFile, ReadsFiles, ReadsNext, StopsInFile, StopsInFiles, has_path, none_read}
+use Rattle.pyver_core.specs.RequirementFiles.{FilesRead, HasPath, ReadsFilesInTurn, ReadsFiles, ReadsNext, StopsInFile, StopsInFiles, has_path, none_read}
 use Rattle.pyver_core.specs.SourceViews.{IsReadingStop}
-use Rattle.pyver_core.specs.Sources.{KnownFile, MayOpen, Unopened, is_input, known_bytes}
+use Rattle.pyver_core.specs.Sources.{KnownFile, MayOpen, is_input}
 use Rattle.pyver_core.specs.Sources.{ReadsText as ReadsSourceText}
 use Rattle.pyver_core.specs.declared.open_failure.OpenFailure.{OpenFailure}
 use Rattle.pyver_core.specs.declared.requirement_files.RequirementFiles.{RequirementFiles}

@@ -1,5 +1,5 @@
 -- The command `check`: what is wrong in requirements files.
-use Rattle.std.specs.Prelude.{◌≡◌, ◌⊎◌, ℕ, List, [], ◌∷◌, Bool, true, false, Option, Some, None, if◌then◌else◌}
+use Rattle.std.specs.Prelude.{◌≡◌, ◌⊎◌, ℕ, List, [], ◌∷◌, Bool, Option, Some, None, if◌then◌else◌}
 use Rattle.pyver_core.specs.Outcomes.{Outcome}
 use Rattle.pyver_core.specs.RequirementFiles.{FilesFound, ReadsFiles, StopsInFiles}
 use Rattle.pyver_core.specs.Runs.{WritesAnswer, WroteBeginning}

@@ -1,6 +1,6 @@
 use Rattle.std.proofs.Common.{map, refl, string_bytes, subst}
-use Rattle.pyver_core.proofs.CheckEnds.{ends_checked, ends_unchecked, ends_unread, no_lines_of_check, no_outcome_of_check}
-use Rattle.pyver_core.proofs.RunEnds.{ends_at_once, ends_by_answer, ends_by_filter, ends_by_stop, ends_by_whole, filter_began, whole_began}
+use Rattle.pyver_core.proofs.CheckEnds.{ends_unchecked, ends_unread, no_outcome_of_check}
+use Rattle.pyver_core.proofs.RunEnds.{ends_at_once, ends_by_answer, ends_by_stop, filter_began, whole_began}
 use Rattle.pyver_core.specs.AnswerViews.{outcome_of}
 use Rattle.pyver_core.specs.Sources.{no_input}
 use Rattle.pyver_core.specs.TaskViews.{task}

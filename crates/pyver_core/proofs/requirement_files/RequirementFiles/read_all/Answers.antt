@@ -1,4 +1,4 @@
-use Rattle.std.proofs.Common.{◌≡◌, ◌∙◌, ◌+◌, ◌-◌, ◌*◌, ◌≤◌, ◌<◌, ◌∷◌, ◌++◌, [], None, Some, ap, arith, drop, length, length-append, map, refl, subst, sym, take, take_all}
+use Rattle.std.proofs.Common.{◌≡◌, ◌∙◌, ◌+◌, ◌∷◌, ◌++◌, Some, ap, arith, drop, length, length-append, map, subst, sym, take, take_all}
 use Rattle.std.proofs.lemmas.List.{length-map, length-take-le, take-map}
 use Rattle.pyver_core.proofs.FileReads.{each_more, ends_refused, ends_stopped, ends_whole, stops_before, taken}
 use Rattle.pyver_core.proofs.SourceFilters.{names_split}
