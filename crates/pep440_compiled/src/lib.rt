@@ -18,8 +18,6 @@ mod list;
 mod members;
 mod packed;
 mod parts;
-#[cfg(test)]
-mod tests;
 mod unpacked;
 mod version;
 mod word_list;

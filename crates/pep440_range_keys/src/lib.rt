@@ -9,8 +9,6 @@
 mod interval;
 mod keys;
 pub mod laws;
-#[cfg(test)]
-mod tests;
 
 pub use interval::KeyInterval;
 pub use keys::{range_keys, segment_keys};

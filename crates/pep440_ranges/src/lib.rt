@@ -16,8 +16,6 @@ mod gaps;
 mod merge;
 mod ranges;
 mod segments;
-#[cfg(test)]
-mod tests;
 
 pub use crate::ranges::Ranges;
 pub use crate::segments::Segments;

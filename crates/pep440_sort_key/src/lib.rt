@@ -12,7 +12,5 @@
 mod key;
 pub mod laws;
 mod number;
-#[cfg(test)]
-mod tests;
 
 pub use key::{push_sort_key, sort_key};

@@ -31,23 +31,3 @@ pub fn add(
     downloads.insert(version, sum)?;
     Ok(())
 }
-
-#[cfg(test)]
-mod tests {
-    use super::*;
-    use std::test::Fail;
-
-    // PEP 440, "Final releases": 1.0 and 1.0.0 are one version, 1.0.post1 is another.
-    const LOADED: [(&str, u64); 3] = [("1.0", 2), ("1.0.post1", 1), ("1.0.0", 3)];
-
-    #[test]
-    fn equal_versions_are_one_key(rt: HostRuntime) -> Result<(), Fail> {
-        let mut downloads = BTreeMap::new(rt.alloc());
-        for (text, times) in LOADED {
-            add(&mut downloads, Version::from_str(rt.alloc(), text)?, times)?;
-        }
-        let one = Version::new(rt.alloc(), &[1])?;
-        assert!(rt; count_loads(&downloads, &one) == 5 && downloads.len() == 2);
-        Ok(())
-    }
-}

@@ -111,28 +111,3 @@ pub fn find_broken(alloc: Global, lock: &[Locked]) -> Result<Vec<String>, AllocE
     }
     Ok(names)
 }
-
-#[cfg(test)]
-mod tests {
-    use super::*;
-    use std::test::Fail;
-
-    // What PEP 440 says of each: 1.5 lies below 2.0, 2.0.dev1 is a pre-release of 2.0 ("Exclusive ordered comparison").
-    const LOCK: [&str; 3] = [
-        "demo; >=1.0, <2.0; 1.5",
-        "other; >=1.0, <2.0; 2.0.dev1",
-        "third; ==1.*; 2.0",
-    ];
-
-    #[test]
-    fn a_lock_file_is_checked(rt: HostRuntime) -> Result<(), Fail> {
-        let mut lock = Vec::new(rt.alloc());
-        for line in LOCK {
-            lock.push(Locked::from_line(rt.alloc(), line)?)?;
-        }
-        let names = find_broken(rt.alloc(), &lock)?;
-        let first = names.first().map(|name| name.as_str() == "other");
-        assert!(rt; names.len() == 2 && first == Some(true));
-        Ok(())
-    }
-}

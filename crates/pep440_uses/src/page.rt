@@ -36,25 +36,3 @@ pub fn newest(
     let versions = collect_contained(alloc, wanted, page)?;
     Ok(versions.into_iter().max())
 }
-
-#[cfg(test)]
-mod tests {
-    use super::*;
-    use std::test::Fail;
-
-    // By PEP 440 1.10 is above 1.9, and 2.0rc1 is a pre-release of 2.0.
-    const PAGE: [&str; 4] = ["1.9", "1.10", "2.0rc1", "1.2"];
-
-    #[test]
-    fn the_newest_is_chosen(rt: HostRuntime) -> Result<(), Fail> {
-        let wanted = VersionSpecifiers::from_str(rt.alloc(), ">=1.0, <2.0")?;
-        let mut page = Vec::new(rt.alloc());
-        for text in PAGE {
-            page.push(Version::from_str(rt.alloc(), text)?)?;
-        }
-        let best = newest(rt.alloc(), &wanted, page)?;
-        let ten = Version::new(rt.alloc(), &[1, 10])?;
-        assert!(rt; best == Some(ten));
-        Ok(())
-    }
-}

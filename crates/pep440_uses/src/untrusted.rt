@@ -53,22 +53,3 @@ pub fn read_all(alloc: Global, texts: &[&str]) -> Result<Vec<Verdict>, AllocErro
     }
     Ok(verdicts)
 }
-
-#[cfg(test)]
-mod tests {
-    use super::*;
-    use std::test::Fail;
-
-    // PEP 440, "Local version identifiers" and "Version specifiers": a local part may not be empty.
-    const TEXTS: [&str; 3] = ["1.0", "1.0+", "latest"];
-
-    #[test]
-    fn refusals_are_told(rt: HostRuntime) -> Result<(), Fail> {
-        let mut refused = Vec::new(rt.alloc());
-        for verdict in read_all(rt.alloc(), &TEXTS)? {
-            refused.push(matches!(verdict, Verdict::Refused(_)))?;
-        }
-        assert!(rt; refused.as_slice() == [false, true, true].as_slice());
-        Ok(())
-    }
-}

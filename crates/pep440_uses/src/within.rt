@@ -40,25 +40,3 @@ pub fn keep_wanted(
     keep(&range, versions);
     Ok(())
 }
-
-#[cfg(test)]
-mod tests {
-    use super::*;
-    use std::test::Fail;
-
-    const VERSIONS: [&str; 4] = ["1.0", "1.5", "1.6.1", "2.0"];
-
-    // PEP 440, "Version exclusion" and "Exclusive ordered comparison": 1.5 and 2.0 go.
-    #[test]
-    fn an_index_is_filtered(rt: HostRuntime) -> Result<(), Fail> {
-        let wanted = VersionSpecifiers::from_str(rt.alloc(), ">=1.0, <2.0, !=1.5")?;
-        let mut versions = Vec::new(rt.alloc());
-        for text in VERSIONS {
-            versions.push(Version::from_str(rt.alloc(), text)?)?;
-        }
-        keep_wanted(rt.alloc(), wanted, &mut versions)?;
-        let last = versions.last().map(|version| version.release().len());
-        assert!(rt; versions.len() == 2 && last == Some(3));
-        Ok(())
-    }
-}

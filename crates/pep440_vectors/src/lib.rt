@@ -1,4 +1,5 @@
-//! What no test case of `pep440_rs_cases` can ask: refused memory, requests counted, very long strings, and iterators.
+//! What no test case of `pep440_rs_cases` can ask: refused memory, requests counted, very long strings, and iterators;
+//! and the examples of `pep440_uses`.
 #![tactic(auto)]
 
 #[cfg(test)]
@@ -15,3 +16,5 @@ mod matching;
 mod ranges;
 #[cfg(test)]
 mod specifiers;
+#[cfg(test)]
+mod uses;

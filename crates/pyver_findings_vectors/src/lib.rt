@@ -7,6 +7,8 @@ mod findings;
 #[cfg(test)]
 mod made;
 #[cfg(test)]
+mod requirements;
+#[cfg(test)]
 mod support;
 #[cfg(test)]
 mod texts;

@@ -6,8 +6,6 @@ mod line_kind;
 mod line_parts;
 mod logical_line;
 mod physical_line;
-#[cfg(test)]
-mod tests;
 
 pub use line_kind::{LineKind, classify, has_variable};
 pub use line_parts::{LineParts, split_requirement};

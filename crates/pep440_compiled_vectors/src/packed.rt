@@ -1,9 +1,5 @@
 //! Worked cases: packed versions and their bytes, bytes that denote nothing, and the order of compiled versions.
-mod lists;
-mod versions;
-mod words;
-
-use crate::{NotCompiled, compare_packed, compile_packed, read_packed};
+use pep440_compiled::{NotCompiled, compare_packed, compile_packed, read_packed};
 use pep440_version::Version;
 use std::cmp::Ordering;
 use std::test::Fail;

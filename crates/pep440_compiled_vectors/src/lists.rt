@@ -1,5 +1,7 @@
 //! Worked cases: lists and their bytes, bytes that denote no list, what lists contain, and refused memory.
-use crate::{CompiledError, compile_list, compile_version, contains, normalize_list, read_list};
+use pep440_compiled::{
+    CompiledError, compile_list, compile_version, contains, normalize_list, read_list,
+};
 use pep440_rs::VersionSpecifiers;
 use pep440_version::Version;
 use std::test::Fail;

@@ -1,7 +1,7 @@
 //! The test cases at `u64`.
 
-use crate::Ranges;
-use crate::tests::walk::{collect_segments, complement_any, complement_twice, count_segments};
+use crate::ranges::walk::{collect_segments, complement_any, complement_twice, count_segments};
+use pep440_ranges::Ranges;
 use std::alloc::{AllocError, Global};
 use std::ops::Bound;
 use std::ops::Bound::{Excluded, Included, Unbounded};

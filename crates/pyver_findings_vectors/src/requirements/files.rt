@@ -1,5 +1,5 @@
 //! Files and their logical lines.
-use crate::logical_lines;
+use pyver_requirements::logical_lines;
 use std::alloc::{AllocError, Global};
 use std::test::Fail;
 

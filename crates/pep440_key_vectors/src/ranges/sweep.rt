@@ -4,8 +4,8 @@
 //! made. The call under test returns the expected segments or, out of memory, leaves its arguments
 //! unchanged and returns them on the second try.
 
-use crate::Ranges;
-use crate::tests::held::Held;
+use crate::ranges::held::Held;
+use pep440_ranges::Ranges;
 use std::alloc::{AllocError, Global};
 use std::ops::Bound;
 use std::ops::Bound::{Excluded, Included, Unbounded};

@@ -5,7 +5,7 @@ ghost use Rattle.std.specs.Ordering.{nat_cmp};
 ghost use Rattle.pep440_ranges.specs.Segments.{contains};
 ghost use Rattle.pep440_ranges.specs.Clones.{IsCloneSame};
 
-use crate::Ranges;
+use pep440_ranges::Ranges;
 use std::alloc::{AllocError, Global};
 use std::ops::Bound;
 

@@ -1,5 +1,5 @@
 //! Test cases: strings whose keys rise, and keys by their bytes; and a key with each allocation failing in turn.
-use crate::{push_sort_key, sort_key};
+use pep440_sort_key::{push_sort_key, sort_key};
 use pep440_version::Version;
 use std::test::Fail;
 

@@ -1,5 +1,5 @@
 use Rattle.std.proofs.Common.{◌≡◌, ◌++◌}
-use Rattle.pep440_ranges.proofs.tests.walk.collect_segments.Given as goal
+use Rattle.pep440_key_vectors.proofs.ranges.walk.collect_segments.Given as goal
 
 -- what was found, and the segments that are left, are all segments
 abbrev pub invariant-loop-start : goal.invariant-loop-start

@@ -1,5 +1,5 @@
 //! Worked rows: segments with their keys, and versions by their keys; and intervals with each request for memory refused in turn.
-use crate::{KeyInterval, range_keys, segment_keys};
+use pep440_range_keys::{KeyInterval, range_keys, segment_keys};
 use pep440_ranges::Ranges;
 use pep440_sort_key::sort_key;
 use pep440_version::Version;

@@ -1,5 +1,5 @@
 //! Worked cases: versions that are not packed and their bytes, bytes that denote no version, and refused memory.
-use crate::{CompiledError, compare, compile_version, normalize, read_version, sort_key};
+use pep440_compiled::{CompiledError, compare, compile_version, normalize, read_version, sort_key};
 use pep440_version::Version;
 use std::cmp::Ordering;
 use std::test::Fail;

@@ -1,5 +1,5 @@
 //! Lines that are requirements, and their parts.
-use crate::split_requirement;
+use pyver_requirements::split_requirement;
 use std::test::Fail;
 
 // A line, and its requirement, its URL and its marker, where `-` stands for none.

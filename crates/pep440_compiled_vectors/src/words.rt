@@ -1,6 +1,8 @@
 //! Worked cases: packed versions compared and matched by their words, words that no version has, and lists asked of a version
 //! that is read already.
-use crate::{CompiledError, compare, compile_list, compile_version, contains, contains_version};
+use pep440_compiled::{
+    CompiledError, compare, compile_list, compile_version, contains, contains_version,
+};
 use pep440_rs::VersionSpecifiers;
 use pep440_version::Version;
 use std::cmp::Ordering;

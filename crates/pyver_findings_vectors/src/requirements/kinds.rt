@@ -1,5 +1,5 @@
 //! Logical lines, and what they are.
-use crate::{LineKind, classify};
+use pyver_requirements::{LineKind, classify};
 use std::test::Fail;
 
 // A line, a word for what it is, and the path that it has.

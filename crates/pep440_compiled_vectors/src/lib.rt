@@ -1,0 +1,11 @@
+//! Compiled versions and lists: worked cases with their bytes, bytes that denote nothing, and refused memory.
+#![tactic(auto)]
+
+#[cfg(test)]
+mod lists;
+#[cfg(test)]
+mod packed;
+#[cfg(test)]
+mod versions;
+#[cfg(test)]
+mod words;
