@@ -211,7 +211,7 @@ uint8_t pep440_release_range_bounds(const uint8_t *list, size_t length, uint8_t 
    are equal. The order of compiled bytes is not that of the versions: pep440_compare_compiled and pep440_sort_key_compiled have that.
 
    A version takes ten bytes where it has a word (pep440_word), else 30, 8 for each number of its release and each suffix, and for each local
-   segment 9 and its letters; a list takes nine, and for each specifier one more than its version. Of this section only the first three calls
+   segment 9 and its letters; a list takes nine, and for each specifier one more than its version. Only the first three calls of this section
    parse a string. pep440_compare_compiled allocates nothing where the versions have words, nor does pep440_contains_compiled where the version and
    those of the list have words and the list has no `===`.
 
