@@ -211,8 +211,8 @@ uint8_t pep440_release_range_bounds(const uint8_t *list, size_t length, uint8_t 
    are equal. The order of compiled bytes is not that of the versions: pep440_compare_compiled and pep440_sort_key_compiled have that.
 
    A version takes ten bytes where it has a word (pep440_word), else 30, 8 for each number of its release and each suffix, and for each local
-   segment 9 and its letters; a list takes nine, and for each specifier one more than its version. No call below but the first three parses a
-   string. pep440_compare_compiled allocates nothing where the versions have words, nor does pep440_contains_compiled where the version and
+   segment 9 and its letters; a list takes nine, and for each specifier one more than its version. Only the first three calls of this section
+   parse a string. pep440_compare_compiled allocates nothing where the versions have words, nor does pep440_contains_compiled where the version and
    those of the list have words and the list has no `===`.
 
    Bytes that pep440_compile did not write may denote a version that no string denotes: one with a sentinel, as a bound of pep440_ranges has
