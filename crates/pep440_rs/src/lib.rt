@@ -1,7 +1,7 @@
 //! Versions and version specifiers of PEP 440: the one crate that users name.
 //!
 //! A specifier is an operator and a version, as `>=1.2`, and a list is specifiers with commas between them. All that
-//! `pep440_version` offers but its `laws`, and all of `pep440_ranges`, is offered here under the same names.
+//! `pep440_version` offers but its modules `key`, `laws` and `words`, and all of `pep440_ranges`, is offered here under the same names.
 //!
 //! ```rust
 //! use anyhow::Result;

@@ -1,6 +1,6 @@
 //! Five cores of small programs over `pep440_rs`, a file each, written as a caller would write them.
 //!
-//! `docs/CALLING.md` shows them; copy the one that is nearest.
+//! `docs/CALLING.md` shows parts of them.
 #![tactic(auto)]
 
 pub mod downloads;
