@@ -26,7 +26,7 @@ use Rattle.pyver_findings.proofs.Rejecting.{invalid_right}
 use Rattle.pyver_findings.specs.Reports.{Report, demands_in, invalid_in}
 use Rattle.pyver_findings.specs.declared.cause.Cause.TheVariants as cause
 use Rattle.pyver_findings.specs.declared.finding.Conflict.TheVariants.{NoVersion}
-use Rattle.pyver_requirements.specs.LineKinds.{ConstraintsFile, Editable, LineKind, Location, PipOption, Requirement, RequirementsFile, Variable, has_variable, line_kind}
+use Rattle.pyver_requirements.specs.LineKinds.{ConstraintsFile, Editable, LineKind, Location, MissingPath, PipOption, Requirement, RequirementsFile, Variable, has_variable, line_kind}
 use Rattle.pyver_requirements.specs.LineParts.{line_parts}
 
 -- ---- the cover of what a line asks for
@@ -71,6 +71,7 @@ same_reading x y is k = subst (λ (z : LineMeaning). All IsCovered (demands_in z
 of_kind : (l : FileLine) (kind : LineKind) (x : LineMeaning) → IsKindMeaning l kind x → All IsCovered (demands_in x)
 of_kind l (RequirementsFile path) x is = same_reading x (names_file path) is (of_file (has_variable path) (has_scheme path))
 of_kind l (ConstraintsFile path) x is = same_reading x (names_file path) is (of_file (has_variable path) (has_scheme path))
+of_kind l MissingPath x is = same_reading x _ is (All-nil IsCovered)
 of_kind l Editable x is = same_reading x _ is (All-nil IsCovered)
 of_kind l PipOption x is = same_reading x _ is (All-nil IsCovered)
 of_kind l Variable x is = same_reading x _ is (All-nil IsCovered)

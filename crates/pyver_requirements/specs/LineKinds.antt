@@ -7,11 +7,12 @@ use Rattle.pep440_pick.specs.RequirementGrammar.{opens, trim_blanks}
 use Rattle.pep440_version.specs.Grammar.{starts}
 use Rattle.pep440_version.specs.Reading.{lead, past}
 
--- another file of requirements, and one of constraints, each with its path; an editable; another option of pip; a line with a variable; a
--- URL, a path or an archive; a requirement
+-- another file of requirements, and one of constraints, each with its path; the option of such a file without a path; an editable;
+-- another option of pip; a line with a variable; a URL, a path or an archive; a requirement
 pub data LineKind : Type 0 where
   RequirementsFile : (path : List ℕ) → LineKind
   ConstraintsFile : (path : List ℕ) → LineKind
+  MissingPath : LineKind
   Editable : LineKind
   PipOption : LineKind
   Variable : LineKind
@@ -30,10 +31,20 @@ abbrev pub option_value : List ℕ → List ℕ → List ℕ → Option (List �
 option_value long short text = if starts_with nat_eq text long then long_option_value (drop (length long) text)
     else (if starts_with nat_eq text short then Some (trim_blanks (drop (length short) text)) else None)
 
+-- the file of requirements with this path
+abbrev pub requirements_file : List ℕ → LineKind
+requirements_file [] = MissingPath
+requirements_file (b ∷ path) = RequirementsFile (b ∷ path)
+
+-- the file of constraints with this path
+abbrev pub constraints_file : List ℕ → LineKind
+constraints_file [] = MissingPath
+constraints_file (b ∷ path) = ConstraintsFile (b ∷ path)
+
 -- what a line is that begins with `-`
 abbrev pub option_kind : List ℕ → LineKind
-option_kind text = option_map_or RequirementsFile (option_value (codes "--requirement") (codes "-r") text)
-    (option_map_or ConstraintsFile (option_value (codes "--constraint") (codes "-c") text)
+option_kind text = option_map_or requirements_file (option_value (codes "--requirement") (codes "-r") text)
+    (option_map_or constraints_file (option_value (codes "--constraint") (codes "-c") text)
     (option_map_or (λ _. Editable) (option_value (codes "--editable") (codes "-e") text) PipOption))
 
 -- ---- variables

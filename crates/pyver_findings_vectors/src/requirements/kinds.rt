@@ -3,7 +3,7 @@ use pyver_requirements::{LineKind, classify};
 use std::test::Fail;
 
 // A line, a word for what it is, and the path that it has.
-const LINES: [(&str, &str, &str); 33] = [
+const LINES: [(&str, &str, &str); 38] = [
     ("-r other.txt", "requirements", "other.txt"),
     ("-rother.txt", "requirements", "other.txt"),
     ("--requirement other.txt", "requirements", "other.txt"),
@@ -13,7 +13,12 @@ const LINES: [(&str, &str, &str); 33] = [
     ("-climits.txt", "constraints", "limits.txt"),
     ("--constraint limits.txt", "constraints", "limits.txt"),
     ("--constraint=limits.txt", "constraints", "limits.txt"),
-    ("-r", "requirements", ""),
+    ("-r", "no path", ""),
+    ("-c", "no path", ""),
+    ("--requirement", "no path", ""),
+    ("--requirement=", "no path", ""),
+    ("--constraint", "no path", ""),
+    ("--constraint=", "no path", ""),
     ("--requirements other.txt", "option", ""),
     ("-e .", "editable", ""),
     ("-e git+https://host/demo.git#egg=demo", "editable", ""),
@@ -47,6 +52,7 @@ fn word_and_path(kind: LineKind<'_>) -> (&'static str, &[u8]) {
     match kind {
         LineKind::RequirementsFile(path) => ("requirements", path),
         LineKind::ConstraintsFile(path) => ("constraints", path),
+        LineKind::MissingPath => ("no path", &[]),
         LineKind::Editable => ("editable", &[]),
         LineKind::PipOption => ("option", &[]),
         LineKind::Variable => ("variable", &[]),
