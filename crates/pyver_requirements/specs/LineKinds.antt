@@ -73,12 +73,20 @@ has_variable (b ∷ rest) = opens_variable (b ∷ rest) || has_variable rest
 abbrev pub first_word : List ℕ → List ℕ
 first_word text = lead (λ b. not (is_ascii_whitespace b || ((b == 59) || (b == 64)))) text
 
--- the endings of archives
-abbrev pub archive_endings : List (List ℕ)
-archive_endings = codes ".whl" ∷ (codes ".zip" ∷ (codes ".tar.gz" ∷ (codes ".tgz" ∷ (codes ".tar.bz2" ∷ (codes ".tar.xz" ∷ [])))))
+-- the endings of tar archives that name their compression, or have none
+abbrev pub tar_endings : List (List ℕ)
+tar_endings = codes ".tar" ∷ (codes ".tar.gz" ∷ (codes ".tar.bz2" ∷ (codes ".tar.xz" ∷ (codes ".tar.lz" ∷ (codes ".tar.lzma" ∷ [])))))
+
+-- the endings of wheels, of zip archives, and the short ones of tar archives
+abbrev pub short_endings : List (List ℕ)
+short_endings = codes ".whl" ∷ (codes ".zip" ∷ (codes ".tgz" ∷ (codes ".tbz" ∷ (codes ".txz" ∷ (codes ".tlz" ∷ [])))))
+
+-- the word has one of these endings
+abbrev pub ends_as : List (List ℕ) → List ℕ → Bool
+ends_as endings word = list_any (λ ending. ends_with nat_eq word ending) endings
 
 abbrev pub is_archive : List ℕ → Bool
-is_archive word = list_any (λ ending. ends_with nat_eq word ending) archive_endings
+is_archive word = ends_as short_endings word || ends_as tar_endings word
 
 -- the word begins with `.`, or has a `/`, or ends as an archive
 abbrev pub is_location : List ℕ → Bool

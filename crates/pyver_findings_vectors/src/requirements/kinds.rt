@@ -3,7 +3,7 @@ use pyver_requirements::{LineKind, classify};
 use std::test::Fail;
 
 // A line, a word for what it is, and the path that it has.
-const LINES: [(&str, &str, &str); 38] = [
+const LINES: [(&str, &str, &str); 50] = [
     ("-r other.txt", "requirements", "other.txt"),
     ("-rother.txt", "requirements", "other.txt"),
     ("--requirement other.txt", "requirements", "other.txt"),
@@ -26,6 +26,8 @@ const LINES: [(&str, &str, &str); 38] = [
     ("-i https://host/simple", "option", ""),
     ("--index-url https://host/simple", "option", ""),
     ("--pre", "option", ""),
+    ("-C a=b", "option", ""),
+    ("--config-settings a=b", "option", ""),
     ("demo==${VERSION}", "variable", ""),
     ("https://${TOKEN_2}@host/demo.whl", "variable", ""),
     ("demo # ${lower} ${}", "requirement", ""),
@@ -34,7 +36,17 @@ const LINES: [(&str, &str, &str); 38] = [
     ("./demo", "location", ""),
     ("/srv/demo", "location", ""),
     ("demo-1.0-py3-none-any.whl", "location", ""),
+    ("demo-1.0.zip", "location", ""),
+    ("demo-1.0.tar", "location", ""),
     ("demo-1.0.tar.gz", "location", ""),
+    ("demo-1.0.tgz", "location", ""),
+    ("demo-1.0.tar.bz2", "location", ""),
+    ("demo-1.0.tbz", "location", ""),
+    ("demo-1.0.tar.xz", "location", ""),
+    ("demo-1.0.txz", "location", ""),
+    ("demo-1.0.tar.lz", "location", ""),
+    ("demo-1.0.tlz", "location", ""),
+    ("demo-1.0.tar.lzma", "location", ""),
     ("demo", "requirement", ""),
     ("demo>=1.0,<2", "requirement", ""),
     (
