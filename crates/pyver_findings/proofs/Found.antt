@@ -86,7 +86,7 @@ module _ (lines : List FileLine) where
   unmapped [] k = All-nil IsOne
   unmapped (a ∷ some) k = All-cons IsOne a some (All-head (Contains lines) a.line (map (λ (b : Demand). b.line) some) k) (unmapped some (All-tail (Contains lines) a.line (map (λ (b : Demand). b.line) some) k))
 
-  -- lines with in common are reported, or some of them are
+  -- lines with nothing in common are reported, or some of them are
   by_few : (some : List Demand) → All IsOne some → (b : Bool) → (length (of_few some) == 0) ≡ b
       → Some_is (IsAmong lines) (if true && b then Conflicting NoVersion (map (λ (a : Demand). a.line) some) ∷ [] else []) ⊎ Some_is (IsAmong lines) (of_few some)
   by_few some k true is = inl (inl (mapped some k))
@@ -245,7 +245,7 @@ module _ (lines : List Demand) (marker : Option (List ℕ)) where
   all_ones : All (IsOne (map (λ (a : Demand). a.line) (under marker lines))) (under marker lines)
   all_ones = unmapped (map (λ (a : Demand). a.line) (under marker lines)) (under marker lines) (All-contains_itself (map (λ (a : Demand). a.line) (under marker lines)))
 
-  -- the lines without a marker have in common
+  -- the lines without a marker have nothing in common
   by_none : is_empty (common_cover (under None lines)) ≡ true → Some_is Fits (of_few lines ++ of_all (under None lines))
   by_none e =
       elim (all_or_few (map (λ (a : Demand). a.line) (under marker lines)) (under None lines)

@@ -1,7 +1,7 @@
--- What is reported of lines together: no version is allowed by all of them.
+-- What is reported: a line alone is no requirement, and of lines together no version is allowed by all.
 use Rattle.std.proofs.Common.{arith, ◌≡◌, ◌==◌, ◌∙◌, ℕ, List, [], ◌∷◌, ◌&&◌, ◌||◌, Bool, true, false, IsTrue, Option, Some, None, fold, length, map, not, refl, sym, ap, subst, inl, inr, if◌then◌else◌}
 use Rattle.std.proofs.lemmas.Bool.{eqb-true, true≢false}
-use Rattle.std.proofs.lemmas.List.Elements.{All-append, All-cons, All-filter, All-head, All-nil, All-tail}
+use Rattle.std.proofs.lemmas.List.Elements.{All-append, All-cons, All-contains_itself, All-filter, All-head, All-nil, All-tail}
 use Rattle.std.specs.List.{All, AllZip, filter, flat_map}
 use Rattle.pep440_pick.proofs.Once.{one_requirement}
 use Rattle.pep440_pick.specs.RequirementGrammar.{DerivesRequirement, Needed}
@@ -19,14 +19,15 @@ use Rattle.pep440_version.specs.Record.{Record}
 use Rattle.pyver_findings.specs.Demands.{Demand, line_demand, or_all}
 use Rattle.pyver_findings.specs.Conflicts.{common_cover, conflicts, counts_under, excludes, first_mentions, pin_is_apart, is_empty, meets, of_all, of_few, of_markers, of_name, of_one, of_pairs, of_two, pin_conflict, has_same_marker, has_same_name, under}
 use Rattle.pyver_findings.specs.FileLines.{FileLine, all_lines}
-use Rattle.pyver_findings.specs.FindingLaws.{LineAllows, FindingsHold, IsRight}
-use Rattle.pyver_findings.specs.Findings.{Conflicting, Finding, NoRequirement}
+use Rattle.pyver_findings.specs.FindingLaws.{FindingsHold, IsRight, LineAllows}
+use Rattle.pyver_findings.specs.Findings.{Conflicting, Finding}
 use Rattle.pyver_findings.specs.LineMeanings.{IsNone, LeftOut, LineMeaning, NamesFile, IsKindMeaning, IsMeaning, requirement_meaning, has_scheme, names_file, with_marker, with_url}
+use Rattle.pyver_findings.proofs.Rejecting.{invalid_right}
 use Rattle.pyver_findings.specs.Reports.{Report, demands_in, invalid_in}
 use Rattle.pyver_findings.specs.declared.cause.Cause.TheVariants as cause
 use Rattle.pyver_findings.specs.declared.finding.Conflict.TheVariants.{NoVersion}
-use Rattle.pyver_requirements.specs.LineKinds.{ConstraintsFile, Editable, LineKind, Location, PipOption, Requirement, RequirementsFile, Variable, has_variable, line_kind}
-use Rattle.pyver_requirements.specs.LineParts.{LineParts, line_parts}
+use Rattle.pyver_requirements.specs.LineKinds.{ConstraintsFile, Editable, LineKind, Location, MissingPath, PipOption, Requirement, RequirementsFile, Variable, has_variable, line_kind}
+use Rattle.pyver_requirements.specs.LineParts.{line_parts}
 
 -- ---- the cover of what a line asks for
 
@@ -70,6 +71,7 @@ same_reading x y is k = subst (λ (z : LineMeaning). All IsCovered (demands_in z
 of_kind : (l : FileLine) (kind : LineKind) (x : LineMeaning) → IsKindMeaning l kind x → All IsCovered (demands_in x)
 of_kind l (RequirementsFile path) x is = same_reading x (names_file path) is (of_file (has_variable path) (has_scheme path))
 of_kind l (ConstraintsFile path) x is = same_reading x (names_file path) is (of_file (has_variable path) (has_scheme path))
+of_kind l MissingPath x is = same_reading x _ is (All-nil IsCovered)
 of_kind l Editable x is = same_reading x _ is (All-nil IsCovered)
 of_kind l PipOption x is = same_reading x _ is (All-nil IsCovered)
 of_kind l Variable x is = same_reading x _ is (All-nil IsCovered)
@@ -102,122 +104,83 @@ right_of false b e = cc e
 holds_none : (segments : Segments) (v : Record) → is_empty segments ≡ true → contains record_cmp segments v ≡ true → ⊥
 holds_none segments v e holds = true≢false (sym holds ∙ ap (λ s. contains record_cmp s v) (empty_is segments e))
 
-where_true : (b : Bool) (f : Finding) → (b ≡ true → IsRight f) → All IsRight (if b then f ∷ [] else [])
-where_true true f right = All-cons IsRight f [] (right refl) (All-nil IsRight)
-where_true false f right = All-nil IsRight
+module _ (read : List FileLine) where
+  where_true : (b : Bool) (f : Finding) → (b ≡ true → (IsRight read) f) → All (IsRight read) (if b then f ∷ [] else [])
+  where_true true f right = All-cons (IsRight read) f [] (right refl) (All-nil (IsRight read))
+  where_true false f right = All-nil (IsRight read)
 
-one_right : (a : Demand) → IsCovered a → All IsRight (of_one a)
-one_right a k = where_true (is_empty a.cover) (Conflicting NoVersion (a.line ∷ [])) (λ e v denoted all. holds_none a.cover v e (k v denoted (All-head (LineAllows v) a.line [] all)))
+  one_right : (a : Demand) → IsCovered a → All (IsRight read) (of_one a)
+  one_right a k = where_true (is_empty a.cover) (Conflicting NoVersion (a.line ∷ [])) (λ e v denoted all. holds_none a.cover v e (k v denoted (All-head (LineAllows v) a.line [] all)))
 
-both_hold : (a b : Segments) (v : Record) → contains record_cmp a v ≡ true → contains record_cmp b v ≡ true → contains record_cmp (overlaps record_cmp a b) v ≡ true
-both_hold a b v one other = overlaps_hold_both record_total a b v ∙ (λ j. one j && other j)
+  both_hold : (a b : Segments) (v : Record) → contains record_cmp a v ≡ true → contains record_cmp b v ≡ true → contains record_cmp (overlaps record_cmp a b) v ≡ true
+  both_hold a b v one other = overlaps_hold_both record_total a b v ∙ (λ j. one j && other j)
 
-two_right : (a b : Demand) → IsCovered a → IsCovered b → All IsRight (of_two a b)
-two_right a b one other =
-    where_true (excludes a b) (Conflicting (pin_conflict a b) (a.line ∷ b.line ∷ [])) (λ e v denoted all.
-    let apart : pin_is_apart a b ≡ true = right_of (not (is_empty a.cover) && not (is_empty b.cover)) (pin_is_apart a b) (right_of (meets a b) _ e) in
-    let empty : is_empty (overlaps record_cmp a.cover b.cover) ≡ true = right_of (a.pinned || b.pinned) _ apart in
-    holds_none (overlaps record_cmp a.cover b.cover) v empty
-    (both_hold a.cover b.cover v (one v denoted (All-head (LineAllows v) a.line (b.line ∷ []) all))
-    (other v denoted (All-head (LineAllows v) b.line [] (All-tail (LineAllows v) a.line (b.line ∷ []) all)))))
+  two_right : (a b : Demand) → IsCovered a → IsCovered b → All (IsRight read) (of_two a b)
+  two_right a b one other =
+      where_true (excludes a b) (Conflicting (pin_conflict a b) (a.line ∷ b.line ∷ [])) (λ e v denoted all.
+      let apart : pin_is_apart a b ≡ true = right_of (not (is_empty a.cover) && not (is_empty b.cover)) (pin_is_apart a b) (right_of (meets a b) _ e) in
+      let empty : is_empty (overlaps record_cmp a.cover b.cover) ≡ true = right_of (a.pinned || b.pinned) _ apart in
+      holds_none (overlaps record_cmp a.cover b.cover) v empty
+      (both_hold a.cover b.cover v (one v denoted (All-head (LineAllows v) a.line (b.line ∷ []) all))
+      (other v denoted (All-head (LineAllows v) b.line [] (All-tail (LineAllows v) a.line (b.line ∷ []) all)))))
 
-each_right : (f : Demand → List Finding) → ((a : Demand) → IsCovered a → All IsRight (f a)) → (lines : List Demand) → All IsCovered lines → All IsRight (flat_map f lines)
-each_right f right [] k = All-nil IsRight
-each_right f right (a ∷ lines) k = All-append IsRight (f a) (flat_map f lines) (right a (All-head IsCovered a lines k)) (each_right f right lines (All-tail IsCovered a lines k))
+  each_right : (f : Demand → List Finding) → ((a : Demand) → IsCovered a → All (IsRight read) (f a)) → (lines : List Demand) → All IsCovered lines → All (IsRight read) (flat_map f lines)
+  each_right f right [] k = All-nil (IsRight read)
+  each_right f right (a ∷ lines) k = All-append (IsRight read) (f a) (flat_map f lines) (right a (All-head IsCovered a lines k)) (each_right f right lines (All-tail IsCovered a lines k))
 
-pairs_right : (lines : List Demand) → All IsCovered lines → All IsRight (of_pairs lines)
-pairs_right [] k = All-nil IsRight
-pairs_right (a ∷ rest) k =
-    let one = All-head IsCovered a rest k in
-    let others = All-tail IsCovered a rest k in
-    All-append IsRight (flat_map (of_two a) rest) (of_pairs rest) (each_right (of_two a) (λ b other. two_right a b one other) rest others) (pairs_right rest others)
+  pairs_right : (lines : List Demand) → All IsCovered lines → All (IsRight read) (of_pairs lines)
+  pairs_right [] k = All-nil (IsRight read)
+  pairs_right (a ∷ rest) k =
+      let one = All-head IsCovered a rest k in
+      let others = All-tail IsCovered a rest k in
+      All-append (IsRight read) (flat_map (of_two a) rest) (of_pairs rest) (each_right (of_two a) (λ b other. two_right a b one other) rest others) (pairs_right rest others)
 
-few_right : (lines : List Demand) → All IsCovered lines → All IsRight (of_few lines)
-few_right lines k = All-append IsRight (flat_map of_one lines) (of_pairs lines) (each_right of_one one_right lines k) (pairs_right lines k)
+  few_right : (lines : List Demand) → All IsCovered lines → All (IsRight read) (of_few lines)
+  few_right lines k = All-append (IsRight read) (flat_map of_one lines) (of_pairs lines) (each_right of_one one_right lines k) (pairs_right lines k)
 
--- ---- lines that count together
+  -- ---- lines that count together
 
-all_hold : (v : Record) → IsDenoted v → (cover : Segments) (lines : List Demand) → contains record_cmp cover v ≡ true → All IsCovered lines → All (LineAllows v) (map (λ (a : Demand). a.line) lines)
-    → contains record_cmp (fold (λ c (a : Demand). overlaps record_cmp c a.cover) cover lines) v ≡ true
-all_hold v denoted cover [] holds k all = holds
-all_hold v denoted cover (a ∷ lines) holds k all =
-    all_hold v denoted (overlaps record_cmp cover a.cover) lines
-    (both_hold cover a.cover v holds (All-head IsCovered a lines k v denoted (All-head (LineAllows v) a.line (map (λ (b : Demand). b.line) lines) all)))
-    (All-tail IsCovered a lines k) (All-tail (LineAllows v) a.line (map (λ (b : Demand). b.line) lines) all)
+  all_hold : (v : Record) → IsDenoted v → (cover : Segments) (lines : List Demand) → contains record_cmp cover v ≡ true → All IsCovered lines → All (LineAllows v) (map (λ (a : Demand). a.line) lines)
+      → contains record_cmp (fold (λ c (a : Demand). overlaps record_cmp c a.cover) cover lines) v ≡ true
+  all_hold v denoted cover [] holds k all = holds
+  all_hold v denoted cover (a ∷ lines) holds k all =
+      all_hold v denoted (overlaps record_cmp cover a.cover) lines
+      (both_hold cover a.cover v holds (All-head IsCovered a lines k v denoted (All-head (LineAllows v) a.line (map (λ (b : Demand). b.line) lines) all)))
+      (All-tail IsCovered a lines k) (All-tail (LineAllows v) a.line (map (λ (b : Demand). b.line) lines) all)
 
-all_right : (lines : List Demand) → All IsCovered lines → All IsRight (of_all lines)
-all_right lines k =
-    where_true (is_empty (common_cover lines) && (length (of_few lines) == 0)) (Conflicting NoVersion (map (λ (a : Demand). a.line) lines)) (λ e v denoted all.
-    holds_none (common_cover lines) v (left_of (is_empty (common_cover lines)) _ e) (all_hold v denoted full lines refl k all))
+  all_right : (lines : List Demand) → All IsCovered lines → All (IsRight read) (of_all lines)
+  all_right lines k =
+      where_true (is_empty (common_cover lines) && (length (of_few lines) == 0)) (Conflicting NoVersion (map (λ (a : Demand). a.line) lines)) (λ e v denoted all.
+      holds_none (common_cover lines) v (left_of (is_empty (common_cover lines)) _ e) (all_hold v denoted full lines refl k all))
 
-under_right : (marker : Option (List ℕ)) (lines : List Demand) → All IsCovered lines → All IsRight (of_all (under marker lines))
-under_right marker lines k = all_right (under marker lines) (All-filter (counts_under marker) IsCovered lines k)
+  under_right : (marker : Option (List ℕ)) (lines : List Demand) → All IsCovered lines → All (IsRight read) (of_all (under marker lines))
+  under_right marker lines k = all_right (under marker lines) (All-filter (counts_under marker) IsCovered lines k)
 
-any_right : (f : Demand → List Finding) → ((a : Demand) → All IsRight (f a)) → (lines : List Demand) → All IsRight (flat_map f lines)
-any_right f right [] = All-nil IsRight
-any_right f right (a ∷ lines) = All-append IsRight (f a) (flat_map f lines) (right a) (any_right f right lines)
+  any_right : (f : Demand → List Finding) → ((a : Demand) → All (IsRight read) (f a)) → (lines : List Demand) → All (IsRight read) (flat_map f lines)
+  any_right f right [] = All-nil (IsRight read)
+  any_right f right (a ∷ lines) = All-append (IsRight read) (f a) (flat_map f lines) (right a) (any_right f right lines)
 
-by_empty : (b : Bool) (one other : List Finding) → All IsRight one → All IsRight other → All IsRight (if b then one else other)
-by_empty true one other right also = right
-by_empty false one other right also = also
+  by_empty : (b : Bool) (one other : List Finding) → All (IsRight read) one → All (IsRight read) other → All (IsRight read) (if b then one else other)
+  by_empty true one other right also = right
+  by_empty false one other right also = also
 
-markers_right : (lines : List Demand) → All IsCovered lines → All IsRight (of_markers lines)
-markers_right lines k =
-    by_empty (is_empty (common_cover (under None lines))) _ _ (under_right None lines k)
-    (any_right (λ (a : Demand). of_all (under a.marker lines)) (λ a. under_right a.marker lines k) (first_mentions has_same_marker [] lines))
+  markers_right : (lines : List Demand) → All IsCovered lines → All (IsRight read) (of_markers lines)
+  markers_right lines k =
+      by_empty (is_empty (common_cover (under None lines))) _ _ (under_right None lines k)
+      (any_right (λ (a : Demand). of_all (under a.marker lines)) (λ a. under_right a.marker lines k) (first_mentions has_same_marker [] lines))
 
-name_right : (lines : List Demand) → All IsCovered lines → All IsRight (of_name lines)
-name_right lines k = All-append IsRight (of_few lines) (of_markers lines) (few_right lines k) (markers_right lines k)
+  name_right : (lines : List Demand) → All IsCovered lines → All (IsRight read) (of_name lines)
+  name_right lines k = All-append (IsRight read) (of_few lines) (of_markers lines) (few_right lines k) (markers_right lines k)
 
-conflicts_right : (lines : List Demand) → All IsCovered lines → All IsRight (conflicts lines)
-conflicts_right lines k =
-    any_right (λ (a : Demand). of_name (filter (has_same_name a) lines)) (λ a. name_right (filter (has_same_name a) lines) (All-filter (has_same_name a) IsCovered lines k)) (first_mentions has_same_name [] lines)
+  conflicts_right : (lines : List Demand) → All IsCovered lines → All (IsRight read) (conflicts lines)
+  conflicts_right lines k =
+      any_right (λ (a : Demand). of_name (filter (has_same_name a) lines)) (λ a. name_right (filter (has_same_name a) lines) (All-filter (has_same_name a) IsCovered lines k)) (first_mentions has_same_name [] lines)
 
 -- ---- all findings
 
-one_invalid : (l : FileLine) (reason : List ℕ) (column : ℕ) → All IsRight (invalid_in (IsNone (NoRequirement l reason column)))
-one_invalid l reason column = All-cons IsRight (NoRequirement l reason column) [] tt (All-nil IsRight)
-
-none_of_file : (a b : Bool) → All IsRight (invalid_in (if a then LeftOut cause.Variable else (if b then LeftOut cause.Url else NamesFile)))
-none_of_file true b = All-nil IsRight
-none_of_file false true = All-nil IsRight
-none_of_file false false = All-nil IsRight
-
-none_of_specifiers : (b : Bool) (l : FileLine) (reason : List ℕ) (column : ℕ) → All IsRight (invalid_in (if b then LeftOut cause.Url else IsNone (NoRequirement l reason column)))
-none_of_specifiers true l reason column = All-nil IsRight
-none_of_specifiers false l reason column = one_invalid l reason column
-
-none_of_url : (l : FileLine) (p : LineParts) (n : Needed) (url : Option (List ℕ)) → All IsRight (invalid_in (with_url l p n url))
-none_of_url l p n None = All-nil IsRight
-none_of_url l p n (Some []) = one_invalid l _ _
-none_of_url l p n (Some (b ∷ url)) = none_of_specifiers (length n.specifiers == 0) l _ _
-
-none_of_marker : (l : FileLine) (p : LineParts) (n : Needed) (marker : Option (List ℕ)) → All IsRight (invalid_in (with_marker l p n marker))
-none_of_marker l p n None = none_of_url l p n p.url
-none_of_marker l p n (Some []) = one_invalid l _ _
-none_of_marker l p n (Some (b ∷ marker)) = none_of_url l p n p.url
-
-same_invalid : (x y : LineMeaning) → x ≡ y → All IsRight (invalid_in y) → All IsRight (invalid_in x)
-same_invalid x y is k = subst (λ (z : LineMeaning). All IsRight (invalid_in z)) (sym is) k
-
-invalid_of_kind : (l : FileLine) (kind : LineKind) (x : LineMeaning) → IsKindMeaning l kind x → All IsRight (invalid_in x)
-invalid_of_kind l (RequirementsFile path) x is = same_invalid x (names_file path) is (none_of_file (has_variable path) (has_scheme path))
-invalid_of_kind l (ConstraintsFile path) x is = same_invalid x (names_file path) is (none_of_file (has_variable path) (has_scheme path))
-invalid_of_kind l Editable x is = same_invalid x _ is (All-nil IsRight)
-invalid_of_kind l PipOption x is = same_invalid x _ is (All-nil IsRight)
-invalid_of_kind l Variable x is = same_invalid x _ is (All-nil IsRight)
-invalid_of_kind l Location x is = same_invalid x _ is (All-nil IsRight)
-invalid_of_kind l Requirement x (inl (not_text, is)) = same_invalid x _ is (one_invalid l _ _)
-invalid_of_kind l Requirement x (inr (text, inl (n, d, is))) = same_invalid x (requirement_meaning l (line_parts l.text) n) is (none_of_marker l (line_parts l.text) n (line_parts l.text).marker)
-invalid_of_kind l Requirement x (inr (text, inr (f, r, is))) = same_invalid x _ is (one_invalid l _ _)
-
-invalid_right : (lines : List FileLine) (xs : List LineMeaning) → AllZip IsMeaning lines xs → All IsRight (flat_map invalid_in xs)
-invalid_right [] [] h = All-nil IsRight
-invalid_right [] (x ∷ xs) h = absurd h
-invalid_right (l ∷ lines) [] h = absurd h
-invalid_right (l ∷ lines) (x ∷ xs) h = All-append IsRight (invalid_in x) (flat_map invalid_in xs) (invalid_of_kind l (line_kind l.text) x h.0) (invalid_right lines xs h.1)
-
 pub findings_hold : FindingsHold
 findings_hold files r (xs, h, is) =
-    subst (λ (q : Report). All IsRight q.findings) (sym is)
-    (All-append IsRight (flat_map invalid_in xs) (conflicts (flat_map demands_in xs)) (invalid_right (all_lines files) xs h) (conflicts_right (flat_map demands_in xs) (all_covered (all_lines files) xs h)))
+    let lines = all_lines files in
+    subst (λ (q : Report). All (IsRight lines) q.findings) (sym is)
+    (All-append (IsRight lines) (flat_map invalid_in xs) (conflicts (flat_map demands_in xs)) (invalid_right lines lines xs (All-contains_itself lines) h)
+    (conflicts_right lines (flat_map demands_in xs) (all_covered lines xs h)))

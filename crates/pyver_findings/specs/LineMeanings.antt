@@ -5,7 +5,7 @@ use Rattle.std.specs.Str.{IsUtf8}
 use Rattle.pep440_pick.specs.RequirementGrammar.{DerivesRequirement, Needed, RefusesRequirement, RequirementRefusal, Specifiers}
 use Rattle.pep440_pick.specs.RequirementTexts.{requirement_refusal_text}
 use Rattle.pep440_rs.specs.ErrorTexts.{specifier_refusal_text}
-use Rattle.pyver_requirements.specs.LineKinds.{ConstraintsFile, Editable, LineKind, Location, PipOption, Requirement, RequirementsFile, Variable, has_variable, line_kind}
+use Rattle.pyver_requirements.specs.LineKinds.{ConstraintsFile, Editable, LineKind, Location, MissingPath, PipOption, Requirement, RequirementsFile, Variable, has_variable, line_kind}
 use Rattle.pyver_requirements.specs.LineParts.{LineParts, line_parts}
 use Rattle.pyver_findings.specs.Demands.{Demand, line_demand}
 use Rattle.pyver_findings.specs.Columns.{column}
@@ -31,6 +31,10 @@ has_scheme (b ∷ rest) = starts_with nat_eq (b ∷ rest) (codes "://") || has_s
 -- the line that names this file
 abbrev pub names_file : List ℕ → LineMeaning
 names_file path = if has_variable path then LeftOut cause.Variable else (if has_scheme path then LeftOut cause.Url else NamesFile)
+
+-- the line that has no path behind the option of a file
+abbrev pub without_path : FileLine → LineMeaning
+without_path line = IsNone (NoRequirement line (codes "no path follows the option") (length line.text))
 
 -- ---- a requirement
 
@@ -78,6 +82,7 @@ IsPartsMeaning line p x = ((¬ IsUtf8 p.requirement) × (x ≡ not_utf8 line))
 abbrev pub IsKindMeaning : FileLine → LineKind → LineMeaning → Type 0
 IsKindMeaning line (RequirementsFile path) x = x ≡ names_file path
 IsKindMeaning line (ConstraintsFile path) x = x ≡ names_file path
+IsKindMeaning line MissingPath x = x ≡ without_path line
 IsKindMeaning line Editable x = x ≡ LeftOut cause.Editable
 IsKindMeaning line PipOption x = x ≡ LeftOut cause.PipOption
 IsKindMeaning line Variable x = x ≡ LeftOut cause.Variable

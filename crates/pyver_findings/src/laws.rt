@@ -1,13 +1,14 @@
 //! What holds of findings, as the contract of a function that does nothing.
 ghost use Rattle.pyver_findings.specs.FindingLaws.{ConflictsAreFound, FindingsHold, MeaningsOnce, ReportsOnce};
 
-/// Of lines that are reported together, no version is allowed by all.
+/// A line that is reported alone is a line of the files and no requirement, for the reason and at the column that are
+/// reported. Of lines that are reported together, no version is allowed by all.
 pub fn findings_hold()
     ensures { FindingsHold }
 {}
 
-/// Where the covers of the lines of a name that count under a marker have in common, some of these lines are reported
-/// together.
+/// Where the covers of the lines of a name that count under a marker have nothing in common, some of these lines are
+/// reported together.
 pub fn conflicts_are_found()
     ensures { ConflictsAreFound }
 {}

@@ -8,7 +8,7 @@ use crate::cause::Cause;
 use crate::demand::Demand;
 use crate::file_line::FileLine;
 use crate::finding::Finding;
-use crate::requirement::read_requirement;
+use crate::requirement::{read_requirement, reject};
 use pyver_requirements::{LineKind, classify, has_variable};
 use std::alloc::{AllocError, Global};
 
@@ -57,6 +57,7 @@ fn read_kind(alloc: Global, line: &FileLine, kind: LineKind<'_>) -> Result<LineM
     match kind {
         LineKind::RequirementsFile(path) => Ok(name_file(path)),
         LineKind::ConstraintsFile(path) => Ok(name_file(path)),
+        LineKind::MissingPath => reject(alloc, line, "no path follows the option", line.text.len()),
         LineKind::Editable => Ok(LineMeaning::LeftOut(Cause::Editable)),
         LineKind::PipOption => Ok(LineMeaning::LeftOut(Cause::PipOption)),
         LineKind::Variable => Ok(LineMeaning::LeftOut(Cause::Variable)),

@@ -44,6 +44,7 @@ fn path_in(kind: LineKind<'_>) -> Option<&[u8]>
     match kind {
         LineKind::RequirementsFile(path) => Some(path),
         LineKind::ConstraintsFile(path) => Some(path),
+        LineKind::MissingPath => None,
         LineKind::Editable => None,
         LineKind::PipOption => None,
         LineKind::Variable => None,

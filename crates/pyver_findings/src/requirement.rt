@@ -23,7 +23,7 @@ use pyver_requirements::{LineParts, split_requirement};
 use std::alloc::{AllocError, Global};
 
 /// The line is no requirement, for this reason.
-fn reject(
+pub(crate) fn reject(
     alloc: Global,
     line: &FileLine,
     reason: &str,

@@ -6,7 +6,7 @@ use std::test::Fail;
 
 // A file, and its findings: for a line that is no requirement its number, the column and the reason; for lines that cannot be
 // satisfied together the kind and their numbers.
-const FILES: [(&str, &str); 42] = [
+const FILES: [(&str, &str); 44] = [
     ("demo>=1\nother<2\n", ""),
     ("=1\n", "1:0 not a valid name\n"),
     ("demo[a b]>=1\n", "1:4 not valid extras\n"),
@@ -21,6 +21,8 @@ const FILES: [(&str, &str); 42] = [
         "demo>=1 @ https://host/a\n",
         "1:7 version specifiers stand before a URL\n",
     ),
+    ("demo\n-r\n", "2:2 no path follows the option\n"),
+    ("--constraint= # why\n", "1:13 no path follows the option\n"),
     ("demo==1.0,<0.5\n", "none 1\n"),
     ("demo>=2\ndemo<1\n", "none 1 2\n"),
     ("demo==2\nDemo<1\n", "outside 1 2\n"),

@@ -7,11 +7,15 @@ use std::str;
 use std::test::Fail;
 
 // Files between bars, and the report as text.
-const TEXTS: [(&str, &str); 6] = [
+const TEXTS: [(&str, &str); 7] = [
     ("demo>=1\n", ""),
     (
         "\ndemo[a>=1\n",
         "a.txt:2: not valid extras\n    demo[a>=1\n        ^\n",
+    ),
+    (
+        "-c \n",
+        "a.txt:1: no path follows the option\n    -c\n      ^\n",
     ),
     (
         "d\u{e9}mo\n",
@@ -191,7 +195,7 @@ fn sweep_json_strings(rt: HostRuntime) -> Result<(), Fail> {
 
 fn name_files(alloc: Global) -> Result<String, AllocError> {
     let text =
-        "a\n-r b.txt\n--constraint ../c.txt\n-r /d.txt\n-r ${HOME}/e.txt\n-r https://h/f.txt\n--pre\n";
+        "a\n-r b.txt\n--constraint ../c.txt\n-r /d.txt\n-r ${HOME}/e.txt\n-r https://h/f.txt\n-r\n--pre\n";
     let file = source_file(alloc, "sub/a.txt", text)?;
     let mut names = Vec::new(alloc);
     names.push(Vec::from_slice(alloc, b"first")?)?;

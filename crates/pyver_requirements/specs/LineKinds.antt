@@ -7,11 +7,12 @@ use Rattle.pep440_pick.specs.RequirementGrammar.{opens, trim_blanks}
 use Rattle.pep440_version.specs.Grammar.{starts}
 use Rattle.pep440_version.specs.Reading.{lead, past}
 
--- another file of requirements, and one of constraints, each with its path; an editable; another option of pip; a line with a variable; a
--- URL, a path or an archive; a requirement
+-- another file of requirements, and one of constraints, each with its path; the option of such a file without a path; an editable;
+-- another option of pip; a line with a variable; a URL, a path or an archive; a requirement
 pub data LineKind : Type 0 where
   RequirementsFile : (path : List ℕ) → LineKind
   ConstraintsFile : (path : List ℕ) → LineKind
+  MissingPath : LineKind
   Editable : LineKind
   PipOption : LineKind
   Variable : LineKind
@@ -30,10 +31,20 @@ abbrev pub option_value : List ℕ → List ℕ → List ℕ → Option (List �
 option_value long short text = if starts_with nat_eq text long then long_option_value (drop (length long) text)
     else (if starts_with nat_eq text short then Some (trim_blanks (drop (length short) text)) else None)
 
+-- the file of requirements with this path
+abbrev pub requirements_file : List ℕ → LineKind
+requirements_file [] = MissingPath
+requirements_file (b ∷ path) = RequirementsFile (b ∷ path)
+
+-- the file of constraints with this path
+abbrev pub constraints_file : List ℕ → LineKind
+constraints_file [] = MissingPath
+constraints_file (b ∷ path) = ConstraintsFile (b ∷ path)
+
 -- what a line is that begins with `-`
 abbrev pub option_kind : List ℕ → LineKind
-option_kind text = option_map_or RequirementsFile (option_value (codes "--requirement") (codes "-r") text)
-    (option_map_or ConstraintsFile (option_value (codes "--constraint") (codes "-c") text)
+option_kind text = option_map_or requirements_file (option_value (codes "--requirement") (codes "-r") text)
+    (option_map_or constraints_file (option_value (codes "--constraint") (codes "-c") text)
     (option_map_or (λ _. Editable) (option_value (codes "--editable") (codes "-e") text) PipOption))
 
 -- ---- variables
@@ -62,12 +73,20 @@ has_variable (b ∷ rest) = opens_variable (b ∷ rest) || has_variable rest
 abbrev pub first_word : List ℕ → List ℕ
 first_word text = lead (λ b. not (is_ascii_whitespace b || ((b == 59) || (b == 64)))) text
 
--- the endings of archives
-abbrev pub archive_endings : List (List ℕ)
-archive_endings = codes ".whl" ∷ (codes ".zip" ∷ (codes ".tar.gz" ∷ (codes ".tgz" ∷ (codes ".tar.bz2" ∷ (codes ".tar.xz" ∷ [])))))
+-- the endings of tar archives that name their compression, or have none
+abbrev pub tar_endings : List (List ℕ)
+tar_endings = codes ".tar" ∷ (codes ".tar.gz" ∷ (codes ".tar.bz2" ∷ (codes ".tar.xz" ∷ (codes ".tar.lz" ∷ (codes ".tar.lzma" ∷ [])))))
+
+-- the endings of wheels, of zip archives, and the short ones of tar archives
+abbrev pub short_endings : List (List ℕ)
+short_endings = codes ".whl" ∷ (codes ".zip" ∷ (codes ".tgz" ∷ (codes ".tbz" ∷ (codes ".txz" ∷ (codes ".tlz" ∷ [])))))
+
+-- the word has one of these endings
+abbrev pub ends_as : List (List ℕ) → List ℕ → Bool
+ends_as endings word = list_any (λ ending. ends_with nat_eq word ending) endings
 
 abbrev pub is_archive : List ℕ → Bool
-is_archive word = list_any (λ ending. ends_with nat_eq word ending) archive_endings
+is_archive word = ends_as short_endings word || ends_as tar_endings word
 
 -- the word begins with `.`, or has a `/`, or ends as an archive
 abbrev pub is_location : List ℕ → Bool

@@ -1,14 +1,18 @@
 -- The parts of a line that is a requirement (PEP 508; pip, "Requirements File Format").
-use Rattle.std.specs.Prelude.{ℕ, ◌==◌, ◌&&◌, List, [], ◌∷◌, Option, Some, None, codes, nat_eq, not, option_map, if◌then◌else◌}
+use Rattle.std.specs.Prelude.{ℕ, ◌==◌, ◌&&◌, ◌||◌, List, [], ◌∷◌, Bool, Option, Some, None, codes, nat_eq, not, option_map, if◌then◌else◌}
 use Rattle.std.specs.Char.{is_ascii_whitespace}
 use Rattle.std.specs.List.{starts_with}
 use Rattle.pep440_pick.specs.RequirementGrammar.{trim_blanks}
 use Rattle.pep440_version.specs.Reading.{lead, past}
 
--- what stands before the options of the requirement, of which the first is the first `--` behind a blank
+-- the string begins with an option of a requirement: a long one, or `-C`
+abbrev pub opens_option : List ℕ → Bool
+opens_option text = starts_with nat_eq text (codes "--") || starts_with nat_eq text (codes "-C")
+
+-- what stands before the options of the requirement, of which the first is the first one behind a blank
 abbrev pub before_options : List ℕ → List ℕ
 before_options [] = []
-before_options (b ∷ rest) = if is_ascii_whitespace b && starts_with nat_eq rest (codes "--") then [] else b ∷ before_options rest
+before_options (b ∷ rest) = if is_ascii_whitespace b && opens_option rest then [] else b ∷ before_options rest
 
 -- what stands before the first such byte
 abbrev pub before_byte : ℕ → List ℕ → List ℕ

@@ -3,7 +3,7 @@ ghost use Rattle.std.specs.Prelude.{◌≡◌, ◌≤◌, ◌==◌, ◌||◌, Is
 ghost use Rattle.std.specs.Char.{is_ascii_whitespace};
 ghost use Rattle.std.specs.List.{list_any, prefix_len};
 ghost use Rattle.pep440_pick.specs.RequirementGrammar.{opens, trim_blanks};
-ghost use Rattle.pyver_requirements.specs.LineKinds.{closes_variable, first_word, has_variable, is_archive, is_location, is_variable_byte, line_kind, long_option_value, opens_variable, option_kind, option_value};
+ghost use Rattle.pyver_requirements.specs.LineKinds.{closes_variable, constraints_file, ends_as, first_word, has_variable, is_archive, is_location, is_variable_byte, line_kind, long_option_value, opens_variable, option_kind, option_value, requirements_file, short_endings, tar_endings};
 ghost use Rattle.pyver_requirements.specs.LineKindViews.{line_kind_of};
 
 use crate::comment::trim_blanks;
@@ -15,6 +15,8 @@ pub enum LineKind<'a> {
     RequirementsFile(&'a [u8]),
     /// `-c FILE` or `--constraint FILE`: a file of constraints, and its path.
     ConstraintsFile(&'a [u8]),
+    /// `-r`, `--requirement`, `-c` or `--constraint` without a path.
+    MissingPath,
     /// `-e` or `--editable`.
     Editable,
     /// Another option of pip.
@@ -64,15 +66,33 @@ fn option_value<'a>(text: &'a [u8], long: &[u8], short: &[u8]) -> Option<&'a [u8
     }
 }
 
+fn requirements_file(path: &[u8]) -> LineKind<'_>
+    ensures { line_kind_of result ≡ requirements_file path.now }
+{
+    match path {
+        [] => LineKind::MissingPath,
+        [_, ..] => LineKind::RequirementsFile(path),
+    }
+}
+
+fn constraints_file(path: &[u8]) -> LineKind<'_>
+    ensures { line_kind_of result ≡ constraints_file path.now }
+{
+    match path {
+        [] => LineKind::MissingPath,
+        [_, ..] => LineKind::ConstraintsFile(path),
+    }
+}
+
 /// What a line is that begins with `-`.
 fn option_kind(text: &[u8]) -> LineKind<'_>
     ensures { line_kind_of result ≡ option_kind text.now }
 {
     if let Some(path) = option_value(text, "--requirement".as_bytes(), "-r".as_bytes()) {
-        return LineKind::RequirementsFile(path);
+        return requirements_file(path);
     }
     if let Some(path) = option_value(text, "--constraint".as_bytes(), "-c".as_bytes()) {
-        return LineKind::ConstraintsFile(path);
+        return constraints_file(path);
     }
     match option_value(text, "--editable".as_bytes(), "-e".as_bytes()) {
         Some(_) => LineKind::Editable,
@@ -150,15 +170,32 @@ fn first_word(text: &[u8]) -> &[u8]
     &text[..count_word_bytes(text)]
 }
 
-fn is_archive(word: &[u8]) -> bool
-    ensures { result ≡ is_archive word.now }
+fn has_tar_ending(word: &[u8]) -> bool
+    ensures { result ≡ ends_as tar_endings word.now }
+{
+    word.ends_with(".tar".as_bytes())
+        || word.ends_with(".tar.gz".as_bytes())
+        || word.ends_with(".tar.bz2".as_bytes())
+        || word.ends_with(".tar.xz".as_bytes())
+        || word.ends_with(".tar.lz".as_bytes())
+        || word.ends_with(".tar.lzma".as_bytes())
+}
+
+fn has_short_ending(word: &[u8]) -> bool
+    ensures { result ≡ ends_as short_endings word.now }
 {
     word.ends_with(".whl".as_bytes())
         || word.ends_with(".zip".as_bytes())
-        || word.ends_with(".tar.gz".as_bytes())
         || word.ends_with(".tgz".as_bytes())
-        || word.ends_with(".tar.bz2".as_bytes())
-        || word.ends_with(".tar.xz".as_bytes())
+        || word.ends_with(".tbz".as_bytes())
+        || word.ends_with(".txz".as_bytes())
+        || word.ends_with(".tlz".as_bytes())
+}
+
+fn is_archive(word: &[u8]) -> bool
+    ensures { result ≡ is_archive word.now }
+{
+    has_short_ending(word) || has_tar_ending(word)
 }
 
 fn has_slash(word: &[u8]) -> bool

@@ -2,7 +2,7 @@
 ghost use Rattle.std.specs.Prelude.{◌≡◌, ◌≤◌, ◌==◌, length, not, option_map};
 ghost use Rattle.std.specs.List.{prefix_len};
 ghost use Rattle.pep440_pick.specs.RequirementGrammar.{trim_blanks};
-ghost use Rattle.pyver_requirements.specs.LineParts.{before_byte, before_options, behind_byte, line_parts, rest_of};
+ghost use Rattle.pyver_requirements.specs.LineParts.{before_byte, before_options, behind_byte, line_parts, opens_option, rest_of};
 ghost use Rattle.pyver_requirements.specs.LinePartViews.{line_parts_of};
 
 use crate::comment::trim_blanks;
@@ -18,12 +18,19 @@ pub struct LineParts<'a> {
     pub marker: Option<&'a [u8]>,
 }
 
-/// What stands before the first `--` behind a blank.
+/// The text begins with a long option, or with `-C`.
+fn opens_option(text: &[u8]) -> bool
+    ensures { result ≡ opens_option text.now }
+{
+    text.starts_with("--".as_bytes()) || text.starts_with("-C".as_bytes())
+}
+
+/// What stands before the first option behind a blank.
 fn before_options(text: &[u8]) -> &[u8]
     ensures { result.now ≡ before_options text.now }
 {
     for (at, byte) in text.iter().enumerate() {
-        if byte.is_ascii_whitespace() && text[at + 1..].starts_with("--".as_bytes()) {
+        if byte.is_ascii_whitespace() && opens_option(&text[at + 1..]) {
             return &text[..at];
         }
     }

@@ -3,7 +3,7 @@ use pyver_requirements::{LineKind, classify};
 use std::test::Fail;
 
 // A line, a word for what it is, and the path that it has.
-const LINES: [(&str, &str, &str); 33] = [
+const LINES: [(&str, &str, &str); 50] = [
     ("-r other.txt", "requirements", "other.txt"),
     ("-rother.txt", "requirements", "other.txt"),
     ("--requirement other.txt", "requirements", "other.txt"),
@@ -13,7 +13,12 @@ const LINES: [(&str, &str, &str); 33] = [
     ("-climits.txt", "constraints", "limits.txt"),
     ("--constraint limits.txt", "constraints", "limits.txt"),
     ("--constraint=limits.txt", "constraints", "limits.txt"),
-    ("-r", "requirements", ""),
+    ("-r", "no path", ""),
+    ("-c", "no path", ""),
+    ("--requirement", "no path", ""),
+    ("--requirement=", "no path", ""),
+    ("--constraint", "no path", ""),
+    ("--constraint=", "no path", ""),
     ("--requirements other.txt", "option", ""),
     ("-e .", "editable", ""),
     ("-e git+https://host/demo.git#egg=demo", "editable", ""),
@@ -21,6 +26,8 @@ const LINES: [(&str, &str, &str); 33] = [
     ("-i https://host/simple", "option", ""),
     ("--index-url https://host/simple", "option", ""),
     ("--pre", "option", ""),
+    ("-C a=b", "option", ""),
+    ("--config-settings a=b", "option", ""),
     ("demo==${VERSION}", "variable", ""),
     ("https://${TOKEN_2}@host/demo.whl", "variable", ""),
     ("demo # ${lower} ${}", "requirement", ""),
@@ -29,7 +36,17 @@ const LINES: [(&str, &str, &str); 33] = [
     ("./demo", "location", ""),
     ("/srv/demo", "location", ""),
     ("demo-1.0-py3-none-any.whl", "location", ""),
+    ("demo-1.0.zip", "location", ""),
+    ("demo-1.0.tar", "location", ""),
     ("demo-1.0.tar.gz", "location", ""),
+    ("demo-1.0.tgz", "location", ""),
+    ("demo-1.0.tar.bz2", "location", ""),
+    ("demo-1.0.tbz", "location", ""),
+    ("demo-1.0.tar.xz", "location", ""),
+    ("demo-1.0.txz", "location", ""),
+    ("demo-1.0.tar.lz", "location", ""),
+    ("demo-1.0.tlz", "location", ""),
+    ("demo-1.0.tar.lzma", "location", ""),
     ("demo", "requirement", ""),
     ("demo>=1.0,<2", "requirement", ""),
     (
@@ -47,6 +64,7 @@ fn word_and_path(kind: LineKind<'_>) -> (&'static str, &[u8]) {
     match kind {
         LineKind::RequirementsFile(path) => ("requirements", path),
         LineKind::ConstraintsFile(path) => ("constraints", path),
+        LineKind::MissingPath => ("no path", &[]),
         LineKind::Editable => ("editable", &[]),
         LineKind::PipOption => ("option", &[]),
         LineKind::Variable => ("variable", &[]),

@@ -3,7 +3,7 @@ use pyver_requirements::split_requirement;
 use std::test::Fail;
 
 // A line, and its requirement, its URL and its marker, where `-` stands for none.
-const LINES: [(&str, [&str; 3]); 12] = [
+const LINES: [(&str, [&str; 3]); 15] = [
     ("demo", ["demo", "-", "-"]),
     ("demo>=1.0,<2", ["demo>=1.0,<2", "-", "-"]),
     ("demo (>=1.0)", ["demo (>=1.0)", "-", "-"]),
@@ -30,6 +30,9 @@ const LINES: [(&str, [&str; 3]); 12] = [
         "demo==1.0 ; a --config-settings=\"b=@;\"",
         ["demo==1.0", "-", "a"],
     ),
+    ("demo==1.0 -C a=b", ["demo==1.0", "-", "-"]),
+    ("demo ; a -Cb=@", ["demo", "-", "a"]),
+    ("demo -c b", ["demo -c b", "-", "-"]),
     ("demo--one", ["demo--one", "-", "-"]),
 ];
 

@@ -1,4 +1,4 @@
-use Rattle.std.proofs.Common.{◌≡◌, ◌∙◌, sym}
+use Rattle.std.proofs.Common.{◌∙◌, sym}
 use Rattle.pyver_findings.proofs.Folders.{folder_slash, folder_other}
 use Rattle.pyver_findings.proofs.named_files.folder.Goals as goal
 

@@ -1,0 +1,93 @@
+-- What is reported of a line alone: it is a line of the files and no requirement, for this reason.
+use Rattle.std.proofs.Common.{◌≡◌, ◌==◌, ◌∙◌, ℕ, List, [], ◌∷◌, Bool, true, false, Option, Some, None, length, refl, sym, ap, subst, inl, inr, if◌then◌else◌}
+use Rattle.std.proofs.lemmas.Bool.{true≢false}
+use Rattle.std.proofs.lemmas.List.Elements.{All-append, All-cons, All-head, All-nil, All-tail}
+use Rattle.std.specs.List.{All, AllZip, Contains, flat_map}
+use Rattle.std.specs.Str.{IsUtf8}
+use Rattle.pep440_pick.proofs.Once.{not_both_requirement, one_requirement}
+use Rattle.pep440_pick.specs.RequirementGrammar.{DerivesRequirement, Needed, RefusesRequirement, RequirementRefusal}
+use Rattle.pyver_findings.specs.FileLines.{FileLine}
+use Rattle.pyver_findings.specs.FindingLaws.{IsRequirementLine, IsRight}
+use Rattle.pyver_findings.specs.Findings.{NoRequirement}
+use Rattle.pyver_findings.specs.LineMeanings.{IsNone, LeftOut, LineMeaning, NamesFile, IsKindMeaning, IsMeaning, has_scheme, names_file, not_utf8, refusal_meaning, requirement_meaning, with_marker, with_url, without_path}
+use Rattle.pyver_findings.specs.Reports.{invalid_in}
+use Rattle.pyver_findings.specs.declared.cause.Cause.TheVariants as cause
+use Rattle.pyver_requirements.specs.LineKinds.{ConstraintsFile, Editable, LineKind, Location, MissingPath, PipOption, Requirement, RequirementsFile, Variable, has_variable, line_kind}
+use Rattle.pyver_requirements.specs.LineParts.{line_parts}
+
+-- ---- why a line is no requirement
+
+module _ (l : FileLine) where
+  missing_path : line_kind l.text ≡ MissingPath → IsRequirementLine l → ⊥
+  missing_path is (kind, text, (m, e, (marker, url, either))) = let same : MissingPath ≡ Requirement = sym is ∙ kind in cc same
+
+  no_text : (IsUtf8 (line_parts l.text).requirement → ⊥) → IsRequirementLine l → ⊥
+  no_text none (kind, text, (m, e, (marker, url, either))) = none text
+
+  refused : (f : RequirementRefusal) → RefusesRequirement (line_parts l.text).requirement f → IsRequirementLine l → ⊥
+  refused f r (kind, text, (m, e, (marker, url, either))) = not_both_requirement (line_parts l.text).requirement m f e r
+
+  no_marker : (line_parts l.text).marker ≡ Some [] → IsRequirementLine l → ⊥
+  no_marker is (kind, text, (m, e, (marker, url, either))) = marker is
+
+  no_url : (line_parts l.text).url ≡ Some [] → IsRequirementLine l → ⊥
+  no_url is (kind, text, (m, e, (marker, url, either))) = url is
+
+  before_the_url : (n : Needed) → DerivesRequirement (line_parts l.text).requirement n → (length n.specifiers == 0) ≡ false → ((line_parts l.text).url ≡ None → ⊥) → IsRequirementLine l → ⊥
+  before_the_url n d some has (kind, text, (m, e, (marker, url, inl lacks))) = has lacks
+  before_the_url n d some has (kind, text, (m, e, (marker, url, inr empty))) =
+      let same : n ≡ m = one_requirement (line_parts l.text).requirement n m d e in
+      let none : (length n.specifiers == 0) ≡ true = ap (λ (q : Needed). length q.specifiers == 0) same ∙ ap (λ s. length s == 0) empty in
+      true≢false (sym none ∙ some)
+
+-- ---- what is reported
+
+module _ (read : List FileLine) where
+  module _ (l : FileLine) (known : Contains read l) where
+    one_invalid : (reason : List ℕ) (column : ℕ) → (IsRequirementLine l → ⊥) → IsMeaning l (IsNone (NoRequirement l reason column)) → All (IsRight read) (invalid_in (IsNone (NoRequirement l reason column)))
+    one_invalid reason column none means = All-cons (IsRight read) (NoRequirement l reason column) [] (known, none, means) (All-nil (IsRight read))
+
+    of_file : (a b : Bool) → All (IsRight read) (invalid_in (if a then LeftOut cause.Variable else (if b then LeftOut cause.Url else NamesFile)))
+    of_file true b = All-nil (IsRight read)
+    of_file false true = All-nil (IsRight read)
+    of_file false false = All-nil (IsRight read)
+
+    -- what stands before `@` and `;` is a requirement
+    module _ (n : Needed) (d : DerivesRequirement (line_parts l.text).requirement n) where
+      of_specifiers : (b : Bool) (reason : List ℕ) (column : ℕ) → (length n.specifiers == 0) ≡ b → ((line_parts l.text).url ≡ None → ⊥)
+          → IsMeaning l (if b then LeftOut cause.Url else IsNone (NoRequirement l reason column)) → All (IsRight read) (invalid_in (if b then LeftOut cause.Url else IsNone (NoRequirement l reason column)))
+      of_specifiers true reason column some has means = All-nil (IsRight read)
+      of_specifiers false reason column some has means = one_invalid reason column (before_the_url l n d some has) means
+
+      of_url : (url : Option (List ℕ)) → (line_parts l.text).url ≡ url → IsMeaning l (with_url l (line_parts l.text) n url) → All (IsRight read) (invalid_in (with_url l (line_parts l.text) n url))
+      of_url None is means = All-nil (IsRight read)
+      of_url (Some []) is means = one_invalid _ _ (no_url l is) means
+      of_url (Some (b ∷ url)) is means = of_specifiers (length n.specifiers == 0) _ _ refl (λ lacks. let same : None ≡ Some (b ∷ url) = sym lacks ∙ is in cc same) means
+
+      of_marker : (marker : Option (List ℕ)) → (line_parts l.text).marker ≡ marker → IsMeaning l (with_marker l (line_parts l.text) n marker) → All (IsRight read) (invalid_in (with_marker l (line_parts l.text) n marker))
+      of_marker None is means = of_url (line_parts l.text).url refl means
+      of_marker (Some []) is means = one_invalid _ _ (no_marker l is) means
+      of_marker (Some (b ∷ marker)) is means = of_url (line_parts l.text).url refl means
+
+    same_invalid : (x y : LineMeaning) → x ≡ y → IsMeaning l x → (IsMeaning l y → All (IsRight read) (invalid_in y)) → All (IsRight read) (invalid_in x)
+    same_invalid x y is means k = subst (λ (z : LineMeaning). All (IsRight read) (invalid_in z)) (sym is) (k (subst (IsMeaning l) is means))
+
+    of_kind : (kind : LineKind) (x : LineMeaning) → line_kind l.text ≡ kind → IsKindMeaning l kind x → IsMeaning l x → All (IsRight read) (invalid_in x)
+    of_kind (RequirementsFile path) x kind is means = same_invalid x (names_file path) is means (λ _. of_file (has_variable path) (has_scheme path))
+    of_kind (ConstraintsFile path) x kind is means = same_invalid x (names_file path) is means (λ _. of_file (has_variable path) (has_scheme path))
+    of_kind MissingPath x kind is means = same_invalid x (without_path l) is means (λ m. one_invalid _ _ (missing_path l kind) m)
+    of_kind Editable x kind is means = same_invalid x _ is means (λ _. All-nil (IsRight read))
+    of_kind PipOption x kind is means = same_invalid x _ is means (λ _. All-nil (IsRight read))
+    of_kind Variable x kind is means = same_invalid x _ is means (λ _. All-nil (IsRight read))
+    of_kind Location x kind is means = same_invalid x _ is means (λ _. All-nil (IsRight read))
+    of_kind Requirement x kind (inl (none, is)) means = same_invalid x (not_utf8 l) is means (λ m. one_invalid _ _ (no_text l none) m)
+    of_kind Requirement x kind (inr (text, inl (n, d, is))) means = same_invalid x (requirement_meaning l (line_parts l.text) n) is means (λ m. of_marker n d (line_parts l.text).marker refl m)
+    of_kind Requirement x kind (inr (text, inr (f, r, is))) means = same_invalid x (refusal_meaning l (line_parts l.text) f) is means (λ m. one_invalid _ _ (refused l f r) m)
+
+  pub invalid_right : (lines : List FileLine) (xs : List LineMeaning) → All (Contains read) lines → AllZip IsMeaning lines xs → All (IsRight read) (flat_map invalid_in xs)
+  invalid_right [] [] known h = All-nil (IsRight read)
+  invalid_right [] (x ∷ xs) known h = absurd h
+  invalid_right (l ∷ lines) [] known h = absurd h
+  invalid_right (l ∷ lines) (x ∷ xs) known h =
+      All-append (IsRight read) (invalid_in x) (flat_map invalid_in xs) (of_kind l (All-head (Contains read) l lines known) (line_kind l.text) x refl h.0 h.0)
+      (invalid_right lines xs (All-tail (Contains read) l lines known) h.1)
