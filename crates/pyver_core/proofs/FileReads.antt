@@ -5,8 +5,6 @@ use Rattle.std.proofs.lemmas.Grind.{flat_map-append}
 use Rattle.std.specs.Io.KnownBytes.{Consumes}
 use Rattle.std.specs.List.{flat_map}
 use Rattle.std.specs.Str.{IsUtf8}
-use Rattle.pyver_core.proofs.RunEnds.{reads_nothing}
-use Rattle.pyver_core.proofs.SourceFilters.{opened_consumes}
 use Rattle.pyver_core.specs.FileSteps.{GainsFile, HasNames, HasReads, OpensOrRefused, ReadsStep, GainsText, StepsOrRefused, names_of_files, read_of}
 use Rattle.pyver_core.specs.RequirementFiles.{FilesRead, HasPath, ReadsFilesInTurn, ReadsFiles, ReadsNext, StopsInFile, StopsInFiles, has_path, none_read}
 use Rattle.pyver_core.specs.SourceViews.{IsReadingStop}
@@ -44,7 +42,7 @@ module _ {R : Type 0} (files : List ℕ → KnownFile) (remaining : R → Option
     record {
       text = k.text;
       left = left_of file';
-      reads = subst (λ t. ReadsSourceText files remaining t (files name) reader reader k.text (left_of file')) (sym named) (opened_consumes (files name) (left_of file) (left_of file') k.text opens k.consumed, refl);
+      reads = subst (λ t. ReadsSourceText files remaining t (files name) reader reader k.text (left_of file')) (sym named) (left_of file, opens, k.consumed, refl);
       end = k.end;
       is = refl;
     },
@@ -53,27 +51,29 @@ module _ {R : Type 0} (files : List ℕ → KnownFile) (remaining : R → Option
     has,
   )
 
-module _ {R : Type 0} (files : List ℕ → KnownFile) (remaining : R → Option (List ℕ)) (name : List ℕ) (stop : Stop) where
-  pub input_stops : (reader reader' : R) (text : List ℕ) → is_input name ≡ true → Consumes (remaining reader) (remaining reader') text → IsReadingStop name stop → StopsInFile files remaining name reader reader' stop
-  input_stops reader reader' text named consumed stops = record {
+module _ {R : Type 0} (files : List ℕ → KnownFile) (remaining : R → Option (List ℕ)) (name : List ℕ) where
+  pub input_stops : (why : Stop) (reader reader' : R) (text : List ℕ) → IsUtf8 name → is_input name ≡ true → Consumes (remaining reader) (remaining reader') text → IsReadingStop name why → StopsInFile files remaining name reader reader' why
+  input_stops why reader reader' text utf8 named consumed stops = inr (record {
+    utf8 = utf8;
     text = text;
     rest = remaining reader';
     part = subst (λ t. ReadsSourceText files remaining t (files name) reader reader' text (remaining reader')) (sym named) (consumed, refl);
     stops = stops;
-  }
+  })
 
-  pub file_stops : {S : Type 0} (left_of : S → Option (List ℕ)) (file file' : S) (reader : R) (text : List ℕ) → is_input name ≡ false → MayOpen (files name) (left_of file) → Consumes (left_of file) (left_of file') text → IsReadingStop name stop
-      → StopsInFile files remaining name reader reader stop
-  file_stops left_of file file' reader text named opens consumed stops = record {
+  pub file_stops : {S : Type 0} (left_of : S → Option (List ℕ)) (why : Stop) (file file' : S) (reader : R) (text : List ℕ) → IsUtf8 name → is_input name ≡ false → MayOpen (files name) (left_of file) → Consumes (left_of file) (left_of file') text → IsReadingStop name why
+      → StopsInFile files remaining name reader reader why
+  file_stops left_of why file file' reader text utf8 named opens consumed stops = inr (record {
+    utf8 = utf8;
     text = text;
     rest = left_of file';
-    part = subst (λ t. ReadsSourceText files remaining t (files name) reader reader text (left_of file')) (sym named) (opened_consumes (files name) (left_of file) (left_of file') text opens consumed, refl);
+    part = subst (λ t. ReadsSourceText files remaining t (files name) reader reader text (left_of file')) (sym named) (left_of file, opens, consumed, refl);
     stops = stops;
-  }
+  })
 
   -- memory ran out before anything was read
-  pub stops_before : (reader : R) → IsReadingStop name stop → StopsInFile files remaining name reader reader stop
-  stops_before reader stops = let nothing = reads_nothing files remaining (is_input name) (files name) reader in record { text = []; rest = nothing.0; part = nothing.1; stops = stops }
+  pub stops_before : (reader : R) → StopsInFile files remaining name reader reader stop.OutOfMemory
+  stops_before reader = inl (refl, refl)
 
 -- ---- the names of the files
 
@@ -84,9 +84,9 @@ names_gain first a b file path h k =
 
 module _ {R : Type 0} (files : List ℕ → KnownFile) (paths : List ℕ → Option (List ℕ)) (remaining : R → Option (List ℕ)) where
   -- a source with the path had been read
-  pub step_known : (name path : List ℕ) (a : RequirementFiles) (reader : R) → HasPath files paths remaining name path → has_path (read_of a) path ≡ true → HasReads a → ReadsStep files paths remaining name a a reader reader
-  step_known name path a reader is has reads = record {
-    next = (path, is, inl (has, refl, refl));
+  pub step_known : (name path : List ℕ) (a : RequirementFiles) (reader : R) → IsUtf8 name → HasPath files paths remaining name path → has_path (read_of a) path ≡ true → HasReads a → ReadsStep files paths remaining name a a reader reader
+  step_known name path a reader utf8 is has reads = record {
+    next = (utf8, path, is, inl (has, refl, refl));
     names = λ first h. h;
     more = [];
     behind = sym (append-nil (names_of_files a));
@@ -97,7 +97,7 @@ module _ {R : Type 0} (files : List ℕ → KnownFile) (paths : List ℕ → Opt
   pub step_opened : (name path : List ℕ) (a b : RequirementFiles) (reader reader' : R) (result : Option OpenFailure) → IsUtf8 name → HasPath files paths remaining name path → has_path (read_of a) path ≡ false → OpensOrRefused files remaining name path a b reader reader' result
       → StepsOrRefused files paths remaining name a b reader reader' result
   step_opened name path a b reader reader' None utf8 is new (file, reads, gains, more, has) = record {
-    next = (path, is, inr (new, (file, reads, gains.read)));
+    next = (utf8, path, is, inr (new, (file, reads, gains.read)));
     names = λ first h. names_gain first a b file path h gains;
     more = named_files file;
     behind = gains.names;
@@ -131,8 +131,8 @@ module _ {R : Type 0} (files : List ℕ → KnownFile) (paths : List ℕ → Opt
       ends = (refl, refuses);
     }
 
-    pub ends_stopped : HasNames first a → (stop : Stop) → StopsInFile files remaining name middle reader' stop → StopsInFiles files paths remaining first reader reader' stop
-    ends_stopped h stop part = record {
+    pub ends_stopped : HasNames first a → (why : Stop) → StopsInFile files remaining name middle reader' why → StopsInFiles files paths remaining first reader reader' why
+    ends_stopped h why part = record {
       done = front;
       name = name;
       left = rest;
@@ -166,7 +166,7 @@ module _ {R : Type 0} (files : List ℕ → KnownFile) (paths : List ℕ → Opt
     split = append-nil first ∙ is;
     middle = reader;
     each = (refl, refl);
-    part = stops_before files remaining name stop.OutOfMemory reader tt;
+    part = stops_before files remaining name reader;
   }
 
 -- the names up to the next one, of which more follow

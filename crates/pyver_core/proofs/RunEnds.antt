@@ -1,18 +1,17 @@
 -- How runs end, by what they wrote.
-use Rattle.std.proofs.Common.{◌≡◌, ◌⊎◌, ◌∙◌, ◌≤◌, ℕ, List, [], ◌∷◌, ◌++◌, Bool, true, false, Option, None, inl, inr, refl, sym, ap, subst, arith, append_assoc}
-use Rattle.std.proofs.KnownBytes.{Appends-nil, Appends-trans, Consumes-nil}
+use Rattle.std.proofs.Common.{◌≡◌, ◌⊎◌, ◌∙◌, ◌≤◌, ℕ, List, [], ◌∷◌, ◌++◌, Option, None, inl, inr, refl, sym, ap, subst, arith, append_assoc}
+use Rattle.std.proofs.KnownBytes.{Appends-nil, Appends-trans}
 use Rattle.std.specs.Io.KnownBytes.{Appends}
-use Rattle.pyver_core.proofs.InputLines.{some_line}
 use Rattle.pyver_core.proofs.Whole.{unused}
 use Rattle.pyver_core.specs.FilterSteps.{FilterFinishes, FilterStops}
 use Rattle.pyver_core.specs.Filters.{Filters, filter_outcome, rule_of}
-use Rattle.pyver_core.specs.InputLines.{Source, input_lines}
+use Rattle.pyver_core.specs.InputLines.{Source}
 use Rattle.pyver_core.specs.Matches.{DenotesList}
 use Rattle.pyver_core.specs.Newest.{newest_rule}
 use Rattle.pyver_core.specs.Outcomes.{Outcome}
 use Rattle.pyver_core.specs.Runs.{Ends, IsLast, IsReadMessage, ReadsSome, WritesAnswer, WroteBeginning, memory_message}
 use Rattle.pyver_core.specs.SourceViews.{IsStopOf, Reports}
-use Rattle.pyver_core.specs.Sources.{Input, KnownFile, ReadsFirst, ReadsInput, ReadsFront, ReadsText, input_name, is_input, known_bytes, last_name, no_input, source_names}
+use Rattle.pyver_core.specs.Sources.{Input, KnownFile, ReadsFirst, ReadsInput, StopsReading, input_name, last_name, no_input, source_names}
 use Rattle.pyver_core.specs.Tasks.{Bump, Check, Compare, Filter, Help, IsOutcome, IsStream, Match, Misused, NameVersion, NeedsInput, Newest, Range, Show, Sort, Task, names_of, task_of}
 use Rattle.pyver_core.specs.WholeInputs.{AnswersInput, ReadsUnused, WholeFinishes, WholeStops}
 use Rattle.pyver_core.specs.declared.filter.FilterRule.{FilterRule}
@@ -21,27 +20,20 @@ use Rattle.pyver_core.specs.declared.stream.Stop.TheVariants as stop
 use Rattle.pyver_core.specs.declared.whole_input.Question.{Question}
 use Rattle.pyver_core.specs.declared.whole_input.Question.TheVariants as question
 
--- the first source, of which no line was read
-abbrev pub blank_source : List ℕ → Source
-blank_source name = record { origin = record { is_first = true; name = name }; lines = [] }
-
-abbrev pub blank_input : List ℕ → Input
-blank_input name = record { sources = blank_source name ∷ []; unopened = None }
-
--- before a line is read there is an outcome
-first_outcome : (task : Task) → NeedsInput task → (name : List ℕ) → (o : Outcome) × IsOutcome task (blank_input name) o
-first_outcome (Help about) n name = absurd n
-first_outcome NameVersion n name = absurd n
-first_outcome (Compare left operator right) n name = absurd n
-first_outcome (Match options specifiers words) n name = absurd n
-first_outcome (Filter options specifiers names) n name = (filter_outcome (rule_of options n.0) [] None, (DenotesList n.0, n.1, ([], tt, refl)))
-first_outcome (Sort options names) n name = unused (question.Sort options) (blank_source name ∷ [])
-first_outcome (Newest options specifiers names) n name = let k = unused (question.Newest (newest_rule options n.0)) (blank_source name ∷ []) in (k.0, (DenotesList n.0, n.1, k.1))
-first_outcome (Show asked words) n name = absurd n
-first_outcome (Bump to parts word) n name = absurd n
-first_outcome (Range options words) n name = absurd n
-first_outcome (Check json names) n name = absurd n
-first_outcome (Misused message) n name = absurd n
+-- before a source is read there is an outcome
+first_outcome : (task : Task) → NeedsInput task → (o : Outcome) × IsOutcome task no_input o
+first_outcome (Help about) n = absurd n
+first_outcome NameVersion n = absurd n
+first_outcome (Compare left operator right) n = absurd n
+first_outcome (Match options specifiers words) n = absurd n
+first_outcome (Filter options specifiers names) n = (filter_outcome (rule_of options n.0) [] None, (DenotesList n.0, n.1, ([], tt, refl)))
+first_outcome (Sort options names) n = unused (question.Sort options) []
+first_outcome (Newest options specifiers names) n = let k = unused (question.Newest (newest_rule options n.0)) [] in (k.0, (DenotesList n.0, n.1, k.1))
+first_outcome (Show asked words) n = absurd n
+first_outcome (Bump to parts word) n = absurd n
+first_outcome (Range options words) n = absurd n
+first_outcome (Check json names) n = absurd n
+first_outcome (Misused message) n = absurd n
 
 -- there is a first source
 pub some_source : (names : List (List ℕ)) → (name : List ℕ) × (left : List (List ℕ)) × (source_names names ≡ name ∷ left)
@@ -71,6 +63,10 @@ is_last last (stop.ReadFile told) status message is h = inr (inl (h.0, subst (Is
 is_last last (stop.Output failure) status message is h = inr (inr h)
 is_last last (stop.Errors failure) status message is h = inr (inr h)
 
+-- the status where memory ran out
+memory_status : (why : Stop) (status : ℕ) (message : List ℕ) → Reports why status message → why ≡ stop.OutOfMemory → status ≡ 3
+memory_status why status message reports memory = (subst (λ (w : Stop). Reports w status message) memory reports).0
+
 not_low : (last : Option (List ℕ)) (status : ℕ) (message : List ℕ) → IsLast last status message → status ≤ 2 → ⊥
 not_low last status message (inl h) low = absurd (omega (arith, h.0, low))
 not_low last status message (inr (inl h)) low = absurd (omega (arith, h.0, low))
@@ -92,25 +88,15 @@ told_more a b c xs message wrote k = record {
   whole = ap (λ t. xs ++ t) k.whole ∙ sym (append_assoc xs k.written k.left);
 }
 
--- nothing was read of the first source
-module _ {R : Type 0} (files : List ℕ → KnownFile) (remaining : R → Option (List ℕ)) where
-  pub reads_nothing : (b : Bool) (file : KnownFile) (reader : R) → (left : Option (List ℕ)) × ReadsText files remaining b file reader reader [] left
-  reads_nothing true file reader = (remaining reader, (Consumes-nil (remaining reader), refl))
-  reads_nothing false file reader = (known_bytes file, (Consumes-nil (known_bytes file), refl))
+-- that memory ran out, told otherwise
+module _ {R : Type 0} (files : List ℕ → KnownFile) (remaining : R → Option (List ℕ)) (P Q : Type 0) (told : P → Q) (names : List (List ℕ)) (reader reader' : R) (sources : List Source) where
+  stops_by : StopsReading files remaining P names reader reader' sources → StopsReading files remaining Q names reader reader' sources
+  stops_by (inl front) = inl front
+  stops_by (inr (ran_out, before)) = inr (told ran_out, before)
 
-  part_none : (names : List (List ℕ)) (name : List ℕ) (left : List (List ℕ)) (reader : R) → names ≡ name ∷ left → ReadsFront files remaining names reader reader (blank_source name ∷ [])
-  part_none names name left reader is = let nothing = reads_nothing (is_input name) (files name) reader in record {
-    read = [];
-    name = name;
-    left = left;
-    split = is;
-    middle = reader;
-    before = [];
-    whole = (refl, refl);
-    part = blank_source name;
-    lines = record { text = []; left = nothing.0; reads = nothing.1; rest = input_lines []; split = refl; whole = λ none. absurd (some_line [] none); is = refl };
-    are = refl;
-  }
+  first_by : ReadsFirst files remaining P names reader reader' sources → ReadsFirst files remaining Q names reader reader' sources
+  first_by (inl all) = inl all
+  first_by (inr some) = inr (stops_by some)
 
 module _ {F R W E : Type 0} (known : F → List ℕ → KnownFile) (remaining : R → Option (List ℕ)) (contents : W → Option (List ℕ)) (error_contents : E → Option (List ℕ)) (words : List (List ℕ)) (files files' : F) (reader reader' : R) (out out' : W) (err err' : E) (status : ℕ) where
   -- an answer that needs no input
@@ -179,16 +165,16 @@ module _ {F R W E : Type 0} (known : F → List ℕ → KnownFile) (remaining : 
   -- what was read and written before the last message
   pub record Began (why : Stop) (told : E) : Type 0 where
     pub input : Input
-    pub read : ReadsSome known remaining contents error_contents words files reader reader' input
+    pub read : ReadsSome known remaining contents error_contents words files reader reader' status input
     pub outcome : Outcome
     pub is : IsOutcome (task_of words) input outcome
     pub output : WroteBeginning (contents out) (contents out') outcome.output
     pub errors : WroteBeginning (error_contents err) (error_contents told) outcome.errors
     pub stops : IsStopOf (last_name input.sources) why
 
-  pub filter_began : (rule : FilterRule) (names : List (List ℕ)) (why : Stop) (told : E) → IsStream (task_of words) → names_of (task_of words) ≡ names → ((input : Input) (o : Outcome) → Filters rule input o → IsOutcome (task_of words) input o)
+  pub filter_began : (rule : FilterRule) (names : List (List ℕ)) (why : Stop) (told : E) (message : List ℕ) → Reports why status message → IsStream (task_of words) → names_of (task_of words) ≡ names → ((input : Input) (o : Outcome) → Filters rule input o → IsOutcome (task_of words) input o)
       → FilterStops (known files) remaining contents error_contents rule names reader reader' out out' err told why → Began why told
-  filter_began rule names why told stream same is k = record {
+  filter_began rule names why told message reports stream same is k = record {
     input = k.input;
     read = some_of k.reads;
     outcome = k.outcome;
@@ -198,13 +184,16 @@ module _ {F R W E : Type 0} (known : F → List ℕ → KnownFile) (remaining : 
     stops = k.stops;
   }
     where
-      some_of : ReadsInput (known files) remaining names reader reader' k.input ⊎ (ReadsFront (known files) remaining names reader reader' k.input.sources × (k.input.unopened ≡ None)) → ReadsSome known remaining contents error_contents words files reader reader' k.input
+      some_of : ReadsInput (known files) remaining names reader reader' k.input ⊎ (StopsReading (known files) remaining (why ≡ stop.OutOfMemory) names reader reader' k.input.sources × (k.input.unopened ≡ None))
+          → ReadsSome known remaining contents error_contents words files reader reader' status k.input
       some_of (inl r) = inl (subst (λ n. ReadsInput (known files) remaining n reader reader' k.input) (sym same) r)
-      some_of (inr r) = inr (k.input.sources, inr (subst (λ n. ReadsFront (known files) remaining n reader reader' k.input.sources) (sym same) r.0), (r.1, λ _. refl, λ whole. absurd (whole stream)))
+      some_of (inr r) =
+          let stopped = stops_by (known files) remaining (why ≡ stop.OutOfMemory) (status ≡ 3) (memory_status why status message reports) names reader reader' k.input.sources r.0 in
+          inr (k.input.sources, inr (subst (λ n. StopsReading (known files) remaining (status ≡ 3) n reader reader' k.input.sources) (sym same) stopped), (r.1, λ _. refl, λ whole. absurd (whole stream)))
 
-  pub whole_began : (asked : Question) (names : List (List ℕ)) (why : Stop) (told : E) → ¬ IsStream (task_of words) → names_of (task_of words) ≡ names → ((input : Input) (o : Outcome) → AnswersInput asked input o → IsOutcome (task_of words) input o)
+  pub whole_began : (asked : Question) (names : List (List ℕ)) (why : Stop) (told : E) (message : List ℕ) → Reports why status message → ¬ IsStream (task_of words) → names_of (task_of words) ≡ names → ((input : Input) (o : Outcome) → AnswersInput asked input o → IsOutcome (task_of words) input o)
       → WholeStops (known files) remaining contents error_contents asked names reader reader' out out' err told why → Began why told
-  whole_began asked names why told whole same is k = record {
+  whole_began asked names why told message reports whole same is k = record {
     input = k.input;
     read = some_of k.reads;
     outcome = k.outcome;
@@ -214,9 +203,11 @@ module _ {F R W E : Type 0} (known : F → List ℕ → KnownFile) (remaining : 
     stops = k.stops;
   }
     where
-      some_of : ReadsUnused (known files) remaining contents error_contents names reader reader' k.input → ReadsSome known remaining contents error_contents words files reader reader' k.input
+      some_of : ReadsUnused (known files) remaining contents error_contents names reader reader' k.input why → ReadsSome known remaining contents error_contents words files reader reader' status k.input
       some_of (inl r) = inl (subst (λ n. ReadsInput (known files) remaining n reader reader' k.input) (sym same) r)
-      some_of (inr (read, first, none, without)) = inr (read, subst (λ n. ReadsFirst (known files) remaining n reader reader' read) (sym same) first, (none, λ stream. absurd (whole stream), λ _. without))
+      some_of (inr (read, first, none, without)) =
+          let reads = first_by (known files) remaining (why ≡ stop.OutOfMemory) (status ≡ 3) (memory_status why status message reports) names reader reader' read first in
+          inr (read, subst (λ n. ReadsFirst (known files) remaining (status ≡ 3) n reader reader' read) (sym same) reads, (none, λ stream. absurd (whole stream), λ _. without))
 
   -- a run stopped, and then the last message was written
   pub ends_by_stop : (why : Stop) (told : E) (message : List ℕ) → NeedsInput (task_of words) → known files' ≡ known files → Began why told → Reports why status message → WroteBeginning (error_contents told) (error_contents err') message
@@ -255,11 +246,10 @@ module _ {F R W E : Type 0} (known : F → List ℕ → KnownFile) (remaining : 
     finished = λ low. absurd (omega (arith, low, three));
     stopped = λ needs _.
         let first = first_source (task_of words) needs in
-        let o = first_outcome (task_of words) needs first.0 in
-        let part = part_none (known files) remaining (names_of (task_of words)) first.0 first.1 reader first.2 in
+        let o = first_outcome (task_of words) needs in
         record {
-          input = blank_input first.0;
-          read = inr (blank_source first.0 ∷ [], inr (subst (λ r. ReadsFront (known files) remaining (names_of (task_of words)) reader r (blank_source first.0 ∷ [])) (sym same) part), (refl, λ _. refl, λ _. refl));
+          input = no_input;
+          read = inr ([], inr (inr (three, record { read = []; name = first.0; left = first.1; split = first.2; whole = (same, refl) })), (refl, λ _. refl, λ _. refl));
           outcome = o.0;
           is = o.1;
           output = record { written = []; left = o.0.output; wrote = subst (λ w. Appends (contents out) (contents w) []) (sym unwritten) (Appends-nil (contents out)); whole = refl };

@@ -1,12 +1,12 @@
 -- Sources that are read and filtered one after another.
 use Rattle.std.proofs.Common.{◌≡◌, ◌∙◌, ◌+◌, ◌-◌, ◌<◌, ◌==◌, ℕ, List, [], ◌∷◌, ◌++◌, true, false, Bool, Option, None, Some, inl, inr, length, map, get_or, take, drop, refl, sym, ap, subst, arith, append_assoc, append-nil, take-append-drop, ne_eqb}
-use Rattle.std.proofs.KnownBytes.{Appends-nil, Appends-trans, Consumes-nil}
+use Rattle.std.proofs.KnownBytes.{Appends-nil, Appends-trans}
 use Rattle.std.proofs.Math.Seq.{take-nil}
 use Rattle.std.proofs.lemmas.List.{drop_more, map-append, take_more}
-use Rattle.std.specs.Io.KnownBytes.{Appends, Consumes}
+use Rattle.std.specs.Io.KnownBytes.{Appends}
 use Rattle.std.specs.List.{AllZip, concat}
-use Rattle.pyver_core.proofs.Filtering.{began, first-append, length-faults, printed_lines-append, some_of_all, wrote_front, wrote_none}
-use Rattle.pyver_core.proofs.InputLines.{all_append, filled_lines-last, some_line}
+use Rattle.pyver_core.proofs.Filtering.{began, first-append, length-faults, printed_lines-append, wrote_front}
+use Rattle.pyver_core.proofs.InputLines.{all_append, filled_lines-last}
 use Rattle.pyver_core.specs.FilterSteps.{AllFinish, AllStop, FilterFinishes, FilterStops, FinishesBy, OneReads, OneRefuses, OneStops, SourceFinishes, SourceStops, WroteAll}
 use Rattle.pyver_core.specs.Filters.{filter_outcome, printed_lines}
 use Rattle.pyver_core.specs.InputLines.{Origin, Source, input_lines}
@@ -14,17 +14,12 @@ use Rattle.pyver_core.specs.InvalidLines.{last_message, lines_status, message_li
 use Rattle.pyver_core.specs.ReadLines.{IsRead, faults}
 use Rattle.pyver_core.specs.Runs.{WroteBeginning}
 use Rattle.pyver_core.specs.SourceViews.{IsStopOf}
-use Rattle.pyver_core.specs.Sources.{Holds, Fails, KnownFile, MayOpen, ReadsAll, ReadsSource, ReadsText, Unknown, Unopened, input_name, input_origin, is_input, is_none, known_bytes, last_name, source_names, unopened_message, unopened_status}
+use Rattle.pyver_core.specs.Sources.{KnownFile, MayOpen, ReadsAll, ReadsSource, ReadsText, Unopened, input_name, input_origin, is_input, is_none, last_name, source_names, unopened_message, unopened_status}
 use Rattle.pyver_core.specs.declared.filter.FilterRule.{FilterRule}
 use Rattle.pyver_core.specs.declared.filter.FilterState.{FilterState}
 use Rattle.pyver_core.specs.declared.open_failure.OpenFailure.{OpenFailure}
 use Rattle.pyver_core.specs.declared.stream.Stop.{Stop}
-
--- what is known of a file that was opened
-pub opened_consumes : (known : KnownFile) (left left' : Option (List ℕ)) (text : List ℕ) → MayOpen known left → Consumes left left' text → Consumes (known_bytes known) left' text
-opened_consumes Unknown left left' text o k = tt
-opened_consumes (Holds bytes) left left' text o k = subst (λ l. Consumes l left' text) o k
-opened_consumes (Fails why) left left' text o k = absurd o
+use Rattle.pyver_core.specs.declared.stream.Stop.TheVariants as stop
 
 pub last_is : (sources : List Source) (source : Source) → last_name (sources ++ source ∷ []) ≡ Some source.origin.name
 last_is [] source = refl
@@ -76,7 +71,7 @@ module _ {R W E : Type 0} (files : List ℕ → KnownFile) (remaining : R → Op
 
   pub input_stops : (reader reader' : R) (out out' : W) (err err' : E) (stop : Stop) → is_input origin.name ≡ true → SourceStops remaining contents error_contents rule origin earlier reader reader' out out' err err' → IsStopOf (Some origin.name) stop
       → OneStops files remaining contents error_contents rule origin earlier reader reader' out out' err err' stop
-  input_stops reader reader' out out' err err' stop named k stops = record {
+  input_stops reader reader' out out' err err' stop named k stops = inr (record {
     source = record { origin = origin; lines = k.front };
     lines = record {
       text = k.read;
@@ -89,7 +84,7 @@ module _ {R W E : Type 0} (files : List ℕ → KnownFile) (remaining : R → Op
     };
     wrote = k.wrote;
     stops = stops;
-  }
+  })
 
   pub file_reads : {S : Type 0} (left_of : S → Option (List ℕ)) (b : FilterState) (file file' : S) (reader : R) (out out' : W) (err err' : E) → is_input origin.name ≡ false → MayOpen (files origin.name) (left_of file)
       → SourceFinishes left_of contents error_contents rule origin earlier b file file' out out' err err' → OneReads files remaining contents error_contents rule origin earlier b reader reader out out' err err'
@@ -98,7 +93,7 @@ module _ {R W E : Type 0} (files : List ℕ → KnownFile) (remaining : R → Op
     reads = record {
       text = k.read;
       left = left_of file';
-      reads = subst (λ t. ReadsText files remaining t (files origin.name) reader reader k.read (left_of file')) (sym named) (opened_consumes (files origin.name) (left_of file) (left_of file') k.read opens k.consumed, refl);
+      reads = subst (λ t. ReadsText files remaining t (files origin.name) reader reader k.read (left_of file')) (sym named) (left_of file, opens, k.consumed, refl);
       end = k.end;
       is = refl;
     };
@@ -107,12 +102,12 @@ module _ {R W E : Type 0} (files : List ℕ → KnownFile) (remaining : R → Op
 
   pub file_stops : {S : Type 0} (left_of : S → Option (List ℕ)) (file file' : S) (reader : R) (out out' : W) (err err' : E) (stop : Stop) → is_input origin.name ≡ false → MayOpen (files origin.name) (left_of file)
       → SourceStops left_of contents error_contents rule origin earlier file file' out out' err err' → IsStopOf (Some origin.name) stop → OneStops files remaining contents error_contents rule origin earlier reader reader out out' err err' stop
-  file_stops left_of file file' reader out out' err err' stop named opens k stops = record {
+  file_stops left_of file file' reader out out' err err' stop named opens k stops = inr (record {
     source = record { origin = origin; lines = k.front };
     lines = record {
       text = k.read;
       left = left_of file';
-      reads = subst (λ t. ReadsText files remaining t (files origin.name) reader reader k.read (left_of file')) (sym named) (opened_consumes (files origin.name) (left_of file) (left_of file') k.read opens k.consumed, refl);
+      reads = subst (λ t. ReadsText files remaining t (files origin.name) reader reader k.read (left_of file')) (sym named) (left_of file, opens, k.consumed, refl);
       rest = k.rest;
       split = k.split;
       whole = k.whole;
@@ -120,25 +115,11 @@ module _ {R W E : Type 0} (files : List ℕ → KnownFile) (remaining : R → Op
     };
     wrote = k.wrote;
     stops = stops;
-  }
+  })
 
   -- memory ran out before the file was opened
-  pub unopened_stops : (a : FilterState) (reader : R) (out : W) (err : E) (stop : Stop) → is_input origin.name ≡ false → earlier ≡ a.fault_count → a.output.items ≡ [] → a.errors.items ≡ [] → IsStopOf (Some origin.name) stop
-      → OneStops files remaining contents error_contents rule origin earlier reader reader out out err err stop
-  unopened_stops a reader out err stop named count output errors stops = record {
-    source = record { origin = origin; lines = [] };
-    lines = record {
-      text = [];
-      left = known_bytes (files origin.name);
-      reads = subst (λ t. ReadsText files remaining t (files origin.name) reader reader [] (known_bytes (files origin.name))) (sym named) (Consumes-nil (known_bytes (files origin.name)), refl);
-      rest = input_lines [];
-      split = refl;
-      whole = λ none. absurd (some_line [] none);
-      is = refl;
-    };
-    wrote = some_of_all contents error_contents rule origin (record { origin = origin; lines = [] }) earlier a out out err err (wrote_none contents error_contents rule origin earlier a out err (sym count) output errors);
-    stops = stops;
-  }
+  pub unopened_stops : (reader : R) (out : W) (err : E) → is_input origin.name ≡ false → OneStops files remaining contents error_contents rule origin earlier reader reader out out err err stop.OutOfMemory
+  unopened_stops reader out err named = inl (record { file = named; memory = refl; reader_kept = refl; out_kept = refl; err_kept = refl })
 
 -- ---- one source after another
 
@@ -215,21 +196,33 @@ module _ {R W E : Type 0} (files : List ℕ → KnownFile) (remaining : R → Op
           (subst (λ o. WroteAll contents error_contents rule k.sources b out o err err'') (sym m.out_kept) (subst (λ e. WroteAll contents error_contents rule k.sources b out out' err e) (sym m.err_kept) k.wrote));
     }
 
-    pub goes_on_stops : (next : List ℕ) (left : List (List ℕ)) (stop : Stop) → OneStops files remaining contents error_contents rule (record { is_first = is_none read; name = next }) b.fault_count reader' reader'' out' out'' err' err'' stop
-        → AllStop files remaining contents error_contents rule (read ++ next ∷ left) reader reader'' out out'' err err'' stop
-    goes_on_stops next left stop m =
+    pub goes_on_stops : (next : List ℕ) (left : List (List ℕ)) (why : Stop) → OneStops files remaining contents error_contents rule (record { is_first = is_none read; name = next }) b.fault_count reader' reader'' out' out'' err' err'' why
+        → AllStop files remaining contents error_contents rule (read ++ next ∷ left) reader reader'' out out'' err err'' why
+    goes_on_stops next left why (inl m) =
+        let w = k.wrote in
+        let first = concat (take (message_limit rule.lines.invalid) (faults w.found)) in
+        record {
+          sources = k.sources;
+          reads = inr (m.memory, record { read = read; name = next; left = left; split = refl; whole = subst (λ r. ReadsAll files remaining true read reader r k.sources) (sym m.reader_kept) k.reads });
+          found = w.found;
+          are = w.are;
+          output = subst (λ o. WroteBeginning (contents out) (contents o) (printed_lines rule w.found)) (sym m.out_kept) (wrote_front _ _ (printed_lines rule w.found) [] _ w.output (sym (append-nil (printed_lines rule w.found))));
+          errors = subst (λ e. WroteBeginning (error_contents err) (error_contents e) first) (sym m.err_kept) (wrote_front _ _ first [] _ w.errors (sym (append-nil first)));
+          stops = subst (IsStopOf (last_name k.sources)) (sym m.memory) tt;
+        }
+    goes_on_stops next left why (inr m) =
         let w = k.wrote in
         let n = m.wrote in
         let limit = message_limit rule.lines.invalid in
         record {
           sources = k.sources ++ m.source ∷ [];
-          reads = record { read = read; name = next; left = left; split = refl; middle = reader'; before = k.sources; whole = k.reads; part = m.source; lines = m.lines; are = refl };
+          reads = inl (record { read = read; name = next; left = left; split = refl; middle = reader'; before = k.sources; whole = k.reads; part = m.source; lines = m.lines; are = refl });
           found = w.found ++ n.found;
           are = subst (λ l. AllZip (IsRead rule.lines) l (w.found ++ n.found)) (sym (filled_lines-last k.sources m.source)) (all_append (IsRead rule.lines) _ w.found _ n.found w.are n.are);
           output = began _ _ _ (printed_lines rule w.found) (printed_lines rule n.found) [] _ w.output n.output (printed_lines-append rule w.found n.found ∙ sym (append-nil (printed_lines rule w.found ++ printed_lines rule n.found)));
           errors = began _ _ _ (concat (take limit (faults w.found))) (concat (take (limit - b.fault_count) (faults n.found))) [] _ w.errors n.errors
               (first-append limit (limit - b.fault_count) w.found n.found (ap (λ x. limit - x) w.fault_count) ∙ sym (append-nil _));
-          stops = subst (λ l. IsStopOf l stop) (sym (last_is k.sources m.source ∙ ap (λ (o : Origin). Some o.name) m.lines.is)) m.stops;
+          stops = subst (λ l. IsStopOf l why) (sym (last_is k.sources m.source ∙ ap (λ (o : Origin). Some o.name) m.lines.is)) m.stops;
         }
 
   pub goes_on_ends : (rule : FilterRule) (read : List (List ℕ)) (b : FilterState) (reader reader' : R) (out out' : W) (err err' : E) → GoesOn rule read b reader reader' out out' err err'

@@ -1,18 +1,18 @@
 -- Sources that are read to their ends one after another.
-use Rattle.std.proofs.Common.{◌≡◌, ◌∙◌, ◌+◌, ℕ, List, [], ◌∷◌, ◌++◌, Bool, true, false, Option, None, Some, length, map, refl, sym, ap, subst, arith, append-nil}
-use Rattle.std.proofs.KnownBytes.{Consumes-nil}
+use Rattle.std.proofs.Common.{◌≡◌, ◌∙◌, ◌+◌, ℕ, List, [], ◌∷◌, ◌++◌, Bool, true, false, Option, None, Some, inl, inr, length, map, refl, sym, ap, subst, arith, append-nil}
 use Rattle.std.specs.Io.KnownBytes.{Consumes}
 use Rattle.std.proofs.lemmas.List.{map-append}
 use Rattle.pyver_core.proofs.InputLines.{some_line}
 use Rattle.pyver_core.proofs.Keeping.{size_of-append}
-use Rattle.pyver_core.proofs.SourceFilters.{last_is, opened_consumes, reads_last}
+use Rattle.pyver_core.proofs.SourceFilters.{last_is, reads_last}
 use Rattle.pyver_core.specs.InputLines.{Origin, Source, input_lines}
 use Rattle.pyver_core.specs.SourceTexts.{StopsInSources, GainsSource, StopsInSource, ReadsTo, size_of, source_of}
 use Rattle.pyver_core.specs.SourceViews.{IsStopOf}
-use Rattle.pyver_core.specs.Sources.{KnownFile, MayOpen, ReadsAll, ReadsInput, ReadsLines, ReadsSource, ReadsText, input_name, input_origin, is_input, is_none, known_bytes, source_names}
+use Rattle.pyver_core.specs.Sources.{KnownFile, MayOpen, ReadsAll, ReadsInput, ReadsLines, ReadsSource, ReadsText, input_name, input_origin, is_input, is_none, last_name, source_names}
 use Rattle.pyver_core.specs.declared.open_failure.OpenFailure.{OpenFailure}
 use Rattle.pyver_core.specs.declared.source_texts.SourceText.{SourceText}
 use Rattle.pyver_core.specs.declared.stream.Stop.{Stop}
+use Rattle.pyver_core.specs.declared.stream.Stop.TheVariants as stop
 
 -- one text more
 pub size_pushed : (xs : List SourceText) (x : SourceText) → size_of (xs ++ x ∷ []) ≡ size_of xs + (length x.text.items + 1)
@@ -43,7 +43,7 @@ module _ {R : Type 0} (files : List ℕ → KnownFile) (remaining : R → Option
     record {
       text = k.text;
       left = left_of file';
-      reads = subst (λ t. ReadsText files remaining t (files origin.name) reader reader k.text (left_of file')) (sym named) (opened_consumes (files origin.name) (left_of file) (left_of file') k.text opens k.consumed, refl);
+      reads = subst (λ t. ReadsText files remaining t (files origin.name) reader reader k.text (left_of file')) (sym named) (left_of file, opens, k.consumed, refl);
       end = k.end;
       is = refl;
     },
@@ -52,7 +52,7 @@ module _ {R : Type 0} (files : List ℕ → KnownFile) (remaining : R → Option
 
   -- no line is told of
   part_read : (stop : Stop) (reader reader' : R) (text : List ℕ) (left : Option (List ℕ)) → ReadsText files remaining (is_input origin.name) (files origin.name) reader reader' text left → IsStopOf (Some origin.name) stop → StopsInSource files remaining origin reader reader' stop
-  part_read stop reader reader' text left reads stops = (
+  part_read stop reader reader' text left reads stops = inr (
     record { origin = origin; lines = [] },
     record { text = text; left = left; reads = reads; rest = input_lines text; split = refl; whole = λ none. absurd (some_line text none); is = refl },
     stops,
@@ -66,13 +66,11 @@ module _ {R : Type 0} (files : List ℕ → KnownFile) (remaining : R → Option
       → StopsInSource files remaining origin reader reader stop
   file_stopped left_of stop file file' reader text named opens consumed stops =
       part_read stop reader reader text (left_of file')
-      (subst (λ t. ReadsText files remaining t (files origin.name) reader reader text (left_of file')) (sym named) (opened_consumes (files origin.name) (left_of file) (left_of file') text opens consumed, refl)) stops
+      (subst (λ t. ReadsText files remaining t (files origin.name) reader reader text (left_of file')) (sym named) (left_of file, opens, consumed, refl)) stops
 
   -- memory ran out before the file was opened
-  pub unopened_stopped : (stop : Stop) (reader : R) → is_input origin.name ≡ false → IsStopOf (Some origin.name) stop → StopsInSource files remaining origin reader reader stop
-  unopened_stopped stop reader named stops =
-      part_read stop reader reader [] (known_bytes (files origin.name))
-      (subst (λ t. ReadsText files remaining t (files origin.name) reader reader [] (known_bytes (files origin.name))) (sym named) (Consumes-nil (known_bytes (files origin.name)), refl)) stops
+  pub unopened_stopped : (reader : R) → is_input origin.name ≡ false → StopsInSource files remaining origin reader reader stop.OutOfMemory
+  unopened_stopped reader named = inl (named, refl, refl)
 
 -- ---- one source after another
 
@@ -92,10 +90,15 @@ module _ {R : Type 0} (files : List ℕ → KnownFile) (remaining : R → Option
     ends = (refl, named, refuses);
   }
 
-  pub all_stopped : (left : List (List ℕ)) (stop : Stop) → StopsInSource files remaining (record { is_first = first; name = next }) reader' reader'' stop → StopsInSources files remaining (read ++ next ∷ left) reader reader'' stop
-  all_stopped left stop (part, lines, stops) = (
+  pub all_stopped : (left : List (List ℕ)) (why : Stop) → StopsInSource files remaining (record { is_first = first; name = next }) reader' reader'' why → StopsInSources files remaining (read ++ next ∷ left) reader reader'' why
+  all_stopped left why (inl (named, memory, kept)) = (
+    a,
+    inr (memory, record { read = read; name = next; left = left; split = refl; whole = subst (λ r. ReadsAll files remaining true read reader r a) (sym kept) k }),
+    subst (IsStopOf (last_name a)) (sym memory) tt,
+  )
+  all_stopped left why (inr (part, lines, stops)) = (
     a ++ part ∷ [],
-    record {
+    inl (record {
       read = read;
       name = next;
       left = left;
@@ -106,8 +109,8 @@ module _ {R : Type 0} (files : List ℕ → KnownFile) (remaining : R → Option
       part = part;
       lines = subst (λ f. ReadsLines files remaining (record { is_first = f; name = next }) reader' reader'' part) is lines;
       are = refl;
-    },
-    subst (λ l. IsStopOf l stop) (sym (last_is a part ∙ ap (λ (o : Origin). Some o.name) lines.is)) stops,
+    }),
+    subst (λ l. IsStopOf l why) (sym (last_is a part ∙ ap (λ (o : Origin). Some o.name) lines.is)) stops,
   )
 
 module _ {R : Type 0} (files : List ℕ → KnownFile) (remaining : R → Option (List ℕ)) where

@@ -9,11 +9,12 @@ use Rattle.pyver_core.specs.Outcomes.{Outcome}
 use Rattle.pyver_core.specs.ReadLines.{IsRead, ReadLine, faults}
 use Rattle.pyver_core.specs.Runs.{WroteBeginning}
 use Rattle.pyver_core.specs.SourceViews.{IsStopOf}
-use Rattle.pyver_core.specs.Sources.{Input, KnownFile, ReadsInput, ReadsLines, ReadsFront, ReadsSource, MayRefuse, Unopened, is_input, last_name, unopened_message, unopened_status}
+use Rattle.pyver_core.specs.Sources.{Input, KnownFile, MayRefuse, ReadsInput, ReadsLines, ReadsSource, StopsReading, Unopened, is_input, last_name, unopened_message, unopened_status}
 use Rattle.pyver_core.specs.declared.filter.FilterRule.{FilterRule}
 use Rattle.pyver_core.specs.declared.filter.FilterState.{FilterState}
 use Rattle.pyver_core.specs.declared.open_failure.OpenFailure.{OpenFailure}
 use Rattle.pyver_core.specs.declared.stream.Stop.{Stop}
+use Rattle.pyver_core.specs.declared.stream.Stop.TheVariants as stop
 
 abbrev pub HasNoNewline : List ℕ → Type 0
 HasNoNewline line = All (λ b. (b == 10) ≡ false) line
@@ -125,12 +126,23 @@ module _ {R W E : Type 0} (files : List ℕ → KnownFile) (remaining : R → Op
   OneFinishes rule origin a b reader reader' out out' err err' None = OneReads rule origin a.fault_count b reader reader' out out' err err'
   OneFinishes rule origin a b reader reader' out out' err err' (Some failure) = OneRefuses origin failure a b reader reader' out out' err err'
 
+  -- memory ran out before the file with this name was opened, and nothing was done
+  pub record OneUnread (origin : Origin) (reader reader' : R) (out out' : W) (err err' : E) (why : Stop) : Type 0 where
+    pub file : is_input origin.name ≡ false
+    pub memory : why ≡ stop.OutOfMemory
+    pub reader_kept : reader' ≡ reader
+    pub out_kept : out' ≡ out
+    pub err_kept : err' ≡ err
+
   -- some lines of the source with this name were read, and a beginning of what they ask for was written
-  pub record OneStops (rule : FilterRule) (origin : Origin) (earlier : ℕ) (reader reader' : R) (out out' : W) (err err' : E) (stop : Stop) : Type 0 where
+  pub record OneCut (rule : FilterRule) (origin : Origin) (earlier : ℕ) (reader reader' : R) (out out' : W) (err err' : E) (why : Stop) : Type 0 where
     pub source : Source
     pub lines : ReadsLines files remaining origin reader reader' source
     pub wrote : WroteSome contents error_contents rule source earlier out out' err err'
-    pub stops : IsStopOf (Some origin.name) stop
+    pub stops : IsStopOf (Some origin.name) why
+
+  abbrev pub OneStops : FilterRule → Origin → ℕ → R → R → W → W → E → E → Stop → Type 0
+  OneStops rule origin earlier reader reader' out out' err err' why = OneUnread origin reader reader' out out' err err' why ⊎ OneCut rule origin earlier reader reader' out out' err err' why
 
   -- the sources with these names were read, up to one that was not opened if there was one, and all that they ask for was written
   pub record AllFinish (rule : FilterRule) (names : List (List ℕ)) (unopened : Option Unopened) (b : FilterState) (reader reader' : R) (out out' : W) (err err' : E) : Type 0 where
@@ -139,14 +151,14 @@ module _ {R W E : Type 0} (files : List ℕ → KnownFile) (remaining : R → Op
     pub wrote : WroteAll contents error_contents rule sources b out out' err err'
 
   -- some of the lines of the sources with these names were read, and a beginning of what they ask for was written
-  pub record AllStop (rule : FilterRule) (names : List (List ℕ)) (reader reader' : R) (out out' : W) (err err' : E) (stop : Stop) : Type 0 where
+  pub record AllStop (rule : FilterRule) (names : List (List ℕ)) (reader reader' : R) (out out' : W) (err err' : E) (why : Stop) : Type 0 where
     pub sources : List Source
-    pub reads : ReadsFront files remaining names reader reader' sources
+    pub reads : StopsReading files remaining (why ≡ stop.OutOfMemory) names reader reader' sources
     pub found : List ReadLine
     pub are : AllZip (IsRead rule.lines) (filled_lines sources) found
     pub output : WroteBeginning (contents out) (contents out') (printed_lines rule found)
     pub errors : WroteBeginning (error_contents err) (error_contents err') (concat (take (message_limit rule.lines.invalid) (faults found)))
-    pub stops : IsStopOf (last_name sources) stop
+    pub stops : IsStopOf (last_name sources) why
 
   -- all was read, up to a file that was not opened if there was one, and all was written
   pub record FilterFinishes (rule : FilterRule) (names : List (List ℕ)) (reader reader' : R) (out out' : W) (err err' : E) (status : ℕ) : Type 0 where
@@ -159,11 +171,11 @@ module _ {R W E : Type 0} (files : List ℕ → KnownFile) (remaining : R → Op
     pub ended : status ≡ outcome.status
 
   -- some lines were read, and a beginning of what they ask for was written
-  pub record FilterStops (rule : FilterRule) (names : List (List ℕ)) (reader reader' : R) (out out' : W) (err err' : E) (stop : Stop) : Type 0 where
+  pub record FilterStops (rule : FilterRule) (names : List (List ℕ)) (reader reader' : R) (out out' : W) (err err' : E) (why : Stop) : Type 0 where
     pub input : Input
-    pub reads : ReadsInput files remaining names reader reader' input ⊎ (ReadsFront files remaining names reader reader' input.sources × (input.unopened ≡ None))
+    pub reads : ReadsInput files remaining names reader reader' input ⊎ (StopsReading files remaining (why ≡ stop.OutOfMemory) names reader reader' input.sources × (input.unopened ≡ None))
     pub outcome : Outcome
     pub is : Filters rule input outcome
     pub output : WroteBeginning (contents out) (contents out') outcome.output
     pub errors : WroteBeginning (error_contents err) (error_contents err') outcome.errors
-    pub stops : IsStopOf (last_name input.sources) stop
+    pub stops : IsStopOf (last_name input.sources) why

@@ -8,6 +8,7 @@ use Rattle.pyver_core.specs.Sources.{KnownFile, MayRefuse, ReadsByName, Unopened
 use Rattle.pyver_core.specs.declared.open_failure.OpenFailure.{OpenFailure}
 use Rattle.pyver_core.specs.declared.open_failure.OpenFailure.TheVariants as failure
 use Rattle.pyver_core.specs.declared.stream.Stop.{Stop}
+use Rattle.pyver_core.specs.declared.stream.Stop.TheVariants as stop
 use Rattle.pyver_findings.specs.FileLines.{File}
 use Rattle.pyver_findings.specs.NamedFiles.{named_files}
 
@@ -55,12 +56,17 @@ module _ {R : Type 0} (files : List ℕ → KnownFile) (remaining : R → Option
     pub end : IsAtEnd left
     pub is : file ≡ record { name = name; text = text }
 
-  -- a part of the source with this name was read, when reading stopped
-  pub record StopsInFile (name : List ℕ) (reader reader' : R) (stop : Stop) : Type 0 where
+  -- a part of the source with this name, which is UTF-8, was read, when reading stopped
+  pub record ReadsFilePart (name : List ℕ) (reader reader' : R) (why : Stop) : Type 0 where
+    pub utf8 : IsUtf8 name
     pub text : List ℕ
     pub rest : Option (List ℕ)
     pub part : ReadsByName files remaining name reader reader' text rest
-    pub stops : IsReadingStop name stop
+    pub stops : IsReadingStop name why
+
+  -- when reading stopped, a part of the source with this name was read, or, where memory ran out, nothing
+  abbrev pub StopsInFile : List ℕ → R → R → Stop → Type 0
+  StopsInFile name reader reader' why = ((why ≡ stop.OutOfMemory) × (reader' ≡ reader)) ⊎ ReadsFilePart name reader reader' why
 
 -- `paths` is what is known of the path of each file
 module _ {R : Type 0} (files : List ℕ → KnownFile) (paths : List ℕ → Option (List ℕ)) (remaining : R → Option (List ℕ)) where
@@ -68,9 +74,9 @@ module _ {R : Type 0} (files : List ℕ → KnownFile) (paths : List ℕ → Opt
   abbrev pub HasPath : List ℕ → List ℕ → Type 0
   HasPath name path = IsSourcePath (is_input name) (paths name) name path
 
-  -- a source with the path of this name had been read; or the source was read
+  -- a source with the path of this name, which is UTF-8, had been read; or the source was read
   abbrev pub ReadsNext : List ℕ → FilesRead → FilesRead → R → R → Type 0
-  ReadsNext name a b reader reader' = (path : List ℕ) × HasPath name path
+  ReadsNext name a b reader reader' = IsUtf8 name × (path : List ℕ) × HasPath name path
       × (((has_path a path ≡ true) × (b ≡ a) × (reader' ≡ reader))
       ⊎ ((has_path a path ≡ false) × ((file : File) × ReadsFile files remaining name reader reader' file × (b ≡ with_file a file path))))
 
@@ -97,8 +103,8 @@ module _ {R : Type 0} (files : List ℕ → KnownFile) (paths : List ℕ → Opt
     pub are : found.files ≡ read.files
     pub ends : EndsFiles left found.unopened
 
-  -- some names were read so, and a part of the source with the next one
-  pub record StopsInFiles (names : List (List ℕ)) (reader reader' : R) (stop : Stop) : Type 0 where
+  -- some names were read so, and a part of the source with the next one, or, where memory ran out, nothing
+  pub record StopsInFiles (names : List (List ℕ)) (reader reader' : R) (why : Stop) : Type 0 where
     pub done : List (List ℕ)
     pub name : List ℕ
     pub left : List (List ℕ)
@@ -106,4 +112,4 @@ module _ {R : Type 0} (files : List ℕ → KnownFile) (paths : List ℕ → Opt
     pub split : names ++ flat_map named_files read.files ≡ done ++ name ∷ left
     pub middle : R
     pub each : ReadsFilesInTurn done none_read read reader middle
-    pub part : StopsInFile files remaining name middle reader' stop
+    pub part : StopsInFile files remaining name middle reader' why

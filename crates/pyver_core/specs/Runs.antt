@@ -41,10 +41,13 @@ abbrev pub Uses : Task → List Source → Input → Type 0
 Uses task read input = (input.unopened ≡ None) × (IsStream task → input.sources ≡ read) × (¬ IsStream task → input.sources ≡ without_lines read)
 
 module _ {W E : Type 0} (contents : W → Option (List ℕ)) (error_contents : E → Option (List ℕ)) where
-  -- a write to standard output failed: a prefix of the output was written, and then nothing or a prefix of the message
-  pub record IsCutOutput (outcome : Outcome) (out out' : W) (err err' : E) : Type 0 where
+  -- a write to standard output failed: a prefix of the output was written, and then a prefix of the message, of which there is none
+  -- with status 141
+  pub record IsCutOutput (outcome : Outcome) (out out' : W) (err err' : E) (status : ℕ) : Type 0 where
     pub output : WroteBeginning (contents out) (contents out') outcome.output
-    pub errors : WroteBeginning (error_contents err) (error_contents err') write_message
+    pub message : List ℕ
+    pub last : IsWriteFailure status message
+    pub errors : WroteBeginning (error_contents err) (error_contents err') message
 
   -- the whole output was written, and then a prefix of the errors
   pub record IsCutErrors (outcome : Outcome) (out out' : W) (err err' : E) : Type 0 where
@@ -60,7 +63,7 @@ module _ {W E : Type 0} (contents : W → Option (List ℕ)) (error_contents : E
   -- all was written, or a beginning where a write failed
   abbrev pub WritesAnswer : Outcome → W → W → E → E → ℕ → Type 0
   WritesAnswer outcome out out' err err' status = ((status ≤ 2) × IsWritten outcome out out' err err' status)
-      ⊎ (((status ≡ 4) ⊎ (status ≡ 141)) × (IsCutOutput outcome out out' err err' ⊎ IsCutErrors outcome out out' err err'))
+      ⊎ (((status ≡ 4) ⊎ (status ≡ 141)) × (IsCutOutput outcome out out' err err' status ⊎ IsCutErrors outcome out out' err err'))
 
 module _ {F R W E : Type 0} (known : F → List ℕ → KnownFile) (remaining : R → Option (List ℕ)) (contents : W → Option (List ℕ)) (error_contents : E → Option (List ℕ)) where
   -- the whole outcome was written, with its status; if the task needs sources, all of them were read, or all before a file that
@@ -72,17 +75,18 @@ module _ {F R W E : Type 0} (known : F → List ℕ → KnownFile) (remaining : 
     pub is : IsOutcome (task_of words) input outcome
     pub written : IsWritten contents error_contents outcome out out' err err' status
 
-  -- what was read: everything, or the first sources and some lines of the next one, as far as the command used them
-  abbrev pub ReadsSome : List (List ℕ) → F → R → R → Input → Type 0
-  ReadsSome words files reader reader' input =
+  -- what was read, as far as the command used it: everything; or the first sources and some lines of the next one; or, where the
+  -- status is that of memory that ran out, the first sources alone
+  abbrev pub ReadsSome : List (List ℕ) → F → R → R → ℕ → Input → Type 0
+  ReadsSome words files reader reader' status input =
       ReadsInput (known files) remaining (names_of (task_of words)) reader reader' input
-      ⊎ ((read : List Source) × ReadsFirst (known files) remaining (names_of (task_of words)) reader reader' read × Uses (task_of words) read input)
+      ⊎ ((read : List Source) × ReadsFirst (known files) remaining (status ≡ 3) (names_of (task_of words)) reader reader' read × Uses (task_of words) read input)
 
   -- A run stopped early: standard output has a prefix of the outcome of the first lines read, and standard error a prefix of
   -- its errors and of the last message.
   pub record IsStopped (words : List (List ℕ)) (files : F) (reader reader' : R) (out out' : W) (err err' : E) (status : ℕ) : Type 0 where
     pub input : Input
-    pub read : ReadsSome words files reader reader' input
+    pub read : ReadsSome words files reader reader' status input
     pub outcome : Outcome
     pub is : IsOutcome (task_of words) input outcome
     pub output : WroteBeginning (contents out) (contents out') outcome.output
@@ -94,10 +98,10 @@ module _ {F R W E : Type 0} (known : F → List ℕ → KnownFile) (remaining : 
     pub errors : WroteBeginning (error_contents err) (error_contents err') (told ++ message)
 
   -- a write of the answer failed, by a command that reads nothing
-  pub record IsCut (words : List (List ℕ)) (out out' : W) (err err' : E) : Type 0 where
+  pub record IsCut (words : List (List ℕ)) (out out' : W) (err err' : E) (status : ℕ) : Type 0 where
     pub outcome : Outcome
     pub is : IsOutcome (task_of words) no_input outcome
-    pub cut : IsCutOutput contents error_contents outcome out out' err err' ⊎ IsCutErrors contents error_contents outcome out out' err err'
+    pub cut : IsCutOutput contents error_contents outcome out out' err err' status ⊎ IsCutErrors contents error_contents outcome out out' err err'
 
   -- what a run wrote, by its status: 3 if memory ran out, 4 if a read or a write failed, 141 if nobody reads. Without an input
   -- nothing is written before memory ran out. What is known of each file stays
@@ -108,4 +112,4 @@ module _ {F R W E : Type 0} (known : F → List ℕ → KnownFile) (remaining : 
     pub finished : status ≤ 2 → IsFinished words files reader reader' out out' err err' status
     pub stopped : NeedsInput (task_of words) → ¬ (status ≤ 2) → IsStopped words files reader reader' out out' err err' status
     pub memory : ¬ NeedsInput (task_of words) → status ≡ 3 → (out' ≡ out) × WroteBeginning (error_contents err) (error_contents err') memory_message
-    pub failed : ¬ NeedsInput (task_of words) → (status ≡ 4) ⊎ (status ≡ 141) → IsCut words out out' err err'
+    pub failed : ¬ NeedsInput (task_of words) → (status ≡ 4) ⊎ (status ≡ 141) → IsCut words out out' err err' status

@@ -1,13 +1,14 @@
 -- Sources that are read to their ends before anything is written.
-use Rattle.std.specs.Prelude.{◌≡◌, ◌≤◌, ◌+◌, ◌*◌, ℕ, List, [], ◌∷◌, ◌++◌, false, Option, Some, None, length, map}
+use Rattle.std.specs.Prelude.{◌≡◌, ◌⊎◌, ◌≤◌, ◌+◌, ◌*◌, ℕ, List, [], ◌∷◌, ◌++◌, false, Option, Some, None, length, map}
 use Rattle.std.specs.Io.KnownBytes.{Consumes, IsAtEnd}
 use Rattle.pyver_core.specs.InputLines.{Origin, Source, input_lines}
 use Rattle.pyver_core.specs.SourceViews.{IsStopOf, origin_of}
-use Rattle.pyver_core.specs.Sources.{KnownFile, MayRefuse, ReadsFront, ReadsLines, ReadsSource, is_input, last_name}
+use Rattle.pyver_core.specs.Sources.{KnownFile, MayRefuse, ReadsLines, ReadsSource, StopsReading, is_input, last_name}
 use Rattle.pyver_core.specs.declared.open_failure.OpenFailure.{OpenFailure}
 use Rattle.pyver_core.specs.declared.source_texts.SourceText.{SourceText}
 use Rattle.pyver_core.specs.declared.source_texts.SourceTexts.{SourceTexts}
 use Rattle.pyver_core.specs.declared.stream.Stop.{Stop}
+use Rattle.pyver_core.specs.declared.stream.Stop.TheVariants as stop
 
 -- a source and its lines
 abbrev pub source_of : SourceText → Source
@@ -38,10 +39,11 @@ module _ {R : Type 0} (files : List ℕ → KnownFile) (remaining : R → Option
   GainsSource origin a b reader reader' None = (source : Source) × ReadsSource files remaining origin reader reader' source × (b ≡ a ++ source ∷ [])
   GainsSource origin a b reader reader' (Some failure) = (is_input origin.name ≡ false) × MayRefuse (files origin.name) failure × (b ≡ a) × (reader' ≡ reader)
 
-  -- some of the source with this name was read
+  -- memory ran out before the file with this name was opened; or some of the source was read
   abbrev pub StopsInSource : Origin → R → R → Stop → Type 0
-  StopsInSource origin reader reader' stop = (source : Source) × ReadsLines files remaining origin reader reader' source × IsStopOf (Some origin.name) stop
+  StopsInSource origin reader reader' why = ((is_input origin.name ≡ false) × (why ≡ stop.OutOfMemory) × (reader' ≡ reader))
+      ⊎ ((source : Source) × ReadsLines files remaining origin reader reader' source × IsStopOf (Some origin.name) why)
 
-  -- some sources were read to their ends, and some of the next one
+  -- some sources were read to their ends, and some of the next one, or, where memory ran out, nothing
   abbrev pub StopsInSources : List (List ℕ) → R → R → Stop → Type 0
-  StopsInSources names reader reader' stop = (sources : List Source) × ReadsFront files remaining names reader reader' sources × IsStopOf (last_name sources) stop
+  StopsInSources names reader reader' why = (sources : List Source) × StopsReading files remaining (why ≡ stop.OutOfMemory) names reader reader' sources × IsStopOf (last_name sources) why

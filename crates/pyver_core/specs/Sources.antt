@@ -43,11 +43,6 @@ pub data KnownFile : Type 0 where
   Holds : List ℕ → KnownFile
   Fails : OpenFailure → KnownFile
 
-abbrev pub known_bytes : KnownFile → Option (List ℕ)
-known_bytes Unknown = None
-known_bytes (Holds bytes) = Some bytes
-known_bytes (Fails why) = None
-
 -- the file may be opened, and then these bytes are left of it, where they are known
 abbrev pub MayOpen : KnownFile → Option (List ℕ) → Type 0
 MayOpen Unknown left = ⊤
@@ -104,10 +99,10 @@ no_input = record { sources = []; unopened = None }
 
 -- `files` is what is known of each file, `remaining` the bytes that standard input has left
 module _ {R : Type 0} (files : List ℕ → KnownFile) (remaining : R → Option (List ℕ)) where
-  -- this text was read, of standard input or of a file, of which then these bytes are left
+  -- this text was read, of standard input or of a file that was opened, of which then these bytes are left
   abbrev pub ReadsText : Bool → KnownFile → R → R → List ℕ → Option (List ℕ) → Type 0
   ReadsText true file reader reader' text left = Consumes (remaining reader) (remaining reader') text × (left ≡ remaining reader')
-  ReadsText false file reader reader' text left = Consumes (known_bytes file) left text × (reader' ≡ reader)
+  ReadsText false file reader reader' text left = (start : Option (List ℕ)) × MayOpen file start × Consumes start left text × (reader' ≡ reader)
 
   -- this text was read of the source with this name
   abbrev pub ReadsByName : List ℕ → R → R → List ℕ → Option (List ℕ) → Type 0
@@ -165,6 +160,19 @@ module _ {R : Type 0} (files : List ℕ → KnownFile) (remaining : R → Option
     pub lines : ReadsLines (record { is_first = is_none read; name = name }) middle reader' part
     pub are : sources ≡ before ++ part ∷ []
 
-  -- these are all sources; or some that were read to their ends, and the next one with some lines
-  abbrev pub ReadsFirst : List (List ℕ) → R → R → List Source → Type 0
-  ReadsFirst names reader reader' sources = ReadsInput names reader reader' (record { sources = sources; unopened = None }) ⊎ ReadsFront names reader reader' sources
+  -- some sources were read to their ends, and nothing of the next one
+  pub record ReadsBefore (names : List (List ℕ)) (reader reader' : R) (sources : List Source) : Type 0 where
+    pub read : List (List ℕ)
+    pub name : List ℕ
+    pub left : List (List ℕ)
+    pub split : names ≡ read ++ name ∷ left
+    pub whole : ReadsAll true read reader reader' sources
+
+  -- some sources were read to their ends, and of the next one some lines, or, where memory ran out, nothing
+  abbrev pub StopsReading : Type 0 → List (List ℕ) → R → R → List Source → Type 0
+  StopsReading memory_ran_out names reader reader' sources = ReadsFront names reader reader' sources ⊎ (memory_ran_out × ReadsBefore names reader reader' sources)
+
+  -- all sources were read to their ends; or some, and of the next one some lines, or, where memory ran out, nothing
+  abbrev pub ReadsFirst : Type 0 → List (List ℕ) → R → R → List Source → Type 0
+  ReadsFirst memory_ran_out names reader reader' sources =
+      ReadsInput names reader reader' (record { sources = sources; unopened = None }) ⊎ StopsReading memory_ran_out names reader reader' sources

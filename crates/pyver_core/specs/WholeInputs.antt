@@ -11,6 +11,7 @@ use Rattle.pyver_core.specs.Sources.{Input, KnownFile, ReadsFirst, ReadsInput, l
 use Rattle.pyver_core.specs.VersionLines.{InputParts, OfVersions}
 use Rattle.pyver_core.specs.declared.line_options.LineOptions.{LineOptions}
 use Rattle.pyver_core.specs.declared.stream.Stop.{Stop}
+use Rattle.pyver_core.specs.declared.stream.Stop.TheVariants as stop
 use Rattle.pyver_core.specs.declared.whole_input.Question.{Question}
 use Rattle.pyver_core.specs.declared.whole_input.Question.TheVariants as question
 
@@ -40,17 +41,17 @@ module _ {R W E : Type 0} (files : List ℕ → KnownFile) (remaining : R → Op
     pub ended : status ≡ outcome.status
 
   -- all was read, or some of which no line was used
-  abbrev pub ReadsUnused : List (List ℕ) → R → R → Input → Type 0
-  ReadsUnused names reader reader' input =
+  abbrev pub ReadsUnused : List (List ℕ) → R → R → Input → Stop → Type 0
+  ReadsUnused names reader reader' input why =
       ReadsInput files remaining names reader reader' input
-      ⊎ ((read : List Source) × ReadsFirst files remaining names reader reader' read × (input.unopened ≡ None) × (input.sources ≡ without_lines read))
+      ⊎ ((read : List Source) × ReadsFirst files remaining (why ≡ stop.OutOfMemory) names reader reader' read × (input.unopened ≡ None) × (input.sources ≡ without_lines read))
 
   -- nothing was written, or a beginning of what is asked for by all sources
-  pub record WholeStops (asked : Question) (names : List (List ℕ)) (reader reader' : R) (out out' : W) (err err' : E) (stop : Stop) : Type 0 where
+  pub record WholeStops (asked : Question) (names : List (List ℕ)) (reader reader' : R) (out out' : W) (err err' : E) (why : Stop) : Type 0 where
     pub input : Input
-    pub reads : ReadsUnused names reader reader' input
+    pub reads : ReadsUnused names reader reader' input why
     pub outcome : Outcome
     pub is : AnswersInput asked input outcome
     pub output : WroteBeginning (contents out) (contents out') outcome.output
     pub errors : WroteBeginning (error_contents err) (error_contents err') outcome.errors
-    pub stops : IsStopOf (last_name input.sources) stop
+    pub stops : IsStopOf (last_name input.sources) why

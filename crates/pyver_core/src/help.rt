@@ -119,7 +119,7 @@ options:
   --pre               allow pre-releases and dev releases too
   --no-pre            allow none of them
   -k, --field N       the version is field N, counted from 1, and not the whole line
-  -d, --delimiter C   the byte between fields, one ASCII character, and not a tab
+  -d, --delimiter C   the byte between fields, an ASCII character; without -d a tab
   --header            the first line of a file is no version; that of the first file is printed
   --invalid HOW       what is done with invalid lines
   --                  all words after it are no options
@@ -149,7 +149,7 @@ options:
   -u, --unique       of lines of equal versions the first alone
   -n, --last K       the last K of the lines that would be printed behind the header
   -k, --field N      the version is field N, counted from 1, and not the whole line
-  -d, --delimiter C  the byte between fields, one ASCII character, and not a tab
+  -d, --delimiter C  the byte between fields, an ASCII character; without -d a tab
   --header           the first line of a file is no version; print that of the first file first
   --invalid HOW      what is done with invalid lines
   --                 all words after it are no options
@@ -179,7 +179,7 @@ options:
   --pre              allow pre-releases and dev releases as all others
   --no-pre           allow none of them
   -k, --field N      the version is field N, counted from 1, and not the whole line
-  -d, --delimiter C  the byte between fields, one ASCII character, and not a tab
+  -d, --delimiter C  the byte between fields, an ASCII character; without -d a tab
   --header           leave out the first line of a file, which is no version
   --invalid HOW      what is done with invalid lines
   --                 all words after it are no options

@@ -2,7 +2,7 @@
 ghost use Rattle.std.specs.Prelude.{◌≡◌, ◌⊎◌, ◌≤◌, Bool, List, ℕ, map, string_bytes};
 ghost use Rattle.pyver_core.specs.AnswerViews.{outcome_of};
 ghost use Rattle.pyver_core.specs.Checks.{EndsCheck};
-ghost use Rattle.pyver_core.specs.Runs.{Ends, IsWriteFailure, WritesAnswer, WroteBeginning, memory_message, write_message};
+ghost use Rattle.pyver_core.specs.Runs.{Ends, IsWriteFailure, WritesAnswer, WroteBeginning, memory_message};
 ghost use Rattle.pyver_core.specs.SourceViews.{Reports};
 ghost use Rattle.pyver_core.specs.Tasks.{Check, IsCheck, task_of};
 
@@ -34,8 +34,7 @@ fn failure_status(failure: WriteFailure) -> u8
 /// Writes that a write failed, unless nobody reads, and returns the status.
 fn report_failure<E: Write>(failure: WriteFailure, err: &mut E) -> u8
     ensures status { (result ≡ 4) ⊎ (result ≡ 141) }
-    ensures written { WroteBeginning (E.contents err.old) (E.contents err.new) write_message }
-    ensures last { (message : List ℕ) × IsWriteFailure result message × WroteBeginning (E.contents err.old) (E.contents err.new) message }
+    ensures written { (message : List ℕ) × IsWriteFailure result message × WroteBeginning (E.contents err.old) (E.contents err.new) message }
 {
     match failure {
         WriteFailure::BrokenPipe => 141,

@@ -1,4 +1,4 @@
-use Rattle.std.proofs.Common.{◌∙◌, refl, sym}
+use Rattle.std.proofs.Common.{◌∙◌, sym}
 use Rattle.pyver_core.proofs.SourceFilters.{file_stops, input_reads, input_stops, unopened_stops}
 use Rattle.pyver_core.specs.SourceViews.{origin_of}
 use Rattle.pyver_core.proofs.filter_sources.open_and_filter.Goals as goal
@@ -20,5 +20,4 @@ returns-in-Ok-open-clause-stopped g c =
 
 pub returns-in-Err-OutOfMemory-clause-stopped : goal.returns-in-Err-OutOfMemory-clause-stopped
 returns-in-Err-OutOfMemory-clause-stopped g c =
-    unopened_stops _ _ _ _ c.args.rule.now (origin_of c.args.origin) c.args.state.now.fault_count c.args.state.now c.args.input.now c.args.out.now c.args.err.now _ (sym c.is_input.ensures ∙ c.if-is_input.false) refl
-    c.requires.nothing.0 c.requires.nothing.1 tt
+    unopened_stops _ _ _ _ c.args.rule.now (origin_of c.args.origin) c.args.state.now.fault_count c.args.input.now c.args.out.now c.args.err.now (sym c.is_input.ensures ∙ c.if-is_input.false)

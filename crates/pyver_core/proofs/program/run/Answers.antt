@@ -25,7 +25,7 @@ returns-in-Ok-Filter-clause-command g c =
     λ _. ends_by_stop _ _ _ _ _ c.args.files.now c.filter_sources.new.files c.args.input.now c.filter_sources.new.input c.args.out.now c.filter_sources.new.out c.args.err.now c.report_stop.new.err c.report_stop.result
     c.in-Err-filter_sources.stop c.filter_sources.new.err c.report_stop.ensures.0 is.0 c.in-Err-filter_sources.ensures.kept
     (filter_began _ _ _ _ _ c.args.files.now c.filter_sources.new.files c.args.input.now c.filter_sources.new.input c.args.out.now c.filter_sources.new.out c.args.err.now c.report_stop.new.err c.report_stop.result c.in-Ok-Filter.rule _
-    c.in-Err-filter_sources.stop c.filter_sources.new.err is.1 is.2 is.3 c.in-Err-filter_sources.ensures.stopped)
+    c.in-Err-filter_sources.stop c.filter_sources.new.err c.report_stop.ensures.0 c.report_stop.ensures.1 is.1 is.2 is.3 c.in-Err-filter_sources.ensures.stopped)
     c.report_stop.ensures.1 c.report_stop.ensures.2
 
 pub returns-in-Ok-Whole-clause-command : goal.returns-in-Ok-Whole-clause-command
@@ -34,7 +34,8 @@ returns-in-Ok-Whole-clause-command g c =
     λ _. ends_by_stop _ _ _ _ _ c.args.files.now c.answer_input.new.files c.args.input.now c.answer_input.new.input c.args.out.now c.answer_input.new.out c.args.err.now c.report_stop-in-Err-answer_input.new.err c.report_stop-in-Err-answer_input.result
     c.in-Err-answer_input.stop c.answer_input.new.err c.report_stop-in-Err-answer_input.ensures.0 is.0 c.in-Err-answer_input.ensures.kept
     (whole_began _ _ _ _ _ c.args.files.now c.answer_input.new.files c.args.input.now c.answer_input.new.input c.args.out.now c.answer_input.new.out c.args.err.now c.report_stop-in-Err-answer_input.new.err
-    c.report_stop-in-Err-answer_input.result c.in-Ok-Whole.question _ c.in-Err-answer_input.stop c.answer_input.new.err is.1 is.2 is.3 c.in-Err-answer_input.ensures.stopped)
+    c.report_stop-in-Err-answer_input.result c.in-Ok-Whole.question _ c.in-Err-answer_input.stop c.answer_input.new.err c.report_stop-in-Err-answer_input.ensures.0
+    c.report_stop-in-Err-answer_input.ensures.1 is.1 is.2 is.3 c.in-Err-answer_input.ensures.stopped)
     c.report_stop-in-Err-answer_input.ensures.1 c.report_stop-in-Err-answer_input.ensures.2
 
 pub returns-in-Ok-Check-clause-check : goal.returns-in-Ok-Check-clause-check

@@ -1,7 +1,6 @@
 use Rattle.std.proofs.Common.{◌∙◌, sym}
 use Rattle.pyver_core.proofs.SourceReads.{file_stopped, input_read, input_stopped, unopened_stopped}
 use Rattle.pyver_core.specs.SourceViews.{origin_of}
-use Rattle.pyver_core.specs.declared.stream.Stop.TheVariants as stop
 use Rattle.pyver_core.proofs.source_texts.open_and_read.Goals as goal
 
 pub returns-in-Ok-clause-read : goal.returns-in-Ok-clause-read
@@ -18,4 +17,4 @@ returns-in-Ok-open-clause-stopped g c =
     c.in-Ok-open.ensures.opened c.in-Err-read_source.ensures.part.1 c.in-Err-read_source.ensures.stop
 
 pub returns-in-Err-OutOfMemory-clause-stopped : goal.returns-in-Err-OutOfMemory-clause-stopped
-returns-in-Err-OutOfMemory-clause-stopped g c = unopened_stopped _ _ (origin_of c.args.origin) stop.OutOfMemory c.args.input.now (sym c.is_input.ensures ∙ c.if-is_input.false) tt
+returns-in-Err-OutOfMemory-clause-stopped g c = unopened_stopped _ _ (origin_of c.args.origin) c.args.input.now (sym c.is_input.ensures ∙ c.if-is_input.false)

@@ -16,7 +16,7 @@ returns-in_default-clause-stopped g c =
     let split = names_split (λ n. n.items) here.self.names.items here.index c.index.result.now _ c.as_slice.result.now (omega (arith, c.loop-index-test.true, here.invariant.5)) c.index.ensures c.as_slice.ensures.value in
     let each = subst (λ f. ReadsFilesInTurn known paths g.R.Read.remaining f none_read (read_of here.self) c.args.input.now here.input) (take-map (λ n. n.items) here.index here.self.names.items) here.invariant.0 in
     ends_stopped known paths g.R.Read.remaining (names_of_files c.args.self.now) here.self here.self c.args.input.now here.input here.input front _ c.as_slice.result.now split each here.invariant.1 stop.OutOfMemory
-    (stops_before known g.R.Read.remaining c.as_slice.result.now stop.OutOfMemory here.input tt)
+    (stops_before known g.R.Read.remaining c.as_slice.result.now here.input)
 
 pub returns-in-Err-clause-stopped : goal.returns-in-Err-clause-stopped
 returns-in-Err-clause-stopped g c =
