@@ -241,9 +241,15 @@ fn sweep_contains_version(rt: HostRuntime) -> Result<(), Fail> {
     Ok(())
 }
 
-// Of a packed list nothing is allocated, whatever the version.
+// Of a packed list nothing is allocated, whatever the version: to make it takes as many requests as to make it and ask.
 #[test]
-fn sweep_contains_version_takes_none(rt: HostRuntime) -> Result<(), Fail> {
+fn requests_of_packed_lists_0(rt: HostRuntime) -> Result<(), Fail> {
+    version_again(rt, "1!0.1")?;
+    Ok(())
+}
+
+#[test]
+fn requests_of_packed_lists_1(rt: HostRuntime) -> Result<(), Fail> {
     let version = version_again(rt, "1!0.1")?;
     let list = at_least([1, 1, 0, 1, 0, 0, 0, 0xa0, 0, 0]);
     assert!(rt; contains_version(rt.alloc(), &list, &version) == Ok(true));
