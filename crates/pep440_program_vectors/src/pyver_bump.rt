@@ -1,6 +1,8 @@
 //! Runs of `pyver bump`, with each request for memory refused in turn.
 use super::pyver::writes;
-use super::support::split_words;
+use super::pyver_filter;
+use super::pyver_sort::stops;
+use super::support::{After, Manner, split_words};
 use std::test::Fail;
 
 // The words between bars, and the version that is printed: numbers behind the raised one become 0, the local part goes, and an
@@ -142,7 +144,7 @@ const IMPOSSIBLE: [(&str, &str); 20] = [
 ];
 
 // The words between bars, and the message of a wrong use.
-const MISUSED: [(&str, &str); 9] = [
+const MISUSED: [(&str, &str); 8] = [
     (
         "bump|miner|1.2.3",
         "pyver: no part 'miner'; did you mean 'minor'?\nTry 'pyver bump --help'.\n",
@@ -153,19 +155,15 @@ const MISUSED: [(&str, &str); 9] = [
     ),
     (
         "bump|1.2.3",
-        "pyver: usage: pyver bump [--to N] PART.. V\nTry 'pyver bump --help'.\n",
+        "pyver: usage: pyver bump [--to N] PART.. [V]\nTry 'pyver bump --help'.\n",
     ),
     (
         "bump",
-        "pyver: usage: pyver bump [--to N] PART.. V\nTry 'pyver bump --help'.\n",
-    ),
-    (
-        "bump|minor|alpha",
-        "pyver: usage: pyver bump [--to N] PART.. V\nTry 'pyver bump --help'.\n",
+        "pyver: usage: pyver bump [--to N] PART.. [V]\nTry 'pyver bump --help'.\n",
     ),
     (
         "bump|--to",
-        "pyver: usage: pyver bump [--to N] PART.. V\nTry 'pyver bump --help'.\n",
+        "pyver: usage: pyver bump [--to N] PART.. [V]\nTry 'pyver bump --help'.\n",
     ),
     (
         "bump|--to|x|minor|1.2.3",
@@ -207,6 +205,128 @@ fn sweep_misused_bumps(rt: HostRuntime) -> Result<(), Fail> {
         let words = split_words(rt.alloc(), line)?;
         let holds = writes(rt.alloc(), words.as_slice(), "", errors, 2);
         assert!(rt; holds, "{line}");
+    }
+    Ok(())
+}
+
+// The words between bars, of which none is a version, the input, what is written on standard output and on standard error, and
+// the status.
+const BUMPED_INPUT: [(&str, &[u8], &str, &str, u8); 11] = [
+    ("bump|minor", b"1.2.3\n", "1.3.0\n", "", 0),
+    (
+        "bump|minor|alpha",
+        b"\xEF\xBB\xBFv1.2.3\r\n",
+        "1.3.0a1\n",
+        "",
+        0,
+    ),
+    ("bump|--to|7|--|rc", b"\n \t\n2.0rc3", "2.0rc7\n", "", 0),
+    (
+        "bump|minor",
+        b"",
+        "",
+        "pyver: no version on standard input\n",
+        2,
+    ),
+    (
+        "bump|minor",
+        b"\n \t\r\n",
+        "",
+        "pyver: no version on standard input\n",
+        2,
+    ),
+    (
+        "bump|minor",
+        b"1.2.3\n1.2.3\n",
+        "",
+        "pyver: more than one version on standard input\n",
+        2,
+    ),
+    (
+        "bump|minor",
+        b"\n1.2.3\n\n1.2.4\n\n1.3",
+        "",
+        "pyver: more than one version on standard input\n",
+        2,
+    ),
+    (
+        "bump|alpha",
+        b"v1.2.3 \n",
+        "",
+        "pyver: 'v1.2.3 ': nothing says of which release: put major, minor or patch before\n",
+        2,
+    ),
+    (
+        "bump|patch",
+        b"x\n",
+        "",
+        "pyver: -: line 1: expected version to start with a number, but no leading ASCII digits were found\n",
+        2,
+    ),
+    (
+        "bump|patch",
+        b"1.0\n1.1\n\xff\n",
+        "",
+        "pyver: -: line 3: not UTF-8\n",
+        2,
+    ),
+    (
+        "bump|miner|patch",
+        b"1.0\n",
+        "",
+        "pyver: no part 'miner'; did you mean 'minor'?\nTry 'pyver bump --help'.\n",
+        2,
+    ),
+];
+
+#[test]
+fn sweep_bumped_input(rt: HostRuntime) -> Result<(), Fail> {
+    for (line, text, output, errors, status) in BUMPED_INPUT {
+        let words = split_words(rt.alloc(), line)?;
+        let wanted = (output, errors, status);
+        let holds = pyver_filter::writes(rt.alloc(), words.as_slice(), text, wanted);
+        assert!(rt; holds, "{line} of {text:?}");
+    }
+    Ok(())
+}
+
+// The input, how it ends and the writers answer, and what they hold at the end.
+const STOPPED: [(&[u8], After, Manner, Manner, &str, &str, &str); 3] = [
+    (
+        b"1.2.3\n",
+        After::Fails,
+        Manner::TakesAtMost(512),
+        Manner::TakesAtMost(512),
+        "",
+        "",
+        "pyver: a read failed\n",
+    ),
+    (
+        b"1.2.3\n",
+        After::End,
+        Manner::FailsPast(3),
+        Manner::TakesAtMost(512),
+        "1.3",
+        "",
+        "pyver: a write failed\n",
+    ),
+    (
+        b"",
+        After::End,
+        Manner::TakesAtMost(512),
+        Manner::FailsPast(8),
+        "",
+        "pyver: no version on standard input\n",
+        "",
+    ),
+];
+
+#[test]
+fn sweep_stopped_bumps(rt: HostRuntime) -> Result<(), Fail> {
+    let words = split_words(rt.alloc(), "bump|minor")?;
+    for row in STOPPED {
+        let holds = stops(rt.alloc(), words.as_slice(), row);
+        assert!(rt; holds, "{} and {}", row.4, row.6);
     }
     Ok(())
 }

@@ -22,3 +22,4 @@ pub mod Bumping
 pub mod Digits
 pub mod Releases
 pub mod BumpWords
+pub mod BumpInputs

@@ -8,6 +8,7 @@ use Rattle.pep440_rs.specs.Specifiers.{Spec}
 use Rattle.pep440_version.proofs.Reading.Agreement.{one_record}
 use Rattle.pep440_version.proofs.Refusals.ExactlyOne.{not_both, one_refusal}
 use Rattle.pep440_version.specs.ErrorTexts.{refusal_text}
+use Rattle.pyver_core.specs.BumpInputs.{BumpsOnly}
 use Rattle.pyver_core.specs.Bumps.{Bumps, bump_outcome}
 use Rattle.pyver_core.proofs.Choosing.{one_newest}
 use Rattle.pyver_core.proofs.Sorting.{one_sorted}
@@ -16,7 +17,7 @@ use Rattle.pyver_core.specs.Comparisons.{Compares, comparison_outcome}
 use Rattle.pyver_core.specs.Fields.{field}
 use Rattle.pyver_core.specs.Filters.{Filters, FiltersBy, FiltersLines, filter_outcome, rule_of}
 use Rattle.pyver_core.specs.InputLines.{SourceLine, Source, filled_lines}
-use Rattle.pyver_core.specs.LineOptions.{is_header}
+use Rattle.pyver_core.specs.LineOptions.{is_header, no_line_options}
 use Rattle.pyver_core.specs.Matches.{Matches, MatchesBy, MatchesWord, MatchesWords, ReadsSpecifiers, SpecifiersReading, DenotesList, ListFails, word_outcome}
 use Rattle.pyver_core.specs.Newest.{FindsNewest, FindsNewestBy, FindsNewestLine, candidates, newest_outcome, newest_rule}
 use Rattle.pyver_core.specs.CheckLaws.{ChecksOnce}
@@ -173,7 +174,8 @@ outcomes_once (Filter options specifiers names) input a b h k = filter_once opti
 outcomes_once (Sort options names) input a b h k = of_versions_once options.lines (SortsParts options) (sort_once options) input a b h k
 outcomes_once (Newest options specifiers names) input a b h k = newest_once options specifiers input a b h k
 outcomes_once (Show format words) input a b h k = show_once format words a b h k
-outcomes_once (Bump to parts word) input a b h k = bump_once to parts word a b h k
+outcomes_once (Bump to parts None) input a b h k = of_versions_once no_line_options (BumpsOnly to parts) (λ lines a b is so. is ∙ sym so) input a b h k
+outcomes_once (Bump to parts (Some word)) input a b h k = bump_once to parts word a b h k
 outcomes_once (Range options words) input a b h k = common_once options words a b h k
 outcomes_once (Check json names) input a b h k = absurd h
 outcomes_once (Misused message) input a b h k = h ∙ sym k

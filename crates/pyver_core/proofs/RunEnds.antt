@@ -1,8 +1,9 @@
 -- How runs end, by what they wrote.
-use Rattle.std.proofs.Common.{◌≡◌, ◌⊎◌, ◌∙◌, ◌≤◌, ℕ, List, [], ◌∷◌, ◌++◌, Option, None, inl, inr, refl, sym, ap, subst, arith, append_assoc}
+use Rattle.std.proofs.Common.{◌≡◌, ◌⊎◌, ◌∙◌, ◌≤◌, ℕ, List, [], ◌∷◌, ◌++◌, Option, None, Some, inl, inr, refl, sym, ap, subst, arith, append_assoc}
 use Rattle.std.proofs.KnownBytes.{Appends-nil, Appends-trans}
 use Rattle.std.specs.Io.KnownBytes.{Appends}
 use Rattle.pyver_core.proofs.Whole.{unused}
+use Rattle.pyver_core.specs.BumpInputs.{only_outcome}
 use Rattle.pyver_core.specs.FilterSteps.{FilterFinishes, FilterStops}
 use Rattle.pyver_core.specs.Filters.{Filters, filter_outcome, rule_of}
 use Rattle.pyver_core.specs.InputLines.{Source}
@@ -30,7 +31,8 @@ first_outcome (Filter options specifiers names) n = (filter_outcome (rule_of opt
 first_outcome (Sort options names) n = unused (question.Sort options) []
 first_outcome (Newest options specifiers names) n = let k = unused (question.Newest (newest_rule options n.0)) [] in (k.0, (DenotesList n.0, n.1, k.1))
 first_outcome (Show asked words) n = absurd n
-first_outcome (Bump to parts word) n = absurd n
+first_outcome (Bump to parts None) n = (only_outcome to parts [], ([], tt, inl (refl, refl)))
+first_outcome (Bump to parts (Some word)) n = absurd n
 first_outcome (Range options words) n = absurd n
 first_outcome (Check json names) n = absurd n
 first_outcome (Misused message) n = absurd n
@@ -49,7 +51,8 @@ first_source (Filter options specifiers names) n = some_source names
 first_source (Sort options names) n = some_source names
 first_source (Newest options specifiers names) n = some_source names
 first_source (Show asked words) n = absurd n
-first_source (Bump to parts word) n = absurd n
+first_source (Bump to parts None) n = (input_name, [], refl)
+first_source (Bump to parts (Some word)) n = absurd n
 first_source (Range options words) n = absurd n
 first_source (Check json names) n = absurd n
 first_source (Misused message) n = absurd n

@@ -4,8 +4,10 @@ use Rattle.std.proofs.KnownBytes.{Appends-nil}
 use Rattle.std.specs.List.{AllZip}
 use Rattle.pyver_core.proofs.Choosing.{or_none}
 use Rattle.pyver_core.proofs.Sorting.{none_sorted}
+use Rattle.pyver_core.specs.BumpInputs.{only_outcome}
 use Rattle.pyver_core.specs.InputLines.{Source, filled_lines}
 use Rattle.pyver_core.specs.InvalidLines.{lines_status}
+use Rattle.pyver_core.specs.LineOptions.{no_line_options}
 use Rattle.pyver_core.specs.Newest.{newest_outcome}
 use Rattle.pyver_core.specs.Outcomes.{Outcome}
 use Rattle.pyver_core.specs.ReadLines.{IsRead}
@@ -45,6 +47,7 @@ last_without (source ∷ (next ∷ rest)) = last_without (next ∷ rest)
 pub unused : (asked : Question) (sources : List Source) → (o : Outcome) × AnswersInput asked (record { sources = without_lines sources; unopened = None }) o
 unused (question.Sort options) sources =
     let how = options.lines.invalid in (sort_outcome options (input_parts how []) [], ([], none_read options.lines sources, inl (none_invalid how, ([], none_sorted options.reversed, refl))))
+unused (question.Bump rule) sources = (only_outcome rule.to rule.parts.items [], ([], none_read no_line_options sources, inl (refl, refl)))
 unused (question.Newest rule) sources =
     let how = rule.lines.invalid in (newest_outcome (line_messages how []) None, ([], none_read rule.lines sources, inl (none_invalid how, (None, or_none rule.prereleases, refl))))
 

@@ -1,4 +1,4 @@
--- `bump PART.. V`: the version with its parts raised, in order.
+-- `bump PART.. [V]`: the version with its parts raised, in order.
 use Rattle.std.specs.Prelude.{◌≡◌, ◌+◌, ◌==◌, ◌||◌, ℕ, zero, suc, List, [], ◌∷◌, ◌++◌, Bool, true, false, Option, Some, None, Result, Ok, Err, bytes_eq, codes, get_or, is_some, map, nat_lt, if◌then◌else◌}
 use Rattle.std.specs.Option.{unwrap_or}
 use Rattle.std.specs.Ordering.{is_gt}

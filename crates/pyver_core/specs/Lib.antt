@@ -14,6 +14,7 @@ pub mod RangeLaws
 pub mod RangeViews
 pub mod Numbers
 pub mod Bumps
+pub mod BumpInputs
 pub mod BumpLaws
 pub mod AnswerViews
 pub mod InputLines

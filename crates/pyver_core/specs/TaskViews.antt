@@ -1,5 +1,5 @@
 -- What the program's commands say, apart from where they lie in memory.
-use Rattle.std.specs.Prelude.{ℕ, List, [], codes, map, string_bytes}
+use Rattle.std.specs.Prelude.{ℕ, List, [], codes, map, option_map, string_bytes}
 use Rattle.pyver_core.specs.LineOptions.{value_kind, value_names}
 use Rattle.pyver_core.specs.Messages.{unknown_message, usage_message}
 use Rattle.pyver_core.specs.Tasks.{Task, Help, NameVersion, Compare, Match, Filter, Sort, Newest, Show, Range, Check, Misused, bump_from_words, bump_part_names, command_names, comparison_names, help_words, option_names, part_names, usage, wrong_number_message}
@@ -28,7 +28,7 @@ task (command.Filter options specifiers names) = Filter options specifiers.now (
 task (command.Sort options names) = Sort options (map string_bytes names.now)
 task (command.Newest options specifiers names) = Newest options specifiers.now (map string_bytes names.now)
 task (command.Show asked words) = Show asked (map string_bytes words.now)
-task (command.Bump to parts version) = bump_from_words to [] (map string_bytes parts.now) version.now
+task (command.Bump to parts version) = bump_from_words to [] (map string_bytes parts.now) (option_map (λ v. v.now) version)
 task (command.Range options words) = Range options (map string_bytes words.now)
 task (command.Check json names) = Check json (map string_bytes names.now)
 task (command.Misused why) = Misused (misuse_message why)

@@ -3,6 +3,7 @@ use Rattle.std.specs.Prelude.{◌≡◌, ◌==◌, ◌&&◌, ◌||◌, ⊤, ℕ,
 use Rattle.std.specs.Option.{option_map}
 use Rattle.pep440_rs.specs.ListGrammar.{DerivesList}
 use Rattle.pep440_rs.specs.Specifiers.{Spec}
+use Rattle.pyver_core.specs.BumpInputs.{BumpsInput}
 use Rattle.pyver_core.specs.Bumps.{Bumps, bump_part_of}
 use Rattle.pyver_core.specs.CommonRanges.{FindsCommon}
 use Rattle.pyver_core.specs.Comparisons.{Compares, comparison_of}
@@ -16,7 +17,7 @@ use Rattle.pyver_core.specs.Outcomes.{Outcome}
 use Rattle.pyver_core.specs.Parts.{part_of}
 use Rattle.pyver_core.specs.Shows.{Shows}
 use Rattle.pyver_core.specs.Sorts.{SortsLines}
-use Rattle.pyver_core.specs.Sources.{Input, source_names}
+use Rattle.pyver_core.specs.Sources.{Input, input_name, source_names}
 use Rattle.pyver_core.specs.declared.allowed.MatchOptions.{MatchOptions}
 use Rattle.pyver_core.specs.declared.bump.BumpPart.{BumpPart}
 use Rattle.pyver_core.specs.declared.comparison.Comparison.{Comparison}
@@ -36,7 +37,7 @@ use Rattle.pyver_core.specs.declared.sort.SortOptions.{SortOptions}
 use Rattle.pyver_core.specs.declared.sort_words.SortValue.{SortValue}
 use Rattle.pyver_core.specs.declared.sort_words.SortValue.TheVariants as sort_value
 
--- what the words ask for, or the message of why they ask for nothing
+-- what the words ask for, or the message of why they ask for nothing; `bump` without a version reads one
 pub data Task : Type 0 where
   Help : Topic → Task
   NameVersion : Task
@@ -46,7 +47,7 @@ pub data Task : Type 0 where
   Sort : SortOptions → List (List ℕ) → Task
   Newest : NewestOptions → List ℕ → List (List ℕ) → Task
   Show : ShowFormat → List (List ℕ) → Task
-  Bump : Option ℕ → List BumpPart → List ℕ → Task
+  Bump : Option ℕ → List BumpPart → Option (List ℕ) → Task
   Range : RangeOptions → List (List ℕ) → Task
   Check : Bool → List (List ℕ) → Task
   Misused : List ℕ → Task
@@ -388,7 +389,7 @@ show_task (Some asked) (word ∷ rest) =
     else if bytes_eq word (codes "--part") then show_task None rest
     else by_part_in (value_behind (codes "--part=") word) (λ part. show_task (Some (format.Part part)) rest) (show_rest asked word rest)
 
--- ---- `bump [--to N] PART.. V`
+-- ---- `bump [--to N] PART.. [V]`
 
 abbrev pub bump_part_names : List (List ℕ)
 bump_part_names = codes "major" ∷ (codes "minor" ∷ (codes "patch" ∷ (codes "stable" ∷ (codes "alpha" ∷ (codes "beta" ∷ (codes "rc" ∷ (codes "post" ∷ (codes "dev" ∷ []))))))))
@@ -399,7 +400,7 @@ by_bump_part word None with_part = Misused (unknown_message (codes "part") word 
 by_bump_part word (Some part) with_part = with_part part
 
 -- the version is raised by these parts and then by those that the words name
-abbrev pub bump_from_words : Option ℕ → List BumpPart → List (List ℕ) → List ℕ → Task
+abbrev pub bump_from_words : Option ℕ → List BumpPart → List (List ℕ) → Option (List ℕ) → Task
 bump_from_words to parts [] version = Bump to parts version
 bump_from_words to parts (word ∷ rest) version = by_bump_part word (bump_part_of word) (λ part. bump_from_words to (parts ++ part ∷ []) rest version)
 
@@ -412,19 +413,18 @@ abbrev pub split_last : List (List ℕ) → Option (List (List ℕ) × List ℕ)
 split_last [] = None
 split_last (word ∷ rest) = put_before word (split_last rest)
 
--- parts, at least one, and then the version, which names none
-abbrev pub bump_last : Option ℕ → List (List ℕ) → List ℕ → Task
-bump_last to [] version = wrong_count topic.Bump
-bump_last to (word ∷ words) version =
-    if is_some (bump_part_of version) then wrong_count topic.Bump
-    else bump_from_words to [] (word ∷ words) version
+-- parts, at least one, and then this version
+abbrev pub bump_word : Option ℕ → List (List ℕ) → List ℕ → Task
+bump_word to [] version = wrong_count topic.Bump
+bump_word to (word ∷ words) version = bump_from_words to [] (word ∷ words) (Some version)
 
-abbrev pub by_last : Option ℕ → Option (List (List ℕ) × List ℕ) → Task
-by_last to None = wrong_count topic.Bump
-by_last to (Some p) = bump_last to p.0 p.1
+-- the last of the words is the version, unless it names a part: then all name parts, and the version is read
+abbrev pub by_last : Option ℕ → List (List ℕ) → Option (List (List ℕ) × List ℕ) → Task
+by_last to words None = wrong_count topic.Bump
+by_last to words (Some p) = if is_some (bump_part_of p.1) then bump_from_words to [] words None else bump_word to p.0 p.1
 
 abbrev pub bump_operands : Option ℕ → List (List ℕ) → Task
-bump_operands to words = by_last to (split_last words)
+bump_operands to words = by_last to words (split_last words)
 
 -- the words behind the options, where `--` may stand first
 abbrev pub bump_rest : Option ℕ → List ℕ → List (List ℕ) → Task
@@ -528,7 +528,8 @@ IsOutcome (Filter options specifiers names) input o = FiltersLines options speci
 IsOutcome (Sort options names) input o = SortsLines options input o
 IsOutcome (Newest options specifiers names) input o = FindsNewestLine options specifiers input o
 IsOutcome (Show asked words) input o = Shows asked words o
-IsOutcome (Bump to parts word) input o = Bumps to parts word o
+IsOutcome (Bump to parts None) input o = BumpsInput to parts input o
+IsOutcome (Bump to parts (Some word)) input o = Bumps to parts word o
 IsOutcome (Range options words) input o = FindsCommon options words o
 IsOutcome (Check json names) input o = ⊥
 IsOutcome (Misused message) input o = o ≡ misuse message
@@ -537,11 +538,12 @@ IsOutcome (Misused message) input o = o ≡ misuse message
 abbrev pub IsCheck : Task → Type 0
 IsCheck task = (json : Bool) × (names : List (List ℕ)) × (task ≡ Check json names)
 
--- of the others only `sort`, and `filter` and `newest` with a valid list, read sources
+-- of the others only `sort`, `filter` and `newest` with a valid list, and `bump` without a version, read sources
 abbrev pub NeedsInput : Task → Type 0
 NeedsInput (Filter options specifiers names) = (list : List Spec) × DerivesList specifiers list
 NeedsInput (Sort options names) = ⊤
 NeedsInput (Newest options specifiers names) = (list : List Spec) × DerivesList specifiers list
+NeedsInput (Bump to parts None) = ⊤
 NeedsInput _ = ⊥
 
 -- the names of the sources that are read
@@ -549,6 +551,7 @@ abbrev pub names_of : Task → List (List ℕ)
 names_of (Filter options specifiers names) = source_names names
 names_of (Sort options names) = source_names names
 names_of (Newest options specifiers names) = source_names names
+names_of (Bump to parts None) = input_name ∷ []
 names_of _ = []
 
 -- lines are printed before all are read

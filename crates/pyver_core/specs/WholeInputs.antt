@@ -1,7 +1,9 @@
 -- Commands that read all sources before they write.
 use Rattle.std.specs.Prelude.{◌≡◌, ◌⊎◌, ℕ, List, Option, None}
 use Rattle.std.specs.Io.KnownBytes.{Appends}
+use Rattle.pyver_core.specs.BumpInputs.{BumpsOnly}
 use Rattle.pyver_core.specs.InputLines.{Source}
+use Rattle.pyver_core.specs.LineOptions.{no_line_options}
 use Rattle.pyver_core.specs.Outcomes.{Outcome}
 use Rattle.pyver_core.specs.Runs.{WroteBeginning}
 use Rattle.pyver_core.specs.Newest.{FindsNewest}
@@ -19,11 +21,13 @@ use Rattle.pyver_core.specs.declared.whole_input.Question.TheVariants as questio
 abbrev pub question_lines : Question → LineOptions
 question_lines (question.Sort options) = options.lines
 question_lines (question.Newest rule) = rule.lines
+question_lines (question.Bump rule) = no_line_options
 
 -- what is written of lines that were read, where no invalid one is an error
 abbrev pub AnswersParts : Question → InputParts → Outcome → Type 0
 AnswersParts (question.Sort options) parts o = SortsParts options parts o
 AnswersParts (question.Newest rule) parts o = FindsNewest rule parts o
+AnswersParts (question.Bump rule) parts o = BumpsOnly rule.to rule.parts.items parts o
 
 -- what is written of what was read
 abbrev pub AnswersInput : Question → Input → Outcome → Type 0

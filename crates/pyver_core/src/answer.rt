@@ -17,11 +17,11 @@ pub(crate) struct Answer {
     ghost known: { status ≤ 2 },
 }
 
-pub(crate) fn push_fault(errors: &mut Vec<u8>, word: &str, reason: &str) -> Result<(), AllocError>
+pub(crate) fn push_fault(errors: &mut Vec<u8>, word: &[u8], reason: &str) -> Result<(), AllocError>
     ensures { IfOk result (λ _. errors.new.items ≡ errors.old.items ++ fault_message word.now reason.now) }
 {
     errors.extend_from_slice(b"pyver: '")?;
-    push_escaped(errors, word.as_bytes())?;
+    push_escaped(errors, word)?;
     errors.extend_from_slice(b"': ")?;
     push_escaped(errors, reason.as_bytes())?;
     errors.push(b'\n')?;
@@ -43,13 +43,20 @@ impl Answer {
         }
     }
 
-    /// A word is not what it has to be: a message, and the status 2.
-    pub(crate) fn push_fault(&mut self, word: &str, reason: &str) -> Result<(), AllocError>
+    /// A word or a line is not what it has to be: a message, and the status 2.
+    pub(crate) fn push_bytes_fault(&mut self, word: &[u8], reason: &str) -> Result<(), AllocError>
         ensures { IfOk result (λ _. outcome_of self.new ≡ followed_by (outcome_of self.old) (fault word.now reason.now)) }
     {
         push_fault(&mut self.errors, word, reason)?;
         self.status = self.status.max(2);
         Ok(())
+    }
+
+    /// The same of a word.
+    pub(crate) fn push_fault(&mut self, word: &str, reason: &str) -> Result<(), AllocError>
+        ensures { IfOk result (λ _. outcome_of self.new ≡ followed_by (outcome_of self.old) (fault word.now reason.now)) }
+    {
+        self.push_bytes_fault(word.as_bytes(), reason)
     }
 
     /// What is to be written of a word that is read so: a message where it is no version.

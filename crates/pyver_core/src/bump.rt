@@ -317,10 +317,10 @@ fn error_text(error: BumpError) -> &'static str
     }
 }
 
-fn push_result(
+pub(crate) fn push_result(
     alloc: Global,
     answer: &mut Answer,
-    word: &str,
+    word: &[u8],
     bumped: &Result<Version, BumpError>,
 ) -> Result<(), AllocError>
     ensures { IfOk result (λ _. outcome_of answer.new ≡ followed_by (outcome_of answer.old) (result_outcome word.now bumped.now)) }
@@ -330,7 +330,7 @@ fn push_result(
             push_text(&mut answer.output, version.to_string(alloc)?.as_str())?;
             push_text(&mut answer.output, "\n")
         }
-        Err(error) => answer.push_fault(word, error_text(*error)),
+        Err(error) => answer.push_bytes_fault(word, error_text(*error)),
     }
 }
 
@@ -347,7 +347,7 @@ pub(crate) fn bump_version(
     match read_version(alloc, word)? {
         Reading::Version(version) => {
             let bumped = bump(alloc, to, parts, &version)?;
-            push_result(alloc, &mut answer, word, &bumped)?;
+            push_result(alloc, &mut answer, word.as_bytes(), &bumped)?;
         }
         Reading::Invalid(reason) => answer.push_fault(word, reason.as_str())?,
     }

@@ -1,7 +1,7 @@
 // The words of `bump`.
-ghost use Rattle.std.specs.Prelude.{◌≡◌, ◌∷◌, [], Some, None, map, string_bytes};
+ghost use Rattle.std.specs.Prelude.{◌≡◌, ◌∷◌, Some, None, map, string_bytes};
 ghost use Rattle.pyver_core.specs.TaskViews.{task};
-ghost use Rattle.pyver_core.specs.Tasks.{bump_last, bump_operands, bump_rest, bump_task};
+ghost use Rattle.pyver_core.specs.Tasks.{bump_operands, bump_rest, bump_task, bump_word, by_last};
 
 use crate::bump::parse_bump_part;
 use crate::command::{Command, is_help, is_option};
@@ -9,23 +9,36 @@ use crate::help::Topic;
 use crate::misuse::Misuse;
 use crate::number::parse_number;
 
-fn parse_last<'a>(to: Option<u64>, parts: &'a [String], version: &'a str) -> Command<'a>
-    ensures { task result ≡ bump_last to (map string_bytes parts.now) version.now }
+fn parse_word<'a>(to: Option<u64>, parts: &'a [String], version: &'a str) -> Command<'a>
+    ensures { task result ≡ bump_word to (map string_bytes parts.now) version.now }
 {
     if parts.is_empty() {
         return Command::Misused(Misuse::Count(Topic::Bump));
     }
-    if parse_bump_part(version).is_some() {
-        return Command::Misused(Misuse::Count(Topic::Bump));
+    Command::Bump(to, parts, Some(version))
+}
+
+/// The last of the words, and those before it.
+fn parse_last<'a>(
+    to: Option<u64>,
+    words: &'a [String],
+    before: &'a [String],
+    last: &'a str,
+) -> Command<'a>
+    ensures { task result ≡ by_last to (map string_bytes words.now) (Some (map string_bytes before.now, last.now)) }
+{
+    if parse_bump_part(last).is_some() {
+        Command::Bump(to, words, None)
+    } else {
+        parse_word(to, before, last)
     }
-    Command::Bump(to, parts, version)
 }
 
 fn parse_operands<'a>(to: Option<u64>, words: &'a [String]) -> Command<'a>
     ensures { task result ≡ bump_operands to (map string_bytes words.now) }
 {
     match words.split_last() {
-        Some((version, parts)) => parse_last(to, parts, version.as_str()),
+        Some((last, before)) => parse_last(to, words, before, last.as_str()),
         None => Command::Misused(Misuse::Count(Topic::Bump)),
     }
 }

@@ -1,5 +1,5 @@
 // The command that words ask for, and what it writes.
-ghost use Rattle.std.specs.Prelude.{◌≡◌, [], ◌∷◌, IfOk, map, string_bytes};
+ghost use Rattle.std.specs.Prelude.{◌≡◌, [], ◌∷◌, IfOk, map, option_map, string_bytes};
 ghost use Rattle.pyver_core.specs.AnswerViews.{outcome_of};
 ghost use Rattle.pyver_core.specs.TaskViews.{task};
 ghost use Rattle.pyver_core.specs.Tasks.{Filter, Newest, bump_from_words, compare_rest, compare_task, compare_words, is_help, is_option, match_operands, match_option, match_rest, match_task, misuse, no_match_options, printed, task_of};
@@ -11,6 +11,7 @@ use crate::allowed::{
 };
 use crate::answer::Answer;
 use crate::bump::{bump_version, parse_bump_part};
+use crate::bump_input::BumpRule;
 use crate::bump_words::parse_bump;
 use crate::check_words::parse_check;
 use crate::comparison::{Comparison, compare, parse_comparison};
@@ -44,8 +45,8 @@ pub(crate) enum Command<'a> {
     /// The specifiers, and the names of the sources.
     Newest(NewestOptions, &'a str, &'a [String]),
     Show(ShowFormat, &'a [String]),
-    /// The number of the last part, the names of the parts, and the version.
-    Bump(Option<u64>, &'a [String], &'a str),
+    /// The number of the last part, the names of the parts, and the version if it is among the words.
+    Bump(Option<u64>, &'a [String], Option<&'a str>),
     Range(RangeOptions, &'a [String]),
     /// Whether JSON is asked for, and the names of the files.
     Check(bool, &'a [String]),
@@ -232,9 +233,7 @@ impl<'a> Command<'a> {
             Command::Show(format, words) => {
                 Ok(Work::Answer(show_versions(alloc, format, words)?))
             }
-            Command::Bump(to, names, version) => {
-                Ok(Work::Answer(start_bump(alloc, to, names, version)?))
-            }
+            Command::Bump(to, names, version) => start_bump(alloc, to, names, version),
             Command::Range(options, words) => {
                 Ok(Work::Answer(find_common(alloc, options, words)?))
             }
@@ -298,25 +297,30 @@ fn start_newest<'a>(
     }
 }
 
-/// `bump PART.. V`: the version, or which word names no part.
-fn start_bump(
+/// `bump PART.. [V]`: the version, what is asked of standard input, or which word names no part.
+fn start_bump<'a>(
     alloc: Global,
     to: Option<u64>,
-    names: &[String],
-    version: &str,
-) -> Result<Answer, AllocError>
-    ensures { IfOk result (λ a. IsWork (bump_from_words to [] (map string_bytes names.now) version.now) (Work.Answer a)) }
+    names: &'a [String],
+    version: Option<&str>,
+) -> Result<Work<'a>, AllocError>
+    ensures { IfOk result (λ w. IsWork (bump_from_words to [] (map string_bytes names.now) (option_map (λ v. v.now) version.entry)) w) }
 {
     let mut parts = Vec::new(alloc);
     let mut left = names;
     while let [name, rest @ ..] = left {
         let Some(part) = parse_bump_part(name.as_str()) else {
-            return report_misuse(alloc, Misuse::BumpPart(name.as_str()));
+            let misuse = Misuse::BumpPart(name.as_str());
+            return Ok(Work::Answer(report_misuse(alloc, misuse)?));
         };
         parts.push(part)?;
         left = rest;
     }
-    bump_version(alloc, to, parts.as_slice(), version)
+    match version {
+        Some(word) => Ok(Work::Answer(bump_version(alloc, to, parts.as_slice(), word)?)),
+        // No name is left, and no name means standard input.
+        None => Ok(Work::Whole(Question::Bump(BumpRule { to, parts }), left)),
+    }
 }
 
 fn print_text(alloc: Global, text: &str) -> Result<Answer, AllocError>

@@ -34,7 +34,7 @@ const NEWEST_USAGE: &str =
 
 const SHOW_USAGE: &str = "pyver show [--part PART | --json] V..";
 
-const BUMP_USAGE: &str = "pyver bump [--to N] PART.. V";
+const BUMP_USAGE: &str = "pyver bump [--to N] PART.. [V]";
 
 const RANGE_USAGE: &str = "pyver range [--cover] [--json] SPECS..";
 
@@ -53,7 +53,7 @@ commands:
   sort               the lines of files in the order of their versions
   newest SPECS       the line of the newest version that the specifiers allow
   show V..           versions in normal form, or their parts
-  bump PART.. V      the version with parts of it raised
+  bump PART.. [V]    the version with parts of it raised
   range SPECS..      the range of versions that all specifiers allow
   check              what is wrong in requirements files
 
@@ -209,9 +209,10 @@ examples:
   pyver show --json 1.0rc1 2.0+local.1
 ";
 
-const BUMP_HELP: &str = "usage: pyver bump [--to N] PART.. V
+const BUMP_HELP: &str = "usage: pyver bump [--to N] PART.. [V]
 
-Prints the version with its parts raised, one after another. It has to be greater: otherwise the
+Prints the version with its parts raised, one after another. Without V, standard input has to have
+one line that is not blank, and that is the version. The result has to be greater: otherwise the
 reason is reported and the exit status is 2. The local part always goes.
 PART is major, minor, patch, stable, alpha, beta, rc, post or dev.
   major, minor, patch  raise a number of the release; those behind it become 0, and the rest goes
@@ -228,6 +229,7 @@ examples:
   pyver bump minor 1.2.3
   pyver bump minor alpha 1.2.3
   pyver bump --to 7 rc 2.0rc3
+  git describe --tags --abbrev=0 | pyver bump patch
 ";
 
 const RANGE_HELP: &str = "usage: pyver range [--cover] [--json] SPECS..

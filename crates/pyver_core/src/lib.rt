@@ -4,6 +4,7 @@
 mod allowed;
 mod answer;
 mod bump;
+mod bump_input;
 mod bump_words;
 mod check;
 mod check_words;

@@ -78,7 +78,8 @@ fn report_stop<E: Write>(stop: Stop, err: &mut E) -> u8
 }
 
 /// Runs the command of the words and returns the status of the process: answers go to `out` and faults to `err`. Only
-/// `sort` and `check`, and `filter` and `newest` with a valid list, read `input` and open files.
+/// `sort` and `check`, and `filter` and `newest` with a valid list, read `input` and open files, and `bump` without a
+/// version reads `input`.
 pub fn run<F: Files, R: Read, W: Write, E: Write>(
     alloc: Global,
     words: &[String],

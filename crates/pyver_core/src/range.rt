@@ -55,7 +55,11 @@ fn report_range_error(
         RangeError::OutOfMemory => Err(AllocError),
         RangeError::NumberAtMax => {
             let mut message = Vec::new(alloc);
-            push_fault(&mut message, word, error.to_string(alloc)?.as_str())?;
+            push_fault(
+                &mut message,
+                word.as_bytes(),
+                error.to_string(alloc)?.as_str(),
+            )?;
             Ok(RangeReading::Failed(message))
         }
     }

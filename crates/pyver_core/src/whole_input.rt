@@ -11,6 +11,7 @@ ghost use Rattle.pyver_core.specs.VersionLineViews.{IsOfLines, input_parts_of};
 ghost use Rattle.pyver_core.specs.WholeInputs.{AnswersInput, AnswersParts, WholeFinishes, WholeStops, question_lines};
 
 use crate::answer::Answer;
+use crate::bump_input::{BumpRule, bump_only};
 use crate::files::Files;
 use crate::filter::Unopened;
 use crate::line_options::LineOptions;
@@ -28,6 +29,7 @@ use std::io::{Read, Write};
 pub(crate) enum Question {
     Sort(SortOptions),
     Newest(NewestRule),
+    Bump(BumpRule),
 }
 
 /// How lines are read.
@@ -37,6 +39,7 @@ fn question_lines(question: &Question) -> LineOptions
     match question {
         Question::Sort(options) => options.lines,
         Question::Newest(rule) => rule.lines,
+        Question::Bump(_) => LineOptions::none(),
     }
 }
 
@@ -51,6 +54,7 @@ fn answer_valid(
     match question {
         Question::Sort(options) => sort_versions(alloc, *options, lines),
         Question::Newest(rule) => find_newest(alloc, rule, lines),
+        Question::Bump(rule) => bump_only(alloc, rule, lines),
     }
 }
 
