@@ -7,11 +7,13 @@ use Rattle.std.proofs.lemmas.Slice.Eq.{bytes_eq-Decides}
 use Rattle.std.proofs.lemmas.List.Elements.{All-append, All-cons, All-contains_itself, All-head, All-nil, All-tail}
 use Rattle.std.specs.List.{All, Any, Contains, filter, flat_map, list_any}
 use Rattle.pep440_pick.specs.Names.{normal}
+use Rattle.pyver_findings.proofs.Once.{of_lines}
 use Rattle.pyver_findings.specs.Demands.{Demand}
 use Rattle.pyver_findings.specs.Conflicts.{common_cover, conflicts, counts_under, excludes, first_mentions, is_empty, of_all, of_few, of_name, of_one, of_pairs, of_two, pin_conflict, has_same_marker, same_marker, has_same_name, under}
-use Rattle.pyver_findings.specs.FileLines.{FileLine}
+use Rattle.pyver_findings.specs.FileLines.{FileLine, all_lines}
 use Rattle.pyver_findings.specs.FindingLaws.{ConflictsAreFound, IsAmong}
 use Rattle.pyver_findings.specs.Findings.{Conflicting, Finding}
+use Rattle.pyver_findings.specs.Reports.{Report, demands_in, invalid_in}
 use Rattle.pyver_findings.specs.declared.finding.Conflict.TheVariants.{NoVersion}
 
 -- ---- some finding
@@ -21,12 +23,12 @@ abbrev pub Some_is : (Finding → Type 0) → List Finding → Type 0
 Some_is P [] = ⊥
 Some_is P (f ∷ fs) = P f ⊎ Some_is P fs
 
-in_left : (P : Finding → Type 0) (fs gs : List Finding) → Some_is P fs → Some_is P (fs ++ gs)
+pub in_left : (P : Finding → Type 0) (fs gs : List Finding) → Some_is P fs → Some_is P (fs ++ gs)
 in_left P [] gs h = absurd h
 in_left P (f ∷ fs) gs (inl p) = inl p
 in_left P (f ∷ fs) gs (inr h) = inr (in_left P fs gs h)
 
-in_right : (P : Finding → Type 0) (fs gs : List Finding) → Some_is P gs → Some_is P (fs ++ gs)
+pub in_right : (P : Finding → Type 0) (fs gs : List Finding) → Some_is P gs → Some_is P (fs ++ gs)
 in_right P [] gs h = h
 in_right P (f ∷ fs) gs h = inr (in_right P fs gs h)
 
@@ -36,7 +38,7 @@ in_either P [] gs hs is one other h = in_right P hs is (other h)
 in_either P (f ∷ fs) gs hs is one other (inl p) = in_left P hs is (one (inl p))
 in_either P (f ∷ fs) gs hs is one other (inr h) = in_either P fs gs hs is (λ q. one (inr q)) other h
 
-any_is : (P : Finding → Type 0) (fs : List Finding) → Some_is P fs → Any P fs
+pub any_is : (P : Finding → Type 0) (fs : List Finding) → Some_is P fs → Any P fs
 any_is P [] h = absurd h
 any_is P (f ∷ fs) (inl p) = (0, f, omega arith, refl, p)
 any_is P (f ∷ fs) (inr h) = let r = any_is P fs h in (suc r.0, r.1, omega (arith, r.2), r.3, r.4)
@@ -48,6 +50,14 @@ first_is P (f ∷ fs) some all = inl (All-head P f fs all)
 
 -- ---- what is reported of some lines names no others
 
+filled : (l : FileLine) (rest : List FileLine) → l ∷ rest ≡ [] → ⊥
+filled l rest e = let none : length (l ∷ rest) ≡ 0 = ap length e in absurd (omega (arith, none))
+
+-- lines with nothing in common are not none
+some_lines : (some : List Demand) → is_empty (common_cover some) ≡ true → map (λ (a : Demand). a.line) some ≡ [] → ⊥
+some_lines [] empty e = true≢false (sym empty)
+some_lines (a ∷ some) empty e = filled a.line (map (λ (b : Demand). b.line) some) e
+
 module _ (lines : List FileLine) where
   -- the line is one of these
   abbrev pub IsOne : Demand → Type 0
@@ -58,11 +68,12 @@ module _ (lines : List FileLine) where
   where_true false f among = All-nil (IsAmong lines)
 
   one_among : (a : Demand) → IsOne a → All (IsAmong lines) (of_one a)
-  one_among a one = where_true (is_empty a.cover) (Conflicting NoVersion (a.line ∷ [])) (All-cons (Contains lines) a.line [] one (All-nil (Contains lines)))
+  one_among a one = where_true (is_empty a.cover) (Conflicting NoVersion (a.line ∷ [])) (filled a.line [], All-cons (Contains lines) a.line [] one (All-nil (Contains lines)))
 
   two_among : (a b : Demand) → IsOne a → IsOne b → All (IsAmong lines) (of_two a b)
   two_among a b one other =
-      where_true (excludes a b) (Conflicting (pin_conflict a b) (a.line ∷ b.line ∷ [])) (All-cons (Contains lines) a.line (b.line ∷ []) one (All-cons (Contains lines) b.line [] other (All-nil (Contains lines))))
+      where_true (excludes a b) (Conflicting (pin_conflict a b) (a.line ∷ b.line ∷ []))
+      (filled a.line (b.line ∷ []), All-cons (Contains lines) a.line (b.line ∷ []) one (All-cons (Contains lines) b.line [] other (All-nil (Contains lines))))
 
   each_among : (f : Demand → List Finding) → ((a : Demand) → IsOne a → All (IsAmong lines) (f a)) → (some : List Demand) → All IsOne some → All (IsAmong lines) (flat_map f some)
   each_among f among [] k = All-nil (IsAmong lines)
@@ -87,15 +98,15 @@ module _ (lines : List FileLine) where
   unmapped (a ∷ some) k = All-cons IsOne a some (All-head (Contains lines) a.line (map (λ (b : Demand). b.line) some) k) (unmapped some (All-tail (Contains lines) a.line (map (λ (b : Demand). b.line) some) k))
 
   -- lines with nothing in common are reported, or some of them are
-  by_few : (some : List Demand) → All IsOne some → (b : Bool) → (length (of_few some) == 0) ≡ b
+  by_few : (some : List Demand) → All IsOne some → (map (λ (a : Demand). a.line) some ≡ [] → ⊥) → (b : Bool) → (length (of_few some) == 0) ≡ b
       → Some_is (IsAmong lines) (if true && b then Conflicting NoVersion (map (λ (a : Demand). a.line) some) ∷ [] else []) ⊎ Some_is (IsAmong lines) (of_few some)
-  by_few some k true is = inl (inl (mapped some k))
-  by_few some k false is = inr (first_is (IsAmong lines) (of_few some) is (few_among some k))
+  by_few some k many true is = inl (inl (many, mapped some k))
+  by_few some k many false is = inr (first_is (IsAmong lines) (of_few some) is (few_among some k))
 
   all_or_few : (some : List Demand) → All IsOne some → is_empty (common_cover some) ≡ true → Some_is (IsAmong lines) (of_all some) ⊎ Some_is (IsAmong lines) (of_few some)
   all_or_few some k empty =
       subst (λ e. Some_is (IsAmong lines) (if e && (length (of_few some) == 0) then Conflicting NoVersion (map (λ (a : Demand). a.line) some) ∷ [] else []) ⊎ Some_is (IsAmong lines) (of_few some)) (sym empty)
-      (by_few some k (length (of_few some) == 0) refl)
+      (by_few some k (some_lines some empty) (length (of_few some) == 0) refl)
 
 -- ---- what is found of some of the lines is found of all
 
@@ -186,7 +197,7 @@ name_yes a b e = (bytes_eq-Decides (normal a.name) (normal b.name)).0 e
 name_alike : (a b : Demand) → normal a.name ≡ normal b.name → has_same_name a b ≡ true
 name_alike a b e = (bytes_eq-Decides (normal a.name) (normal b.name)).1 e
 
-marker_yes : (m n : Option (List ℕ)) → same_marker m n ≡ true → m ≡ n
+pub marker_yes : (m n : Option (List ℕ)) → same_marker m n ≡ true → m ≡ n
 marker_yes None None e = refl
 marker_yes None (Some b) e = absurd (true≢false (sym e))
 marker_yes (Some a) None e = absurd (true≢false (sym e))
@@ -283,10 +294,18 @@ by_both lines marker false none e = by_marker lines marker none e
 in_name : (lines : List Demand) (marker : Option (List ℕ)) → common_cover (under marker lines) ≡ [] → Some_is (Fits lines marker) (of_name lines)
 in_name lines marker none = by_both lines marker (is_empty (common_cover (under None lines))) (ap is_empty none) refl
 
-pub conflicts_are_found : ConflictsAreFound
-conflicts_are_found lines a marker (k, inside, is) none =
+some_found : (lines : List Demand) (a : Demand) (marker : Option (List ℕ)) → Contains lines a → common_cover (under marker (filter (has_same_name a) lines)) ≡ [] → Some_is (Fits (filter (has_same_name a) lines) marker) (conflicts lines)
+some_found lines a marker (k, inside, is) none =
     let P = Fits (filter (has_same_name a) lines) marker in
-    any_is P (conflicts lines)
-    (reach (λ (x : Demand). normal x.name) has_same_name name_yes name_alike P (λ (b : Demand). of_name (filter (has_same_name b) lines)) a
+    reach (λ (x : Demand). normal x.name) has_same_name name_yes name_alike P (λ (b : Demand). of_name (filter (has_same_name b) lines)) a
     (λ b e. subst (λ n. Some_is P (of_name (filter (λ (c : Demand). bytes_eq n (normal c.name)) lines))) (sym e) (in_name (filter (has_same_name a) lines) marker none)) [] lines refl
-    (contains_key (λ (x : Demand). normal x.name) a lines k inside is))
+    (contains_key (λ (x : Demand). normal x.name) a lines k inside is)
+
+pub conflicts_are_found : ConflictsAreFound
+conflicts_are_found files r lines a marker (xs, h, is) (ys, k, are) inside none =
+    let P = Fits (filter (has_same_name a) lines) marker in
+    let same : lines ≡ flat_map demands_in xs = are ∙ ap (flat_map demands_in) (of_lines (all_lines files) ys xs k h) in
+    any_is P r.findings
+    (subst (λ (q : Report). Some_is P q.findings) (sym is)
+    (in_right P (flat_map invalid_in xs) (conflicts (flat_map demands_in xs))
+    (subst (λ (demands : List Demand). Some_is P (conflicts demands)) same (some_found lines a marker inside none))))

@@ -1,9 +1,10 @@
--- What is reported: a line alone is no requirement, and of lines together no version is allowed by all.
-use Rattle.std.proofs.Common.{arith, ◌≡◌, ◌==◌, ◌∙◌, ℕ, List, [], ◌∷◌, ◌&&◌, ◌||◌, Bool, true, false, IsTrue, Option, Some, None, fold, length, map, not, refl, sym, ap, subst, inl, inr, if◌then◌else◌}
+-- What is reported: a line alone is no requirement; lines together count together, and no version is allowed by all.
+use Rattle.std.proofs.Common.{arith, ◌≡◌, ◌==◌, ◌⊎◌, ◌∙◌, ℕ, List, [], ◌∷◌, ◌&&◌, ◌||◌, Bool, true, false, IsTrue, Option, Some, None, fold, is_none, length, map, not, refl, sym, ap, subst, inl, inr, if◌then◌else◌}
 use Rattle.std.proofs.lemmas.Bool.{eqb-true, true≢false}
-use Rattle.std.proofs.lemmas.List.Elements.{All-append, All-cons, All-contains_itself, All-filter, All-head, All-nil, All-tail}
-use Rattle.std.specs.List.{All, AllZip, filter, flat_map}
+use Rattle.std.proofs.lemmas.List.Elements.{All-append, All-cons, All-contains_itself, All-filter, All-head, All-nil, All-tail, filter_passes}
+use Rattle.std.specs.List.{All, AllZip, Contains, filter, flat_map}
 use Rattle.pep440_pick.proofs.Once.{one_requirement}
+use Rattle.pep440_pick.specs.Names.{same_name}
 use Rattle.pep440_pick.specs.RequirementGrammar.{DerivesRequirement, Needed}
 use Rattle.pep440_ranges.proofs.Laws.{overlaps_hold_both}
 use Rattle.pep440_ranges.specs.Intersection.{overlaps}
@@ -16,20 +17,21 @@ use Rattle.pep440_rs.specs.Matching.{list_matches}
 use Rattle.pep440_version.specs.Key.{record_cmp}
 use Rattle.pep440_version.specs.KeyLaws.{record_total}
 use Rattle.pep440_version.specs.Record.{Record}
-use Rattle.pyver_findings.specs.Demands.{Demand, line_demand, or_all}
-use Rattle.pyver_findings.specs.Conflicts.{common_cover, conflicts, counts_under, excludes, first_mentions, pin_is_apart, is_empty, meets, of_all, of_few, of_markers, of_name, of_one, of_pairs, of_two, pin_conflict, has_same_marker, has_same_name, under}
+use Rattle.pyver_findings.specs.Demands.{Demand, is_pinned, line_demand, or_all}
+use Rattle.pyver_findings.specs.Conflicts.{common_cover, conflicts, counts_under, excludes, first_mentions, pin_is_apart, is_empty, meets, of_all, of_few, of_markers, of_name, of_one, of_pairs, of_two, pin_conflict, has_same_marker, has_same_name, same_marker, under}
 use Rattle.pyver_findings.specs.FileLines.{FileLine, all_lines}
-use Rattle.pyver_findings.specs.FindingLaws.{FindingsHold, IsRight, LineAllows}
+use Rattle.pyver_findings.specs.FindingLaws.{AsksFor, CountTogether, CountsUnder, FindingsHold, FitsConflict, IsRight, LineAllows, NamesVersion}
 use Rattle.pyver_findings.specs.Findings.{Conflicting, Finding}
 use Rattle.pyver_findings.specs.LineMeanings.{IsNone, LeftOut, LineMeaning, NamesFile, IsKindMeaning, IsMeaning, requirement_meaning, has_scheme, names_file, with_marker, with_url}
+use Rattle.pyver_findings.proofs.Found.{marker_yes}
 use Rattle.pyver_findings.proofs.Rejecting.{invalid_right}
 use Rattle.pyver_findings.specs.Reports.{Report, demands_in, invalid_in}
 use Rattle.pyver_findings.specs.declared.cause.Cause.TheVariants as cause
-use Rattle.pyver_findings.specs.declared.finding.Conflict.TheVariants.{NoVersion}
+use Rattle.pyver_findings.specs.declared.finding.Conflict.TheVariants.{NoVersion, PinOutside, TwoPins}
 use Rattle.pyver_requirements.specs.LineKinds.{ConstraintsFile, Editable, LineKind, Location, MissingPath, PipOption, Requirement, RequirementsFile, Variable, has_variable, line_kind}
 use Rattle.pyver_requirements.specs.LineParts.{line_parts}
 
--- ---- the cover of what a line asks for
+-- ---- what a line asks for
 
 -- the cover holds every version that the line allows
 abbrev pub IsCovered : Demand → Type 0
@@ -44,49 +46,65 @@ demand_covered l marker n d v denoted (m, dm, hm) =
     list_covered (line_parts l.text).requirement n d (list_range cover_of n.specifiers) refl v denoted
     (subst (λ (q : Needed). IsTrue (list_matches q.specifiers v)) (one_requirement (line_parts l.text).requirement m n dm d) hm)
 
+-- the line derives a requirement with the name of the demand, and with a pin where it has one
+abbrev pub IsDerived : Demand → Type 0
+IsDerived a = (n : Needed) × DerivesRequirement (line_parts a.line.text).requirement n × (n.name ≡ a.name) × (is_pinned n.specifiers ≡ a.pinned)
+
+-- one of these lines asks for it
+abbrev pub IsAsked : List FileLine → Demand → Type 0
+IsAsked read a = IsCovered a × Contains read a.line × IsDerived a × ((line_parts a.line.text).marker ≡ a.marker)
+
 -- ---- what lines ask for
 
-of_file : (a b : Bool) → All IsCovered (demands_in (if a then LeftOut cause.Variable else (if b then LeftOut cause.Url else NamesFile)))
-of_file true b = All-nil IsCovered
-of_file false true = All-nil IsCovered
-of_file false false = All-nil IsCovered
+module _ (read : List FileLine) where
+  of_file : (a b : Bool) → All (IsAsked read) (demands_in (if a then LeftOut cause.Variable else (if b then LeftOut cause.Url else NamesFile)))
+  of_file true b = All-nil (IsAsked read)
+  of_file false true = All-nil (IsAsked read)
+  of_file false false = All-nil (IsAsked read)
 
-of_specifiers : (b : Bool) (f : Finding) → All IsCovered (demands_in (if b then LeftOut cause.Url else IsNone f))
-of_specifiers true f = All-nil IsCovered
-of_specifiers false f = All-nil IsCovered
+  of_specifiers : (b : Bool) (f : Finding) → All (IsAsked read) (demands_in (if b then LeftOut cause.Url else IsNone f))
+  of_specifiers true f = All-nil (IsAsked read)
+  of_specifiers false f = All-nil (IsAsked read)
 
-of_url : (l : FileLine) (n : Needed) → DerivesRequirement (line_parts l.text).requirement n → (url : Option (List ℕ)) → All IsCovered (demands_in (with_url l (line_parts l.text) n url))
-of_url l n d None = All-cons IsCovered (line_demand l (line_parts l.text).marker n) [] (demand_covered l (line_parts l.text).marker n d) (All-nil IsCovered)
-of_url l n d (Some []) = All-nil IsCovered
-of_url l n d (Some (b ∷ url)) = of_specifiers (length n.specifiers == 0) _
+  module _ (l : FileLine) (known : Contains read l) where
+    module _ (n : Needed) (d : DerivesRequirement (line_parts l.text).requirement n) where
+      asked : IsAsked read (line_demand l (line_parts l.text).marker n)
+      asked = (demand_covered l (line_parts l.text).marker n d, known, (n, d, refl, refl), refl)
 
-of_marker : (l : FileLine) (n : Needed) → DerivesRequirement (line_parts l.text).requirement n → (marker : Option (List ℕ)) → All IsCovered (demands_in (with_marker l (line_parts l.text) n marker))
-of_marker l n d None = of_url l n d (line_parts l.text).url
-of_marker l n d (Some []) = All-nil IsCovered
-of_marker l n d (Some (b ∷ marker)) = of_url l n d (line_parts l.text).url
+      of_url : (url : Option (List ℕ)) → All (IsAsked read) (demands_in (with_url l (line_parts l.text) n url))
+      of_url None = All-cons (IsAsked read) (line_demand l (line_parts l.text).marker n) [] asked (All-nil (IsAsked read))
+      of_url (Some []) = All-nil (IsAsked read)
+      of_url (Some (b ∷ url)) = of_specifiers (length n.specifiers == 0) _
 
-same_reading : (x y : LineMeaning) → x ≡ y → All IsCovered (demands_in y) → All IsCovered (demands_in x)
-same_reading x y is k = subst (λ (z : LineMeaning). All IsCovered (demands_in z)) (sym is) k
+      of_marker : (marker : Option (List ℕ)) → All (IsAsked read) (demands_in (with_marker l (line_parts l.text) n marker))
+      of_marker None = of_url (line_parts l.text).url
+      of_marker (Some []) = All-nil (IsAsked read)
+      of_marker (Some (b ∷ marker)) = of_url (line_parts l.text).url
 
-of_kind : (l : FileLine) (kind : LineKind) (x : LineMeaning) → IsKindMeaning l kind x → All IsCovered (demands_in x)
-of_kind l (RequirementsFile path) x is = same_reading x (names_file path) is (of_file (has_variable path) (has_scheme path))
-of_kind l (ConstraintsFile path) x is = same_reading x (names_file path) is (of_file (has_variable path) (has_scheme path))
-of_kind l MissingPath x is = same_reading x _ is (All-nil IsCovered)
-of_kind l Editable x is = same_reading x _ is (All-nil IsCovered)
-of_kind l PipOption x is = same_reading x _ is (All-nil IsCovered)
-of_kind l Variable x is = same_reading x _ is (All-nil IsCovered)
-of_kind l Location x is = same_reading x _ is (All-nil IsCovered)
-of_kind l Requirement x (inl (not_text, is)) = same_reading x _ is (All-nil IsCovered)
-of_kind l Requirement x (inr (text, inl (n, d, is))) = same_reading x (requirement_meaning l (line_parts l.text) n) is (of_marker l n d (line_parts l.text).marker)
-of_kind l Requirement x (inr (text, inr (f, r, is))) = same_reading x _ is (All-nil IsCovered)
+    same_reading : (x y : LineMeaning) → x ≡ y → All (IsAsked read) (demands_in y) → All (IsAsked read) (demands_in x)
+    same_reading x y is k = subst (λ (z : LineMeaning). All (IsAsked read) (demands_in z)) (sym is) k
 
-all_covered : (lines : List FileLine) (xs : List LineMeaning) → AllZip IsMeaning lines xs → All IsCovered (flat_map demands_in xs)
-all_covered [] [] h = All-nil IsCovered
-all_covered [] (x ∷ xs) h = absurd h
-all_covered (l ∷ lines) [] h = absurd h
-all_covered (l ∷ lines) (x ∷ xs) h = All-append IsCovered (demands_in x) (flat_map demands_in xs) (of_kind l (line_kind l.text) x h.0) (all_covered lines xs h.1)
+    of_kind : (kind : LineKind) (x : LineMeaning) → IsKindMeaning l kind x → All (IsAsked read) (demands_in x)
+    of_kind (RequirementsFile path) x is = same_reading x (names_file path) is (of_file (has_variable path) (has_scheme path))
+    of_kind (ConstraintsFile path) x is = same_reading x (names_file path) is (of_file (has_variable path) (has_scheme path))
+    of_kind MissingPath x is = same_reading x _ is (All-nil (IsAsked read))
+    of_kind Editable x is = same_reading x _ is (All-nil (IsAsked read))
+    of_kind PipOption x is = same_reading x _ is (All-nil (IsAsked read))
+    of_kind Variable x is = same_reading x _ is (All-nil (IsAsked read))
+    of_kind Location x is = same_reading x _ is (All-nil (IsAsked read))
+    of_kind Requirement x (inl (not_text, is)) = same_reading x _ is (All-nil (IsAsked read))
+    of_kind Requirement x (inr (text, inl (n, d, is))) = same_reading x (requirement_meaning l (line_parts l.text) n) is (of_marker n d (line_parts l.text).marker)
+    of_kind Requirement x (inr (text, inr (f, r, is))) = same_reading x _ is (All-nil (IsAsked read))
 
--- ---- one line, and two
+  all_asked : (lines : List FileLine) (xs : List LineMeaning) → All (Contains read) lines → AllZip IsMeaning lines xs → All (IsAsked read) (flat_map demands_in xs)
+  all_asked [] [] known h = All-nil (IsAsked read)
+  all_asked [] (x ∷ xs) known h = absurd h
+  all_asked (l ∷ lines) [] known h = absurd h
+  all_asked (l ∷ lines) (x ∷ xs) known h =
+      All-append (IsAsked read) (demands_in x) (flat_map demands_in xs) (of_kind l (All-head (Contains read) l lines known) (line_kind l.text) x h.0)
+      (all_asked lines xs (All-tail (Contains read) l lines known) h.1)
+
+-- ---- ranges, lists and markers
 
 empty_is : (segments : Segments) → is_empty segments ≡ true → segments ≡ []
 empty_is [] e = refl
@@ -104,57 +122,38 @@ right_of false b e = cc e
 holds_none : (segments : Segments) (v : Record) → is_empty segments ≡ true → contains record_cmp segments v ≡ true → ⊥
 holds_none segments v e holds = true≢false (sym holds ∙ ap (λ s. contains record_cmp s v) (empty_is segments e))
 
+both_hold : (a b : Segments) (v : Record) → contains record_cmp a v ≡ true → contains record_cmp b v ≡ true → contains record_cmp (overlaps record_cmp a b) v ≡ true
+both_hold a b v one other = overlaps_hold_both record_total a b v ∙ (λ j. one j && other j)
+
+-- both hold of each
+both : (P Q : Demand → Type 0) (lines : List Demand) → All P lines → All Q lines → All (λ a. P a × Q a) lines
+both P Q [] p q = All-nil (λ a. P a × Q a)
+both P Q (a ∷ lines) p q = All-cons (λ a. P a × Q a) a lines (All-head P a lines p, All-head Q a lines q) (both P Q lines (All-tail P a lines p) (All-tail Q a lines q))
+
+-- what holds of demands holds so of their lines
+mapped : (P : FileLine → Type 0) (Q : Demand → Type 0) → ((a : Demand) → Q a → P a.line) → (lines : List Demand) → All Q lines → All P (map (λ (a : Demand). a.line) lines)
+mapped P Q so [] k = All-nil P
+mapped P Q so (a ∷ lines) k = All-cons P a.line (map (λ (b : Demand). b.line) lines) (so a (All-head Q a lines k)) (mapped P Q so lines (All-tail Q a lines k))
+
+pair : (P : FileLine → Type 0) (l k : FileLine) → P l → P k → All P (l ∷ (k ∷ []))
+pair P l k one other = All-cons P l (k ∷ []) one (All-cons P k [] other (All-nil P))
+
+-- two markers of which one is missing, or which are one
+shared_marker : (m n : Option (List ℕ)) → (is_none n || (is_none m || same_marker m n)) ≡ true → (k : Option (List ℕ)) × ((m ≡ None) ⊎ (m ≡ k)) × ((n ≡ None) ⊎ (n ≡ k))
+shared_marker m None e = (m, inr refl, inl refl)
+shared_marker None (Some n) e = (Some n, inl refl, inr refl)
+shared_marker (Some m) (Some n) e = (Some n, inr (marker_yes (Some m) (Some n) e), inr refl)
+
+counted_marker : (n m : Option (List ℕ)) → (is_none n || same_marker n m) ≡ true → (n ≡ None) ⊎ (n ≡ m)
+counted_marker None m e = inl refl
+counted_marker (Some n) m e = inr (marker_yes (Some n) m e)
+
+-- ---- lines of one name
+
 module _ (read : List FileLine) where
   where_true : (b : Bool) (f : Finding) → (b ≡ true → (IsRight read) f) → All (IsRight read) (if b then f ∷ [] else [])
   where_true true f right = All-cons (IsRight read) f [] (right refl) (All-nil (IsRight read))
   where_true false f right = All-nil (IsRight read)
-
-  one_right : (a : Demand) → IsCovered a → All (IsRight read) (of_one a)
-  one_right a k = where_true (is_empty a.cover) (Conflicting NoVersion (a.line ∷ [])) (λ e v denoted all. holds_none a.cover v e (k v denoted (All-head (LineAllows v) a.line [] all)))
-
-  both_hold : (a b : Segments) (v : Record) → contains record_cmp a v ≡ true → contains record_cmp b v ≡ true → contains record_cmp (overlaps record_cmp a b) v ≡ true
-  both_hold a b v one other = overlaps_hold_both record_total a b v ∙ (λ j. one j && other j)
-
-  two_right : (a b : Demand) → IsCovered a → IsCovered b → All (IsRight read) (of_two a b)
-  two_right a b one other =
-      where_true (excludes a b) (Conflicting (pin_conflict a b) (a.line ∷ b.line ∷ [])) (λ e v denoted all.
-      let apart : pin_is_apart a b ≡ true = right_of (not (is_empty a.cover) && not (is_empty b.cover)) (pin_is_apart a b) (right_of (meets a b) _ e) in
-      let empty : is_empty (overlaps record_cmp a.cover b.cover) ≡ true = right_of (a.pinned || b.pinned) _ apart in
-      holds_none (overlaps record_cmp a.cover b.cover) v empty
-      (both_hold a.cover b.cover v (one v denoted (All-head (LineAllows v) a.line (b.line ∷ []) all))
-      (other v denoted (All-head (LineAllows v) b.line [] (All-tail (LineAllows v) a.line (b.line ∷ []) all)))))
-
-  each_right : (f : Demand → List Finding) → ((a : Demand) → IsCovered a → All (IsRight read) (f a)) → (lines : List Demand) → All IsCovered lines → All (IsRight read) (flat_map f lines)
-  each_right f right [] k = All-nil (IsRight read)
-  each_right f right (a ∷ lines) k = All-append (IsRight read) (f a) (flat_map f lines) (right a (All-head IsCovered a lines k)) (each_right f right lines (All-tail IsCovered a lines k))
-
-  pairs_right : (lines : List Demand) → All IsCovered lines → All (IsRight read) (of_pairs lines)
-  pairs_right [] k = All-nil (IsRight read)
-  pairs_right (a ∷ rest) k =
-      let one = All-head IsCovered a rest k in
-      let others = All-tail IsCovered a rest k in
-      All-append (IsRight read) (flat_map (of_two a) rest) (of_pairs rest) (each_right (of_two a) (λ b other. two_right a b one other) rest others) (pairs_right rest others)
-
-  few_right : (lines : List Demand) → All IsCovered lines → All (IsRight read) (of_few lines)
-  few_right lines k = All-append (IsRight read) (flat_map of_one lines) (of_pairs lines) (each_right of_one one_right lines k) (pairs_right lines k)
-
-  -- ---- lines that count together
-
-  all_hold : (v : Record) → IsDenoted v → (cover : Segments) (lines : List Demand) → contains record_cmp cover v ≡ true → All IsCovered lines → All (LineAllows v) (map (λ (a : Demand). a.line) lines)
-      → contains record_cmp (fold (λ c (a : Demand). overlaps record_cmp c a.cover) cover lines) v ≡ true
-  all_hold v denoted cover [] holds k all = holds
-  all_hold v denoted cover (a ∷ lines) holds k all =
-      all_hold v denoted (overlaps record_cmp cover a.cover) lines
-      (both_hold cover a.cover v holds (All-head IsCovered a lines k v denoted (All-head (LineAllows v) a.line (map (λ (b : Demand). b.line) lines) all)))
-      (All-tail IsCovered a lines k) (All-tail (LineAllows v) a.line (map (λ (b : Demand). b.line) lines) all)
-
-  all_right : (lines : List Demand) → All IsCovered lines → All (IsRight read) (of_all lines)
-  all_right lines k =
-      where_true (is_empty (common_cover lines) && (length (of_few lines) == 0)) (Conflicting NoVersion (map (λ (a : Demand). a.line) lines)) (λ e v denoted all.
-      holds_none (common_cover lines) v (left_of (is_empty (common_cover lines)) _ e) (all_hold v denoted full lines refl k all))
-
-  under_right : (marker : Option (List ℕ)) (lines : List Demand) → All IsCovered lines → All (IsRight read) (of_all (under marker lines))
-  under_right marker lines k = all_right (under marker lines) (All-filter (counts_under marker) IsCovered lines k)
 
   any_right : (f : Demand → List Finding) → ((a : Demand) → All (IsRight read) (f a)) → (lines : List Demand) → All (IsRight read) (flat_map f lines)
   any_right f right [] = All-nil (IsRight read)
@@ -164,17 +163,121 @@ module _ (read : List FileLine) where
   by_empty true one other right also = right
   by_empty false one other right also = also
 
-  markers_right : (lines : List Demand) → All IsCovered lines → All (IsRight read) (of_markers lines)
-  markers_right lines k =
-      by_empty (is_empty (common_cover (under None lines))) _ _ (under_right None lines k)
-      (any_right (λ (a : Demand). of_all (under a.marker lines)) (λ a. under_right a.marker lines k) (first_mentions has_same_marker [] lines))
+  module _ (name : List ℕ) where
+    abbrev pub IsNamed : Demand → Type 0
+    IsNamed a = IsAsked read a × (same_name name a.name ≡ true)
 
-  name_right : (lines : List Demand) → All IsCovered lines → All (IsRight read) (of_name lines)
-  name_right lines k = All-append (IsRight read) (of_few lines) (of_markers lines) (few_right lines k) (markers_right lines k)
+    asks_for : (a : Demand) → IsNamed a → AsksFor name a.line
+    asks_for a ((covered, known, (n, d, called, pinned), marked), same) = (n, d, ap (same_name name) called ∙ same)
 
-  conflicts_right : (lines : List Demand) → All IsCovered lines → All (IsRight read) (conflicts lines)
+    counts_line : (marker : Option (List ℕ)) (a : Demand) → IsNamed a → (a.marker ≡ None) ⊎ (a.marker ≡ marker) → CountsUnder marker a.line
+    counts_line marker a ((covered, known, derived, marked), same) (inl none) = inl (marked ∙ none)
+    counts_line marker a ((covered, known, derived, marked), same) (inr is) = inr (marked ∙ is)
+
+    names_version : (a : Demand) → IsNamed a → a.pinned ≡ true → NamesVersion a.line
+    names_version a ((covered, known, (n, d, called, pinned), marked), same) names = (n, d, pinned ∙ names)
+
+    names_none : (a : Demand) → IsNamed a → a.pinned ≡ false → NamesVersion a.line → ⊥
+    names_none a ((covered, known, (n, d, called, pinned), marked), same) free (m, e, holds) =
+        let one : n ≡ m = one_requirement (line_parts a.line.text).requirement n m d e in
+        true≢false (sym holds ∙ sym (ap (λ (q : Needed). is_pinned q.specifiers) one) ∙ pinned ∙ free)
+
+    -- ---- one line, and two
+
+    one_right : (a : Demand) → IsNamed a → All (IsRight read) (of_one a)
+    one_right a k =
+        where_true (is_empty a.cover) (Conflicting NoVersion (a.line ∷ [])) (λ e. (
+          All-cons (Contains read) a.line [] k.0.1 (All-nil (Contains read)),
+          (
+            name,
+            a.marker,
+            All-cons (AsksFor name) a.line [] (asks_for a k) (All-nil (AsksFor name)),
+            All-cons (CountsUnder a.marker) a.line [] (counts_line a.marker a k (inr refl)) (All-nil (CountsUnder a.marker)),
+          ),
+          tt,
+          λ v denoted all. holds_none a.cover v e (k.0.0 v denoted (All-head (LineAllows v) a.line [] all)),
+        ))
+
+    two_together : (a b : Demand) → IsNamed a → IsNamed b → meets a b ≡ true → CountTogether (a.line ∷ (b.line ∷ []))
+    two_together a b one other e =
+        let k = shared_marker a.marker b.marker e in
+        (name, k.0, pair (AsksFor name) a.line b.line (asks_for a one) (asks_for b other), pair (CountsUnder k.0) a.line b.line (counts_line k.0 a one k.1) (counts_line k.0 b other k.2))
+
+    fits : (a b : Demand) → IsNamed a → IsNamed b → (p q : Bool) → a.pinned ≡ p → b.pinned ≡ q → (p || q) ≡ true → FitsConflict (if p && q then TwoPins else PinOutside) (a.line ∷ (b.line ∷ []))
+    fits a b one other true true p q e = (a.line, b.line, refl, names_version a one p, names_version b other q)
+    fits a b one other true false p q e = (a.line, b.line, refl, inl (names_version a one p), λ two. names_none b other q two.1)
+    fits a b one other false true p q e = (a.line, b.line, refl, inr (names_version b other q), λ two. names_none a one p two.0)
+    fits a b one other false false p q e = absurd (true≢false (sym e))
+
+    two_right : (a b : Demand) → IsNamed a → IsNamed b → All (IsRight read) (of_two a b)
+    two_right a b one other =
+        where_true (excludes a b) (Conflicting (pin_conflict a b) (a.line ∷ b.line ∷ [])) (λ e.
+        let apart : pin_is_apart a b ≡ true = right_of (not (is_empty a.cover) && not (is_empty b.cover)) (pin_is_apart a b) (right_of (meets a b) _ e) in
+        let empty : is_empty (overlaps record_cmp a.cover b.cover) ≡ true = right_of (a.pinned || b.pinned) _ apart in (
+          pair (Contains read) a.line b.line one.0.1 other.0.1,
+          two_together a b one other (left_of (meets a b) _ e),
+          fits a b one other a.pinned b.pinned refl refl (left_of (a.pinned || b.pinned) _ apart),
+          λ v denoted all.
+              holds_none (overlaps record_cmp a.cover b.cover) v empty
+              (both_hold a.cover b.cover v (one.0.0 v denoted (All-head (LineAllows v) a.line (b.line ∷ []) all))
+              (other.0.0 v denoted (All-head (LineAllows v) b.line [] (All-tail (LineAllows v) a.line (b.line ∷ []) all)))),
+        ))
+
+    each_right : (f : Demand → List Finding) → ((a : Demand) → IsNamed a → All (IsRight read) (f a)) → (lines : List Demand) → All IsNamed lines → All (IsRight read) (flat_map f lines)
+    each_right f right [] k = All-nil (IsRight read)
+    each_right f right (a ∷ lines) k = All-append (IsRight read) (f a) (flat_map f lines) (right a (All-head IsNamed a lines k)) (each_right f right lines (All-tail IsNamed a lines k))
+
+    pairs_right : (lines : List Demand) → All IsNamed lines → All (IsRight read) (of_pairs lines)
+    pairs_right [] k = All-nil (IsRight read)
+    pairs_right (a ∷ rest) k =
+        let one = All-head IsNamed a rest k in
+        let others = All-tail IsNamed a rest k in
+        All-append (IsRight read) (flat_map (of_two a) rest) (of_pairs rest) (each_right (of_two a) (λ b other. two_right a b one other) rest others) (pairs_right rest others)
+
+    few_right : (lines : List Demand) → All IsNamed lines → All (IsRight read) (of_few lines)
+    few_right lines k = All-append (IsRight read) (flat_map of_one lines) (of_pairs lines) (each_right of_one one_right lines k) (pairs_right lines k)
+
+    -- ---- lines that count together
+
+    all_hold : (v : Record) → IsDenoted v → (cover : Segments) (lines : List Demand) → contains record_cmp cover v ≡ true → All IsNamed lines → All (LineAllows v) (map (λ (a : Demand). a.line) lines)
+        → contains record_cmp (fold (λ c (a : Demand). overlaps record_cmp c a.cover) cover lines) v ≡ true
+    all_hold v denoted cover [] holds k all = holds
+    all_hold v denoted cover (a ∷ lines) holds k all =
+        let one = All-head IsNamed a lines k in
+        all_hold v denoted (overlaps record_cmp cover a.cover) lines
+        (both_hold cover a.cover v holds (one.0.0 v denoted (All-head (LineAllows v) a.line (map (λ (b : Demand). b.line) lines) all)))
+        (All-tail IsNamed a lines k) (All-tail (LineAllows v) a.line (map (λ (b : Demand). b.line) lines) all)
+
+    abbrev pub Counts : Option (List ℕ) → Demand → Type 0
+    Counts marker a = IsNamed a × (counts_under marker a ≡ true)
+
+    all_right : (marker : Option (List ℕ)) (lines : List Demand) → All IsNamed lines → All (Counts marker) lines → All (IsRight read) (of_all lines)
+    all_right marker lines named k =
+        where_true (is_empty (common_cover lines) && (length (of_few lines) == 0)) (Conflicting NoVersion (map (λ (a : Demand). a.line) lines)) (λ e. (
+          mapped (Contains read) IsNamed (λ a one. one.0.1) lines named,
+          (name, marker, mapped (AsksFor name) IsNamed asks_for lines named, mapped (CountsUnder marker) (Counts marker) (λ a one. counts_line marker a one.0 (counted_marker a.marker marker one.1)) lines k),
+          tt,
+          λ v denoted all. holds_none (common_cover lines) v (left_of (is_empty (common_cover lines)) _ e) (all_hold v denoted full lines refl named all),
+        ))
+
+    under_right : (marker : Option (List ℕ)) (lines : List Demand) → All IsNamed lines → All (IsRight read) (of_all (under marker lines))
+    under_right marker lines k =
+        let named = All-filter (counts_under marker) IsNamed lines k in
+        all_right marker (under marker lines) named (both IsNamed (λ a. counts_under marker a ≡ true) (under marker lines) named (filter_passes (counts_under marker) lines))
+
+    markers_right : (lines : List Demand) → All IsNamed lines → All (IsRight read) (of_markers lines)
+    markers_right lines k =
+        by_empty (is_empty (common_cover (under None lines))) _ _ (under_right None lines k)
+        (any_right (λ (a : Demand). of_all (under a.marker lines)) (λ a. under_right a.marker lines k) (first_mentions has_same_marker [] lines))
+
+    name_right : (lines : List Demand) → All IsNamed lines → All (IsRight read) (of_name lines)
+    name_right lines k = All-append (IsRight read) (of_few lines) (of_markers lines) (few_right lines k) (markers_right lines k)
+
+  conflicts_right : (lines : List Demand) → All (IsAsked read) lines → All (IsRight read) (conflicts lines)
   conflicts_right lines k =
-      any_right (λ (a : Demand). of_name (filter (has_same_name a) lines)) (λ a. name_right (filter (has_same_name a) lines) (All-filter (has_same_name a) IsCovered lines k)) (first_mentions has_same_name [] lines)
+      any_right (λ (a : Demand). of_name (filter (has_same_name a) lines))
+      (λ a. name_right a.name (filter (has_same_name a) lines) (both (IsAsked read) (λ b. has_same_name a b ≡ true) (filter (has_same_name a) lines) (All-filter (has_same_name a) (IsAsked read) lines k) (filter_passes (has_same_name a) lines)))
+      (first_mentions has_same_name [] lines)
 
 -- ---- all findings
 
@@ -183,4 +286,4 @@ findings_hold files r (xs, h, is) =
     let lines = all_lines files in
     subst (λ (q : Report). All (IsRight lines) q.findings) (sym is)
     (All-append (IsRight lines) (flat_map invalid_in xs) (conflicts (flat_map demands_in xs)) (invalid_right lines lines xs (All-contains_itself lines) h)
-    (conflicts_right lines (flat_map demands_in xs) (all_covered lines xs h)))
+    (conflicts_right lines (flat_map demands_in xs) (all_asked lines lines xs (All-contains_itself lines) h)))

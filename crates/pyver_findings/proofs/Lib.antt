@@ -4,5 +4,6 @@ pub mod Readings
 pub mod Rejecting
 pub mod Holding
 pub mod Found
+pub mod InvalidFound
 pub mod Once
 pub mod Folders

@@ -31,7 +31,7 @@ of_kind l Requirement x y (inr (text, inr (f, r, a))) (inr (again, inr (g, s, b)
 pub meanings_once : MeaningsOnce
 meanings_once l x y a b = of_kind l (line_kind l.text) x y a b
 
-of_lines : (lines : List FileLine) (xs ys : List LineMeaning) → AllZip IsMeaning lines xs → AllZip IsMeaning lines ys → xs ≡ ys
+pub of_lines : (lines : List FileLine) (xs ys : List LineMeaning) → AllZip IsMeaning lines xs → AllZip IsMeaning lines ys → xs ≡ ys
 of_lines [] [] [] h k = refl
 of_lines [] [] (y ∷ ys) h k = absurd k
 of_lines [] (x ∷ xs) ys h k = absurd h

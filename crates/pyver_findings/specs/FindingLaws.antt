@@ -1,19 +1,23 @@
--- What holds of findings: a line that is reported alone is no requirement, lines that are reported together cannot be satisfied,
--- those that have no version in common are reported, and there is one report.
-use Rattle.std.specs.Prelude.{◌≡◌, ◌⊎◌, ℕ, List, [], IsTrue, Option, Some, None, map}
-use Rattle.std.specs.List.{All, Any, Contains, filter}
+-- What holds of findings: a line that is reported alone is no requirement, and each that is none is reported; lines that are
+-- reported together count together and cannot be satisfied, and those that have no version in common are reported; there is one
+-- report.
+use Rattle.std.specs.Prelude.{◌≡◌, ◌⊎◌, ⊤, ℕ, List, [], ◌∷◌, IsTrue, Option, Some, None, map}
+use Rattle.std.specs.List.{All, AllZip, Any, Contains, filter, flat_map}
 use Rattle.std.specs.Str.{IsUtf8}
+use Rattle.pep440_pick.specs.Names.{same_name}
 use Rattle.pep440_pick.specs.RequirementGrammar.{DerivesRequirement, Needed}
 use Rattle.pep440_rs.specs.Cover.{IsDenoted}
 use Rattle.pep440_rs.specs.Matching.{list_matches}
 use Rattle.pep440_version.specs.Record.{Record}
-use Rattle.pyver_findings.specs.Demands.{Demand}
-use Rattle.pyver_findings.specs.Conflicts.{common_cover, conflicts, has_same_name, under}
+use Rattle.pyver_findings.specs.Conflicts.{common_cover, has_same_name, under}
+use Rattle.pyver_findings.specs.Demands.{Demand, is_pinned}
 use Rattle.pyver_findings.specs.FileLines.{File, FileLine, all_lines}
 use Rattle.pyver_findings.specs.Findings.{Conflicting, Finding, NoRequirement}
 use Rattle.pyver_findings.specs.LineMeanings.{IsMeaning, IsNone, LineMeaning}
-use Rattle.pyver_findings.specs.Reports.{IsReport, Report}
-use Rattle.pyver_requirements.specs.LineKinds.{Requirement, line_kind}
+use Rattle.pyver_findings.specs.Reports.{IsReport, Report, demands_in}
+use Rattle.pyver_findings.specs.declared.finding.Conflict.{Conflict}
+use Rattle.pyver_findings.specs.declared.finding.Conflict.TheVariants.{NoVersion, PinOutside, TwoPins}
+use Rattle.pyver_requirements.specs.LineKinds.{MissingPath, Requirement, line_kind}
 use Rattle.pyver_requirements.specs.LineParts.{LineParts, line_parts}
 
 -- the line is a requirement whose list contains the version
@@ -29,25 +33,65 @@ abbrev pub IsRequirementLine : FileLine → Type 0
 IsRequirementLine l = (line_kind l.text ≡ Requirement) × IsUtf8 (line_parts l.text).requirement
     × ((n : Needed) × DerivesRequirement (line_parts l.text).requirement n × IsComplete (line_parts l.text) n)
 
--- a line that is reported alone is one of these lines and no requirement, and has this reason and column; of lines that are reported
--- together, no version is allowed by all
+-- the line asks for this name
+abbrev pub AsksFor : List ℕ → FileLine → Type 0
+AsksFor name l = (n : Needed) × DerivesRequirement (line_parts l.text).requirement n × IsTrue (same_name name n.name)
+
+-- the line has no marker, or this one
+abbrev pub CountsUnder : Option (List ℕ) → FileLine → Type 0
+CountsUnder marker l = ((line_parts l.text).marker ≡ None) ⊎ ((line_parts l.text).marker ≡ marker)
+
+-- the lines ask for one name, and no two of them have different markers
+abbrev pub CountTogether : List FileLine → Type 0
+CountTogether together = (name : List ℕ) × (marker : Option (List ℕ)) × All (AsksFor name) together × All (CountsUnder marker) together
+
+-- the line names a version, by `==` or `===`
+abbrev pub NamesVersion : FileLine → Type 0
+NamesVersion l = (n : Needed) × DerivesRequirement (line_parts l.text).requirement n × IsTrue (is_pinned n.specifiers)
+
+-- two lines name versions; one of two does, and the other does not
+abbrev pub FitsConflict : Conflict → List FileLine → Type 0
+FitsConflict NoVersion together = ⊤
+FitsConflict TwoPins together = (a : FileLine) × (b : FileLine) × (together ≡ a ∷ (b ∷ [])) × NamesVersion a × NamesVersion b
+FitsConflict PinOutside together = (a : FileLine) × (b : FileLine) × (together ≡ a ∷ (b ∷ [])) × (NamesVersion a ⊎ NamesVersion b) × (¬ (NamesVersion a × NamesVersion b))
+
+-- a line that is reported alone is one of these lines and no requirement, and has this reason and column; lines that are reported
+-- together are some of these, count together, and no version is allowed by all
 abbrev pub IsRight : List FileLine → Finding → Type 0
 IsRight lines (NoRequirement l reason column) = Contains lines l × (¬ IsRequirementLine l) × IsMeaning l (IsNone (NoRequirement l reason column))
-IsRight lines (Conflicting conflict together) = (v : Record) → IsDenoted v → ¬ All (LineAllows v) together
+IsRight lines (Conflicting conflict together) =
+    All (Contains lines) together × CountTogether together × FitsConflict conflict together × ((v : Record) → IsDenoted v → ¬ All (LineAllows v) together)
 
 -- each finding of a report is right
 abbrev pub FindingsHold : Type 0
 FindingsHold = (files : List File) (r : Report) → IsReport files r → All (IsRight (all_lines files)) r.findings
 
+-- the line is reported alone
+abbrev pub IsAlone : FileLine → Finding → Type 0
+IsAlone line (NoRequirement l reason column) = l ≡ line
+IsAlone line (Conflicting conflict reported) = ⊥
+
+-- a line that ought to be a requirement, and is none
+abbrev pub LacksRequirement : FileLine → Type 0
+LacksRequirement l = (line_kind l.text ≡ MissingPath) ⊎ ((line_kind l.text ≡ Requirement) × (¬ IsRequirementLine l))
+
+-- each line that ought to be a requirement and is none is reported
+abbrev pub InvalidLinesAreFound : Type 0
+InvalidLinesAreFound = (files : List File) (r : Report) (l : FileLine) → IsReport files r → Contains (all_lines files) l → LacksRequirement l → Any (IsAlone l) r.findings
+
 -- some of these lines are reported together, and no others
 abbrev pub IsAmong : List FileLine → Finding → Type 0
 IsAmong lines (NoRequirement l reason column) = ⊥
-IsAmong lines (Conflicting conflict reported) = All (Contains lines) reported
+IsAmong lines (Conflicting conflict reported) = (¬ (reported ≡ [])) × All (Contains lines) reported
+
+-- the requirements of the files
+abbrev pub AreDemands : List File → List Demand → Type 0
+AreDemands files demands = (xs : List LineMeaning) × AllZip IsMeaning (all_lines files) xs × (demands ≡ flat_map demands_in xs)
 
 -- where the covers of the lines of a name that count under a marker have nothing in common, some of these lines are reported together
 abbrev pub ConflictsAreFound : Type 0
-ConflictsAreFound = (lines : List Demand) (a : Demand) (marker : Option (List ℕ)) → Contains lines a → common_cover (under marker (filter (has_same_name a) lines)) ≡ []
-    → Any (IsAmong (map (λ (b : Demand). b.line) (under marker (filter (has_same_name a) lines)))) (conflicts lines)
+ConflictsAreFound = (files : List File) (r : Report) (lines : List Demand) (a : Demand) (marker : Option (List ℕ)) → IsReport files r → AreDemands files lines → Contains lines a
+    → common_cover (under marker (filter (has_same_name a) lines)) ≡ [] → Any (IsAmong (map (λ (b : Demand). b.line) (under marker (filter (has_same_name a) lines)))) r.findings
 
 -- a line has at most one meaning
 abbrev pub MeaningsOnce : Type 0

@@ -1,10 +1,16 @@
 //! What holds of findings, as the contract of a function that does nothing.
-ghost use Rattle.pyver_findings.specs.FindingLaws.{ConflictsAreFound, FindingsHold, MeaningsOnce, ReportsOnce};
+ghost use Rattle.pyver_findings.specs.FindingLaws.{ConflictsAreFound, FindingsHold, InvalidLinesAreFound, MeaningsOnce, ReportsOnce};
 
 /// A line that is reported alone is a line of the files and no requirement, for the reason and at the column that are
-/// reported. Of lines that are reported together, no version is allowed by all.
+/// reported. Lines that are reported together are lines of the files, ask for one name and have no two markers; no
+/// version is allowed by all; and one or two of them name a version where that is reported.
 pub fn findings_hold()
     ensures { FindingsHold }
+{}
+
+/// Each line that ought to be a requirement and is none, or that has no path behind `-r` or `-c`, is reported.
+pub fn invalid_lines_are_found()
+    ensures { InvalidLinesAreFound }
 {}
 
 /// Where the covers of the lines of a name that count under a marker have nothing in common, some of these lines are

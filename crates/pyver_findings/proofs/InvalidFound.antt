@@ -1,0 +1,73 @@
+-- A line that ought to be a requirement and is none is reported.
+use Rattle.std.proofs.Common.{arith, ◌≡◌, ◌==◌, ◌<◌, ◌∙◌, ℕ, List, [], ◌∷◌, Bool, true, false, Option, Some, None, get_or, length, refl, sym, subst, inl, inr, suc, zero, if◌then◌else◌}
+use Rattle.std.proofs.lemmas.Bool.{eqb-true}
+use Rattle.std.specs.List.{AllZip, flat_map}
+use Rattle.std.specs.Str.{IsUtf8}
+use Rattle.pep440_pick.specs.RequirementGrammar.{DerivesRequirement, Needed}
+use Rattle.pep440_rs.specs.Specifiers.{Spec}
+use Rattle.pyver_findings.proofs.Found.{Some_is, any_is, in_left, in_right}
+use Rattle.pyver_findings.specs.Conflicts.{conflicts}
+use Rattle.pyver_findings.specs.FileLines.{FileLine, all_lines}
+use Rattle.pyver_findings.specs.FindingLaws.{InvalidLinesAreFound, IsAlone, IsRequirementLine, LacksRequirement}
+use Rattle.pyver_findings.specs.Findings.{NoRequirement}
+use Rattle.pyver_findings.specs.LineMeanings.{IsNone, LeftOut, LineMeaning, IsKindMeaning, IsMeaning, not_utf8, refusal_meaning, requirement_meaning, with_marker, with_url, without_path}
+use Rattle.pyver_findings.specs.Reports.{Report, demands_in, invalid_in}
+use Rattle.pyver_findings.specs.declared.cause.Cause.TheVariants as cause
+use Rattle.pyver_requirements.specs.LineKinds.{ConstraintsFile, Editable, LineKind, Location, MissingPath, PipOption, Requirement, RequirementsFile, Variable, line_kind}
+use Rattle.pyver_requirements.specs.LineParts.{line_parts}
+
+no_members : (list : List Spec) → (length list == 0) ≡ true → list ≡ []
+no_members [] e = refl
+no_members (m ∷ list) e = let none : length (m ∷ list) ≡ 0 = eqb-true (length (m ∷ list)) 0 e in absurd (omega (arith, none))
+
+module _ (l : FileLine) where
+  -- what stands before `@` and `;` is a requirement
+  module _ (kind : line_kind l.text ≡ Requirement) (text : IsUtf8 (line_parts l.text).requirement) (n : Needed) (d : DerivesRequirement (line_parts l.text).requirement n) (lacks : IsRequirementLine l → ⊥) where
+    by_list : ((line_parts l.text).marker ≡ Some [] → ⊥) → ((line_parts l.text).url ≡ Some [] → ⊥) → (b : Bool) (reason : List ℕ) (column : ℕ) → (length n.specifiers == 0) ≡ b
+        → Some_is (IsAlone l) (invalid_in (if b then LeftOut cause.Url else IsNone (NoRequirement l reason column)))
+    by_list marker url true reason column none = absurd (lacks (kind, text, (n, d, (marker, url, inr (no_members n.specifiers none)))))
+    by_list marker url false reason column none = inl refl
+
+    by_url : ((line_parts l.text).marker ≡ Some [] → ⊥) → (url : Option (List ℕ)) → (line_parts l.text).url ≡ url → Some_is (IsAlone l) (invalid_in (with_url l (line_parts l.text) n url))
+    by_url marker None is = absurd (lacks (kind, text, (n, d, (marker, λ empty. let same : None ≡ Some [] = sym is ∙ empty in cc same, inl is))))
+    by_url marker (Some []) is = inl refl
+    by_url marker (Some (b ∷ url)) is = by_list marker (λ empty. let same : Some (b ∷ url) ≡ Some [] = sym is ∙ empty in cc same) (length n.specifiers == 0) _ _ refl
+
+    by_marker : (marker : Option (List ℕ)) → (line_parts l.text).marker ≡ marker → Some_is (IsAlone l) (invalid_in (with_marker l (line_parts l.text) n marker))
+    by_marker None is = by_url (λ empty. let same : None ≡ Some [] = sym is ∙ empty in cc same) (line_parts l.text).url refl
+    by_marker (Some []) is = inl refl
+    by_marker (Some (b ∷ marker)) is = by_url (λ empty. let same : Some (b ∷ marker) ≡ Some [] = sym is ∙ empty in cc same) (line_parts l.text).url refl
+
+  same_found : (x y : LineMeaning) → x ≡ y → Some_is (IsAlone l) (invalid_in y) → Some_is (IsAlone l) (invalid_in x)
+  same_found x y is k = subst (λ (z : LineMeaning). Some_is (IsAlone l) (invalid_in z)) (sym is) k
+
+  -- a line of another kind is none of those that ought to be requirements
+  other : {X : Type 0} (kind : LineKind) → (kind ≡ MissingPath → ⊥) → (kind ≡ Requirement → ⊥) → line_kind l.text ≡ kind → LacksRequirement l → X
+  other kind path requirement is (inl missing) = absurd (path (sym is ∙ missing))
+  other kind path requirement is (inr lacks) = absurd (requirement (sym is ∙ lacks.0))
+
+  by_kind : (kind : LineKind) (x : LineMeaning) → line_kind l.text ≡ kind → LacksRequirement l → IsKindMeaning l kind x → Some_is (IsAlone l) (invalid_in x)
+  by_kind (RequirementsFile path) x kind lacks is = other (RequirementsFile path) (λ e. cc e) (λ e. cc e) kind lacks
+  by_kind (ConstraintsFile path) x kind lacks is = other (ConstraintsFile path) (λ e. cc e) (λ e. cc e) kind lacks
+  by_kind MissingPath x kind lacks is = same_found x (without_path l) is (inl refl)
+  by_kind Editable x kind lacks is = other Editable (λ e. cc e) (λ e. cc e) kind lacks
+  by_kind PipOption x kind lacks is = other PipOption (λ e. cc e) (λ e. cc e) kind lacks
+  by_kind Variable x kind lacks is = other Variable (λ e. cc e) (λ e. cc e) kind lacks
+  by_kind Location x kind lacks is = other Location (λ e. cc e) (λ e. cc e) kind lacks
+  by_kind Requirement x kind (inl missing) is = let same : Requirement ≡ MissingPath = sym kind ∙ missing in cc same
+  by_kind Requirement x kind (inr lacks) (inl (none, is)) = same_found x (not_utf8 l) is (inl refl)
+  by_kind Requirement x kind (inr lacks) (inr (text, inl (n, d, is))) = same_found x (requirement_meaning l (line_parts l.text) n) is (by_marker kind text n d lacks.1 (line_parts l.text).marker refl)
+  by_kind Requirement x kind (inr lacks) (inr (text, inr (f, r, is))) = same_found x (refusal_meaning l (line_parts l.text) f) is (inl refl)
+
+  in_lines : LacksRequirement l → (lines : List FileLine) (xs : List LineMeaning) (k : ℕ) → k < length lines → get_or lines k l ≡ l → AllZip IsMeaning lines xs → Some_is (IsAlone l) (flat_map invalid_in xs)
+  in_lines lacks [] xs k inside is h = absurd (omega (arith, inside))
+  in_lines lacks (m ∷ lines) [] k inside is h = absurd h
+  in_lines lacks (m ∷ lines) (x ∷ xs) zero inside is h =
+      in_left (IsAlone l) (invalid_in x) (flat_map invalid_in xs) (by_kind (line_kind l.text) x refl lacks (subst (λ (q : FileLine). IsMeaning q x) is h.0))
+  in_lines lacks (m ∷ lines) (x ∷ xs) (suc k) inside is h = in_right (IsAlone l) (invalid_in x) (flat_map invalid_in xs) (in_lines lacks lines xs k (omega (arith, inside)) is h.1)
+
+pub invalid_lines_are_found : InvalidLinesAreFound
+invalid_lines_are_found files r l (xs, h, is) (k, inside, at) lacks =
+    any_is (IsAlone l) r.findings
+    (subst (λ (q : Report). Some_is (IsAlone l) q.findings) (sym is)
+    (in_left (IsAlone l) (flat_map invalid_in xs) (conflicts (flat_map demands_in xs)) (in_lines l lacks (all_lines files) xs k inside at h)))
