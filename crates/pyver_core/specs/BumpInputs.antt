@@ -2,20 +2,16 @@
 use Rattle.std.specs.Prelude.{◌≡◌, ℕ, List, [], ◌∷◌, Option, codes}
 use Rattle.pyver_core.specs.Bumps.{bump, result_outcome}
 use Rattle.pyver_core.specs.LineOptions.{no_line_options}
-use Rattle.pyver_core.specs.Outcomes.{Outcome}
+use Rattle.pyver_core.specs.Outcomes.{Outcome, message_outcome}
 use Rattle.pyver_core.specs.Sources.{Input}
 use Rattle.pyver_core.specs.VersionLines.{InputParts, OfVersions, VersionLine}
 use Rattle.pyver_core.specs.declared.bump.BumpPart.{BumpPart}
 
--- standard input has not one version: this message and status 2
-abbrev pub count_outcome : List ℕ → Outcome
-count_outcome message = record { output = []; errors = message; status = 2 }
-
 -- what is written of the lines that are versions, of which there has to be one
 abbrev pub only_outcome : Option ℕ → List BumpPart → List VersionLine → Outcome
-only_outcome to parts [] = count_outcome (codes "pyver: no version on standard input\n")
+only_outcome to parts [] = message_outcome (codes "pyver: no version on standard input\n")
 only_outcome to parts (line ∷ []) = result_outcome line.text (bump to parts line.version)
-only_outcome to parts (line ∷ (next ∷ rest)) = count_outcome (codes "pyver: more than one version on standard input\n")
+only_outcome to parts (line ∷ (next ∷ rest)) = message_outcome (codes "pyver: more than one version on standard input\n")
 
 -- what is written of lines that were read, none of them invalid
 abbrev pub BumpsOnly : Option ℕ → List BumpPart → InputParts → Outcome → Type 0

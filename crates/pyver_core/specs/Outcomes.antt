@@ -17,6 +17,10 @@ no_outcome = record { output = []; errors = []; status = 0 }
 abbrev pub silent : ℕ → Outcome
 silent status = record { output = []; errors = []; status = status }
 
+-- the outcome of a wrong use, or of input that is not as it has to be: a message, and status 2
+abbrev pub message_outcome : List ℕ → Outcome
+message_outcome message = record { output = []; errors = message; status = 2 }
+
 -- the outcome of an invalid word or line: its message and status 2
 abbrev pub fault : List ℕ → List ℕ → Outcome
 fault word reason = record { output = []; errors = fault_message word reason; status = 2 }

@@ -13,7 +13,7 @@ use Rattle.pyver_core.specs.Matches.{Matches}
 use Rattle.pyver_core.specs.Messages.{unknown_message, usage_message}
 use Rattle.pyver_core.specs.Newest.{FindsNewestLine}
 use Rattle.pyver_core.specs.Numbers.{word_number}
-use Rattle.pyver_core.specs.Outcomes.{Outcome}
+use Rattle.pyver_core.specs.Outcomes.{Outcome, message_outcome}
 use Rattle.pyver_core.specs.Parts.{part_of}
 use Rattle.pyver_core.specs.Shows.{Shows}
 use Rattle.pyver_core.specs.Sorts.{SortsLines}
@@ -514,10 +514,6 @@ task_of (word ∷ rest) =
 abbrev pub printed : List ℕ → Outcome
 printed text = record { output = text; errors = []; status = 0 }
 
--- the outcome of a wrong use: a message on standard error, and status 2
-abbrev pub misuse : List ℕ → Outcome
-misuse message = record { output = []; errors = message; status = 2 }
-
 -- the outcome of a task, if this is what is read; what `check` prints depends on whole files
 abbrev pub IsOutcome : Task → Input → Outcome → Type 0
 IsOutcome (Help about) input o = o ≡ printed (help_text about)
@@ -532,7 +528,7 @@ IsOutcome (Bump to parts None) input o = BumpsInput to parts input o
 IsOutcome (Bump to parts (Some word)) input o = Bumps to parts word o
 IsOutcome (Range options words) input o = FindsCommon options words o
 IsOutcome (Check json names) input o = ⊥
-IsOutcome (Misused message) input o = o ≡ misuse message
+IsOutcome (Misused message) input o = o ≡ message_outcome message
 
 -- the task is to check files
 abbrev pub IsCheck : Task → Type 0

@@ -1,7 +1,8 @@
 // `bump` without a version among the words.
 ghost use Rattle.std.specs.Prelude.{◌≡◌, IfOk, map};
 ghost use Rattle.pyver_core.specs.AnswerViews.{outcome_of};
-ghost use Rattle.pyver_core.specs.BumpInputs.{BumpsOnly, count_outcome, only_outcome};
+ghost use Rattle.pyver_core.specs.BumpInputs.{BumpsOnly, only_outcome};
+ghost use Rattle.pyver_core.specs.Outcomes.{message_outcome};
 ghost use Rattle.pyver_core.specs.VersionLineViews.{input_parts_of, version_line_of};
 
 use crate::answer::Answer;
@@ -18,7 +19,7 @@ pub(crate) struct BumpRule {
 
 /// There is not one version: this is said.
 fn report_count(alloc: Global, message: &str) -> Result<Answer, AllocError>
-    ensures { IfOk result (λ a. outcome_of a ≡ count_outcome message.now) }
+    ensures { IfOk result (λ a. outcome_of a ≡ message_outcome message.now) }
 {
     let mut answer = Answer::silent(alloc, 2);
     answer.errors.extend_from_slice(message.as_bytes())?;

@@ -2,7 +2,8 @@
 ghost use Rattle.std.specs.Prelude.{◌≡◌, [], ◌∷◌, IfOk, map, option_map, string_bytes};
 ghost use Rattle.pyver_core.specs.AnswerViews.{outcome_of};
 ghost use Rattle.pyver_core.specs.TaskViews.{task};
-ghost use Rattle.pyver_core.specs.Tasks.{Filter, Newest, bump_from_words, compare_rest, compare_task, compare_words, is_help, is_option, match_operands, match_option, match_rest, match_task, misuse, no_match_options, printed, task_of};
+ghost use Rattle.pyver_core.specs.Outcomes.{message_outcome};
+ghost use Rattle.pyver_core.specs.Tasks.{Filter, Newest, bump_from_words, compare_rest, compare_task, compare_words, is_help, is_option, match_operands, match_option, match_rest, match_task, no_match_options, printed, task_of};
 ghost use Rattle.pyver_core.specs.TaskViews.{misuse_message};
 ghost use Rattle.pyver_core.specs.WorkViews.{IsWork};
 
@@ -332,7 +333,7 @@ fn print_text(alloc: Global, text: &str) -> Result<Answer, AllocError>
 }
 
 fn report_misuse(alloc: Global, why: Misuse<'_>) -> Result<Answer, AllocError>
-    ensures { IfOk result (λ a. outcome_of a ≡ misuse (misuse_message why.entry)) }
+    ensures { IfOk result (λ a. outcome_of a ≡ message_outcome (misuse_message why.entry)) }
 {
     let mut answer = Answer::silent(alloc, 2);
     push_misuse(&mut answer.errors, why)?;

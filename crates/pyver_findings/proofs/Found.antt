@@ -1,6 +1,6 @@
 -- Lines that have no version in common: some of them are reported together.
 use Rattle.std.proofs.Common.{arith, ◌≡◌, ◌==◌, ◌<◌, ◌⊎◌, ◌∙◌, ℕ, List, [], ◌∷◌, ◌++◌, ◌&&◌, ◌||◌, Bool, true, false, Option, Some, None, bytes_eq, get_or, is_none, length, map, refl, sym, ap, subst, inl, inr, suc, zero, if◌then◌else◌}
-use Rattle.std.proofs.lemmas.Bool.{true≢false}
+use Rattle.std.proofs.lemmas.Bool.{eqb-true, true≢false}
 use Rattle.std.proofs.lemmas.List.Concat.{flat_map-append}
 use Rattle.std.proofs.lemmas.List.Folds.{list_any-append}
 use Rattle.std.proofs.lemmas.Slice.Eq.{bytes_eq-Decides}
@@ -11,10 +11,15 @@ use Rattle.pyver_findings.proofs.Once.{of_lines}
 use Rattle.pyver_findings.specs.Demands.{Demand}
 use Rattle.pyver_findings.specs.Conflicts.{common_cover, conflicts, counts_under, excludes, first_mentions, is_empty, of_all, of_few, of_name, of_one, of_pairs, of_two, pin_conflict, has_same_marker, same_marker, has_same_name, under}
 use Rattle.pyver_findings.specs.FileLines.{FileLine, all_lines}
-use Rattle.pyver_findings.specs.FindingLaws.{ConflictsAreFound, IsAmong}
+use Rattle.pyver_findings.specs.FindingLaws.{ConflictsHaveFindings, IsAmong}
 use Rattle.pyver_findings.specs.Findings.{Conflicting, Finding}
 use Rattle.pyver_findings.specs.Reports.{Report, demands_in, invalid_in}
 use Rattle.pyver_findings.specs.declared.finding.Conflict.TheVariants.{NoVersion}
+
+-- a list of no length is empty
+pub is_nil : {X : Type 0} (xs : List X) → (length xs == 0) ≡ true → xs ≡ []
+is_nil [] e = refl
+is_nil (x ∷ xs) e = let none : length (x ∷ xs) ≡ 0 = eqb-true (length (x ∷ xs)) 0 e in absurd (omega (arith, none))
 
 -- ---- some finding
 
@@ -301,8 +306,8 @@ some_found lines a marker (k, inside, is) none =
     (λ b e. subst (λ n. Some_is P (of_name (filter (λ (c : Demand). bytes_eq n (normal c.name)) lines))) (sym e) (in_name (filter (has_same_name a) lines) marker none)) [] lines refl
     (contains_key (λ (x : Demand). normal x.name) a lines k inside is)
 
-pub conflicts_are_found : ConflictsAreFound
-conflicts_are_found files r lines a marker (xs, h, is) (ys, k, are) inside none =
+pub conflicts_have_findings : ConflictsHaveFindings
+conflicts_have_findings files r lines a marker (xs, h, is) (ys, k, are) inside none =
     let P = Fits (filter (has_same_name a) lines) marker in
     let same : lines ≡ flat_map demands_in xs = are ∙ ap (flat_map demands_in) (of_lines (all_lines files) ys xs k h) in
     any_is P r.findings

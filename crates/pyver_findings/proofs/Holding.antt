@@ -1,6 +1,6 @@
 -- What is reported: a line alone is no requirement; lines together count together, and no version is allowed by all.
-use Rattle.std.proofs.Common.{arith, ◌≡◌, ◌==◌, ◌⊎◌, ◌∙◌, ℕ, List, [], ◌∷◌, ◌&&◌, ◌||◌, Bool, true, false, IsTrue, Option, Some, None, fold, is_none, length, map, not, refl, sym, ap, subst, inl, inr, if◌then◌else◌}
-use Rattle.std.proofs.lemmas.Bool.{eqb-true, true≢false}
+use Rattle.std.proofs.Common.{◌≡◌, ◌==◌, ◌⊎◌, ◌∙◌, ℕ, List, [], ◌∷◌, ◌&&◌, ◌||◌, Bool, true, false, IsTrue, Option, Some, None, fold, is_none, length, map, not, refl, sym, ap, subst, inl, inr, if◌then◌else◌}
+use Rattle.std.proofs.lemmas.Bool.{true≢false}
 use Rattle.std.proofs.lemmas.List.Elements.{All-append, All-cons, All-contains_itself, All-filter, All-head, All-nil, All-tail, filter_passes}
 use Rattle.std.specs.List.{All, AllZip, Contains, filter, flat_map}
 use Rattle.pep440_pick.proofs.Once.{one_requirement}
@@ -23,7 +23,7 @@ use Rattle.pyver_findings.specs.FileLines.{FileLine, all_lines}
 use Rattle.pyver_findings.specs.FindingLaws.{AsksFor, CountTogether, CountsUnder, FindingsHold, FitsConflict, IsRight, LineAllows, NamesVersion}
 use Rattle.pyver_findings.specs.Findings.{Conflicting, Finding}
 use Rattle.pyver_findings.specs.LineMeanings.{IsNone, LeftOut, LineMeaning, NamesFile, IsKindMeaning, IsMeaning, requirement_meaning, has_scheme, names_file, with_marker, with_url}
-use Rattle.pyver_findings.proofs.Found.{marker_yes}
+use Rattle.pyver_findings.proofs.Found.{is_nil, marker_yes}
 use Rattle.pyver_findings.proofs.Rejecting.{invalid_right}
 use Rattle.pyver_findings.specs.Reports.{Report, demands_in, invalid_in}
 use Rattle.pyver_findings.specs.declared.cause.Cause.TheVariants as cause
@@ -106,10 +106,6 @@ module _ (read : List FileLine) where
 
 -- ---- ranges, lists and markers
 
-empty_is : (segments : Segments) → is_empty segments ≡ true → segments ≡ []
-empty_is [] e = refl
-empty_is (s ∷ segments) e = let none : length (s ∷ segments) ≡ 0 = eqb-true (length (s ∷ segments)) 0 e in absurd (omega (arith, none))
-
 left_of : (a b : Bool) → (a && b) ≡ true → a ≡ true
 left_of true b e = refl
 left_of false b e = cc e
@@ -120,7 +116,7 @@ right_of false b e = cc e
 
 -- no version lies in an empty range
 holds_none : (segments : Segments) (v : Record) → is_empty segments ≡ true → contains record_cmp segments v ≡ true → ⊥
-holds_none segments v e holds = true≢false (sym holds ∙ ap (λ s. contains record_cmp s v) (empty_is segments e))
+holds_none segments v e holds = true≢false (sym holds ∙ ap (λ s. contains record_cmp s v) (is_nil segments e))
 
 both_hold : (a b : Segments) (v : Record) → contains record_cmp a v ≡ true → contains record_cmp b v ≡ true → contains record_cmp (overlaps record_cmp a b) v ≡ true
 both_hold a b v one other = overlaps_hold_both record_total a b v ∙ (λ j. one j && other j)

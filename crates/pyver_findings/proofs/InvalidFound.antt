@@ -1,14 +1,12 @@
 -- A line that ought to be a requirement and is none is reported.
 use Rattle.std.proofs.Common.{arith, ◌≡◌, ◌==◌, ◌<◌, ◌∙◌, ℕ, List, [], ◌∷◌, Bool, true, false, Option, Some, None, get_or, length, refl, sym, subst, inl, inr, suc, zero, if◌then◌else◌}
-use Rattle.std.proofs.lemmas.Bool.{eqb-true}
 use Rattle.std.specs.List.{AllZip, flat_map}
 use Rattle.std.specs.Str.{IsUtf8}
 use Rattle.pep440_pick.specs.RequirementGrammar.{DerivesRequirement, Needed}
-use Rattle.pep440_rs.specs.Specifiers.{Spec}
-use Rattle.pyver_findings.proofs.Found.{Some_is, any_is, in_left, in_right}
+use Rattle.pyver_findings.proofs.Found.{Some_is, any_is, in_left, in_right, is_nil}
 use Rattle.pyver_findings.specs.Conflicts.{conflicts}
 use Rattle.pyver_findings.specs.FileLines.{FileLine, all_lines}
-use Rattle.pyver_findings.specs.FindingLaws.{InvalidLinesAreFound, IsAlone, IsRequirementLine, LacksRequirement}
+use Rattle.pyver_findings.specs.FindingLaws.{InvalidLinesHaveFindings, IsAlone, IsRequirementLine, LacksRequirement}
 use Rattle.pyver_findings.specs.Findings.{NoRequirement}
 use Rattle.pyver_findings.specs.LineMeanings.{IsNone, LeftOut, LineMeaning, IsKindMeaning, IsMeaning, not_utf8, refusal_meaning, requirement_meaning, with_marker, with_url, without_path}
 use Rattle.pyver_findings.specs.Reports.{Report, demands_in, invalid_in}
@@ -16,16 +14,12 @@ use Rattle.pyver_findings.specs.declared.cause.Cause.TheVariants as cause
 use Rattle.pyver_requirements.specs.LineKinds.{ConstraintsFile, Editable, LineKind, Location, MissingPath, PipOption, Requirement, RequirementsFile, Variable, line_kind}
 use Rattle.pyver_requirements.specs.LineParts.{line_parts}
 
-no_members : (list : List Spec) → (length list == 0) ≡ true → list ≡ []
-no_members [] e = refl
-no_members (m ∷ list) e = let none : length (m ∷ list) ≡ 0 = eqb-true (length (m ∷ list)) 0 e in absurd (omega (arith, none))
-
 module _ (l : FileLine) where
   -- what stands before `@` and `;` is a requirement
   module _ (kind : line_kind l.text ≡ Requirement) (text : IsUtf8 (line_parts l.text).requirement) (n : Needed) (d : DerivesRequirement (line_parts l.text).requirement n) (lacks : IsRequirementLine l → ⊥) where
     by_list : ((line_parts l.text).marker ≡ Some [] → ⊥) → ((line_parts l.text).url ≡ Some [] → ⊥) → (b : Bool) (reason : List ℕ) (column : ℕ) → (length n.specifiers == 0) ≡ b
         → Some_is (IsAlone l) (invalid_in (if b then LeftOut cause.Url else IsNone (NoRequirement l reason column)))
-    by_list marker url true reason column none = absurd (lacks (kind, text, (n, d, (marker, url, inr (no_members n.specifiers none)))))
+    by_list marker url true reason column none = absurd (lacks (kind, text, (n, d, (marker, url, inr (is_nil n.specifiers none)))))
     by_list marker url false reason column none = inl refl
 
     by_url : ((line_parts l.text).marker ≡ Some [] → ⊥) → (url : Option (List ℕ)) → (line_parts l.text).url ≡ url → Some_is (IsAlone l) (invalid_in (with_url l (line_parts l.text) n url))
@@ -66,8 +60,8 @@ module _ (l : FileLine) where
       in_left (IsAlone l) (invalid_in x) (flat_map invalid_in xs) (by_kind (line_kind l.text) x refl lacks (subst (λ (q : FileLine). IsMeaning q x) is h.0))
   in_lines lacks (m ∷ lines) (x ∷ xs) (suc k) inside is h = in_right (IsAlone l) (invalid_in x) (flat_map invalid_in xs) (in_lines lacks lines xs k (omega (arith, inside)) is h.1)
 
-pub invalid_lines_are_found : InvalidLinesAreFound
-invalid_lines_are_found files r l (xs, h, is) (k, inside, at) lacks =
+pub invalid_lines_have_findings : InvalidLinesHaveFindings
+invalid_lines_have_findings files r l (xs, h, is) (k, inside, at) lacks =
     any_is (IsAlone l) r.findings
     (subst (λ (q : Report). Some_is (IsAlone l) q.findings) (sym is)
     (in_left (IsAlone l) (flat_map invalid_in xs) (conflicts (flat_map demands_in xs)) (in_lines l lacks (all_lines files) xs k inside at h)))

@@ -76,8 +76,8 @@ abbrev pub LacksRequirement : FileLine → Type 0
 LacksRequirement l = (line_kind l.text ≡ MissingPath) ⊎ ((line_kind l.text ≡ Requirement) × (¬ IsRequirementLine l))
 
 -- each line that ought to be a requirement and is none is reported
-abbrev pub InvalidLinesAreFound : Type 0
-InvalidLinesAreFound = (files : List File) (r : Report) (l : FileLine) → IsReport files r → Contains (all_lines files) l → LacksRequirement l → Any (IsAlone l) r.findings
+abbrev pub InvalidLinesHaveFindings : Type 0
+InvalidLinesHaveFindings = (files : List File) (r : Report) (l : FileLine) → IsReport files r → Contains (all_lines files) l → LacksRequirement l → Any (IsAlone l) r.findings
 
 -- some of these lines are reported together, and no others
 abbrev pub IsAmong : List FileLine → Finding → Type 0
@@ -89,8 +89,8 @@ abbrev pub AreDemands : List File → List Demand → Type 0
 AreDemands files demands = (xs : List LineMeaning) × AllZip IsMeaning (all_lines files) xs × (demands ≡ flat_map demands_in xs)
 
 -- where the covers of the lines of a name that count under a marker have nothing in common, some of these lines are reported together
-abbrev pub ConflictsAreFound : Type 0
-ConflictsAreFound = (files : List File) (r : Report) (lines : List Demand) (a : Demand) (marker : Option (List ℕ)) → IsReport files r → AreDemands files lines → Contains lines a
+abbrev pub ConflictsHaveFindings : Type 0
+ConflictsHaveFindings = (files : List File) (r : Report) (lines : List Demand) (a : Demand) (marker : Option (List ℕ)) → IsReport files r → AreDemands files lines → Contains lines a
     → common_cover (under marker (filter (has_same_name a) lines)) ≡ [] → Any (IsAmong (map (λ (b : Demand). b.line) (under marker (filter (has_same_name a) lines)))) r.findings
 
 -- a line has at most one meaning

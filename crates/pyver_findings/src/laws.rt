@@ -1,5 +1,5 @@
 //! What holds of findings, as the contract of a function that does nothing.
-ghost use Rattle.pyver_findings.specs.FindingLaws.{ConflictsAreFound, FindingsHold, InvalidLinesAreFound, MeaningsOnce, ReportsOnce};
+ghost use Rattle.pyver_findings.specs.FindingLaws.{ConflictsHaveFindings, FindingsHold, InvalidLinesHaveFindings, MeaningsOnce, ReportsOnce};
 
 /// A line that is reported alone is a line of the files and no requirement, for the reason and at the column that are
 /// reported. Lines that are reported together are lines of the files, ask for one name and have no two markers; no
@@ -9,14 +9,14 @@ pub fn findings_hold()
 {}
 
 /// Each line that ought to be a requirement and is none, or that has no path behind `-r` or `-c`, is reported.
-pub fn invalid_lines_are_found()
-    ensures { InvalidLinesAreFound }
+pub fn invalid_lines_have_findings()
+    ensures { InvalidLinesHaveFindings }
 {}
 
 /// Where the covers of the lines of a name that count under a marker have nothing in common, some of these lines are
 /// reported together.
-pub fn conflicts_are_found()
-    ensures { ConflictsAreFound }
+pub fn conflicts_have_findings()
+    ensures { ConflictsHaveFindings }
 {}
 
 /// A line has at most one meaning, and files have at most one report.

@@ -1,0 +1,5 @@
+use Rattle.pyver_findings.proofs.Found.{conflicts_have_findings}
+use Rattle.pyver_findings.proofs.laws.conflicts_have_findings.Goals as goal
+
+pub returns : goal.returns
+returns c = conflicts_have_findings
