@@ -1,4 +1,4 @@
-//! The fields of a line, with their escapes: `\n`, `\r`, `\t`, `\e` for nothing, and `\u{a0}` for the character of that number.
+//! The fields of a line, with their escapes: `\n`, `\r`, `\t`, `\\`, `\e` for nothing, and `\u{a0}` for the character of that number.
 use crate::error::CaseError;
 use std::alloc::Global;
 
@@ -29,12 +29,21 @@ fn push_escape(text: &mut String, escape: &str) -> Result<(), CaseError> {
 // The field with its escapes replaced.
 fn unescape(alloc: Global, field: &str) -> Result<String, CaseError> {
     let mut text = String::new(alloc);
-    let mut pieces = field.split('\\');
-    if let Some(plain) = pieces.next() {
-        text.push_str(plain)?;
+    // What stands before the first backslash is plain, and what stands behind two.
+    let mut is_plain = true;
+    for piece in field.split('\\') {
+        if is_plain {
+            text.push_str(piece)?;
+            is_plain = false;
+        } else if piece.is_empty() {
+            text.push('\\')?;
+            is_plain = true;
+        } else {
+            push_escape(&mut text, piece)?;
+        }
     }
-    for piece in pieces {
-        push_escape(&mut text, piece)?;
+    if is_plain {
+        return Err(CaseError::Unreadable);
     }
     Ok(text)
 }

@@ -1,5 +1,6 @@
 //! Input that is no text; a refused list cut anywhere; runs of `filter` and `pick` over readers and writers that fail.
-use super::support::{After, Manner, Trickle, answered, run_over, split_words, words_of};
+use super::support::{answered, run_over, split_words, words_of};
+use pep440_cases::{After, Manner, Trickle};
 use std::alloc::{AllocError, Global};
 use std::test::Fail;
 

@@ -1,5 +1,6 @@
 //! Words and lines of more than 65,536 bytes: no command gives up because a string is long.
-use super::support::{After, Manner, Trickle, answered, is_line, run_over, words_of};
+use super::support::{answered, is_line, run_over, words_of};
+use pep440_cases::{After, Manner, Trickle};
 use std::alloc::{AllocError, Global};
 use std::test::Fail;
 

@@ -1,5 +1,6 @@
 //! The room that `run` gives a reader at each call.
-use super::support::{Manner, Sink, words_of};
+use super::support::words_of;
+use pep440_cases::{Manner, Sink};
 use pep440_tool::run;
 use std::io::Read;
 use std::test::Fail;

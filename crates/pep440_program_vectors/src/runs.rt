@@ -1,5 +1,6 @@
 //! Runs over readers and writers that fail.
-use super::support::{After, Manner, Trickle, USAGE, run_over, split_words};
+use super::support::{USAGE, run_over, split_words};
+use pep440_cases::{After, Manner, Trickle};
 use std::alloc::{AllocError, Global};
 use std::test::Fail;
 

@@ -1,5 +1,6 @@
 //! Runs over writers that fail, with each request for memory refused in turn.
-use super::support::{After, Manner, Trickle, run_over, split_words};
+use super::support::{run_over, split_words};
+use pep440_cases::{After, Manner, Trickle};
 use std::alloc::Global;
 use std::test::Fail;
 

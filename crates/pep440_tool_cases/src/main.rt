@@ -1,9 +1,9 @@
 //! Test cases of the program: words, standard input, and what it prints with which status; `stdin` beside `src/` has them.
 #![tactic(auto)]
 
-use pep440_cases::{Calls, CaseError, run_cases};
+use pep440_cases::{Calls, CaseError, run_cases, split_words};
 use pep440_tool::{answer, run};
-use std::alloc::{AllocError, Global};
+use std::alloc::Global;
 use std::io;
 
 struct ToolCalls;
@@ -12,15 +12,6 @@ const OUT_OF_MEMORY: u8 = 3;
 
 // More than any case prints.
 const MOST_OUTPUT: usize = 1024;
-
-// The words, between bars.
-fn split_words(alloc: Global, text: &str) -> Result<Vec<String>, AllocError> {
-    let mut words = Vec::new(alloc);
-    for word in text.split('|') {
-        words.push(String::from_str(alloc, word)?)?;
-    }
-    Ok(words)
-}
 
 // The status and the output, where `answer` and `run` agree on both.
 fn answer_words(alloc: Global, words: &[String], input: &[u8]) -> Result<String, CaseError> {

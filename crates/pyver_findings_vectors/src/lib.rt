@@ -1,14 +1,8 @@
-//! Requirements files and what is found in them: worked files with the bytes that are printed, and files that are made, whose findings
-//! follow from the rule by which they are made.
+//! Requirements files that are made, whose findings follow from the rule by which they are made; `pyver_findings_cases` has worked
+//! files.
 #![tactic(auto)]
 
 #[cfg(test)]
-mod findings;
+mod copies;
 #[cfg(test)]
 mod made;
-#[cfg(test)]
-mod requirements;
-#[cfg(test)]
-mod support;
-#[cfg(test)]
-mod texts;

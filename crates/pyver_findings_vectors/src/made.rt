@@ -1,5 +1,5 @@
 //! Two hundred made files: two lines of one name among lines of every kind, and what is found follows from the two alone.
-use crate::findings::write_findings;
+use pyver_findings::{Conflict, Finding, Report, SourceFile, find_problems};
 use std::alloc::{AllocError, Global};
 use std::test::Fail;
 
@@ -35,18 +35,18 @@ const FORMS: [(&str, &str, u64); 8] = [
     ("demo", " ; os_name == \"a\"\n", 1),
 ];
 
-// Two lists, and the word for what is found of the two.
-const PAIRS: [(&str, &str, &str); 10] = [
-    ("==1", "==2", "pins"),
-    ("==1", ">2", "outside"),
-    ("<1", "===1.5", "outside"),
-    (">=2", "<1", "none"),
-    ("~=1.4", ">=2,<3", "none"),
-    (">=1", "<3", ""),
-    ("===1", "==1.0", ""),
-    ("==2.1.0+cu118", "<=2.1.0", ""),
-    ("==1.0", "==1.0+cu1", ""),
-    ("<1.0.post1", ">=1.0", ""),
+// Two lists, and what is found of the two.
+const PAIRS: [(&str, &str, Option<Conflict>); 10] = [
+    ("==1", "==2", Some(Conflict::TwoPins)),
+    ("==1", ">2", Some(Conflict::PinOutside)),
+    ("<1", "===1.5", Some(Conflict::PinOutside)),
+    (">=2", "<1", Some(Conflict::NoVersion)),
+    ("~=1.4", ">=2,<3", Some(Conflict::NoVersion)),
+    (">=1", "<3", None),
+    ("===1", "==1.0", None),
+    ("==2.1.0+cu118", "<=2.1.0", None),
+    ("==1.0", "==1.0+cu1", None),
+    ("<1.0.post1", ">=1.0", None),
 ];
 
 // A file that grows, and the number of its next line.
@@ -76,9 +76,18 @@ impl MadeFile {
     }
 }
 
-// The file with this number, and what is found in it.
-fn make_file(alloc: Global, number: usize) -> Result<(String, String), AllocError> {
-    let (one, other, word) = PAIRS[number % 10];
+// A file, what is found in it, and the numbers of its two lines.
+#[derive(Drop)]
+struct Made {
+    text: String,
+    kind: Option<Conflict>,
+    first: u64,
+    second: u64,
+}
+
+// The file with this number.
+fn make_file(alloc: Global, number: usize) -> Result<Made, AllocError> {
+    let (one, other, kind) = PAIRS[number % 10];
     let mark = if number % 9 == 0 { "\u{feff}" } else { "" };
     let mut file = MadeFile {
         text: String::from_str(alloc, mark)?,
@@ -90,23 +99,43 @@ fn make_file(alloc: Global, number: usize) -> Result<(String, String), AllocErro
     file.push_other(number / 5)?;
     let second = file.push_asking(number / 7, other)?;
     file.push_other(number / 11)?;
-    let mut want = String::new(alloc);
-    if !word.is_empty() {
-        want = format!(in alloc; "{word} {first} {second}\n")?;
-    }
-    Ok((file.text, want))
+    Ok(Made {
+        text: file.text,
+        kind,
+        first,
+        second,
+    })
+}
+
+fn report_of(alloc: Global, text: &str) -> Result<Report, AllocError> {
+    let mut files = Vec::new(alloc);
+    files.push(SourceFile {
+        name: Vec::from_slice(alloc, b"a.txt")?,
+        text: Vec::from_slice(alloc, text.as_bytes())?,
+    })?;
+    find_problems(alloc, files.as_slice())
+}
+
+// Whether the two lines are reported together as this, and nothing else is; or nothing is.
+fn is_found(report: &Report, made: &Made) -> bool {
+    let [finding] = report.findings.as_slice() else {
+        return made.kind.is_none() && report.findings.is_empty();
+    };
+    let (Finding::Conflicting(found, lines), Some(kind)) = (finding, made.kind) else {
+        return false;
+    };
+    let [one, other] = lines.as_slice() else {
+        return false;
+    };
+    *found == kind && one.number == made.first && other.number == made.second
 }
 
 #[test]
 fn made_files_have_their_findings(rt: HostRuntime) -> Result<(), Fail> {
     for number in 0..200 {
-        let (text, want) = make_file(rt.alloc(), number)?;
-        let written = write_findings(rt.alloc(), text.as_str())?;
-        assert!(rt;
-            written.as_str() == want.as_str(),
-            "{number}: {}",
-            written.as_str()
-        );
+        let made = make_file(rt.alloc(), number)?;
+        let report = report_of(rt.alloc(), made.text.as_str())?;
+        assert!(rt; is_found(&report, &made), "{number}");
     }
     Ok(())
 }

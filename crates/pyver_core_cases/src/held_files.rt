@@ -1,23 +1,7 @@
 //! Files that are held in memory, for runs that name some.
-use super::support::{After, Trickle};
+use pep440_cases::{After, Trickle};
 use pyver_core::{Files, OpenFailure};
 use std::alloc::{AllocError, Global};
-
-/// No file is there.
-#[derive(Drop)]
-pub struct NoFiles;
-
-impl Files for NoFiles {
-    type File = Trickle<'static>;
-
-    fn open(&mut self, _alloc: Global, _name: &str) -> Result<Trickle<'static>, OpenFailure> {
-        Err(OpenFailure::NotFound)
-    }
-
-    fn canonical_path(&mut self, alloc: Global, name: &str) -> Result<String, AllocError> {
-        name.to_string(alloc)
-    }
-}
 
 /// What a name stands for.
 #[derive(Clone, Copy)]
@@ -29,6 +13,41 @@ pub enum HeldFile<'a> {
     /// A file that is not opened.
     Refused(OpenFailure),
 }
+
+/// Files of versions.
+pub const VERSIONS: [(&str, HeldFile<'static>); 10] = [
+    ("a.txt", HeldFile::Text(b"1.0\n2.0rc1\n0.9\n")),
+    ("b.txt", HeldFile::Text(b"\xEF\xBB\xBF1.5\r\n\r\n3.0")),
+    ("c.csv", HeldFile::Text(b"name,version\na,1.9\n")),
+    (
+        "d.csv",
+        HeldFile::Text(b"\xEF\xBB\xBFname,version\r\nb,1.10\r\n"),
+    ),
+    ("bad", HeldFile::Text(b"x\n1.0\n")),
+    ("damaged", HeldFile::Damaged(b"1.0\n2")),
+    ("folder", HeldFile::Refused(OpenFailure::IsDirectory)),
+    ("secret", HeldFile::Refused(OpenFailure::PermissionDenied)),
+    ("full", HeldFile::Refused(OpenFailure::OutOfMemory)),
+    ("odd\u{7}", HeldFile::Refused(OpenFailure::Other)),
+];
+
+/// Files of requirements.
+pub const REQUIREMENTS: [(&str, HeldFile<'static>); 8] = [
+    (
+        "a.txt",
+        HeldFile::Text(b"a==1.0\n-r sub/b.txt\n-c ./c.txt\n"),
+    ),
+    (
+        "sub/b.txt",
+        HeldFile::Text(b"b>=2\n-r ../a.txt\n--requirement=b.txt\n"),
+    ),
+    ("c.txt", HeldFile::Text(b"\xEF\xBB\xBFb<1\r\na==1.0.0")),
+    ("lost.txt", HeldFile::Text(b"a b\n-r gone.txt\n")),
+    ("bytes.txt", HeldFile::Text(b"-r \xFF.txt\n")),
+    ("damaged", HeldFile::Damaged(b"a==1")),
+    ("folder", HeldFile::Refused(OpenFailure::IsDirectory)),
+    ("full", HeldFile::Refused(OpenFailure::OutOfMemory)),
+];
 
 // Without `sub/../` and then `./` at its start.
 fn canonical(name: &str) -> &str {
