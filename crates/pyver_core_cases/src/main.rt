@@ -65,7 +65,8 @@ fn is_cut(cut: &Run, whole: &Run) -> bool {
     is_beginning && whole.errors.bytes().starts_with(front) && (cut.has_read || is_alone)
 }
 
-// The run, once more where memory was refused: of the requests of a run at most one is.
+// The run, once more where it found no memory: of the requests of both at most one is refused. Where a file is not opened for want of
+// memory, that may be one of the second.
 fn run_again(alloc: Global, words: &[String], given: Given<'_>) -> Result<Run, CaseError> {
     let first = run_words(alloc, words, given);
     if first.status != OUT_OF_MEMORY {
@@ -74,6 +75,8 @@ fn run_again(alloc: Global, words: &[String], given: Given<'_>) -> Result<Run, C
     let again = run_words(alloc, words, given);
     if is_cut(&first, &again) {
         Ok(again)
+    } else if is_cut(&again, &first) {
+        Ok(first)
     } else {
         Err(CaseError::Disagreement)
     }
