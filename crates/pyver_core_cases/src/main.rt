@@ -52,8 +52,8 @@ fn run_words(alloc: Global, words: &[String], given: Given<'_>) -> Run {
     }
 }
 
-// Whether a run that found no memory wrote a beginning of what the other writes, and then that memory is out; and this alone, where
-// it read nothing.
+// Whether a run that found no memory wrote a beginning of what the other writes, and then that memory is out; and where the other reads
+// nothing, it read nothing and wrote this alone.
 fn is_cut(cut: &Run, whole: &Run) -> bool {
     let errors = cut.errors.bytes();
     let Some(front) = errors.strip_suffix("pyver: out of memory\n".as_bytes()) else {
@@ -62,7 +62,8 @@ fn is_cut(cut: &Run, whole: &Run) -> bool {
     let output = cut.output.bytes();
     let is_beginning = whole.output.bytes().starts_with(output);
     let is_alone = output.is_empty() && front.is_empty();
-    is_beginning && whole.errors.bytes().starts_with(front) && (cut.has_read || is_alone)
+    let is_as_told = whole.has_read || (is_alone && !cut.has_read);
+    is_beginning && whole.errors.bytes().starts_with(front) && is_as_told
 }
 
 // The run, once more where it found no memory: of the requests of both at most one is refused. Where a file is not opened for want of
