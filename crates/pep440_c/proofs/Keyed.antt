@@ -6,7 +6,7 @@ use Rattle.std.specs.List.{All, AllByRecursion}
 use Rattle.std.specs.Option.{option_map_or}
 use Rattle.std.specs.declared.ops.Bound.{Bound}
 use Rattle.std.specs.declared.ops.Bound.TheVariants.{Included, Excluded, Unbounded}
-use Rattle.pep440_range_keys.specs.RangeKeys.{HasKeys, IsKeyedBound, IsKeyedSegment}
+use Rattle.pep440_keys.specs.RangeKeys.{HasKeys, IsKeyedBound, IsKeyedSegment}
 use Rattle.pep440_ranges.specs.Bounds.{is_valid, starts_before, ends_before, flipped_bound}
 use Rattle.pep440_ranges.specs.Complement.{gap_after, gap_before, gaps, gaps_after}
 use Rattle.pep440_ranges.specs.Intersection.{is_valid_segment, overlap, overlaps, overlaps_with}
@@ -20,8 +20,8 @@ use Rattle.pep440_rs.specs.SpecifierGrammar.{HasText}
 use Rattle.pep440_rs.specs.Specifiers.{Spec}
 use Rattle.pep440_rs.specs.declared.specifier.operator.Operator.{Operator}
 use Rattle.pep440_rs.specs.declared.specifier.operator.Operator.TheVariants.{Equal, EqualStar, ExactEqual, NotEqual, NotEqualStar, TildeEqual, LessThan, LessThanEqual, GreaterThan, GreaterThanEqual}
-use Rattle.pep440_sort_key.proofs.Order.{derived_keyed}
-use Rattle.pep440_sort_key.specs.Keys.{HasNoZero, IsKeyed}
+use Rattle.pep440_keys.proofs.Order.{derived_keyed}
+use Rattle.pep440_keys.specs.SortKeys.{HasNoZero, IsKeyed}
 use Rattle.pep440_version.specs.Key.{record_cmp}
 use Rattle.pep440_version.specs.Record.{Fits, Record, SegmentFits, epoch_and_release}
 use Rattle.pep440_version.specs.declared.prerelease.Prerelease.{Prerelease}

@@ -1,8 +1,8 @@
 -- A version's key lies in an interval of the range, or of the cover, of a list that bytes denote.
 use Rattle.std.proofs.Common.{◌≡◌, ◌∙◌, ◌||◌, ℕ, Bool, List, [], ◌∷◌, true, map, sym, ap, refl}
 use Rattle.std.specs.List.{list_any}
-use Rattle.pep440_range_keys.proofs.Membership.{in_range as tells_membership}
-use Rattle.pep440_range_keys.specs.RangeKeys.{HasKeys, is_within, segment_interval}
+use Rattle.pep440_keys.proofs.Membership.{in_range as tells_membership}
+use Rattle.pep440_keys.specs.RangeKeys.{HasKeys, is_within, segment_interval}
 use Rattle.pep440_ranges.specs.Segments.{contains}
 use Rattle.pep440_rs.proofs.Agreement.Operands.{list_has_texts}
 use Rattle.pep440_rs.proofs.Covering.Lists.{list_text_covers}
@@ -10,8 +10,8 @@ use Rattle.pep440_rs.specs.Bounds.{Segments, range_of}
 use Rattle.pep440_rs.specs.Cover.{cover_of}
 use Rattle.pep440_rs.specs.Matching.{list_matches}
 use Rattle.pep440_rs.specs.Specifiers.{Spec}
-use Rattle.pep440_sort_key.proofs.Order.{derived_keyed}
-use Rattle.pep440_sort_key.specs.Keys.{key_bytes}
+use Rattle.pep440_keys.proofs.Order.{derived_keyed}
+use Rattle.pep440_keys.specs.SortKeys.{key_bytes}
 use Rattle.pep440_version.specs.Key.{record_cmp}
 use Rattle.pep440_version.specs.Record.{Record}
 use Rattle.pep440_c.proofs.Keyed.{cover_has_keys, range_has_keys}

@@ -6,7 +6,7 @@ use Rattle.std.specs.List.Sorted.{IsPermutation, IsSorted, IsStable}
 use Rattle.std.specs.Ordering.{on}
 use Rattle.std.specs.Prelude.{IfOk, IsSomeAnd, Result, Ok, Err, slice_get}
 use Rattle.std.specs.declared.cmp.Ordering.{Ordering}
-use Rattle.pep440_sort_key.specs.Keys.{key_bytes}
+use Rattle.pep440_keys.specs.SortKeys.{key_bytes}
 use Rattle.pep440_version.specs.Key.{record_cmp}
 use Rattle.pep440_version.specs.Record.{Record}
 use Rattle.pep440_c.specs.Batches.{ArrangesPlaces, MeansKeys, MeansPlaced, Sorts, StopsAll, stop_at}

@@ -10,7 +10,7 @@ use Rattle.pep440_rs.specs.Matching.{any_prerelease, has_local, list_matches}
 use Rattle.pep440_rs.specs.Operators.{is_star, operator_text}
 use Rattle.pep440_rs.specs.RangeLines.{range_lines}
 use Rattle.pep440_rs.specs.Specifiers.{Spec}
-use Rattle.pep440_sort_key.specs.Keys.{key_bytes}
+use Rattle.pep440_keys.specs.SortKeys.{key_bytes}
 use Rattle.pep440_version.specs.Key.{record_cmp}
 use Rattle.pep440_version.specs.Print.{print}
 use Rattle.pep440_version.specs.Record.{Record}

@@ -5,7 +5,7 @@ use Rattle.std.specs.Ordering.{on}
 use Rattle.pep440_rs.specs.Arrangement.{ArrangesBy}
 use Rattle.pep440_rs.specs.Matching.{any_prerelease, list_matches}
 use Rattle.pep440_rs.specs.Specifiers.{Spec}
-use Rattle.pep440_sort_key.specs.Keys.{key_bytes}
+use Rattle.pep440_keys.specs.SortKeys.{key_bytes}
 use Rattle.pep440_version.specs.Key.{record_cmp}
 use Rattle.pep440_version.specs.Record.{Record}
 use Rattle.pep440_c.specs.declared.batch.BatchError.{BatchError}

@@ -3,13 +3,13 @@ use Rattle.std.specs.Prelude.{◌≡◌, ◌⊎◌, ℕ, ℤ, List, Bool, Option
 use Rattle.std.specs.List.{flat_map}
 use Rattle.pep440_compiled.specs.Lists.{DenotesList}
 use Rattle.pep440_compiled.specs.Version.{DenotesVersion}
-use Rattle.pep440_range_keys.specs.RangeKeys.{segment_interval}
+use Rattle.pep440_keys.specs.RangeKeys.{segment_interval}
 use Rattle.pep440_rs.specs.Bounds.{Segments, list_range}
 use Rattle.pep440_rs.specs.Lists.{list_print}
 use Rattle.pep440_rs.specs.Matching.{any_prerelease, list_matches}
 use Rattle.pep440_rs.specs.Specifiers.{Spec}
 use Rattle.pep440_rs.specs.declared.specifier.operator.Operator.{Operator}
-use Rattle.pep440_sort_key.specs.Keys.{key_bytes}
+use Rattle.pep440_keys.specs.SortKeys.{key_bytes}
 use Rattle.pep440_version.specs.Key.{record_cmp}
 use Rattle.pep440_version.specs.Print.{print}
 use Rattle.pep440_version.specs.Record.{Record}

@@ -1,7 +1,7 @@
 -- The keys of a range: two for each segment, between which the sort keys of its versions lie.
 use Rattle.std.specs.Prelude.{◌≡◌, ℕ, List, [], ◌∷◌, Option, Some, None, unwrap_or}
 use Rattle.std.specs.List.{flat_map}
-use Rattle.pep440_range_keys.specs.RangeKeys.{Interval, segment_interval}
+use Rattle.pep440_keys.specs.RangeKeys.{Interval, segment_interval}
 use Rattle.pep440_rs.specs.Bounds.{Segments, list_range}
 use Rattle.pep440_rs.specs.Specifiers.{Spec}
 use Rattle.pep440_rs.specs.declared.specifier.operator.Operator.{Operator}

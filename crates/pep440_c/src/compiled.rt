@@ -97,7 +97,7 @@ pub extern "C" fn pep440_normalize_list_compiled(
     )
 }
 
-/// Writes the sort key of the compiled version, as `pep440_sort_key`.
+/// Writes the sort key of the compiled version, as `pep440_keys`.
 #[unsafe(no_mangle)]
 pub extern "C" fn pep440_sort_key_compiled(
     alloc: Global,

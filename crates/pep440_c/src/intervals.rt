@@ -1,7 +1,7 @@
 //! The keys of the range and of the cover of a list.
 ghost use Rattle.std.specs.Prelude.{◌≡◌, ◌++◌, ℕ, List, [], IfOk, OnOk, option_map, unwrap_or};
 ghost use Rattle.std.specs.List.{flat_map};
-ghost use Rattle.pep440_range_keys.specs.RangeKeys.{segment_interval};
+ghost use Rattle.pep440_keys.specs.RangeKeys.{segment_interval};
 ghost use Rattle.pep440_rs.specs.Bounds.{range_of};
 ghost use Rattle.pep440_rs.specs.Cover.{cover_of};
 ghost use Rattle.pep440_c.specs.Intervals.{HasRange, LacksRange, TellsIntervals, interval_keys};
@@ -11,7 +11,7 @@ ghost use Rattle.pep440_c.specs.Statuses.{Gives};
 
 use crate::joined::Joined;
 use crate::texts::{Fault, read_list};
-use pep440_range_keys::{KeyInterval, range_keys};
+use pep440_keys::{KeyInterval, range_keys};
 use pep440_ranges::Ranges;
 use pep440_rs::{RangeError, Version, specifiers_to_cover, specifiers_to_ranges};
 use std::alloc::{AllocError, Global};

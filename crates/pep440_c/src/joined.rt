@@ -1,10 +1,10 @@
 //! Strings one after the other, and where each of them ends.
 ghost use Rattle.std.specs.Prelude.{◌≡◌, ◌++◌, ◌∷◌, [], length, IfOk};
 ghost use Rattle.pep440_c.specs.Joined.{Joins};
-ghost use Rattle.pep440_sort_key.specs.Keys.{key_bytes};
+ghost use Rattle.pep440_keys.specs.SortKeys.{key_bytes};
 
+use pep440_keys::push_sort_key;
 use pep440_rs::Version;
-use pep440_sort_key::push_sort_key;
 use std::alloc::{AllocError, Global};
 
 /// Strings one after the other, and where each of them ends.

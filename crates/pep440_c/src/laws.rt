@@ -1,11 +1,11 @@
 //! What holds of the bytes of a caller, as contracts of functions that do nothing.
 ghost use Rattle.std.specs.Prelude.{◌≡◌, ◌⊎◌, ◌↔◌, ℕ, ℤ, Bool, List, true};
 ghost use Rattle.std.specs.List.{list_any};
-ghost use Rattle.pep440_range_keys.specs.RangeKeys.{is_within, segment_interval};
+ghost use Rattle.pep440_keys.specs.RangeKeys.{is_within, segment_interval};
 ghost use Rattle.pep440_ranges.specs.Segments.{contains};
 ghost use Rattle.pep440_rs.specs.Bounds.{Segments, range_of};
 ghost use Rattle.pep440_rs.specs.Cover.{cover_of};
-ghost use Rattle.pep440_sort_key.specs.Keys.{key_bytes};
+ghost use Rattle.pep440_keys.specs.SortKeys.{key_bytes};
 ghost use Rattle.pep440_rs.specs.Specifiers.{Spec};
 ghost use Rattle.pep440_version.specs.Record.{Record};
 ghost use Rattle.pep440_version.specs.Key.{record_cmp};

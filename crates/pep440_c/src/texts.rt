@@ -9,11 +9,11 @@ ghost use Rattle.pep440_c.specs.Statuses.{Gives, fault_status};
 ghost use Rattle.pep440_c.specs.declared.texts.Fault.TheVariants.{OutOfMemory};
 ghost use Rattle.pep440_version.specs.Errors.{refusal_of};
 
+use pep440_keys::sort_key;
 use pep440_rs::{
     ErrorKind, RangeError, RangeLines, SpecifiersErrorKind, Version, VersionSpecifiers,
     specifiers_to_ranges,
 };
-use pep440_sort_key::sort_key;
 use pep440_version::laws::word;
 use std::alloc::{AllocError, AllocFailed, Global};
 use std::cmp::Ordering;

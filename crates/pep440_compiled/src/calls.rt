@@ -3,7 +3,7 @@ ghost use Rattle.std.specs.Prelude.{◌≡◌, ◌⊎◌, IfErr, IfOk, IsOk, str
 ghost use Rattle.pep440_compiled.specs.Format.{DenotesPacked};
 ghost use Rattle.pep440_compiled.specs.Version.{DenotesVersion};
 ghost use Rattle.pep440_compiled.specs.declared.version.CompiledError.TheVariants.{NotCompiled};
-ghost use Rattle.pep440_sort_key.specs.Keys.{key_bytes};
+ghost use Rattle.pep440_keys.specs.SortKeys.{key_bytes};
 ghost use Rattle.pep440_version.specs.Key.{record_cmp};
 ghost use Rattle.pep440_version.specs.Print.{print};
 ghost use Rattle.pep440_version.specs.Record.{Record};
@@ -55,7 +55,7 @@ pub fn normalize(alloc: Global, bytes: &[u8]) -> Result<String, CompiledError>
     }
 }
 
-/// The sort key of the version that the bytes denote (`pep440_sort_key::sort_key`); `NotCompiled` where they denote none.
+/// The sort key of the version that the bytes denote (`pep440_keys::sort_key`); `NotCompiled` where they denote none.
 ///
 /// Allocates, and may return `OutOfMemory`.
 pub fn sort_key(alloc: Global, bytes: &[u8]) -> Result<Vec<u8>, CompiledError>
@@ -63,7 +63,7 @@ pub fn sort_key(alloc: Global, bytes: &[u8]) -> Result<Vec<u8>, CompiledError>
     ensures err { IfErr result (λ e. e ≡ NotCompiled → (r : Record) → DenotesVersion bytes.now r → ⊥) }
 {
     let version = read_version(alloc, bytes)?;
-    match pep440_sort_key::sort_key(alloc, &version) {
+    match pep440_keys::sort_key(alloc, &version) {
         Ok(key) => Ok(key),
         Err(_) => Err(CompiledError::OutOfMemory),
     }

@@ -1,4 +1,4 @@
--- Worked rows of ranges, matching and members made of bounds, by computation; `pep440_rs_cases` has more.
+-- Worked rows of ranges, matching and members made of bounds, by computation; `pep440_rs_tests` has more.
 use Rattle.std.proofs.Common.{◌≡◌, true, false, [], ◌∷◌, Some, Err, ℕ, refl}
 use Rattle.std.specs.Fmt.{digits}
 use Rattle.std.specs.declared.ops.Bound.TheVariants.{Included, Excluded, Unbounded}

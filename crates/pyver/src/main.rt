@@ -3,7 +3,7 @@
 
 mod system_files;
 
-use pyver_core::{refuse, run};
+use pyver_tool::{refuse, run};
 use std::env;
 use std::io::{self, ErrorKind};
 use std::process::ExitCode;

@@ -1,5 +1,5 @@
 // The files of the system, which are opened by their names.
-use pyver_core::{Files, OpenFailure};
+use pyver_tool::{Files, OpenFailure};
 use std::alloc::{AllocError, Global};
 use std::fs::{self, OpenFile};
 use std::io::{Error, ErrorKind};

@@ -1,3 +1,5 @@
+pub mod Escapes
+pub mod JsonStrings
 pub mod FileLines
 pub mod Demands
 pub mod Columns

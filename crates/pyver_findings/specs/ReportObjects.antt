@@ -7,7 +7,7 @@ use Rattle.pyver_findings.specs.Findings.{Conflicting, Finding, NoRequirement}
 use Rattle.pyver_findings.specs.Reports.{Report}
 use Rattle.pyver_findings.specs.declared.finding.Conflict.{Conflict}
 use Rattle.pyver_findings.specs.declared.finding.Conflict.TheVariants.{NoVersion, PinOutside, TwoPins}
-use Rattle.pyver_text.specs.JsonStrings.{json_string}
+use Rattle.pyver_findings.specs.JsonStrings.{json_string}
 
 -- the members `file`, `line` and `text`
 abbrev pub line_members : FileLine → List ℕ

@@ -7,9 +7,9 @@ ghost use Rattle.pyver_findings.specs.Views.{file_line_of, finding_of, report_of
 
 use crate::file_line::FileLine;
 use crate::finding::{Conflict, Finding};
+use crate::json_string::push_json_string;
 use crate::report::Report;
 use crate::report_text::{push_number, push_text};
-use pyver_text::push_json_string;
 use std::alloc::{AllocError, Global};
 
 fn push_members(alloc: Global, bytes: &mut Vec<u8>, line: &FileLine) -> Result<(), AllocError>

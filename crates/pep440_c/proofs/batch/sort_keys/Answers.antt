@@ -1,7 +1,7 @@
 use Rattle.std.proofs.Common.{refl}
 use Rattle.pep440_c.proofs.Joining.{joined_more}
 use Rattle.pep440_c.proofs.Placed.{keys_more, stops_at}
-use Rattle.pep440_sort_key.specs.Keys.{key_bytes}
+use Rattle.pep440_keys.specs.SortKeys.{key_bytes}
 use Rattle.pep440_c.proofs.batch.sort_keys.Goals as goal
 
 pub returns-in-Err : goal.returns-in-Err

@@ -1,7 +1,7 @@
 use Rattle.std.proofs.Common.{◌≡◌}
 use Rattle.pep440_rs.specs.Lists.{list_print}
 use Rattle.pep440_rs.specs.Matching.{any_prerelease}
-use Rattle.pep440_sort_key.specs.Keys.{key_bytes}
+use Rattle.pep440_keys.specs.SortKeys.{key_bytes}
 use Rattle.pep440_version.specs.Print.{print}
 use Rattle.pep440_c.proofs.Agreeing.{of_compiled_list, of_match, of_order, of_version}
 use Rattle.pep440_c.proofs.laws.compiled_calls_agree.Goals as goal

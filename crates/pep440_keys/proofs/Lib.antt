@@ -1,0 +1,4 @@
+pub mod Bytes
+pub mod Codes
+pub mod Order
+pub mod Membership

@@ -1,0 +1,2 @@
+pub mod SortKeys
+pub mod RangeKeys

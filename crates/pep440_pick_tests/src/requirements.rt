@@ -1,0 +1,58 @@
+//! Requirements.
+use pep440_pick::{Requirement, RequirementError};
+use std::alloc::Global;
+use testing::{CaseError, copy, equals_copy, print_value};
+
+// The error's name and its message.
+fn error_text(alloc: Global, error: &RequirementError) -> Result<String, CaseError> {
+    let name = match error {
+        RequirementError::Marker => "Marker",
+        RequirementError::Url => "Url",
+        RequirementError::InvalidName => "InvalidName",
+        RequirementError::InvalidExtras => "InvalidExtras",
+        RequirementError::Unclosed => "Unclosed",
+        RequirementError::Specifiers(_) => "Specifiers",
+        RequirementError::OutOfMemory => return Err(CaseError::OutOfMemory),
+    };
+    if !equals_copy(error)? {
+        return Err(CaseError::Disagreement);
+    }
+    let message = print_value(alloc, error)?;
+    Ok(format!(in alloc; "{name}: {message}")?)
+}
+
+// The name, the extras with a comma behind each, and the list.
+fn print(alloc: Global, requirement: &Requirement) -> Result<String, CaseError> {
+    let mut text = requirement.name.clone()?;
+    text.push('[')?;
+    for extra in requirement.extras.as_slice() {
+        text.push_str(extra.as_str())?;
+        text.push(',')?;
+    }
+    let list = print_value(alloc, &requirement.specifiers)?;
+    write!(text, "] {list}")?;
+    Ok(text)
+}
+
+/// The requirement and its copy, which print alike, or the error.
+pub fn requirement(alloc: Global, text: &str) -> Result<String, CaseError> {
+    let requirement = match Requirement::from_str(alloc, text) {
+        Ok(requirement) => requirement,
+        Err(error) => return error_text(alloc, &error),
+    };
+    let copy = copy(&requirement)?;
+    let text = print(alloc, &requirement)?;
+    if print(alloc, &copy)? != text {
+        return Err(CaseError::Disagreement);
+    }
+    Ok(text)
+}
+
+/// The list of the requirement, where it is of this name.
+pub fn specifiers_for(alloc: Global, name: &str, text: &str) -> Result<String, CaseError> {
+    match Requirement::specifiers_for(alloc, name, text) {
+        Ok(Some(list)) => Ok(print_value(alloc, &list)?),
+        Ok(None) => Ok(String::from_str(alloc, "another name")?),
+        Err(error) => error_text(alloc, &error),
+    }
+}

@@ -1,0 +1,82 @@
+//! Test cases of specifiers, lists, ranges, bounds and JSON strings, read from standard input; `stdin` beside `src/` says what each call
+//! answers.
+#![tactic(auto)]
+
+mod bounds;
+mod json;
+mod matching;
+mod operators;
+mod parsers;
+mod ranges;
+#[cfg(test)]
+mod tests;
+
+use bounds::{lower_bound, pairs, upper_bound};
+use json::{
+    json_list, json_specifier, json_version, list_of_json, specifier_of_json, version_of_json,
+};
+use matching::{build, compare, contains, contains_unchecked, print_unchecked};
+use operators::operator;
+use parsers::{list, members, specifier};
+use ranges::{beside, cover, cover_beside, intersection, range, release_range, unchecked_range};
+use std::alloc::Global;
+use std::io;
+use testing::{Calls, CaseError, run_cases};
+
+struct SpecifierCalls;
+
+fn of_one(alloc: Global, call: &str, text: &str) -> Result<String, CaseError> {
+    match call {
+        "operator" => operator(alloc, text),
+        "specifier" => specifier(alloc, text),
+        "list" => list(alloc, text),
+        "members" => members(alloc, text),
+        "range" => range(alloc, text),
+        "cover" => cover(alloc, text),
+        "release-range" => release_range(alloc, text),
+        "lower-bound" => lower_bound(alloc, text),
+        "upper-bound" => upper_bound(alloc, text),
+        "json-version" => json_version(alloc, text),
+        "json-specifier" => json_specifier(alloc, text),
+        "json-list" => json_list(alloc, text),
+        "version-of-json" => version_of_json(alloc, text),
+        "specifier-of-json" => specifier_of_json(alloc, text),
+        "list-of-json" => list_of_json(alloc, text),
+        _ => Err(CaseError::Unreadable),
+    }
+}
+
+fn of_two(alloc: Global, call: &str, one: &str, other: &str) -> Result<String, CaseError> {
+    match call {
+        "contains" => contains(alloc, one, other),
+        "compare" => compare(alloc, one, other),
+        "build" => build(alloc, one, other),
+        "unchecked" => print_unchecked(alloc, one, other),
+        "unchecked-range" => unchecked_range(alloc, one, other),
+        "beside" => beside(alloc, one, other),
+        "cover-beside" => cover_beside(alloc, one, other),
+        _ => Err(CaseError::Unreadable),
+    }
+}
+
+impl Calls for SpecifierCalls {
+    fn answer(&self, alloc: Global, call: &str, arguments: &[String]) -> Result<String, CaseError> {
+        match (call, arguments) {
+            ("pairs", sides) => pairs(alloc, sides),
+            ("unchecked-contains", [operator, operand, version]) => contains_unchecked(
+                alloc,
+                operator.as_str(),
+                operand.as_str(),
+                version.as_str(),
+            ),
+            ("intersection", sides) => intersection(alloc, sides),
+            (_, [text]) => of_one(alloc, call, text.as_str()),
+            (_, [one, other]) => of_two(alloc, call, one.as_str(), other.as_str()),
+            _ => Err(CaseError::Unreadable),
+        }
+    }
+}
+
+fn main(rt: HostRuntime) -> io::Result<()> {
+    run_cases(rt, &SpecifierCalls)
+}

@@ -1,0 +1,140 @@
+//! Specifiers and lists.
+use pep440_rs::{
+    BuildErrorKind, ParseErrorKind, SpecifiersErrorKind, VersionSpecifier,
+    VersionSpecifierParseError, VersionSpecifiers, VersionSpecifiersParseError,
+};
+use std::alloc::{AllocError, Global};
+use testing::{CaseError, copy, equals_copy, print_value};
+
+/// The specifier.
+pub fn specifier_argument(alloc: Global, text: &str) -> Result<VersionSpecifier, CaseError> {
+    VersionSpecifier::from_str(alloc, text).map_err(|error| match error.kind() {
+        ParseErrorKind::OutOfMemory => CaseError::OutOfMemory,
+        _ => CaseError::Unreadable,
+    })
+}
+
+/// The list.
+pub fn list_argument(alloc: Global, text: &str) -> Result<VersionSpecifiers, CaseError> {
+    VersionSpecifiers::from_str(alloc, text).map_err(|error| match error.kind() {
+        SpecifiersErrorKind::OutOfMemory => CaseError::OutOfMemory,
+        _ => CaseError::Unreadable,
+    })
+}
+
+/// The kind's name.
+pub fn build_kind_name(kind: &BuildErrorKind) -> &'static str {
+    match kind {
+        BuildErrorKind::OperatorLocalCombo { .. } => "OperatorLocalCombo",
+        BuildErrorKind::OperatorWithStar { .. } => "OperatorWithStar",
+        BuildErrorKind::CompatibleRelease => "CompatibleRelease",
+    }
+}
+
+// The same of parsing, with the kind of an error within.
+fn kind_name(kind: &ParseErrorKind) -> Result<&'static str, CaseError> {
+    match kind {
+        ParseErrorKind::MissingOperator => Ok("MissingOperator"),
+        ParseErrorKind::InvalidOperator(_) => Ok("InvalidOperator"),
+        ParseErrorKind::MissingVersion => Ok("MissingVersion"),
+        ParseErrorKind::InvalidVersion(_) => Ok("InvalidVersion"),
+        ParseErrorKind::InvalidSpecifier(_) => Ok("InvalidSpecifier"),
+        ParseErrorKind::InvalidTrailing(_) => Ok("InvalidTrailing"),
+        ParseErrorKind::OutOfMemory => Err(CaseError::OutOfMemory),
+    }
+}
+
+// Whether the error within the kind equals its copy, and so does its own kind.
+fn inner_equals_copy(kind: &ParseErrorKind) -> Result<bool, AllocError> {
+    match kind {
+        ParseErrorKind::InvalidOperator(error) => {
+            Ok(equals_copy(error)? && equals_copy(error.kind())?)
+        }
+        ParseErrorKind::InvalidSpecifier(error) => {
+            Ok(equals_copy(error)? && equals_copy(error.kind())?)
+        }
+        _ => Ok(true),
+    }
+}
+
+fn error_text(alloc: Global, error: &VersionSpecifierParseError) -> Result<String, CaseError> {
+    if !equals_copy(error)? || !equals_copy(error.kind())? || !inner_equals_copy(error.kind())? {
+        return Err(CaseError::Disagreement);
+    }
+    let name = kind_name(error.kind())?;
+    let message = print_value(alloc, error)?;
+    Ok(format!(in alloc; "{name}: {message}")?)
+}
+
+/// The specifier as it prints, or the error.
+pub fn specifier(alloc: Global, text: &str) -> Result<String, CaseError> {
+    match VersionSpecifier::from_str(alloc, text) {
+        Ok(specifier) => {
+            let print = print_value(alloc, &specifier)?;
+            if !equals_copy(&specifier)?
+                || specifier != specifier_argument(alloc, print.as_str())?
+            {
+                return Err(CaseError::Disagreement);
+            }
+            Ok(print)
+        }
+        Err(error) => error_text(alloc, &error),
+    }
+}
+
+/// The kind, where the piece begins and ends, and the message; the line is the string that was parsed.
+pub fn list_error_text(
+    alloc: Global,
+    error: &VersionSpecifiersParseError,
+    line: &str,
+) -> Result<String, CaseError> {
+    if !equals_copy(error)? || !equals_copy(error.kind())? {
+        return Err(CaseError::Disagreement);
+    }
+    match error.kind() {
+        SpecifiersErrorKind::Piece {
+            start,
+            stop,
+            error: inner,
+        } => {
+            if error.line() != line {
+                return Err(CaseError::Disagreement);
+            }
+            let name = kind_name(inner.kind())?;
+            let message = print_value(alloc, error)?;
+            Ok(format!(in alloc; "{name} from {start} to {stop}: {message}")?)
+        }
+        SpecifiersErrorKind::OutOfMemory => Err(CaseError::OutOfMemory),
+    }
+}
+
+/// The same of lists.
+pub fn list(alloc: Global, text: &str) -> Result<String, CaseError> {
+    match VersionSpecifiers::from_str(alloc, text) {
+        Ok(list) => {
+            let print = print_value(alloc, &list)?;
+            if !equals_copy(&list)? || list != list_argument(alloc, print.as_str())? {
+                return Err(CaseError::Disagreement);
+            }
+            Ok(print)
+        }
+        Err(error) => list_error_text(alloc, &error, text),
+    }
+}
+
+/// The operators of the members, in order, of the list and of a copy.
+pub fn members(alloc: Global, text: &str) -> Result<String, CaseError> {
+    let list = list_argument(alloc, text)?;
+    let copy = copy(&list)?;
+    let mut text = String::from_str(alloc, "list")?;
+    for member in list.iter() {
+        let operator = *member.operator();
+        write!(text, " {operator:?}")?;
+    }
+    text.push_str("; copy")?;
+    for member in copy {
+        let (operator, _) = member.into_parts();
+        write!(text, " {operator:?}")?;
+    }
+    Ok(text)
+}

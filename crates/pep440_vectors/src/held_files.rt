@@ -1,0 +1,92 @@
+//! Files that are held in memory, for runs that name some.
+use pyver_tool::{Files, OpenFailure};
+use std::alloc::{AllocError, Global};
+use testing::{After, Trickle};
+
+/// What a name stands for.
+#[derive(Clone, Copy)]
+pub enum HeldFile<'a> {
+    /// A file with these bytes.
+    Text(&'a [u8]),
+    /// A file that cannot be read past these bytes.
+    Damaged(&'a [u8]),
+    /// A file that is not opened.
+    Refused(OpenFailure),
+}
+
+/// Files of versions.
+pub const VERSIONS: [(&str, HeldFile<'static>); 10] = [
+    ("a.txt", HeldFile::Text(b"1.0\n2.0rc1\n0.9\n")),
+    ("b.txt", HeldFile::Text(b"\xEF\xBB\xBF1.5\r\n\r\n3.0")),
+    ("c.csv", HeldFile::Text(b"name,version\na,1.9\n")),
+    (
+        "d.csv",
+        HeldFile::Text(b"\xEF\xBB\xBFname,version\r\nb,1.10\r\n"),
+    ),
+    ("bad", HeldFile::Text(b"x\n1.0\n")),
+    ("damaged", HeldFile::Damaged(b"1.0\n2")),
+    ("folder", HeldFile::Refused(OpenFailure::IsDirectory)),
+    ("secret", HeldFile::Refused(OpenFailure::PermissionDenied)),
+    ("full", HeldFile::Refused(OpenFailure::OutOfMemory)),
+    ("odd\u{7}", HeldFile::Refused(OpenFailure::Other)),
+];
+
+/// Files of requirements.
+pub const REQUIREMENTS: [(&str, HeldFile<'static>); 8] = [
+    (
+        "a.txt",
+        HeldFile::Text(b"a==1.0\n-r sub/b.txt\n-c ./c.txt\n"),
+    ),
+    (
+        "sub/b.txt",
+        HeldFile::Text(b"b>=2\n-r ../a.txt\n--requirement=b.txt\n"),
+    ),
+    ("c.txt", HeldFile::Text(b"\xEF\xBB\xBFb<1\r\na==1.0.0")),
+    ("lost.txt", HeldFile::Text(b"a b\n-r gone.txt\n")),
+    ("bytes.txt", HeldFile::Text(b"-r \xFF.txt\n")),
+    ("damaged", HeldFile::Damaged(b"a==1")),
+    ("folder", HeldFile::Refused(OpenFailure::IsDirectory)),
+    ("full", HeldFile::Refused(OpenFailure::OutOfMemory)),
+];
+
+// Without `sub/../` and then `./` at its start.
+fn canonical(name: &str) -> &str {
+    let name = name.strip_prefix("sub/../").unwrap_or(name);
+    name.strip_prefix("./").unwrap_or(name)
+}
+
+/// These files alone are there. It counts those that were asked for.
+#[derive(Drop)]
+pub struct HeldFiles<'a> {
+    files: &'a [(&'a str, HeldFile<'a>)],
+    pub calls: u32,
+}
+
+impl<'a> HeldFiles<'a> {
+    pub fn new(files: &'a [(&'a str, HeldFile<'a>)]) -> HeldFiles<'a> {
+        HeldFiles { files, calls: 0 }
+    }
+}
+
+impl<'a> Files for HeldFiles<'a> {
+    type File = Trickle<'a>;
+
+    fn open(&mut self, _alloc: Global, name: &str) -> Result<Trickle<'a>, OpenFailure> {
+        self.calls = self.calls.saturating_add(1);
+        let path = canonical(name);
+        for (held, file) in self.files {
+            if *held == path {
+                return match *file {
+                    HeldFile::Text(text) => Ok(Trickle::new(text, After::End)),
+                    HeldFile::Damaged(text) => Ok(Trickle::new(text, After::Fails)),
+                    HeldFile::Refused(failure) => Err(failure),
+                };
+            }
+        }
+        Err(OpenFailure::NotFound)
+    }
+
+    fn canonical_path(&mut self, alloc: Global, name: &str) -> Result<String, AllocError> {
+        canonical(name).to_string(alloc)
+    }
+}

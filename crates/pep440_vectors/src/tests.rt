@@ -1,0 +1,15 @@
+//! What no line of test cases can ask: readers and writers that fail, refused memory, very long strings; and the examples of
+//! `example_calls`.
+mod change_words;
+mod example_calls;
+mod lists;
+mod long;
+mod no_files;
+mod pyver;
+mod pyver_lines;
+mod pyver_stopped;
+mod requirements;
+mod room;
+mod runs;
+mod support;
+mod sweeps;

@@ -1,0 +1,42 @@
+//! Parsers.
+use crate::errors::{error_text, pattern_error_text};
+use pep440_version::{Version, VersionParseError, VersionPattern, VersionPatternParseError};
+use std::alloc::Global;
+use testing::{CaseError, equals_copy, print_value};
+
+// The error, which is told alike as that of a pattern.
+fn refusal(alloc: Global, error: VersionParseError) -> Result<String, CaseError> {
+    let text = error_text(alloc, &error)?;
+    if pattern_error_text(alloc, &VersionPatternParseError::from(error))? != text {
+        return Err(CaseError::Disagreement);
+    }
+    Ok(text)
+}
+
+/// The normalized form, or the kind and the message of the error.
+pub fn parse(alloc: Global, text: &str) -> Result<String, CaseError> {
+    match Version::from_str(alloc, text) {
+        Ok(version) => Ok(print_value(alloc, &version)?),
+        Err(error) => refusal(alloc, error),
+    }
+}
+
+// The version's normalized form, and `.*` if a star follows.
+fn print_pattern(alloc: Global, pattern: &VersionPattern) -> Result<String, CaseError> {
+    if !equals_copy(pattern)? {
+        return Err(CaseError::Disagreement);
+    }
+    let mut text = print_value(alloc, pattern.version())?;
+    if pattern.is_wildcard() {
+        text.push_str(".*")?;
+    }
+    Ok(text)
+}
+
+/// The same of a pattern.
+pub fn parse_pattern(alloc: Global, text: &str) -> Result<String, CaseError> {
+    match VersionPattern::from_str(alloc, text) {
+        Ok(pattern) => print_pattern(alloc, &pattern),
+        Err(error) => pattern_error_text(alloc, &error),
+    }
+}

@@ -1,9 +1,0 @@
-use Rattle.std.proofs.Common.{◌≡◌, ◌∙◌, ◌+◌, ap, arith, length}
-use Rattle.pyver_core.proofs.SourceReads.{size_pushed}
-use Rattle.pyver_core.specs.SourceTexts.{size_of}
-use Rattle.pyver_core.proofs.source_texts.read_source.Goals as goal
-
-pub returns-clause-room : goal.returns-clause-room
-returns-clause-room g c =
-    let pushed : size_of c.push.new.self.items ≡ size_of c.args.state.now.texts.items + (length c.in-Ok.text.items + 1) = ap size_of c.in-Ok-push.ensures.items ∙ size_pushed c.args.state.now.texts.items _ in
-    (omega (arith, pushed, c.in-Ok.ensures.room.0, c.requires.0), c.in-Ok.ensures.room.1)

@@ -1,0 +1,57 @@
+//! The lines of a file, and what each is.
+use pyver_requirements::{LineKind, classify, logical_lines, split_requirement};
+use std::alloc::Global;
+use std::str;
+use testing::CaseError;
+
+/// The bytes, which are UTF-8 where they are from a case.
+pub fn text(bytes: &[u8]) -> Result<&str, CaseError> {
+    str::from_utf8(bytes).map_err(|_| CaseError::Unreadable)
+}
+
+/// The logical lines, each as NUMBER:TEXT and a newline.
+pub fn print_lines(alloc: Global, file: &str) -> Result<String, CaseError> {
+    let mut printed = String::new(alloc);
+    for line in &logical_lines(alloc, file.as_bytes())? {
+        let number = line.number;
+        let text = text(line.text.as_slice())?;
+        write!(printed, "{number}:{text}\n")?;
+    }
+    Ok(printed)
+}
+
+fn word_and_path(kind: LineKind<'_>) -> (&'static str, &[u8]) {
+    match kind {
+        LineKind::RequirementsFile(path) => ("requirements ", path),
+        LineKind::ConstraintsFile(path) => ("constraints ", path),
+        LineKind::MissingPath => ("no path", &[]),
+        LineKind::Editable => ("editable", &[]),
+        LineKind::PipOption => ("option", &[]),
+        LineKind::Variable => ("variable", &[]),
+        LineKind::Location => ("location", &[]),
+        LineKind::Requirement => ("requirement", &[]),
+    }
+}
+
+/// A word for what the line is, and the path that it has.
+pub fn print_kind(alloc: Global, line: &str) -> Result<String, CaseError> {
+    let (word, path) = word_and_path(classify(line.as_bytes()));
+    let path = text(path)?;
+    Ok(format!(in alloc; "{word}{path}")?)
+}
+
+fn or_none(part: Option<&[u8]>) -> Result<&str, CaseError> {
+    match part {
+        Some(bytes) => text(bytes),
+        None => Ok("-"),
+    }
+}
+
+/// The requirement, the URL and the marker with bars between them, where `-` stands for none.
+pub fn print_parts(alloc: Global, line: &str) -> Result<String, CaseError> {
+    let parts = split_requirement(line.as_bytes());
+    let requirement = text(parts.requirement)?;
+    let url = or_none(parts.url)?;
+    let marker = or_none(parts.marker)?;
+    Ok(format!(in alloc; "{requirement}|{url}|{marker}")?)
+}

@@ -1,0 +1,58 @@
+//! Test cases of requirements files: their lines, what each is, and what is found and printed of them; `stdin` beside `src/` has
+//! them.
+#![tactic(auto)]
+
+mod lines;
+mod reports;
+#[cfg(test)]
+mod tests;
+
+use lines::{print_kind, print_lines, print_parts};
+use reports::{
+    Form, print_findings, print_named_files, print_report, print_report_of, print_string,
+};
+use std::alloc::Global;
+use std::io;
+use testing::{Calls, CaseError, run_cases};
+
+struct FindingsCalls;
+
+fn answer_files(alloc: Global, call: &str, files: &str) -> Result<String, CaseError> {
+    match call {
+        "findings" => print_findings(alloc, files),
+        "text" => print_report(alloc, files, Form::Text),
+        "json" => print_report(alloc, files, Form::Json),
+        "counts" => print_report(alloc, files, Form::Counts),
+        _ => Err(CaseError::Unreadable),
+    }
+}
+
+impl Calls for FindingsCalls {
+    fn answer(&self, alloc: Global, call: &str, arguments: &[String]) -> Result<String, CaseError> {
+        match (call, arguments) {
+            ("lines", [text]) => print_lines(alloc, text.as_str()),
+            ("kind", [line]) => print_kind(alloc, line.as_str()),
+            ("parts", [line]) => print_parts(alloc, line.as_str()),
+            ("text", [name, text]) => print_report_of(
+                alloc,
+                name.as_str(),
+                text.as_str(),
+                Form::Text,
+            ),
+            ("json", [name, text]) => print_report_of(
+                alloc,
+                name.as_str(),
+                text.as_str(),
+                Form::Json,
+            ),
+            ("named", [name, text]) => print_named_files(alloc, name.as_str(), text.as_str()),
+            ("string", [bytes]) => print_string(alloc, bytes.as_str()),
+            (_, [files]) => answer_files(alloc, call, files.as_str()),
+            _ => Err(CaseError::Unreadable),
+        }
+    }
+}
+
+fn main(rt: HostRuntime) -> io::Result<()> {
+    run_cases(rt, &FindingsCalls)
+}

@@ -1,0 +1,182 @@
+-- Requirements files that are read one after another.
+use Rattle.std.proofs.Common.{◌≡◌, ◌⊎◌, ◌∙◌, ◌+◌, ◌-◌, ◌*◌, ◌≤◌, ◌<◌, ℕ, List, [], ◌∷◌, ◌++◌, true, false, Option, None, Some, inl, inr, length, take, refl, sym, ap, subst, arith, append_assoc, append-nil, length-append}
+use Rattle.std.proofs.Math.Seq.{take-append_seam}
+use Rattle.std.proofs.lemmas.Grind.{flat_map-append}
+use Rattle.std.specs.Io.KnownBytes.{Consumes}
+use Rattle.std.specs.List.{flat_map}
+use Rattle.std.specs.Str.{IsUtf8}
+use Rattle.pyver_tool.specs.FileSteps.{GainsFile, HasNames, HasReads, OpensOrRefused, ReadsStep, GainsText, StepsOrRefused, names_of_files, read_of}
+use Rattle.pyver_tool.specs.RequirementFiles.{FilesRead, HasPath, ReadsFilesInTurn, ReadsFiles, ReadsNext, StopsInFile, StopsInFiles, has_path, none_read}
+use Rattle.pyver_tool.specs.SourceViews.{IsReadingStop}
+use Rattle.pyver_tool.specs.Sources.{KnownFile, MayOpen, is_input}
+use Rattle.pyver_tool.specs.Sources.{ReadsText as ReadsSourceText}
+use Rattle.pyver_tool.specs.declared.open_failure.OpenFailure.{OpenFailure}
+use Rattle.pyver_tool.specs.declared.requirement_files.RequirementFiles.{RequirementFiles}
+use Rattle.pyver_tool.specs.declared.stream.Stop.{Stop}
+use Rattle.pyver_tool.specs.declared.stream.Stop.TheVariants as stop
+use Rattle.pyver_findings.specs.FileLines.{File}
+use Rattle.pyver_findings.specs.NamedFiles.{named_files}
+
+-- ---- one source
+
+module _ {R : Type 0} (files : List ℕ → KnownFile) (remaining : R → Option (List ℕ)) (name path : List ℕ) (a b : RequirementFiles) where
+  pub input_opened : (reader reader' : R) → is_input name ≡ true → GainsText remaining name path a b reader reader' → a.read_count < b.read_count → HasReads b → OpensOrRefused files remaining name path a b reader reader' None
+  input_opened reader reader' named k more has = (
+    record { name = name; text = k.text },
+    record {
+      text = k.text;
+      left = remaining reader';
+      reads = subst (λ t. ReadsSourceText files remaining t (files name) reader reader' k.text (remaining reader')) (sym named) (k.consumed, refl);
+      end = k.end;
+      is = refl;
+    },
+    k.gains,
+    more,
+    has,
+  )
+
+  pub file_opened : {S : Type 0} (left_of : S → Option (List ℕ)) (file file' : S) (reader : R) → is_input name ≡ false → MayOpen (files name) (left_of file) → GainsText left_of name path a b file file' → a.read_count < b.read_count → HasReads b
+      → OpensOrRefused files remaining name path a b reader reader None
+  file_opened left_of file file' reader named opens k more has = (
+    record { name = name; text = k.text },
+    record {
+      text = k.text;
+      left = left_of file';
+      reads = subst (λ t. ReadsSourceText files remaining t (files name) reader reader k.text (left_of file')) (sym named) (left_of file, opens, k.consumed, refl);
+      end = k.end;
+      is = refl;
+    },
+    k.gains,
+    more,
+    has,
+  )
+
+module _ {R : Type 0} (files : List ℕ → KnownFile) (remaining : R → Option (List ℕ)) (name : List ℕ) where
+  pub input_stops : (why : Stop) (reader reader' : R) (text : List ℕ) → IsUtf8 name → is_input name ≡ true → Consumes (remaining reader) (remaining reader') text → IsReadingStop name why → StopsInFile files remaining name reader reader' why
+  input_stops why reader reader' text utf8 named consumed stops = inr (record {
+    utf8 = utf8;
+    text = text;
+    rest = remaining reader';
+    part = subst (λ t. ReadsSourceText files remaining t (files name) reader reader' text (remaining reader')) (sym named) (consumed, refl);
+    stops = stops;
+  })
+
+  pub file_stops : {S : Type 0} (left_of : S → Option (List ℕ)) (why : Stop) (file file' : S) (reader : R) (text : List ℕ) → IsUtf8 name → is_input name ≡ false → MayOpen (files name) (left_of file) → Consumes (left_of file) (left_of file') text → IsReadingStop name why
+      → StopsInFile files remaining name reader reader why
+  file_stops left_of why file file' reader text utf8 named opens consumed stops = inr (record {
+    utf8 = utf8;
+    text = text;
+    rest = left_of file';
+    part = subst (λ t. ReadsSourceText files remaining t (files name) reader reader text (left_of file')) (sym named) (left_of file, opens, consumed, refl);
+    stops = stops;
+  })
+
+  -- memory ran out before anything was read
+  pub stops_before : (reader : R) → StopsInFile files remaining name reader reader stop.OutOfMemory
+  stops_before reader = inl (refl, refl)
+
+-- ---- the names of the files
+
+pub names_gain : (first : List (List ℕ)) (a b : RequirementFiles) (file : File) (path : List ℕ) → HasNames first a → GainsFile a b file path → HasNames first b
+names_gain first a b file path h k =
+    k.names ∙ ap (λ n. n ++ named_files file) h ∙ append_assoc first (flat_map named_files (read_of a).files) (named_files file)
+    ∙ ap (λ n. first ++ n) (ap (λ n. flat_map named_files (read_of a).files ++ n) (sym (append-nil (named_files file))) ∙ sym (flat_map-append named_files (read_of a).files (file ∷ [])) ∙ ap (λ (r : FilesRead). flat_map named_files r.files) (sym k.read))
+
+module _ {R : Type 0} (files : List ℕ → KnownFile) (paths : List ℕ → Option (List ℕ)) (remaining : R → Option (List ℕ)) where
+  -- a source with the path had been read
+  pub step_known : (name path : List ℕ) (a : RequirementFiles) (reader : R) → IsUtf8 name → HasPath files paths remaining name path → has_path (read_of a) path ≡ true → HasReads a → ReadsStep files paths remaining name a a reader reader
+  step_known name path a reader utf8 is has reads = record {
+    next = (utf8, path, is, inl (has, refl, refl));
+    names = λ first h. h;
+    more = [];
+    behind = sym (append-nil (names_of_files a));
+    advances = inr (refl, refl);
+    reads = reads;
+  }
+
+  pub step_opened : (name path : List ℕ) (a b : RequirementFiles) (reader reader' : R) (result : Option OpenFailure) → IsUtf8 name → HasPath files paths remaining name path → has_path (read_of a) path ≡ false → OpensOrRefused files remaining name path a b reader reader' result
+      → StepsOrRefused files paths remaining name a b reader reader' result
+  step_opened name path a b reader reader' None utf8 is new (file, reads, gains, more, has) = record {
+    next = (utf8, path, is, inr (new, (file, reads, gains.read)));
+    names = λ first h. names_gain first a b file path h gains;
+    more = named_files file;
+    behind = gains.names;
+    advances = inl more;
+    reads = has;
+  }
+  step_opened name path a b reader reader' (Some why) utf8 is new (other, refuses, same, kept) = (inr (utf8, other, refuses), same, kept)
+
+  -- ---- one source after another
+
+  pub each_last : (done : List (List ℕ)) (name : List ℕ) (a c b : FilesRead) (reader middle reader' : R) → ReadsFilesInTurn files paths remaining done a c reader middle → ReadsNext files paths remaining name c b middle reader'
+      → ReadsFilesInTurn files paths remaining (done ++ name ∷ []) a b reader reader'
+  each_last [] name a c b reader middle reader' (same, kept) next =
+      (b, reader', subst (λ r. ReadsNext files paths remaining name a b r reader') kept (subst (λ (x : FilesRead). ReadsNext files paths remaining name x b middle reader') same next), (refl, refl))
+  each_last (n ∷ done) name a c b reader middle reader' (x, r, step, rest) next = (x, r, step, each_last done name x c b r middle reader' rest next)
+
+  module _ (first : List (List ℕ)) (a b : RequirementFiles) (reader middle reader' : R) (front rest : List (List ℕ)) (name : List ℕ) (split : names_of_files a ≡ front ++ name ∷ rest) (k : ReadsFilesInTurn files paths remaining front none_read (read_of a) reader middle) where
+    pub each_more : ReadsStep files paths remaining name a b middle reader' → ReadsFilesInTurn files paths remaining (front ++ name ∷ []) none_read (read_of b) reader reader'
+    each_more step = each_last front name none_read (read_of a) (read_of b) reader middle reader' k step.next
+
+    -- the file with the next name was not opened
+    pub ends_refused : HasNames first a → (why : OpenFailure) → StepsOrRefused files paths remaining name a b middle reader' (Some why)
+        → ReadsFiles files paths remaining first reader reader' (record { files = (read_of b).files; unopened = Some (record { name = name; failure = why }) })
+    ends_refused h why (refuses, same, kept) = record {
+      done = front;
+      left = name ∷ rest;
+      read = read_of a;
+      split = sym h ∙ split;
+      each = subst (λ r. ReadsFilesInTurn files paths remaining front none_read (read_of a) reader r) (sym kept) k;
+      are = ap (λ (x : RequirementFiles). (read_of x).files) same;
+      ends = (refl, refuses);
+    }
+
+    pub ends_stopped : HasNames first a → (why : Stop) → StopsInFile files remaining name middle reader' why → StopsInFiles files paths remaining first reader reader' why
+    ends_stopped h why part = record {
+      done = front;
+      name = name;
+      left = rest;
+      read = read_of a;
+      split = sym h ∙ split;
+      middle = middle;
+      each = k;
+      part = part;
+    }
+
+  -- all names were read
+  pub ends_whole : (first : List (List ℕ)) (a : RequirementFiles) (reader reader' : R) → HasNames first a → ReadsFilesInTurn files paths remaining (names_of_files a) none_read (read_of a) reader reader'
+      → ReadsFiles files paths remaining first reader reader' (record { files = (read_of a).files; unopened = None })
+  ends_whole first a reader reader' h k = record {
+    done = names_of_files a;
+    left = [];
+    read = read_of a;
+    split = sym h ∙ sym (append-nil (names_of_files a));
+    each = k;
+    are = refl;
+    ends = tt;
+  }
+
+  -- memory ran out before anything was read
+  pub stops_at_once : (first : List (List ℕ)) (name : List ℕ) (left : List (List ℕ)) (reader : R) → first ≡ name ∷ left → StopsInFiles files paths remaining first reader reader stop.OutOfMemory
+  stops_at_once first name left reader is = record {
+    done = [];
+    name = name;
+    left = left;
+    read = none_read;
+    split = append-nil first ∙ is;
+    middle = reader;
+    each = (refl, refl);
+    part = stops_before files remaining name reader;
+  }
+
+-- the names up to the next one, of which more follow
+pub taken : (all more front rest : List (List ℕ)) (name : List ℕ) (i : ℕ) → all ≡ front ++ name ∷ rest → length front ≡ i → take (i + 1) (all ++ more) ≡ front ++ name ∷ []
+taken all more front rest name i is long =
+    let size : length (front ++ name ∷ []) ≡ i + 1 = search (length-append, long, arith) in
+    ap (λ l. take (i + 1) (l ++ more)) is ∙ ap (λ l. take (i + 1) (l ++ more)) (sym (append_assoc front (name ∷ []) rest)) ∙ ap (take (i + 1)) (append_assoc (front ++ name ∷ []) rest more)
+    ∙ subst (λ n. take n ((front ++ name ∷ []) ++ (rest ++ more)) ≡ front ++ name ∷ []) size (take-append_seam (front ++ name ∷ []) (rest ++ more))
+
+-- the reads that may be made get fewer, or the names that are left
+pub measure_less : (a b i m n : ℕ) → (a < b) ⊎ ((b ≡ a) × (n ≡ m)) → b ≤ 562949953421312 → i < m → n < 18446744073709551616 → (562949953421312 - b) * 18446744073709551616 + (n - (i + 1)) < (562949953421312 - a) * 18446744073709551616 + (m - i)
+measure_less a b i m n (inl less) most inside fits = omega (arith, less, most, inside, fits)
+measure_less a b i m n (inr (same, long)) most inside fits = omega (arith, same, long, most, inside, fits)

@@ -1,0 +1,185 @@
+-- There is at most one outcome of what is asked for.
+use Rattle.std.proofs.Common.{◌≡◌, ◌∙◌, ℕ, List, [], ◌∷◌, Bool, true, false, Option, Some, None, inl, inr, refl, sym, ap, subst, arith}
+use Rattle.std.specs.List.{AllZip}
+use Rattle.pep440_rs.proofs.Reading.OneMeaning.{not_both_list, one_list, one_list_refusal}
+use Rattle.pep440_rs.specs.ListErrorTexts.{list_refusal_text}
+use Rattle.pep440_rs.specs.ListGrammar.{PieceRefusal}
+use Rattle.pep440_rs.specs.Specifiers.{Spec}
+use Rattle.pep440_version.proofs.Reading.Agreement.{one_record}
+use Rattle.pep440_version.proofs.Refusals.ExactlyOne.{not_both, one_refusal}
+use Rattle.pep440_version.specs.ErrorTexts.{refusal_text}
+use Rattle.pyver_tool.specs.BumpInputs.{BumpsOnly}
+use Rattle.pyver_tool.specs.Bumps.{Bumps, bump_outcome}
+use Rattle.pyver_tool.proofs.Choosing.{one_newest}
+use Rattle.pyver_tool.proofs.Sorting.{one_sorted}
+use Rattle.pyver_tool.specs.CommonRanges.{FindsCommon, RangeReading, ReadsRange, found_outcome, range_reading}
+use Rattle.pyver_tool.specs.Comparisons.{Compares, comparison_outcome}
+use Rattle.pyver_tool.specs.Fields.{field}
+use Rattle.pyver_tool.specs.Filters.{Filters, FiltersBy, FiltersLines, filter_outcome, rule_of}
+use Rattle.pyver_tool.specs.InputLines.{SourceLine, Source, filled_lines}
+use Rattle.pyver_tool.specs.LineOptions.{is_header, no_line_options}
+use Rattle.pyver_tool.specs.Matches.{Matches, MatchesBy, MatchesWord, MatchesWords, ReadsSpecifiers, SpecifiersReading, DenotesList, ListFails, word_outcome}
+use Rattle.pyver_tool.specs.Newest.{FindsNewest, FindsNewestBy, FindsNewestLine, candidates, newest_outcome, newest_rule}
+use Rattle.pyver_tool.specs.CheckLaws.{ChecksOnce}
+use Rattle.pyver_tool.specs.Checks.{report_outcome}
+use Rattle.pyver_findings.proofs.Once.{reports_once}
+use Rattle.pyver_tool.specs.OneOutcome.{OutcomesOnce}
+use Rattle.pyver_tool.specs.Outcomes.{Outcome, in_turn}
+use Rattle.pyver_tool.specs.ReadLines.{Entry, Header, IsEntry, IsRead, LineReading, ReadLine, ReadsBytes, ReadsField, ReadsPart}
+use Rattle.pyver_tool.specs.Readings.{Reading, Reads, Denotes, Fails}
+use Rattle.pyver_tool.specs.Shows.{Shows, ShowsWord, show_outcome}
+use Rattle.pyver_tool.specs.Sorts.{SortsParts, sort_outcome}
+use Rattle.pyver_tool.specs.Sources.{Input, Unopened}
+use Rattle.pyver_tool.specs.Tasks.{Help, NameVersion, Compare, Match, Filter, Sort, Newest, Show, Bump, Range, Check, Misused}
+use Rattle.pyver_tool.specs.VersionLines.{InputParts, OfFound, OfSources, OfVersions, input_parts}
+use Rattle.pyver_tool.specs.declared.allowed.MatchOptions.{MatchOptions}
+use Rattle.pyver_tool.specs.declared.bump.BumpPart.{BumpPart}
+use Rattle.pyver_tool.specs.declared.comparison.Comparison.{Comparison}
+use Rattle.pyver_tool.specs.declared.filter.FilterOptions.{FilterOptions}
+use Rattle.pyver_tool.specs.declared.filter.FilterRule.{FilterRule}
+use Rattle.pyver_tool.specs.declared.invalid_lines.InvalidLines.{InvalidLines}
+use Rattle.pyver_tool.specs.declared.line_options.LineOptions.{LineOptions}
+use Rattle.pyver_tool.specs.declared.newest.NewestOptions.{NewestOptions}
+use Rattle.pyver_tool.specs.declared.newest.NewestRule.{NewestRule}
+use Rattle.pyver_tool.specs.declared.range.RangeOptions.{RangeOptions}
+use Rattle.pyver_tool.specs.declared.show.ShowFormat.{ShowFormat}
+use Rattle.pyver_tool.specs.declared.sort.SortOptions.{SortOptions}
+
+reading_once : (text : List ℕ) (x y : Reading) → Reads text x → Reads text y → x ≡ y
+reading_once text (Denotes r) (Denotes q) h k = ap Denotes (one_record text r q h k)
+reading_once text (Denotes r) (Fails m) h (f, e, is) = absurd (not_both text r f h e)
+reading_once text (Fails m) (Denotes r) (f, e, is) h = absurd (not_both text r f h e)
+reading_once text (Fails m) (Fails n) (f, d, is) (g, e, so) = ap Fails (is ∙ ap refusal_text (one_refusal text f g d e) ∙ sym so)
+
+specifiers_once : (text : List ℕ) (x y : SpecifiersReading) → ReadsSpecifiers text x → ReadsSpecifiers text y → x ≡ y
+specifiers_once text (DenotesList l) (DenotesList m) h k = ap DenotesList (one_list text l m h k)
+specifiers_once text (DenotesList l) (ListFails n) h (f, e, is) = absurd (not_both_list text l f h e)
+specifiers_once text (ListFails m) (DenotesList l) (f, e, is) h = absurd (not_both_list text l f h e)
+specifiers_once text (ListFails m) (ListFails n) (f, d, is) (g, e, so) = ap ListFails (is ∙ ap (λ (x : PieceRefusal). list_refusal_text x text) (one_list_refusal text f g d e) ∙ sym so)
+
+compare_once : (left : List ℕ) (operator : Comparison) (right : List ℕ) (a b : Outcome) → Compares left operator right a → Compares left operator right b → a ≡ b
+compare_once left operator right a b (x, y, hx, hy, is) (u, v, hu, hv, so) =
+    is ∙ ap (λ (z : Reading). comparison_outcome left z operator right y) (reading_once left x u hx hu) ∙ ap (λ (z : Reading). comparison_outcome left u operator right z) (reading_once right y v hy hv) ∙ sym so
+
+word_once : (quiet takes : Bool) (list : List Spec) (word : List ℕ) (a b : Outcome) → MatchesWord quiet takes list word a → MatchesWord quiet takes list word b → a ≡ b
+word_once quiet takes list word a b (x, hx, is) (u, hu, so) = is ∙ ap (word_outcome quiet takes list word) (reading_once word x u hx hu) ∙ sym so
+
+all_once : {A B : Type 0} (R : A → B → Type 0) → ((t : A) (x y : B) → R t x → R t y → x ≡ y) → (texts : List A) (found there : List B) → AllZip R texts found → AllZip R texts there → found ≡ there
+all_once R once [] [] [] h g = refl
+all_once R once [] [] (y ∷ there) h g = absurd g
+all_once R once [] (x ∷ found) there h g = absurd h
+all_once R once (t ∷ texts) [] there h g = absurd h
+all_once R once (t ∷ texts) (x ∷ found) [] h g = absurd g
+all_once R once (t ∷ texts) (x ∷ found) (y ∷ there) h g =
+    let head = once t x y h.0 g.0 in
+    let tail = all_once R once texts found there h.1 g.1 in
+    λ i. head i ∷ tail i
+
+bytes_once : (text : List ℕ) (x y : Reading) → ReadsBytes text x → ReadsBytes text y → x ≡ y
+bytes_once text x y (inl (bad, is)) (inl (also, so)) = is ∙ sym so
+bytes_once text x y (inl (bad, is)) (inr (utf8, k)) = absurd (bad utf8)
+bytes_once text x y (inr (utf8, h)) (inl (bad, so)) = absurd (bad utf8)
+bytes_once text x y (inr (utf8, h)) (inr (again, k)) = reading_once text x y h k
+
+field_once : (number : ℕ) (text : Option (List ℕ)) (x y : Reading) → ReadsField number text x → ReadsField number text y → x ≡ y
+field_once number None x y is so = is ∙ sym so
+field_once number (Some text) x y h k = bytes_once text x y h k
+
+part_once : (number : Option ℕ) (delimiter : ℕ) (text : List ℕ) (x y : Reading) → ReadsPart number delimiter text x → ReadsPart number delimiter text y → x ≡ y
+part_once None delimiter text x y h k = bytes_once text x y h k
+part_once (Some number) delimiter text x y h k = field_once number (field number delimiter text) x y h k
+
+entry_once : (header : Bool) (options : LineOptions) (text : List ℕ) (x y : LineReading) → IsEntry header options text x → IsEntry header options text y → x ≡ y
+entry_once header options text Header Header h k = refl
+entry_once header options text Header (Entry y) h k = let both : true ≡ false = sym h ∙ k.0 in cc both
+entry_once header options text (Entry x) Header h k = let both : true ≡ false = sym k ∙ h.0 in cc both
+entry_once header options text (Entry x) (Entry y) h k = ap Entry (part_once options.field options.delimiter text x y h.1 k.1)
+
+is_read_once : (options : LineOptions) (line : SourceLine) (x y : ReadLine) → IsRead options line x → IsRead options line y → x ≡ y
+is_read_once options line x y h k =
+    let lines_same = h.0 ∙ sym k.0 in
+    let readings = entry_once (is_header options line.number) options line.text x.reading y.reading h.1 k.1 in
+    λ i. record { line = lines_same i; reading = readings i }
+
+words_once : (quiet takes : Bool) (list : List Spec) (words : List (List ℕ)) (a b : Outcome) → MatchesWords quiet takes list words a → MatchesWords quiet takes list words b → a ≡ b
+words_once quiet takes list words a b (os, h, is) (ps, k, so) = is ∙ ap in_turn (all_once (MatchesWord quiet takes list) (word_once quiet takes list) words os ps h k) ∙ sym so
+
+by_once : (options : MatchOptions) (x : SpecifiersReading) (words : List (List ℕ)) (a b : Outcome) → MatchesBy options x words a → MatchesBy options x words b → a ≡ b
+by_once options (DenotesList list) words a b h k = words_once _ _ list words a b h k
+by_once options (ListFails message) words a b h k = h ∙ sym k
+
+match_once : (options : MatchOptions) (specifiers : List ℕ) (words : List (List ℕ)) (a b : Outcome) → Matches options specifiers words a → Matches options specifiers words b → a ≡ b
+match_once options specifiers words a b (x, hx, h) (u, hu, k) = by_once options x words a b h (subst (λ (z : SpecifiersReading). MatchesBy options z words b) (sym (specifiers_once specifiers x u hx hu)) k)
+
+filters_once : (rule : FilterRule) (input : Input) (a b : Outcome) → Filters rule input a → Filters rule input b → a ≡ b
+filters_once rule input a b (es, h, is) (fs, k, so) = is ∙ ap (λ l. filter_outcome rule l input.unopened) (all_once (IsRead rule.lines) (is_read_once rule.lines) (filled_lines input.sources) es fs h k) ∙ sym so
+
+filter_by_once : (options : FilterOptions) (x : SpecifiersReading) (input : Input) (a b : Outcome) → FiltersBy options x input a → FiltersBy options x input b → a ≡ b
+filter_by_once options (DenotesList list) input a b h k = filters_once (rule_of options list) input a b h k
+filter_by_once options (ListFails message) input a b h k = h ∙ sym k
+
+filter_once : (options : FilterOptions) (specifiers : List ℕ) (input : Input) (a b : Outcome) → FiltersLines options specifiers input a → FiltersLines options specifiers input b → a ≡ b
+filter_once options specifiers input a b (x, hx, h) (u, hu, k) = filter_by_once options x input a b h (subst (λ (z : SpecifiersReading). FiltersBy options z input b) (sym (specifiers_once specifiers x u hx hu)) k)
+
+-- what is written where no invalid line is an error is one outcome, and so is what is written of any lines
+of_found_once : (how : InvalidLines) (Gives : InputParts → Outcome → Type 0) → ((parts : InputParts) (a b : Outcome) → Gives parts a → Gives parts b → a ≡ b) → (found : List ReadLine) (a b : Outcome) → OfFound how Gives found a → OfFound how Gives found b → a ≡ b
+of_found_once how Gives once found a b (inl (none, h)) (inl (also, k)) = once (input_parts how found) a b h k
+of_found_once how Gives once found a b (inl (none, h)) (inr (some, k)) = absurd (omega (arith, none, some))
+of_found_once how Gives once found a b (inr (some, h)) (inl (none, k)) = absurd (omega (arith, none, some))
+of_found_once how Gives once found a b (inr (some, is)) (inr (also, so)) = is ∙ sym so
+
+of_sources_once : (options : LineOptions) (Gives : InputParts → Outcome → Type 0) → ((parts : InputParts) (a b : Outcome) → Gives parts a → Gives parts b → a ≡ b) → (sources : List Source) (unopened : Option Unopened) (a b : Outcome)
+    → OfSources options Gives sources unopened a → OfSources options Gives sources unopened b → a ≡ b
+of_sources_once options Gives once sources None a b (es, h, is) (fs, k, so) =
+    of_found_once options.invalid Gives once es a b is (subst (λ (l : List ReadLine). OfFound options.invalid Gives l b) (sym (all_once (IsRead options) (is_read_once options) (filled_lines sources) es fs h k)) so)
+of_sources_once options Gives once sources (Some file) a b is so = is ∙ sym so
+
+of_versions_once : (options : LineOptions) (Gives : InputParts → Outcome → Type 0) → ((parts : InputParts) (a b : Outcome) → Gives parts a → Gives parts b → a ≡ b) → (input : Input) (a b : Outcome) → OfVersions options Gives input a → OfVersions options Gives input b → a ≡ b
+of_versions_once options Gives once input a b h k = of_sources_once options Gives once input.sources input.unopened a b h k
+
+sort_once : (options : SortOptions) (parts : InputParts) (a b : Outcome) → SortsParts options parts a → SortsParts options parts b → a ≡ b
+sort_once options parts a b (xs, h, is) (ys, k, so) = is ∙ ap (sort_outcome options parts) (one_sorted options.reversed parts.versions xs ys h k) ∙ sym so
+
+finds_once : (rule : NewestRule) (parts : InputParts) (a b : Outcome) → FindsNewest rule parts a → FindsNewest rule parts b → a ≡ b
+finds_once rule parts a b (x, h, is) (y, k, so) = is ∙ ap (newest_outcome parts.messages) (one_newest (candidates rule parts.versions) x y h k) ∙ sym so
+
+newest_by_once : (options : NewestOptions) (x : SpecifiersReading) (input : Input) (a b : Outcome) → FindsNewestBy options x input a → FindsNewestBy options x input b → a ≡ b
+newest_by_once options (DenotesList list) input a b h k = let rule = newest_rule options list in of_versions_once options.lines (FindsNewest rule) (finds_once rule) input a b h k
+newest_by_once options (ListFails message) input a b h k = h ∙ sym k
+
+newest_once : (options : NewestOptions) (specifiers : List ℕ) (input : Input) (a b : Outcome) → FindsNewestLine options specifiers input a → FindsNewestLine options specifiers input b → a ≡ b
+newest_once options specifiers input a b (x, hx, h) (u, hu, k) = newest_by_once options x input a b h (subst (λ (z : SpecifiersReading). FindsNewestBy options z input b) (sym (specifiers_once specifiers x u hx hu)) k)
+
+show_word_once : (format : ShowFormat) (word : List ℕ) (a b : Outcome) → ShowsWord format word a → ShowsWord format word b → a ≡ b
+show_word_once format word a b (x, hx, is) (u, hu, so) = is ∙ ap (show_outcome format word) (reading_once word x u hx hu) ∙ sym so
+
+show_once : (format : ShowFormat) (words : List (List ℕ)) (a b : Outcome) → Shows format words a → Shows format words b → a ≡ b
+show_once format words a b (os, h, is) (ps, k, so) = is ∙ ap in_turn (all_once (ShowsWord format) (show_word_once format) words os ps h k) ∙ sym so
+
+bump_once : (to : Option ℕ) (parts : List BumpPart) (word : List ℕ) (a b : Outcome) → Bumps to parts word a → Bumps to parts word b → a ≡ b
+bump_once to parts word a b (x, hx, is) (u, hu, so) = is ∙ ap (bump_outcome to parts word) (reading_once word x u hx hu) ∙ sym so
+
+range_once : (word : List ℕ) (x y : RangeReading) → ReadsRange word x → ReadsRange word y → x ≡ y
+range_once word x y (l, hl, is) (m, hm, so) = is ∙ ap (range_reading word) (specifiers_once word l m hl hm) ∙ sym so
+
+common_once : (options : RangeOptions) (words : List (List ℕ)) (a b : Outcome) → FindsCommon options words a → FindsCommon options words b → a ≡ b
+common_once options words a b (xs, h, is) (ys, k, so) = is ∙ ap (found_outcome options) (all_once ReadsRange range_once words xs ys h k) ∙ sym so
+
+pub outcomes_once : OutcomesOnce
+outcomes_once (Help topic) input a b h k = h ∙ sym k
+outcomes_once NameVersion input a b h k = h ∙ sym k
+outcomes_once (Compare left operator right) input a b h k = compare_once left operator right a b h k
+outcomes_once (Match options specifiers words) input a b h k = match_once options specifiers words a b h k
+outcomes_once (Filter options specifiers names) input a b h k = filter_once options specifiers input a b h k
+outcomes_once (Sort options names) input a b h k = of_versions_once options.lines (SortsParts options) (sort_once options) input a b h k
+outcomes_once (Newest options specifiers names) input a b h k = newest_once options specifiers input a b h k
+outcomes_once (Show format words) input a b h k = show_once format words a b h k
+outcomes_once (Bump to parts None) input a b h k = of_versions_once no_line_options (BumpsOnly to parts) (λ lines a b is so. is ∙ sym so) input a b h k
+outcomes_once (Bump to parts (Some word)) input a b h k = bump_once to parts word a b h k
+outcomes_once (Range options words) input a b h k = common_once options words a b h k
+outcomes_once (Check json names) input a b h k = absurd h
+outcomes_once (Misused message) input a b h k = h ∙ sym k
+
+pub checks_once : ChecksOnce
+checks_once json files None a b (r, hr, is) (s, hs, so) = is ∙ ap (report_outcome json) (reports_once files r s hr hs) ∙ sym so
+checks_once json files (Some file) a b h k = h ∙ sym k

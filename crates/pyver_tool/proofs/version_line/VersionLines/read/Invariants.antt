@@ -1,0 +1,11 @@
+use Rattle.std.proofs.Common.{◌≤◌, map, take}
+use Rattle.pyver_tool.specs.InputLines.{filled_lines}
+use Rattle.pyver_tool.specs.SourceTexts.{size_of, source_of}
+use Rattle.pyver_tool.specs.VersionLineViews.{KeepsLines}
+use Rattle.pyver_tool.proofs.version_line.VersionLines.read.Given as goal
+
+abbrev pub invariant-loop-source : goal.invariant-loop-source
+invariant-loop-source l = record {
+  keeps : KeepsLines l.options (filled_lines (map source_of (take l.source-index l.sources))) l.lines;
+  room : l.lines.fault_count ≤ size_of (take l.source-index l.sources);
+}

@@ -1,0 +1,54 @@
+-- `filter SPECS [FILE..]`: the lines of the sources whose version the list allows, or the others.
+use Rattle.std.specs.Prelude.{◌≡◌, ℕ, List, ◌++◌, Bool, false, Option, codes, length, not, take, if◌then◌else◌}
+use Rattle.std.specs.List.{AllZip, concat, filter, flat_map}
+use Rattle.pep440_rs.specs.Specifiers.{Spec}
+use Rattle.pyver_tool.specs.InputLines.{filled_lines}
+use Rattle.pyver_tool.specs.InvalidLines.{last_message, lines_status, message_limit}
+use Rattle.pyver_tool.specs.Matches.{DenotesList, ListFails, ReadsSpecifiers, SpecifiersReading, list_fault}
+use Rattle.pyver_tool.specs.Outcomes.{Outcome, followed_by, no_outcome}
+use Rattle.pyver_tool.specs.Prereleases.{allows, takes_prereleases}
+use Rattle.pyver_tool.specs.ReadLines.{Entry, Header, IsRead, LineReading, ReadLine, faults}
+use Rattle.pyver_tool.specs.Readings.{Denotes, Fails}
+use Rattle.pyver_tool.specs.Sources.{Input, Unopened, unopened_message, unopened_status}
+use Rattle.pep440_version.specs.Record.{Record}
+use Rattle.pyver_tool.specs.declared.filter.FilterOptions.{FilterOptions}
+use Rattle.pyver_tool.specs.declared.filter.FilterRule.{FilterRule}
+
+-- the version is printed: the list allows it, or, with `-v`, does not
+abbrev pub is_shown : FilterRule → Record → Bool
+is_shown rule r = if rule.inverted then not (allows rule.takes rule.list r) else allows rule.takes rule.list r
+
+-- the line is printed: it is the header of the first source, or its version is printed
+abbrev pub is_printed : FilterRule → Bool → LineReading → Bool
+is_printed rule first Header = first
+is_printed rule first (Entry (Denotes r)) = is_shown rule r
+is_printed rule first (Entry (Fails reason)) = false
+
+-- the lines that are printed, in the order of the sources
+abbrev pub printed_lines : FilterRule → List ReadLine → List ℕ
+printed_lines rule found = flat_map (λ (x : ReadLine). x.line.text ++ codes "\n") (filter (λ (x : ReadLine). is_printed rule x.line.origin.is_first x.reading) found)
+
+-- the printed lines, the messages of the first invalid lines, the last message of these, and that of a file that was not opened
+abbrev pub filter_outcome : FilterRule → List ReadLine → Option Unopened → Outcome
+filter_outcome rule found unopened = record {
+  output = printed_lines rule found;
+  errors = concat (take (message_limit rule.lines.invalid) (faults found)) ++ (last_message rule.lines.invalid (length (faults found)) ++ unopened_message unopened);
+  status = unopened_status unopened (lines_status rule.lines.invalid (length (faults found)));
+}
+
+-- the outcome of the lines by a valid list
+abbrev pub Filters : FilterRule → Input → Outcome → Type 0
+Filters rule input o = (found : List ReadLine) × AllZip (IsRead rule.lines) (filled_lines input.sources) found × (o ≡ filter_outcome rule found input.unopened)
+
+-- the rule of the options and the list
+abbrev pub rule_of : FilterOptions → List Spec → FilterRule
+rule_of options list = record { inverted = options.inverted; takes = takes_prereleases options.prereleases list; lines = options.lines; list = list }
+
+-- the outcome of the lines by a valid list, or the error of an invalid one
+abbrev pub FiltersBy : FilterOptions → SpecifiersReading → Input → Outcome → Type 0
+FiltersBy options (DenotesList list) input o = Filters (rule_of options list) input o
+FiltersBy options (ListFails message) input o = o ≡ followed_by no_outcome (list_fault message)
+
+-- the outcome of `filter`: SPECS is parsed, and then the lines
+abbrev pub FiltersLines : FilterOptions → List ℕ → Input → Outcome → Type 0
+FiltersLines options specifiers input o = (x : SpecifiersReading) × ReadsSpecifiers specifiers x × FiltersBy options x input o

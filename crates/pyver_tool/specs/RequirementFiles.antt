@@ -1,0 +1,115 @@
+-- The requirements files that `check` reads: those that the words name, and those that their lines name.
+use Rattle.std.specs.Prelude.{◌≡◌, ◌⊎◌, ⊤, ℕ, List, [], ◌∷◌, ◌++◌, Bool, true, false, Option, Some, None, bytes_eq}
+use Rattle.std.specs.Io.KnownBytes.{IsAtEnd}
+use Rattle.std.specs.List.{flat_map, list_any}
+use Rattle.std.specs.Str.{IsUtf8}
+use Rattle.pyver_tool.specs.SourceViews.{IsReadingStop}
+use Rattle.pyver_tool.specs.Sources.{KnownFile, MayRefuse, ReadsByName, Unopened, is_input}
+use Rattle.pyver_tool.specs.declared.open_failure.OpenFailure.{OpenFailure}
+use Rattle.pyver_tool.specs.declared.open_failure.OpenFailure.TheVariants as failure
+use Rattle.pyver_tool.specs.declared.stream.Stop.{Stop}
+use Rattle.pyver_tool.specs.declared.stream.Stop.TheVariants as stop
+use Rattle.pyver_findings.specs.FileLines.{File}
+use Rattle.pyver_findings.specs.NamedFiles.{named_files}
+
+-- files that were read, and their paths
+pub record FilesRead : Type 0 where
+  pub files : List File
+  pub paths : List (List ℕ)
+
+abbrev pub none_read : FilesRead
+none_read = record { files = []; paths = [] }
+
+abbrev pub with_file : FilesRead → File → List ℕ → FilesRead
+with_file a file path = record { files = a.files ++ file ∷ []; paths = a.paths ++ path ∷ [] }
+
+-- a file with this path was read
+abbrev pub has_path : FilesRead → List ℕ → Bool
+has_path a path = list_any (bytes_eq path) a.paths
+
+-- what is known of a path says that it is this one
+abbrev pub IsKnownPath : Option (List ℕ) → List ℕ → Type 0
+IsKnownPath None path = ⊤
+IsKnownPath (Some known) path = path ≡ known
+
+-- the path of a source: of standard input its name
+abbrev pub IsSourcePath : Bool → Option (List ℕ) → List ℕ → List ℕ → Type 0
+IsSourcePath true known name path = path ≡ name
+IsSourcePath false known name path = IsKnownPath known path
+
+-- the file at which reading ended was not opened, because of this: its name is no UTF-8, or the system refused it
+abbrev pub IsRefused : KnownFile → List ℕ → OpenFailure → Type 0
+IsRefused file name why = ((¬ IsUtf8 name) × (why ≡ failure.Other)) ⊎ (IsUtf8 name × (is_input name ≡ false) × MayRefuse file why)
+
+-- the files that were read, and the one at which reading ended, if one was not opened
+pub record FilesFound : Type 0 where
+  pub files : List File
+  pub unopened : Option Unopened
+
+-- `files` is what is known of each file, `remaining` are the bytes that standard input has left
+module _ {R : Type 0} (files : List ℕ → KnownFile) (remaining : R → Option (List ℕ)) where
+  -- the source with this name was read to its end
+  pub record ReadsFile (name : List ℕ) (reader reader' : R) (file : File) : Type 0 where
+    pub text : List ℕ
+    pub left : Option (List ℕ)
+    pub reads : ReadsByName files remaining name reader reader' text left
+    pub end : IsAtEnd left
+    pub is : file ≡ record { name = name; text = text }
+
+  -- a part of the source with this name, which is UTF-8, was read, when reading stopped
+  pub record ReadsFilePart (name : List ℕ) (reader reader' : R) (why : Stop) : Type 0 where
+    pub utf8 : IsUtf8 name
+    pub text : List ℕ
+    pub rest : Option (List ℕ)
+    pub part : ReadsByName files remaining name reader reader' text rest
+    pub stops : IsReadingStop name why
+
+  -- when reading stopped, a part of the source with this name was read, or, where memory ran out, nothing
+  abbrev pub StopsInFile : List ℕ → R → R → Stop → Type 0
+  StopsInFile name reader reader' why = ((why ≡ stop.OutOfMemory) × (reader' ≡ reader)) ⊎ ReadsFilePart name reader reader' why
+
+-- `paths` is what is known of the path of each file
+module _ {R : Type 0} (files : List ℕ → KnownFile) (paths : List ℕ → Option (List ℕ)) (remaining : R → Option (List ℕ)) where
+  -- the path of the source with this name
+  abbrev pub HasPath : List ℕ → List ℕ → Type 0
+  HasPath name path = IsSourcePath (is_input name) (paths name) name path
+
+  -- a source with the path of this name, which is UTF-8, had been read; or the source was read
+  abbrev pub ReadsNext : List ℕ → FilesRead → FilesRead → R → R → Type 0
+  ReadsNext name a b reader reader' = IsUtf8 name × (path : List ℕ) × HasPath name path
+      × (((has_path a path ≡ true) × (b ≡ a) × (reader' ≡ reader))
+      ⊎ ((has_path a path ≡ false) × ((file : File) × ReadsFile files remaining name reader reader' file × (b ≡ with_file a file path))))
+
+  -- the sources with these names, each in turn
+  abbrev pub ReadsFilesInTurn : List (List ℕ) → FilesRead → FilesRead → R → R → Type 0
+  ReadsFilesInTurn [] a b reader reader' = (b ≡ a) × (reader' ≡ reader)
+  ReadsFilesInTurn (name ∷ names) a b reader reader' = (c : FilesRead) × (middle : R) × ReadsNext name a c reader middle × ReadsFilesInTurn names c b middle reader'
+
+  -- no name is left; or the file with the first of them was not opened
+  abbrev pub EndsFiles : List (List ℕ) → Option Unopened → Type 0
+  EndsFiles [] None = ⊤
+  EndsFiles [] (Some file) = ⊥
+  EndsFiles (name ∷ names) None = ⊥
+  EndsFiles (name ∷ names) (Some file) = (file.name ≡ name) × IsRefused (files name) name file.failure
+
+  -- Of all names, first these and then those that the lines of each file name, in the order of the files, each was read in turn, or
+  -- each before one that was not opened.
+  pub record ReadsFiles (names : List (List ℕ)) (reader reader' : R) (found : FilesFound) : Type 0 where
+    pub done : List (List ℕ)
+    pub left : List (List ℕ)
+    pub read : FilesRead
+    pub split : names ++ flat_map named_files read.files ≡ done ++ left
+    pub each : ReadsFilesInTurn done none_read read reader reader'
+    pub are : found.files ≡ read.files
+    pub ends : EndsFiles left found.unopened
+
+  -- some names were read so, and a part of the source with the next one, or, where memory ran out, nothing
+  pub record StopsInFiles (names : List (List ℕ)) (reader reader' : R) (why : Stop) : Type 0 where
+    pub done : List (List ℕ)
+    pub name : List ℕ
+    pub left : List (List ℕ)
+    pub read : FilesRead
+    pub split : names ++ flat_map named_files read.files ≡ done ++ name ∷ left
+    pub middle : R
+    pub each : ReadsFilesInTurn done none_read read reader middle
+    pub part : StopsInFile files remaining name middle reader' why

@@ -1,0 +1,61 @@
+-- Commands that read all sources before they write.
+use Rattle.std.specs.Prelude.{◌≡◌, ◌⊎◌, ℕ, List, Option, None}
+use Rattle.std.specs.Io.KnownBytes.{Appends}
+use Rattle.pyver_tool.specs.BumpInputs.{BumpsOnly}
+use Rattle.pyver_tool.specs.InputLines.{Source}
+use Rattle.pyver_tool.specs.LineOptions.{no_line_options}
+use Rattle.pyver_tool.specs.Outcomes.{Outcome}
+use Rattle.pyver_tool.specs.Runs.{WroteBeginning}
+use Rattle.pyver_tool.specs.Newest.{FindsNewest}
+use Rattle.pyver_tool.specs.Sorts.{SortsParts}
+use Rattle.pyver_tool.specs.SourceViews.{IsStopOf}
+use Rattle.pyver_tool.specs.Sources.{Input, KnownFile, ReadsFirst, ReadsInput, last_name, without_lines}
+use Rattle.pyver_tool.specs.VersionLines.{InputParts, OfVersions}
+use Rattle.pyver_tool.specs.declared.line_options.LineOptions.{LineOptions}
+use Rattle.pyver_tool.specs.declared.stream.Stop.{Stop}
+use Rattle.pyver_tool.specs.declared.stream.Stop.TheVariants as stop
+use Rattle.pyver_tool.specs.declared.whole_input.Question.{Question}
+use Rattle.pyver_tool.specs.declared.whole_input.Question.TheVariants as question
+
+-- how lines are read
+abbrev pub question_lines : Question → LineOptions
+question_lines (question.Sort options) = options.lines
+question_lines (question.Newest rule) = rule.lines
+question_lines (question.Bump rule) = no_line_options
+
+-- what is written of lines that were read, where no invalid one is an error
+abbrev pub AnswersParts : Question → InputParts → Outcome → Type 0
+AnswersParts (question.Sort options) parts o = SortsParts options parts o
+AnswersParts (question.Newest rule) parts o = FindsNewest rule parts o
+AnswersParts (question.Bump rule) parts o = BumpsOnly rule.to rule.parts.items parts o
+
+-- what is written of what was read
+abbrev pub AnswersInput : Question → Input → Outcome → Type 0
+AnswersInput asked input o = OfVersions (question_lines asked) (AnswersParts asked) input o
+
+module _ {R W E : Type 0} (files : List ℕ → KnownFile) (remaining : R → Option (List ℕ)) (contents : W → Option (List ℕ)) (error_contents : E → Option (List ℕ)) where
+  -- all was read, up to a file that was not opened if there was one, and all was written
+  pub record WholeFinishes (asked : Question) (names : List (List ℕ)) (reader reader' : R) (out out' : W) (err err' : E) (status : ℕ) : Type 0 where
+    pub input : Input
+    pub reads : ReadsInput files remaining names reader reader' input
+    pub outcome : Outcome
+    pub is : AnswersInput asked input outcome
+    pub output : Appends (contents out) (contents out') outcome.output
+    pub errors : Appends (error_contents err) (error_contents err') outcome.errors
+    pub ended : status ≡ outcome.status
+
+  -- all was read, or some of which no line was used
+  abbrev pub ReadsUnused : List (List ℕ) → R → R → Input → Stop → Type 0
+  ReadsUnused names reader reader' input why =
+      ReadsInput files remaining names reader reader' input
+      ⊎ ((read : List Source) × ReadsFirst files remaining (why ≡ stop.OutOfMemory) names reader reader' read × (input.unopened ≡ None) × (input.sources ≡ without_lines read))
+
+  -- nothing was written, or a beginning of what is asked for by all sources
+  pub record WholeStops (asked : Question) (names : List (List ℕ)) (reader reader' : R) (out out' : W) (err err' : E) (why : Stop) : Type 0 where
+    pub input : Input
+    pub reads : ReadsUnused names reader reader' input why
+    pub outcome : Outcome
+    pub is : AnswersInput asked input outcome
+    pub output : WroteBeginning (contents out) (contents out') outcome.output
+    pub errors : WroteBeginning (error_contents err) (error_contents err') outcome.errors
+    pub stops : IsStopOf (last_name input.sources) why

@@ -1,0 +1,82 @@
+// The loop of `filter` over a source.
+ghost use Rattle.std.specs.Prelude.{◌≡◌, ◌≤◌, ◌*◌, [], Some, IfErr, IfOk};
+ghost use Rattle.pyver_tool.specs.FilterSteps.{SourceFinishes, SourceStops};
+ghost use Rattle.pyver_tool.specs.SourceViews.{IsReadingStop, IsStopOf, origin_of};
+
+use crate::filter::{FilterRule, FilterState};
+use crate::open_failure::push_file_fault;
+use crate::origin::{Origin, is_input};
+use crate::stream::{Stop, write_both};
+use std::alloc::Global;
+use std::io::{Read, Write};
+
+/// So many reads are made at most, which takes years.
+pub(crate) const MOST_READS: u64 = 562949953421312;
+
+pub(crate) const READ_SIZE: usize = 8192;
+
+/// A read of the source with this name failed.
+pub(crate) fn stop_reading(alloc: Global, name: &str) -> Stop
+    ensures of { IsStopOf (Some name.now) result }
+    ensures reading { IsReadingStop name.now result }
+{
+    if is_input(name) {
+        return Stop::Read;
+    }
+    let mut message = Vec::new(alloc);
+    match push_file_fault(&mut message, name.as_bytes(), "a read failed") {
+        Ok(()) => Stop::ReadFile(message),
+        Err(_) => Stop::OutOfMemory,
+    }
+}
+
+/// Writes what the rule asks for of each line of the source, before more is read.
+pub(crate) fn filter_input<R: Read, W: Write, E: Write>(
+    alloc: Global,
+    rule: &FilterRule,
+    origin: Origin<'_>,
+    state: &mut FilterState,
+    input: &mut R,
+    out: &mut W,
+    err: &mut E,
+) -> Result<(), Stop>
+    requires nothing { (state.old.output.items ≡ []) × (state.old.errors.items ≡ []) }
+    requires room { state.old.fault_count ≤ 8192 * state.old.read_count }
+    ensures finished { IfOk result (λ _. SourceFinishes R.remaining W.contents E.contents rule.now (origin_of origin.entry) state.old.fault_count state.new input.old input.new out.old out.new err.old err.new) }
+    ensures room { IfOk result (λ _. state.new.fault_count ≤ 8192 * state.new.read_count) }
+    ensures stopped { IfErr result (λ _. SourceStops R.remaining W.contents E.contents rule.now (origin_of origin.entry) state.old.fault_count input.old input.new out.old out.new err.old err.new) }
+    ensures stop { IfErr result (IsStopOf (Some (origin_of origin.entry).name)) }
+{
+    let mut buffer = [0u8; READ_SIZE];
+    let mut line = Vec::new(alloc);
+    state.line_count = 0;
+    while state.read_count < MOST_READS {
+        state.read_count += 1;
+        let Ok(count) = input.read(&mut buffer) else {
+            return Err(stop_reading(alloc, origin.name));
+        };
+        if count == 0 {
+            let Ok(()) = state.push_line(alloc, rule, origin, line.as_slice()) else {
+                return Err(Stop::OutOfMemory);
+            };
+            if let Err(stop) = write_both(
+                out,
+                err,
+                state.output.as_slice(),
+                state.errors.as_slice(),
+            ) {
+                return Err(stop);
+            }
+            state.clear();
+            return Ok(());
+        }
+        let Ok(()) = state.push_bytes(alloc, rule, origin, &mut line, &buffer[..count]) else {
+            return Err(Stop::OutOfMemory);
+        };
+        if let Err(stop) = write_both(out, err, state.output.as_slice(), state.errors.as_slice()) {
+            return Err(stop);
+        }
+        state.clear();
+    }
+    Err(stop_reading(alloc, origin.name))
+}

@@ -1,0 +1,31 @@
+//! What holds of the program's outcomes, as the contract of a function that does nothing.
+ghost use Rattle.pyver_tool.specs.BumpLaws.{BumpsAreGreater, BumpsChangeOnly, ReleasesAreBumped};
+ghost use Rattle.pyver_tool.specs.CheckLaws.{ChecksOnce};
+ghost use Rattle.pyver_tool.specs.OneOutcome.{OutcomesOnce};
+ghost use Rattle.pyver_tool.specs.RangeLaws.{CommonIsInEach, NoVersionHasItsStatus, NoVersionIsCommon};
+
+/// Of what is asked for there is at most one outcome.
+pub fn outcomes_once()
+    ensures { OutcomesOnce }
+{}
+
+/// Of files that were checked one thing is written.
+pub fn checks_once()
+    ensures { ChecksOnce }
+{}
+
+/// A version that `bump` makes is greater, and differs in the stated parts alone; a number of the release can be
+/// raised unless it is the greatest.
+pub fn bumps()
+    ensures greater { BumpsAreGreater }
+    ensures parts { BumpsChangeOnly }
+    ensures release { ReleasesAreBumped }
+{}
+
+/// Where `range` says that there is no version, none is contained in all lists; and a version lies in the intersection of
+/// ranges exactly if it lies in each of them.
+pub fn common_ranges()
+    ensures none { NoVersionIsCommon }
+    ensures status { NoVersionHasItsStatus }
+    ensures each { CommonIsInEach }
+{}

@@ -1,0 +1,47 @@
+// Why a file is not opened, and what is said of a file.
+ghost use Rattle.std.specs.Prelude.{◌≡◌, ◌++◌, IfOk};
+ghost use Rattle.pyver_tool.specs.Messages.{file_message};
+ghost use Rattle.pyver_tool.specs.Sources.{failure_reason};
+
+use pyver_findings::push_escaped;
+use std::alloc::AllocError;
+
+/// Why a file could not be opened.
+#[derive(Clone, Copy)]
+pub enum OpenFailure {
+    NotFound,
+    PermissionDenied,
+    IsDirectory,
+    OutOfMemory,
+    Other,
+}
+
+impl OpenFailure {
+    pub(crate) fn reason(self) -> &'static str
+        ensures { result.now ≡ failure_reason self }
+    {
+        match self {
+            OpenFailure::NotFound => "no such file",
+            OpenFailure::PermissionDenied => "permission denied",
+            OpenFailure::IsDirectory => "is a directory",
+            OpenFailure::OutOfMemory => "out of memory",
+            OpenFailure::Other => "cannot be opened",
+        }
+    }
+}
+
+/// The message of a file at the end.
+pub(crate) fn push_file_fault(
+    errors: &mut Vec<u8>,
+    name: &[u8],
+    reason: &str,
+) -> Result<(), AllocError>
+    ensures { IfOk result (λ _. errors.new.items ≡ errors.old.items ++ file_message name.now reason.now) }
+{
+    errors.extend_from_slice(b"pyver: ")?;
+    push_escaped(errors, name)?;
+    errors.extend_from_slice(b": ")?;
+    errors.extend_from_slice(reason.as_bytes())?;
+    errors.push(b'\n')?;
+    Ok(())
+}

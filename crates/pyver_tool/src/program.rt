@@ -1,0 +1,123 @@
+// The program over any reader and any writers.
+ghost use Rattle.std.specs.Prelude.{◌≡◌, ◌⊎◌, ◌≤◌, Bool, List, ℕ, map, string_bytes};
+ghost use Rattle.pyver_tool.specs.AnswerViews.{outcome_of};
+ghost use Rattle.pyver_tool.specs.Checks.{EndsCheck};
+ghost use Rattle.pyver_tool.specs.Runs.{Ends, IsWriteFailure, WritesAnswer, WroteBeginning, memory_message};
+ghost use Rattle.pyver_tool.specs.SourceViews.{Reports};
+ghost use Rattle.pyver_tool.specs.Tasks.{Check, IsCheck, task_of};
+
+use crate::answer::Answer;
+use crate::check::check_files;
+use crate::command::{Command, Work};
+use crate::files::Files;
+use crate::filter_sources::filter_sources;
+use crate::stream::{Stop, WriteFailure, write_whole};
+use crate::whole_input::answer_input;
+use std::alloc::Global;
+use std::io::{Read, Write};
+
+const MEMORY: &str = "pyver: out of memory\n";
+
+const READ: &str = "pyver: a read failed\n";
+
+const WRITE: &str = "pyver: a write failed\n";
+
+fn failure_status(failure: WriteFailure) -> u8
+    ensures { (result ≡ 4) ⊎ (result ≡ 141) }
+{
+    match failure {
+        WriteFailure::BrokenPipe => 141,
+        WriteFailure::Other => 4,
+    }
+}
+
+/// Writes that a write failed, unless nobody reads, and returns the status.
+fn report_failure<E: Write>(failure: WriteFailure, err: &mut E) -> u8
+    ensures status { (result ≡ 4) ⊎ (result ≡ 141) }
+    ensures written { (message : List ℕ) × IsWriteFailure result message × WroteBeginning (E.contents err.old) (E.contents err.new) message }
+{
+    match failure {
+        WriteFailure::BrokenPipe => 141,
+        WriteFailure::Other => {
+            let _ = write_whole(err, WRITE.as_bytes());
+            4
+        }
+    }
+}
+
+/// Writes an answer and returns the status.
+fn write_answer<W: Write, E: Write>(answer: &Answer, out: &mut W, err: &mut E) -> u8
+    ensures { WritesAnswer W.contents E.contents (outcome_of answer.now) out.old out.new err.old err.new result }
+{
+    if let Err(failure) = write_whole(out, answer.output.as_slice()) {
+        return report_failure(failure, err);
+    }
+    if let Err(failure) = write_whole(err, answer.errors.as_slice()) {
+        return failure_status(failure);
+    }
+    answer.status
+}
+
+/// Writes why a run stopped, where somebody reads that, and returns the status.
+fn report_stop<E: Write>(stop: Stop, err: &mut E) -> u8
+    ensures { (message : List ℕ) × Reports stop result message × WroteBeginning (E.contents err.old) (E.contents err.new) message }
+{
+    match stop {
+        Stop::OutOfMemory => refuse(err),
+        Stop::Read => {
+            let _ = write_whole(err, READ.as_bytes());
+            4
+        }
+        Stop::ReadFile(message) => {
+            let _ = write_whole(err, message.as_slice());
+            4
+        }
+        Stop::Output(failure) => report_failure(failure, err),
+        Stop::Errors(failure) => failure_status(failure),
+    }
+}
+
+/// Runs the command of the words and returns the status of the process: answers go to `out` and faults to `err`. Only
+/// `sort` and `check`, and `filter` and `newest` with a valid list, read `input` and open files, and `bump` without a
+/// version reads `input`.
+pub fn run<F: Files, R: Read, W: Write, E: Write>(
+    alloc: Global,
+    words: &[String],
+    files: &mut F,
+    input: &mut R,
+    out: &mut W,
+    err: &mut E,
+) -> u8
+    ensures command { ¬ IsCheck (task_of (map string_bytes words.now)) → Ends F.known R.remaining W.contents E.contents (map string_bytes words.now) files.old files.new input.old input.new out.old out.new err.old err.new result }
+    ensures check { (json : Bool) (names : List (List ℕ)) → task_of (map string_bytes words.now) ≡ Check json names → EndsCheck F.known F.path R.remaining W.contents E.contents json names files.old files.new input.old input.new out.old out.new err.old err.new result }
+{
+    match Command::parse(words).run(alloc) {
+        Ok(Work::Answer(answer)) => write_answer(&answer, out, err),
+        Ok(Work::Filter(rule, names)) => {
+            match filter_sources(alloc, &rule, names, files, input, out, err) {
+                Ok(status) => status,
+                Err(stop) => report_stop(stop, err),
+            }
+        }
+        Ok(Work::Whole(question, names)) => {
+            match answer_input(alloc, &question, names, files, input, out, err) {
+                Ok(status) => status,
+                Err(stop) => report_stop(stop, err),
+            }
+        }
+        Ok(Work::Check(json, names)) => match check_files(alloc, json, names, files, input) {
+            Ok(answer) => write_answer(&answer, out, err),
+            Err(stop) => report_stop(stop, err),
+        },
+        Err(_) => refuse(err),
+    }
+}
+
+/// Writes that memory ran out, without allocating, and returns the status of the process, 3.
+pub fn refuse<E: Write>(err: &mut E) -> u8
+    ensures status { result ≡ 3 }
+    ensures written { WroteBeginning (E.contents err.old) (E.contents err.new) memory_message }
+{
+    let _ = write_whole(err, MEMORY.as_bytes());
+    3
+}

@@ -1,0 +1,37 @@
+// Words and lines read as versions.
+ghost use Rattle.std.specs.Prelude.{◌≡◌, IfOk, is_none};
+ghost use Rattle.pep440_version.specs.Errors.{error_refusal};
+ghost use Rattle.pyver_tool.specs.AnswerViews.{reading_of};
+ghost use Rattle.pyver_tool.specs.Readings.{Reads};
+
+use pep440_rs::{ErrorKind, Version, VersionParseError};
+use std::alloc::{AllocError, Global};
+
+/// What a string is read as.
+#[derive(Drop)]
+pub(crate) enum Reading {
+    Version(Version),
+    /// No version, for this reason.
+    Invalid(String),
+}
+
+fn is_out_of_memory(error: &VersionParseError) -> bool
+    ensures { result ≡ is_none (error_refusal error.now) }
+{
+    matches!(error.kind(), ErrorKind::OutOfMemory)
+}
+
+/// The version that the string denotes, or why it denotes none.
+pub(crate) fn read_version(alloc: Global, text: &str) -> Result<Reading, AllocError>
+    ensures { IfOk result (λ x. Reads text.now (reading_of x)) }
+{
+    match Version::from_str(alloc, text) {
+        Ok(version) => Ok(Reading::Version(version)),
+        Err(error) => {
+            if is_out_of_memory(&error) {
+                return Err(AllocError);
+            }
+            Ok(Reading::Invalid(error.to_string(alloc)?))
+        }
+    }
+}

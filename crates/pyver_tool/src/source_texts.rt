@@ -1,0 +1,168 @@
+// The texts of sources that are read to their ends, one after another.
+ghost use Rattle.std.specs.Prelude.{◌≡◌, ◌+◌, ◌<◌, ◌≤◌, ◌*◌, [], IfErr, IfOk, List, Some, ℕ, length, map, string_bytes};
+ghost use Rattle.std.specs.Io.KnownBytes.{Consumes, IsAtEnd};
+ghost use Rattle.std.specs.Option.{option_map};
+ghost use Rattle.pyver_tool.specs.Sources.{ReadsInput, source_names};
+ghost use Rattle.pyver_tool.specs.SourceViews.{IsReadingStop, IsStopOf, origin_of, unopened_of};
+ghost use Rattle.pyver_tool.specs.SourceTexts.{StopsInSources, HasRoom, GainsSource, StopsInSource, ReadsTo, sources_of};
+
+use crate::files::Files;
+use crate::filter::Unopened;
+use crate::filter_input::{MOST_READS, READ_SIZE, stop_reading};
+use crate::open_failure::OpenFailure;
+use crate::origin::{Origin, is_input};
+use crate::stream::Stop;
+use std::alloc::Global;
+use std::io::Read;
+
+/// A source that was read to its end.
+#[derive(Drop)]
+pub(crate) struct SourceText<'a> {
+    pub(crate) origin: Origin<'a>,
+    pub(crate) text: Vec<u8>,
+}
+
+/// The sources that were read to their ends, and how many reads were made.
+#[derive(Drop)]
+pub(crate) struct SourceTexts<'a> {
+    pub(crate) texts: Vec<SourceText<'a>>,
+    pub(crate) read_count: u64,
+}
+
+/// What is left of the source with this name.
+pub(crate) fn read_text<R: Read>(
+    alloc: Global,
+    name: &str,
+    read_count: &mut u64,
+    input: &mut R,
+) -> Result<Vec<u8>, Stop>
+    requires { read_count.old ≤ 562949953421312 }
+    ensures whole { IfOk result (λ text. Consumes (R.remaining input.old) (R.remaining input.new) text.items × IsAtEnd (R.remaining input.new)) }
+    ensures room { IfOk result (λ text. (length text.items + 8192 * read_count.old < 8192 * read_count.new) × (read_count.new ≤ 562949953421312)) }
+    ensures part { IfErr result (λ _. (read : List ℕ) × Consumes (R.remaining input.old) (R.remaining input.new) read) }
+    ensures stop { IfErr result (IsStopOf (Some name.now)) }
+    ensures reading { IfErr result (IsReadingStop name.now) }
+{
+    let mut text = Vec::new(alloc);
+    let mut buffer = [0u8; READ_SIZE];
+    while *read_count < MOST_READS {
+        *read_count += 1;
+        let Ok(count) = input.read(&mut buffer) else {
+            return Err(stop_reading(alloc, name));
+        };
+        if count == 0 {
+            return Ok(text);
+        }
+        if text.extend_from_slice(&buffer[..count]).is_err() {
+            return Err(Stop::OutOfMemory);
+        }
+    }
+    Err(stop_reading(alloc, name))
+}
+
+/// Reads a source.
+fn read_source<'a, R: Read>(
+    alloc: Global,
+    origin: Origin<'a>,
+    state: &mut SourceTexts<'a>,
+    input: &mut R,
+) -> Result<(), Stop>
+    requires { HasRoom state.old }
+    ensures read { IfOk result (λ _. ReadsTo R.remaining (origin_of origin.entry) (sources_of state.old) (sources_of state.new) input.old input.new) }
+    ensures room { IfOk result (λ _. HasRoom state.new) }
+    ensures part { IfErr result (λ _. (read : List ℕ) × Consumes (R.remaining input.old) (R.remaining input.new) read) }
+    ensures stop { IfErr result (IsStopOf (Some (origin_of origin.entry).name)) }
+{
+    let text = match read_text(alloc, origin.name, &mut state.read_count, input) {
+        Ok(text) => text,
+        Err(stop) => return Err(stop),
+    };
+    let Ok(()) = state.texts.push(SourceText { origin, text }) else {
+        return Err(Stop::OutOfMemory);
+    };
+    Ok(())
+}
+
+/// Reads the source with this name, or returns why it is not opened.
+fn open_and_read<'a, F: Files, R: Read>(
+    alloc: Global,
+    origin: Origin<'a>,
+    state: &mut SourceTexts<'a>,
+    files: &mut F,
+    input: &mut R,
+) -> Result<Option<OpenFailure>, Stop>
+    requires { HasRoom state.old }
+    ensures read { IfOk result (GainsSource (F.known files.old) R.remaining (origin_of origin.entry) (sources_of state.old) (sources_of state.new) input.old input.new) }
+    ensures room { IfOk result (λ _. HasRoom state.new) }
+    ensures stopped { IfErr result (StopsInSource (F.known files.old) R.remaining (origin_of origin.entry) input.old input.new) }
+    ensures kept { F.known files.new ≡ F.known files.old }
+{
+    if is_input(origin.name) {
+        return match read_source(alloc, origin, state, input) {
+            Ok(()) => Ok(None),
+            Err(stop) => Err(stop),
+        };
+    }
+    match files.open(alloc, origin.name) {
+        Ok(mut file) => match read_source(alloc, origin, state, &mut file) {
+            Ok(()) => Ok(None),
+            Err(stop) => Err(stop),
+        },
+        Err(OpenFailure::OutOfMemory) => Err(Stop::OutOfMemory),
+        Err(failure) => Ok(Some(failure)),
+    }
+}
+
+/// Reads the sources with these names, up to one that is not opened.
+fn read_all<'a, F: Files, R: Read>(
+    alloc: Global,
+    names: &'a [String],
+    state: &mut SourceTexts<'a>,
+    files: &mut F,
+    input: &mut R,
+) -> Result<Option<Unopened<'a>>, Stop>
+    requires new { (state.old.texts.items ≡ []) × (state.old.read_count ≡ 0) }
+    ensures read { IfOk result (λ unopened. ReadsInput (F.known files.old) R.remaining (map string_bytes names.now) input.old input.new (record { sources = sources_of state.new; unopened = option_map unopened_of unopened })) }
+    ensures room { IfOk result (λ _. HasRoom state.new) }
+    ensures stopped { IfErr result (StopsInSources (F.known files.old) R.remaining (map string_bytes names.now) input.old input.new) }
+    ensures kept { F.known files.new ≡ F.known files.old }
+{
+    let mut is_first = true;
+    for name in names {
+        let name = name.as_str();
+        let origin = Origin { is_first, name };
+        match open_and_read(alloc, origin, state, files, input) {
+            Ok(None) => is_first = false,
+            Ok(Some(failure)) => return Ok(Some(Unopened { name, failure })),
+            Err(stop) => return Err(stop),
+        }
+    }
+    Ok(None)
+}
+
+/// Reads the sources that the names mean, up to one that is not opened.
+pub(crate) fn read_sources<'a, F: Files, R: Read>(
+    alloc: Global,
+    names: &'a [String],
+    state: &mut SourceTexts<'a>,
+    files: &mut F,
+    input: &mut R,
+) -> Result<Option<Unopened<'a>>, Stop>
+    requires new { (state.old.texts.items ≡ []) × (state.old.read_count ≡ 0) }
+    ensures read { IfOk result (λ unopened. ReadsInput (F.known files.old) R.remaining (source_names (map string_bytes names.now)) input.old input.new (record { sources = sources_of state.new; unopened = option_map unopened_of unopened })) }
+    ensures room { IfOk result (λ _. HasRoom state.new) }
+    ensures stopped { IfErr result (StopsInSources (F.known files.old) R.remaining (source_names (map string_bytes names.now)) input.old input.new) }
+    ensures kept { F.known files.new ≡ F.known files.old }
+{
+    if !names.is_empty() {
+        return read_all(alloc, names, state, files, input);
+    }
+    let origin = Origin {
+        is_first: true,
+        name: "-",
+    };
+    match read_source(alloc, origin, state, input) {
+        Ok(()) => Ok(None),
+        Err(stop) => Err(stop),
+    }
+}

@@ -1,0 +1,82 @@
+// Writing whole, with no call made twice.
+ghost use Rattle.std.specs.Prelude.{IfErr, List, OnOk, Option, ℕ};
+ghost use Rattle.std.specs.Io.KnownBytes.{Appends, Keeps};
+ghost use Rattle.pyver_tool.specs.Runs.{WroteBeginning};
+ghost use Rattle.pyver_tool.specs.SourceViews.{IsStopOf};
+
+use std::io::{ErrorKind, Write};
+
+/// Why not all was written.
+#[derive(Clone, Copy)]
+pub(crate) enum WriteFailure {
+    /// Nobody reads what is written.
+    BrokenPipe,
+    Other,
+}
+
+/// Writes all of it and flushes. Where a call failed or took no byte, a beginning was written.
+pub(crate) fn write_whole<W: Write>(writer: &mut W, bytes: &[u8]) -> Result<(), WriteFailure>
+    ensures whole { OnOk result (Appends (W.contents writer.old) (W.contents writer.new) bytes.now) }
+    ensures beginning { WroteBeginning (W.contents writer.old) (W.contents writer.new) bytes.now }
+{
+    let mut at = 0;
+    while at < bytes.len() {
+        match writer.write(&bytes[at..]) {
+            Ok(0) => return Err(WriteFailure::Other),
+            Ok(count) => at += count,
+            Err(error) => return Err(failure(error.kind())),
+        }
+    }
+    flush(writer)
+}
+
+fn flush<W: Write>(writer: &mut W) -> Result<(), WriteFailure>
+    ensures { Keeps (W.contents writer.old) (W.contents writer.new) }
+{
+    match writer.flush() {
+        Ok(()) => Ok(()),
+        Err(error) => Err(failure(error.kind())),
+    }
+}
+
+fn failure(kind: ErrorKind) -> WriteFailure {
+    match kind {
+        ErrorKind::BrokenPipe => WriteFailure::BrokenPipe,
+        _ => WriteFailure::Other,
+    }
+}
+
+/// Why a run stopped before its end.
+#[derive(Drop)]
+pub(crate) enum Stop {
+    OutOfMemory,
+    /// A read of standard input.
+    Read,
+    /// A read of a file, with its message.
+    ReadFile(Vec<u8>),
+    /// A write of the output.
+    Output(WriteFailure),
+    /// A write of the errors, after the output.
+    Errors(WriteFailure),
+}
+
+/// Writes the output and then the errors. Where a call failed or took no byte, a beginning of each was written.
+pub(crate) fn write_both<W: Write, E: Write>(
+    out: &mut W,
+    err: &mut E,
+    output: &[u8],
+    errors: &[u8],
+) -> Result<(), Stop>
+    ensures whole { OnOk result (Appends (W.contents out.old) (W.contents out.new) output.now × Appends (E.contents err.old) (E.contents err.new) errors.now) }
+    ensures output { WroteBeginning (W.contents out.old) (W.contents out.new) output.now }
+    ensures errors { WroteBeginning (E.contents err.old) (E.contents err.new) errors.now }
+    ensures stop { IfErr result (λ stop. (last : Option (List ℕ)) → IsStopOf last stop) }
+{
+    if let Err(failure) = write_whole(out, output) {
+        return Err(Stop::Output(failure));
+    }
+    if let Err(failure) = write_whole(err, errors) {
+        return Err(Stop::Errors(failure));
+    }
+    Ok(())
+}

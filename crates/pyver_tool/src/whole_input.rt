@@ -1,0 +1,139 @@
+// Commands that read all sources before they write.
+ghost use Rattle.std.specs.Prelude.{◌≡◌, ◌≤◌, ◌<◌, ◌^◌, IfErr, IfOk, List, None, map, string_bytes};
+ghost use Rattle.std.specs.Option.{option_map};
+ghost use Rattle.pyver_tool.specs.AnswerViews.{outcome_of};
+ghost use Rattle.pyver_tool.specs.InputLines.{Source, filled_lines};
+ghost use Rattle.pyver_tool.specs.Sources.{source_names};
+ghost use Rattle.pyver_tool.specs.SourceTexts.{size_of, source_of};
+ghost use Rattle.pyver_tool.specs.SourceViews.{unopened_of};
+ghost use Rattle.pyver_tool.specs.VersionLines.{unopened_outcome};
+ghost use Rattle.pyver_tool.specs.VersionLineViews.{IsOfLines, input_parts_of};
+ghost use Rattle.pyver_tool.specs.WholeInputs.{AnswersInput, AnswersParts, WholeFinishes, WholeStops, question_lines};
+
+use crate::answer::Answer;
+use crate::bump_input::{BumpRule, bump_only};
+use crate::files::Files;
+use crate::filter::Unopened;
+use crate::line_options::LineOptions;
+use crate::newest::{NewestRule, find_newest};
+use crate::open_failure::push_file_fault;
+use crate::sort::{SortOptions, sort_versions};
+use crate::source_texts::{SourceText, SourceTexts, read_sources};
+use crate::stream::{Stop, write_both};
+use crate::version_line::VersionLines;
+use std::alloc::{AllocError, Global};
+use std::io::{Read, Write};
+
+/// What is asked of all lines together.
+#[derive(Drop)]
+pub(crate) enum Question {
+    Sort(SortOptions),
+    Newest(NewestRule),
+    Bump(BumpRule),
+}
+
+/// How lines are read.
+fn question_lines(question: &Question) -> LineOptions
+    ensures { result ≡ question_lines question.now }
+{
+    match question {
+        Question::Sort(options) => options.lines,
+        Question::Newest(rule) => rule.lines,
+        Question::Bump(_) => LineOptions::none(),
+    }
+}
+
+/// What is to be written of these lines, of which no invalid one is an error.
+fn answer_valid(
+    alloc: Global,
+    question: &Question,
+    lines: VersionLines<'_>,
+) -> Result<Answer, AllocError>
+    ensures { IfOk result (λ a. AnswersParts question.now (input_parts_of lines.entry) (outcome_of a)) }
+{
+    match question {
+        Question::Sort(options) => sort_versions(alloc, *options, lines),
+        Question::Newest(rule) => find_newest(alloc, rule, lines),
+        Question::Bump(rule) => bump_only(alloc, rule, lines),
+    }
+}
+
+/// The same of any lines: nothing is printed where invalid lines are an error and there are some.
+fn answer_lines(
+    alloc: Global,
+    question: &Question,
+    lines: VersionLines<'_>,
+) -> Result<Answer, AllocError>
+    ensures { IfOk result (λ a. (sources : List Source) → IsOfLines (question_lines question.now) (filled_lines sources) lines.entry → AnswersInput question.now (record { sources = sources; unopened = None }) (outcome_of a)) }
+{
+    let status = lines.status(question_lines(question));
+    if status > 0 {
+        return Ok(Answer {
+            output: Vec::new(alloc),
+            errors: lines.errors,
+            status,
+        });
+    }
+    answer_valid(alloc, question, lines)
+}
+
+/// The message of a file that is not opened, and nothing else.
+fn report_open_failure(alloc: Global, file: Unopened<'_>) -> Result<Answer, AllocError>
+    ensures { IfOk result (λ a. outcome_of a ≡ unopened_outcome (unopened_of file.entry)) }
+{
+    let mut answer = Answer::silent(alloc, 2);
+    push_file_fault(
+        &mut answer.errors,
+        file.name.as_bytes(),
+        file.failure.reason(),
+    )?;
+    Ok(answer)
+}
+
+/// What is to be written of these sources, behind which a file may not be opened.
+fn answer_sources(
+    alloc: Global,
+    question: &Question,
+    sources: &[SourceText<'_>],
+    unopened: Option<Unopened<'_>>,
+) -> Result<Answer, AllocError>
+    requires { size_of sources.now < 2 ^ 63 }
+    ensures { IfOk result (λ a. AnswersInput question.now (record { sources = map source_of sources.now; unopened = option_map unopened_of unopened.entry }) (outcome_of a)) }
+{
+    if let Some(file) = unopened {
+        return report_open_failure(alloc, file);
+    }
+    let lines = VersionLines::read(alloc, question_lines(question), sources)?;
+    answer_lines(alloc, question, lines)
+}
+
+/// Writes the answer to the question, once all sources are read, and returns the status.
+pub(crate) fn answer_input<F: Files, R: Read, W: Write, E: Write>(
+    alloc: Global,
+    question: &Question,
+    names: &[String],
+    files: &mut F,
+    input: &mut R,
+    out: &mut W,
+    err: &mut E,
+) -> Result<u8, Stop>
+    ensures finished { IfOk result (λ status. (status ≤ 2) × WholeFinishes (F.known files.old) R.remaining W.contents E.contents question.now (source_names (map string_bytes names.now)) input.old input.new out.old out.new err.old err.new status) }
+    ensures stopped { IfErr result (WholeStops (F.known files.old) R.remaining W.contents E.contents question.now (source_names (map string_bytes names.now)) input.old input.new out.old out.new err.old err.new) }
+    ensures kept { F.known files.new ≡ F.known files.old }
+{
+    let mut state = SourceTexts {
+        texts: Vec::new(alloc),
+        read_count: 0,
+    };
+    let unopened = match read_sources(alloc, names, &mut state, files, input) {
+        Ok(unopened) => unopened,
+        Err(stop) => return Err(stop),
+    };
+    let Ok(answer) = answer_sources(alloc, question, state.texts.as_slice(), unopened) else {
+        return Err(Stop::OutOfMemory);
+    };
+    if let Err(stop) = write_both(out, err, answer.output.as_slice(), answer.errors.as_slice()) {
+        return Err(stop);
+    }
+    Ok(answer.status)
+}
