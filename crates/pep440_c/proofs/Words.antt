@@ -1,7 +1,7 @@
 -- Words of strings: at most one each, and in the order of the versions.
 use Rattle.std.proofs.Common.{◌≡◌, ◌∙◌, ℕ, List, Some, None, ap, if◌then◌else◌}
 use Rattle.std.specs.Ordering.{nat_cmp}
-use Rattle.pep440_version.proofs.Word.Order.{lent_order}
+use Rattle.pep440_version.proofs.Words.Order.{lent_order}
 use Rattle.pep440_version.specs.Key.{record_cmp}
 use Rattle.pep440_version.specs.Record.{Record}
 use Rattle.pep440_version.specs.Word.{is_packed, word}

@@ -2,7 +2,7 @@
 use Rattle.std.proofs.Common.{◌≡◌, ◌∙◌, ℕ, suc, ◌<◌, ◌^◌, refl, sym, ap, arith, List, [], ◌∷◌, length, drop, slice_index}
 use Rattle.std.proofs.lemmas.Nat.{be_bytes_8, from_be_bytes-to_be_bytes_8}
 use Rattle.std.specs.Int.{from_be_bytes, to_be_bytes, w64}
-use Rattle.pep440_version.proofs.Word.Exact.{same_record, word_fits}
+use Rattle.pep440_version.proofs.Words.Exact.{same_record, word_fits}
 use Rattle.pep440_version.specs.Record.{Record}
 use Rattle.pep440_version.specs.Word.{word}
 use Rattle.pep440_compiled.specs.Format.{DenotesPacked, counted_word}

@@ -16,7 +16,7 @@ use Rattle.pep440_rs.specs.Operators.{operator_rank}
 use Rattle.pep440_rs.specs.Specifiers.{Spec}
 use Rattle.pep440_rs.specs.declared.specifier.operator.Operator.{Operator}
 use Rattle.pep440_rs.specs.declared.specifier.operator.Operator.TheVariants.{TildeEqual}
-use Rattle.pep440_version.proofs.Word.Order.{word_order}
+use Rattle.pep440_version.proofs.Words.Order.{word_order}
 use Rattle.pep440_version.specs.Record.{Record}
 use Rattle.pep440_version.specs.Word.{is_packed, word}
 

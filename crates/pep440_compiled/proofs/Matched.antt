@@ -8,7 +8,7 @@ use Rattle.std.specs.declared.cmp.Ordering.{Ordering}
 use Rattle.pep440_compiled.proofs.Shown.{Numbers, compared, numbers, release_shown}
 use Rattle.pep440_compiled.specs.PackedWord.{IsWordOf}
 use Rattle.pep440_compiled.specs.declared.words.PackedWord.{PackedWord}
-use Rattle.pep440_version.proofs.Word.Packed.{packed}
+use Rattle.pep440_version.proofs.Words.Packed.{packed}
 use Rattle.pep440_version.specs.Key.{record_cmp}
 use Rattle.pep440_version.specs.Record.{LocalSegmentValue, Record}
 use Rattle.pep440_version.specs.Word.{is_packed, word}

@@ -6,21 +6,20 @@ use Rattle.std.specs.List.{All}
 use Rattle.std.specs.Prelude.{is_some}
 use Rattle.std.specs.Ordering.{is_eq, nat_cmp}
 use Rattle.pep440_version.proofs.Ordering.Comparisons.{then_none}
-use Rattle.pep440_version.proofs.Word.Order.{word_at, word_order}
-use Rattle.pep440_version.proofs.Word.Packed.{IsShort, below, both, packed}
-use Rattle.pep440_version.proofs.Word.Shown.{in_word}
-use Rattle.pep440_version.proofs.Word.Suffixes.{Alpha, Beta, Dev, Max, Min, Plain, Post, Rc, Suffix, class_lt, class_of, number_of, record_of}
-use Rattle.pep440_version.specs.Form.{class_in, packed_record}
+use Rattle.pep440_version.proofs.Words.Order.{word_at, word_order}
+use Rattle.pep440_version.proofs.Words.Packed.{IsShort, below, both, packed}
+use Rattle.pep440_version.proofs.Words.Shown.{in_word}
+use Rattle.pep440_version.proofs.Words.Suffixes.{Alpha, Beta, Dev, Max, Min, Plain, Post, Rc, Suffix, class_lt, class_of, number_of, record_of}
+use Rattle.pep440_version.specs.Form.{packed_record}
 use Rattle.pep440_version.specs.Key.{record_cmp, release_cmp}
 use Rattle.pep440_compiled.specs.Format.{DenotesPacked, counted_word}
 use Rattle.pep440_compiled.proofs.Whole.{when_packed}
 use Rattle.pep440_compiled.specs.Version.{DenotesVersion, IsStorable, IsStored}
 use Rattle.pep440_compiled.specs.PackedWord.{IsWordOf}
 use Rattle.pep440_compiled.specs.declared.words.PackedWord.{PackedWord}
-use Rattle.pep440_version.proofs.Word.Exact.{shown_word}
+use Rattle.pep440_version.proofs.Words.Exact.{shown_word}
 use Rattle.pep440_version.specs.Record.{Fits, IsRecord, Record, SegmentFits}
-use Rattle.pep440_version.specs.Word.{is_packed, word, word_of}
-use Rattle.pep440_version.specs.WordParts.{is_word, numbers_in}
+use Rattle.pep440_version.specs.Word.{class_in, is_packed, is_word, numbers_in, word, word_of}
 use Rattle.pep440_rs.specs.Matching.{any_prerelease, same_release}
 
 -- ---- the version of a word

@@ -3,7 +3,7 @@ ghost use Rattle.std.specs.Prelude.{◌≡◌, ◌≤◌, ◌<◌, IfSome, is_so
 ghost use Rattle.pep440_compiled.specs.PackedWord.{IsWordOf};
 ghost use Rattle.pep440_rs.specs.Matching.{any_prerelease, has_prefix, is_early, is_late, matches, same_release, without_last};
 ghost use Rattle.pep440_rs.specs.Specifiers.{IsSpec};
-ghost use Rattle.pep440_version.specs.Form.{class_in};
+ghost use Rattle.pep440_version.specs.Word.{class_in};
 ghost use Rattle.pep440_version.specs.Record.{Record};
 
 use crate::words::PackedWord;

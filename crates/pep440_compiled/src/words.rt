@@ -2,10 +2,9 @@
 ghost use Rattle.std.specs.Prelude.{◌≡◌, IfNone, IfSome};
 ghost use Rattle.pep440_compiled.specs.Format.{DenotesPacked};
 ghost use Rattle.pep440_compiled.specs.PackedWord.{IsWordOf};
-ghost use Rattle.pep440_version.specs.Form.{class_in, number_in};
 ghost use Rattle.pep440_version.specs.Key.{record_cmp};
 ghost use Rattle.pep440_version.specs.Record.{Record};
-ghost use Rattle.pep440_version.specs.WordParts.{is_suffix, is_word};
+ghost use Rattle.pep440_version.specs.Word.{class_in, is_suffix, is_word, number_in};
 
 use crate::bytes::from_bytes;
 use pep440_version::Version;

@@ -10,7 +10,7 @@ use Rattle.std.specs.List.{flat_map}
 use Rattle.std.specs.Ordering.{nat_cmp, ordering_then}
 use Rattle.std.specs.declared.cmp.Ordering.{Ordering}
 use Rattle.pep440_version.proofs.Ordering.Comparisons.{then_assoc}
-use Rattle.pep440_version.proofs.Word.Blocks.{is_above, is_below, is_same, nat_cmp_block}
+use Rattle.pep440_version.proofs.Words.Blocks.{is_above, is_below, is_same, nat_cmp_block}
 use Rattle.pep440_version.specs.Record.{Fits, from_release}
 use Rattle.pep440_version.specs.Trim.{trim}
 use Rattle.pep440_keys.specs.SortKeys.{key_bytes, needed_bytes, number_bytes, trim_leading_zeros}

@@ -8,7 +8,7 @@ use Rattle.std.specs.Ordering.{nat_cmp, ordering_then}
 use Rattle.std.specs.declared.cmp.Ordering.{Ordering}
 use Rattle.std.specs.declared.cmp.Ordering.TheVariants.{Less, Greater}
 use Rattle.pep440_version.proofs.Ordering.Comparisons.{then_assoc}
-use Rattle.pep440_version.proofs.Word.Blocks.{is_above, is_below, nat_cmp_block, nat_cmp_shift}
+use Rattle.pep440_version.proofs.Words.Blocks.{is_above, is_below, nat_cmp_block, nat_cmp_shift}
 use Rattle.pep440_version.specs.Key.{local_cmp, rank_cmp, release_cmp, segment_cmp}
 use Rattle.pep440_version.specs.KeyLaws.{release_cmp-trim}
 use Rattle.pep440_version.specs.Record.{Fits, LocalSegmentValue, SegmentFits, Text, Number}

@@ -4,4 +4,4 @@ pub mod RoundTrip
 pub mod Reading
 pub mod Rows
 pub mod Refusals
-pub mod Word
+pub mod Words

@@ -16,7 +16,7 @@ refusal_text (LocalEmpty c) = codes "found a `" ++ (encode_utf8 c ++ (codes "` i
     ++ (encode_utf8 c ++ codes "`")))
 refusal_text (UnexpectedEnd version remaining) = codes "after parsing `" ++ (version ++ (codes "`, found `" ++ (remaining ++ codes "`, which is not part of a valid version")))
 
--- the message of an error by its reason; without one, memory ran out. None for a number that is not ASCII digits
+-- the message of an error by its reason; without one, out of memory. None for a number that is not ASCII digits
 abbrev pub error_text : Option Refusal → Option (List ℕ)
 error_text None = Some (codes "out of memory")
 error_text (Some (NumberTooBig digits)) = if list_all is_ascii_digit digits then Some (refusal_text (NumberTooBig digits)) else None
@@ -27,7 +27,7 @@ abbrev pub pattern_refusal_text : PatternRefusal → List ℕ
 pattern_refusal_text (OfVersion f) = refusal_text f
 pattern_refusal_text WildcardNotTrailing = codes "wildcards in versions must be at the end"
 
--- the message of a pattern's error; that of its version's error where the version is invalid
+-- the message of a pattern's error; the message of its version's error if the version is invalid
 abbrev pub pattern_error_text : Option PatternRefusal → Option (List ℕ)
 pattern_error_text None = error_text None
 pattern_error_text (Some (OfVersion f)) = error_text (Some f)

@@ -14,7 +14,7 @@ use Rattle.pep440_version.specs.Refusals.{PatternRefusal, OfVersion, WildcardNot
 abbrev pub kind_of : VersionParseError → ErrorKind
 kind_of e = e.kind
 
--- the reason that a kind stands for, or None if memory ran out
+-- the reason that a kind stands for, or None if out of memory
 abbrev pub refusal_of : ErrorKind → Option Refusal
 refusal_of kind.Wildcard = Some Wildcard
 refusal_of (kind.NumberTooBig bytes) = Some (NumberTooBig bytes.items)
@@ -24,7 +24,7 @@ refusal_of (kind.LocalEmpty c) = Some (LocalEmpty c)
 refusal_of (kind.UnexpectedEnd v r) = Some (UnexpectedEnd (string_bytes v) (string_bytes r))
 refusal_of kind.OutOfMemory = None
 
--- the reason of an error, or None if memory ran out
+-- the reason of an error, or None if out of memory
 abbrev pub error_refusal : VersionParseError → Option Refusal
 error_refusal e = refusal_of (kind_of e)
 
@@ -32,16 +32,16 @@ error_refusal e = refusal_of (kind_of e)
 abbrev pub pattern_kind_of : VersionPatternParseError → PatternErrorKind
 pattern_kind_of e = e.kind
 
--- the reason that a pattern's kind stands for, or None if memory ran out
+-- the reason that a pattern's kind stands for, or None if out of memory
 abbrev pub pattern_refusal_of : PatternErrorKind → Option PatternRefusal
 pattern_refusal_of (pattern.Version e) = option_map OfVersion (refusal_of (kind_of e))
 pattern_refusal_of pattern.WildcardNotTrailing = Some WildcardNotTrailing
 
--- the reason of a pattern's error, or None if memory ran out
+-- the reason of a pattern's error, or None if out of memory
 abbrev pub pattern_error_refusal : VersionPatternParseError → Option PatternRefusal
 pattern_error_refusal e = pattern_refusal_of (pattern_kind_of e)
 
--- a parser returns what the reading gives, unless memory ran out; `refusal` is the reason of an error
+-- a parser returns what the reading gives, unless out of memory; `refusal` is the reason of an error
 abbrev pub Answers : {X E F : Type 0} → (E → Option F) → Result X E → Result X F → Type 0
 Answers refusal (Ok x) read = read ≡ Ok x
 Answers refusal (Err e) read = IfSome (refusal e) (λ f. read ≡ Err f)

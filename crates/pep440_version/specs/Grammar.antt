@@ -77,7 +77,7 @@ IsSpelling (s ∷ rest) word a = ((map to_ascii_lowercase word ≡ s.0) × (a �
 
 -- a spelled part: separator, spelling, separator, count, of which all but the spelling may be absent; what follows the part is
 -- given. A separator directly after the spelling belongs to the part, and so do digits that then follow: so `-RC_2` is `-`,
--- `RC`, `_` and `2`, and stands for Rc and 2; `rc` alone stands for Rc and 0.
+-- `RC`, `_` and `2`, and stands for Rc and 2; `rc` by itself stands for Rc and 0.
 pub record IsSpelled {A : Type 0} (table : Spellings A) (part after : List ℕ) (a : A) (n : ℕ) : Type 0 where
   pub before : List ℕ
   pub word : List ℕ
@@ -106,7 +106,7 @@ abbrev pub IsDev : List ℕ → List ℕ → Option ℕ → Type 0
 IsDev part after None = part ≡ []
 IsDev part after (Some n) = IsSpelled dev_spellings part after tt n
 
--- digits alone, whose value is below 2^64
+-- only digits, whose value is below 2^64
 abbrev pub is_numeral : List ℕ → Bool
 is_numeral text = list_all is_ascii_digit text && nat_lt (digits_value 10 text) (2 ^ 64)
 

@@ -39,7 +39,7 @@ pub record Key : Type 0 where
 
 -- ---- the key of a record
 
--- the stage, by min, pre, dev, post and max: a min hides pre and dev, and a dev counts here only if it stands alone
+-- the stage, by min, pre, dev, post and max: a min hides pre and dev, and a dev counts here only by itself
 abbrev pub stage_of : Option ℕ → Option Prerelease → Option ℕ → Option ℕ → Option ℕ → Stage
 stage_of (Some n) pre dev post max = Min
 stage_of None (Some p) dev post max = Pre p.kind p.number

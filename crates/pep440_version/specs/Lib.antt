@@ -6,7 +6,6 @@ pub mod Segments
 pub mod Inline
 pub mod Word
 pub mod Form
-pub mod WordParts
 pub mod Print
 pub mod Sentinels
 pub mod Grammar

@@ -6,12 +6,12 @@ use Rattle.pep440_version.specs.Reading.{Read, ◌>>=◌, lead, past}
 use Rattle.pep440_version.specs.Record.{LocalSegmentValue}
 use Rattle.pep440_version.specs.Refusals.{LocalEmpty}
 
--- the byte in front
+-- the first byte
 abbrev pub first_byte : List ℕ → ℕ
 first_byte [] = 0
 first_byte (b ∷ rest) = b
 
--- the segments at the front, at most as many as the first argument; c is the byte that they follow
+-- the leading segments, at most as many as the first argument; c is the byte that they follow
 unfoldable pub parse_segments : ℕ → ℕ → List ℕ → Read (List LocalSegmentValue × List ℕ)
 parse_segments zero c text = Err (LocalEmpty c)
 parse_segments (suc more) c text =

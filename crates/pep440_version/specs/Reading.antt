@@ -6,7 +6,7 @@ use Rattle.std.specs.Str.Parse.{digits_value}
 use Rattle.pep440_version.specs.Grammar.{is_v, starts}
 use Rattle.pep440_version.specs.Refusals.{NumberTooBig, Refusal}
 
--- what a reader finds, or why the text is refused
+-- what a parser returns, or why the string is rejected
 abbrev pub Read : Type 0 → Type 0
 Read A = Result A Refusal
 
@@ -16,7 +16,7 @@ abbrev pub ◌>>=◌ : {A B : Type 0} → Result A Refusal → (A → Result B R
 (Ok x) >>= f = f x
 (Err e) >>= f = Err e
 
--- the longest front of bytes that pass the test, and what follows it
+-- the longest prefix of bytes that pass the test, and the rest
 abbrev pub lead : (ℕ → Bool) → List ℕ → List ℕ
 lead test text = take (prefix_len test text) text
 
@@ -24,15 +24,15 @@ lead test text = take (prefix_len test text) text
 abbrev pub past : (ℕ → Bool) → List ℕ → List ℕ
 past test text = drop (prefix_len test text) text
 
--- the text after the letter v, where it stands in front
+-- the string without a leading letter v
 abbrev pub skip_v : List ℕ → List ℕ
 skip_v text = if starts is_v text then drop 1 text else text
 
--- a digit stands in front
+-- the string begins with a digit
 abbrev pub starts_with_number : List ℕ → Bool
 starts_with_number text = starts is_ascii_digit text
 
--- the number at the front, where a digit is
+-- the leading number, if there is a digit
 unfoldable pub parse_number : List ℕ → Read (ℕ × List ℕ)
 parse_number text = if nat_lt (digits_value 10 (lead is_ascii_digit text)) (2 ^ 64)
     then Ok (digits_value 10 (lead is_ascii_digit text), past is_ascii_digit text)
@@ -42,13 +42,13 @@ parse_number text = if nat_lt (digits_value 10 (lead is_ascii_digit text)) (2 ^ 
 abbrev pub has_next_number : List ℕ → Bool
 has_next_number text = starts (λ b. b == 46) text && starts_with_number (drop 1 text)
 
--- the numbers at the front, at most as many as the first argument
+-- the leading numbers, at most as many as the first argument
 unfoldable pub parse_release : ℕ → List ℕ → Read (List ℕ × List ℕ)
 parse_release zero text = Ok ([], text)
 parse_release (suc more) text = parse_number text >>= λ n.
     if has_next_number n.1 then (parse_release more (drop 1 n.1) >>= λ rest. Ok (n.0 ∷ rest.0, rest.1)) else Ok (n.0 ∷ [], n.1)
 
--- a text and what stands at its end
+-- a string and its end
 abbrev pub EndsWith : List ℕ → List ℕ → Type 0
 EndsWith text rest = (prefix : List ℕ) × (text ≡ prefix ++ rest)
 

@@ -42,11 +42,11 @@ pub record IsRecord (r : Record) : Type 0 where
   pub min : IfSome r.min Fits
   pub max : IfSome r.max Fits
 
--- the record of a release alone
+-- the record of a release and no other part
 abbrev pub from_release : List ℕ → Record
 from_release numbers = record { epoch = 0; release = numbers; pre = None; post = None; dev = None; local = []; min = None; max = None }
 
--- the record with its epoch and release alone
+-- the record of an epoch and a release and no other part
 abbrev pub epoch_and_release : ℕ → List ℕ → Record
 epoch_and_release epoch release = record (from_release release) { epoch = epoch }
 

@@ -62,7 +62,7 @@ RefusesEarlier text (LocalEmpty c) = (prefix rest : List ℕ) × (r : Record) ×
     × IsPrecursor r c × (starts is_ascii_alphanumeric rest ≡ false)
 RefusesEarlier text (UnexpectedEnd version remaining) = ⊥
 
--- the reason of an invalid string; it is of the last kind where no other holds
+-- the reason of an invalid string; it is of the last kind if no other holds
 abbrev pub Refuses : List ℕ → Refusal → Type 0
 Refuses text (UnexpectedEnd version remaining) = (0 < length remaining) × IsLongest text version remaining × ((f : Refusal) → RefusesEarlier text f → ⊥)
 Refuses text f = RefusesEarlier text f

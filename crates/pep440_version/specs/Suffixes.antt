@@ -6,22 +6,22 @@ use Rattle.pep440_version.specs.declared.prerelease.Prerelease.{Prerelease}
 use Rattle.pep440_version.specs.Grammar.{Spellings, is_separator, pre_spellings, post_spellings, dev_spellings, starts}
 use Rattle.pep440_version.specs.Reading.{Read, ◌>>=◌, starts_with_number, parse_number}
 
--- the text begins with the word, but for case
+-- the string begins with the word, but for case
 abbrev pub starts_with_word : List ℕ → List ℕ → Bool
 starts_with_word [] text = true
 starts_with_word (c ∷ cs) [] = false
 starts_with_word (c ∷ cs) (b ∷ text) = (to_ascii_lowercase b == c) && starts_with_word cs text
 
--- the first word of the table that the text begins with, and its length
+-- the first word of the table that the string begins with, and its length
 abbrev pub spelled : {A : Type 0} → Spellings A → List ℕ → Option (A × ℕ)
 spelled [] text = None
 spelled (s ∷ rest) text = if starts_with_word s.0 text then Some (s.1, length s.0) else spelled rest text
 
--- the text after a separator, where one stands in front
+-- the string without a leading separator
 abbrev pub skip_separator : List ℕ → List ℕ
 skip_separator text = if starts is_separator text then drop 1 text else text
 
--- a number, or 0 where no digit is
+-- a number, or 0 if there is no digit
 abbrev pub parse_count : List ℕ → Read (ℕ × List ℕ)
 parse_count text = if starts_with_number text then parse_number text else Ok (0, text)
 

@@ -1,4 +1,4 @@
--- How a whole text is read, from the left: as a pattern, and as a version.
+-- How a whole string is parsed, from the left: as a pattern, and as a version.
 use Rattle.std.specs.Char.{is_ascii_whitespace}
 use Rattle.std.specs.Prelude.{ℕ, ◌-◌, ◌==◌, ◌&&◌, Bool, true, false, List, length, take, drop, Result, Ok, Err, None, if◌then◌else◌}
 use Rattle.pep440_version.specs.Grammar.{starts}
@@ -8,11 +8,11 @@ use Rattle.pep440_version.specs.Record.{Record, epoch_and_release}
 use Rattle.pep440_version.specs.Refusals.{Wildcard, NoLeadingNumber, NoLeadingReleaseNumber, UnexpectedEnd, WildcardNotTrailing, OfVersion, PatternRefusal}
 use Rattle.pep440_version.specs.Suffixes.{parse_pre, parse_post, parse_dev}
 
--- the release at the front, after an epoch
+-- the leading release, after an epoch
 abbrev pub parse_release_after_epoch : ℕ → List ℕ → Read ((ℕ × List ℕ) × List ℕ)
 parse_release_after_epoch epoch text = parse_release (length text) text >>= λ x. Ok ((epoch, x.0), x.1)
 
--- epoch and release at the front
+-- the leading epoch and release
 unfoldable pub parse_epoch_and_release : List ℕ → Read ((ℕ × List ℕ) × List ℕ)
 parse_epoch_and_release text =
     if starts_with_number text then (parse_number text >>= λ n.
@@ -29,7 +29,7 @@ unfoldable pub parse_parts : ℕ → List ℕ → List ℕ → Read (Record × L
 parse_parts epoch release text = parse_pre text >>= λ p. parse_post p.1 >>= λ q. parse_dev q.1 >>= λ d. parse_local d.1 >>= λ l.
     Ok (record { epoch = epoch; release = release; pre = p.0; post = q.0; dev = d.0; local = l.0; min = None; max = None }, l.1)
 
--- the blanks at the end of the text, after the parts
+-- the blanks at the end of the string, after the parts
 abbrev pub parse_end : List ℕ → Record × List ℕ → Read Record
 parse_end text x =
     if length (past is_ascii_whitespace x.1) == 0 then Ok x.0
@@ -39,7 +39,7 @@ parse_end text x =
 abbrev pub parse_after_release : List ℕ → (ℕ × List ℕ) × List ℕ → Read Record
 parse_after_release text x = parse_parts x.0.0 x.0.1 x.1 >>= parse_end text
 
--- `.*` stands in front
+-- the string begins with `.*`
 abbrev pub starts_with_star : List ℕ → Bool
 starts_with_star text = starts (λ b. b == 46) text && starts (λ b. b == 42) (drop 1 text)
 
@@ -55,11 +55,11 @@ pattern_from text (Ok x) =
     if starts_with_star x.1 then (if length (drop 2 x.1) == 0 then Ok (epoch_and_release x.0.0 x.0.1, true) else Err WildcardNotTrailing)
     else without_star (parse_after_release text x)
 
--- what the text reads as: a record, and whether a star follows
+-- what the string parses to: a record, and whether a star follows
 abbrev pub read_pattern : List ℕ → Result (Record × Bool) PatternRefusal
 read_pattern text = pattern_from text (parse_through_release text)
 
--- the version that a pattern is; a star is refused
+-- the version that a pattern is; a star is rejected
 abbrev pub version_of : Result (Record × Bool) PatternRefusal → Read Record
 version_of (Ok x) = if x.1 then Err Wildcard else Ok x.0
 version_of (Err (OfVersion f)) = Err f

@@ -1,18 +1,32 @@
--- The word of a packed record: its release, and the one suffix that it may have, as a sum of products.
-use Rattle.std.specs.Prelude.{ℕ, ◌+◌, ◌*◌, ◌^◌, ◌==◌, ◌&&◌, Bool, false, List, length, slice_index, Option, None, Some, unwrap_or, nat_le}
+-- The packed word: one number for the release of a record and the one suffix that it may have, ordered as the records are.
+use Rattle.std.specs.Prelude.{ℕ, ◌+◌, ◌*◌, ◌/◌, ◌%◌, ◌^◌, ◌==◌, ◌&&◌, ◌||◌, Bool, true, false, if◌then◌else◌, List, [], ◌∷◌, length, slice_index, Option, None, Some, unwrap_or, nat_le}
 use Rattle.pep440_version.specs.declared.prerelease.Prerelease.{Prerelease}
 use Rattle.pep440_version.specs.Key.{kind_rank}
 use Rattle.pep440_version.specs.Record.{Record}
 
--- the one suffix of min, dev, pre, post and max: its class (min 0, dev 1, Alpha 2, Beta 3, Rc 4, post 6, max 7) and its number;
--- class 5 if there is none, None if there are two or more
+-- ---- the word of a record
+
+-- the classes of a suffix; a pre-release has the rank of its kind above 2, and 5 is no suffix
+abbrev pub min_class : ℕ
+min_class = 0
+
+abbrev pub dev_class : ℕ
+dev_class = 1
+
+abbrev pub post_class : ℕ
+post_class = 6
+
+abbrev pub max_class : ℕ
+max_class = 7
+
+-- the one suffix of min, dev, pre, post and max: its class and its number; class 5 if there is none, None if there are two or more
 abbrev pub suffix_of : Option ℕ → Option ℕ → Option Prerelease → Option ℕ → Option ℕ → Option (ℕ × ℕ)
-suffix_of (Some n) None None None None = Some (0, n)
-suffix_of None (Some n) None None None = Some (1, n)
+suffix_of (Some n) None None None None = Some (min_class, n)
+suffix_of None (Some n) None None None = Some (dev_class, n)
 suffix_of None None (Some p) None None = Some (2 + kind_rank p.kind, p.number)
 suffix_of None None None None None = Some (5, 0)
-suffix_of None None None (Some n) None = Some (6, n)
-suffix_of None None None None (Some n) = Some (7, n)
+suffix_of None None None (Some n) None = Some (post_class, n)
+suffix_of None None None None (Some n) = Some (max_class, n)
 suffix_of min dev pre post max = None
 
 -- the class and the number of a record's suffix, or None if it has two or more
@@ -42,3 +56,34 @@ word_of release s =
 -- the word of a packed record
 abbrev pub word : Record → ℕ
 word r = word_of r.release (unwrap_or (suffix r) (5, 0))
+
+-- ---- the parts of a word
+
+-- its class
+abbrev pub class_in : ℕ → ℕ
+class_in w = w / 2 ^ 21 % 8
+
+-- the number of its suffix
+abbrev pub number_in : ℕ → ℕ
+number_in w = w % 2 ^ 21
+
+-- its four release numbers
+abbrev pub numbers_in : ℕ → List ℕ
+numbers_in w = w / 2 ^ 48 ∷ w / 2 ^ 40 % 256 ∷ w / 2 ^ 32 % 256 ∷ w / 2 ^ 24 % 256 ∷ []
+
+-- of four numbers those after the first `count` are 0
+abbrev pub is_padded : ℕ → List ℕ → Bool
+is_padded count numbers =
+    (nat_le 2 count || slice_index numbers 1 == 0) && ((nat_le 3 count || slice_index numbers 2 == 0) && (nat_le 4 count || slice_index numbers 3 == 0))
+
+-- if there is no suffix, its number is 0
+abbrev pub is_suffix : ℕ → ℕ → Bool
+is_suffix class n = if class == 5 then n == 0 else true
+
+-- some packed record with `count` release numbers has this word
+abbrev pub is_word : ℕ → ℕ → Bool
+is_word count w = (nat_le 1 count && nat_le count 4) && (is_padded count (numbers_in w) && is_suffix (class_in w) (number_in w))
+
+-- the word with this suffix in place of its own
+abbrev pub word_with : ℕ → ℕ → ℕ → ℕ
+word_with w class n = w / 2 ^ 24 * 2 ^ 24 + class * 2 ^ 21 + n

@@ -13,7 +13,7 @@ use crate::version::Version;
 pub struct RankedNumber {
     /// At most 5.
     pub rank: u8,
-    /// 0 where the rank has no numbers.
+    /// 0 if the rank has no numbers.
     pub number: u64,
     ghost few: { rank ≤ 5 },
 }

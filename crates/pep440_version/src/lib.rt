@@ -1,8 +1,26 @@
 //! Versions of PEP 440: parsing, normalized forms, order, hash and changes; and version patterns, as `1.2.*`.
 //!
+//! ```rust
+//! use pep440_version::Version;
+//!
+//! let version = Version::from_str(alloc, "v1.0-rc2")?;
+//! assert!(rt; version < Version::new(alloc, &[1])?);
+//! println!(rt; "{version}")?; // 1.0rc2
+//! ```
+//!
 //! A call whose documentation does not mention allocation never allocates and always succeeds. `clone` allocates,
 //! unless the version is packed (see `Version`). If an allocation fails, a call returns `AllocError`, or the
 //! `OutOfMemory` of its own error, and its arguments are unchanged.
+//!
+//! The modules in the order in which to read them:
+//!
+//! - `version`, `prerelease`, `segment`: a version and its parts;
+//! - `parse`, `pattern`, `error`, `error_text`: strings, and why they are rejected;
+//! - `print`, `sentinels`: the normalized form, and what no string has;
+//! - `key`, `order`, `hash`: comparing versions;
+//! - `setters`, `change`: changing one part, or several;
+//! - `word`, `packed`, `release`, `unpacked`: how a version is stored;
+//! - `laws`: what is proved of strings, words and orders together.
 #![tactic(auto)]
 
 mod change;
@@ -13,17 +31,17 @@ pub mod key;
 pub mod laws;
 mod order;
 mod packed;
+mod parse;
 mod pattern;
 mod prerelease;
 mod print;
-mod read;
 mod release;
 mod segment;
 mod sentinels;
 mod setters;
 mod unpacked;
 mod version;
-pub mod words;
+pub mod word;
 
 pub use change::{Change, ChangeError};
 pub use error::{ErrorKind, PatternErrorKind, VersionParseError, VersionPatternParseError};

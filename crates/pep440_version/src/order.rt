@@ -108,7 +108,7 @@ impl Ord for Version {
 
     ghost matches_eq = { λ a b. refl };
 
-    // Two packed versions are compared by their words alone.
+    // Two packed versions are compared by their words only.
     #[inline(always)]
     fn cmp(&self, other: &Version) -> Ordering {
         match (self.word(), other.word()) {

@@ -1,37 +1,17 @@
-//! A packed version: its release, and one word for the release and the one suffix that it may have.
+//! A packed version: its word (`word`), read and changed part by part.
 ghost use Rattle.std.specs.Prelude.{◌≡◌, ◌+◌, ◌*◌, ◌^◌, ◌<◌, ◌≤◌, ◌&&◌, nat_le, true, false, None, length, slice_index, take, IfSome, IfNone, if◌then◌else◌};
-ghost use Rattle.pep440_version.specs.Form.{IsWord, class_in, dev_class, is_class_of_part, unpacked_record, max_class, min_class, number_in, number_of_class, packed_record, post_class, prerelease_of_class, record_in, suffix_of_part, word_with, word_with_part};
+ghost use Rattle.pep440_version.specs.Form.{IsWord, is_class_of_part, unpacked_record, number_of_class, packed_record, prerelease_of_class, record_in, suffix_of_part, word_with_part};
 ghost use Rattle.pep440_version.specs.Key.{kind_rank};
 ghost use Rattle.pep440_version.specs.Normal.{IsPadded, IsKnown};
-ghost use Rattle.pep440_version.specs.Word.{is_packed, is_short, suffix};
+ghost use Rattle.pep440_version.specs.Word.{class_in, dev_class, is_packed, is_short, max_class, min_class, number_in, post_class, suffix, word_with};
 
 use crate::prerelease::{Prerelease, PrereleaseKind};
 use crate::release::pad_with_zeros;
 use crate::unpacked::Unpacked;
-
-// The classes of a suffix, in their order.
-const MIN: u64 = 0;
-
-pub(crate) const DEV: u64 = 1;
-
-pub(crate) const ALPHA: u64 = 2;
-
-pub(crate) const BETA: u64 = 3;
-
-pub(crate) const RC: u64 = 4;
-
-pub(crate) const NONE: u64 = 5;
-
-pub(crate) const POST: u64 = 6;
-
-const MAX: u64 = 7;
-
-// The greatest numbers that fit into their bits: the first of a release, each other one, and that of a suffix.
-const MAX_FIRST_NUMBER: u64 = 65535;
-
-const MAX_OTHER_NUMBER: u64 = 255;
-
-pub(crate) const MAX_SUFFIX_NUMBER: u64 = 2097151;
+use crate::word::{
+    ALPHA, BETA, DEV, MAX, MAX_SUFFIX_NUMBER, MIN, NONE, POST, RC, are_small, class_in, number_in,
+    pack_word, replace_suffix,
+};
 
 // The parts that are a suffix, each with classes of its own; `None` is its absence.
 #[derive(Clone, Copy)]
@@ -48,19 +28,6 @@ pub(crate) struct Packed {
     pub(crate) count: u8,
     pub(crate) word: u64,
     pub(crate) numbers: [u64; 4],
-}
-
-#[inline(always)]
-pub(crate) fn class_in(word: u64) -> u64
-    ensures { result ≡ class_in word }
-{
-    word >> 21 & 7
-}
-
-pub(crate) fn number_in(word: u64) -> u64
-    ensures { result ≡ number_in word }
-{
-    word & MAX_SUFFIX_NUMBER
 }
 
 // The number, if the word's suffix is of this class.
@@ -155,17 +122,7 @@ fn is_class_of_part(part: Part, class: u64) -> bool
     }
 }
 
-// The word with this suffix in place of its own.
-#[inline(always)]
-fn replace_suffix(word: u64, class: u64, number: u64) -> u64
-    requires class { class < 8 }
-    requires number { number ≤ 2097151 }
-    ensures { result ≡ word_with word class number }
-{
-    (word >> 24 << 3 | class) << 21 | number
-}
-
-// The word with this part, where it has no suffix of another part.
+// The word with this part, if it has no suffix of another part.
 #[inline(always)]
 pub(crate) fn replace_part(word: u64, part: Part) -> Option<u64>
     ensures { result ≡ word_with_part word part }
@@ -211,17 +168,6 @@ fn find_suffix(unpacked: &Unpacked) -> Option<(u64, u64)>
     }
 }
 
-// Whether the numbers fit into their bits.
-fn are_small(numbers: [u64; 4]) -> bool
-    ensures { result ≡ (nat_le (slice_index numbers 0) 65535 && (nat_le (slice_index numbers 1) 255 && (nat_le (slice_index numbers 2) 255 && nat_le (slice_index numbers 3) 255))) }
-{
-    let [first, second, third, fourth] = numbers;
-    first <= MAX_FIRST_NUMBER
-        && second <= MAX_OTHER_NUMBER
-        && third <= MAX_OTHER_NUMBER
-        && fourth <= MAX_OTHER_NUMBER
-}
-
 // The suffix of a version that a word can hold; its release numbers are given, padded.
 fn find_packed_suffix(unpacked: &Unpacked, numbers: [u64; 4]) -> Option<(u64, u64)>
     requires few { length unpacked.now.release ≤ 4 }
@@ -240,21 +186,6 @@ fn find_packed_suffix(unpacked: &Unpacked, numbers: [u64; 4]) -> Option<(u64, u6
     } else {
         Some((class, number))
     }
-}
-
-// Four numbers, a class and a number, each in its bits.
-fn pack_word(numbers: [u64; 4], class: u64, number: u64) -> u64
-    requires first { slice_index numbers 0 ≤ 65535 }
-    requires second { slice_index numbers 1 ≤ 255 }
-    requires third { slice_index numbers 2 ≤ 255 }
-    requires fourth { slice_index numbers 3 ≤ 255 }
-    requires class { class < 8 }
-    requires number { number ≤ 2097151 }
-    ensures { result ≡ slice_index numbers 0 * 2 ^ 48 + slice_index numbers 1 * 2 ^ 40
-        + slice_index numbers 2 * 2 ^ 32 + slice_index numbers 3 * 2 ^ 24 + class * 2 ^ 21 + number }
-{
-    let release = ((numbers[0] << 8 | numbers[1]) << 8 | numbers[2]) << 8 | numbers[3];
-    (release << 3 | class) << 21 | number
 }
 
 impl Packed {
@@ -276,7 +207,7 @@ impl Packed {
         })
     }
 
-    // Up to four numbers and one suffix packed, where it can be.
+    // Up to four numbers and one suffix packed, if they can be.
     #[inline(always)]
     pub(crate) fn of_suffix(
         numbers: [u64; 4],
@@ -284,7 +215,7 @@ impl Packed {
         class: u64,
         number: u64,
     ) -> Option<Packed>
-        requires pad_with_zeros { IsPadded count numbers }
+        requires padded { IsPadded count numbers }
         requires known { IsKnown class number }
         requires small { number ≤ 2097151 }
         ensures none { IfNone result (is_short (take count numbers) ≡ false) }

@@ -11,7 +11,7 @@ ghost use Rattle.pep440_version.specs.Whole.{read_pattern};
 ghost use Rattle.pep440_version.specs.Word.{is_packed};
 
 use crate::error::VersionPatternParseError;
-use crate::read;
+use crate::parse;
 use crate::version::Version;
 use std::alloc::{AllocError, Global};
 use std::hash::{Hash, Hasher};
@@ -56,7 +56,7 @@ impl VersionPattern {
         }
     }
 
-    /// The version before the star, or the version alone.
+    /// The version before the star, or the whole version.
     pub fn version(&self) -> &Version
         ensures { result.now ≡ self.now.0 }
     {
@@ -79,14 +79,14 @@ impl VersionPattern {
     }
 
     // The result of parsing from left to right.
-    fn read(alloc: Global, text: &str) -> Result<VersionPattern, VersionPatternParseError>
+    fn parse_any(alloc: Global, text: &str) -> Result<VersionPattern, VersionPatternParseError>
         ensures reads { Answers pattern_error_refusal result (read_pattern text.now) }
         ensures memory { (x : Record × Bool) → read_pattern text.now ≡ Ok x → is_packed x.0 ≡ true → IsOk result }
     {
-        if let Some((version, wildcard)) = read::parse_normal_pattern(text) {
+        if let Some((version, wildcard)) = parse::parse_normal_pattern(text) {
             return Ok(VersionPattern { version, wildcard });
         }
-        let (version, wildcard) = read::parse_pattern(alloc, text)?;
+        let (version, wildcard) = parse::parse_pattern(alloc, text)?;
         Ok(VersionPattern { version, wildcard })
     }
 
@@ -111,7 +111,7 @@ impl VersionPattern {
         // A string that denotes a packed record is parsed without allocating, with a star or without.
         ensures memory { (r : Record) (star : Bool) → DerivesPattern text.now r star → is_packed r ≡ true → IsOk result }
     {
-        VersionPattern::read(alloc, text)
+        VersionPattern::parse_any(alloc, text)
     }
 }
 

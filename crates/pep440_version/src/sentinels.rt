@@ -8,7 +8,7 @@ use crate::segment::LocalSegment;
 use crate::version::Version;
 use std::fmt;
 
-/// A version to be printed with its sentinels: the normalized form, then `~min` and min, then `~max` and max, each where it is set.
+/// A version to be printed with its sentinels: the normalized form, then `~min` and min, then `~max` and max, each if it is set.
 #[derive(Clone, Copy)]
 pub struct WithSentinels<'a>(pub &'a Version);
 

@@ -32,7 +32,7 @@ impl Version {
         Version::from_unpacked(alloc, unpacked)
     }
 
-    /// The version with this epoch; the version itself where it has it.
+    /// The version with this epoch; the version itself if it has it.
     ///
     /// Allocates only if the result is not packed.
     pub fn with_epoch(self, alloc: Global, epoch: u64) -> Result<Version, AllocError>
@@ -130,7 +130,7 @@ impl Version {
         self.with_local(alloc, Vec::new(alloc))
     }
 
-    /// The version that is the release alone, with epoch 0.
+    /// The version that is only this release, with epoch 0.
     ///
     /// Allocates only if the result is not packed.
     pub fn only_release(&self, alloc: Global) -> Result<Version, AllocError>

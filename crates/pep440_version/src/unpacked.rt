@@ -21,7 +21,7 @@ pub(crate) struct Unpacked {
 }
 
 impl Unpacked {
-    // A release alone.
+    // Only a release.
     pub(crate) fn new(alloc: Global, release: &[u64]) -> Result<Unpacked, AllocError>
         ensures value { IfOk result (λ unpacked. unpacked_record unpacked ≡ from_release release.now) }
         ensures memory { length release.now ≤ 4 → IsOk result }

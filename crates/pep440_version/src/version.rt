@@ -119,7 +119,7 @@ impl Version {
         }
     }
 
-    // The version with this part, where both are packed.
+    // The version with this part, if both are packed.
     #[inline(always)]
     pub(crate) fn with_part(&self, part: Part) -> Option<Version>
         ensures { IfSome result (λ v. v ≡ with_part part self.now) }
@@ -195,7 +195,7 @@ impl Version {
         Version::from_unpacked(alloc, unpacked)
     }
 
-    /// The version that is this release alone, as `1.2.3` of 1, 2 and 3 (PEP 440, "Final releases").
+    /// The version that is only this release, as `1.2.3` of 1, 2 and 3 (PEP 440, "Final releases").
     /// The release must not be empty; `is_empty` is its test.
     ///
     /// Allocates only if the version is not packed.
@@ -218,7 +218,7 @@ impl Version {
         }
     }
 
-    /// The epoch, 0 where none is written (PEP 440, "Version epochs").
+    /// The epoch, 0 if none is written (PEP 440, "Version epochs").
     pub fn epoch(&self) -> u64
         ensures { result ≡ self.now.epoch }
     {
@@ -271,7 +271,7 @@ impl Version {
         }
     }
 
-    /// The segments of the local part; none where there is no local part (PEP 440, "Local version
+    /// The segments of the local part; none if there is no local part (PEP 440, "Local version
     /// identifiers").
     pub fn local(&self) -> &[LocalSegment]
         ensures { map segment result.now ≡ self.now.local }

@@ -20,7 +20,7 @@ use Rattle.pep440_version.specs.Normal.{IsClass, IsKnown, IsPadded, IsSuffix, sp
 use Rattle.pep440_version.specs.Patterns.{DerivesStar}
 use Rattle.pep440_version.specs.Record.{from_parts}
 use Rattle.pep440_version.specs.Word.{is_short, word_of}
-use Rattle.pep440_version.proofs.Word.Shown.{Given, shown}
+use Rattle.pep440_version.proofs.Words.Shown.{Given, shown}
 
 -- ---- a number
 
@@ -90,7 +90,7 @@ release_more a ds (x ∷ m ∷ more) n h d = (
 
 -- numbers that are padded, a release that they are, and the rest of the text
 pub record Released (text rest : List ℕ) (count : ℕ) (numbers : List ℕ) : Type 0 where
-  pub pad_with_zeros : IsPadded count numbers
+  pub padded : IsPadded count numbers
   pub release : List ℕ
   pub is : IsRelease release (take count numbers)
   pub decomposition : text ≡ release ++ rest
@@ -104,7 +104,7 @@ zeros_from n (suc (suc (suc (suc k)))) h = refl
 
 pub one_number : (text rest : List ℕ) (n : ℕ) → ((digits : List ℕ) × IsNumber digits n × (n ≤ 2147483647) × (text ≡ digits ++ rest)) → Released text rest 1 (n ∷ 0 ∷ 0 ∷ 0 ∷ [])
 one_number text rest n h = record {
-  pad_with_zeros = record { some = omega arith; few = omega arith; four = refl; zeros = zeros_from n };
+  padded = record { some = omega arith; few = omega arith; four = refl; zeros = zeros_from n };
   release = h.0;
   is = h.1;
   decomposition = h.3;
@@ -113,13 +113,13 @@ one_number text rest n h = record {
 pub number_more : (text rest after numbers : List ℕ) (count n : ℕ) → count < 4 → Released text rest count numbers
     → ((digits : List ℕ) × IsNumber digits n × (n ≤ 2147483647) × (rest ≡ 46 ∷ (digits ++ after))) → Released text after (count + 1) (set numbers count n)
 number_more text rest after numbers count n room r h =
-    let inside : count < length numbers = omega (arith, r.pad_with_zeros.four) in
+    let inside : count < length numbers = omega (arith, r.padded.four) in
     record {
-      pad_with_zeros = record {
+      padded = record {
         some = omega arith;
         few = omega arith;
-        four = length-set numbers count n ∙ r.pad_with_zeros.four;
-        zeros = λ k past. get_or-set_other numbers count k n 0 (λ e. omega (arith, e, past)) ∙ r.pad_with_zeros.zeros k (omega (arith, past));
+        four = length-set numbers count n ∙ r.padded.four;
+        zeros = λ k past. get_or-set_other numbers count k n 0 (λ e. omega (arith, e, past)) ∙ r.padded.zeros k (omega (arith, past));
       };
       release = r.release ++ (46 ∷ h.0);
       is = subst (IsRelease (r.release ++ (46 ∷ h.0))) (sym (take_more_set numbers count n inside)) (release_more r.release h.0 (take count numbers) n r.is h.1);

@@ -16,7 +16,7 @@ use Rattle.pep440_version.proofs.Reading.Agreement.{end_takes, sure, without_sta
 use Rattle.pep440_version.proofs.Reading.NumbersInTurn.{with_prefix}
 use Rattle.pep440_version.proofs.Reading.PartsAgree.{parts_take}
 use Rattle.pep440_version.proofs.Reading.ReadIsDerived.{bind_ok, chosen, inside}
-use Rattle.pep440_version.proofs.Word.Packed.{packed}
+use Rattle.pep440_version.proofs.Words.Packed.{packed}
 
 -- where a fault of a part is a fault of the whole, and the whole is read, the part is read
 pub read_too : {X Y : Type 0} (read : Read X) (out : Read Y) → ((f : Refusal) → read ≡ Err f → out ≡ Err f) → (y : Y) → out ≡ Ok y → (x : X) × (read ≡ Ok x)

@@ -1,5 +1,5 @@
 use Rattle.std.proofs.Common.{◌∙◌, sym}
-use Rattle.pep440_version.proofs.Word.Exact.{word_fits}
+use Rattle.pep440_version.proofs.Words.Exact.{word_fits}
 use Rattle.pep440_version.specs.Word.{word}
 use Rattle.std.proofs.Common.{length}
 use Rattle.pep440_compiled.proofs.Denoted.{read_again}

@@ -1,7 +1,7 @@
 use Rattle.std.proofs.Common.{◌≡◌, ◌^◌, arith}
 use Rattle.pep440_compiled.proofs.Matched.{four_prefix, one_prefix, prefix_test, three_prefix, two_prefix}
 use Rattle.pep440_compiled.proofs.word_matching.has_prefix.Goals as goal
-use Rattle.pep440_version.proofs.Word.Packed.{packed}
+use Rattle.pep440_version.proofs.Words.Packed.{packed}
 
 pub returns-in-1 : goal.returns-in-1
 returns-in-1 c s v x y some few = prefix_test 1 (2 ^ 48) one_prefix s v c.args.specifier c.args.version c.args.count (omega arith) x y few

@@ -1,7 +1,6 @@
 use Rattle.std.proofs.Common.{◌≡◌, ◌∙◌, sym, true, length}
-use Rattle.pep440_version.proofs.Word.Exact.{passes, word_fits}
-use Rattle.pep440_version.specs.Word.{word}
-use Rattle.pep440_version.specs.WordParts.{is_word}
+use Rattle.pep440_version.proofs.Words.Exact.{passes, word_fits}
+use Rattle.pep440_version.specs.Word.{is_word, word}
 use Rattle.pep440_compiled.proofs.Denoted.{read_again}
 use Rattle.pep440_compiled.proofs.Shown.{denoted}
 use Rattle.pep440_compiled.proofs.words.read_word.Goals as goal

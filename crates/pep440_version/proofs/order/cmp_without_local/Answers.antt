@@ -1,5 +1,5 @@
 use Rattle.std.proofs.Common.{◌∙◌}
-use Rattle.pep440_version.proofs.Word.Order.{lent_order_without_local}
+use Rattle.pep440_version.proofs.Words.Order.{lent_order_without_local}
 use Rattle.pep440_version.proofs.order.cmp_without_local.Goals as goal
 
 pub returns-in-Some-Some : goal.returns-in-Some-Some

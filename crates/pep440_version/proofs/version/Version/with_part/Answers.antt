@@ -1,6 +1,6 @@
 use Rattle.std.proofs.Common.{◌≡◌, ◌∙◌, Some, ap, subst, sym}
 use Rattle.pep440_version.specs.Form.{IsForm, IsWord, form_record, with_part, word_with_part}
-use Rattle.pep440_version.proofs.Word.Replaced.{part_is_set}
+use Rattle.pep440_version.proofs.Words.Replaced.{part_is_set}
 use Rattle.pep440_version.proofs.version.Version.with_part.Goals as goal
 
 pub from_packed-requires-clause-word : goal.from_packed-requires-clause-word

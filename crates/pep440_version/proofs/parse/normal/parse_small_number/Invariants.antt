@@ -1,0 +1,6 @@
+use Rattle.std.proofs.Common.{◌≤◌}
+use Rattle.pep440_version.proofs.Reading.NormalVersions.{Digits}
+use Rattle.pep440_version.proofs.parse.normal.parse_small_number.Given as goal
+
+abbrev pub invariant-loop-i : goal.invariant-loop-i
+invariant-loop-i l = (l.number ≤ 2147483647) × Digits l.text l.rest l.i l.number
