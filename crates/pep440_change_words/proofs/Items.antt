@@ -12,7 +12,7 @@ join : {A : Type 0} (found : List A) (a : A) (o : Option (List A)) → before fo
 join found a None = refl
 join found a (Some rest) = ap Some (sym (append_assoc found (a ∷ []) rest))
 
--- an item that stands nowhere
+-- an item of no list
 abbrev pub no_text : Bor (List ℕ)
 no_text = record { ref_ptr = (0, 0); now = [] }
 

@@ -1,4 +1,4 @@
--- What digits write.
+-- The number that digits denote.
 use Rattle.std.proofs.Common.{◌≡◌, ◌^◌, ◌&&◌, ℕ, List, Bool, true, false, length, refl, sym, ◌∙◌, Result, nat_lt, if◌then◌else◌, Some, None}
 use Rattle.std.proofs.lemmas.Bool.{ltb-true}
 use Rattle.std.specs.Char.{is_ascii_digit}

@@ -1,4 +1,4 @@
--- What stands at the front of a text.
+-- What a string begins with.
 use Rattle.std.proofs.Common.{◌≡◌, ℕ, true, false, List, drop, Option, Some, None, refl, sym, subst, ap, ◌∙◌}
 use Rattle.std.specs.Option.{option_copied, MatchOption}
 use Rattle.std.specs.Str.{IsCharBoundary}
@@ -7,7 +7,7 @@ use Rattle.std.proofs.lemmas.Str.Pattern.{starts_text}
 use Rattle.pep440_change_words.specs.ChangeWords.{after}
 use Rattle.std.proofs.Common.{Bor}
 
--- `strip_prefix` at a text
+-- `strip_prefix` of a string
 pub after_is : (n s : List ℕ) (r : Option (Bor (List ℕ))) → MatchOption r (FindsTextPrefix n s None) (λ x. StripsPrefix (FindsTextPrefix n) s x.now) → option_copied r ≡ after n s
 after_is n s None h = rw (← starts_text false n s h) refl
 after_is n s (Some x) (k, f, is, len) =

@@ -1,4 +1,4 @@
-//! Change words: a field, `=` and its new value, or one of two words that stand alone.
+//! The parser of change words: a field, `=` and its new value, or one of two words without a value.
 ghost use Rattle.std.specs.Prelude.{◌≡◌, ◌==◌, map, IfOk};
 ghost use Rattle.pep440_change_words.specs.Reads.{ReadsAs};
 ghost use Rattle.std.specs.List.{slice_split};
@@ -26,8 +26,8 @@ fn is_alphanumeric(text: &str) -> bool
     !bytes.is_empty() && bytes.iter().all(|byte| byte.is_ascii_alphanumeric())
 }
 
-/// One or more digits, zeros may lead, whose value fits.
-fn number(text: &str) -> Option<u64>
+// One or more digits, zeros may lead, whose value fits.
+fn parse_number(text: &str) -> Option<u64>
     ensures { result ≡ number_of text.now }
 {
     if !is_digits(text) {
@@ -36,23 +36,23 @@ fn number(text: &str) -> Option<u64>
     text.parse::<u64>().ok()
 }
 
-/// What follows the spelling, where the text begins with it.
-fn after<'a>(spelling: &str, text: &'a str) -> Option<&'a str>
+// The rest after the spelling, if the string begins with it.
+fn strip_spelling<'a>(spelling: &str, text: &'a str) -> Option<&'a str>
     ensures { option_copied result ≡ after spelling.now text.now }
 {
     text.strip_prefix(spelling)
 }
 
-/// The spelling of a kind, and a number.
+// The spelling of a kind, and a number.
 fn parse_prerelease_of_kind(kind: PrereleaseKind, spelling: &str, text: &str) -> Option<Prerelease>
     ensures { result ≡ parse_prerelease_of_kind kind spelling.now text.now }
 {
-    let number = number(after(spelling, text)?)?;
+    let number = parse_number(strip_spelling(spelling, text)?)?;
     Some(Prerelease { kind, number })
 }
 
-/// `a`, `b` or `rc`, and a number.
-fn prerelease(text: &str) -> Option<Prerelease>
+// `a`, `b` or `rc`, and a number.
+fn parse_prerelease(text: &str) -> Option<Prerelease>
     ensures { result ≡ prerelease_of text.now }
 {
     parse_prerelease_of_kind(PrereleaseKind::Alpha, "a", text)
@@ -60,24 +60,24 @@ fn prerelease(text: &str) -> Option<Prerelease>
         .or(parse_prerelease_of_kind(PrereleaseKind::Rc, "rc", text))
 }
 
-/// A number or nothing, which stands for none.
-fn optional_number(text: &str) -> Option<Option<u64>>
+// A number or nothing, which stands for none.
+fn parse_optional_number(text: &str) -> Option<Option<u64>>
     ensures { result ≡ or_none number_of text.now }
 {
     if text.is_empty() {
         return Some(None);
     }
-    Some(Some(number(text)?))
+    Some(Some(parse_number(text)?))
 }
 
-/// A pre-release or nothing, which stands for none.
-fn optional_prerelease(text: &str) -> Option<Option<Prerelease>>
+// A pre-release or nothing, which stands for none.
+fn parse_optional_prerelease(text: &str) -> Option<Option<Prerelease>>
     ensures { result ≡ or_none prerelease_of text.now }
 {
     if text.is_empty() {
         return Some(None);
     }
-    Some(Some(prerelease(text)?))
+    Some(Some(parse_prerelease(text)?))
 }
 
 fn split_at_dots<'a>(alloc: Global, text: &'a str) -> Result<Vec<&'a str>, AllocError>
@@ -86,8 +86,8 @@ fn split_at_dots<'a>(alloc: Global, text: &'a str) -> Result<Vec<&'a str>, Alloc
     text.split('.').collect(alloc)
 }
 
-/// The pieces of a text between its dots; an empty text has none.
-fn pieces<'a>(alloc: Global, text: &'a str) -> Result<Vec<&'a str>, AllocError>
+// The pieces of a string between its dots; an empty string has none.
+fn split_pieces<'a>(alloc: Global, text: &'a str) -> Result<Vec<&'a str>, AllocError>
     ensures { IfOk result (λ v. map (λ p. p.now) v.items ≡ pieces_of text.now) }
 {
     if text.is_empty() {
@@ -96,13 +96,13 @@ fn pieces<'a>(alloc: Global, text: &'a str) -> Result<Vec<&'a str>, AllocError>
     split_at_dots(alloc, text)
 }
 
-/// The numbers that the pieces write, if each writes one.
-fn all_numbers(alloc: Global, pieces: &[&str]) -> Result<Vec<u64>, ChangeWordError>
+// The number of each piece.
+fn parse_all_numbers(alloc: Global, pieces: &[&str]) -> Result<Vec<u64>, ChangeWordError>
     ensures { ReadsAs (λ v. v.items) result (all_of number_of (map (λ p. p.now) pieces.now)) }
 {
     let mut numbers = Vec::new(alloc);
     for i in 0..pieces.len() {
-        let Some(number) = number(pieces[i]) else {
+        let Some(number) = parse_number(pieces[i]) else {
             return Err(ChangeWordError::NotAChange);
         };
         numbers.push(number)?;
@@ -110,73 +110,73 @@ fn all_numbers(alloc: Global, pieces: &[&str]) -> Result<Vec<u64>, ChangeWordErr
     Ok(numbers)
 }
 
-/// Numbers joined by `.`, or nothing.
-fn numbers(alloc: Global, text: &str) -> Result<Vec<u64>, ChangeWordError>
+// Numbers joined by `.`, or nothing.
+fn parse_numbers(alloc: Global, text: &str) -> Result<Vec<u64>, ChangeWordError>
     ensures { ReadsAs (λ v. v.items) result (dotted_of number_of text.now) }
 {
-    let pieces = pieces(alloc, text)?;
-    all_numbers(alloc, pieces.as_slice())
+    let pieces = split_pieces(alloc, text)?;
+    parse_all_numbers(alloc, pieces.as_slice())
 }
 
-/// One or more ASCII letters and digits: digits that fit are a number, all else is a text in lower case.
-fn segment(alloc: Global, text: &str) -> Result<LocalSegment, ChangeWordError>
+// One or more ASCII letters and digits: digits that fit are a number, all else is a string in lower case.
+fn parse_segment(alloc: Global, text: &str) -> Result<LocalSegment, ChangeWordError>
     ensures { ReadsAs segment result (local_segment_of text.now) }
 {
     if !is_alphanumeric(text) {
         return Err(ChangeWordError::NotAChange);
     }
-    match number(text) {
+    match parse_number(text) {
         Some(number) => Ok(LocalSegment::Number(number)),
         None => Ok(LocalSegment::String(text.to_ascii_lowercase(alloc)?)),
     }
 }
 
-/// The segments that the pieces write, if each writes one.
-fn all_segments(alloc: Global, pieces: &[&str]) -> Result<Vec<LocalSegment>, ChangeWordError>
+// The segment of each piece.
+fn parse_all_segments(alloc: Global, pieces: &[&str]) -> Result<Vec<LocalSegment>, ChangeWordError>
     ensures { ReadsAs (λ v. map segment v.items) result (all_of local_segment_of (map (λ p. p.now) pieces.now)) }
 {
     let mut segments = Vec::new(alloc);
     for i in 0..pieces.len() {
-        let segment = segment(alloc, pieces[i])?;
+        let segment = parse_segment(alloc, pieces[i])?;
         segments.push(segment)?;
     }
     Ok(segments)
 }
 
-/// Segments joined by `.`, or nothing.
-fn segments(alloc: Global, text: &str) -> Result<Vec<LocalSegment>, ChangeWordError>
+// Segments joined by `.`, or nothing.
+fn parse_segments(alloc: Global, text: &str) -> Result<Vec<LocalSegment>, ChangeWordError>
     ensures { ReadsAs (λ v. map segment v.items) result (dotted_of local_segment_of text.now) }
 {
-    let pieces = pieces(alloc, text)?;
-    all_segments(alloc, pieces.as_slice())
+    let pieces = split_pieces(alloc, text)?;
+    parse_all_segments(alloc, pieces.as_slice())
 }
 
-/// The change, if there is one.
+// The change, if there is one.
 fn require_change(change: Option<Change>) -> Result<Change, ChangeWordError>
     ensures { ReadsAs edit result (option_map edit change) }
 {
     change.ok_or(ChangeWordError::NotAChange)
 }
 
-/// The change of a field to the value that the text writes.
-fn field_change(alloc: Global, field: &str, value: &str) -> Result<Change, ChangeWordError>
+// The change of a field to the value that the string denotes.
+fn parse_field_change(alloc: Global, field: &str, value: &str) -> Result<Change, ChangeWordError>
     ensures { ReadsAs edit result (field_change field.now value.now) }
 {
     match field {
-        "release" => Ok(Change::Release(numbers(alloc, value)?)),
-        "epoch" => require_change(number(value).map(Change::Epoch)),
-        "pre" => require_change(optional_prerelease(value).map(Change::Pre)),
-        "post" => require_change(optional_number(value).map(Change::Post)),
-        "dev" => require_change(optional_number(value).map(Change::Dev)),
-        "local" => Ok(Change::Local(segments(alloc, value)?)),
-        "min" => require_change(optional_number(value).map(Change::Min)),
-        "max" => require_change(optional_number(value).map(Change::Max)),
+        "release" => Ok(Change::Release(parse_numbers(alloc, value)?)),
+        "epoch" => require_change(parse_number(value).map(Change::Epoch)),
+        "pre" => require_change(parse_optional_prerelease(value).map(Change::Pre)),
+        "post" => require_change(parse_optional_number(value).map(Change::Post)),
+        "dev" => require_change(parse_optional_number(value).map(Change::Dev)),
+        "local" => Ok(Change::Local(parse_segments(alloc, value)?)),
+        "min" => require_change(parse_optional_number(value).map(Change::Min)),
+        "max" => require_change(parse_optional_number(value).map(Change::Max)),
         _ => Err(ChangeWordError::NotAChange),
     }
 }
 
-/// A word with no `=`.
-fn bare_change(word: &str) -> Option<Change>
+// A word with no `=`.
+fn parse_bare_change(word: &str) -> Option<Change>
     ensures { option_map edit result ≡ bare_change word.now }
 {
     match word {
@@ -190,12 +190,12 @@ fn bare_change(word: &str) -> Option<Change>
 /// `rc` with a number; `post=`, `dev=`, `min=` or `max=` and a number; `local=` and segments with dots between them;
 /// `only-release`; `without-local`. After `=` nothing stands for none, but for the epoch. Numbers are ASCII digits that fit 64 bits.
 ///
-/// Returns `NotAChange` for any other word, and allocates; `OutOfMemory` only where that failed.
+/// Returns `NotAChange` for any other word, and allocates; `OutOfMemory` only if that failed.
 pub fn parse_change(alloc: Global, word: &str) -> Result<Change, ChangeWordError>
     ensures { ReadsAs edit result (change_of word.now) }
 {
     match word.split_once('=') {
-        Some((field, value)) => field_change(alloc, field, value),
-        None => require_change(bare_change(word)),
+        Some((field, value)) => parse_field_change(alloc, field, value),
+        None => require_change(parse_bare_change(word)),
     }
 }

@@ -1,15 +1,15 @@
-//! Why a word asks for no change.
+//! Why a word is not a change.
 ghost use Rattle.std.specs.Prelude.{◌≡◌};
 ghost use Rattle.pep440_change_words.specs.declared.error.ChangeWordError.TheVariants.{OutOfMemory};
 
 use std::alloc::{AllocError, AllocFailed};
 
-/// Why a word asks for no change.
+/// Why a word is not a change.
 #[derive(Clone, Copy, Debug, PartialEq, Eq)]
 pub enum ChangeWordError {
-    /// There is no such change, or its value is none of the field.
+    /// There is no such change, or the field cannot have its value.
     NotAChange,
-    /// Out of memory, which says nothing of the word.
+    /// Out of memory; the word may be valid or not.
     OutOfMemory,
 }
 

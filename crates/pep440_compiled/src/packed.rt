@@ -8,7 +8,7 @@ ghost use Rattle.pep440_version.specs.Word.{is_packed};
 use crate::bytes::{from_bytes, to_bytes};
 use crate::words::{cmp_words, read_word};
 use pep440_version::Version;
-use pep440_version::words::{from_word, to_word};
+use pep440_version::word::{from_word, to_word};
 use std::cmp::Ordering;
 
 /// Bytes that denote no packed version.

@@ -12,7 +12,7 @@ use crate::parts::{
     push_local, push_number, push_optional_number, push_prerelease, push_release, read_local,
     read_number, read_optional_number, read_prerelease, read_release,
 };
-use pep440_version::words::to_word;
+use pep440_version::word::to_word;
 use pep440_version::{LocalSegment, Prerelease, Version};
 use std::alloc::{AllocError, Global};
 

@@ -3,26 +3,19 @@ ghost use Rattle.std.specs.Prelude.{◌≡◌, ◌≤◌, ◌<◌, IfSome, is_so
 ghost use Rattle.pep440_compiled.specs.PackedWord.{IsWordOf};
 ghost use Rattle.pep440_rs.specs.Matching.{any_prerelease, has_prefix, is_early, is_late, matches, same_release, without_last};
 ghost use Rattle.pep440_rs.specs.Specifiers.{IsSpec};
-ghost use Rattle.pep440_version.specs.Word.{class_in};
 ghost use Rattle.pep440_version.specs.Record.{Record};
 
 use crate::words::PackedWord;
 use pep440_rs::Operator;
-
-// The class of a post-release.
-const POST: u64 = 6;
-
-fn class_in(word: u64) -> u64
-    ensures { result ≡ class_in word }
-{
-    word >> 21 & 7
-}
+use pep440_version::word::{
+    DEV, FIRST_SHIFT, FOURTH_SHIFT, POST, RC, SECOND_SHIFT, THIRD_SHIFT, class_in,
+};
 
 // Of one release, whatever their suffixes.
 fn has_same_release(specifier: PackedWord, version: PackedWord) -> bool
     ensures { (s v : Record) → IsWordOf s specifier → IsWordOf v version → result ≡ same_release s v }
 {
-    specifier.word >> 24 == version.word >> 24
+    specifier.word >> FOURTH_SHIFT == version.word >> FOURTH_SHIFT
 }
 
 // The first `count` release numbers of the specifier are those of the version.
@@ -31,10 +24,10 @@ fn has_prefix(count: u8, specifier: PackedWord, version: PackedWord) -> bool
 {
     let (wanted, found) = (specifier.word, version.word);
     match count {
-        1 => wanted >> 48 == found >> 48,
-        2 => wanted >> 40 == found >> 40,
-        3 => wanted >> 32 == found >> 32,
-        _ => wanted >> 24 == found >> 24,
+        1 => wanted >> FIRST_SHIFT == found >> FIRST_SHIFT,
+        2 => wanted >> SECOND_SHIFT == found >> SECOND_SHIFT,
+        3 => wanted >> THIRD_SHIFT == found >> THIRD_SHIFT,
+        _ => wanted >> FOURTH_SHIFT == found >> FOURTH_SHIFT,
     }
 }
 
@@ -56,7 +49,7 @@ fn any_prerelease(version: PackedWord) -> bool
     ensures { (v : Record) → IsWordOf v version → result ≡ any_prerelease v }
 {
     let class = class_in(version.word);
-    class >= 1 && class <= 4
+    class >= DEV && class <= RC
 }
 
 fn is_early(specifier: PackedWord, version: PackedWord) -> bool
@@ -77,7 +70,7 @@ fn is_late(specifier: PackedWord, version: PackedWord) -> bool
     has_same_release(specifier, version) && is_post(version) && !is_post(specifier)
 }
 
-// Whether the specifier contains the version; None of `===`, which compares normalized forms.
+// Whether the specifier contains the version; `None` for `===`, which compares normalized forms.
 pub(crate) fn matches_word(
     operator: Operator,
     specifier: PackedWord,
