@@ -88,12 +88,6 @@ pub(crate) fn check_files<F: Files, R: Read>(
     ensures stopped { IfErr result (StopsCheck (F.known files.old) (F.path files.old) R.remaining (map string_bytes names.now) input.old input.new) }
     ensures kept { F.known files.new ≡ F.known files.old }
 {
-    let (read, unopened) = match read_files(alloc, names, files, input) {
-        Ok(found) => found,
-        Err(stop) => return Err(stop),
-    };
-    match answer_check(alloc, json, read.as_slice(), unopened.as_ref()) {
-        Ok(answer) => Ok(answer),
-        Err(_) => Err(Stop::OutOfMemory),
-    }
+    let (read, unopened) = read_files(alloc, names, files, input)?;
+    Ok(answer_check(alloc, json, read.as_slice(), unopened.as_ref())?)
 }

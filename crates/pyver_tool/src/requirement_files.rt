@@ -135,14 +135,8 @@ impl RequirementFiles {
         ensures part { IfErr result (λ _. (read : List ℕ) × Consumes (R.remaining input.old) (R.remaining input.new) read) }
         ensures stop { IfErr result (IsReadingStop name.now) }
     {
-        let text = match read_text(alloc, name, &mut self.read_count, input) {
-            Ok(text) => text,
-            Err(stop) => return Err(stop),
-        };
-        match self.push_file(alloc, name, path, text) {
-            Ok(()) => Ok(()),
-            Err(_) => Err(Stop::OutOfMemory),
-        }
+        let text = read_text(alloc, name, &mut self.read_count, input)?;
+        Ok(self.push_file(alloc, name, path, text)?)
     }
 
     /// Reads the source with this name, of which this is the path, or returns why it is not opened.
@@ -161,16 +155,14 @@ impl RequirementFiles {
         ensures kept_paths { F.path files.new ≡ F.path files.old }
     {
         if is_input(name) {
-            return match self.read_source(alloc, name, path, input) {
-                Ok(()) => Ok(None),
-                Err(stop) => Err(stop),
-            };
+            self.read_source(alloc, name, path, input)?;
+            return Ok(None);
         }
         match files.open(alloc, name) {
-            Ok(mut file) => match self.read_source(alloc, name, path, &mut file) {
-                Ok(()) => Ok(None),
-                Err(stop) => Err(stop),
-            },
+            Ok(mut file) => {
+                self.read_source(alloc, name, path, &mut file)?;
+                Ok(None)
+            }
             Err(OpenFailure::OutOfMemory) => Err(Stop::OutOfMemory),
             Err(failure) => Ok(Some(failure)),
         }
@@ -190,9 +182,7 @@ impl RequirementFiles {
         ensures kept { F.known files.new ≡ F.known files.old }
         ensures kept_paths { F.path files.new ≡ F.path files.old }
     {
-        let Ok(path) = source_path(alloc, name, files) else {
-            return Err(Stop::OutOfMemory);
-        };
+        let path = source_path(alloc, name, files)?;
         if self.has_path(path.as_str()) {
             return Ok(None);
         }
@@ -234,13 +224,10 @@ impl RequirementFiles {
         let mut index = 0;
         let mut count = self.names.len();
         while index < count {
-            let Ok(name) = Vec::from_slice(alloc, self.names[index].as_slice()) else {
-                return Err(Stop::OutOfMemory);
-            };
-            match self.read_next(alloc, name.as_slice(), files, input) {
-                Ok(None) => index += 1,
-                Ok(Some(failure)) => return Ok(Some(UnopenedFile { name, failure })),
-                Err(stop) => return Err(stop),
+            let name = Vec::from_slice(alloc, self.names[index].as_slice())?;
+            match self.read_next(alloc, name.as_slice(), files, input)? {
+                None => index += 1,
+                Some(failure) => return Ok(Some(UnopenedFile { name, failure })),
             }
             count = self.names.len();
         }
@@ -259,12 +246,8 @@ pub(crate) fn read_files<F: Files, R: Read>(
     ensures stopped { IfErr result (StopsInFiles (F.known files.old) (F.path files.old) R.remaining (source_names (map string_bytes names.now)) input.old input.new) }
     ensures kept { F.known files.new ≡ F.known files.old }
 {
-    let Ok(names) = copy_names(alloc, names) else {
-        return Err(Stop::OutOfMemory);
-    };
+    let names = copy_names(alloc, names)?;
     let mut state = RequirementFiles::new(alloc, names);
-    match state.read_all(alloc, files, input) {
-        Ok(unopened) => Ok((state.files, unopened)),
-        Err(stop) => Err(stop),
-    }
+    let unopened = state.read_all(alloc, files, input)?;
+    Ok((state.files, unopened))
 }

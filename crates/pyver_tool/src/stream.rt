@@ -1,9 +1,11 @@
 // Writing whole, with no call made twice.
-ghost use Rattle.std.specs.Prelude.{IfErr, List, OnOk, Option, ℕ};
+ghost use Rattle.std.specs.Prelude.{◌≡◌, IfErr, List, OnOk, Option, ℕ};
 ghost use Rattle.std.specs.Io.KnownBytes.{Appends, Keeps};
 ghost use Rattle.pyver_tool.specs.Runs.{WroteBeginning};
 ghost use Rattle.pyver_tool.specs.SourceViews.{IsStopOf};
+ghost use Rattle.pyver_tool.specs.declared.stream.Stop.TheVariants.{OutOfMemory};
 
+use std::alloc::{AllocError, AllocFailed};
 use std::io::{ErrorKind, Write};
 
 /// Why not all was written.
@@ -60,6 +62,22 @@ pub(crate) enum Stop {
     Errors(WriteFailure),
 }
 
+impl From<AllocError> for Stop {
+    ghost from_gives = { λ _ stop. stop ≡ OutOfMemory };
+
+    fn from(_: AllocError) -> Stop {
+        Stop::OutOfMemory
+    }
+}
+
+impl<T: Drop> From<AllocFailed<T>> for Stop {
+    ghost from_gives = { λ _ stop. stop ≡ OutOfMemory };
+
+    fn from(_: AllocFailed<T>) -> Stop {
+        Stop::OutOfMemory
+    }
+}
+
 /// Writes the output and then the errors. Where a call failed or took no byte, a beginning of each was written.
 pub(crate) fn write_both<W: Write, E: Write>(
     out: &mut W,
@@ -72,11 +90,6 @@ pub(crate) fn write_both<W: Write, E: Write>(
     ensures errors { WroteBeginning (E.contents err.old) (E.contents err.new) errors.now }
     ensures stop { IfErr result (λ stop. (last : Option (List ℕ)) → IsStopOf last stop) }
 {
-    if let Err(failure) = write_whole(out, output) {
-        return Err(Stop::Output(failure));
-    }
-    if let Err(failure) = write_whole(err, errors) {
-        return Err(Stop::Errors(failure));
-    }
-    Ok(())
+    write_whole(out, output).map_err(Stop::Output)?;
+    write_whole(err, errors).map_err(Stop::Errors)
 }
