@@ -55,7 +55,7 @@ fn canonical(name: &str) -> &str {
     name.strip_prefix("./").unwrap_or(name)
 }
 
-/// These files alone are there. It counts those that were asked for.
+/// Only these files are there. It counts those that were asked for.
 #[derive(Drop)]
 pub struct HeldFiles<'a> {
     files: &'a [(&'a str, HeldFile<'a>)],

@@ -7,7 +7,7 @@ use testing::{After, CaseError, Manner, Sink, Trickle, split_words};
 
 const OUT_OF_MEMORY: u8 = 3;
 
-/// The files that are there, and standard input.
+// The files that are there, and standard input.
 #[derive(Clone, Copy)]
 struct Given<'a> {
     files: &'a [(&'a str, HeldFile<'a>)],
@@ -15,7 +15,7 @@ struct Given<'a> {
     after: After,
 }
 
-/// What a run wrote, and whether it asked for a file or for input.
+// What a run wrote, and whether it asked for a file or for input.
 #[derive(Drop)]
 struct Run {
     status: u8,
@@ -46,8 +46,8 @@ fn run_words(alloc: Global, words: &[String], given: Given<'_>) -> Run {
     }
 }
 
-// Whether a run that found no memory wrote a beginning of what the other writes, and then that memory is out; and where the other reads
-// nothing, it read nothing and wrote this alone.
+// Whether a run that is out of memory wrote a beginning of what the other writes, and then that message; and where the other reads
+// nothing, it read nothing and wrote only this.
 fn is_cut(cut: &Run, whole: &Run) -> bool {
     let errors = cut.errors.bytes();
     let Some(front) = errors.strip_suffix("pyver: out of memory\n".as_bytes()) else {
@@ -60,8 +60,8 @@ fn is_cut(cut: &Run, whole: &Run) -> bool {
     is_beginning && whole.errors.bytes().starts_with(front) && is_as_told
 }
 
-// The run, once more where it found no memory: of the requests of both at most one is refused. Where a file is not opened for want of
-// memory, that may be one of the second.
+// The run, once more where it is out of memory: of the allocations of both at most one fails. Where a file is not opened because an
+// allocation failed, that may be one of the second.
 fn run_again(alloc: Global, words: &[String], given: Given<'_>) -> Result<Run, CaseError> {
     let first = run_words(alloc, words, given);
     if first.status != OUT_OF_MEMORY {
@@ -77,7 +77,7 @@ fn run_again(alloc: Global, words: &[String], given: Given<'_>) -> Result<Run, C
     }
 }
 
-// The status, standard output, and behind `2> ` standard error.
+// The status, standard output, and after `2> ` standard error.
 fn print_run(alloc: Global, run: &Run) -> Result<String, CaseError> {
     let status = run.status;
     match (

@@ -1,4 +1,4 @@
-//! What no line of test cases can ask: readers and writers that fail, refused memory, very long strings; and the examples of
+//! What no line of test cases can ask: readers and writers that fail, failing allocations, very long strings; and the examples of
 //! `example_calls`.
 mod change_words;
 mod example_calls;

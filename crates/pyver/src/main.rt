@@ -9,7 +9,7 @@ use std::io::{self, ErrorKind};
 use std::process::ExitCode;
 use system_files::SystemFiles;
 
-/// The arguments after the program's own name.
+// The arguments after the program's own name.
 fn words(rt: &HostRuntime) -> io::Result<Vec<String>> {
     let mut words = Vec::new(rt.alloc());
     for word in env::args(rt)?.skip(1) {

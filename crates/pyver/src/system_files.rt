@@ -5,7 +5,7 @@ use std::fs::{self, OpenFile};
 use std::io::{Error, ErrorKind};
 use std::rt;
 
-/// The files that a runtime reaches.
+// The files that a runtime reaches.
 #[derive(Drop)]
 pub(crate) struct SystemFiles<'a, R> {
     runtime: &'a R,

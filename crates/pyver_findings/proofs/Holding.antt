@@ -1,4 +1,4 @@
--- What is reported: a line alone is no requirement; lines together count together, and no version is allowed by all.
+-- What is reported: a line by itself is no requirement; lines together count together, and no version is allowed by all.
 use Rattle.std.proofs.Common.{◌≡◌, ◌==◌, ◌⊎◌, ◌∙◌, ℕ, List, [], ◌∷◌, ◌&&◌, ◌||◌, Bool, true, false, IsTrue, Option, Some, None, fold, is_none, length, map, not, refl, sym, ap, subst, inl, inr, if◌then◌else◌}
 use Rattle.std.proofs.lemmas.Bool.{true≢false}
 use Rattle.std.proofs.lemmas.List.Elements.{All-append, All-cons, All-contains_itself, All-filter, All-head, All-nil, All-tail, filter_passes}

@@ -1,4 +1,4 @@
--- What is reported of a line alone: it is a line of the files and no requirement, for this reason.
+-- What is reported of a line by itself: it is a line of the files and no requirement, for this reason.
 use Rattle.std.proofs.Common.{◌≡◌, ◌==◌, ◌∙◌, ℕ, List, [], ◌∷◌, Bool, true, false, Option, Some, None, length, refl, sym, ap, subst, inl, inr, if◌then◌else◌}
 use Rattle.std.proofs.lemmas.Bool.{true≢false}
 use Rattle.std.proofs.lemmas.List.Elements.{All-append, All-cons, All-head, All-nil, All-tail}

@@ -7,19 +7,19 @@ use Rattle.pep440_pick.specs.RequirementReading.{behind_name}
 use Rattle.pep440_version.specs.Reading.{past}
 use Rattle.pyver_requirements.specs.LineParts.{behind_byte}
 
--- what stands behind the first `]`
+-- what stands after the first `]`
 abbrev pub behind_bracket : List ℕ → List ℕ
 behind_bracket text = option_map_or (λ rest. rest) (behind_byte 93 text) []
 
--- what stands behind the extras, if there are any
+-- what stands after the extras, if there are any
 abbrev pub behind_extras : List ℕ → List ℕ
 behind_extras text = if opens 91 text then behind_bracket text else text
 
--- what stands behind the name and the extras, without blanks at the start
+-- what stands after the name and the extras, without blanks at the start
 abbrev pub behind_front : List ℕ → List ℕ
 behind_front text = past is_ascii_whitespace (behind_extras (behind_name text))
 
--- the string without a parenthesis at its start, and without blanks behind it
+-- the string without a parenthesis at its start, and without blanks after it
 abbrev pub in_parenthesis : List ℕ → List ℕ
 in_parenthesis text = if opens 40 text then past is_ascii_whitespace (drop 1 text) else text
 
@@ -27,13 +27,13 @@ in_parenthesis text = if opens 40 text then past is_ascii_whitespace (drop 1 tex
 abbrev pub from_list : List ℕ → List ℕ
 from_list text = in_parenthesis (behind_front text)
 
--- what stands from the place on at which the requirement is invalid: the extras, the parenthesis, or the invalid specifier
+-- what stands from the position on at which the requirement is invalid: the extras, the parenthesis, or the invalid specifier
 abbrev pub rest_at : List ℕ → RequirementRefusal → List ℕ
 rest_at text InvalidExtras = behind_name text
 rest_at text Unclosed = behind_front text
 rest_at text (Specifiers list f) = past is_ascii_whitespace (drop f.start (from_list text))
 rest_at text _ = text
 
--- the column of that place, in bytes from 0
+-- the column of that position, in bytes from 0
 abbrev pub column : List ℕ → RequirementRefusal → ℕ
 column text f = length text - length (rest_at text f)

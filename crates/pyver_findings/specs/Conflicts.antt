@@ -36,7 +36,7 @@ counts_under marker a = is_none a.marker || same_marker a.marker marker
 abbrev pub meets : Demand → Demand → Bool
 meets a b = is_none b.marker || counts_under b.marker a
 
--- the lines before which no other is the same, behind those
+-- the lines before which no other is the same, after those
 abbrev pub first_mentions : (Demand → Demand → Bool) → List Demand → List Demand → List Demand
 first_mentions same before [] = []
 first_mentions same before (a ∷ rest) = (if list_any (same a) before then [] else a ∷ []) ++ first_mentions same (before ++ a ∷ []) rest

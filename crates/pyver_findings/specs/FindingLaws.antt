@@ -1,4 +1,4 @@
--- What holds of findings: a line that is reported alone is no requirement, and each that is none is reported; lines that are
+-- What holds of findings: a line that is reported by itself is no requirement, and each that is none is reported; lines that are
 -- reported together count together and cannot be satisfied, and those that have no version in common are reported; there is one
 -- report.
 use Rattle.std.specs.Prelude.{◌≡◌, ◌⊎◌, ⊤, ℕ, List, [], ◌∷◌, IsTrue, Option, Some, None, map}
@@ -24,7 +24,7 @@ use Rattle.pyver_requirements.specs.LineParts.{LineParts, line_parts}
 abbrev pub LineAllows : Record → FileLine → Type 0
 LineAllows v l = (n : Needed) × DerivesRequirement (line_parts l.text).requirement n × IsTrue (list_matches n.specifiers v)
 
--- a marker stands behind `;`, and behind `@` a URL, which has no list before it
+-- a marker stands after `;`, and after `@` a URL, which has no list before it
 abbrev pub IsComplete : LineParts → Needed → Type 0
 IsComplete p n = (¬ (p.marker ≡ Some [])) × (¬ (p.url ≡ Some [])) × ((p.url ≡ None) ⊎ (n.specifiers ≡ []))
 
@@ -55,7 +55,7 @@ FitsConflict NoVersion together = ⊤
 FitsConflict TwoPins together = (a : FileLine) × (b : FileLine) × (together ≡ a ∷ (b ∷ [])) × NamesVersion a × NamesVersion b
 FitsConflict PinOutside together = (a : FileLine) × (b : FileLine) × (together ≡ a ∷ (b ∷ [])) × (NamesVersion a ⊎ NamesVersion b) × (¬ (NamesVersion a × NamesVersion b))
 
--- a line that is reported alone is one of these lines and no requirement, and has this reason and column; lines that are reported
+-- a line that is reported by itself is one of these lines and no requirement, and has this reason and column; lines that are reported
 -- together are some of these, count together, and no version is allowed by all
 abbrev pub IsRight : List FileLine → Finding → Type 0
 IsRight lines (NoRequirement l reason column) = Contains lines l × (¬ IsRequirementLine l) × IsMeaning l (IsNone (NoRequirement l reason column))
@@ -66,7 +66,7 @@ IsRight lines (Conflicting conflict together) =
 abbrev pub FindingsHold : Type 0
 FindingsHold = (files : List File) (r : Report) → IsReport files r → All (IsRight (all_lines files)) r.findings
 
--- the line is reported alone
+-- the line is reported by itself
 abbrev pub IsAlone : FileLine → Finding → Type 0
 IsAlone line (NoRequirement l reason column) = l ≡ line
 IsAlone line (Conflicting conflict reported) = ⊥

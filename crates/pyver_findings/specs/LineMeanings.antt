@@ -32,7 +32,7 @@ has_scheme (b ∷ rest) = starts_with nat_eq (b ∷ rest) (codes "://") || has_s
 abbrev pub names_file : List ℕ → LineMeaning
 names_file path = if has_variable path then LeftOut cause.Variable else (if has_scheme path then LeftOut cause.Url else NamesFile)
 
--- the line that has no path behind the option of a file
+-- the line that has no path after the option of a file
 abbrev pub without_path : FileLine → LineMeaning
 without_path line = IsNone (NoRequirement line (codes "no path follows the option") (length line.text))
 
@@ -47,13 +47,13 @@ requirement_reason f = requirement_refusal_text f
 abbrev pub before_url : FileLine → ℕ → Needed → LineMeaning
 before_url line column n = if length n.specifiers == 0 then LeftOut cause.Url else IsNone (NoRequirement line (codes "version specifiers stand before a URL") column)
 
--- behind `@` a URL stands; this is what the line is
+-- after `@` a URL stands; this is what the line is
 abbrev pub with_url : FileLine → LineParts → Needed → Option (List ℕ) → LineMeaning
 with_url line p n None = Asks (line_demand line p.marker n)
 with_url line p n (Some []) = IsNone (NoRequirement line (codes "no URL follows '@'") (length p.requirement))
 with_url line p n (Some (b ∷ url)) = before_url line (length p.requirement) n
 
--- behind `;` a marker stands; this is what the line is
+-- after `;` a marker stands; this is what the line is
 abbrev pub with_marker : FileLine → LineParts → Needed → Option (List ℕ) → LineMeaning
 with_marker line p n (Some []) = IsNone (NoRequirement line (codes "no marker follows ';'") (length p.requirement))
 with_marker line p n _ = with_url line p n p.url

@@ -16,13 +16,13 @@ folder (b ∷ rest) = if list_any (λ c. c == 47) (b ∷ rest) then b ∷ folder
 abbrev pub path_from : List ℕ → List ℕ → List ℕ
 path_from name path = if opens 47 path then path else folder name ++ path
 
--- the path behind `-r` or `-c`
+-- the path after `-r` or `-c`
 abbrev pub path_in : LineKind → Option (List ℕ)
 path_in (RequirementsFile path) = Some path
 path_in (ConstraintsFile path) = Some path
 path_in _ = None
 
--- the file that a path in the file with this name means; none where it has a variable or is a URL
+-- the file that a path in the file with this name denotes; none where it has a variable or is a URL
 abbrev pub named_by : List ℕ → Option (List ℕ) → List (List ℕ)
 named_by name None = []
 named_by name (Some path) = if has_variable path || has_scheme path then [] else path_from name path ∷ []

@@ -16,18 +16,18 @@ use Rattle.pyver_findings.specs.Reports.{demands_in, invalid_in, left_out_in}
 use Rattle.pyver_findings.specs.Views.{demand_of, finding_of}
 use Rattle.pyver_findings.specs.declared.report.Readings.{Readings}
 
--- the message of the invalid piece of a list, or None if memory ran out
+-- the message of the invalid piece of a list, or None if an allocation failed
 abbrev pub piece_text_of : SpecifiersErrorKind → Option (List ℕ)
 piece_text_of (list.Piece error start stop) = specifier_error_text (specifier_refusal_of (parse_kind_of error))
 piece_text_of list.OutOfMemory = None
 
--- the message of an error, of a list that of its piece, or None if memory ran out
+-- the message of an error, of a list that of its piece, or None if an allocation failed
 abbrev pub reason_text_of : RequirementError → Option (List ℕ)
 reason_text_of (error.Specifiers e) = piece_text_of (list_kind_of e)
 reason_text_of error.OutOfMemory = None
 reason_text_of e = option_map requirement_refusal_text (requirement_refusal_of e)
 
--- a requirement was not read for want of memory
+-- a requirement was not read because an allocation failed
 abbrev pub is_memory_error : RequirementError → Bool
 is_memory_error error.OutOfMemory = true
 is_memory_error _ = false

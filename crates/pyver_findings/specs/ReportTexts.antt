@@ -17,7 +17,7 @@ use Rattle.pyver_findings.specs.Escapes.{escaped}
 abbrev pub place_text : FileLine → List ℕ
 place_text l = escaped l.file ++ (codes ":" ++ (decimal l.number ++ codes ": "))
 
--- the place of the first line
+-- the file and line number of the first line
 abbrev pub first_place : List FileLine → List ℕ
 first_place [] = []
 first_place (l ∷ rest) = place_text l
@@ -26,7 +26,7 @@ first_place (l ∷ rest) = place_text l
 abbrev pub caret_text : List ℕ → ℕ → List ℕ
 caret_text text column = map (λ _. 32) (escaped (take column text)) ++ codes "^\n"
 
--- a line with its place, indented
+-- a line with its file and line number, indented
 abbrev pub quoted_line : FileLine → List ℕ
 quoted_line l = codes "    " ++ (place_text l ++ (escaped l.text ++ codes "\n"))
 
@@ -39,7 +39,7 @@ conflict_text NoVersion = codes "no version satisfies:\n"
 conflict_text PinOutside = codes "a version is named and excluded:\n"
 conflict_text TwoPins = codes "two versions are named:\n"
 
--- the place and the reason, and then the line, with a caret where it is none, or the lines
+-- the file, the line number and the reason, and then the line, with a caret where it is none, or the lines
 abbrev pub finding_text : Finding → List ℕ
 finding_text (NoRequirement l reason column) = place_text l ++ (escaped reason ++ marked_line l.text column)
 finding_text (Conflicting conflict lines) = first_place lines ++ (conflict_text conflict ++ flat_map quoted_line lines)

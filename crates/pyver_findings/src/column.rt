@@ -26,14 +26,14 @@ fn count_name_bytes(text: &[u8]) -> usize
     text.iter().take_while(|byte| is_name_byte(**byte)).count()
 }
 
-/// What stands behind the blanks at the start.
+// What stands after the blanks at the start.
 fn skip_blanks(text: &[u8]) -> &[u8]
     ensures { result.now ≡ past is_ascii_whitespace text.now }
 {
     text.trim_ascii_start()
 }
 
-/// What stands behind the name and the blanks after it.
+// What stands after the name and the blanks after it.
 fn behind_name(text: &[u8]) -> &[u8]
     ensures { result.now ≡ behind_name text.now }
 {
@@ -87,7 +87,7 @@ fn in_parenthesis(text: &[u8]) -> &[u8]
     }
 }
 
-/// What stands from the list of specifiers on.
+// What stands from the list of specifiers on.
 fn from_list(text: &[u8]) -> &[u8]
     ensures { result.now ≡ from_list text.now }
 {
@@ -113,7 +113,7 @@ fn piece_start(error: &VersionSpecifiersParseError) -> usize
     }
 }
 
-/// What stands from the place on at which the requirement is invalid.
+// What stands from the position on at which the requirement is invalid.
 fn rest_at<'a>(text: &'a [u8], error: &RequirementError) -> &'a [u8]
     ensures { IfSome (requirement_refusal_of error.now) (λ f. result.now ≡ rest_at text.now f) }
 {
@@ -127,7 +127,7 @@ fn rest_at<'a>(text: &'a [u8], error: &RequirementError) -> &'a [u8]
     }
 }
 
-/// The column of that place, in bytes from 0.
+// The column of that position, in bytes from 0.
 pub(crate) fn column(text: &[u8], error: &RequirementError) -> usize
     ensures { IfSome (requirement_refusal_of error.now) (λ f. result ≡ column text.now f) }
 {

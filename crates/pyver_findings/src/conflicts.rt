@@ -16,7 +16,7 @@ fn has_same_name(one: &Demand, other: &Demand) -> bool
     same_name(one.name.as_str(), other.name.as_str())
 }
 
-/// The lines with the name of this one.
+// The lines with the name of this one.
 fn of_same_name<'a>(
     alloc: Global,
     line: &Demand,
@@ -44,7 +44,7 @@ fn has_name(lines: &[Demand], line: &Demand) -> bool
     false
 }
 
-/// Of the lines with the name of this one, if none before has it.
+// Of the lines with the name of this one, if none before has it.
 fn push_with_name(
     alloc: Global,
     findings: &mut Vec<Finding>,
@@ -61,7 +61,7 @@ fn push_with_name(
     push_of_name(alloc, findings, same.as_slice())
 }
 
-/// What is wrong with lines together.
+// What is wrong with lines together.
 pub(crate) fn push_conflicts(
     alloc: Global,
     findings: &mut Vec<Finding>,

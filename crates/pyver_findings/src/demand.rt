@@ -11,15 +11,15 @@ use pep440_rs::{
 };
 use std::alloc::{AllocError, Global};
 
-/// What a line asks for: versions of a package, under a marker or always.
+// What a line asks for: versions of a package, under a marker or always.
 #[derive(Drop)]
 pub(crate) struct Demand {
     pub(crate) line: FileLine,
     pub(crate) name: String,
     pub(crate) marker: Option<Vec<u8>>,
-    /// Whether some member of the list names one version.
+    // Whether some member of the list names one version.
     pub(crate) pinned: bool,
-    /// A range that holds every version that the list contains.
+    // A range that holds every version that the list contains.
     pub(crate) cover: Ranges<Version>,
 }
 
@@ -37,7 +37,7 @@ fn is_pinned(members: &[VersionSpecifier]) -> bool
         .any(|member| is_pin_operator(*member.operator()))
 }
 
-/// The cover of the list; all versions where a number in it cannot be raised.
+// The cover of the list; all versions where a number in it cannot be raised.
 fn cover_or_all(alloc: Global, list: VersionSpecifiers) -> Result<Ranges<Version>, AllocError>
     ensures { IfOk result (λ cover. cover ≡ cover_or_all list) }
 {
@@ -58,7 +58,7 @@ fn copy_marker(alloc: Global, marker: Option<&[u8]>) -> Result<Option<Vec<u8>>, 
 }
 
 impl Demand {
-    /// What the line asks for under this marker.
+    // What the line asks for under this marker.
     pub(crate) fn new(
         alloc: Global,
         line: &FileLine,

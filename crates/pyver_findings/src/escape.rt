@@ -21,7 +21,7 @@ fn is_printable(byte: u8) -> bool
     32 <= byte && byte < 127
 }
 
-/// The byte at the end, escaped if it is not printable.
+// The byte at the end, escaped if it is not printable.
 fn push_escaped_byte(text: &mut Vec<u8>, byte: u8) -> Result<(), AllocError>
     ensures { IfOk result (λ _. text.new.items ≡ text.old.items ++ escaped_byte byte) }
 {

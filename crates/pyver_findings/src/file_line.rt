@@ -78,7 +78,7 @@ fn push_file(alloc: Global, lines: &mut Vec<FileLine>, file: &SourceFile) -> Res
     push_lines(alloc, lines, file.name.as_slice(), found.as_slice())
 }
 
-/// The logical lines of the files.
+// The logical lines of the files.
 pub(crate) fn all_lines(alloc: Global, files: &[SourceFile]) -> Result<Vec<FileLine>, AllocError>
     ensures { IfOk result (λ lines. map file_line_of lines.items ≡ all_lines (map file_of files.now)) }
 {

@@ -10,7 +10,7 @@ use crate::pairs::{counts_under, push_conflict, push_of_few, same_marker};
 use pep440_rs::{Ranges, Version};
 use std::alloc::{AllocError, Global};
 
-/// The lines without a marker, and those with this one.
+// The lines without a marker, and those with this one.
 fn under<'a>(
     alloc: Global,
     marker: &Option<Vec<u8>>,
@@ -27,7 +27,7 @@ fn under<'a>(
     Ok(kept)
 }
 
-/// The intersection of the covers.
+// The intersection of the covers.
 fn common_cover(alloc: Global, lines: &[&Demand]) -> Result<Ranges<Version>, AllocError>
     ensures { IfOk result (λ cover. cover ≡ common_cover (map (λ x. demand_of x.now) lines.now)) }
 {
@@ -38,7 +38,7 @@ fn common_cover(alloc: Global, lines: &[&Demand]) -> Result<Ranges<Version>, All
     Ok(cover)
 }
 
-/// Neither one line nor two explain that no version satisfies all.
+// Neither one line nor two explain that no version satisfies all.
 fn is_unexplained(alloc: Global, lines: &[&Demand]) -> Result<bool, AllocError>
     ensures { IfOk result (λ b. b ≡ (length (of_few (map (λ x. demand_of x.now) lines.now)) == 0)) }
 {
@@ -60,7 +60,7 @@ fn push_of_all(
     push_conflict(alloc, findings, Conflict::NoVersion, lines)
 }
 
-/// One of the lines has the same marker.
+// One of the lines has the same marker.
 fn has_marker(lines: &[&Demand], line: &Demand) -> bool
     ensures { result ≡ list_any (has_same_marker (demand_of line.now)) (map (λ x. demand_of x.now) lines.now) }
 {
@@ -72,7 +72,7 @@ fn has_marker(lines: &[&Demand], line: &Demand) -> bool
     false
 }
 
-/// Of the lines that count under the marker of this one, if none before has the same.
+// Of the lines that count under the marker of this one, if none before has the same.
 fn push_of_marker(
     alloc: Global,
     findings: &mut Vec<Finding>,
@@ -116,7 +116,7 @@ fn push_of_markers(
     push_of_each_marker(alloc, findings, lines)
 }
 
-/// What is wrong with the lines of one name.
+// What is wrong with the lines of one name.
 pub(crate) fn push_of_name(
     alloc: Global,
     findings: &mut Vec<Finding>,

@@ -1,14 +1,14 @@
 //! What holds of findings, as the contract of a function that does nothing.
 ghost use Rattle.pyver_findings.specs.FindingLaws.{ConflictsHaveFindings, FindingsHold, InvalidLinesHaveFindings, MeaningsOnce, ReportsOnce};
 
-/// A line that is reported alone is a line of the files and no requirement, for the reason and at the column that are
+/// A line that is reported by itself is a line of the files and no requirement, for the reason and at the column that are
 /// reported. Lines that are reported together are lines of the files, ask for one name and have no two markers; no
 /// version is allowed by all; and one or two of them name a version where that is reported.
 pub fn findings_hold()
     ensures { FindingsHold }
 {}
 
-/// Each line that ought to be a requirement and is none, or that has no path behind `-r` or `-c`, is reported.
+/// Each line that ought to be a requirement and is none, or that has no path after `-r` or `-c`, is reported.
 pub fn invalid_lines_have_findings()
     ensures { InvalidLinesHaveFindings }
 {}

@@ -12,20 +12,20 @@ use crate::requirement::{read_requirement, reject};
 use pyver_requirements::{LineKind, classify, has_variable};
 use std::alloc::{AllocError, Global};
 
-/// What a line is.
+// What a line is.
 #[derive(Drop)]
 pub(crate) enum LineMeaning {
-    /// A requirement.
+    // A requirement.
     Asks(Demand),
-    /// None.
+    // None.
     IsNone(Finding),
-    /// It is left out.
+    // It is left out.
     LeftOut(Cause),
-    /// It names another file.
+    // It names another file.
     NamesFile,
 }
 
-/// `://` stands somewhere in the text.
+// `://` stands somewhere in the text.
 pub(crate) fn has_scheme(text: &[u8]) -> bool
     ensures { result ≡ has_scheme text.now }
 {
@@ -66,7 +66,7 @@ fn read_kind(alloc: Global, line: &FileLine, kind: LineKind<'_>) -> Result<LineM
     }
 }
 
-/// What the line is.
+// What the line is.
 pub(crate) fn read_line(alloc: Global, line: &FileLine) -> Result<LineMeaning, AllocError>
     ensures { IfOk result (λ x. IsMeaning (file_line_of line.now) (line_meaning_of x)) }
 {

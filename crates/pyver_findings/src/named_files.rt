@@ -12,7 +12,7 @@ use crate::line_meaning::has_scheme;
 use pyver_requirements::{LineKind, LogicalLine, classify, has_variable, logical_lines};
 use std::alloc::{AllocError, Global};
 
-/// Up to the last `/`, with it.
+// Up to the last `/`, with it.
 fn folder(name: &[u8]) -> &[u8]
     ensures { result.now ≡ folder name.now }
 {
@@ -26,7 +26,7 @@ fn folder(name: &[u8]) -> &[u8]
     front
 }
 
-/// The path as it is to be opened, of a line of the file with this name.
+// The path as it is to be opened, of a line of the file with this name.
 fn path_from(alloc: Global, name: &[u8], path: &[u8]) -> Result<Vec<u8>, AllocError>
     ensures { IfOk result (λ joined. joined.items ≡ path_from name.now path.now) }
 {
@@ -85,7 +85,7 @@ fn push_of_lines(
     Ok(())
 }
 
-/// Pushes the names of the files that the lines of the file name, in order, behind `-r`, `--requirement`, `-c` and
+/// Pushes the names of the files that the lines of the file name, in order, after `-r`, `--requirement`, `-c` and
 /// `--constraint`. A path is relative to the folder of the file, unless it begins with `/`. A path with a variable and a URL
 /// name none. Fails where memory runs out; then some of them may have been pushed.
 ///

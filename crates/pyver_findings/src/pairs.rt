@@ -1,4 +1,4 @@
-// Lines that no version satisfies alone, or in pairs.
+// Lines that no version satisfies, single or in pairs.
 ghost use Rattle.std.specs.Prelude.{◌≡◌, ◌++◌, ◌∷◌, [], IfOk, is_none, map, option_map};
 ghost use Rattle.std.specs.List.{flat_map};
 ghost use Rattle.pep440_ranges.specs.Intersection.{overlaps};
@@ -12,7 +12,7 @@ use crate::file_line::FileLine;
 use crate::finding::{Conflict, Finding};
 use std::alloc::{AllocError, Global};
 
-/// Both markers are the same bytes, or there is neither.
+// Both markers are the same bytes, or there is neither.
 pub(crate) fn same_marker(one: &Option<Vec<u8>>, other: &Option<Vec<u8>>) -> bool
     ensures { result ≡ same_marker (option_map (λ m. m.items) one.now) (option_map (λ m. m.items) other.now) }
 {
@@ -25,7 +25,7 @@ pub(crate) fn same_marker(one: &Option<Vec<u8>>, other: &Option<Vec<u8>>) -> boo
     }
 }
 
-/// The line counts under the marker.
+// The line counts under the marker.
 pub(crate) fn counts_under(marker: &Option<Vec<u8>>, line: &Demand) -> bool
     ensures { result ≡ counts_under (option_map (λ m. m.items) marker.now) (demand_of line.now) }
 {
@@ -38,7 +38,7 @@ fn meets(one: &Demand, other: &Demand) -> bool
     other.marker.is_none() || counts_under(&other.marker, one)
 }
 
-/// One of the lines names a version, and their covers are apart.
+// One of the lines names a version, and their covers are apart.
 fn pin_is_apart(alloc: Global, one: &Demand, other: &Demand) -> Result<bool, AllocError>
     ensures { IfOk result (λ b. b ≡ pin_is_apart (demand_of one.now) (demand_of other.now)) }
 {
@@ -77,7 +77,7 @@ fn copy_lines(alloc: Global, lines: &[&Demand]) -> Result<Vec<FileLine>, AllocEr
     Ok(copies)
 }
 
-/// These lines cannot be satisfied together.
+// These lines cannot be satisfied together.
 pub(crate) fn push_conflict(
     alloc: Global,
     findings: &mut Vec<Finding>,
@@ -156,7 +156,7 @@ fn push_of_pairs(
     Ok(())
 }
 
-/// What one line or two explain.
+// What one line or two explain.
 pub(crate) fn push_of_few(
     alloc: Global,
     findings: &mut Vec<Finding>,

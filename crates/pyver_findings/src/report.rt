@@ -25,7 +25,7 @@ pub struct Report {
     pub left_out: Vec<Cause>,
 }
 
-/// What the lines so far are.
+// What the lines so far are.
 #[derive(Drop)]
 struct Readings {
     invalid: Vec<Finding>,

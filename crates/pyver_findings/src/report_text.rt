@@ -13,14 +13,14 @@ use crate::finding::{Conflict, Finding};
 use crate::report::Report;
 use std::alloc::{AllocError, Global};
 
-/// The string at the end.
+// The string at the end.
 pub(crate) fn push_text(bytes: &mut Vec<u8>, text: &str) -> Result<(), AllocError>
     ensures { IfOk result (λ _. bytes.new.items ≡ bytes.old.items ++ text.now) }
 {
     bytes.extend_from_slice(text.as_bytes())
 }
 
-/// The number at the end.
+// The number at the end.
 pub(crate) fn push_number(alloc: Global, bytes: &mut Vec<u8>, number: u64) -> Result<(), AllocError>
     ensures { IfOk result (λ _. bytes.new.items ≡ bytes.old.items ++ decimal number) }
 {
@@ -49,7 +49,7 @@ fn push_first_place(
     }
 }
 
-/// A blank for each of the characters.
+// A blank for each of the characters.
 fn push_blanks(bytes: &mut Vec<u8>, characters: &[u8]) -> Result<(), AllocError>
     ensures { IfOk result (λ _. bytes.new.items ≡ bytes.old.items ++ map (λ _. 32) characters.now) }
 {
@@ -69,7 +69,7 @@ fn start_of(text: &[u8], column: usize) -> &[u8]
     }
 }
 
-/// A caret under the column.
+// A caret under the column.
 fn push_caret(
     alloc: Global,
     bytes: &mut Vec<u8>,
@@ -84,7 +84,7 @@ fn push_caret(
     push_text(bytes, "^\n")
 }
 
-/// The line, indented, and the caret under it.
+// The line, indented, and the caret under it.
 fn push_marked_line(
     alloc: Global,
     bytes: &mut Vec<u8>,
@@ -253,7 +253,7 @@ fn push_all_left_out(alloc: Global, bytes: &mut Vec<u8>, causes: &[Cause]) -> Re
 }
 
 impl Report {
-    /// The findings as lines: for each its file and its line and the reason, and then the line with a caret under the place at
+    /// The findings as lines: for each its file and its line and the reason, and then the line with a caret under the position at
     /// which it is no requirement, or the lines that cannot be satisfied together. What is quoted is escaped: a byte that is not
     /// printable ASCII is written as `\x` and two digits.
     ///

@@ -22,7 +22,7 @@ use pep440_rs::{SpecifiersErrorKind, VersionSpecifiersParseError};
 use pyver_requirements::{LineParts, split_requirement};
 use std::alloc::{AllocError, Global};
 
-/// The line is no requirement, for this reason.
+// The line is no requirement, for this reason.
 pub(crate) fn reject(
     alloc: Global,
     line: &FileLine,
@@ -35,7 +35,7 @@ pub(crate) fn reject(
     Ok(LineMeaning::IsNone(Finding::NoRequirement(line.clone()?, reason, column)))
 }
 
-/// The reason of a list, without what its message repeats.
+// The reason of a list, without what its message repeats.
 fn list_reason(alloc: Global, error: &VersionSpecifiersParseError) -> Result<String, AllocError>
     ensures { IfOk result (λ s. IfSome (piece_text_of (list_kind_of error.now)) (λ t. string_bytes s ≡ t)) }
 {
@@ -45,7 +45,7 @@ fn list_reason(alloc: Global, error: &VersionSpecifiersParseError) -> Result<Str
     }
 }
 
-/// The reason, unless memory ran out.
+// The reason, unless an allocation failed.
 fn print_reason(alloc: Global, error: &RequirementError) -> Result<String, AllocError>
     ensures text { IfOk result (λ s. IfSome (reason_text_of error.now) (λ t. string_bytes s ≡ t)) }
     ensures memory { IfOk result (λ _. is_memory_error error.now ≡ false) }
@@ -72,7 +72,7 @@ fn read_error(
     reject(alloc, line, reason.as_str(), column)
 }
 
-/// What the line is, which has a URL.
+// What the line is, which has a URL.
 fn read_before_url(
     alloc: Global,
     line: &FileLine,
@@ -87,7 +87,7 @@ fn read_before_url(
     reject(alloc, line, "version specifiers stand before a URL", column)
 }
 
-/// What the line is, by what stands behind `@`.
+// What the line is, by what stands after `@`.
 fn read_url(
     alloc: Global,
     line: &FileLine,
@@ -104,7 +104,7 @@ fn read_url(
     }
 }
 
-/// What the line is, by what stands behind `;` and `@`.
+// What the line is, by what stands after `;` and `@`.
 fn read_rest(
     alloc: Global,
     line: &FileLine,
@@ -140,7 +140,7 @@ fn read_parts(
     }
 }
 
-/// What the line is, which is a requirement or none.
+// What the line is, which is a requirement or none.
 pub(crate) fn read_requirement(alloc: Global, line: &FileLine) -> Result<LineMeaning, AllocError>
     ensures { IfOk result (λ x. IsPartsMeaning (file_line_of line.now) (line_parts (file_line_of line.now).text) (line_meaning_of x)) }
 {

@@ -95,7 +95,7 @@ pub fn print_findings(alloc: Global, texts: &str) -> Result<String, CaseError> {
     Ok(printed)
 }
 
-/// The names of the files that the lines of the file name, behind one that was there, with a bar behind each.
+/// The names of the files that the lines of the file name, after one that was there, with a bar after each.
 pub fn print_named_files(alloc: Global, name: &str, lines: &str) -> Result<String, CaseError> {
     let file = source_file(alloc, name, lines)?;
     let mut names = Vec::new(alloc);

@@ -21,7 +21,7 @@ pub data LineKind : Type 0 where
 
 -- ---- options
 
--- the value of a long option, behind `=` or a blank; the empty string where nothing follows
+-- the value of a long option, after `=` or a blank; the empty string where nothing follows
 abbrev pub long_option_value : List ℕ → Option (List ℕ)
 long_option_value [] = Some []
 long_option_value (b ∷ rest) = if (b == 61) || is_ascii_whitespace b then Some (trim_blanks rest) else None

@@ -9,7 +9,7 @@ use Rattle.pep440_version.specs.Reading.{lead, past}
 abbrev pub opens_option : List ℕ → Bool
 opens_option text = starts_with nat_eq text (codes "--") || starts_with nat_eq text (codes "-C")
 
--- what stands before the options of the requirement, of which the first is the first one behind a blank
+-- what stands before the options of the requirement, of which the first is the first one after a blank
 abbrev pub before_options : List ℕ → List ℕ
 before_options [] = []
 before_options (b ∷ rest) = if is_ascii_whitespace b && opens_option rest then [] else b ∷ before_options rest
@@ -23,11 +23,11 @@ abbrev pub rest_of : List ℕ → Option (List ℕ)
 rest_of [] = None
 rest_of (b ∷ rest) = Some rest
 
--- what stands behind the first such byte, if there is one
+-- what stands after the first such byte, if there is one
 abbrev pub behind_byte : ℕ → List ℕ → Option (List ℕ)
 behind_byte b text = rest_of (past (λ x. not (x == b)) text)
 
--- the name with the extras and the list of specifiers; what stands behind `@`; what stands behind `;`; each without blanks at both ends
+-- the name with the extras and the list of specifiers; what stands after `@`; what stands after `;`; each without blanks at both ends
 pub record LineParts : Type 0 where
   pub requirement : List ℕ
   pub url : Option (List ℕ)

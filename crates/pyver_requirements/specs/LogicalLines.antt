@@ -19,7 +19,7 @@ abbrev pub after_mark : List ℕ → List ℕ
 after_mark (a ∷ b ∷ c ∷ rest) = if (a == 239) && ((b == 187) && (c == 191)) then rest else a ∷ (b ∷ (c ∷ rest))
 after_mark text = text
 
--- the lines of a text: each ends at a newline or with the text, and a carriage return at its end is left out
+-- the lines of a string: each ends at a newline or with the string, and a carriage return at its end is left out
 abbrev pub physical_lines : List ℕ → List (List ℕ)
 physical_lines text = map strip_carriage_return (slice_split (λ b. b == 10) text)
 
@@ -37,7 +37,7 @@ continues line = ends (λ b. b == 92) line && not (is_comment_line line)
 abbrev pub added : List ℕ → List ℕ
 added line = if is_comment_line line then [] else (if ends (λ b. b == 92) line then take (length line - 1) line else line)
 
--- the lines with this text in front of the first, which then has this number; the text alone where there are none
+-- the lines with this text in front of the first, which then has this number; only the text where there are none
 abbrev pub prefixed : ℕ → List ℕ → List Line → List Line
 prefixed number text [] = record { number = number; text = text } ∷ []
 prefixed number text (line ∷ later) = record { number = number; text = text ++ line.text } ∷ later

@@ -3,7 +3,7 @@ ghost use Rattle.std.specs.Prelude.{◌≡◌, true};
 ghost use Rattle.pep440_pick.specs.RequirementGrammar.{trim_blanks};
 ghost use Rattle.pyver_requirements.specs.LogicalLines.{before_comment, content};
 
-/// What stands before the comment, which begins with a `#` at the start or after a blank.
+// What stands before the comment, which begins with a `#` at the start or after a blank.
 fn before_comment(line: &[u8]) -> &[u8]
     ensures { result.now ≡ before_comment true line.now }
 {
@@ -17,14 +17,14 @@ fn before_comment(line: &[u8]) -> &[u8]
     line
 }
 
-/// The text without the blanks at both ends.
+// The text without the blanks at both ends.
 pub(crate) fn trim_blanks(text: &[u8]) -> &[u8]
     ensures { result.now ≡ trim_blanks text.now }
 {
     text.trim_ascii()
 }
 
-/// The line without its comment, and without blanks at both ends.
+// The line without its comment, and without blanks at both ends.
 pub(crate) fn content(line: &[u8]) -> &[u8]
     ensures { result.now ≡ content line.now }
 {

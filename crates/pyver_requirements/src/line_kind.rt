@@ -53,7 +53,7 @@ fn long_option_value(rest: &[u8]) -> Option<&[u8]>
     }
 }
 
-/// The value of the option, if the text begins with one of its names.
+// The value of the option, if the text begins with one of its names.
 fn option_value<'a>(text: &'a [u8], long: &[u8], short: &[u8]) -> Option<&'a [u8]>
     ensures { option_map (λ x. x.now) result ≡ option_value long.now short.now text.now }
 {
@@ -84,7 +84,7 @@ fn constraints_file(path: &[u8]) -> LineKind<'_>
     }
 }
 
-/// What a line is that begins with `-`.
+// What a line is that begins with `-`.
 fn option_kind(text: &[u8]) -> LineKind<'_>
     ensures { line_kind_of result ≡ option_kind text.now }
 {
@@ -115,7 +115,7 @@ fn count_variable_bytes(text: &[u8]) -> usize
         .count()
 }
 
-/// One or more bytes of a variable's name, and then `}`.
+// One or more bytes of a variable's name, and then `}`.
 fn closes_variable(text: &[u8]) -> bool
     ensures { result ≡ closes_variable text.now }
 {
@@ -163,7 +163,7 @@ fn count_word_bytes(text: &[u8]) -> usize
     text.iter().take_while(|byte| is_word_byte(**byte)).count()
 }
 
-/// The bytes up to the first blank, `;` or `@`.
+// The bytes up to the first blank, `;` or `@`.
 fn first_word(text: &[u8]) -> &[u8]
     ensures { result.now ≡ first_word text.now }
 {

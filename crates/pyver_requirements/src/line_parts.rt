@@ -12,20 +12,20 @@ use crate::comment::trim_blanks;
 pub struct LineParts<'a> {
     /// The name with the extras and the list of specifiers.
     pub requirement: &'a [u8],
-    /// What stands behind `@`.
+    /// What stands after `@`.
     pub url: Option<&'a [u8]>,
-    /// What stands behind `;`.
+    /// What stands after `;`.
     pub marker: Option<&'a [u8]>,
 }
 
-/// The text begins with a long option, or with `-C`.
+// The text begins with a long option, or with `-C`.
 fn opens_option(text: &[u8]) -> bool
     ensures { result ≡ opens_option text.now }
 {
     text.starts_with("--".as_bytes()) || text.starts_with("-C".as_bytes())
 }
 
-/// What stands before the first option behind a blank.
+// What stands before the first option after a blank.
 fn before_options(text: &[u8]) -> &[u8]
     ensures { result.now ≡ before_options text.now }
 {
@@ -53,7 +53,7 @@ fn split_rest(text: &[u8]) -> Option<&[u8]>
     }
 }
 
-/// What stands before the first such byte, and what behind it if there is one.
+// What stands before the first such byte, and what after it if there is one.
 fn split_at_first(text: &[u8], byte: u8) -> (&[u8], Option<&[u8]>)
     ensures before { result.0.now ≡ before_byte byte text.now }
     ensures behind { option_map (λ x. x.now) result.1 ≡ behind_byte byte text.now }

@@ -15,13 +15,13 @@ pub struct LogicalLine {
     pub text: Vec<u8>,
 }
 
-/// The logical lines so far, and the one that has begun.
+// The logical lines so far, and the one that has begun.
 #[derive(Drop)]
 struct LineJoiner {
     lines: Vec<LogicalLine>,
     first: u64,
     text: Vec<u8>,
-    /// The number of the physical line that comes next.
+    // The number of the physical line that comes next.
     next: u64,
 }
 
@@ -38,7 +38,7 @@ impl LineJoiner {
         }
     }
 
-    /// The line that has begun is whole.
+    // The line that has begun is whole.
     fn complete(&mut self, alloc: Global) -> Result<(), AllocError>
         ensures lines { IfOk result (λ _. map logical_line_of self.new.lines.items ≡ map logical_line_of self.old.lines.items ++ filled (record { number = self.old.first; text = self.old.text.items } ∷ [])) }
         ensures text { IfOk result (λ _. self.new.text.items ≡ []) }
@@ -58,7 +58,7 @@ impl LineJoiner {
         Ok(())
     }
 
-    /// One more physical line.
+    // One more physical line.
     fn push(&mut self, alloc: Global, line: &[u8]) -> Result<(), AllocError>
         requires { self.old.next ≤ 2 ^ 63 }
         ensures lines { IfOk result (λ _. (rest : List (List ℕ)) → lines_with self.new rest ≡ lines_with self.old (line.now ∷ rest)) }

@@ -1,4 +1,4 @@
-// The physical lines of a text, and which continue.
+// The physical lines of a string, and which continue.
 ghost use Rattle.std.specs.Prelude.{◌≡◌, ◌<◌, ◌==◌, ◌∷◌, [], IfSome, IsTrue, length};
 ghost use Rattle.std.specs.Option.{option_map_or};
 ghost use Rattle.std.specs.Str.Lines.{strip_carriage_return};
@@ -6,7 +6,7 @@ ghost use Rattle.pep440_pick.specs.RequirementGrammar.{opens};
 ghost use Rattle.pep440_version.specs.Refusals.{ends};
 ghost use Rattle.pyver_requirements.specs.LogicalLines.{added, after_mark, continues, is_comment_line, physical_lines};
 
-/// The text without a byte order mark at the start.
+// The text without a byte order mark at the start.
 pub(crate) fn after_mark(text: &[u8]) -> &[u8]
     ensures { result.now ≡ after_mark text.now }
 {
@@ -25,7 +25,7 @@ fn without_return(line: &[u8]) -> &[u8]
     }
 }
 
-/// The first line, and what follows its newline if it has one.
+// The first line, and what follows its newline if it has one.
 pub(crate) fn split_line(text: &[u8]) -> (&[u8], Option<&[u8]>)
     ensures lines { physical_lines text.now ≡ result.0.now ∷ option_map_or (λ rest. physical_lines rest.now) result.1 [] }
     ensures shorter { IfSome result.1 (λ rest. length rest.now < length text.now) }
@@ -47,7 +47,7 @@ fn opens_with_hash(text: &[u8]) -> bool
     }
 }
 
-/// The first byte that is no blank is `#`.
+// The first byte that is no blank is `#`.
 fn is_comment_line(line: &[u8]) -> bool
     ensures { result ≡ is_comment_line line.now }
 {
@@ -64,7 +64,7 @@ fn ends_with_backslash(line: &[u8]) -> bool
     }
 }
 
-/// What the line adds to its logical line, and whether the next one is joined with it.
+// What the line adds to its logical line, and whether the next one is joined with it.
 pub(crate) fn split_continuation(line: &[u8]) -> (&[u8], bool)
     ensures added { result.0.now ≡ added line.now }
     ensures continues { result.1 ≡ continues line.now }

@@ -1,4 +1,4 @@
--- How the words of `bump` are told apart.
+-- How the words of `bump` are distinguished.
 use Rattle.std.proofs.Common.{◌≡◌, ◌∙◌, ℕ, List, [], ◌∷◌, ◌++◌, Option, Some, map, refl, ap}
 use Rattle.std.proofs.lemmas.List.{map-append}
 use Rattle.pyver_tool.specs.Tasks.{bump_operands, by_last, put_before, split_last}

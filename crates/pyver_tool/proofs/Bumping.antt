@@ -83,7 +83,7 @@ number_bumped index n v = record {
   local = refl;
 }
 
--- epoch and release stay, and what may be there behind them is new
+-- epoch and release stay, and what may be there after them is new
 suffix_bumped : (part : BumpPart) (v r : Record) → r.epoch ≡ v.epoch → r.release ≡ v.release → (changes_pre part ≡ true) ⊎ (r.pre ≡ v.pre) → (changes_post part ≡ true) ⊎ (r.post ≡ v.post) → r.local ≡ [] → ChangesOnly (part ∷ []) v r
 suffix_bumped part v r epoch release pre post gone = record {
   epoch = epoch;

@@ -42,14 +42,14 @@ module _ {F R W E : Type 0} (known : F → List ℕ → KnownFile) (path : F →
       → EndsCheck known path remaining contents error_contents json names files files' reader reader' out out' err err' status
   ends_checked o so kept checks written = same_check so (kept, inl (record { outcome = o; is = checks; written = written }))
 
-  -- reading stopped, or memory ran out behind it
+  -- reading stopped, or an allocation failed after it
   pub ends_unchecked : (why : Stop) (message : List ℕ) → task ≡ Check here there → known files' ≡ known files → StopsCheck (known files) (path files) remaining there reader reader' why → out' ≡ out → Reports why status message
       → WroteBeginning (error_contents err) (error_contents err') message → EndsCheck known path remaining contents error_contents json names files files' reader reader' out out' err err' status
   ends_unchecked why message so kept stops silent reports errors = same_check so (kept, inr (record { why = why; stops = stops; message = message; reports = reports; silent = silent; errors = errors }))
 
 module _ {F R W E : Type 0} (known : F → List ℕ → KnownFile) (path : F → List ℕ → Option (List ℕ)) (remaining : R → Option (List ℕ)) (contents : W → Option (List ℕ)) (error_contents : E → Option (List ℕ))
     (json : Bool) (names : List (List ℕ)) (files : F) (reader : R) (out : W) (err err' : E) (status : ℕ) where
-  -- memory ran out before anything was read
+  -- an allocation failed before anything was read
   pub ends_unread : status ≡ 3 → WroteBeginning (error_contents err) (error_contents err') memory_message → EndsCheck known path remaining contents error_contents json names files files reader reader out out err err' status
   ends_unread three errors = let first = some_source names in
       (refl, inr (record { why = stop.OutOfMemory; stops = inl (stops_at_once (known files) (path files) remaining (source_names names) first.0 first.1 reader first.2); message = memory_message; reports = (three, refl); silent = refl; errors = errors }))

@@ -1,4 +1,4 @@
--- What lists have in common, and that `no version` is said only where no list contains one that all contain.
+-- What lists have in common, and that `no version` is printed only where no list contains one that all contain.
 use Rattle.std.proofs.Common.{◌≡◌, ◌+◌, ◌<◌, ◌≤◌, ◌∙◌, ℕ, List, [], ◌∷◌, ◌++◌, ◌&&◌, Bool, true, false, IsTrue, Option, Some, None, fold, length, get_or, take, take_all, map, refl, sym, ap, subst, if◌then◌else◌}
 use Rattle.std.proofs.lemmas.Bool.{true≢false}
 use Rattle.std.proofs.lemmas.List.{append-nil, map-append, take_more}

@@ -71,7 +71,7 @@ module _ {R : Type 0} (files : List ℕ → KnownFile) (remaining : R → Option
     stops = stops;
   })
 
-  -- memory ran out before anything was read
+  -- an allocation failed before anything was read
   pub stops_before : (reader : R) → StopsInFile files remaining name reader reader stop.OutOfMemory
   stops_before reader = inl (refl, refl)
 
@@ -156,7 +156,7 @@ module _ {R : Type 0} (files : List ℕ → KnownFile) (paths : List ℕ → Opt
     ends = tt;
   }
 
-  -- memory ran out before anything was read
+  -- an allocation failed before anything was read
   pub stops_at_once : (first : List (List ℕ)) (name : List ℕ) (left : List (List ℕ)) (reader : R) → first ≡ name ∷ left → StopsInFiles files paths remaining first reader reader stop.OutOfMemory
   stops_at_once first name left reader is = record {
     done = [];

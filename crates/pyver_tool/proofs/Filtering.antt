@@ -107,7 +107,7 @@ steps_line rule origin line a mid b text x is filled reads read count fault outp
 
 -- ---- what was written
 
--- a beginning behind all that was written before
+-- a beginning after all that was written before
 pub began : (a b c : Option (List ℕ)) (xs ys rest all : List ℕ) → Appends a b xs → WroteBeginning b c ys → all ≡ (xs ++ ys) ++ rest → WroteBeginning a c all
 began a b c xs ys rest all wrote k is = record {
   written = xs ++ k.written;

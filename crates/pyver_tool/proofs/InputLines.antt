@@ -1,4 +1,4 @@
--- Lines of a text that grows byte by byte, and lines with their numbers.
+-- Lines of a string that grows byte by byte, and lines with their numbers.
 use Rattle.std.proofs.Common.{◌≡◌, ◌∙◌, ◌+◌, ◌==◌, ◌<◌, ℕ, List, [], ◌∷◌, ◌++◌, cond, false, not, length, take, map, get_or, refl, sym, ap, subst, arith, append_assoc, append-nil, drop, take-append-drop}
 use Rattle.std.specs.List.{AllZip, enumerate_from, filter}
 use Rattle.std.proofs.lemmas.Grind.{flat_map-append}
@@ -8,7 +8,7 @@ use Rattle.std.proofs.lemmas.List.Splits.{length-slice_split, slice_split_at, sl
 use Rattle.pyver_tool.specs.FilterSteps.{Cuts, HasNoNewline}
 use Rattle.pyver_tool.specs.InputLines.{SourceLine, Origin, Source, filled_lines, filled_lines_from, input_lines, is_blank, line_in, numbered, source_lines}
 
--- ---- the lines of a text
+-- ---- the lines of a string
 
 pub no_newline_none : HasNoNewline []
 no_newline_none = All-nil (λ b. (b == 10) ≡ false)

@@ -120,7 +120,7 @@ is_of_lines options a b header versions invalid fault errors lines k =
       parts = λ i. record { header = headers i; versions = read i; invalid = kept i; messages = messages i };
     }
 
--- ---- the lines of a text that are left
+-- ---- the lines of a string that are left
 
 abbrev pub lines_left : Option (Bor (List ℕ)) → List (List ℕ)
 lines_left rest = option_map_or (λ r. input_lines r.now) rest []
@@ -133,7 +133,7 @@ pub less_left : (text : Bor (List ℕ)) (later : Option (Bor (List ℕ))) → If
 less_left text None shorter = omega arith
 less_left text (Some r) shorter = omega (arith, shorter)
 
--- the lines before those that are left were read, behind others
+-- the lines before those that are left were read, after others
 pub record KeepsFront (options : LineOptions) (origin : Origin) (text : List ℕ) (rest : Option (Bor (List ℕ))) (a s : VersionLines) : Type 0 where
   pub ended : List (List ℕ)
   pub split : input_lines text ≡ ended ++ lines_left rest

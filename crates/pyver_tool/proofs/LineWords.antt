@@ -1,4 +1,4 @@
--- The words of `sort` and of `newest` behind their options.
+-- The words of `sort` and of `newest` after their options.
 use Rattle.std.proofs.Common.{◌≡◌, ◌∙◌, ℕ, List, ◌∷◌, false, Some, None, cond, ap}
 use Rattle.pyver_tool.specs.LineOptions.{value_option_of}
 use Rattle.pyver_tool.specs.Tasks.{Help, by_name, by_option, by_sort_value, is_help, newest_option, newest_rest, newest_task, sort_option, sort_rest, sort_task, sort_value_of}

@@ -66,7 +66,7 @@ is_last last (stop.ReadFile told) status message is h = inr (inl (h.0, subst (Is
 is_last last (stop.Output failure) status message is h = inr (inr h)
 is_last last (stop.Errors failure) status message is h = inr (inr h)
 
--- the status where memory ran out
+-- the status where an allocation failed
 memory_status : (why : Stop) (status : ℕ) (message : List ℕ) → Reports why status message → why ≡ stop.OutOfMemory → status ≡ 3
 memory_status why status message reports memory = (subst (λ (w : Stop). Reports w status message) memory reports).0
 
@@ -82,7 +82,7 @@ last_known last status message (inr (inl h)) = inl (omega (arith, h.0))
 last_known last status message (inr (inr (inl h))) = inl (omega (arith, h.0))
 last_known last status message (inr (inr (inr h))) = inr h.0
 
--- a beginning of the message behind what was written before
+-- a beginning of the message after what was written before
 told_more : (a b c : Option (List ℕ)) (xs message : List ℕ) → Appends a b xs → WroteBeginning b c message → WroteBeginning a c (xs ++ message)
 told_more a b c xs message wrote k = record {
   written = xs ++ k.written;
@@ -91,7 +91,7 @@ told_more a b c xs message wrote k = record {
   whole = ap (λ t. xs ++ t) k.whole ∙ sym (append_assoc xs k.written k.left);
 }
 
--- that memory ran out, told otherwise
+-- that a run is out of memory, in other words
 module _ {R : Type 0} (files : List ℕ → KnownFile) (remaining : R → Option (List ℕ)) (P Q : Type 0) (told : P → Q) (names : List (List ℕ)) (reader reader' : R) (sources : List Source) where
   stops_by : StopsReading files remaining P names reader reader' sources → StopsReading files remaining Q names reader reader' sources
   stops_by (inl front) = inl front
@@ -239,7 +239,7 @@ module _ {F R W E : Type 0} (known : F → List ℕ → KnownFile) (remaining : 
         failed = λ needless _. absurd (needless needs);
       }
 
-  -- memory ran out before anything was read or written
+  -- an allocation failed before anything was read or written
   pub ends_at_once : reader' ≡ reader → files' ≡ files → out' ≡ out → status ≡ 3 → WroteBeginning (error_contents err) (error_contents err') memory_message
       → Ends known remaining contents error_contents words files files' reader reader' out out' err err' status
   ends_at_once same unopened unwritten three wrote = record {

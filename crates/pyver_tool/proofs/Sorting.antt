@@ -82,7 +82,7 @@ last_is (Some count) texts = refl
 abbrev now : Bor (List ℕ) → List ℕ
 now t = t.now
 
--- the texts of versions and then those of invalid lines, of which the last are printed behind the header
+-- the texts of versions and then those of invalid lines, of which the last are printed after the header
 pub printed_is : (options : SortOptions) (sorted : List VersionLine) (texts invalid both shown : List (Bor (List ℕ))) (header output : List ℕ) → map (λ t. t.now) texts ≡ map (λ (x : VersionLine). x.text) (without_repeats options.unique sorted)
     → both ≡ texts ++ invalid → shown ≡ option_map_or (λ count. drop (length both - count) both) options.last both → output ≡ header ++ flat_map (λ t. t.now ++ 10 ∷ []) shown
     → output ≡ header ++ lines_text (last_texts options.last (sorted_texts options sorted (map (λ t. t.now) invalid)))

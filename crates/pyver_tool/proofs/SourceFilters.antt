@@ -117,7 +117,7 @@ module _ {R W E : Type 0} (files : List ℕ → KnownFile) (remaining : R → Op
     stops = stops;
   })
 
-  -- memory ran out before the file was opened
+  -- an allocation failed before the file was opened
   pub unopened_stops : (reader : R) (out : W) (err : E) → is_input origin.name ≡ false → OneStops files remaining contents error_contents rule origin earlier reader reader out out err err stop.OutOfMemory
   unopened_stops reader out err named = inl (record { file = named; memory = refl; reader_kept = refl; out_kept = refl; err_kept = refl })
 
@@ -233,7 +233,7 @@ module _ {R W E : Type 0} (files : List ℕ → KnownFile) (remaining : R → Op
     wrote = k.wrote;
   }
 
-  -- ---- standard input alone
+  -- ---- only standard input
 
   pub alone_finishes : (rule : FilterRule) (names : List (List ℕ)) (a b : FilterState) (reader reader' : R) (out out' : W) (err err' : E) → names ≡ [] → a.fault_count ≡ 0 → a.output.items ≡ [] → a.errors.items ≡ []
       → SourceFinishes remaining contents error_contents rule input_origin a.fault_count b reader reader' out out' err err' → AllFinish files remaining contents error_contents rule (source_names names) None b reader reader' out out' err err'
@@ -315,7 +315,7 @@ module _ {R W E : Type 0} (files : List ℕ → KnownFile) (remaining : R → Op
     stops = k.stops;
   }
 
--- what was said of a source, of equal files, and of a source that is the first or not
+-- the messages of a source, of equal files, and of a source that is the first or not
 module _ {R W E : Type 0} (files files' : List ℕ → KnownFile) (remaining : R → Option (List ℕ)) (contents : W → Option (List ℕ)) (error_contents : E → Option (List ℕ)) (rule : FilterRule) (read : List (List ℕ)) (first : Bool) (next : List ℕ)
     (same : files' ≡ files) (is : first ≡ is_none read) where
   pub same_reads : (earlier : ℕ) (b : FilterState) (reader reader' : R) (out out' : W) (err err' : E) → OneReads files' remaining contents error_contents rule (record { is_first = first; name = next }) earlier b reader reader' out out' err err'

@@ -50,7 +50,7 @@ module _ {R : Type 0} (files : List ℕ → KnownFile) (remaining : R → Option
     k.more,
   )
 
-  -- no line is told of
+  -- no line is reported
   part_read : (stop : Stop) (reader reader' : R) (text : List ℕ) (left : Option (List ℕ)) → ReadsText files remaining (is_input origin.name) (files origin.name) reader reader' text left → IsStopOf (Some origin.name) stop → StopsInSource files remaining origin reader reader' stop
   part_read stop reader reader' text left reads stops = inr (
     record { origin = origin; lines = [] },
@@ -68,7 +68,7 @@ module _ {R : Type 0} (files : List ℕ → KnownFile) (remaining : R → Option
       part_read stop reader reader text (left_of file')
       (subst (λ t. ReadsText files remaining t (files origin.name) reader reader text (left_of file')) (sym named) (left_of file, opens, consumed, refl)) stops
 
-  -- memory ran out before the file was opened
+  -- an allocation failed before the file was opened
   pub unopened_stopped : (reader : R) → is_input origin.name ≡ false → StopsInSource files remaining origin reader reader stop.OutOfMemory
   unopened_stopped reader named = inl (named, refl, refl)
 
@@ -117,7 +117,7 @@ module _ {R : Type 0} (files : List ℕ → KnownFile) (remaining : R → Option
   pub all_ends : (read : List (List ℕ)) (sources : List Source) (reader reader' : R) → ReadsAll files remaining true read reader reader' sources → ReadsInput files remaining read reader reader' (record { sources = sources; unopened = None })
   all_ends read sources reader reader' k = record { read = read; left = []; split = sym (append-nil read); sources = k; ends = tt }
 
-  -- standard input alone
+  -- only standard input
   pub alone_read : (names : List (List ℕ)) (a b : List Source) (reader reader' : R) → names ≡ [] → a ≡ [] → ReadsTo remaining input_origin a b reader reader' → ReadsInput files remaining (source_names names) reader reader' (record { sources = b; unopened = None })
   alone_read names a b reader reader' empty none k =
       subst (λ n. ReadsInput files remaining (source_names n) reader reader' (record { sources = b; unopened = None })) (sym empty)

@@ -1,4 +1,4 @@
--- What stands behind the beginning of a word.
+-- What stands after the beginning of a word.
 use Rattle.std.proofs.Common.{◌≡◌, ◌∙◌, Bor, ℕ, true, false, List, drop, Option, Some, None, refl, sym, subst, ap}
 use Rattle.std.specs.Option.{option_copied, MatchOption}
 use Rattle.std.specs.Str.{IsCharBoundary}

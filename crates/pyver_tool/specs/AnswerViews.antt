@@ -24,7 +24,7 @@ abbrev pub specifiers_reading_of : SpecifiersReading → SpecifiersReadingValue
 specifiers_reading_of (specifiers.Specifiers list) = DenotesList list
 specifiers_reading_of (specifiers.Invalid message) = ListFails (string_bytes message)
 
--- a list was not read for want of memory
+-- a list was not read because an allocation failed
 abbrev pub lacks_list_memory : SpecifiersErrorKind → Bool
 lacks_list_memory error.OutOfMemory = true
 lacks_list_memory _ = false

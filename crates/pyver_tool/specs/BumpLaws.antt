@@ -42,7 +42,7 @@ pub record ChangesOnly (parts : List BumpPart) (v r : Record) : Type 0 where
 abbrev pub BumpsAreGreater : Type 0
 BumpsAreGreater = (to : Option ℕ) (parts : List BumpPart) (v r : Record) → bump to parts v ≡ Ok r → record_cmp r v ≡ Greater
 
--- it differs from it in the stated parts alone
+-- it differs from it only in the stated parts
 abbrev pub BumpsChangeOnly : Type 0
 BumpsChangeOnly = (to : Option ℕ) (parts : List BumpPart) (v r : Record) → bump to parts v ≡ Ok r → ChangesOnly parts v r
 

@@ -42,7 +42,7 @@ abbrev pub with_number : Result ℕ BumpError → (ℕ → Record) → Result Re
 with_number (Ok n) make = Ok (make n)
 with_number (Err e) make = Err e
 
--- the release with this number at the index: numbers before it that are missing are 0, and those behind it become 0
+-- the release with this number at the index: numbers before it that are missing are 0, and those after it become 0
 abbrev pub release_with : ℕ → ℕ → List ℕ → List ℕ
 release_with zero n [] = n ∷ []
 release_with zero n (m ∷ rest) = n ∷ map (λ _. 0) rest
@@ -53,7 +53,7 @@ release_with (suc i) n (m ∷ rest) = m ∷ release_with i n rest
 abbrev pub bump_release : Option ℕ → ℕ → Record → Result Record BumpError
 bump_release to index r = with_number (new_number to (get_or r.release index 0)) (λ n. epoch_and_release r.epoch (release_with index n r.release))
 
--- What a pre-release or a developmental release leads to: all behind the release goes where there is a pre-release, and
+-- What a pre-release or a developmental release leads to: all after the release goes where there is a pre-release, and
 -- otherwise the developmental part. There is no number to set.
 abbrev pub bump_stable : Option ℕ → Record → Result Record BumpError
 bump_stable (Some n) r = Err error.NoNumber
@@ -73,14 +73,14 @@ abbrev pub pre_number : PrereleaseKind → Option Prerelease → ℕ
 pre_number kind None = 0
 pre_number kind (Some p) = if kind_rank p.kind == kind_rank kind then p.number else 0
 
--- a pre-release of the release, and nothing behind it
+-- a pre-release of the release, and nothing after it
 abbrev pub bump_pre : Option ℕ → Bool → PrereleaseKind → Record → Result Record BumpError
 bump_pre to named kind r =
     if is_later_kind kind r.pre then Err error.NotGreater
     else if knows_release named r then with_number (new_number to (pre_number kind r.pre)) (λ n. record (epoch_and_release r.epoch r.release) { pre = Some (record { kind = kind; number = n }) })
     else Err error.NoRelease
 
--- a post-release, and nothing behind it
+-- a post-release, and nothing after it
 abbrev pub bump_post : Option ℕ → Record → Result Record BumpError
 bump_post to r = with_number (new_number to (unwrap_or r.post 0)) (λ n. record r { post = Some n; dev = None; local = [] })
 

@@ -41,13 +41,13 @@ module _ {R : Type 0} (files : List ℕ → KnownFile) (paths : List ℕ → Opt
   abbrev pub Checks : Bool → List (List ℕ) → R → R → Outcome → Type 0
   Checks json names reader reader' o = (found : FilesFound) × ReadsFiles files paths remaining (source_names names) reader reader' found × ChecksFiles json found.files found.unopened o
 
-  -- nothing is to be written: reading stopped, or memory ran out behind it
+  -- nothing is to be written: reading stopped, or an allocation failed after it
   abbrev pub StopsCheck : List (List ℕ) → R → R → Stop → Type 0
   StopsCheck names reader reader' why = StopsInFiles files paths remaining (source_names names) reader reader' why
       ⊎ ((why ≡ stop.OutOfMemory) × ((found : FilesFound) × ReadsFiles files paths remaining (source_names names) reader reader' found))
 
 module _ {F R W E : Type 0} (known : F → List ℕ → KnownFile) (path : F → List ℕ → Option (List ℕ)) (remaining : R → Option (List ℕ)) (contents : W → Option (List ℕ)) (error_contents : E → Option (List ℕ)) where
-  -- nothing was written but a beginning of the message of why reading stopped, or that memory ran out
+  -- nothing was written but a beginning of the message of why reading stopped, or that an allocation failed
   pub record EndsUnchecked (names : List (List ℕ)) (files : F) (reader reader' : R) (out out' : W) (err err' : E) (status : ℕ) : Type 0 where
     pub why : Stop
     pub stops : StopsCheck (known files) (path files) remaining names reader reader' why

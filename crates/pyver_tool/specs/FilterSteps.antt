@@ -52,7 +52,7 @@ pub record FinishesBy (rule : FilterRule) (unopened : Option Unopened) (a b : Fi
   pub low : status ≤ 2
 
 module _ {W E : Type 0} (contents : W → Option (List ℕ)) (error_contents : E → Option (List ℕ)) where
-  -- all that these lines ask for was written, behind lines of which so many were invalid
+  -- all that these lines ask for was written, after lines of which so many were invalid
   pub record Wrote (rule : FilterRule) (source : Source) (earlier : ℕ) (b : FilterState) (out out' : W) (err err' : E) : Type 0 where
     pub found : List ReadLine
     pub are : AllZip (IsRead rule.lines) (source_lines source) found
@@ -62,7 +62,7 @@ module _ {W E : Type 0} (contents : W → Option (List ℕ)) (error_contents : E
     pub no_output : b.output.items ≡ []
     pub no_errors : b.errors.items ≡ []
 
-  -- a beginning of what these lines ask for was written, behind lines of which so many were invalid
+  -- a beginning of what these lines ask for was written, after lines of which so many were invalid
   pub record WroteSome (rule : FilterRule) (source : Source) (earlier : ℕ) (out out' : W) (err err' : E) : Type 0 where
     pub found : List ReadLine
     pub are : AllZip (IsRead rule.lines) (source_lines source) found
@@ -126,7 +126,7 @@ module _ {R W E : Type 0} (files : List ℕ → KnownFile) (remaining : R → Op
   OneFinishes rule origin a b reader reader' out out' err err' None = OneReads rule origin a.fault_count b reader reader' out out' err err'
   OneFinishes rule origin a b reader reader' out out' err err' (Some failure) = OneRefuses origin failure a b reader reader' out out' err err'
 
-  -- memory ran out before the file with this name was opened, and nothing was done
+  -- an allocation failed before the file with this name was opened, and nothing was done
   pub record OneUnread (origin : Origin) (reader reader' : R) (out out' : W) (err err' : E) (why : Stop) : Type 0 where
     pub file : is_input origin.name ≡ false
     pub memory : why ≡ stop.OutOfMemory

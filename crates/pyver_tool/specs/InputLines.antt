@@ -20,7 +20,7 @@ pub record Source : Type 0 where
   pub origin : Origin
   pub lines : List (List ℕ)
 
--- the lines of a text: they end at a newline or at the end
+-- the lines of a string: they end at a newline or at the end
 abbrev pub input_lines : List ℕ → List (List ℕ)
 input_lines input = slice_split (λ b. b == 10) input
 
@@ -37,7 +37,7 @@ numbered line = (line.0, strip_carriage_return (if line.0 == 1 then without_mark
 abbrev pub line_in : Origin → ℕ × List ℕ → SourceLine
 line_in origin line = record { origin = origin; number = (numbered line).0; text = (numbered line).1 }
 
--- an empty line, or one of tabs, form feeds, carriage returns and spaces alone
+-- an empty line, or one of tabs, form feeds, carriage returns and spaces only
 abbrev pub is_blank : List ℕ → Bool
 is_blank text = list_all is_ascii_whitespace text
 

@@ -59,7 +59,7 @@ from_one (Some n) = if n == 0 then None else Some n
 abbrev pub field_number_of : List ℕ → Option ℕ
 field_number_of word = from_one (word_number word)
 
--- the byte between fields: the word has this one alone
+-- the byte between fields: the word has only this one
 abbrev pub delimiter_of : List ℕ → Option ℕ
 delimiter_of (b ∷ []) = Some b
 delimiter_of _ = None

@@ -29,7 +29,7 @@ or_else prereleases.Never lines others = lines
 abbrev pub candidates : NewestRule → List VersionLine → List VersionLine
 candidates rule lines = or_else rule.prereleases (allowed_lines (takes_prereleases rule.prereleases rule.list) rule.list lines) (allowed_lines true rule.list lines)
 
--- the line is one of these; those before it are older, and none behind it is newer
+-- the line is one of these; those before it are older, and none after it is newer
 pub record IsNewestLine (lines : List VersionLine) (x : VersionLine) : Type 0 where
   pub before : List VersionLine
   pub after : List VersionLine

@@ -13,7 +13,7 @@ pub record Outcome : Type 0 where
 abbrev pub no_outcome : Outcome
 no_outcome = record { output = []; errors = []; status = 0 }
 
--- a status alone, without bytes
+-- a status without bytes
 abbrev pub silent : ℕ → Outcome
 silent status = record { output = []; errors = []; status = status }
 

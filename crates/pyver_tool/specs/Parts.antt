@@ -1,4 +1,4 @@
--- The parts of a version, by name, and how each is written alone. A part that is absent is no bytes.
+-- The parts of a version, by name, and how each is written by itself. A part that is absent is no bytes.
 use Rattle.std.specs.Prelude.{ℕ, List, [], Option, Some, None, bytes_eq, codes, get_or, if◌then◌else◌}
 use Rattle.std.specs.Fmt.{decimal}
 use Rattle.std.specs.Option.{option_map_or}

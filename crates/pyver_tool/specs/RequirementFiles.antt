@@ -37,7 +37,7 @@ abbrev pub IsSourcePath : Bool → Option (List ℕ) → List ℕ → List ℕ �
 IsSourcePath true known name path = path ≡ name
 IsSourcePath false known name path = IsKnownPath known path
 
--- the file at which reading ended was not opened, because of this: its name is no UTF-8, or the system refused it
+-- the file at which reading ended was not opened, because of this: its name is no UTF-8, or the system does not open it
 abbrev pub IsRefused : KnownFile → List ℕ → OpenFailure → Type 0
 IsRefused file name why = ((¬ IsUtf8 name) × (why ≡ failure.Other)) ⊎ (IsUtf8 name × (is_input name ≡ false) × MayRefuse file why)
 
@@ -64,7 +64,7 @@ module _ {R : Type 0} (files : List ℕ → KnownFile) (remaining : R → Option
     pub part : ReadsByName files remaining name reader reader' text rest
     pub stops : IsReadingStop name why
 
-  -- when reading stopped, a part of the source with this name was read, or, where memory ran out, nothing
+  -- when reading stopped, a part of the source with this name was read, or, where an allocation failed, nothing
   abbrev pub StopsInFile : List ℕ → R → R → Stop → Type 0
   StopsInFile name reader reader' why = ((why ≡ stop.OutOfMemory) × (reader' ≡ reader)) ⊎ ReadsFilePart name reader reader' why
 
@@ -103,7 +103,7 @@ module _ {R : Type 0} (files : List ℕ → KnownFile) (paths : List ℕ → Opt
     pub are : found.files ≡ read.files
     pub ends : EndsFiles left found.unopened
 
-  -- some names were read so, and a part of the source with the next one, or, where memory ran out, nothing
+  -- some names were read so, and a part of the source with the next one, or, where an allocation failed, nothing
   pub record StopsInFiles (names : List (List ℕ)) (reader reader' : R) (why : Stop) : Type 0 where
     pub done : List (List ℕ)
     pub name : List ℕ

@@ -14,7 +14,7 @@ pub record WroteBeginning (old new : Option (List ℕ)) (all : List ℕ) : Type 
   pub wrote : Appends old new written
   pub whole : all ≡ written ++ left
 
--- the message that memory ran out
+-- the message of a run that is out of memory
 abbrev pub memory_message : List ℕ
 memory_message = codes "pyver: out of memory\n"
 
@@ -76,7 +76,7 @@ module _ {F R W E : Type 0} (known : F → List ℕ → KnownFile) (remaining : 
     pub written : IsWritten contents error_contents outcome out out' err err' status
 
   -- what was read, as far as the command used it: everything; or the first sources and some lines of the next one; or, where the
-  -- status is that of memory that ran out, the first sources alone
+  -- status is the one of a failed allocation, only the first sources
   abbrev pub ReadsSome : List (List ℕ) → F → R → R → ℕ → Input → Type 0
   ReadsSome words files reader reader' status input =
       ReadsInput (known files) remaining (names_of (task_of words)) reader reader' input
@@ -103,8 +103,8 @@ module _ {F R W E : Type 0} (known : F → List ℕ → KnownFile) (remaining : 
     pub is : IsOutcome (task_of words) no_input outcome
     pub cut : IsCutOutput contents error_contents outcome out out' err err' status ⊎ IsCutErrors contents error_contents outcome out out' err err'
 
-  -- what a run wrote, by its status: 3 if memory ran out, 4 if a read or a write failed, 141 if nobody reads. Without an input
-  -- nothing is written before memory ran out. What is known of each file stays
+  -- what a run wrote, by its status: 3 if an allocation failed, 4 if a read or a write failed, 141 if nobody reads. Without an input
+  -- nothing is written before an allocation failed. What is known of each file stays
   pub record Ends (words : List (List ℕ)) (files files' : F) (reader reader' : R) (out out' : W) (err err' : E) (status : ℕ) : Type 0 where
     pub known_status : (status ≤ 4) ⊎ (status ≡ 141)
     pub unread : ¬ NeedsInput (task_of words) → (reader' ≡ reader) × (files' ≡ files)

@@ -11,7 +11,7 @@ use Rattle.pyver_tool.specs.Sources.{Input}
 use Rattle.pyver_tool.specs.VersionLines.{InputParts, OfVersions, VersionLine}
 use Rattle.pyver_tool.specs.declared.sort.SortOptions.{SortOptions}
 
--- by version alone, or the other way round
+-- only by version, or the other way round
 abbrev pub version_order : Bool → Record → Record → Ordering
 version_order reversed r s = if reversed then record_cmp s r else record_cmp r s
 
@@ -36,11 +36,11 @@ abbrev pub last_texts : Option ℕ → List (List ℕ) → List (List ℕ)
 last_texts None texts = texts
 last_texts (Some count) texts = drop (length texts - count) texts
 
--- the lines behind the header as they were written: those that are versions, in order, and then the invalid ones that are kept
+-- the lines after the header as they were written: those that are versions, in order, and then the invalid ones that are kept
 abbrev pub sorted_texts : SortOptions → List VersionLine → List (List ℕ) → List (List ℕ)
 sorted_texts options sorted invalid = map (λ (x : VersionLine). x.text) (without_repeats options.unique sorted) ++ invalid
 
--- a newline behind each
+-- a newline after each
 abbrev pub lines_text : List (List ℕ) → List ℕ
 lines_text texts = flat_map (λ t. t ++ codes "\n") texts
 

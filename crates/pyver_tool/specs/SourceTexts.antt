@@ -17,7 +17,7 @@ source_of x = record { origin = origin_of x.origin; lines = input_lines x.text.i
 abbrev pub sources_of : SourceTexts → List Source
 sources_of state = map source_of state.texts.items
 
--- no fewer than the lines of these texts
+-- no fewer than the lines of these strings
 abbrev pub size_of : List SourceText → ℕ
 size_of [] = 0
 size_of (x ∷ rest) = (length x.text.items + 1) + size_of rest
@@ -26,7 +26,7 @@ size_of (x ∷ rest) = (length x.text.items + 1) + size_of rest
 abbrev pub HasRoom : SourceTexts → Type 0
 HasRoom state = (size_of state.texts.items ≤ 8192 * state.read_count) × (state.read_count ≤ 562949953421312)
 
--- a source was read to its end, behind others
+-- a source was read to its end, after others
 pub record ReadsTo {R : Type 0} (remaining : R → Option (List ℕ)) (origin : Origin) (a b : List Source) (reader reader' : R) : Type 0 where
   pub text : List ℕ
   pub consumed : Consumes (remaining reader) (remaining reader') text
@@ -34,16 +34,16 @@ pub record ReadsTo {R : Type 0} (remaining : R → Option (List ℕ)) (origin : 
   pub more : b ≡ a ++ record { origin = origin; lines = input_lines text } ∷ []
 
 module _ {R : Type 0} (files : List ℕ → KnownFile) (remaining : R → Option (List ℕ)) where
-  -- the source with this name was read to its end, behind others; or its file was not opened
+  -- the source with this name was read to its end, after others; or its file was not opened
   abbrev pub GainsSource : Origin → List Source → List Source → R → R → Option OpenFailure → Type 0
   GainsSource origin a b reader reader' None = (source : Source) × ReadsSource files remaining origin reader reader' source × (b ≡ a ++ source ∷ [])
   GainsSource origin a b reader reader' (Some failure) = (is_input origin.name ≡ false) × MayRefuse (files origin.name) failure × (b ≡ a) × (reader' ≡ reader)
 
-  -- memory ran out before the file with this name was opened; or some of the source was read
+  -- an allocation failed before the file with this name was opened; or some of the source was read
   abbrev pub StopsInSource : Origin → R → R → Stop → Type 0
   StopsInSource origin reader reader' why = ((is_input origin.name ≡ false) × (why ≡ stop.OutOfMemory) × (reader' ≡ reader))
       ⊎ ((source : Source) × ReadsLines files remaining origin reader reader' source × IsStopOf (Some origin.name) why)
 
-  -- some sources were read to their ends, and some of the next one, or, where memory ran out, nothing
+  -- some sources were read to their ends, and some of the next one, or, where an allocation failed, nothing
   abbrev pub StopsInSources : List (List ℕ) → R → R → Stop → Type 0
   StopsInSources names reader reader' why = (sources : List Source) × StopsReading files remaining (why ≡ stop.OutOfMemory) names reader reader' sources × IsStopOf (last_name sources) why

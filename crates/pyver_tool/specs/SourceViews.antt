@@ -35,7 +35,7 @@ IsReadingStop name (stop.ReadFile message) = message.items ≡ read_message name
 IsReadingStop name (stop.Output failure) = ⊥
 IsReadingStop name (stop.Errors failure) = ⊥
 
--- this status and message tell that a run stopped so
+-- a run that stopped so has this status and message
 abbrev pub Reports : Stop → ℕ → List ℕ → Type 0
 Reports stop.OutOfMemory status message = (status ≡ 3) × (message ≡ memory_message)
 Reports stop.Read status message = (status ≡ 4) × (message ≡ read_message input_name)

@@ -15,7 +15,7 @@ input_name = codes "-"
 abbrev pub is_input : List ℕ → Bool
 is_input name = bytes_eq name input_name
 
--- the sources that names mean: these, or standard input where there are none
+-- the sources that names denote: these, or standard input where there are none
 abbrev pub source_names : List (List ℕ) → List (List ℕ)
 source_names [] = input_name ∷ []
 source_names (name ∷ names) = name ∷ names
@@ -168,11 +168,11 @@ module _ {R : Type 0} (files : List ℕ → KnownFile) (remaining : R → Option
     pub split : names ≡ read ++ name ∷ left
     pub whole : ReadsAll true read reader reader' sources
 
-  -- some sources were read to their ends, and of the next one some lines, or, where memory ran out, nothing
+  -- some sources were read to their ends, and of the next one some lines, or, where an allocation failed, nothing
   abbrev pub StopsReading : Type 0 → List (List ℕ) → R → R → List Source → Type 0
   StopsReading memory_ran_out names reader reader' sources = ReadsFront names reader reader' sources ⊎ (memory_ran_out × ReadsBefore names reader reader' sources)
 
-  -- all sources were read to their ends; or some, and of the next one some lines, or, where memory ran out, nothing
+  -- all sources were read to their ends; or some, and of the next one some lines, or, where an allocation failed, nothing
   abbrev pub ReadsFirst : Type 0 → List (List ℕ) → R → R → List Source → Type 0
   ReadsFirst memory_ran_out names reader reader' sources =
       ReadsInput names reader reader' (record { sources = sources; unopened = None }) ⊎ StopsReading memory_ran_out names reader reader' sources

@@ -426,7 +426,7 @@ by_last to words (Some p) = if is_some (bump_part_of p.1) then bump_from_words t
 abbrev pub bump_operands : Option ℕ → List (List ℕ) → Task
 bump_operands to words = by_last to words (split_last words)
 
--- the words behind the options, where `--` may stand first
+-- the words after the options, where `--` may stand first
 abbrev pub bump_rest : Option ℕ → List ℕ → List (List ℕ) → Task
 bump_rest to word rest =
     if bytes_eq word (codes "--") then bump_operands to rest
@@ -510,7 +510,7 @@ task_of (word ∷ rest) =
     else if bytes_eq word (codes "check") then check_task false rest
     else Misused (unknown_message (codes "command") word command_names (help_words topic.Program))
 
--- the outcome of a text on standard output
+-- the outcome that prints a string on standard output
 abbrev pub printed : List ℕ → Outcome
 printed text = record { output = text; errors = []; status = 0 }
 

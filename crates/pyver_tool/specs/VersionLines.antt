@@ -72,7 +72,7 @@ abbrev pub OfFound : InvalidLines → (InputParts → Outcome → Type 0) → Li
 OfFound how Gives found o = ((lines_status how (length (faults found)) ≡ 0) × Gives (input_parts how found) o)
     ⊎ ((0 < lines_status how (length (faults found))) × (o ≡ invalid_outcome how found))
 
--- a file was not opened: nothing is said but that
+-- a file was not opened: this is the only message
 abbrev pub unopened_outcome : Unopened → Outcome
 unopened_outcome file = record { output = []; errors = unopened_message (Some file); status = 2 }
 

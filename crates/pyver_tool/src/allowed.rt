@@ -12,18 +12,18 @@ use pep440_rs::{SpecifiersErrorKind, VersionSpecifiers, VersionSpecifiersParseEr
 use pyver_findings::{push_escaped, push_escaped_lines};
 use std::alloc::{AllocError, Global};
 
-/// How versions are matched, and whether that is printed.
+// How versions are matched, and whether that is printed.
 #[derive(Clone, Copy)]
 pub(crate) struct MatchOptions {
     pub(crate) quiet: bool,
     pub(crate) prereleases: Prereleases,
 }
 
-/// What a string is read as.
+// What a string is read as.
 #[derive(Drop)]
 pub(crate) enum SpecifiersReading {
     Specifiers(VersionSpecifiers),
-    /// No list, with this message.
+    // No list, with this message.
     Invalid(String),
 }
 
@@ -33,7 +33,7 @@ fn is_out_of_memory(error: &VersionSpecifiersParseError) -> bool
     matches!(error.kind(), SpecifiersErrorKind::OutOfMemory)
 }
 
-/// The list that the string denotes, or why it denotes none.
+// The list that the string denotes, or why it denotes none.
 pub(crate) fn read_specifiers(alloc: Global, text: &str) -> Result<SpecifiersReading, AllocError>
     ensures { IfOk result (λ x. ReadsSpecifiers text.now (specifiers_reading_of x)) }
 {
@@ -131,7 +131,7 @@ fn match_words(
     Ok(answer)
 }
 
-/// `match SPECS V..`: the status is 0 where all are allowed, 1 where one is not and 2 where one is invalid.
+// `match SPECS V..`: the status is 0 where all are allowed, 1 where one is not and 2 where one is invalid.
 pub(crate) fn match_versions(
     alloc: Global,
     options: MatchOptions,

@@ -8,7 +8,7 @@ use crate::reading::Reading;
 use pyver_findings::push_escaped;
 use std::alloc::{AllocError, Global};
 
-/// What the program writes, and the status that it ends with.
+// What the program writes, and the status that it ends with.
 #[derive(Drop)]
 pub(crate) struct Answer {
     pub(crate) output: Vec<u8>,
@@ -31,7 +31,7 @@ pub(crate) fn push_fault(errors: &mut Vec<u8>, word: &[u8], reason: &str) -> Res
 impl Answer {
     ghost use Rattle.pyver_tool.specs.AnswerViews.{outcome_of, reading_of};
 
-    /// Nothing is written, with this status.
+    // Nothing is written, with this status.
     pub(crate) fn silent(alloc: Global, status: u8) -> Answer
         requires { status ≤ 2 }
         ensures { outcome_of result ≡ silent status }
@@ -43,7 +43,7 @@ impl Answer {
         }
     }
 
-    /// A word or a line is not what it has to be: a message, and the status 2.
+    // A word or a line is not what it has to be: a message, and the status 2.
     pub(crate) fn push_bytes_fault(&mut self, word: &[u8], reason: &str) -> Result<(), AllocError>
         ensures { IfOk result (λ _. outcome_of self.new ≡ followed_by (outcome_of self.old) (fault word.now reason.now)) }
     {
@@ -52,14 +52,14 @@ impl Answer {
         Ok(())
     }
 
-    /// The same of a word.
+    // The same of a word.
     pub(crate) fn push_fault(&mut self, word: &str, reason: &str) -> Result<(), AllocError>
         ensures { IfOk result (λ _. outcome_of self.new ≡ followed_by (outcome_of self.old) (fault word.now reason.now)) }
     {
         self.push_bytes_fault(word.as_bytes(), reason)
     }
 
-    /// What is to be written of a word that is read so: a message where it is no version.
+    // What is to be written of a word that is read so: a message where it is no version.
     pub(crate) fn push_reading_fault(
         &mut self,
         word: &str,

@@ -13,32 +13,32 @@ use crate::reading::{Reading, read_version};
 use pep440_rs::{Prerelease, PrereleaseKind, Version};
 use std::alloc::{AllocError, Global};
 
-/// A part of a version that is raised.
+// A part of a version that is raised.
 #[derive(Clone, Copy)]
 pub(crate) enum BumpPart {
-    /// The number of the release at this index.
+    // The number of the release at this index.
     Release(u8),
-    /// All that makes it a pre-release or a developmental release, which goes.
+    // All that makes it a pre-release or a developmental release, which goes.
     Stable,
     Pre(PrereleaseKind),
     Post,
     Dev,
 }
 
-/// Why there is no version with these parts raised.
+// Why there is no version with these parts raised.
 #[derive(Clone, Copy)]
 pub(crate) enum BumpError {
-    /// Nothing says which release comes next.
+    // The words do not name a release.
     NoRelease,
-    /// The result would not be greater.
+    // The result would not be greater.
     NotGreater,
-    /// No number is greater.
+    // No number is greater.
     Greatest,
-    /// The last part has no number that could be set.
+    // The last part has no number that could be set.
     NoNumber,
 }
 
-/// The part that the word names.
+// The part that the word names.
 pub(crate) fn parse_bump_part(word: &str) -> Option<BumpPart>
     ensures { result ≡ bump_part_of word.now }
 {
@@ -56,7 +56,7 @@ pub(crate) fn parse_bump_part(word: &str) -> Option<BumpPart>
     }
 }
 
-/// The number that is asked for, or the one after the number that is there.
+// The number that is asked for, or the one after the number that is there.
 fn new_number(to: Option<u64>, old: u64) -> Result<u64, BumpError>
     ensures { result ≡ new_number to old }
 {
@@ -75,7 +75,7 @@ fn push_zeros(numbers: &mut Vec<u64>, replaced: &[u64]) -> Result<(), AllocError
     Ok(())
 }
 
-/// Appends the release with this number at the index: missing numbers before it are 0, and those behind it become 0.
+// Appends the release with this number at the index: missing numbers before it are 0, and those after it become 0.
 fn push_release_with(
     numbers: &mut Vec<u64>,
     index: u8,
@@ -104,7 +104,7 @@ fn push_release_with(
     }
 }
 
-/// Epoch and release, with this number in the release.
+// Epoch and release, with this number in the release.
 fn with_release_number(
     alloc: Global,
     version: &Version,
@@ -133,7 +133,7 @@ fn bump_release(
     }
 }
 
-/// Without all behind the release where it is a pre-release, and else without its developmental part.
+// Without all after the release where it is a pre-release, and else without its developmental part.
 fn stable_version(alloc: Global, version: &Version) -> Result<Version, AllocError>
     ensures { IfOk result (λ v. Ok v ≡ bump_stable None version.now) }
 {
@@ -143,7 +143,7 @@ fn stable_version(alloc: Global, version: &Version) -> Result<Version, AllocErro
     version.clone()?.with_dev(alloc, None)?.without_local(alloc)
 }
 
-/// Whether it is known which release comes next.
+// Whether it is known which release comes next.
 fn knows_release(named: bool, version: &Version) -> bool
     ensures { result ≡ knows_release named version.now }
 {
@@ -169,7 +169,7 @@ fn is_later_kind(kind: PrereleaseKind, pre: Option<Prerelease>) -> bool
     }
 }
 
-/// The number of the pre-release where it is of this kind, and else 0.
+// The number of the pre-release where it is of this kind, and else 0.
 fn pre_number(kind: PrereleaseKind, pre: Option<Prerelease>) -> u64
     ensures { result ≡ pre_number kind pre }
 {
@@ -260,14 +260,14 @@ fn bump_part(
     }
 }
 
-/// The number is that of the last part.
+// The number is that of the last part.
 fn last_number(to: Option<u64>, rest: &[BumpPart]) -> Option<u64>
     ensures { result ≡ last_number to rest.now }
 {
     if rest.is_empty() { to } else { None }
 }
 
-/// The version with one part raised after another.
+// The version with one part raised after another.
 fn bump_in_turn(
     alloc: Global,
     to: Option<u64>,
@@ -290,7 +290,7 @@ fn bump_in_turn(
     Ok(Ok(bumped))
 }
 
-/// The version with all parts raised, which has to be greater.
+// The version with all parts raised, which has to be greater.
 pub(crate) fn bump(
     alloc: Global,
     to: Option<u64>,
@@ -334,7 +334,7 @@ pub(crate) fn push_result(
     }
 }
 
-/// `bump PART.. V`: the status is 0, or 2 where there is no version with these parts raised.
+// `bump PART.. V`: the status is 0, or 2 where there is no version with these parts raised.
 pub(crate) fn bump_version(
     alloc: Global,
     to: Option<u64>,

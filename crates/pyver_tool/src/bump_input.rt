@@ -10,14 +10,14 @@ use crate::bump::{BumpPart, bump, push_result};
 use crate::version_line::{VersionLine, VersionLines};
 use std::alloc::{AllocError, Global};
 
-/// Which parts are raised, and the number of the last one if it is given.
+// Which parts are raised, and the number of the last one if it is given.
 #[derive(Drop)]
 pub(crate) struct BumpRule {
     pub(crate) to: Option<u64>,
     pub(crate) parts: Vec<BumpPart>,
 }
 
-/// There is not one version: this is said.
+// Reports by this message that there is not one version.
 fn report_count(alloc: Global, message: &str) -> Result<Answer, AllocError>
     ensures { IfOk result (λ a. outcome_of a ≡ message_outcome message.now) }
 {
@@ -26,7 +26,7 @@ fn report_count(alloc: Global, message: &str) -> Result<Answer, AllocError>
     Ok(answer)
 }
 
-/// What is to be written of these lines, of which there has to be one.
+// What is to be written of these lines, of which there has to be one.
 fn bump_lines(
     alloc: Global,
     rule: &BumpRule,
@@ -46,7 +46,7 @@ fn bump_lines(
     }
 }
 
-/// `bump` of what was read.
+// `bump` of what was read.
 pub(crate) fn bump_only(
     alloc: Global,
     rule: &BumpRule,

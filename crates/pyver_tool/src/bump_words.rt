@@ -18,7 +18,7 @@ fn parse_word<'a>(to: Option<u64>, parts: &'a [String], version: &'a str) -> Com
     Command::Bump(to, parts, Some(version))
 }
 
-/// The last of the words, and those before it.
+// The last of the words, and those before it.
 fn parse_last<'a>(
     to: Option<u64>,
     words: &'a [String],
@@ -43,7 +43,7 @@ fn parse_operands<'a>(to: Option<u64>, words: &'a [String]) -> Command<'a>
     }
 }
 
-/// The first word is no option that sets a number.
+// The first word is no option that sets a number.
 fn parse_rest<'a>(
     to: Option<u64>,
     word: &'a str,
@@ -62,7 +62,7 @@ fn parse_rest<'a>(
     }
 }
 
-/// What the words behind `bump` ask for.
+// What the words after `bump` ask for.
 pub(crate) fn parse_bump<'a>(words: &'a [String]) -> Command<'a>
     ensures { task result ≡ bump_task (Some None) (map string_bytes words.now) }
 {

@@ -26,7 +26,7 @@ fn findings_status(findings: &[Finding]) -> u8
     }
 }
 
-/// The findings, as JSON or as lines.
+// The findings, as JSON or as lines.
 fn print_findings(alloc: Global, json: bool, report: &Report) -> Result<Vec<u8>, AllocError>
     ensures { IfOk result (λ output. output.items ≡ findings_text json (report_of report.now)) }
 {
@@ -37,7 +37,7 @@ fn print_findings(alloc: Global, json: bool, report: &Report) -> Result<Vec<u8>,
     }
 }
 
-/// What is to be written of these files.
+// What is to be written of these files.
 fn report_files(alloc: Global, json: bool, files: &[SourceFile]) -> Result<Answer, AllocError>
     ensures { IfOk result (λ a. ReportsFiles json (map file_of files.now) (outcome_of a)) }
 {
@@ -49,7 +49,7 @@ fn report_files(alloc: Global, json: bool, files: &[SourceFile]) -> Result<Answe
     })
 }
 
-/// The message of the file that was not opened, and nothing else.
+// The message of the file that was not opened, and nothing else.
 fn report_open_failure(alloc: Global, file: &UnopenedFile) -> Result<Answer, AllocError>
     ensures { IfOk result (λ a. outcome_of a ≡ unopened_outcome (unopened_file_of file.now)) }
 {
@@ -76,7 +76,7 @@ fn answer_check(
     }
 }
 
-/// Reads the files with these names and those that their lines name, and returns what is to be written.
+// Reads the files with these names and those that their lines name, and returns what is to be written.
 pub(crate) fn check_files<F: Files, R: Read>(
     alloc: Global,
     json: bool,

@@ -7,7 +7,7 @@ use crate::command::{Command, is_help, is_option};
 use crate::help::Topic;
 use crate::misuse::Misuse;
 
-/// The first word is no option that sets something.
+// The first word is no option that sets something.
 fn parse_check_rest<'a>(
     json: bool,
     word: &'a str,
@@ -26,7 +26,7 @@ fn parse_check_rest<'a>(
     }
 }
 
-/// What the words behind `check` ask for.
+// What the words after `check` ask for.
 pub(crate) fn parse_check<'a>(words: &'a [String]) -> Command<'a>
     ensures { task result ≡ check_task false (map string_bytes words.now) }
 {

@@ -32,38 +32,38 @@ use crate::sort_words::parse_sort;
 use crate::whole_input::Question;
 use std::alloc::{AllocError, Global};
 
-/// What words ask for.
+// What words ask for.
 #[derive(Clone, Copy)]
 pub(crate) enum Command<'a> {
     Help(Topic),
     Version,
     Compare(&'a str, Comparison, &'a str),
     Match(MatchOptions, &'a str, &'a [String]),
-    /// The specifiers, and the names of the sources.
+    // The specifiers, and the names of the sources.
     Filter(FilterOptions, &'a str, &'a [String]),
-    /// The names of the sources.
+    // The names of the sources.
     Sort(SortOptions, &'a [String]),
-    /// The specifiers, and the names of the sources.
+    // The specifiers, and the names of the sources.
     Newest(NewestOptions, &'a str, &'a [String]),
     Show(ShowFormat, &'a [String]),
-    /// The number of the last part, the names of the parts, and the version if it is among the words.
+    // The number of the last part, the names of the parts, and the version if it is among the words.
     Bump(Option<u64>, &'a [String], Option<&'a str>),
     Range(RangeOptions, &'a [String]),
-    /// Whether JSON is asked for, and the names of the files.
+    // Whether JSON is asked for, and the names of the files.
     Check(bool, &'a [String]),
     Misused(Misuse<'a>),
 }
 
-/// What is to be done for a command.
+// What is to be done for a command.
 #[derive(Drop)]
 pub(crate) enum Work<'a> {
-    /// Nothing but to write this.
+    // Nothing but to write this.
     Answer(Answer),
-    /// To read the sources with these names, whose lines are filtered so.
+    // To read the sources with these names, whose lines are filtered so.
     Filter(FilterRule, &'a [String]),
-    /// To read the sources with these names to their ends, of which this is asked.
+    // To read the sources with these names to their ends, of which this is asked.
     Whole(Question, &'a [String]),
-    /// To check the files with these names, and to print JSON or not.
+    // To check the files with these names, and to print JSON or not.
     Check(bool, &'a [String]),
 }
 
@@ -94,7 +94,7 @@ fn parse_compare_words<'a>(words: &'a [String]) -> Command<'a>
     }
 }
 
-/// The first word does not ask for help.
+// The first word does not ask for help.
 fn parse_compare_rest<'a>(word: &'a str, words: &'a [String]) -> Command<'a>
     ensures { task result ≡ compare_rest word.now (map string_bytes words.now) }
 {
@@ -131,7 +131,7 @@ fn parse_match_operands<'a>(options: MatchOptions, words: &'a [String]) -> Comma
     }
 }
 
-/// The options with what the word sets, if it is an option that sets some.
+// The options with what the word sets, if it is an option that sets some.
 fn parse_match_option(options: MatchOptions, word: &str) -> Option<MatchOptions>
     ensures { result ≡ match_option options word.now }
 {
@@ -146,7 +146,7 @@ fn parse_match_option(options: MatchOptions, word: &str) -> Option<MatchOptions>
     Some(options)
 }
 
-/// The first word is no option that sets some.
+// The first word is no option that sets some.
 fn parse_match_rest<'a>(
     options: MatchOptions,
     word: &'a str,
@@ -187,7 +187,7 @@ fn parse_match<'a>(words: &'a [String]) -> Command<'a>
 }
 
 impl<'a> Command<'a> {
-    /// The command that the words ask for.
+    // The command that the words ask for.
     pub(crate) fn parse(words: &'a [String]) -> Command<'a>
         ensures { task result ≡ task_of (map string_bytes words.now) }
     {
@@ -211,7 +211,7 @@ impl<'a> Command<'a> {
         }
     }
 
-    /// What is to be done for it.
+    // What is to be done for it.
     pub(crate) fn run(self, alloc: Global) -> Result<Work<'a>, AllocError>
         ensures { IfOk result (λ w. IsWork (task self.entry) w) }
     {
@@ -244,7 +244,7 @@ impl<'a> Command<'a> {
     }
 }
 
-/// `filter SPECS [FILE..]`: the rule, or why SPECS is no list.
+// `filter SPECS [FILE..]`: the rule, or why SPECS is no list.
 fn start_filter<'a>(
     alloc: Global,
     options: FilterOptions,
@@ -272,7 +272,7 @@ fn start_filter<'a>(
     }
 }
 
-/// `newest SPECS [FILE..]`: what is asked, or why SPECS is no list.
+// `newest SPECS [FILE..]`: what is asked, or why SPECS is no list.
 fn start_newest<'a>(
     alloc: Global,
     options: NewestOptions,
@@ -298,7 +298,7 @@ fn start_newest<'a>(
     }
 }
 
-/// `bump PART.. [V]`: the version, what is asked of standard input, or which word names no part.
+// `bump PART.. [V]`: the version, what is asked of standard input, or which word names no part.
 fn start_bump<'a>(
     alloc: Global,
     to: Option<u64>,
@@ -319,7 +319,7 @@ fn start_bump<'a>(
     }
     match version {
         Some(word) => Ok(Work::Answer(bump_version(alloc, to, parts.as_slice(), word)?)),
-        // No name is left, and no name means standard input.
+        // No name is left, and no name denotes standard input.
         None => Ok(Work::Whole(Question::Bump(BumpRule { to, parts }), left)),
     }
 }

@@ -8,7 +8,7 @@ use crate::reading::{Reading, read_version};
 use std::alloc::{AllocError, Global};
 use std::cmp::Ordering;
 
-/// How the one version is to stand to the other.
+// How the one version is to stand to the other.
 #[derive(Clone, Copy)]
 pub(crate) enum Comparison {
     Less,
@@ -19,7 +19,7 @@ pub(crate) enum Comparison {
     Greater,
 }
 
-/// The comparison that the word names.
+// The comparison that the word names.
 pub(crate) fn parse_comparison(word: &str) -> Option<Comparison>
     ensures { result ≡ comparison_of word.now }
 {
@@ -53,7 +53,7 @@ fn holds(comparison: Comparison, order: Ordering) -> bool
     }
 }
 
-/// `compare A OP B`: nothing is written, and the status is 0 where it holds and else 1.
+// `compare A OP B`: nothing is written, and the status is 0 where it holds and else 1.
 pub(crate) fn compare(
     alloc: Global,
     left: &str,

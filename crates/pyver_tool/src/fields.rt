@@ -5,7 +5,7 @@ ghost use Rattle.pyver_tool.specs.Fields.{field, no_field_reason};
 
 use std::alloc::{AllocError, Global};
 
-/// The field with this number, from 1, where there is one.
+// The field with this number, from 1, where there is one.
 pub(crate) fn find_field(number: u64, delimiter: u8, text: &[u8]) -> Option<&[u8]>
     ensures { option_map (λ f. f.now) result ≡ field number delimiter text.now }
 {
@@ -13,7 +13,7 @@ pub(crate) fn find_field(number: u64, delimiter: u8, text: &[u8]) -> Option<&[u8
         .nth(number.saturating_sub(1) as usize)
 }
 
-/// Why a line with fewer fields is invalid.
+// Why a line with fewer fields is invalid.
 pub(crate) fn print_no_field(alloc: Global, number: u64) -> Result<String, AllocError>
     ensures { IfOk result (λ s. string_bytes s ≡ no_field_reason number) }
 {

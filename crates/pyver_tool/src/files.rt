@@ -16,7 +16,7 @@ pub trait Files {
     /// What is known of the path of a file with a name.
     ghost path: { Self → List ℕ → Option (List ℕ) } = { λ _ _. None };
 
-    /// The file with the name, from its first byte on. Fails with `OutOfMemory` where memory ran out, and otherwise with why
+    /// The file with the name, from its first byte on. Fails with `OutOfMemory` where an allocation failed, and otherwise with why
     /// the file is not opened.
     fn open(&mut self, alloc: Global, name: &str) -> Result<Self::File, OpenFailure>
         ensures opened { IfOk result (λ file. MayOpen (known self.old name.now) (Self.File.remaining file)) }

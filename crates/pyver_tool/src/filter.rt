@@ -15,7 +15,7 @@ use pep440_rs::{Version, VersionSpecifiers};
 use pyver_findings::push_escaped;
 use std::alloc::{AllocError, Global};
 
-/// Which lines are asked for.
+// Which lines are asked for.
 #[derive(Clone, Copy)]
 pub(crate) struct FilterOptions {
     pub(crate) inverted: bool,
@@ -23,12 +23,12 @@ pub(crate) struct FilterOptions {
     pub(crate) lines: LineOptions,
 }
 
-/// Which versions are printed.
+// Which versions are printed.
 #[derive(Drop)]
 pub(crate) struct FilterRule {
-    /// Those that the list does not allow.
+    // Those that the list does not allow.
     pub(crate) inverted: bool,
-    /// Whether the list takes pre-releases.
+    // Whether the list takes pre-releases.
     pub(crate) takes: bool,
     pub(crate) lines: LineOptions,
     pub(crate) list: VersionSpecifiers,
@@ -45,7 +45,7 @@ impl FilterRule {
     }
 }
 
-/// The message of an invalid line of the source with this name, at the end.
+// The message of an invalid line of the source with this name, at the end.
 pub(crate) fn push_line_fault(
     alloc: Global,
     errors: &mut Vec<u8>,
@@ -65,7 +65,7 @@ pub(crate) fn push_line_fault(
     Ok(())
 }
 
-/// A file that was not opened.
+// A file that was not opened.
 #[derive(Clone, Copy)]
 pub(crate) struct Unopened<'a> {
     pub(crate) name: &'a str,
@@ -81,7 +81,7 @@ fn push_open_failure(errors: &mut Vec<u8>, unopened: Option<Unopened<'_>>) -> Re
     }
 }
 
-/// The status, where it is this one without the file.
+// The status, where it is this one without the file.
 fn unopened_status(unopened: Option<Unopened<'_>>, status: u8) -> u8
     requires { status ≤ 2 }
     ensures is { result ≡ unopened_status (option_map unopened_of unopened.entry) status }
@@ -93,14 +93,14 @@ fn unopened_status(unopened: Option<Unopened<'_>>, status: u8) -> u8
     }
 }
 
-/// What lines have asked for, and what of it is not yet written.
+// What lines have asked for, and what of it is not yet written.
 #[derive(Drop)]
 pub(crate) struct FilterState {
-    /// How many reads were made.
+    // How many reads were made.
     pub(crate) read_count: u64,
-    /// How many lines of the source were read.
+    // How many lines of the source were read.
     pub(crate) line_count: u64,
-    /// How many lines of all sources were invalid.
+    // How many lines of all sources were invalid.
     pub(crate) fault_count: u64,
     pub(crate) output: Vec<u8>,
     pub(crate) errors: Vec<u8>,
@@ -127,7 +127,7 @@ impl FilterState {
         }
     }
 
-    /// Only that of the first source is printed.
+    // Only that of the first source is printed.
     fn push_header(
         &mut self,
         rule: &FilterRule,
@@ -204,7 +204,7 @@ impl FilterState {
         }
     }
 
-    /// One more line of the source, which has ended.
+    // One more line of the source, which has ended.
     pub(crate) fn push_line(
         &mut self,
         alloc: Global,
@@ -229,7 +229,7 @@ impl FilterState {
         Ok(())
     }
 
-    /// More bytes, after those of the line that has begun.
+    // More bytes, after those of the line that has begun.
     pub(crate) fn push_bytes(
         &mut self,
         alloc: Global,
@@ -254,7 +254,7 @@ impl FilterState {
         Ok(())
     }
 
-    /// What is said at the end; returns the status.
+    // Pushes the messages at the end; returns the status.
     pub(crate) fn finish(
         &mut self,
         alloc: Global,
@@ -269,7 +269,7 @@ impl FilterState {
         Ok(unopened_status(unopened, invalid.status(self.fault_count)))
     }
 
-    /// What was to be written was written.
+    // What was to be written was written.
     pub(crate) fn clear(&mut self)
         ensures counts { (self.new.read_count ≡ self.old.read_count) × (self.new.line_count ≡ self.old.line_count) × (self.new.fault_count ≡ self.old.fault_count) }
         ensures nothing { (self.new.output.items ≡ []) × (self.new.errors.items ≡ []) }

@@ -10,12 +10,12 @@ use crate::stream::{Stop, write_both};
 use std::alloc::Global;
 use std::io::{Read, Write};
 
-/// So many reads are made at most, which takes years.
+// So many reads are made at most, which takes years.
 pub(crate) const MOST_READS: u64 = 562949953421312;
 
 pub(crate) const READ_SIZE: usize = 8192;
 
-/// A read of the source with this name failed.
+// A read of the source with this name failed.
 pub(crate) fn stop_reading(alloc: Global, name: &str) -> Stop
     ensures of { IsStopOf (Some name.now) result }
     ensures reading { IsReadingStop name.now result }
@@ -30,7 +30,7 @@ pub(crate) fn stop_reading(alloc: Global, name: &str) -> Stop
     }
 }
 
-/// Writes what the rule asks for of each line of the source, before more is read.
+// Writes what the rule asks for of each line of the source, before more is read.
 pub(crate) fn filter_input<R: Read, W: Write, E: Write>(
     alloc: Global,
     rule: &FilterRule,

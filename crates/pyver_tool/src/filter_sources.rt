@@ -14,7 +14,7 @@ use crate::stream::{Stop, write_both};
 use std::alloc::Global;
 use std::io::{Read, Write};
 
-/// Filters a source, or returns why it is not opened.
+// Filters a source, or returns why it is not opened.
 fn open_and_filter<F: Files, R: Read, W: Write, E: Write>(
     alloc: Global,
     rule: &FilterRule,
@@ -46,7 +46,7 @@ fn open_and_filter<F: Files, R: Read, W: Write, E: Write>(
     }
 }
 
-/// Filters the sources with these names, up to one that is not opened.
+// Filters the sources with these names, up to one that is not opened.
 fn filter_all<'a, F: Files, R: Read, W: Write, E: Write>(
     alloc: Global,
     rule: &FilterRule,
@@ -74,7 +74,7 @@ fn filter_all<'a, F: Files, R: Read, W: Write, E: Write>(
     Ok(None)
 }
 
-/// Filters the sources that the names mean, up to one that is not opened.
+// Filters the sources that the names denote, up to one that is not opened.
 fn filter_all_sources<'a, F: Files, R: Read, W: Write, E: Write>(
     alloc: Global,
     rule: &FilterRule,
@@ -101,7 +101,7 @@ fn filter_all_sources<'a, F: Files, R: Read, W: Write, E: Write>(
     Ok(None)
 }
 
-/// Writes what the rule asks for of the sources, of each before the next is read, and returns the status.
+// Writes what the rule asks for of the sources, of each before the next is read, and returns the status.
 pub(crate) fn filter_sources<F: Files, R: Read, W: Write, E: Write>(
     alloc: Global,
     rule: &FilterRule,

@@ -21,7 +21,7 @@ fn parse_filter_operands<'a>(options: FilterOptions, words: &'a [String]) -> Com
     }
 }
 
-/// The options with what the word sets, if it is an option that sets some.
+// The options with what the word sets, if it is an option that sets some.
 fn parse_filter_option(options: FilterOptions, word: &str) -> Option<FilterOptions>
     ensures { result ≡ filter_option options word.now }
 {
@@ -39,7 +39,7 @@ fn parse_filter_option(options: FilterOptions, word: &str) -> Option<FilterOptio
     Some(options)
 }
 
-/// The first word is no option that sets some.
+// The first word is no option that sets some.
 fn parse_filter_rest<'a>(
     options: FilterOptions,
     word: &'a str,
@@ -60,7 +60,7 @@ fn parse_filter_rest<'a>(
     }
 }
 
-/// The words of `filter`.
+// The words of `filter`.
 pub(crate) fn parse_filter<'a>(words: &'a [String]) -> Command<'a>
     ensures { task result ≡ filter_task no_filter_options None (map string_bytes words.now) }
 {

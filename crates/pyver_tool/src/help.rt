@@ -2,7 +2,7 @@
 ghost use Rattle.std.specs.Prelude.{◌≡◌};
 ghost use Rattle.pyver_tool.specs.Tasks.{help_text, help_words, usage};
 
-/// What help is about.
+// What help is about.
 #[derive(Clone, Copy)]
 pub(crate) enum Topic {
     Program,
@@ -275,7 +275,7 @@ examples:
   pip freeze | pyver check --json
 ";
 
-/// What the help says.
+// What the help says.
 pub(crate) fn help(topic: Topic) -> &'static str
     ensures { result.now ≡ help_text topic }
 {
@@ -293,7 +293,7 @@ pub(crate) fn help(topic: Topic) -> &'static str
     }
 }
 
-/// The words that print the help.
+// The words that print the help.
 pub(crate) fn help_words(topic: Topic) -> &'static str
     ensures { result.now ≡ help_words topic }
 {
@@ -311,7 +311,7 @@ pub(crate) fn help_words(topic: Topic) -> &'static str
     }
 }
 
-/// The words that are to be given.
+// The words that are to be given.
 pub(crate) fn usage(topic: Topic) -> &'static str
     ensures { result.now ≡ usage topic }
 {

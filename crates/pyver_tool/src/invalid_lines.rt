@@ -5,21 +5,21 @@ ghost use Rattle.pyver_tool.specs.Messages.{count_message, more_faults_message};
 
 use std::alloc::{AllocError, Global};
 
-/// What is done with invalid lines.
+// What is done with invalid lines.
 #[derive(Clone, Copy)]
 pub(crate) enum InvalidLines {
-    /// They are named, and the status is 2.
+    // They are named, and the status is 2.
     Error,
-    /// They are left out and counted.
+    // They are left out and counted.
     Skip,
-    /// They are no error.
+    // They are no error.
     Keep,
 }
 
-/// So many invalid lines get a message of their own.
+// So many invalid lines get a message of their own.
 pub(crate) const MESSAGE_LIMIT: u64 = 20;
 
-/// What the word asks for.
+// What the word asks for.
 pub(crate) fn parse_invalid_lines(word: &str) -> Option<InvalidLines>
     ensures { result ≡ invalid_lines_of word.now }
 {
@@ -32,7 +32,7 @@ pub(crate) fn parse_invalid_lines(word: &str) -> Option<InvalidLines>
 }
 
 impl InvalidLines {
-    /// So many of the first get a message of their own.
+    // So many of the first get a message of their own.
     pub(crate) fn message_limit(self) -> u64
         ensures { result ≡ message_limit self }
     {
@@ -43,7 +43,7 @@ impl InvalidLines {
         }
     }
 
-    /// What is said at the end, where so many lines were invalid.
+    // Pushes the message at the end, where so many lines were invalid.
     pub(crate) fn push_last(
         self,
         alloc: Global,
@@ -63,7 +63,7 @@ impl InvalidLines {
         }
     }
 
-    /// The status, where so many lines were invalid.
+    // The status, where so many lines were invalid.
     pub(crate) fn status(self, count: u64) -> u8
         ensures is { result ≡ lines_status self count }
         ensures known { result ≤ 2 }
@@ -76,7 +76,7 @@ impl InvalidLines {
     }
 }
 
-/// How many invalid lines were not named.
+// How many invalid lines were not named.
 pub(crate) fn push_more_faults(
     alloc: Global,
     errors: &mut Vec<u8>,
@@ -87,7 +87,7 @@ pub(crate) fn push_more_faults(
     push_count(alloc, errors, "pyver: more invalid lines: ", count)
 }
 
-/// How many there are, where there are some.
+// How many there are, where there are some.
 fn push_count(
     alloc: Global,
     errors: &mut Vec<u8>,

@@ -8,10 +8,10 @@ use crate::part::{base_text, local_text, public_text, release_number};
 use pep440_rs::{Prerelease, PrereleaseKind, Version};
 use std::alloc::{AllocError, Global};
 
-/// The greatest number up to which each is exact where JSON's numbers are read as floats, 2^53.
+// The greatest number up to which each is exact where JSON's numbers are read as floats, 2^53.
 const GREATEST: u64 = 9_007_199_254_740_992;
 
-/// The string at the end.
+// The string at the end.
 pub(crate) fn push_text(bytes: &mut Vec<u8>, text: &str) -> Result<(), AllocError>
     ensures { IfOk result (λ _. bytes.new.items ≡ bytes.old.items ++ text.now) }
 {
@@ -115,7 +115,7 @@ fn push_local(alloc: Global, bytes: &mut Vec<u8>, version: &Version) -> Result<(
     }
 }
 
-/// The name of a member, after a comma.
+// The name of a member, after a comma.
 fn push_name(bytes: &mut Vec<u8>, name: &str) -> Result<(), AllocError>
     ensures { IfOk result (λ _. bytes.new.items ≡ bytes.old.items ++ next_name name.now) }
 {
@@ -203,7 +203,7 @@ fn push_members(alloc: Global, bytes: &mut Vec<u8>, version: &Version) -> Result
     push_forms(alloc, bytes, version)
 }
 
-/// All parts of the version as a JSON object at the end.
+// All parts of the version as a JSON object at the end.
 pub(crate) fn push_object(
     alloc: Global,
     bytes: &mut Vec<u8>,

@@ -14,7 +14,7 @@ pub fn checks_once()
     ensures { ChecksOnce }
 {}
 
-/// A version that `bump` makes is greater, and differs in the stated parts alone; a number of the release can be
+/// A version that `bump` makes is greater, and differs only in the stated parts; a number of the release can be
 /// raised unless it is the greatest.
 pub fn bumps()
     ensures greater { BumpsAreGreater }

@@ -6,15 +6,15 @@ ghost use Rattle.pyver_tool.specs.LineOptions.{delimiter_of, field_number_of, jo
 use crate::invalid_lines::{InvalidLines, parse_invalid_lines};
 use crate::number::parse_number;
 
-/// How lines are read.
+// How lines are read.
 #[derive(Clone, Copy)]
 pub(crate) struct LineOptions {
     pub(crate) invalid: InvalidLines,
-    /// The number of the field that is the version, from 1, or none where the whole line is it.
+    // The number of the field that is the version, from 1, or none where the whole line is it.
     pub(crate) field: Option<u64>,
-    /// The byte between fields.
+    // The byte between fields.
     pub(crate) delimiter: u8,
-    /// Whether the first line is no version and stays first.
+    // Whether the first line is no version and stays first.
     pub(crate) header: bool,
 }
 
@@ -32,7 +32,7 @@ impl LineOptions {
         }
     }
 
-    /// Whether the line with this number is the header.
+    // Whether the line with this number is the header.
     pub(crate) fn is_header(self, number: u64) -> bool
         ensures { result ≡ is_header self number }
     {
@@ -40,7 +40,7 @@ impl LineOptions {
     }
 }
 
-/// An option that takes a value.
+// An option that takes a value.
 #[derive(Clone, Copy)]
 pub(crate) enum ValueOption {
     Invalid,
@@ -48,7 +48,7 @@ pub(crate) enum ValueOption {
     Delimiter,
 }
 
-/// The option that the word names, whose value is the next word.
+// The option that the word names, whose value is the next word.
 pub(crate) fn parse_value_option(word: &str) -> Option<ValueOption>
     ensures { result ≡ value_option_of word.now }
 {
@@ -62,14 +62,14 @@ pub(crate) fn parse_value_option(word: &str) -> Option<ValueOption>
     }
 }
 
-/// What stands behind this beginning of the word.
+// What stands after this beginning of the word.
 pub(crate) fn value_behind<'a>(start: &str, word: &'a str) -> Option<&'a str>
     ensures { option_copied result ≡ value_behind start.now word.now }
 {
     word.strip_prefix(start)
 }
 
-/// The option and its value, where the word has both.
+// The option and its value, where the word has both.
 pub(crate) fn split_value<'a>(word: &'a str) -> Option<(ValueOption, &'a str)>
     ensures { option_map (λ x. (x.0, x.1.now)) result ≡ joined_value word.now }
 {
@@ -85,7 +85,7 @@ pub(crate) fn split_value<'a>(word: &'a str) -> Option<(ValueOption, &'a str)>
     }
 }
 
-/// A number from 1.
+// A number from 1.
 fn parse_field_number(word: &str) -> Option<u64>
     ensures { result ≡ field_number_of word.now }
 {
@@ -95,7 +95,7 @@ fn parse_field_number(word: &str) -> Option<u64>
     }
 }
 
-/// A string of one byte, which is ASCII.
+// A string of one byte, which is ASCII.
 fn parse_delimiter(word: &str) -> Option<u8>
     ensures { result ≡ delimiter_of word.now }
 {
@@ -105,7 +105,7 @@ fn parse_delimiter(word: &str) -> Option<u8>
     }
 }
 
-/// The options with this value, where it is one.
+// The options with this value, where it is one.
 pub(crate) fn with_value(
     options: LineOptions,
     name: ValueOption,
@@ -122,7 +122,7 @@ pub(crate) fn with_value(
     Some(options)
 }
 
-/// The options with what the word sets, if it is one that sets some.
+// The options with what the word sets, if it is one that sets some.
 pub(crate) fn parse_line_option(options: LineOptions, word: &str) -> Option<LineOptions>
     ensures { result ≡ line_option options word.now }
 {

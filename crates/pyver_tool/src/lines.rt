@@ -28,7 +28,7 @@ fn without_return(line: &[u8]) -> &[u8]
     }
 }
 
-/// The line with this number without a byte order mark, where it is the first, and without a carriage return at its end.
+// The line with this number without a byte order mark, where it is the first, and without a carriage return at its end.
 pub(crate) fn line_text(number: u64, line: &[u8]) -> &[u8]
     ensures { (number, result.now) ≡ numbered (number, line.now) }
 {
@@ -39,14 +39,14 @@ pub(crate) fn line_text(number: u64, line: &[u8]) -> &[u8]
     }
 }
 
-/// Blanks alone.
+// Whether there are only blanks.
 pub(crate) fn is_blank(text: &[u8]) -> bool
     ensures { result ≡ is_blank text.now }
 {
     text.iter().all(|byte| byte.is_ascii_whitespace())
 }
 
-/// The version that the line denotes, or why it denotes none.
+// The version that the line denotes, or why it denotes none.
 pub(crate) fn read_line(
     alloc: Global,
     options: LineOptions,

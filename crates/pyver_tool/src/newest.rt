@@ -14,14 +14,14 @@ use crate::version_line::{VersionLine, VersionLines};
 use pep440_rs::{Version, VersionSpecifiers};
 use std::alloc::{AllocError, Global};
 
-/// How lines are read, and which pre-releases are taken.
+// How lines are read, and which pre-releases are taken.
 #[derive(Clone, Copy)]
 pub(crate) struct NewestOptions {
     pub(crate) prereleases: Prereleases,
     pub(crate) lines: LineOptions,
 }
 
-/// Which version is asked for.
+// Which version is asked for.
 #[derive(Drop)]
 pub(crate) struct NewestRule {
     pub(crate) prereleases: Prereleases,
@@ -38,7 +38,7 @@ fn is_newer(newest: Option<&VersionLine<'_>>, version: &Version) -> bool
     }
 }
 
-/// Of the lines that the list allows the newest, of equal ones the first.
+// Of the lines that the list allows the newest, of equal ones the first.
 fn select_newest<'t, 'a>(
     alloc: Global,
     takes: bool,
@@ -56,7 +56,7 @@ fn select_newest<'t, 'a>(
     Ok(newest)
 }
 
-/// The same, with pre-releases where nothing else is allowed.
+// The same, with pre-releases where nothing else is allowed.
 fn find_candidate<'t, 'a>(
     alloc: Global,
     rule: &NewestRule,
@@ -76,7 +76,7 @@ fn find_candidate<'t, 'a>(
     }
 }
 
-/// The line as it was written, or the status 1.
+// The line as it was written, or the status 1.
 fn print_newest(
     alloc: Global,
     newest: Option<&VersionLine<'_>>,
@@ -101,7 +101,7 @@ fn print_newest(
     })
 }
 
-/// `newest` of these lines.
+// `newest` of these lines.
 pub(crate) fn find_newest(
     alloc: Global,
     rule: &NewestRule,

@@ -21,7 +21,7 @@ fn parse_newest_operands<'a>(options: NewestOptions, words: &'a [String]) -> Com
     }
 }
 
-/// The options with what the word sets, if it is an option that sets some alone.
+// The options with what the word sets, if it is an option without a value.
 fn parse_newest_option(options: NewestOptions, word: &str) -> Option<NewestOptions>
     ensures { result ≡ newest_option options word.now }
 {
@@ -37,7 +37,7 @@ fn parse_newest_option(options: NewestOptions, word: &str) -> Option<NewestOptio
     Some(options)
 }
 
-/// The first word is no option that sets some.
+// The first word is no option that sets some.
 fn parse_newest_rest<'a>(
     options: NewestOptions,
     word: &'a str,
@@ -58,7 +58,7 @@ fn parse_newest_rest<'a>(
     }
 }
 
-/// The options with the value, which is the next word, and the words after it.
+// The options with the value, which is the next word, and the words after it.
 fn take_newest_value<'a>(
     options: NewestOptions,
     name: ValueOption,
@@ -79,7 +79,7 @@ fn take_newest_value<'a>(
     Ok((options, rest))
 }
 
-/// What the words behind `newest` ask for.
+// What the words after `newest` ask for.
 pub(crate) fn parse_newest<'a>(words: &'a [String]) -> Command<'a>
     ensures { task result ≡ newest_task no_newest_options None (map string_bytes words.now) }
 {

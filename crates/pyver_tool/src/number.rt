@@ -9,7 +9,7 @@ fn is_digits(text: &str) -> bool
     !bytes.is_empty() && bytes.iter().all(|byte| byte.is_ascii_digit())
 }
 
-/// One or more digits, zeros may lead, whose value fits.
+// One or more digits, zeros may lead, whose value fits.
 pub(crate) fn parse_number(text: &str) -> Option<u64>
     ensures { result ≡ word_number text.now }
 {

@@ -1,4 +1,4 @@
-// Why a file is not opened, and what is said of a file.
+// Why a file is not opened, and messages of files.
 ghost use Rattle.std.specs.Prelude.{◌≡◌, ◌++◌, IfOk};
 ghost use Rattle.pyver_tool.specs.Messages.{file_message};
 ghost use Rattle.pyver_tool.specs.Sources.{failure_reason};
@@ -30,7 +30,7 @@ impl OpenFailure {
     }
 }
 
-/// The message of a file at the end.
+// The message of a file at the end.
 pub(crate) fn push_file_fault(
     errors: &mut Vec<u8>,
     name: &[u8],

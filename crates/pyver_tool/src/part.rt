@@ -10,7 +10,7 @@ use pep440_rs::{LocalSegment, Prerelease, Version, write_local_segments};
 use std::alloc::{AllocError, Global};
 use std::fmt;
 
-/// A part of a version (PEP 440), by its name.
+// A part of a version (PEP 440), by its name.
 #[derive(Clone, Copy)]
 pub(crate) enum VersionPart {
     Epoch,
@@ -22,13 +22,13 @@ pub(crate) enum VersionPart {
     Post,
     Dev,
     Local,
-    /// All but the local part.
+    // All but the local part.
     Public,
-    /// Epoch and release.
+    // Epoch and release.
     Base,
 }
 
-/// The part that the word names.
+// The part that the word names.
 pub(crate) fn parse_part(word: &str) -> Option<VersionPart>
     ensures { result ≡ part_of word.now }
 {
@@ -48,7 +48,7 @@ pub(crate) fn parse_part(word: &str) -> Option<VersionPart>
     }
 }
 
-/// The number of the release at the index, 0 where the release is shorter.
+// The number of the release at the index, 0 where the release is shorter.
 pub(crate) fn release_number(version: &Version, index: usize) -> u64
     ensures { result ≡ get_or version.now.release index 0 }
 {
@@ -60,7 +60,7 @@ pub(crate) fn release_number(version: &Version, index: usize) -> u64
     }
 }
 
-/// Local segments with dots between them.
+// Local segments with dots between them.
 #[derive(Clone, Copy)]
 struct LocalPart<'a>(&'a [LocalSegment]);
 
@@ -74,14 +74,14 @@ impl fmt::Display for LocalPart<'_> {
     }
 }
 
-/// The local part, nothing where there is none.
+// The local part, nothing where there is none.
 pub(crate) fn local_text(alloc: Global, version: &Version) -> Result<String, AllocError>
     ensures { IfOk result (λ s. string_bytes s ≡ dotted segment_print version.now.local) }
 {
     LocalPart(version.local()).to_string(alloc)
 }
 
-/// The version without its local part.
+// The version without its local part.
 pub(crate) fn public_text(alloc: Global, version: &Version) -> Result<String, AllocError>
     ensures { IfOk result (λ s. string_bytes s ≡ part_text VersionPart.Public version.now) }
 {
@@ -89,7 +89,7 @@ pub(crate) fn public_text(alloc: Global, version: &Version) -> Result<String, Al
     public.to_string(alloc)
 }
 
-/// Epoch and release.
+// Epoch and release.
 pub(crate) fn base_version(alloc: Global, version: &Version) -> Result<Version, AllocError>
     ensures { IfOk result (λ v. v ≡ epoch_and_release version.now.epoch version.now.release) }
 {
@@ -121,7 +121,7 @@ fn number_text(alloc: Global, number: Option<u64>) -> Result<String, AllocError>
     }
 }
 
-/// The part of the version, nothing where it has none.
+// The part of the version, nothing where it has none.
 pub(crate) fn part_text(
     alloc: Global,
     part: VersionPart,

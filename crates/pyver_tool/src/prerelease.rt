@@ -7,10 +7,10 @@ ghost use Rattle.pyver_tool.specs.Prereleases.{allows, asks_for_prerelease, take
 use pep440_rs::{Operator, Version, VersionSpecifier, VersionSpecifiers};
 use std::alloc::{AllocError, Global};
 
-/// Which pre-releases are taken.
+// Which pre-releases are taken.
 #[derive(Clone, Copy)]
 pub(crate) enum Prereleases {
-    /// Those that a specifier asks for.
+    // Those that a specifier asks for.
     Listed,
     Always,
     Never,
@@ -43,7 +43,7 @@ fn any_asks(specifiers: &[VersionSpecifier]) -> bool
     false
 }
 
-/// Whether pre-releases are taken by the list.
+// Whether pre-releases are taken by the list.
 pub(crate) fn takes_prereleases(prereleases: Prereleases, list: &VersionSpecifiers) -> bool
     ensures { result ≡ takes_prereleases prereleases list.now }
 {
@@ -54,7 +54,7 @@ pub(crate) fn takes_prereleases(prereleases: Prereleases, list: &VersionSpecifie
     }
 }
 
-/// Whether the list allows the version.
+// Whether the list allows the version.
 pub(crate) fn allows(
     alloc: Global,
     takes: bool,

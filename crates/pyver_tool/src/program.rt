@@ -31,7 +31,7 @@ fn failure_status(failure: WriteFailure) -> u8
     }
 }
 
-/// Writes that a write failed, unless nobody reads, and returns the status.
+// Writes that a write failed, unless nobody reads, and returns the status.
 fn report_failure<E: Write>(failure: WriteFailure, err: &mut E) -> u8
     ensures status { (result ≡ 4) ⊎ (result ≡ 141) }
     ensures written { (message : List ℕ) × IsWriteFailure result message × WroteBeginning (E.contents err.old) (E.contents err.new) message }
@@ -45,7 +45,7 @@ fn report_failure<E: Write>(failure: WriteFailure, err: &mut E) -> u8
     }
 }
 
-/// Writes an answer and returns the status.
+// Writes an answer and returns the status.
 fn write_answer<W: Write, E: Write>(answer: &Answer, out: &mut W, err: &mut E) -> u8
     ensures { WritesAnswer W.contents E.contents (outcome_of answer.now) out.old out.new err.old err.new result }
 {
@@ -58,7 +58,7 @@ fn write_answer<W: Write, E: Write>(answer: &Answer, out: &mut W, err: &mut E) -
     answer.status
 }
 
-/// Writes why a run stopped, where somebody reads that, and returns the status.
+// Writes why a run stopped, where somebody reads that, and returns the status.
 fn report_stop<E: Write>(stop: Stop, err: &mut E) -> u8
     ensures { (message : List ℕ) × Reports stop result message × WroteBeginning (E.contents err.old) (E.contents err.new) message }
 {
@@ -113,7 +113,7 @@ pub fn run<F: Files, R: Read, W: Write, E: Write>(
     }
 }
 
-/// Writes that memory ran out, without allocating, and returns the status of the process, 3.
+/// Writes that the program is out of memory, without allocating, and returns the status of the process, 3.
 pub fn refuse<E: Write>(err: &mut E) -> u8
     ensures status { result ≡ 3 }
     ensures written { WroteBeginning (E.contents err.old) (E.contents err.new) memory_message }

@@ -18,32 +18,32 @@ use pep440_rs::{
 };
 use std::alloc::{AllocError, Global};
 
-/// What is printed of the range that all lists allow.
+// What is printed of the range that all lists allow.
 #[derive(Clone, Copy)]
 pub(crate) struct RangeOptions {
     pub(crate) cover: bool,
     pub(crate) json: bool,
 }
 
-/// What a list is read as.
+// What a list is read as.
 #[derive(Drop)]
 pub(crate) enum RangeReading {
-    /// Its range and its cover.
+    // Its range and its cover.
     Ranges(Ranges<Version>, Ranges<Version>),
-    /// None, with this message.
+    // None, with this message.
     Failed(Vec<u8>),
 }
 
-/// What is known after some of the lists.
+// What is known after some of the lists.
 #[derive(Drop)]
 struct CommonRanges {
-    /// The messages of those that have no range.
+    // The messages of those that have no range.
     errors: Vec<u8>,
     range: Ranges<Version>,
     cover: Ranges<Version>,
 }
 
-/// The message that the word's list has no range, unless memory ran out.
+// The message that the word's list has no range, unless an allocation failed.
 fn report_range_error(
     alloc: Global,
     word: &str,
@@ -83,7 +83,7 @@ fn convert_list(
     }
 }
 
-/// The range and the cover of the list that the word denotes, or why it has none.
+// The range and the cover of the list that the word denotes, or why it has none.
 fn read_range(alloc: Global, word: &str) -> Result<RangeReading, AllocError>
     ensures { IfOk result (λ x. ReadsRange word.now (range_reading_of x)) }
 {
@@ -98,7 +98,7 @@ fn read_range(alloc: Global, word: &str) -> Result<RangeReading, AllocError>
 }
 
 impl CommonRanges {
-    /// What is known after one list more.
+    // What is known after one list more.
     fn intersect(&mut self, alloc: Global, reading: &RangeReading) -> Result<(), AllocError>
         ensures errors { IfOk result (λ _. self.new.errors.items ≡ self.old.errors.items ++ message_in (range_reading_of reading.now)) }
         ensures range { IfOk result (λ _. self.new.range ≡ fold (overlaps record_cmp) self.old.range (ranges_in (range_reading_of reading.now))) }
@@ -130,7 +130,7 @@ fn push_range(
     push_text(output, RangeLines(range).to_string(alloc)?.as_str())
 }
 
-/// The sentence where there is no segment to print; as JSON no segments.
+// The sentence where there is no segment to print; as JSON no segments.
 fn push_sentence(output: &mut Vec<u8>, json: bool, sentence: &str) -> Result<(), AllocError>
     ensures { IfOk result (λ _. output.new.items ≡ output.old.items ++ (if json then segments_text json [] else sentence.now)) }
 {
@@ -178,7 +178,7 @@ fn print_lists(
     print_common(alloc, options.json, &found.range, &found.cover)
 }
 
-/// `range SPECS..`: the status is 0, 1 where no version is allowed by all lists, and 2 where one is invalid.
+// `range SPECS..`: the status is 0, 1 where no version is allowed by all lists, and 2 where one is invalid.
 pub(crate) fn find_common(
     alloc: Global,
     options: RangeOptions,

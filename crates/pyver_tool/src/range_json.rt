@@ -80,7 +80,7 @@ fn push_next_segments(
     Ok(())
 }
 
-/// The segments as an array at the end.
+// The segments as an array at the end.
 pub(crate) fn push_segments(
     alloc: Global,
     bytes: &mut Vec<u8>,

@@ -18,7 +18,7 @@ fn parse_operands<'a>(options: RangeOptions, words: &'a [String]) -> Command<'a>
     }
 }
 
-/// The options with what the word sets, if it is an option that sets some.
+// The options with what the word sets, if it is an option that sets some.
 fn parse_range_option(options: RangeOptions, word: &str) -> Option<RangeOptions>
     ensures { result ≡ range_option options word.now }
 {
@@ -31,7 +31,7 @@ fn parse_range_option(options: RangeOptions, word: &str) -> Option<RangeOptions>
     Some(options)
 }
 
-/// The first word is no option that sets some.
+// The first word is no option that sets some.
 fn parse_rest<'a>(
     options: RangeOptions,
     word: &'a str,
@@ -50,7 +50,7 @@ fn parse_rest<'a>(
     }
 }
 
-/// What the words behind `range` ask for.
+// What the words after `range` ask for.
 pub(crate) fn parse_range<'a>(words: &'a [String]) -> Command<'a>
     ensures { task result ≡ range_task no_range_options (map string_bytes words.now) }
 {

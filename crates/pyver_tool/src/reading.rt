@@ -7,11 +7,11 @@ ghost use Rattle.pyver_tool.specs.Readings.{Reads};
 use pep440_rs::{ErrorKind, Version, VersionParseError};
 use std::alloc::{AllocError, Global};
 
-/// What a string is read as.
+// What a string is read as.
 #[derive(Drop)]
 pub(crate) enum Reading {
     Version(Version),
-    /// No version, for this reason.
+    // No version, for this reason.
     Invalid(String),
 }
 
@@ -21,7 +21,7 @@ fn is_out_of_memory(error: &VersionParseError) -> bool
     matches!(error.kind(), ErrorKind::OutOfMemory)
 }
 
-/// The version that the string denotes, or why it denotes none.
+// The version that the string denotes, or why it denotes none.
 pub(crate) fn read_version(alloc: Global, text: &str) -> Result<Reading, AllocError>
     ensures { IfOk result (λ x. Reads text.now (reading_of x)) }
 {

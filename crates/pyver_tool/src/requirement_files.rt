@@ -16,18 +16,18 @@ use std::alloc::{AllocError, Global};
 use std::io::Read;
 use std::str;
 
-/// Requirements files that were read, and the names that were met.
+// Requirements files that were read, and the names that were met.
 #[derive(Drop)]
 pub(crate) struct RequirementFiles {
     files: Vec<SourceFile>,
-    /// The path of each of them.
+    // The path of each of them.
     paths: Vec<String>,
-    /// First those of the words, and then those that the lines of each file name.
+    // First those of the words, and then those that the lines of each file name.
     names: Vec<Vec<u8>>,
     read_count: u64,
 }
 
-/// A file that was not opened.
+// A file that was not opened.
 #[derive(Drop)]
 pub(crate) struct UnopenedFile {
     pub(crate) name: Vec<u8>,
@@ -44,7 +44,7 @@ fn copy_all(alloc: Global, names: &[String]) -> Result<Vec<Vec<u8>>, AllocError>
     Ok(copies)
 }
 
-/// The names that the words mean: these, or standard input where there are none.
+// The names that the words denote: these, or standard input where there are none.
 fn copy_names(alloc: Global, names: &[String]) -> Result<Vec<Vec<u8>>, AllocError>
     ensures { IfOk result (λ copies. map (λ name. name.items) copies.items ≡ source_names (map string_bytes names.now)) }
 {
@@ -56,7 +56,7 @@ fn copy_names(alloc: Global, names: &[String]) -> Result<Vec<Vec<u8>>, AllocErro
     Ok(copies)
 }
 
-/// The path of the source: of standard input its name.
+// The path of the source: of standard input its name.
 fn source_path<F: Files>(alloc: Global, name: &str, files: &mut F) -> Result<String, AllocError>
     ensures path { IfOk result (λ path. IsSourcePath (is_input name.now) (F.path files.old name.now) name.now (string_bytes path)) }
     ensures kept { F.known files.new ≡ F.known files.old }
@@ -76,7 +76,7 @@ impl RequirementFiles {
     ghost use Rattle.pyver_tool.specs.RequirementFiles.{StopsInFile, has_path, none_read};
     ghost use Rattle.pyver_tool.specs.SourceViews.{IsReadingStop};
 
-    /// Nothing was read yet.
+    // Nothing was read yet.
     fn new(alloc: Global, names: Vec<Vec<u8>>) -> RequirementFiles
         ensures read { read_of result ≡ none_read }
         ensures names { names_of_files result ≡ map (λ name. name.items) names.items }
@@ -90,7 +90,7 @@ impl RequirementFiles {
         }
     }
 
-    /// A source with the path was read.
+    // A source with the path was read.
     fn has_path(&self, path: &str) -> bool
         ensures { result ≡ has_path (read_of self.now) path.now }
     {
@@ -102,7 +102,7 @@ impl RequirementFiles {
         false
     }
 
-    /// A file that was read.
+    // A file that was read.
     fn push_file(
         &mut self,
         alloc: Global,
@@ -121,7 +121,7 @@ impl RequirementFiles {
         Ok(())
     }
 
-    /// Reads the source with this name, of which this is the path.
+    // Reads the source with this name, of which this is the path.
     fn read_source<R: Read>(
         &mut self,
         alloc: Global,
@@ -139,7 +139,7 @@ impl RequirementFiles {
         Ok(self.push_file(alloc, name, path, text)?)
     }
 
-    /// Reads the source with this name, of which this is the path, or returns why it is not opened.
+    // Reads the source with this name, of which this is the path, or returns why it is not opened.
     fn open_and_read<F: Files, R: Read>(
         &mut self,
         alloc: Global,
@@ -168,7 +168,7 @@ impl RequirementFiles {
         }
     }
 
-    /// Reads the source with this name, unless it was read before, or returns why it is not opened.
+    // Reads the source with this name, unless it was read before, or returns why it is not opened.
     fn read_once<F: Files, R: Read>(
         &mut self,
         alloc: Global,
@@ -189,7 +189,7 @@ impl RequirementFiles {
         self.open_and_read(alloc, name, path, files, input)
     }
 
-    /// The same; a name that is not UTF-8 is not opened.
+    // The same; a name that is not UTF-8 is not opened.
     fn read_next<F: Files, R: Read>(
         &mut self,
         alloc: Global,
@@ -209,7 +209,7 @@ impl RequirementFiles {
         }
     }
 
-    /// Reads the sources with the names in turn, up to one that is not opened.
+    // Reads the sources with the names in turn, up to one that is not opened.
     fn read_all<F: Files, R: Read>(
         &mut self,
         alloc: Global,
@@ -235,7 +235,7 @@ impl RequirementFiles {
     }
 }
 
-/// Reads the files with these names, and then those that their lines name, each once, up to one that is not opened.
+// Reads the files with these names, and then those that their lines name, each once, up to one that is not opened.
 pub(crate) fn read_files<F: Files, R: Read>(
     alloc: Global,
     names: &[String],

@@ -11,7 +11,7 @@ use crate::reading::{Reading, read_version};
 use pep440_rs::Version;
 use std::alloc::{AllocError, Global};
 
-/// What is printed of a version.
+// What is printed of a version.
 #[derive(Clone, Copy)]
 pub(crate) enum ShowFormat {
     Normal,
@@ -61,7 +61,7 @@ fn push_shown(
     }
 }
 
-/// `show V..`: a line for each version; the status is 0, or 2 where one is invalid.
+// `show V..`: a line for each version; the status is 0, or 2 where one is invalid.
 pub(crate) fn show_versions(
     alloc: Global,
     format: ShowFormat,

@@ -21,7 +21,7 @@ fn parse_operands<'a>(format: ShowFormat, words: &'a [String]) -> Command<'a>
     }
 }
 
-/// The first word is no option that sets a format.
+// The first word is no option that sets a format.
 fn parse_rest<'a>(
     format: ShowFormat,
     word: &'a str,
@@ -40,7 +40,7 @@ fn parse_rest<'a>(
     }
 }
 
-/// What the words behind `show` ask for.
+// What the words after `show` ask for.
 pub(crate) fn parse_show<'a>(words: &'a [String]) -> Command<'a>
     ensures { task result ≡ show_task (Some ShowFormat.Normal) (map string_bytes words.now) }
 {

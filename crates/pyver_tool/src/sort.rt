@@ -14,13 +14,13 @@ use pep440_rs::Version;
 use std::alloc::{AllocError, Global};
 use std::cmp::Ordering;
 
-/// How lines are sorted, and which of them are printed.
+// How lines are sorted, and which of them are printed.
 #[derive(Clone, Copy)]
 pub(crate) struct SortOptions {
     pub(crate) reversed: bool,
-    /// One of equal ones.
+    // One of equal ones.
     pub(crate) unique: bool,
-    /// So many at the end.
+    // So many at the end.
     pub(crate) last: Option<u64>,
     pub(crate) lines: LineOptions,
 }
@@ -35,7 +35,7 @@ fn compare(reversed: bool, a: &VersionLine<'_>, b: &VersionLine<'_>) -> Ordering
     }
 }
 
-/// Equal ones as they stood.
+// Equal ones as they stood.
 fn sort_lines<'a>(
     reversed: bool,
     lines: Vec<VersionLine<'a>>,
@@ -60,7 +60,7 @@ fn is_repeat(before: Option<&Version>, version: &Version) -> bool
     }
 }
 
-/// The lines as they were written, one of equal ones where that is asked for.
+// The lines as they were written, one of equal ones where that is asked for.
 fn kept_texts<'a>(
     alloc: Global,
     unique: bool,
@@ -88,7 +88,7 @@ fn last_texts<'t, 'a>(last: Option<u64>, texts: &'t [&'a [u8]]) -> &'t [&'a [u8]
     }
 }
 
-/// A line for each.
+// A line for each.
 fn push_lines(output: &mut Vec<u8>, texts: &[&[u8]]) -> Result<(), AllocError>
     ensures { IfOk result (λ _. output.new.items ≡ output.old.items ++ flat_map (λ t. t.now ++ codes "\n") texts.now) }
 {
@@ -99,7 +99,7 @@ fn push_lines(output: &mut Vec<u8>, texts: &[&[u8]]) -> Result<(), AllocError>
     Ok(())
 }
 
-/// `sort` of these lines.
+// `sort` of these lines.
 pub(crate) fn sort_versions(
     alloc: Global,
     options: SortOptions,

@@ -12,7 +12,7 @@ use crate::misuse::Misuse;
 use crate::number::parse_number;
 use crate::sort::SortOptions;
 
-/// An option that takes a value.
+// An option that takes a value.
 #[derive(Clone, Copy)]
 pub(crate) enum SortValue {
     Last,
@@ -25,7 +25,7 @@ fn is_last_option(word: &str) -> bool
     word == "-n" || word == "--last"
 }
 
-/// The option that the word names, whose value is the next word.
+// The option that the word names, whose value is the next word.
 fn parse_sort_value(word: &str) -> Option<SortValue>
     ensures { result ≡ sort_value_of word.now }
 {
@@ -38,7 +38,7 @@ fn parse_sort_value(word: &str) -> Option<SortValue>
     }
 }
 
-/// The options with what the word sets, if it is an option that sets some alone.
+// The options with what the word sets, if it is an option without a value.
 fn parse_sort_option(options: SortOptions, word: &str) -> Option<SortOptions>
     ensures { result ≡ sort_option options word.now }
 {
@@ -56,7 +56,7 @@ fn parse_sort_option(options: SortOptions, word: &str) -> Option<SortOptions>
     Some(options)
 }
 
-/// The first word is no option that sets some.
+// The first word is no option that sets some.
 fn parse_sort_rest<'a>(
     options: SortOptions,
     word: &'a str,
@@ -77,7 +77,7 @@ fn parse_sort_rest<'a>(
     }
 }
 
-/// The options with this value, where it is one.
+// The options with this value, where it is one.
 fn with_sort_value(options: SortOptions, name: SortValue, value: &str) -> Option<SortOptions>
     ensures { result ≡ with_sort_value options name value.now }
 {
@@ -98,7 +98,7 @@ fn wrong_value<'a>(name: SortValue, value: &'a str) -> Misuse<'a>
     }
 }
 
-/// The options with the value, which is the next word, and the words after it.
+// The options with the value, which is the next word, and the words after it.
 fn take_sort_value<'a>(
     options: SortOptions,
     name: SortValue,
@@ -117,7 +117,7 @@ fn take_sort_value<'a>(
     }
 }
 
-/// What the words behind `sort` ask for.
+// What the words after `sort` ask for.
 pub(crate) fn parse_sort<'a>(words: &'a [String]) -> Command<'a>
     ensures { task result ≡ sort_task no_sort_options None (map string_bytes words.now) }
 {

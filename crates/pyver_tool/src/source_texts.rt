@@ -15,21 +15,21 @@ use crate::stream::Stop;
 use std::alloc::Global;
 use std::io::Read;
 
-/// A source that was read to its end.
+// A source that was read to its end.
 #[derive(Drop)]
 pub(crate) struct SourceText<'a> {
     pub(crate) origin: Origin<'a>,
     pub(crate) text: Vec<u8>,
 }
 
-/// The sources that were read to their ends, and how many reads were made.
+// The sources that were read to their ends, and how many reads were made.
 #[derive(Drop)]
 pub(crate) struct SourceTexts<'a> {
     pub(crate) texts: Vec<SourceText<'a>>,
     pub(crate) read_count: u64,
 }
 
-/// What is left of the source with this name.
+// What is left of the source with this name.
 pub(crate) fn read_text<R: Read>(
     alloc: Global,
     name: &str,
@@ -58,7 +58,7 @@ pub(crate) fn read_text<R: Read>(
     Err(stop_reading(alloc, name))
 }
 
-/// Reads a source.
+// Reads a source.
 fn read_source<'a, R: Read>(
     alloc: Global,
     origin: Origin<'a>,
@@ -76,7 +76,7 @@ fn read_source<'a, R: Read>(
     Ok(())
 }
 
-/// Reads the source with this name, or returns why it is not opened.
+// Reads the source with this name, or returns why it is not opened.
 fn open_and_read<'a, F: Files, R: Read>(
     alloc: Global,
     origin: Origin<'a>,
@@ -104,7 +104,7 @@ fn open_and_read<'a, F: Files, R: Read>(
     }
 }
 
-/// Reads the sources with these names, up to one that is not opened.
+// Reads the sources with these names, up to one that is not opened.
 fn read_all<'a, F: Files, R: Read>(
     alloc: Global,
     names: &'a [String],
@@ -130,7 +130,7 @@ fn read_all<'a, F: Files, R: Read>(
     Ok(None)
 }
 
-/// Reads the sources that the names mean, up to one that is not opened.
+// Reads the sources that the names denote, up to one that is not opened.
 pub(crate) fn read_sources<'a, F: Files, R: Read>(
     alloc: Global,
     names: &'a [String],

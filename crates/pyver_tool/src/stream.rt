@@ -8,15 +8,15 @@ ghost use Rattle.pyver_tool.specs.declared.stream.Stop.TheVariants.{OutOfMemory}
 use std::alloc::{AllocError, AllocFailed};
 use std::io::{ErrorKind, Write};
 
-/// Why not all was written.
+// Why not all was written.
 #[derive(Clone, Copy)]
 pub(crate) enum WriteFailure {
-    /// Nobody reads what is written.
+    // Nobody reads what is written.
     BrokenPipe,
     Other,
 }
 
-/// Writes all of it and flushes. Where a call failed or took no byte, a beginning was written.
+// Writes all of it and flushes. Where a call failed or took no byte, a beginning was written.
 pub(crate) fn write_whole<W: Write>(writer: &mut W, bytes: &[u8]) -> Result<(), WriteFailure>
     ensures whole { OnOk result (Appends (W.contents writer.old) (W.contents writer.new) bytes.now) }
     ensures beginning { WroteBeginning (W.contents writer.old) (W.contents writer.new) bytes.now }
@@ -48,17 +48,17 @@ fn failure(kind: ErrorKind) -> WriteFailure {
     }
 }
 
-/// Why a run stopped before its end.
+// Why a run stopped before its end.
 #[derive(Drop)]
 pub(crate) enum Stop {
     OutOfMemory,
-    /// A read of standard input.
+    // A read of standard input.
     Read,
-    /// A read of a file, with its message.
+    // A read of a file, with its message.
     ReadFile(Vec<u8>),
-    /// A write of the output.
+    // A write of the output.
     Output(WriteFailure),
-    /// A write of the errors, after the output.
+    // A write of the errors, after the output.
     Errors(WriteFailure),
 }
 
@@ -78,7 +78,7 @@ impl<T: Drop> From<AllocFailed<T>> for Stop {
     }
 }
 
-/// Writes the output and then the errors. Where a call failed or took no byte, a beginning of each was written.
+// Writes the output and then the errors. Where a call failed or took no byte, a beginning of each was written.
 pub(crate) fn write_both<W: Write, E: Write>(
     out: &mut W,
     err: &mut E,

@@ -14,29 +14,29 @@ use crate::source_texts::SourceText;
 use pep440_rs::Version;
 use std::alloc::{AllocError, Global};
 
-/// A line as it was written, and its version.
+// A line as it was written, and its version.
 #[derive(Drop)]
 pub(crate) struct VersionLine<'a> {
     pub(crate) text: &'a [u8],
     pub(crate) version: Version,
 }
 
-/// The lines by what they are, and what is to be said of the invalid ones.
+// The lines by what they are, and the messages of the invalid ones.
 #[derive(Drop)]
 pub(crate) struct VersionLines<'a> {
-    /// How many lines of the source were read that is read last.
+    // How many lines of the source were read that is read last.
     line_count: u64,
-    /// The header of the first source and its newline, where there is one.
+    // The header of the first source and its newline, where there is one.
     pub(crate) header: Vec<u8>,
     pub(crate) versions: Vec<VersionLine<'a>>,
-    /// The invalid lines, where they are kept.
+    // The invalid lines, where they are kept.
     pub(crate) invalid: Vec<&'a [u8]>,
-    /// How many lines were invalid.
+    // How many lines were invalid.
     pub(crate) fault_count: u64,
     pub(crate) errors: Vec<u8>,
 }
 
-/// The first line, and what stands behind its newline if it has one.
+// The first line, and what stands after its newline if it has one.
 fn split_line(input: &[u8]) -> (&[u8], Option<&[u8]>)
     ensures lines { input_lines input.now ≡ result.0.now ∷ option_map_or (λ rest. input_lines rest.now) result.1 [] }
     ensures shorter { IfSome result.1 (λ rest. length rest.now < length input.now) }
@@ -49,7 +49,7 @@ fn split_line(input: &[u8]) -> (&[u8], Option<&[u8]>)
     (input, None)
 }
 
-/// One more invalid line, where such lines are kept.
+// One more invalid line, where such lines are kept.
 fn keep_text<'a>(
     how: InvalidLines,
     kept: &mut Vec<&'a [u8]>,
@@ -163,7 +163,7 @@ impl<'a> VersionLines<'a> {
         }
     }
 
-    /// One more line of a source.
+    // One more line of a source.
     fn push_line(
         &mut self,
         alloc: Global,
@@ -190,7 +190,7 @@ impl<'a> VersionLines<'a> {
         Ok(())
     }
 
-    /// The lines of one more source.
+    // The lines of one more source.
     fn push_source(
         &mut self,
         alloc: Global,
@@ -212,7 +212,7 @@ impl<'a> VersionLines<'a> {
         Ok(())
     }
 
-    /// What is said of invalid lines at the end.
+    // Pushes the message of the invalid lines at the end.
     fn finish(&mut self, alloc: Global, options: LineOptions) -> Result<(), AllocError>
         ensures { IfOk result (λ _. (lines : List SourceLine) → KeepsLines options lines self.old → IsOfLines options lines self.new) }
     {
@@ -222,7 +222,7 @@ impl<'a> VersionLines<'a> {
         Ok(())
     }
 
-    /// The status by the invalid lines.
+    // The status by the invalid lines.
     pub(crate) fn status(&self, options: LineOptions) -> u8
         ensures is { result ≡ lines_status options.invalid self.now.fault_count }
         ensures known { result ≤ 2 }
@@ -230,7 +230,7 @@ impl<'a> VersionLines<'a> {
         options.invalid.status(self.fault_count)
     }
 
-    /// The lines of the sources.
+    // The lines of the sources.
     pub(crate) fn read(
         alloc: Global,
         options: LineOptions,

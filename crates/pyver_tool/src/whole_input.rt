@@ -24,7 +24,7 @@ use crate::version_line::VersionLines;
 use std::alloc::{AllocError, Global};
 use std::io::{Read, Write};
 
-/// What is asked of all lines together.
+// What is asked of all lines together.
 #[derive(Drop)]
 pub(crate) enum Question {
     Sort(SortOptions),
@@ -32,7 +32,7 @@ pub(crate) enum Question {
     Bump(BumpRule),
 }
 
-/// How lines are read.
+// How lines are read.
 fn question_lines(question: &Question) -> LineOptions
     ensures { result ≡ question_lines question.now }
 {
@@ -43,7 +43,7 @@ fn question_lines(question: &Question) -> LineOptions
     }
 }
 
-/// What is to be written of these lines, of which no invalid one is an error.
+// What is to be written of these lines, of which no invalid one is an error.
 fn answer_valid(
     alloc: Global,
     question: &Question,
@@ -58,7 +58,7 @@ fn answer_valid(
     }
 }
 
-/// The same of any lines: nothing is printed where invalid lines are an error and there are some.
+// The same of any lines: nothing is printed where invalid lines are an error and there are some.
 fn answer_lines(
     alloc: Global,
     question: &Question,
@@ -77,7 +77,7 @@ fn answer_lines(
     answer_valid(alloc, question, lines)
 }
 
-/// The message of a file that is not opened, and nothing else.
+// The message of a file that is not opened, and nothing else.
 fn report_open_failure(alloc: Global, file: Unopened<'_>) -> Result<Answer, AllocError>
     ensures { IfOk result (λ a. outcome_of a ≡ unopened_outcome (unopened_of file.entry)) }
 {
@@ -90,7 +90,7 @@ fn report_open_failure(alloc: Global, file: Unopened<'_>) -> Result<Answer, Allo
     Ok(answer)
 }
 
-/// What is to be written of these sources, behind which a file may not be opened.
+// What is to be written of these sources, after which a file may not be opened.
 fn answer_sources(
     alloc: Global,
     question: &Question,
@@ -107,7 +107,7 @@ fn answer_sources(
     answer_lines(alloc, question, lines)
 }
 
-/// Writes the answer to the question, once all sources are read, and returns the status.
+// Writes the answer to the question, once all sources are read, and returns the status.
 pub(crate) fn answer_input<F: Files, R: Read, W: Write, E: Write>(
     alloc: Global,
     question: &Question,

@@ -3,7 +3,7 @@ use pep440_change_words::{ChangeWordError, parse_change};
 use pep440_version::Change;
 use std::alloc::Global;
 
-// The change, asked for again where memory was refused.
+// The change, asked for again where an allocation failed.
 fn change(alloc: Global, word: &str) -> Result<Change, ChangeWordError> {
     match parse_change(alloc, word) {
         Err(ChangeWordError::OutOfMemory) => parse_change(alloc, word),

@@ -1,10 +1,10 @@
-//! Input that is no text; a refused list cut anywhere; runs of `filter` and `pick` over readers and writers that fail.
+//! Input that is not UTF-8; an invalid list cut anywhere; runs of `filter` and `pick` over readers and writers that fail.
 use super::support::{answered, run_over, split_words, words_of};
 use std::alloc::{AllocError, Global};
 use std::test::Fail;
 use testing::{After, Manner, Trickle};
 
-// The text of the list `>=1.0, =>2`, which is refused.
+// The text of the list `>=1.0, =>2`, which is invalid.
 const REFUSED_LIST: &str =
     "error: Failed to parse version: no such comparison operator \"=>\", must be one of ~= == != <= >= < > ===:\n>=1.0, =>2\n      ^^^^\n";
 
@@ -37,7 +37,7 @@ fn sweep_filter_of_no_text(rt: HostRuntime) -> Result<(), Fail> {
     Ok(())
 }
 
-/// A refused list goes out as far as the writer takes it.
+// The error of an invalid list goes out as far as the writer takes it.
 #[test]
 fn refusals_cut_anywhere(rt: HostRuntime) -> Result<(), Fail> {
     let words = words_of(rt.alloc(), &["match", ">=1.0, =>2", "1"])?;
@@ -125,8 +125,8 @@ fn goes_so(alloc: Global, run: Run) -> Result<bool, AllocError> {
     Ok(status == want && sink.bytes() == wrote.as_bytes() && input.calls == calls)
 }
 
-/// The whole input is read before the words are tested, until the reader gives the end, fails, or was asked 1048576
-/// times; and then no more than a beginning is written.
+// The whole input is read before the words are tested, until the reader gives the end, fails, or was asked 1048576
+// times; and then no more than a beginning is written.
 #[test]
 fn filters_that_fail(rt: HostRuntime) -> Result<(), Fail> {
     for run in RUNS {

@@ -1,4 +1,4 @@
-//! Runs of `pyver` over writers that fail, and runs that read nothing, with each request for memory refused in turn.
+//! Runs of `pyver` over writers that fail, and runs that read nothing, with each allocation failing in turn.
 use super::no_files::NoFiles;
 use super::support::split_words;
 use pyver_tool::run;

@@ -1,4 +1,4 @@
-//! Runs of `pyver` over lines that are not UTF-8, and over many invalid lines, with each request for memory refused in turn.
+//! Runs of `pyver` over lines that are not UTF-8, and over many invalid lines, with each allocation failing in turn.
 use super::no_files::NoFiles;
 use super::pyver::{LACK, ends_with};
 use super::support::split_words;

@@ -1,4 +1,4 @@
-//! Runs of `pyver` that a reader or a writer stops, with each request for memory refused in turn.
+//! Runs of `pyver` that a reader or a writer stops, with each allocation failing in turn.
 use super::no_files::NoFiles;
 use super::pyver::ends_with;
 use super::support::split_words;

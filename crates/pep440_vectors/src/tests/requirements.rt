@@ -1,4 +1,4 @@
-//! Requirements of more than 65,536 bytes: the reader does not give up because a text is long. Their parts.
+//! Requirements of more than 65,536 bytes: the reader does not give up because a string is long. Their parts.
 use pep440_pick::Requirement;
 use std::test::Fail;
 

@@ -5,7 +5,7 @@ use std::io::Read;
 use std::test::Fail;
 use testing::{Manner, Sink};
 
-/// Gives its text a byte a call, and keeps the least room that it was given.
+// Gives its text a byte a call, and keeps the least room that it was given.
 #[derive(Drop)]
 struct Measured<'a> {
     text: &'a [u8],

@@ -14,7 +14,7 @@ fn words_once(alloc: Global, texts: &[&str]) -> Result<Vec<String>, AllocError> 
     Ok(words)
 }
 
-/// The words, asked for again where memory was refused.
+/// The words, asked for again where an allocation failed.
 pub fn words_of(alloc: Global, texts: &[&str]) -> Result<Vec<String>, AllocError> {
     match words_once(alloc, texts) {
         Ok(words) => Ok(words),
@@ -22,7 +22,7 @@ pub fn words_of(alloc: Global, texts: &[&str]) -> Result<Vec<String>, AllocError
     }
 }
 
-/// The words of a line, each between two bars; asked for again where memory was refused.
+/// The words of a line, each between two bars; asked for again where an allocation failed.
 pub fn split_words(alloc: Global, line: &str) -> Result<Vec<String>, AllocError> {
     match testing::split_words(alloc, line) {
         Ok(words) => Ok(words),
@@ -30,7 +30,7 @@ pub fn split_words(alloc: Global, line: &str) -> Result<Vec<String>, AllocError>
     }
 }
 
-/// What the words answer, asked again where memory was refused.
+/// What the words print, asked again where an allocation failed.
 pub fn answered(alloc: Global, words: &[String], input: &[u8]) -> Result<Answer, AllocError> {
     match answer(alloc, words, input) {
         Ok(said) => Ok(said),

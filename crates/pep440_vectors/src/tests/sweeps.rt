@@ -1,4 +1,4 @@
-//! Runs over writers that fail, with each request for memory refused in turn.
+//! Runs over writers that fail, with each allocation failing in turn.
 use super::support::{run_over, split_words};
 use std::alloc::Global;
 use std::test::Fail;

@@ -1,4 +1,4 @@
-//! Copies of lines, with each request for memory refused in turn.
+//! Copies of lines, with each allocation failing in turn.
 use pyver_findings::FileLine;
 use std::alloc::{AllocError, Global};
 use std::test::Fail;

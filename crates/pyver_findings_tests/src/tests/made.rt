@@ -1,4 +1,4 @@
-//! Two hundred made files: two lines of one name among lines of every kind, and what is found follows from the two alone.
+//! Two hundred made files: two lines of one name among lines of every kind, and what is found follows from only the two.
 use pyver_findings::{Conflict, Finding, Report, SourceFile, find_problems};
 use std::alloc::{AllocError, Global};
 use std::test::Fail;
@@ -23,7 +23,7 @@ const OTHERS: [(&str, u64); 16] = [
     ("free[one]<9 --hash=sha256:0a --hash=sha256:0b\n", 1),
 ];
 
-// What stands before and behind a list in a line that asks for a version, and the number of physical lines.
+// What stands before and after a list in a line that asks for a version, and the number of physical lines.
 const FORMS: [(&str, &str, u64); 8] = [
     ("demo", "\n", 1),
     ("demo[one,two] ", "\n", 1),
