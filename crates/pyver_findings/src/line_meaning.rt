@@ -8,7 +8,7 @@ use crate::cause::Cause;
 use crate::demand::Demand;
 use crate::file_line::FileLine;
 use crate::finding::Finding;
-use crate::requirement::{read_requirement, reject};
+use crate::requirement::{parse_requirement, reject};
 use pyver_requirements::{LineKind, classify, has_variable};
 use std::alloc::{AllocError, Global};
 
@@ -51,7 +51,11 @@ fn name_file(path: &[u8]) -> LineMeaning
     }
 }
 
-fn read_kind(alloc: Global, line: &FileLine, kind: LineKind<'_>) -> Result<LineMeaning, AllocError>
+fn interpret_kind(
+    alloc: Global,
+    line: &FileLine,
+    kind: LineKind<'_>,
+) -> Result<LineMeaning, AllocError>
     ensures { IfOk result (λ x. IsKindMeaning (file_line_of line.now) (line_kind_of kind.entry) (line_meaning_of x)) }
 {
     match kind {
@@ -62,13 +66,13 @@ fn read_kind(alloc: Global, line: &FileLine, kind: LineKind<'_>) -> Result<LineM
         LineKind::PipOption => Ok(LineMeaning::LeftOut(Cause::PipOption)),
         LineKind::Variable => Ok(LineMeaning::LeftOut(Cause::Variable)),
         LineKind::Location => Ok(LineMeaning::LeftOut(Cause::Location)),
-        LineKind::Requirement => read_requirement(alloc, line),
+        LineKind::Requirement => parse_requirement(alloc, line),
     }
 }
 
 // What the line is.
-pub(crate) fn read_line(alloc: Global, line: &FileLine) -> Result<LineMeaning, AllocError>
+pub(crate) fn parse_line(alloc: Global, line: &FileLine) -> Result<LineMeaning, AllocError>
     ensures { IfOk result (λ x. IsMeaning (file_line_of line.now) (line_meaning_of x)) }
 {
-    read_kind(alloc, line, classify(line.text.as_slice()))
+    interpret_kind(alloc, line, classify(line.text.as_slice()))
 }

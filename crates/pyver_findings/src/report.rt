@@ -9,7 +9,7 @@ use crate::conflicts::push_conflicts;
 use crate::demand::Demand;
 use crate::file_line::{FileLine, SourceFile, all_lines};
 use crate::finding::Finding;
-use crate::line_meaning::{LineMeaning, read_line};
+use crate::line_meaning::{LineMeaning, parse_line};
 use std::alloc::{AllocError, Global};
 
 /// What is wrong in requirements files, and how much of them was read.
@@ -49,7 +49,7 @@ impl Readings {
     }
 }
 
-fn read_lines(alloc: Global, lines: &[FileLine]) -> Result<Readings, AllocError>
+fn parse_lines(alloc: Global, lines: &[FileLine]) -> Result<Readings, AllocError>
     ensures { IfOk result (KeepsReadings (map file_line_of lines.now)) }
 {
     let mut readings = Readings {
@@ -58,7 +58,7 @@ fn read_lines(alloc: Global, lines: &[FileLine]) -> Result<Readings, AllocError>
         left_out: Vec::new(alloc),
     };
     for line in lines {
-        let reading = read_line(alloc, line)?;
+        let reading = parse_line(alloc, line)?;
         readings.push(reading)?;
     }
     Ok(readings)
@@ -75,7 +75,7 @@ pub fn find_problems(alloc: Global, files: &[SourceFile]) -> Result<Report, Allo
     ensures { IfOk result (λ r. IsReport (map file_of files.now) (report_of r)) }
 {
     let lines = all_lines(alloc, files)?;
-    let readings = read_lines(alloc, lines.as_slice())?;
+    let readings = parse_lines(alloc, lines.as_slice())?;
     let mut findings = readings.invalid;
     push_conflicts(alloc, &mut findings, readings.demands.as_slice())?;
     Ok(Report {

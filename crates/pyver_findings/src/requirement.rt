@@ -57,7 +57,7 @@ fn print_reason(alloc: Global, error: &RequirementError) -> Result<String, Alloc
     }
 }
 
-fn read_error(
+fn reject_error(
     alloc: Global,
     line: &FileLine,
     parts: LineParts<'_>,
@@ -73,7 +73,7 @@ fn read_error(
 }
 
 // What the line is, which has a URL.
-fn read_before_url(
+fn interpret_before_url(
     alloc: Global,
     line: &FileLine,
     column: usize,
@@ -88,7 +88,7 @@ fn read_before_url(
 }
 
 // What the line is, by what stands after `@`.
-fn read_url(
+fn interpret_url(
     alloc: Global,
     line: &FileLine,
     parts: LineParts<'_>,
@@ -100,12 +100,12 @@ fn read_url(
     match parts.url {
         None => Ok(LineMeaning::Asks(Demand::new(alloc, line, parts.marker, requirement)?)),
         Some([]) => reject(alloc, line, "no URL follows '@'", column),
-        Some([_, ..]) => read_before_url(alloc, line, column, requirement),
+        Some([_, ..]) => interpret_before_url(alloc, line, column, requirement),
     }
 }
 
 // What the line is, by what stands after `;` and `@`.
-fn read_rest(
+fn interpret_marker(
     alloc: Global,
     line: &FileLine,
     parts: LineParts<'_>,
@@ -120,11 +120,11 @@ fn read_rest(
             "no marker follows ';'",
             parts.requirement.len(),
         ),
-        _ => read_url(alloc, line, parts, requirement),
+        _ => interpret_url(alloc, line, parts, requirement),
     }
 }
 
-fn read_parts(
+fn parse_parts(
     alloc: Global,
     line: &FileLine,
     parts: LineParts<'_>,
@@ -135,14 +135,14 @@ fn read_parts(
         return reject(alloc, line, "not UTF-8", 0);
     };
     match Requirement::from_str(alloc, text) {
-        Ok(requirement) => read_rest(alloc, line, parts, &requirement),
-        Err(error) => read_error(alloc, line, parts, &error),
+        Ok(requirement) => interpret_marker(alloc, line, parts, &requirement),
+        Err(error) => reject_error(alloc, line, parts, &error),
     }
 }
 
 // What the line is, which is a requirement or none.
-pub(crate) fn read_requirement(alloc: Global, line: &FileLine) -> Result<LineMeaning, AllocError>
+pub(crate) fn parse_requirement(alloc: Global, line: &FileLine) -> Result<LineMeaning, AllocError>
     ensures { IfOk result (λ x. IsPartsMeaning (file_line_of line.now) (line_parts (file_line_of line.now).text) (line_meaning_of x)) }
 {
-    read_parts(alloc, line, split_requirement(line.text.as_slice()))
+    parse_parts(alloc, line, split_requirement(line.text.as_slice()))
 }

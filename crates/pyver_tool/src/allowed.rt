@@ -7,7 +7,7 @@ ghost use Rattle.pyver_tool.specs.Outcomes.{followed_by};
 
 use crate::answer::Answer;
 use crate::prerelease::{Prereleases, allows, takes_prereleases};
-use crate::reading::{Reading, read_version};
+use crate::reading::{Reading, parse_version};
 use pep440_rs::{SpecifiersErrorKind, VersionSpecifiers, VersionSpecifiersParseError};
 use pyver_findings::{push_escaped, push_escaped_lines};
 use std::alloc::{AllocError, Global};
@@ -34,7 +34,7 @@ fn is_out_of_memory(error: &VersionSpecifiersParseError) -> bool
 }
 
 // The list that the string denotes, or why it denotes none.
-pub(crate) fn read_specifiers(alloc: Global, text: &str) -> Result<SpecifiersReading, AllocError>
+pub(crate) fn parse_specifiers(alloc: Global, text: &str) -> Result<SpecifiersReading, AllocError>
     ensures { IfOk result (λ x. ReadsSpecifiers text.now (specifiers_reading_of x)) }
 {
     match VersionSpecifiers::from_str(alloc, text) {
@@ -117,7 +117,7 @@ fn match_words(
 {
     let mut answer = Answer::silent(alloc, 0);
     for word in words {
-        let reading = read_version(alloc, word.as_str())?;
+        let reading = parse_version(alloc, word.as_str())?;
         push_reading(
             alloc,
             &mut answer,
@@ -140,7 +140,7 @@ pub(crate) fn match_versions(
 ) -> Result<Answer, AllocError>
     ensures { IfOk result (λ a. Matches options specifiers.now (map string_bytes words.now) (outcome_of a)) }
 {
-    match read_specifiers(alloc, specifiers)? {
+    match parse_specifiers(alloc, specifiers)? {
         SpecifiersReading::Specifiers(list) => {
             let takes = takes_prereleases(options.prereleases, &list);
             match_words(alloc, options.quiet, takes, &list, words)

@@ -9,7 +9,7 @@ ghost use Rattle.pyver_tool.specs.Outcomes.{followed_by};
 use crate::answer::Answer;
 use crate::json::push_text;
 use crate::part::{base_version, release_number};
-use crate::reading::{Reading, read_version};
+use crate::reading::{Reading, parse_version};
 use pep440_rs::{Prerelease, PrereleaseKind, Version};
 use std::alloc::{AllocError, Global};
 
@@ -344,7 +344,7 @@ pub(crate) fn bump_version(
     ensures { IfOk result (λ a. Bumps to parts.now word.now (outcome_of a)) }
 {
     let mut answer = Answer::silent(alloc, 0);
-    match read_version(alloc, word)? {
+    match parse_version(alloc, word)? {
         Reading::Version(version) => {
             let bumped = bump(alloc, to, parts, &version)?;
             push_result(alloc, &mut answer, word.as_bytes(), &bumped)?;

@@ -8,7 +8,7 @@ ghost use Rattle.pyver_tool.specs.TaskViews.{misuse_message};
 ghost use Rattle.pyver_tool.specs.WorkViews.{IsWork};
 
 use crate::allowed::{
-    MatchOptions, SpecifiersReading, match_versions, push_list_fault, read_specifiers,
+    MatchOptions, SpecifiersReading, match_versions, parse_specifiers, push_list_fault,
 };
 use crate::answer::Answer;
 use crate::bump::{bump_version, parse_bump_part};
@@ -253,7 +253,7 @@ fn start_filter<'a>(
 ) -> Result<Work<'a>, AllocError>
     ensures { IfOk result (λ w. IsWork (Filter options specifiers.now (map string_bytes names.now)) w) }
 {
-    match read_specifiers(alloc, specifiers)? {
+    match parse_specifiers(alloc, specifiers)? {
         SpecifiersReading::Specifiers(list) => {
             let takes = takes_prereleases(options.prereleases, &list);
             let rule = FilterRule {
@@ -281,7 +281,7 @@ fn start_newest<'a>(
 ) -> Result<Work<'a>, AllocError>
     ensures { IfOk result (λ w. IsWork (Newest options specifiers.now (map string_bytes names.now)) w) }
 {
-    match read_specifiers(alloc, specifiers)? {
+    match parse_specifiers(alloc, specifiers)? {
         SpecifiersReading::Specifiers(list) => {
             let rule = NewestRule {
                 prereleases: options.prereleases,

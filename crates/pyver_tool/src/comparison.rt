@@ -4,7 +4,7 @@ ghost use Rattle.pyver_tool.specs.AnswerViews.{outcome_of};
 ghost use Rattle.pyver_tool.specs.Comparisons.{Compares, comparison_of, holds};
 
 use crate::answer::Answer;
-use crate::reading::{Reading, read_version};
+use crate::reading::{Reading, parse_version};
 use std::alloc::{AllocError, Global};
 use std::cmp::Ordering;
 
@@ -62,8 +62,8 @@ pub(crate) fn compare(
 ) -> Result<Answer, AllocError>
     ensures { IfOk result (λ a. Compares left.now comparison right.now (outcome_of a)) }
 {
-    let first = read_version(alloc, left)?;
-    let second = read_version(alloc, right)?;
+    let first = parse_version(alloc, left)?;
+    let second = parse_version(alloc, right)?;
     if let (Reading::Version(a), Reading::Version(b)) = (&first, &second) {
         let status = if holds(comparison, a.cmp(b)) { 0 } else { 1 };
         return Ok(Answer::silent(alloc, status));

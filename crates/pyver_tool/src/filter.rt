@@ -6,7 +6,7 @@ ghost use Rattle.pyver_tool.specs.Sources.{unopened_message, unopened_status};
 ghost use Rattle.pyver_tool.specs.SourceViews.{unopened_of};
 
 use crate::line_options::LineOptions;
-use crate::lines::{is_blank, line_text, read_line};
+use crate::lines::{is_blank, line_text, parse_line};
 use crate::open_failure::{OpenFailure, push_file_fault};
 use crate::origin::Origin;
 use crate::prerelease::{Prereleases, allows};
@@ -224,7 +224,7 @@ impl FilterState {
             self.push_header(rule, origin, text)?;
             return Ok(());
         }
-        let reading = read_line(alloc, rule.lines, text)?;
+        let reading = parse_line(alloc, rule.lines, text)?;
         self.push_reading(alloc, rule, origin, text, &reading)?;
         Ok(())
     }

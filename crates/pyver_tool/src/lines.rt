@@ -7,7 +7,7 @@ ghost use Rattle.pyver_tool.specs.ReadLines.{ReadsBytes, ReadsLine};
 
 use crate::fields::{find_field, print_no_field};
 use crate::line_options::LineOptions;
-use crate::reading::{Reading, read_version};
+use crate::reading::{Reading, parse_version};
 use std::alloc::{AllocError, Global};
 
 fn without_mark(line: &[u8]) -> &[u8]
@@ -47,7 +47,7 @@ pub(crate) fn is_blank(text: &[u8]) -> bool
 }
 
 // The version that the line denotes, or why it denotes none.
-pub(crate) fn read_line(
+pub(crate) fn parse_line(
     alloc: Global,
     options: LineOptions,
     text: &[u8],
@@ -55,19 +55,19 @@ pub(crate) fn read_line(
     ensures { IfOk result (λ x. ReadsLine options text.now (reading_of x)) }
 {
     let Some(number) = options.field else {
-        return read_bytes(alloc, text);
+        return parse_bytes(alloc, text);
     };
     match find_field(number, options.delimiter, text) {
-        Some(field) => read_bytes(alloc, field),
+        Some(field) => parse_bytes(alloc, field),
         None => Ok(Reading::Invalid(print_no_field(alloc, number)?)),
     }
 }
 
-fn read_bytes(alloc: Global, text: &[u8]) -> Result<Reading, AllocError>
+fn parse_bytes(alloc: Global, text: &[u8]) -> Result<Reading, AllocError>
     ensures { IfOk result (λ x. ReadsBytes text.now (reading_of x)) }
 {
     match std::str::from_utf8(text) {
-        Ok(text) => read_version(alloc, text),
+        Ok(text) => parse_version(alloc, text),
         Err(_) => Ok(Reading::Invalid(String::from_str(alloc, "not UTF-8")?)),
     }
 }

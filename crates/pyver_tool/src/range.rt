@@ -8,7 +8,7 @@ ghost use Rattle.pyver_tool.specs.AnswerViews.{outcome_of};
 ghost use Rattle.pyver_tool.specs.CommonRanges.{FindsCommon, HasNone, ReadsRange, common_outcome, covers_in, lists_outcome, message_in, no_version_text, perhaps_text, ranges_in, segments_text, with_cover};
 ghost use Rattle.pyver_tool.specs.RangeViews.{range_reading_of};
 
-use crate::allowed::{SpecifiersReading, push_list_message, read_specifiers};
+use crate::allowed::{SpecifiersReading, parse_specifiers, push_list_message};
 use crate::answer::{Answer, push_fault};
 use crate::json::push_text;
 use crate::range_json::push_segments;
@@ -84,10 +84,10 @@ fn convert_list(
 }
 
 // The range and the cover of the list that the word denotes, or why it has none.
-fn read_range(alloc: Global, word: &str) -> Result<RangeReading, AllocError>
+fn parse_list_range(alloc: Global, word: &str) -> Result<RangeReading, AllocError>
     ensures { IfOk result (λ x. ReadsRange word.now (range_reading_of x)) }
 {
-    match read_specifiers(alloc, word)? {
+    match parse_specifiers(alloc, word)? {
         SpecifiersReading::Specifiers(list) => convert_list(alloc, word, list),
         SpecifiersReading::Invalid(reason) => {
             let mut message = Vec::new(alloc);
@@ -192,7 +192,7 @@ pub(crate) fn find_common(
         cover: Ranges::full(alloc)?,
     };
     for word in words {
-        let reading = read_range(alloc, word.as_str())?;
+        let reading = parse_list_range(alloc, word.as_str())?;
         found.intersect(alloc, &reading)?;
     }
     let answer = print_lists(alloc, options, found)?;

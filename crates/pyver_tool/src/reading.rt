@@ -22,7 +22,7 @@ fn is_out_of_memory(error: &VersionParseError) -> bool
 }
 
 // The version that the string denotes, or why it denotes none.
-pub(crate) fn read_version(alloc: Global, text: &str) -> Result<Reading, AllocError>
+pub(crate) fn parse_version(alloc: Global, text: &str) -> Result<Reading, AllocError>
     ensures { IfOk result (λ x. Reads text.now (reading_of x)) }
 {
     match Version::from_str(alloc, text) {

@@ -7,7 +7,7 @@ ghost use Rattle.pyver_tool.specs.Shows.{Shows, show_outcome, show_line, show_te
 use crate::answer::Answer;
 use crate::json::{push_object, push_text};
 use crate::part::{VersionPart, part_text};
-use crate::reading::{Reading, read_version};
+use crate::reading::{Reading, parse_version};
 use pep440_rs::Version;
 use std::alloc::{AllocError, Global};
 
@@ -71,7 +71,7 @@ pub(crate) fn show_versions(
 {
     let mut answer = Answer::silent(alloc, 0);
     for word in words {
-        let reading = read_version(alloc, word.as_str())?;
+        let reading = parse_version(alloc, word.as_str())?;
         push_shown(alloc, &mut answer, format, word.as_str(), &reading)?;
     }
     Ok(answer)

@@ -7,7 +7,7 @@ ghost use Rattle.pyver_tool.specs.VersionLines.{kept_text};
 use crate::filter::push_line_fault;
 use crate::invalid_lines::InvalidLines;
 use crate::line_options::LineOptions;
-use crate::lines::{is_blank, line_text, read_line};
+use crate::lines::{is_blank, line_text, parse_line};
 use crate::origin::Origin;
 use crate::reading::Reading;
 use crate::source_texts::SourceText;
@@ -185,7 +185,7 @@ impl<'a> VersionLines<'a> {
             self.push_header(options, origin, text)?;
             return Ok(());
         }
-        let reading = read_line(alloc, options, text)?;
+        let reading = parse_line(alloc, options, text)?;
         self.push_reading(alloc, options, origin, text, reading)?;
         Ok(())
     }

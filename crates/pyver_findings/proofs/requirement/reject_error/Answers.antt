@@ -9,7 +9,7 @@ use Rattle.pyver_findings.specs.LineMeanings.{IsNone, refusal_meaning, requireme
 use Rattle.pyver_findings.specs.Views.{file_line_of, line_meaning_of}
 use Rattle.pyver_requirements.specs.LinePartViews.{line_parts_of}
 use Rattle.pyver_findings.proofs.Reasons.{reason_is, refusal_in}
-use Rattle.pyver_findings.proofs.requirement.read_error.Goals as goal
+use Rattle.pyver_findings.proofs.requirement.reject_error.Goals as goal
 
 pub returns : goal.returns
 returns c =

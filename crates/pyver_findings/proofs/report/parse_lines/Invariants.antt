@@ -1,7 +1,7 @@
 use Rattle.std.proofs.Common.{map, take}
 use Rattle.pyver_findings.specs.ReadingViews.{KeepsReadings}
 use Rattle.pyver_findings.specs.Views.{file_line_of}
-use Rattle.pyver_findings.proofs.report.read_lines.Given as goal
+use Rattle.pyver_findings.proofs.report.parse_lines.Given as goal
 
 abbrev pub invariant-loop-line : goal.invariant-loop-line
 invariant-loop-line l = KeepsReadings (map file_line_of (take l.line-index l.lines)) l.readings

@@ -1,6 +1,6 @@
 use Rattle.std.proofs.Common.{◌∙◌, sym}
 use Rattle.pyver_tool.proofs.Told.{told_list}
-use Rattle.pyver_tool.proofs.allowed.read_specifiers.Goals as goal
+use Rattle.pyver_tool.proofs.allowed.parse_specifiers.Goals as goal
 
 pub returns-in_ok-to_string-in-Err : goal.returns-in_ok-to_string-in-Err
 returns-in_ok-to_string-in-Err c =
