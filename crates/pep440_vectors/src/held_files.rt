@@ -11,7 +11,7 @@ pub enum HeldFile<'a> {
     /// A file that cannot be read past these bytes.
     Damaged(&'a [u8]),
     /// A file that is not opened.
-    Refused(OpenFailure),
+    NotOpened(OpenFailure),
 }
 
 /// Files of versions.
@@ -25,10 +25,10 @@ pub const VERSIONS: [(&str, HeldFile<'static>); 10] = [
     ),
     ("bad", HeldFile::Text(b"x\n1.0\n")),
     ("damaged", HeldFile::Damaged(b"1.0\n2")),
-    ("folder", HeldFile::Refused(OpenFailure::IsDirectory)),
-    ("secret", HeldFile::Refused(OpenFailure::PermissionDenied)),
-    ("full", HeldFile::Refused(OpenFailure::OutOfMemory)),
-    ("odd\u{7}", HeldFile::Refused(OpenFailure::Other)),
+    ("folder", HeldFile::NotOpened(OpenFailure::IsDirectory)),
+    ("secret", HeldFile::NotOpened(OpenFailure::PermissionDenied)),
+    ("full", HeldFile::NotOpened(OpenFailure::OutOfMemory)),
+    ("odd\u{7}", HeldFile::NotOpened(OpenFailure::Other)),
 ];
 
 /// Files of requirements.
@@ -45,8 +45,8 @@ pub const REQUIREMENTS: [(&str, HeldFile<'static>); 8] = [
     ("lost.txt", HeldFile::Text(b"a b\n-r gone.txt\n")),
     ("bytes.txt", HeldFile::Text(b"-r \xFF.txt\n")),
     ("damaged", HeldFile::Damaged(b"a==1")),
-    ("folder", HeldFile::Refused(OpenFailure::IsDirectory)),
-    ("full", HeldFile::Refused(OpenFailure::OutOfMemory)),
+    ("folder", HeldFile::NotOpened(OpenFailure::IsDirectory)),
+    ("full", HeldFile::NotOpened(OpenFailure::OutOfMemory)),
 ];
 
 // Without `sub/../` and then `./` at its start.
@@ -79,7 +79,7 @@ impl<'a> Files for HeldFiles<'a> {
                 return match *file {
                     HeldFile::Text(text) => Ok(Trickle::new(text, After::End)),
                     HeldFile::Damaged(text) => Ok(Trickle::new(text, After::Fails)),
-                    HeldFile::Refused(failure) => Err(failure),
+                    HeldFile::NotOpened(failure) => Err(failure),
                 };
             }
         }

@@ -9,7 +9,7 @@ const OUT_OF_MEMORY: u8 = 3;
 
 // The files that are there, and standard input.
 #[derive(Clone, Copy)]
-struct Given<'a> {
+struct RunInputs<'a> {
     files: &'a [(&'a str, HeldFile<'a>)],
     text: &'a [u8],
     after: After,
@@ -24,9 +24,9 @@ struct Run {
     has_read: bool,
 }
 
-fn run_words(alloc: Global, words: &[String], given: Given<'_>) -> Run {
-    let mut files = HeldFiles::new(given.files);
-    let mut input = Trickle::new(given.text, given.after);
+fn run_words(alloc: Global, words: &[String], inputs: RunInputs<'_>) -> Run {
+    let mut files = HeldFiles::new(inputs.files);
+    let mut input = Trickle::new(inputs.text, inputs.after);
     let mut output = Sink::new(Manner::TakesAtMost(7));
     let mut errors = Sink::new(Manner::TakesAtMost(512));
     let status = run(
@@ -56,18 +56,18 @@ fn is_cut(cut: &Run, whole: &Run) -> bool {
     let output = cut.output.bytes();
     let is_beginning = whole.output.bytes().starts_with(output);
     let is_alone = output.is_empty() && front.is_empty();
-    let is_as_told = whole.has_read || (is_alone && !cut.has_read);
-    is_beginning && whole.errors.bytes().starts_with(front) && is_as_told
+    let reads_as_whole = whole.has_read || (is_alone && !cut.has_read);
+    is_beginning && whole.errors.bytes().starts_with(front) && reads_as_whole
 }
 
 // The run, once more where it is out of memory: of the allocations of both at most one fails. Where a file is not opened because an
 // allocation failed, that may be one of the second.
-fn run_again(alloc: Global, words: &[String], given: Given<'_>) -> Result<Run, CaseError> {
-    let first = run_words(alloc, words, given);
+fn run_again(alloc: Global, words: &[String], inputs: RunInputs<'_>) -> Result<Run, CaseError> {
+    let first = run_words(alloc, words, inputs);
     if first.status != OUT_OF_MEMORY {
         return Ok(first);
     }
-    let again = run_words(alloc, words, given);
+    let again = run_words(alloc, words, inputs);
     if is_cut(&first, &again) {
         Ok(again)
     } else if is_cut(&again, &first) {
@@ -93,12 +93,12 @@ fn print_run(alloc: Global, run: &Run) -> Result<String, CaseError> {
 // What is written where nothing is to be read.
 fn answer_words(alloc: Global, words: &str) -> Result<String, CaseError> {
     let words = split_words(alloc, words)?;
-    let given = Given {
+    let inputs = RunInputs {
         files: &VERSIONS,
         text: b"never read",
         after: After::Fails,
     };
-    let run = run_again(alloc, words.as_slice(), given)?;
+    let run = run_again(alloc, words.as_slice(), inputs)?;
     if run.has_read {
         return Ok(String::from_str(alloc, "something is read")?);
     }
@@ -112,12 +112,12 @@ fn answer_input(
     input: &str,
 ) -> Result<String, CaseError> {
     let words = split_words(alloc, words)?;
-    let given = Given {
+    let inputs = RunInputs {
         files,
         text: input.as_bytes(),
         after: After::End,
     };
-    let run = run_again(alloc, words.as_slice(), given)?;
+    let run = run_again(alloc, words.as_slice(), inputs)?;
     print_run(alloc, &run)
 }
 

@@ -1,5 +1,6 @@
 //! What no line of test cases can ask: readers and writers that fail, failing allocations, very long strings; and the examples of
 //! `example_calls`.
+mod buffer_size;
 mod change_words;
 mod example_calls;
 mod lists;
@@ -9,7 +10,6 @@ mod pyver;
 mod pyver_lines;
 mod pyver_stopped;
 mod requirements;
-mod room;
 mod runs;
 mod support;
 mod sweeps;

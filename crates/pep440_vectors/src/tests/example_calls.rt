@@ -61,7 +61,7 @@ fn the_newest_is_chosen(rt: HostRuntime) -> Result<(), Fail> {
 const TEXTS: [&str; 3] = ["1.0", "1.0+", "latest"];
 
 #[test]
-fn refusals_are_told(rt: HostRuntime) -> Result<(), Fail> {
+fn errors_are_named(rt: HostRuntime) -> Result<(), Fail> {
     let mut refused = Vec::new(rt.alloc());
     for verdict in read_all(rt.alloc(), &TEXTS)? {
         refused.push(matches!(verdict, Verdict::Refused(_)))?;

@@ -1,14 +1,14 @@
 //! Input that is not UTF-8; an invalid list cut anywhere; runs of `filter` and `pick` over readers and writers that fail.
-use super::support::{answered, run_over, split_words, words_of};
+use super::support::{answer_words_again, run_over, split_words, words_of};
 use std::alloc::{AllocError, Global};
 use std::test::Fail;
 use testing::{After, Manner, Trickle};
 
-// The text of the list `>=1.0, =>2`, which is invalid.
-const REFUSED_LIST: &str =
+// The error of the list `>=1.0, =>2`.
+const INVALID_LIST_ERROR: &str =
     "error: Failed to parse version: no such comparison operator \"=>\", must be one of ~= == != <= >= < > ===:\n>=1.0, =>2\n      ^^^^\n";
 
-// Whether the words answer these bytes to the input, with the status.
+// Whether the words print these bytes of the input, with the status.
 fn holds(
     alloc: Global,
     words: &str,
@@ -17,7 +17,7 @@ fn holds(
     status: u8,
 ) -> Result<bool, AllocError> {
     let list = split_words(alloc, words)?;
-    let said = answered(alloc, list.as_slice(), input)?;
+    let said = answer_words_again(alloc, list.as_slice(), input)?;
     Ok(said.status == status && said.output.as_slice() == output.as_bytes())
 }
 
@@ -39,13 +39,13 @@ fn sweep_filter_of_no_text(rt: HostRuntime) -> Result<(), Fail> {
 
 // The error of an invalid list goes out as far as the writer takes it.
 #[test]
-fn refusals_cut_anywhere(rt: HostRuntime) -> Result<(), Fail> {
+fn errors_cut_anywhere(rt: HostRuntime) -> Result<(), Fail> {
     let words = words_of(rt.alloc(), &["match", ">=1.0, =>2", "1"])?;
-    for taken in 0..REFUSED_LIST.len() {
+    for taken in 0..INVALID_LIST_ERROR.len() {
         let mut unread = Trickle::new(b"never read", After::Fails);
         let manner = Manner::FailsPast(taken);
         let (status, sink) = run_over(rt.alloc(), words.as_slice(), &mut unread, manner);
-        let wrote = sink.bytes() == &REFUSED_LIST.as_bytes()[..taken];
+        let wrote = sink.bytes() == &INVALID_LIST_ERROR.as_bytes()[..taken];
         assert!(rt; status == 4 && wrote && unread.calls == 0, "{taken} bytes");
     }
     Ok(())

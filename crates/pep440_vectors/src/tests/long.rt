@@ -1,5 +1,5 @@
 //! Words and lines of more than 65,536 bytes: no command gives up because a string is long.
-use super::support::{answered, is_line, run_over, words_of};
+use super::support::{answer_words_again, is_line, run_over, words_of};
 use std::alloc::{AllocError, Global};
 use std::test::Fail;
 use testing::{After, Manner, Trickle};
@@ -16,7 +16,7 @@ fn long_version(alloc: Global) -> Result<String, AllocError> {
 // Whether the words print this line over the input, by `answer` and by `run`.
 fn prints(alloc: Global, words: &[&str], input: &[u8], line: &str) -> Result<bool, AllocError> {
     let list = words_of(alloc, words)?;
-    let said = answered(alloc, list.as_slice(), input)?;
+    let said = answer_words_again(alloc, list.as_slice(), input)?;
     let mut reader = Trickle::new(input, After::End);
     let (status, sink) = run_over(
         alloc,
@@ -86,7 +86,7 @@ fn long_output(rt: HostRuntime) -> Result<(), Fail> {
         version.push_str(".1")?;
     }
     let words = words_of(rt.alloc(), &["show", version.as_str()])?;
-    let said = answered(rt.alloc(), words.as_slice(), b"")?;
+    let said = answer_words_again(rt.alloc(), words.as_slice(), b"")?;
     assert!(rt; said.status == 0 && is_line(said.output.as_slice(), version.as_str()));
     Ok(())
 }

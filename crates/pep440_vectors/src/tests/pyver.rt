@@ -6,7 +6,7 @@ use std::alloc::Global;
 use std::test::Fail;
 use testing::{After, Manner, Sink, Trickle};
 
-pub const LACK: &str = "pyver: out of memory\n";
+pub const OUT_OF_MEMORY_LINE: &str = "pyver: out of memory\n";
 
 /// Standard error ends with this message, and has a beginning of these before it.
 pub fn ends_with(written: &[u8], errors: &str, message: &str) -> bool {
@@ -30,14 +30,14 @@ const RANGE_OUTPUTS: [(Manner, &str); 3] = [
     (Manner::TakesNone, ""),
 ];
 
-// Whether a run over this standard output ends with 4, and says so.
-fn tells_failed_write(alloc: Global, words: &[String], manner: Manner, front: &str) -> bool {
+// Whether a run over this standard output ends with 4 and reports that.
+fn reports_failed_write(alloc: Global, words: &[String], manner: Manner, front: &str) -> bool {
     let mut files = NoFiles { calls: 0 };
     let mut out = Sink::new(manner);
     let mut err = Sink::new(Manner::TakesAtMost(512));
     let mut input = Trickle::new(b"", After::End);
     match run(alloc, words, &mut files, &mut input, &mut out, &mut err) {
-        3 => out.bytes().is_empty() && err.bytes() == LACK.as_bytes(),
+        3 => out.bytes().is_empty() && err.bytes() == OUT_OF_MEMORY_LINE.as_bytes(),
         4 => out.bytes() == front.as_bytes() && err.bytes() == "pyver: a write failed\n".as_bytes(),
         _ => false,
     }
@@ -47,7 +47,7 @@ fn tells_failed_write(alloc: Global, words: &[String], manner: Manner, front: &s
 fn sweep_outputs_that_fail(rt: HostRuntime) -> Result<(), Fail> {
     let words = split_words(rt.alloc(), "match|>=1.0|1.5")?;
     for (manner, front) in OUTPUTS {
-        let holds = tells_failed_write(rt.alloc(), words.as_slice(), manner, front);
+        let holds = reports_failed_write(rt.alloc(), words.as_slice(), manner, front);
         assert!(rt; holds, "{front}");
     }
     Ok(())
@@ -57,7 +57,7 @@ fn sweep_outputs_that_fail(rt: HostRuntime) -> Result<(), Fail> {
 fn sweep_ranges_that_cannot_be_written(rt: HostRuntime) -> Result<(), Fail> {
     let words = split_words(rt.alloc(), "range|>=1|<2")?;
     for (manner, front) in RANGE_OUTPUTS {
-        let holds = tells_failed_write(rt.alloc(), words.as_slice(), manner, front);
+        let holds = reports_failed_write(rt.alloc(), words.as_slice(), manner, front);
         assert!(rt; holds, "{front}");
     }
     Ok(())

@@ -1,6 +1,6 @@
 //! Runs of `pyver` over lines that are not UTF-8, and over many invalid lines, with each allocation failing in turn.
 use super::no_files::NoFiles;
-use super::pyver::{LACK, ends_with};
+use super::pyver::{OUT_OF_MEMORY_LINE, ends_with};
 use super::support::split_words;
 use pyver_tool::run;
 use std::alloc::Global;
@@ -35,7 +35,7 @@ const NO_TEXT: [(&str, &[u8], &str, &str); 4] = [
     ),
 ];
 
-// Whether a run writes this and ends with 2, or writes a beginning of it and that memory is out.
+// Whether a run writes this and ends with 2, or a beginning of it and that the run is out of memory.
 fn writes(alloc: Global, words: &[String], text: &[u8], output: &str, errors: &str) -> bool {
     let mut files = NoFiles { calls: 0 };
     let mut input = Trickle::new(text, After::End);
@@ -43,7 +43,8 @@ fn writes(alloc: Global, words: &[String], text: &[u8], output: &str, errors: &s
     let mut err = Sink::new(Manner::TakesAtMost(512));
     match run(alloc, words, &mut files, &mut input, &mut out, &mut err) {
         2 => out.bytes() == output.as_bytes() && err.bytes() == errors.as_bytes(),
-        3 => output.as_bytes().starts_with(out.bytes()) && ends_with(err.bytes(), errors, LACK),
+        3 => output.as_bytes().starts_with(out.bytes())
+            && ends_with(err.bytes(), errors, OUT_OF_MEMORY_LINE),
         _ => false,
     }
 }

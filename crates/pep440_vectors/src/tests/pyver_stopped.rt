@@ -13,7 +13,7 @@ const FIRST_LINE: &str =
 const SECOND_LINE: &str =
     "pyver: -: line 2: expected version to start with a number, but no leading ASCII digits were found\n";
 
-// How the input ends and the writers answer, and what they hold at the end of `x`, `1.0`, `2.0` and `3`, where the last is no line.
+// How the input ends and the writers behave, and what they hold at the end of `x`, `1.0`, `2.0` and `3`, where the last is no line.
 const FILTERS: [(After, Manner, Manner, &str, &str); 4] = [
     (
         After::Fails,
@@ -69,8 +69,8 @@ fn sweep_stopped_filters(rt: HostRuntime) -> Result<(), Fail> {
     Ok(())
 }
 
-// The words between bars, the input, how it ends and the writers answer, and what they hold at the end.
-type Stop = (
+// The words between bars, the input, how it ends and the writers behave, and what they hold at the end.
+type StoppedRun = (
     &'static str,
     &'static [u8],
     After,
@@ -81,7 +81,7 @@ type Stop = (
     &'static str,
 );
 
-const STOPPED: [Stop; 12] = [
+const STOPPED: [StoppedRun; 12] = [
     (
         "sort",
         b"2.0\nx\n1.0\n",
@@ -205,7 +205,7 @@ const STOPPED: [Stop; 12] = [
 ];
 
 // Whether a run stops so, with status 4, or ends with nothing on standard error.
-fn stops(alloc: Global, words: &[String], row: Stop) -> bool {
+fn stops(alloc: Global, words: &[String], row: StoppedRun) -> bool {
     let (_, text, after, out_manner, err_manner, output, errors, message) = row;
     let mut files = NoFiles { calls: 0 };
     let mut input = Trickle::new(text, after);

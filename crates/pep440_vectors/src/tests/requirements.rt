@@ -1,4 +1,4 @@
-//! Requirements of more than 65,536 bytes: the reader does not give up because a string is long. Their parts.
+//! Requirements of more than 65,536 bytes: the reader does not give up because a string is long.
 use pep440_pick::Requirement;
 use std::test::Fail;
 
@@ -16,18 +16,5 @@ fn long_requirement(rt: HostRuntime) -> Result<(), Fail> {
     }
     let read = Requirement::from_str(rt.alloc(), text.as_str())?;
     assert!(rt; read.name.len() == 70_001, "the name");
-    Ok(())
-}
-
-#[test]
-fn parts_are_public(rt: HostRuntime) -> Result<(), Fail> {
-    let read = Requirement::from_str(rt.alloc(), "a[x]>=1")?;
-    let Requirement {
-        name,
-        extras,
-        specifiers,
-    } = read;
-    let holds = name.as_str() == "a" && extras.len() == 1 && specifiers.as_slice().len() == 1;
-    assert!(rt; holds, "the parts");
     Ok(())
 }

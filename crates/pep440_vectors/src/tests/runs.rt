@@ -4,7 +4,7 @@ use std::alloc::{AllocError, Global};
 use std::test::Fail;
 use testing::{After, Manner, Trickle};
 
-// Words, how the writer answers; the status, what is written, and how many writes and flushes there are.
+// Words, how the writer behaves; the status, what is written, and how many writes and flushes there are.
 type Run = (&'static str, Manner, u8, &'static str, u32, u32);
 
 // No call is made twice: with a writer that takes what it is given there is one write and one flush.

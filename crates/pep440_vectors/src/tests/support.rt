@@ -31,7 +31,11 @@ pub fn split_words(alloc: Global, line: &str) -> Result<Vec<String>, AllocError>
 }
 
 /// What the words print, asked again where an allocation failed.
-pub fn answered(alloc: Global, words: &[String], input: &[u8]) -> Result<Answer, AllocError> {
+pub fn answer_words_again(
+    alloc: Global,
+    words: &[String],
+    input: &[u8],
+) -> Result<Answer, AllocError> {
     match answer(alloc, words, input) {
         Ok(said) => Ok(said),
         Err(_) => answer(alloc, words, input),

@@ -4,7 +4,7 @@ use std::alloc::Global;
 use std::test::Fail;
 use testing::{After, Manner, Trickle};
 
-const LACK: &str = "error: out of memory\n";
+const OUT_OF_MEMORY_LINE: &str = "error: out of memory\n";
 
 // Whether a run over a writer that fails past so many bytes ends with 4, with a beginning of either text written.
 fn ends_early(alloc: Global, words: &[String], manner: Manner, front: &str, lack: &str) -> bool {
@@ -19,7 +19,7 @@ const WRITERS: [(Manner, &str, &str); 5] = [
     (Manner::FailsPast(0), "", ""),
     (Manner::TakesNone, "", ""),
     (Manner::Interrupted, "", ""),
-    (Manner::FlushFails, "2.0\n", LACK),
+    (Manner::FlushFails, "2.0\n", OUT_OF_MEMORY_LINE),
 ];
 
 #[test]

@@ -23,7 +23,7 @@ fn copy_line_again(rt: HostRuntime) -> Result<FileLine, Fail> {
 fn sweep_copied_lines(rt: HostRuntime) -> Result<(), Fail> {
     let line = copy_line_again(rt)?;
     let holds = line.file.as_slice() == "a.txt".as_bytes() && line.number == 1;
-    assert!(rt; holds, "its place");
+    assert!(rt; holds, "its file and number");
     assert!(rt; line.text.as_slice() == "demo".as_bytes(), "its text");
     Ok(())
 }

@@ -78,7 +78,7 @@ impl MadeFile {
 
 // A file, what is found in it, and the numbers of its two lines.
 #[derive(Drop)]
-struct Made {
+struct FileCase {
     text: String,
     kind: Option<Conflict>,
     first: u64,
@@ -86,7 +86,7 @@ struct Made {
 }
 
 // The file with this number.
-fn make_file(alloc: Global, number: usize) -> Result<Made, AllocError> {
+fn make_file(alloc: Global, number: usize) -> Result<FileCase, AllocError> {
     let (one, other, kind) = PAIRS[number % 10];
     let mark = if number % 9 == 0 { "\u{feff}" } else { "" };
     let mut file = MadeFile {
@@ -99,7 +99,7 @@ fn make_file(alloc: Global, number: usize) -> Result<Made, AllocError> {
     file.push_other(number / 5)?;
     let second = file.push_asking(number / 7, other)?;
     file.push_other(number / 11)?;
-    Ok(Made {
+    Ok(FileCase {
         text: file.text,
         kind,
         first,
@@ -117,25 +117,25 @@ fn report_of(alloc: Global, text: &str) -> Result<Report, AllocError> {
 }
 
 // Whether the two lines are reported together as this, and nothing else is; or nothing is.
-fn is_found(report: &Report, made: &Made) -> bool {
+fn is_found(report: &Report, expected: &FileCase) -> bool {
     let [finding] = report.findings.as_slice() else {
-        return made.kind.is_none() && report.findings.is_empty();
+        return expected.kind.is_none() && report.findings.is_empty();
     };
-    let (Finding::Conflicting(found, lines), Some(kind)) = (finding, made.kind) else {
+    let (Finding::Conflicting(found, lines), Some(kind)) = (finding, expected.kind) else {
         return false;
     };
     let [one, other] = lines.as_slice() else {
         return false;
     };
-    *found == kind && one.number == made.first && other.number == made.second
+    *found == kind && one.number == expected.first && other.number == expected.second
 }
 
 #[test]
 fn made_files_have_their_findings(rt: HostRuntime) -> Result<(), Fail> {
     for number in 0..200 {
-        let made = make_file(rt.alloc(), number)?;
-        let report = report_of(rt.alloc(), made.text.as_str())?;
-        assert!(rt; is_found(&report, &made), "{number}");
+        let expected = make_file(rt.alloc(), number)?;
+        let report = report_of(rt.alloc(), expected.text.as_str())?;
+        assert!(rt; is_found(&report, &expected), "{number}");
     }
     Ok(())
 }

@@ -1,18 +1,18 @@
-//! The room that `run` gives a reader at each call.
+//! The size of the buffer that `run` passes a reader at each call.
 use super::support::words_of;
 use pep440_tool::run;
 use std::io::Read;
 use std::test::Fail;
 use testing::{Manner, Sink};
 
-// Gives its text a byte a call, and keeps the least room that it was given.
+// Gives its text a byte a call, and keeps the least size of a buffer that it was passed.
 #[derive(Drop)]
-struct Measured<'a> {
+struct SizeProbe<'a> {
     text: &'a [u8],
     least: usize,
 }
 
-impl Read for Measured<'_> {
+impl Read for SizeProbe<'_> {
     fn read(&mut self, buf: &mut [u8]) -> std::io::Result<usize> {
         self.least = self.least.min(buf.len());
         if buf.is_empty() {
@@ -30,9 +30,9 @@ impl Read for Measured<'_> {
 }
 
 #[test]
-fn of_8192_bytes(rt: HostRuntime) -> Result<(), Fail> {
+fn is_8192_bytes(rt: HostRuntime) -> Result<(), Fail> {
     let words = words_of(rt.alloc(), &["filter", ">=1"])?;
-    let mut reader = Measured {
+    let mut reader = SizeProbe {
         text: b"2.0\n0.9\n1.0\n",
         least: usize::MAX,
     };
