@@ -13,7 +13,7 @@
    - No call is made from a signal handler, or from the forked child of a process with threads.
 
    What a call writes to may be uninitialized before. Several threads may call at once, each with memory of its own to write to: the
-   library has no state. A call takes at most 16 KiB of stack, whatever the length of what it reads (tested: callers/c/stack.c). The code is
+   library has no state. A call takes at most 16 KiB of stack, whatever the length of what it reads (tested: callers/c/tests/stack.c). The code is
    for processors of the level x86-64-v2 and above.
 
    PEP440_NO_ROOM: the result needs more than the buffer has. It is not written; each call below says what is. PEP440_OUT_OF_MEMORY: malloc

@@ -1,8 +1,5 @@
-/* What a C program does with versions; it holds each result against what PEP 440 wants, and ends with 0 where all are right.
-   What a call writes to is uninitialized before, which the header allows: valgrind finds no use of such bytes.
-
-   cc -I callers/c callers/c/example.c crates/pep440_c/out/libpep440_c.a KIT/c/liblibc_c.a
-   cc example.c $(pkg-config --cflags --libs pep440), where the library is installed */
+/* Compares results of the calls that take strings with what PEP 440 and the header say.
+   What a call writes to is uninitialized before, which the header allows: valgrind finds no use of such bytes. */
 #include <stdio.h>
 #include <stdlib.h>
 #include <string.h>
@@ -33,14 +30,12 @@ static void normalize_and_explain(void)
     size_t written, count, ends[4];
     hold(pep440_normalize(TEXT(" V1!1.0-Alpha.2-3.DEV+Ubuntu-01 "), out, sizeof out, &written) == PEP440_OK, "normalize");
     hold_text(out, written, "1!1.0a2.post3.dev0+ubuntu.1");
-    printf("normal form: %.*s\n", (int)written, (const char *)out);
 
     /* With too little room the call writes the length that is needed. */
     hold(pep440_normalize(TEXT("1.0.post1"), out, 3, &written) == PEP440_NO_ROOM && written == 9, "room");
 
     hold(pep440_normalize(TEXT("1.0prev"), out, sizeof out, &written) == PEP440_INVALID_VERSION, "invalid");
     hold(pep440_version_error(TEXT("1.0prev"), out, sizeof out, &written) == PEP440_OK && written > 0, "why");
-    printf("1.0prev: %.*s\n", (int)written, (const char *)out);
     hold(pep440_version_error(TEXT("1.0"), out, sizeof out, &written) == PEP440_OK && written == 0, "nothing is wrong");
 
     hold(pep440_normalize_list(TEXT(">=1.16 ,<2.0"), out, sizeof out, &written) == PEP440_OK, "normalize_list");
@@ -57,7 +52,6 @@ static void normalize_and_explain(void)
     hold(pep440_pattern(TEXT("v1.5"), out, sizeof out, &written, &star) == PEP440_OK && star == 0, "a pattern without a star");
     hold(pep440_pattern(TEXT("1.5a1.*"), out, sizeof out, &written, &star) == PEP440_INVALID_VERSION, "no star after a pre-release");
     hold(pep440_list_error(TEXT(">=1.16; <2.0"), out, sizeof out, &written) == PEP440_OK && written > 0, "why no list");
-    printf("%.*s", (int)written, (const char *)out);
 }
 
 static void edit(void)
@@ -109,7 +103,6 @@ static void take_apart(void)
     hold_text(out, written, "empty\n");
     hold(pep440_ranges(TEXT(">=1.0,<2.0,!=1.5"), out, sizeof out, &written) == PEP440_OK, "ranges");
     hold_text(out, written, "[1.0, 1.5)\n(1.5, 2.0~min0)\n");
-    printf("the range of >=1.0,<2.0,!=1.5:\n%.*s\n", (int)written, (const char *)out);
     hold(pep440_ranges(TEXT(">1.0"), out, sizeof out, &written) == PEP440_OK, "a range without an end");
     hold_text(out, written, "(1.0~max0, *)\n");
 
@@ -189,10 +182,6 @@ static void many_at_once(void)
     texts[2] = texts[4];
     hold(pep440_sort(texts, COUNT, indices, COUNT, &index) == PEP440_OK, "sort");
     hold(indices[0] == 1 && indices[1] == 3 && indices[2] == 0 && indices[3] == 2 && indices[4] == 4, "indices");
-    printf("in order:");
-    for (size_t turn = 0; turn < COUNT; turn++)
-        printf(" %.*s", (int)texts[indices[turn]].length, (const char *)texts[indices[turn]].bytes);
-    printf("\n");
 }
 
 int main(void)

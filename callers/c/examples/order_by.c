@@ -1,7 +1,11 @@
 /* Reads versions, a line each, and writes SQL that stores each beside its sort key and selects them `ORDER BY key`: the database puts them
    in order, and knows nothing of versions.
 
-   printf '1.10\n1.9\n1.10rc1\n' | ./order_by | sqlite3 :memory: */
+   $ printf '1.10\n1.9\n1.10rc1\n' | ./order_by | sqlite3 :memory:
+   1.9
+   1.10rc1
+   1.10 */
+#include <err.h>
 #include <stdio.h>
 #include <stdlib.h>
 #include <string.h>
@@ -19,10 +23,8 @@ int main(void)
         uint8_t status = pep440_sort_key((const uint8_t *)line, length, key, sizeof key, &key_length);
         if (status == PEP440_OK)
             status = pep440_normalize((const uint8_t *)line, length, text, sizeof text, &written);
-        if (status != PEP440_OK) {
-            fprintf(stderr, "order_by: %.*s: status %d\n", (int)length, line, status);
-            return EXIT_FAILURE;
-        }
+        if (status != PEP440_OK)
+            errx(EXIT_FAILURE, "%.*s: %s", (int)length, line, status == PEP440_INVALID_VERSION ? "not a version" : "too long, or out of memory");
         /* No normal form holds a quote. */
         printf("INSERT INTO releases VALUES ('%.*s', x'", (int)written, (const char *)text);
         for (size_t place = 0; place < key_length; place++)
@@ -30,5 +32,4 @@ int main(void)
         printf("');\n");
     }
     printf("COMMIT;\nSELECT version FROM releases ORDER BY key, rowid;\n");
-    return EXIT_SUCCESS;
 }
