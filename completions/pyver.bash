@@ -1,6 +1,9 @@
 # Completions of pyver for bash: `. pyver.bash`, or the file as `pyver` among bash-completion's.
 _pyver() {
-    local word=${COMP_WORDS[COMP_CWORD]} before=${COMP_WORDS[COMP_CWORD - 1]} words=
+    local word=$2 before=$3 prefix= words=
+    # bash takes `--part=x` for three words, or for one if COMP_WORDBREAKS has no equals sign
+    [[ $before != '=' ]] || before=${COMP_WORDS[COMP_CWORD - 2]}
+    [[ $word != --*=* ]] || { before=${word%%=*} prefix=${word%%=*}= word=${word#*=}; }
     case $COMP_CWORD,${COMP_WORDS[1]} in
         1,*) words='compare match filter sort newest show bump range check --help --version' ;;
         *,compare)
@@ -55,6 +58,6 @@ _pyver() {
     COMPREPLY=()
     while IFS= read -r word; do
         COMPREPLY+=("$word")
-    done < <(compgen -W "$words" -- "$word")
+    done < <(compgen -P "$prefix" -W "$words" -- "$word")
 }
 complete -F _pyver pyver
