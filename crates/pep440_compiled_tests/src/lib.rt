@@ -6,6 +6,8 @@ mod lists;
 #[cfg(test)]
 mod packed;
 #[cfg(test)]
+mod sizes;
+#[cfg(test)]
 mod versions;
 #[cfg(test)]
 mod words;

@@ -7,4 +7,6 @@ mod range_keys;
 #[cfg(test)]
 mod ranges;
 #[cfg(test)]
+mod sizes;
+#[cfg(test)]
 mod sort_keys;

@@ -121,6 +121,27 @@ fn answer_input(
     print_run(alloc, &run)
 }
 
+// The status alone, however much is written, where the run is done; the file `file` has what standard input has.
+fn answer_status(alloc: Global, words: &str, input: &str) -> Result<String, CaseError> {
+    let words = split_words(alloc, words)?;
+    let files = [("file", HeldFile::Text(input.as_bytes()))];
+    let mut output = Vec::new(alloc);
+    let mut errors = Vec::new(alloc);
+    let status = run(
+        alloc,
+        words.as_slice(),
+        &mut HeldFiles::new(&files),
+        &mut input.as_bytes(),
+        &mut output,
+        &mut errors,
+    );
+    match status {
+        0 | 1 => Ok(format!(in alloc; "{status}")?),
+        OUT_OF_MEMORY => Err(CaseError::OutOfMemory),
+        _ => Err(CaseError::Unreadable),
+    }
+}
+
 /// The status and what is written, of words with or without standard input.
 pub fn answer_call(alloc: Global, call: &str, arguments: &[String]) -> Result<String, CaseError> {
     match (call, arguments) {
@@ -128,6 +149,7 @@ pub fn answer_call(alloc: Global, call: &str, arguments: &[String]) -> Result<St
         ("pyver-input", [words, input]) => {
             answer_input(alloc, &VERSIONS, words.as_str(), input.as_str())
         }
+        ("pyver-status", [words, input]) => answer_status(alloc, words.as_str(), input.as_str()),
         ("pyver-requirements", [words, input]) => {
             answer_input(alloc, &REQUIREMENTS, words.as_str(), input.as_str())
         }

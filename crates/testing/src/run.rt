@@ -1,6 +1,7 @@
 //! Runs the cases of standard input.
 use crate::error::CaseError;
 use crate::fields::split_fields;
+use crate::sizes::failing_size;
 use std::alloc::Global;
 use std::io;
 
@@ -12,6 +13,9 @@ pub trait Calls {
 
 // What the case answers where that is not what it wants.
 fn difference<C: Calls>(alloc: Global, calls: &C, line: &str) -> Result<Option<String>, CaseError> {
+    if let Some(case) = line.strip_prefix("sizes\t") {
+        return failing_size(alloc, calls, case);
+    }
     let fields = split_fields(alloc, line)?;
     let [call, arguments @ .., wanted] = fields.as_slice() else {
         return Err(CaseError::Unreadable);
