@@ -7,7 +7,7 @@ use Rattle.std.specs.List.{list_all}
 use Rattle.std.specs.Str.{IsUtf8}
 use Rattle.pep440_rs.specs.ListGrammar.{pieces}
 use Rattle.pep440_pick.specs.Names.{is_name}
-use Rattle.pep440_pick.specs.RequirementGrammar.{opens, trim_blanks}
+use Rattle.pep440_rs.specs.Blanks.{opens, trim_blanks}
 use Rattle.pep440_pick.specs.RequirementReading.{bracketed, split_at_byte, extras_at, extras_in, listed_extras}
 use Rattle.pep440_pick.proofs.Splitting.{HasNo, first, later}
 

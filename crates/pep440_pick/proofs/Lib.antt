@@ -1,5 +1,4 @@
 pub mod Normal
-pub mod Blanks
 pub mod Splitting
 pub mod Choosing
 pub mod Extras

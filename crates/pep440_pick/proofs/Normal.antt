@@ -1,18 +1,11 @@
 -- Names in their normal form, byte by byte.
-use Rattle.std.proofs.Common.{◌≡◌, ◌<◌, ◌+◌, ◌-◌, ◌∙◌, ℕ, suc, List, [], ◌∷◌, Bool, true, false, cond, length, get_or, refl, sym, ap, arith, inl, inr}
+use Rattle.std.proofs.Common.{◌≡◌, ◌+◌, ◌∙◌, ℕ, suc, List, [], ◌∷◌, Bool, true, false, cond, refl, sym, ap, arith, inl, inr}
 use Rattle.std.proofs.lemmas.Bool.{cases_Bool}
-use Rattle.std.proofs.lemmas.List.{get_or_default}
 use Rattle.std.specs.Char.{to_ascii_lowercase}
 use Rattle.std.specs.List.{prefix_len}
 use Rattle.pep440_version.specs.Grammar.{is_separator}
 use Rattle.pep440_version.specs.Reading.{past}
-use Rattle.pep440_version.specs.Refusals.{ends}
 use Rattle.pep440_pick.specs.Names.{normal}
-
--- the last byte decides how a text ends
-pub ends_at : (test : ℕ → Bool) (b : ℕ) (rest : List ℕ) (n : ℕ) → n ≡ length rest → ends test (b ∷ rest) ≡ test (get_or (b ∷ rest) n 0)
-ends_at test b [] n e = rw e refl
-ends_at test b (c ∷ rest) n e = rw e (ends_at test c rest (length rest) refl)
 
 past_one : (c : ℕ) (rest : List ℕ) → is_separator c ≡ true → past is_separator (c ∷ rest) ≡ past is_separator rest
 past_one c rest e =
@@ -43,10 +36,3 @@ run_is_one b (c ∷ rest) e = elim (cases_Bool (is_separator c)) [
 -- a byte that is no separator stays, in lower case
 pub byte_stays : (b : ℕ) (rest : List ℕ) → is_separator b ≡ false → normal (b ∷ rest) ≡ to_ascii_lowercase b ∷ normal rest
 byte_stays b rest e = rw e refl
-
-pub ends_last : (test : ℕ → Bool) (t : List ℕ) (d : ℕ) → 0 < length t → ends test t ≡ test (get_or t (length t - 1) d)
-ends_last test [] d some = absurd (omega (arith, some))
-ends_last test (b ∷ rest) d some =
-    let at : length rest ≡ suc (length rest) - 1 = omega arith in
-    let inside : length rest < length (b ∷ rest) = omega arith in
-    ends_at test b rest (length rest) refl ∙ ap test (get_or_default (b ∷ rest) (length rest) 0 d inside) ∙ ap (λ n. test (get_or (b ∷ rest) n d)) at

@@ -7,7 +7,8 @@ use Rattle.std.specs.List.{list_all, prefix_len}
 use Rattle.pep440_version.specs.Reading.{past}
 use Rattle.pep440_rs.specs.ListGrammar.{pieces}
 use Rattle.pep440_pick.specs.Names.{is_name}
-use Rattle.pep440_pick.specs.RequirementGrammar.{AreExtras, HasExtras, HasList, has_byte, opens, trim_blanks, trimmed_end}
+use Rattle.pep440_rs.specs.Blanks.{opens, trim_blanks, trimmed_end}
+use Rattle.pep440_pick.specs.RequirementGrammar.{AreExtras, HasExtras, HasList, has_byte}
 use Rattle.pep440_pick.specs.RequirementReading.{bracketed, split_at_byte, extras_at, extras_in, list_in, without_end}
 use Rattle.pep440_pick.proofs.Splitting.{split_first, end_found}
 use Rattle.pep440_pick.proofs.Extras.{in_bracket, no_bracket, no_extras, some_extras}

@@ -5,7 +5,8 @@ use Rattle.std.specs.List.{list_all}
 use Rattle.pep440_version.specs.Grammar.{starts}
 use Rattle.pep440_version.specs.Refusals.{ends}
 use Rattle.pep440_pick.specs.Names.{is_name, is_name_byte}
-use Rattle.pep440_pick.specs.RequirementGrammar.{InvalidExtras, InvalidName, Unclosed, trim_blanks}
+use Rattle.pep440_rs.specs.Blanks.{trim_blanks}
+use Rattle.pep440_pick.specs.RequirementGrammar.{InvalidExtras, InvalidName, Unclosed}
 use Rattle.pep440_pick.specs.RequirementReading.{extras_at, list_in, prefix_after_name, with_extras, with_list}
 
 pub not_named : (name rest : List ℕ) → is_name name ≡ false → prefix_after_name name rest ≡ Err InvalidName

@@ -4,7 +4,8 @@ use Rattle.std.proofs.lemmas.Bool.{cases_Bool}
 use Rattle.std.proofs.lemmas.Bool.Decides.{nat_tests}
 use Rattle.std.specs.Option.{MatchOption}
 use Rattle.pep440_pick.specs.Names.{is_name_byte}
-use Rattle.pep440_pick.specs.RequirementGrammar.{has_byte, opens}
+use Rattle.pep440_rs.specs.Blanks.{opens}
+use Rattle.pep440_pick.specs.RequirementGrammar.{has_byte}
 use Rattle.pep440_pick.specs.RequirementReading.{split_at_byte, without_end}
 
 pub name_byte_ascii : (b : ℕ) → is_name_byte b ≡ true → b < 128

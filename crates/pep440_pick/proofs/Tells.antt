@@ -8,7 +8,8 @@ use Rattle.pep440_version.proofs.Reading.Prefixes.{lead-all, lead-run, past-run,
 use Rattle.pep440_version.proofs.Reading.ReadIsDerived.{split}
 use Rattle.pep440_rs.specs.SpecifierGrammar.{IsRun}
 use Rattle.pep440_pick.specs.Names.{is_name, is_name_byte}
-use Rattle.pep440_pick.specs.RequirementGrammar.{RequirementParts, HasExtras, HasFront, HasList, HasNoMarkerOrUrl, RefusesRequirement, RequirementRefusal, InvalidExtras, InvalidName, Marker, Specifiers, Unclosed, Url, has_byte, trim_blanks}
+use Rattle.pep440_rs.specs.Blanks.{trim_blanks}
+use Rattle.pep440_pick.specs.RequirementGrammar.{RequirementParts, HasExtras, HasFront, HasList, HasNoMarkerOrUrl, RefusesRequirement, RequirementRefusal, InvalidExtras, InvalidName, Marker, Specifiers, Unclosed, Url, has_byte}
 use Rattle.pep440_pick.specs.RequirementReading.{Front, behind_name, extras_at, list_in, name_of, prefix_after_name, read_prefix, with_extras, with_list}
 use Rattle.pep440_pick.proofs.Prefixes.{is_named, not_named}
 use Rattle.pep440_pick.proofs.Parts.{brackets_complete, brackets_sound, list_complete, list_sound}

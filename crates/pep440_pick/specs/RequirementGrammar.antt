@@ -1,35 +1,19 @@
 -- The strings of requirements: a name, extras in brackets, and a list of specifiers, with parentheses around it or without. A
 -- blank is a tab, a line feed, a form feed, a carriage return or a space, and may stand before, between and after the parts.
-use Rattle.std.specs.Prelude.{◌≡◌, ◌==◌, ◌⊎◌, ℕ, List, [], ◌∷◌, ◌++◌, Bool, true, false, map, if◌then◌else◌}
+use Rattle.std.specs.Prelude.{◌≡◌, ◌==◌, ◌⊎◌, ℕ, List, [], ◌∷◌, ◌++◌, Bool, true, false, map}
 use Rattle.std.specs.Char.{is_ascii_whitespace}
 use Rattle.std.specs.List.{list_all, list_any}
-use Rattle.pep440_version.specs.Grammar.{starts}
-use Rattle.pep440_version.specs.Reading.{past}
+use Rattle.pep440_rs.specs.Blanks.{opens, trim_blanks}
 use Rattle.pep440_rs.specs.ListGrammar.{DerivesList, PieceRefusal, RefusesList, pieces}
 use Rattle.pep440_rs.specs.SpecifierGrammar.{IsRun}
 use Rattle.pep440_rs.specs.Specifiers.{Spec}
 use Rattle.pep440_pick.specs.Names.{is_name, is_name_byte}
 
--- ---- blanks
-
--- the string without the blanks at its end
-abbrev pub trimmed_end : List ℕ → List ℕ
-trimmed_end [] = []
-trimmed_end (b ∷ rest) = if list_all is_ascii_whitespace (b ∷ rest) then [] else b ∷ trimmed_end rest
-
--- the string without the blanks at its ends
-abbrev pub trim_blanks : List ℕ → List ℕ
-trim_blanks text = trimmed_end (past is_ascii_whitespace text)
-
--- ---- the parts of a text
+-- ---- the parts of a string
 
 -- the string has this byte
 abbrev pub has_byte : ℕ → List ℕ → Bool
 has_byte b text = list_any (λ x. x == b) text
-
--- the string begins with this byte
-abbrev pub opens : ℕ → List ℕ → Bool
-opens b text = starts (λ x. x == b) text
 
 -- the string is split into blanks, a name, blanks and the rest, each but the last as long as possible
 pub record RequirementParts (text : List ℕ) : Type 0 where
@@ -61,7 +45,7 @@ abbrev pub HasList : List ℕ → List ℕ → Type 0
 HasList text list = ((opens 40 (trim_blanks text) ≡ false) × (list ≡ trim_blanks text))
     ⊎ ((inner : List ℕ) × (trim_blanks text ≡ 40 ∷ (inner ++ 41 ∷ [])) × (list ≡ trim_blanks inner))
 
--- ---- what a text means
+-- ---- what a string denotes
 
 -- there is no marker and no URL
 pub record HasNoMarkerOrUrl (text : List ℕ) : Type 0 where

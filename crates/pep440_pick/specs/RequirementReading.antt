@@ -5,7 +5,8 @@ use Rattle.std.specs.List.{list_all}
 use Rattle.pep440_version.specs.Reading.{lead, past}
 use Rattle.pep440_rs.specs.ListGrammar.{pieces}
 use Rattle.pep440_pick.specs.Names.{is_name, is_name_byte}
-use Rattle.pep440_pick.specs.RequirementGrammar.{InvalidExtras, InvalidName, Marker, RequirementRefusal, Unclosed, Url, has_byte, opens, trim_blanks}
+use Rattle.pep440_rs.specs.Blanks.{opens, trim_blanks}
+use Rattle.pep440_pick.specs.RequirementGrammar.{InvalidExtras, InvalidName, Marker, RequirementRefusal, Unclosed, Url, has_byte}
 
 -- the name, the extras, and the string of the list
 pub record Front : Type 0 where

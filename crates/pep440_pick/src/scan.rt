@@ -4,7 +4,8 @@ ghost use Rattle.std.specs.Char.{is_ascii_whitespace};
 ghost use Rattle.std.specs.List.{list_all, prefix_len};
 ghost use Rattle.pep440_version.specs.Reading.{lead, past};
 ghost use Rattle.pep440_pick.specs.Names.{is_name_byte};
-ghost use Rattle.pep440_pick.specs.RequirementGrammar.{has_byte, opens, trim_blanks};
+ghost use Rattle.pep440_rs.specs.Blanks.{opens, trim_blanks};
+ghost use Rattle.pep440_pick.specs.RequirementGrammar.{has_byte};
 ghost use Rattle.pep440_pick.specs.RequirementReading.{split_at_byte, without_end};
 
 use crate::name::is_name_byte;

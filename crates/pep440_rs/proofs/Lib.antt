@@ -1,3 +1,4 @@
+pub mod Blanks
 pub mod Reading
 pub mod Reread
 pub mod Arranging

@@ -1,3 +1,4 @@
+pub mod Blanks
 pub mod Operators
 pub mod OperatorLaws
 pub mod Specifiers

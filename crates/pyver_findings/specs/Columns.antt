@@ -2,7 +2,8 @@
 use Rattle.std.specs.Prelude.{ℕ, ◌-◌, List, [], drop, length, if◌then◌else◌}
 use Rattle.std.specs.Char.{is_ascii_whitespace}
 use Rattle.std.specs.Option.{option_map_or}
-use Rattle.pep440_pick.specs.RequirementGrammar.{InvalidExtras, RequirementRefusal, Specifiers, Unclosed, opens}
+use Rattle.pep440_rs.specs.Blanks.{opens}
+use Rattle.pep440_pick.specs.RequirementGrammar.{InvalidExtras, RequirementRefusal, Specifiers, Unclosed}
 use Rattle.pep440_pick.specs.RequirementReading.{behind_name}
 use Rattle.pep440_version.specs.Reading.{past}
 use Rattle.pyver_requirements.specs.LineParts.{behind_byte}

@@ -1,7 +1,7 @@
 -- The files that the lines of a requirements file name (pip, "Requirements File Format").
 use Rattle.std.specs.Prelude.{ℕ, ◌==◌, ◌||◌, List, [], ◌∷◌, ◌++◌, Option, Some, None, if◌then◌else◌}
 use Rattle.std.specs.List.{flat_map, list_any}
-use Rattle.pep440_pick.specs.RequirementGrammar.{opens}
+use Rattle.pep440_rs.specs.Blanks.{opens}
 use Rattle.pyver_requirements.specs.LineKinds.{ConstraintsFile, LineKind, RequirementsFile, has_variable, line_kind}
 use Rattle.pyver_requirements.specs.LogicalLines.{Line, logical_lines}
 use Rattle.pyver_findings.specs.FileLines.{File}

@@ -3,7 +3,7 @@ use Rattle.std.specs.Prelude.{ℕ, ◌==◌, ◌&&◌, ◌||◌, List, [], ◌�
 use Rattle.std.specs.Char.{is_ascii_digit, is_ascii_uppercase, is_ascii_whitespace}
 use Rattle.std.specs.List.{ends_with, list_any, starts_with}
 use Rattle.std.specs.Option.{option_map_or}
-use Rattle.pep440_pick.specs.RequirementGrammar.{opens, trim_blanks}
+use Rattle.pep440_rs.specs.Blanks.{opens, trim_blanks}
 use Rattle.pep440_version.specs.Grammar.{starts}
 use Rattle.pep440_version.specs.Reading.{lead, past}
 

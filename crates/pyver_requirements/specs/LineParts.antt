@@ -2,7 +2,7 @@
 use Rattle.std.specs.Prelude.{ℕ, ◌==◌, ◌&&◌, ◌||◌, List, [], ◌∷◌, Bool, Option, Some, None, codes, nat_eq, not, option_map, if◌then◌else◌}
 use Rattle.std.specs.Char.{is_ascii_whitespace}
 use Rattle.std.specs.List.{starts_with}
-use Rattle.pep440_pick.specs.RequirementGrammar.{trim_blanks}
+use Rattle.pep440_rs.specs.Blanks.{trim_blanks}
 use Rattle.pep440_version.specs.Reading.{lead, past}
 
 -- the string begins with an option of a requirement: a long one, or `-C`

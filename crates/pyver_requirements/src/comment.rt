@@ -1,6 +1,6 @@
 // Lines without their comments.
 ghost use Rattle.std.specs.Prelude.{◌≡◌, true};
-ghost use Rattle.pep440_pick.specs.RequirementGrammar.{trim_blanks};
+ghost use Rattle.pep440_rs.specs.Blanks.{trim_blanks};
 ghost use Rattle.pyver_requirements.specs.LogicalLines.{before_comment, content};
 
 // What stands before the comment, which begins with a `#` at the start or after a blank.

@@ -2,7 +2,7 @@
 ghost use Rattle.std.specs.Prelude.{◌≡◌, ◌≤◌, ◌==◌, ◌||◌, IsTrue, length, not, option_map};
 ghost use Rattle.std.specs.Char.{is_ascii_whitespace};
 ghost use Rattle.std.specs.List.{list_any, prefix_len};
-ghost use Rattle.pep440_pick.specs.RequirementGrammar.{opens, trim_blanks};
+ghost use Rattle.pep440_rs.specs.Blanks.{opens, trim_blanks};
 ghost use Rattle.pyver_requirements.specs.LineKinds.{closes_variable, constraints_file, ends_as, first_word, has_variable, is_archive, is_location, is_variable_byte, line_kind, long_option_value, opens_variable, option_kind, option_value, requirements_file, short_endings, tar_endings};
 ghost use Rattle.pyver_requirements.specs.LineKindViews.{line_kind_of};
 

@@ -1,7 +1,7 @@
 // The parts of a line that is a requirement.
 ghost use Rattle.std.specs.Prelude.{◌≡◌, ◌≤◌, ◌==◌, length, not, option_map};
 ghost use Rattle.std.specs.List.{prefix_len};
-ghost use Rattle.pep440_pick.specs.RequirementGrammar.{trim_blanks};
+ghost use Rattle.pep440_rs.specs.Blanks.{trim_blanks};
 ghost use Rattle.pyver_requirements.specs.LineParts.{before_byte, before_options, behind_byte, line_parts, opens_option, rest_of};
 ghost use Rattle.pyver_requirements.specs.LinePartViews.{line_parts_of};
 

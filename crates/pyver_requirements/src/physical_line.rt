@@ -2,7 +2,7 @@
 ghost use Rattle.std.specs.Prelude.{◌≡◌, ◌<◌, ◌==◌, ◌∷◌, [], IfSome, IsTrue, length};
 ghost use Rattle.std.specs.Option.{option_map_or};
 ghost use Rattle.std.specs.Str.Lines.{strip_carriage_return};
-ghost use Rattle.pep440_pick.specs.RequirementGrammar.{opens};
+ghost use Rattle.pep440_rs.specs.Blanks.{opens};
 ghost use Rattle.pep440_version.specs.Refusals.{ends};
 ghost use Rattle.pyver_requirements.specs.LogicalLines.{added, after_mark, continues, is_comment_line, physical_lines};
 

@@ -1,6 +1,6 @@
 use Rattle.std.proofs.Common.{◌∙◌, sym, arith}
 use Rattle.std.specs.Char.{is_ascii_alphanumeric}
-use Rattle.pep440_pick.proofs.Normal.{ends_last}
+use Rattle.pep440_rs.proofs.Blanks.{ends_last}
 use Rattle.pep440_pick.proofs.name.ends_well.Goals as goal
 
 pub returns-in-len1-up : goal.returns-in-len1-up

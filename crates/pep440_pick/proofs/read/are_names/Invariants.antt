@@ -2,7 +2,7 @@ use Rattle.std.proofs.Common.{◌≡◌, length, map}
 use Rattle.std.specs.List.{list_all}
 use Rattle.pep440_rs.specs.ListGrammar.{pieces}
 use Rattle.pep440_pick.specs.Names.{is_name}
-use Rattle.pep440_pick.specs.RequirementGrammar.{trim_blanks}
+use Rattle.pep440_rs.specs.Blanks.{trim_blanks}
 use denote.Shadow.{shadow}
 use denote.Text.{Utf8}
 use Rattle.pep440_pick.proofs.read.are_names.Given as goal

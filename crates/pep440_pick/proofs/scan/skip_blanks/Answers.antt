@@ -1,4 +1,4 @@
-use Rattle.pep440_pick.proofs.Blanks.{start_trimmed}
+use Rattle.pep440_rs.proofs.Blanks.{start_trimmed}
 use Rattle.pep440_pick.proofs.scan.skip_blanks.Goals as goal
 
 pub returns : goal.returns

@@ -1,4 +1,4 @@
-use Rattle.pep440_pick.proofs.Blanks.{both_trimmed}
+use Rattle.pep440_rs.proofs.Blanks.{both_trimmed}
 use Rattle.pep440_pick.proofs.scan.trim_blanks.Goals as goal
 
 pub returns : goal.returns

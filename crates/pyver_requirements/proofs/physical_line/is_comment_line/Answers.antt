@@ -1,6 +1,6 @@
 use Rattle.std.proofs.Common.{◌∙◌, ap}
-use Rattle.pep440_pick.proofs.Blanks.{start_trimmed}
-use Rattle.pep440_pick.specs.RequirementGrammar.{opens}
+use Rattle.pep440_rs.proofs.Blanks.{start_trimmed}
+use Rattle.pep440_rs.specs.Blanks.{opens}
 use Rattle.pyver_requirements.proofs.physical_line.is_comment_line.Goals as goal
 
 pub returns : goal.returns

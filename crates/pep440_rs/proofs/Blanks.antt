@@ -1,17 +1,18 @@
--- Texts without the blanks at their ends.
-use Rattle.std.proofs.Common.{◌≡◌, ◌<◌, ◌≤◌, ◌-◌, ◌∙◌, ℕ, suc, zero, List, [], ◌∷◌, Bool, true, false, cond, length, get_or, take, drop, refl, sym, ap, subst, arith, inl, inr}
+-- Strings without the blanks at their ends, and the last byte of a string.
+use Rattle.std.proofs.Common.{◌≡◌, ◌<◌, ◌≤◌, ◌+◌, ◌-◌, ◌∙◌, ℕ, suc, zero, List, [], ◌∷◌, Bool, true, false, cond, length, get_or, take, drop, refl, sym, ap, subst, arith, inl, inr}
 use Rattle.std.proofs.lemmas.Bool.{cases_lt}
-use Rattle.std.proofs.lemmas.List.{get_or_past, length-take}
+use Rattle.std.proofs.lemmas.List.{get_or_default, get_or_past, length-take}
 use Rattle.std.proofs.lemmas.List.Folds.{list_all_at}
 use Rattle.std.proofs.lemmas.List.Recursion.{and_from_places}
 use Rattle.std.specs.Char.{is_ascii_whitespace}
 use Rattle.std.specs.List.{list_all, prefix_len}
 use Rattle.std.specs.Str.{IsTrimAscii, IsTrimAsciiStart}
 use Rattle.pep440_version.specs.Reading.{past}
-use Rattle.pep440_pick.specs.RequirementGrammar.{trim_blanks, trimmed_end}
+use Rattle.pep440_version.specs.Refusals.{ends}
+use Rattle.pep440_rs.specs.Blanks.{trim_blanks, trimmed_end}
 
--- the run of bytes that pass ends where one fails, or the text ends
-pub run_ends : (p : ℕ → Bool) (s : List ℕ) (n : ℕ) → n ≤ length s → ((i : ℕ) → i < n → p (get_or s i 0) ≡ true) → (n < length s → p (get_or s n 0) ≡ false) → prefix_len p s ≡ n
+-- the run of bytes that pass ends where one fails, or the string ends
+run_ends : (p : ℕ → Bool) (s : List ℕ) (n : ℕ) → n ≤ length s → ((i : ℕ) → i < n → p (get_or s i 0) ≡ true) → (n < length s → p (get_or s n 0) ≡ false) → prefix_len p s ≡ n
 run_ends p [] n inside all stops = omega (arith, inside)
 run_ends p (x ∷ xs) zero inside all stops = rw (stops (omega arith)) refl
 run_ends p (x ∷ xs) (suc n) inside all stops =
@@ -54,3 +55,15 @@ both_trimmed s r (m, is, below, stops, blanks, last) =
     let prefix : drop m s ≡ past is_ascii_whitespace s = ap (λ k. drop k s) (sym (run_ends is_ascii_whitespace s m inside below stops)) in
     let long = ap length is ∙ length-take (length r) (drop m s) in
     is ∙ end_trimmed (drop m s) (length r) (omega (arith, long)) blanks last ∙ ap trimmed_end prefix
+
+-- the last byte decides how a string ends
+ends_at : (test : ℕ → Bool) (b : ℕ) (rest : List ℕ) (n : ℕ) → n ≡ length rest → ends test (b ∷ rest) ≡ test (get_or (b ∷ rest) n 0)
+ends_at test b [] n e = rw e refl
+ends_at test b (c ∷ rest) n e = rw e (ends_at test c rest (length rest) refl)
+
+pub ends_last : (test : ℕ → Bool) (t : List ℕ) (d : ℕ) → 0 < length t → ends test t ≡ test (get_or t (length t - 1) d)
+ends_last test [] d some = absurd (omega (arith, some))
+ends_last test (b ∷ rest) d some =
+    let at : length rest ≡ suc (length rest) - 1 = omega arith in
+    let inside : length rest < length (b ∷ rest) = omega arith in
+    ends_at test b rest (length rest) refl ∙ ap test (get_or_default (b ∷ rest) (length rest) 0 d inside) ∙ ap (λ n. test (get_or (b ∷ rest) n d)) at
