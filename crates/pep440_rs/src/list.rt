@@ -24,7 +24,6 @@ ghost use Rattle.pep440_rs.specs.BoundsAgreement.{IsReleasePair, IsOrdered, Know
 ghost use Rattle.pep440_rs.specs.Members.{list_members};
 
 pub(crate) mod error;
-pub(crate) mod error_text;
 pub(crate) mod print;
 pub(crate) mod read;
 
@@ -165,7 +164,7 @@ impl VersionSpecifiers {
         ensures lifted { IfErr result (λ e. IsListLifted (list_kind_of e)) }
         ensures line { IfErr result (λ e. line_of e ≡ line_for text.now (list_kind_of e)) }
     {
-        let members = read::members(alloc, text).map_err(
+        let members = read::parse_members(alloc, text).map_err(
             |kind| VersionSpecifiersParseError::from_text(alloc, text, kind),
         )?;
         VersionSpecifiers::from_specifiers(alloc, members).map_err(

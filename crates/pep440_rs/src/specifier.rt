@@ -22,7 +22,6 @@ ghost use Rattle.pep440_rs.specs.Members.{lower_member, upper_member, without_lo
 
 pub(crate) mod contains;
 pub(crate) mod error;
-pub(crate) mod error_text;
 pub(crate) mod operator;
 pub(crate) mod read;
 pub(crate) mod scan;
@@ -287,7 +286,7 @@ impl VersionSpecifier {
         ensures value { SpecifierAnswers result (read_specifier text.now) }
         ensures lifted { IfErr result (λ e. IsLifted (parse_kind_of e)) }
     {
-        Ok(read::specifier(alloc, text)?)
+        Ok(read::parse_specifier(alloc, text)?)
     }
 
     /// The specifier that the string denotes: white space, an operator, white space, a version pattern, white space

@@ -27,9 +27,9 @@ next_is n m e = go (n == 18446744073709551615) e
 
 -- raised is the release with its last number raised
 abbrev pub IsRaised : List ℕ → List ℕ → Type 0
-IsRaised [] raise_last = ⊥
-IsRaised (x ∷ []) raise_last = raise_last ≡ (x + 1) ∷ []
-IsRaised (x ∷ y ∷ ys) raise_last = (rest : List ℕ) × IsRaised (y ∷ ys) rest × (raise_last ≡ x ∷ rest)
+IsRaised [] raised = ⊥
+IsRaised (x ∷ []) raised = raised ≡ (x + 1) ∷ []
+IsRaised (x ∷ y ∷ ys) raised = (rest : List ℕ) × IsRaised (y ∷ ys) rest × (raised ≡ x ∷ rest)
 
 pub raised_is : (ps qs : List ℕ) → raise_last ps ≡ Some qs → IsRaised ps qs
 raised_is [] qs e = cc

@@ -36,12 +36,12 @@ below_first_dev e r v =
 
 -- ---- stars
 
-star_holds : (e : ℕ) (r raise_last : List ℕ) (v : Record) → IsRaised r raise_last →
-    not (is_lt (record_cmp (plain v) (first_dev e r))) && is_lt (record_cmp (plain v) (first_dev e raise_last)) ≡ (v.epoch == e) && begins_with v.release r
-star_holds e r raise_last v h =
-    both _ _ _ _ (ap not (below_first_dev e r v)) (below_first_dev e raise_last v)
-    ∙ step_more v.epoch e (release_cmp v.release r) (release_cmp v.release raise_last)
-    ∙ ap (λ b. (v.epoch == e) && b) (prefix_bounds r raise_last v.release h)
+star_holds : (e : ℕ) (r raised : List ℕ) (v : Record) → IsRaised r raised →
+    not (is_lt (record_cmp (plain v) (first_dev e r))) && is_lt (record_cmp (plain v) (first_dev e raised)) ≡ (v.epoch == e) && begins_with v.release r
+star_holds e r raised v h =
+    both _ _ _ _ (ap not (below_first_dev e r v)) (below_first_dev e raised v)
+    ∙ step_more v.epoch e (release_cmp v.release r) (release_cmp v.release raised)
+    ∙ ap (λ b. (v.epoch == e) && b) (prefix_bounds r raised v.release h)
 
 pub star_agrees : (e : ℕ) (r : List ℕ) (v : Record) (range : Segments) → star (epoch_and_release e r) ≡ Some range → contains record_cmp range (plain v) ≡ has_prefix (epoch_and_release e r) r (plain v)
 star_agrees e r v range h =
@@ -61,23 +61,23 @@ not_star_agrees e r v range h =
 -- ---- `~=`
 
 -- what is below the end has the shorter prefix, if it isn't below s
-pub tilde_holds : (s v : Record) (raise_last : List ℕ) (below : Bool) → IsRaised (without_last s.release) raise_last →
-    below ≡ is_lt (ordering_then (nat_cmp v.epoch s.epoch) (release_cmp v.release raise_last)) →
+pub tilde_holds : (s v : Record) (raised : List ℕ) (below : Bool) → IsRaised (without_last s.release) raised →
+    below ≡ is_lt (ordering_then (nat_cmp v.epoch s.epoch) (release_cmp v.release raised)) →
     not (is_lt (record_cmp (plain v) (plain s))) && below
     ≡ has_prefix s (without_last s.release) v && is_ge (record_cmp (plain v) (plain s))
-tilde_holds s v raise_last below h b =
+tilde_holds s v raised below h b =
     ap (λ b. not (is_lt (record_cmp (plain v) (plain s))) && b) b
     ∙ ap (λ o. not (is_lt o) && u) (by_parts (plain v) (plain s))
     ∙ table (nat_cmp v.epoch s.epoch) (release_cmp v.release (without_last s.release)) (release_cmp v.release s.release) (ordering_then (suffix_cmp (plain v) (plain s)) ord.Equal)
     u (below_prefix v.release s.release)
     ∙ ap (λ o. (not (is_lt (ordering_then (nat_cmp v.epoch s.epoch) (release_cmp v.release (without_last s.release)))) && u) && not (is_lt o)) (sym (by_parts (plain v) (plain s)))
     ∙ both _ _ _ _
-    (step_more v.epoch s.epoch (release_cmp v.release (without_last s.release)) (release_cmp v.release raise_last)
-    ∙ ap (λ b. (v.epoch == s.epoch) && b) (prefix_bounds (without_last s.release) raise_last v.release h))
+    (step_more v.epoch s.epoch (release_cmp v.release (without_last s.release)) (release_cmp v.release raised)
+    ∙ ap (λ b. (v.epoch == s.epoch) && b) (prefix_bounds (without_last s.release) raised v.release h))
     (sym (ge_not_lt (record_cmp (plain v) (plain s))))
   where
     u : Bool
-    u = is_lt (ordering_then (nat_cmp v.epoch s.epoch) (release_cmp v.release raise_last))
+    u = is_lt (ordering_then (nat_cmp v.epoch s.epoch) (release_cmp v.release raised))
 
     table : (E F R Y : Ordering) (u : Bool) → (is_lt F ≡ true → is_lt R ≡ true) →
         not (is_lt (ordering_then (ordering_then E R) Y)) && u ≡ (not (is_lt (ordering_then E F)) && u) && not (is_lt (ordering_then (ordering_then E R) Y))

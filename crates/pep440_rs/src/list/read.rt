@@ -10,17 +10,21 @@ ghost use Rattle.pep440_rs.specs.Specifiers.{Spec};
 use crate::list::error::SpecifiersErrorKind;
 use crate::specifier::VersionSpecifier;
 use crate::specifier::error::{ParseErrorKind, VersionSpecifierParseError};
-use crate::specifier::read::specifier;
+use crate::specifier::read::parse_specifier;
 use std::alloc::Global;
 
 // What a piece of a list reads as, which begins at this byte.
 #[inline(always)]
-fn piece(alloc: Global, start: usize, piece: &str) -> Result<VersionSpecifier, SpecifiersErrorKind>
+fn parse_piece(
+    alloc: Global,
+    start: usize,
+    piece: &str,
+) -> Result<VersionSpecifier, SpecifiersErrorKind>
     requires { start + length piece.now < 2 ^ 64 }
     ensures value { PieceGives start piece.now result (read_specifier piece.now) }
     ensures lifted { IfErr result IsListLifted }
 {
-    match specifier(alloc, piece) {
+    match parse_specifier(alloc, piece) {
         Ok(specifier) => Ok(specifier),
         Err(ParseErrorKind::OutOfMemory) => Err(SpecifiersErrorKind::OutOfMemory),
         Err(kind) => Err(SpecifiersErrorKind::Piece {
@@ -44,7 +48,7 @@ fn add_piece(
     ensures refused { IfErr result (λ kind. PieceGives start text.now (Err kind) (read_specifier text.now)) }
     ensures lifted { IfErr result IsListLifted }
 {
-    let member = piece(alloc, start, text)?;
+    let member = parse_piece(alloc, start, text)?;
     members.push(member)?;
     Ok(())
 }
@@ -66,7 +70,7 @@ fn split_piece(text: &str) -> (&str, Option<&str>)
 }
 
 // The members of a list, in the order of the text.
-pub(crate) fn members(
+pub(crate) fn parse_members(
     alloc: Global,
     text: &str,
 ) -> Result<Vec<VersionSpecifier>, SpecifiersErrorKind>

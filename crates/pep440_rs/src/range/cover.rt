@@ -90,7 +90,11 @@ fn cover_less(alloc: Global, version: Version) -> Result<Ranges<Version>, AllocE
 }
 
 // The cover, operator by operator.
-fn cover(alloc: Global, operator: Operator, version: Version) -> Result<Ranges<Version>, RangeError>
+fn convert_to_cover(
+    alloc: Global,
+    operator: Operator,
+    version: Version,
+) -> Result<Ranges<Version>, RangeError>
     requires { operator ≡ Operator.TildeEqual → 2 ≤ length version.release }
     ensures cover { IfOk result (λ r. cover_of operator version ≡ Some r) }
     ensures refused { IsErrOf result RangeError.NumberAtMax → cover_of operator version ≡ None }
@@ -132,5 +136,5 @@ pub fn specifier_to_cover(
     ensures holds { IsCoverable specifier → IfOk result (Covers specifier) }
 {
     let (operator, version) = specifier.into_parts();
-    cover(alloc, operator, version)
+    convert_to_cover(alloc, operator, version)
 }

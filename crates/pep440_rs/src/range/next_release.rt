@@ -19,7 +19,7 @@ pub(crate) fn next_number(n: u64) -> Result<u64, RangeError>
 // The release with its last number raised.
 pub(crate) fn raise_last(alloc: Global, release: &[u64]) -> Result<Vec<u64>, RangeError>
     requires { 0 < length release.now }
-    ensures raise_last { IfOk result (λ v. raise_last release.now ≡ Some v.items) }
+    ensures value { IfOk result (λ v. raise_last release.now ≡ Some v.items) }
     ensures len { IfOk result (λ v. 0 < length v.items) }
     ensures refused { IsErrOf result RangeError.NumberAtMax → raise_last release.now ≡ None }
 {

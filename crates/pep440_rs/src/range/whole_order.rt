@@ -80,11 +80,11 @@ fn raise_star(alloc: Global, version: Version) -> Result<Version, RangeError>
         Ok(version.with_post(alloc, Some(next))?)
     } else if let Some(pre) = version.pre() {
         let next = next_number(pre.number)?;
-        let raise_last = Prerelease {
+        let raised = Prerelease {
             kind: pre.kind,
             number: next,
         };
-        Ok(version.with_pre(alloc, Some(raise_last))?)
+        Ok(version.with_pre(alloc, Some(raised))?)
     } else {
         let numbers = raise_last(alloc, version.release())?;
         Ok(version.with_release(alloc, &numbers)?)
@@ -95,8 +95,8 @@ fn convert_star(alloc: Global, version: Version) -> Result<Ranges<Version>, Rang
     ensures range { IfOk result (λ r. star version ≡ Some r) }
     ensures refused { IsErrOf result RangeError.NumberAtMax → star version ≡ None }
 {
-    let raise_last = raise_star(alloc, version.clone()?)?;
-    let end = raise_last.with_dev(alloc, Some(0))?;
+    let raised = raise_star(alloc, version.clone()?)?;
+    let end = raised.with_dev(alloc, Some(0))?;
     let start = version.with_dev(alloc, Some(0))?;
     Ok(Ranges::from_range_bounds(alloc, Bound::Included(start), Bound::Excluded(end))?)
 }

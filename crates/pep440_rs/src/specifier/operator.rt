@@ -1,5 +1,5 @@
 //! The comparison operators: their order, hash and string form, and the reader.
-ghost use Rattle.std.specs.Prelude.{◌≡◌, ◌≢◌, Some, Ok, IfOk, IfErr, IfSome, refl};
+ghost use Rattle.std.specs.Prelude.{◌≡◌, ◌≢◌, Some, Ok, IfOk, IfErr, IfNone, IfSome, refl};
 ghost use Rattle.std.specs.Cmp.{partial_equiv_from_equiv};
 ghost use Rattle.std.specs.Ordering.{as_partial_cmp, eq_by_cmp};
 ghost use Rattle.pep440_rs.specs.Errors.{operator_kind_of, unknown_of};
@@ -40,8 +40,9 @@ pub enum Operator {
 }
 
 impl Operator {
-    // The position among the operators.
-    fn rank(self) -> u64
+    /// The operator's number: its place in the enum, from 0. Numbers never change their meaning: they are what a hasher is fed,
+    /// and they may be stored.
+    pub fn number(self) -> u8
         ensures { result ≡ operator_rank self }
     {
         match self {
@@ -56,6 +57,26 @@ impl Operator {
             Operator::GreaterThan => 8,
             Operator::GreaterThanEqual => 9,
         }
+    }
+
+    /// The operator with this number, and `None` from 10 on.
+    pub fn from_number(number: u8) -> Option<Operator>
+        ensures some { IfSome result (λ o. operator_rank o ≡ number) }
+        ensures none { IfNone result ((o : Operator) → operator_rank o ≡ number → ⊥) }
+    {
+        Some(match number {
+            0 => Operator::Equal,
+            1 => Operator::EqualStar,
+            2 => Operator::ExactEqual,
+            3 => Operator::NotEqual,
+            4 => Operator::NotEqualStar,
+            5 => Operator::TildeEqual,
+            6 => Operator::LessThan,
+            7 => Operator::LessThanEqual,
+            8 => Operator::GreaterThan,
+            9 => Operator::GreaterThanEqual,
+            _ => return None,
+        })
     }
 
     /// The operator of the opposite comparison; `~=` has none. Negating twice gives the operator back, but for
@@ -151,13 +172,13 @@ impl Operator {
             "<=" => Ok(Operator::LessThanEqual),
             ">" => Ok(Operator::GreaterThan),
             ">=" => Ok(Operator::GreaterThanEqual),
-            _ => Err(unknown(alloc, text)),
+            _ => Err(reject_unknown(alloc, text)),
         }
     }
 }
 
 // The error of a string that is no operator.
-fn unknown(alloc: Global, text: &str) -> OperatorParseError
+fn reject_unknown(alloc: Global, text: &str) -> OperatorParseError
     ensures { IfSome (unknown_of (operator_kind_of result)) (λ got. got ≡ text.now) }
 {
     OperatorParseError::from(match String::from_str(alloc, text) {
@@ -200,7 +221,7 @@ impl Ord for Operator {
     ghost matches_eq = { λ a b. refl };
 
     fn cmp(&self, other: &Operator) -> Ordering {
-        self.rank().cmp(&other.rank())
+        self.number().cmp(&other.number())
     }
 }
 
@@ -210,7 +231,7 @@ impl Hash for Operator {
     ghost respects_eq = { operators_feed_alike };
 
     fn hash<H: Hasher>(&self, state: &mut H) {
-        state.write_u64(self.rank());
+        state.write_u64(u64::from(self.number()));
     }
 }
 

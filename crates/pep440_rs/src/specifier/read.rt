@@ -15,7 +15,7 @@ use pep440_version::{VersionPattern, VersionPatternParseError};
 use std::alloc::Global;
 
 // The specifier of its parts, where nothing is left.
-fn with_pattern(
+fn build_specifier(
     alloc: Global,
     operator: Operator,
     pattern: VersionPattern,
@@ -31,14 +31,14 @@ fn with_pattern(
 }
 
 // What the text reads as, by what the reader of patterns promises.
-fn pattern(alloc: Global, text: &str) -> Result<VersionPattern, VersionPatternParseError>
+fn parse_pattern(alloc: Global, text: &str) -> Result<VersionPattern, VersionPatternParseError>
     ensures { Answers pattern_error_refusal result (read_pattern text.now) }
 {
     VersionPattern::from_str(alloc, text)
 }
 
 // The same, where the version is yet to be read.
-fn with_version(
+fn parse_version(
     alloc: Global,
     operator: Operator,
     version: &str,
@@ -49,12 +49,12 @@ fn with_version(
     if version.is_empty() {
         return Err(ParseErrorKind::MissingVersion);
     }
-    let pattern = pattern(alloc, version).map_err(ParseErrorKind::from_version_error)?;
-    with_pattern(alloc, operator, pattern, rest)
+    let pattern = parse_pattern(alloc, version).map_err(ParseErrorKind::from_version_error)?;
+    build_specifier(alloc, operator, pattern, rest)
 }
 
 // What the text reads as.
-pub(crate) fn specifier(alloc: Global, text: &str) -> Result<VersionSpecifier, ParseErrorKind>
+pub(crate) fn parse_specifier(alloc: Global, text: &str) -> Result<VersionSpecifier, ParseErrorKind>
     ensures { SpecifierGives result (read_specifier text.now) }
 {
     let (spelled, behind) = split_run(skip_blanks(text), Run::Operator);
@@ -63,5 +63,5 @@ pub(crate) fn specifier(alloc: Global, text: &str) -> Result<VersionSpecifier, P
     }
     let operator = Operator::from_str(alloc, spelled).map_err(ParseErrorKind::from_operator_error)?;
     let (version, behind) = split_run(skip_blanks(behind), Run::Word);
-    with_version(alloc, operator, version, skip_blanks(behind))
+    parse_version(alloc, operator, version, skip_blanks(behind))
 }

@@ -8,7 +8,7 @@ use Rattle.pep440_rs.specs.ListReading.{read_members, read_pieces}
 use Rattle.pep440_rs.specs.SpecifierReading.{read_specifier}
 use Rattle.pep440_rs.proofs.Reading.Passed.{passed}
 use Rattle.pep440_rs.proofs.Reading.Pieces.{after_comma, ends_here, goes_on, members_from, piece_refused, piece_span, stops_here, with_members}
-use Rattle.pep440_rs.proofs.list.read.members.Goals as goal
+use Rattle.pep440_rs.proofs.list.read.parse_members.Goals as goal
 
 pub returns-in_err-add_piece-clause-value : goal.returns-in_err-add_piece-clause-value
 returns-in_err-add_piece-clause-value c =

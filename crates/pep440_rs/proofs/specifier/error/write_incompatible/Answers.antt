@@ -1,6 +1,6 @@
 use Rattle.std.proofs.Common.{refl}
 use Rattle.std.proofs.Output.{has_written_styled_append}
-use Rattle.pep440_rs.proofs.specifier.error_text.write_incompatible.Goals as goal
+use Rattle.pep440_rs.proofs.specifier.error.write_incompatible.Goals as goal
 
 pub returns : goal.returns
 returns g c = λ flush ok.

@@ -5,7 +5,7 @@ use Rattle.pep440_rs.specs.ListReading.{read_pieces}
 use Rattle.pep440_rs.proofs.Reading.Pieces.{with_members}
 use denote.Shadow.{shadow}
 use denote.Text.{Utf8}
-use Rattle.pep440_rs.proofs.list.read.members.Given as goal
+use Rattle.pep440_rs.proofs.list.read.parse_members.Given as goal
 
 abbrev pub invariant-loop-members : goal.invariant-loop-members
 invariant-loop-members l = shadow (Utf8 l.rest) × EndsWith l.text l.rest

@@ -2,7 +2,7 @@ use Rattle.std.proofs.Common.{◌≡◌, ◌∙◌, ◌++◌, ◌∷◌, [], ap,
 use Rattle.std.specs.Prelude.{slice_range}
 use Rattle.std.proofs.Output.{has_written_styled_append, has_written_styled_of_eq}
 use Rattle.pep440_rs.specs.ListErrorTexts.{columns}
-use Rattle.pep440_rs.proofs.list.error_text.write_caret_line.Goals as goal
+use Rattle.pep440_rs.proofs.list.error.write_caret_line.Goals as goal
 
 pub returns : goal.returns
 returns g c = λ flush ok.

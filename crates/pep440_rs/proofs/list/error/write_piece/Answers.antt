@@ -3,7 +3,7 @@ use Rattle.std.specs.Fmt.{DisplaysStyledOnOk}
 use Rattle.pep440_rs.specs.Errors.{parse_kind_of, specifier_refusal_of}
 use Rattle.pep440_rs.specs.ErrorTexts.{specifier_error_text}
 use Rattle.pep440_rs.proofs.Reread.Around.{around}
-use Rattle.pep440_rs.proofs.list.error_text.write_piece.Goals as goal
+use Rattle.pep440_rs.proofs.list.error.write_piece.Goals as goal
 
 pub returns : goal.returns
 returns g c =

@@ -9,7 +9,7 @@ use Rattle.std.specs.Prelude.{IfErr, IfOk, IfSome}
 use Rattle.pep440_rs.specs.Operators.{Spells}
 use Rattle.pep440_rs.proofs.Reading.Passed.{mapped_error, mapped_value, passed}
 use Rattle.pep440_rs.proofs.Reading.Steps.{known_operator, names_operator, no_operator, operator_bytes, unknown_operator}
-use Rattle.pep440_rs.proofs.specifier.read.specifier.Goals as goal
+use Rattle.pep440_rs.proofs.specifier.read.parse_specifier.Goals as goal
 
 pub returns-then-is_empty : goal.returns-then-is_empty
 returns-then-is_empty c =
@@ -39,6 +39,6 @@ returns c =
     let rest : encode_utf8_all (from_rest c.args.text.now) ≡ c.skip_blanks-3.result.now =
     ap (λ cs. encode_utf8_all (past is_whitespace (past is_not_whitespace cs))) (sym opened)
     ∙ ap (λ cs. encode_utf8_all (past is_whitespace cs)) (sym c.split_run-2.ensures.back) ∙ sym c.skip_blanks-3.ensures.bytes in
-    subst (SpecifierGives c.with_version.result) (sym (known_operator c.args.text.now c.split_run.result.0.now _ _ c.in_ok-operator.operator is some
+    subst (SpecifierGives c.parse_version.result) (sym (known_operator c.args.text.now c.split_run.result.0.now _ _ c.in_ok-operator.operator is some
     (subst (λ r. IfOk r (Spells c.split_run.result.0.now)) (mapped_value c.from_str.result c.map_err.result _ c.map_err.ensures.cases c.in_ok-operator.operator c.in_ok-operator.was) c.from_str.ensures.found)
-    version rest)) c.with_version.ensures
+    version rest)) c.parse_version.ensures

@@ -2,7 +2,7 @@ use Rattle.std.proofs.Common.{◌++◌, ◌∙◌, ap, refl, replicate}
 use Rattle.std.proofs.Output.{has_written_styled_append, has_written_styled_of_eq}
 use Rattle.std.proofs.lemmas.Str.{encode_ascii}
 use Rattle.pep440_rs.proofs.Reread.Prints.{replicate_more}
-use Rattle.pep440_rs.proofs.list.error_text.write_times.Goals as goal
+use Rattle.pep440_rs.proofs.list.error.write_times.Goals as goal
 
 pub loop-i-preserved : goal.loop-i-preserved
 loop-i-preserved g c = λ flush.
