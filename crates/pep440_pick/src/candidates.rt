@@ -38,18 +38,18 @@ fn is_above(candidates: &[Version], newest: Option<usize>, version: &Version) ->
     }
 }
 
-/// The position of the greatest candidate that every list contains, counted from 0; of equal ones the first. `None`
-/// only where no candidate is contained. Without lists every candidate is contained.
+/// The index of the greatest candidate that every list contains; of equal ones the first. `None` only if no candidate is
+/// contained. Without lists every candidate is contained.
 ///
-/// Allocates for members with `===` alone, and returns `AllocError` only where that fails; where no list has such a
-/// member it always succeeds. Candidates that are not above the newest so far are not matched.
+/// Allocates only for members with `===`, and returns `AllocError` only if that fails; without such a member it always
+/// succeeds. Candidates that are not above the newest so far are not matched.
 pub fn newest(
     alloc: Global,
     lists: &[VersionSpecifiers],
     candidates: &[Version],
 ) -> Result<Option<usize>, AllocError>
     ensures newest { IfOk result (Newest lists.now candidates.now) }
-    // It is the place of a candidate.
+    // It is the index of a candidate.
     ensures inside { IfOk result (λ newest. IfSome newest (λ position. position < length candidates.now)) }
     ensures answered { All (λ list. All (λ m. m.operator ≢ ExactEqual) list) lists.now → IsOk result }
 {

@@ -20,7 +20,7 @@ pub enum RequirementError {
     InvalidName,
     /// What is in brackets are no extras, or the brackets are not closed.
     InvalidExtras,
-    /// A parenthesis opens before the list, and none closes it.
+    /// A parenthesis opens before the list and is not closed.
     Unclosed,
     /// The list of specifiers is invalid; the error's line is the list.
     Specifiers(VersionSpecifiersParseError),

@@ -1,5 +1,6 @@
-//! Requirements, as `demo[extra] >=1.0, <2.0`, and what they ask of versions: the newest candidate, and the range that is
-//! allowed.
+//! Requirements, as `demo[extra] >=1.0, <2.0`, and which versions they allow: the newest candidate, and the range.
+//!
+//! In reading order: `Requirement` and its errors, names, the newest candidate, the allowed range, and `laws`.
 #![tactic(auto)]
 
 mod candidates;

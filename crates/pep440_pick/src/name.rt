@@ -21,7 +21,7 @@ pub(crate) fn is_name_byte(byte: u8) -> bool
     byte.is_ascii_alphanumeric() || is_separator(byte)
 }
 
-// A letter or a digit stands in front.
+// A letter or a digit stands at the start.
 fn starts_well(text: &[u8]) -> bool
     ensures { result ≡ starts is_ascii_alphanumeric text.now }
 {

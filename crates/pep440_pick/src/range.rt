@@ -13,7 +13,7 @@ use pep440_rs::{
 };
 use std::alloc::{AllocError, Global};
 
-// The members of the list, behind these.
+// The members of the list, after these.
 fn add_members(
     members: &mut Vec<VersionSpecifier>,
     list: &VersionSpecifiers,
@@ -43,19 +43,18 @@ fn collect_members(
     Ok(members)
 }
 
-/// The versions that lie in the range of each requirement of that name (`specifiers_to_ranges`): all versions where there
-/// is no such requirement. Requirements of other names are not looked at.
+/// The versions that are in the range of each requirement of that name (`specifiers_to_ranges`): all versions if there is no
+/// such requirement. Requirements of other names are not looked at.
 ///
-/// Allocates. Returns `NumberAtMax` where some requirement of that name gives it, also where the others allow no
-/// version, and `OutOfMemory` where an allocation fails. The ranges are intersected by halves: n members take n log n
-/// steps.
+/// Allocates. Returns `NumberAtMax` if some requirement of that name gives it, also if the others allow no version, and
+/// `OutOfMemory` if an allocation fails. The ranges are intersected by halves: n members take n log n steps.
 pub fn allowed(
     alloc: Global,
     requirements: &[Requirement],
     name: &str,
 ) -> Result<Ranges<Version>, RangeError>
     ensures set { IfOk result (HoldsAllowed (lists_of name.now (map needed requirements.now))) }
-    // `NumberAtMax` exactly where the range of some requirement of that name is rejected, unless memory runs out.
+    // `NumberAtMax` exactly if some requirement of that name has no range, unless an allocation fails.
     ensures at_max { TellsMax (list_any (λ list. is_none (list_range range_of list)) (lists_of name.now (map needed requirements.now))) result }
     ensures all { lists_of name.now (map needed requirements.now) ≡ [] → IfOk result (λ range. range ≡ full) }
 {

@@ -24,11 +24,11 @@ use crate::scan::{
 use pep440_rs::{SpecifiersErrorKind, VersionSpecifiers, VersionSpecifiersParseError};
 use std::alloc::{AllocError, Global};
 
-// The parts of a text: the name, what stands in brackets, and the text of the list.
+// The parts of a requirement: the name, what stands in brackets, and the string of the list.
 #[derive(Clone, Copy)]
 pub(crate) struct Parts<'a> {
     pub(crate) name: &'a str,
-    // Empty where there are no brackets.
+    // Empty if there are no brackets.
     pub(crate) extras: &'a str,
     pub(crate) list: &'a str,
 }
@@ -47,7 +47,7 @@ fn are_names(inside: &str) -> bool
     is_name(trim_blanks(rest))
 }
 
-// Whether what stands in brackets are extras, of which there are none where blanks stand alone.
+// Whether what stands in brackets are extras; blanks only are no extra.
 fn are_extras(inside: &str) -> bool
     ensures { result ≡ list_all is_name (listed_extras inside.now) }
 {
@@ -78,9 +78,8 @@ pub(crate) fn copy_extras(alloc: Global, inside: &str) -> Result<Vec<String>, Al
     Ok(extras)
 }
 
-// What stands in brackets at the front, where they open there, and what follows; none where they hold no extras or
-// are not closed.
-fn extras_at(text: &str) -> Option<(&str, &str)>
+// What stands in brackets at the start, if they open there, and the rest; none if they hold no extras or are not closed.
+fn split_extras(text: &str) -> Option<(&str, &str)>
     ensures { option_map (λ x. (listed_extras x.0.now, x.1.now)) result ≡ extras_at text.now }
 {
     let Some(open) = without_prefix(text, '[') else {
@@ -94,8 +93,8 @@ fn extras_at(text: &str) -> Option<(&str, &str)>
     }
 }
 
-// The text of the list, with parentheses around it or without; none where they are not closed.
-fn list_in(text: &str) -> Option<&str>
+// The string of the list, without parentheses around it; none if they are not closed.
+fn strip_parentheses(text: &str) -> Option<&str>
     ensures { option_map (λ x. x.now) result ≡ list_in text.now }
 {
     match without_prefix(text, '(') {
@@ -104,8 +103,8 @@ fn list_in(text: &str) -> Option<&str>
     }
 }
 
-// The parts of a text, by its bytes of a name and what follows them behind blanks.
-fn prefix_after_name<'a>(name: &'a str, rest: &'a str) -> Result<Parts<'a>, RequirementError>
+// The parts of a requirement, by its name and what follows the name after blanks.
+fn parse_after_name<'a>(name: &'a str, rest: &'a str) -> Result<Parts<'a>, RequirementError>
     requires { list_all is_name_byte name.now ≡ true }
     ensures value { FrontGives result (prefix_after_name name.now rest.now) }
     ensures lifted { IfErr result IsRequirementLifted }
@@ -114,16 +113,16 @@ fn prefix_after_name<'a>(name: &'a str, rest: &'a str) -> Result<Parts<'a>, Requ
     if !has_name_ends(name.as_bytes()) {
         return Err(RequirementError::InvalidName);
     }
-    let Some((extras, behind)) = extras_at(rest) else {
+    let Some((extras, behind)) = split_extras(rest) else {
         return Err(RequirementError::InvalidExtras);
     };
-    match list_in(trim_blanks(behind)) {
+    match strip_parentheses(trim_blanks(behind)) {
         Some(list) => Ok(Parts { name, extras, list }),
         None => Err(RequirementError::Unclosed),
     }
 }
 
-// The parts of the text.
+// The parts of the string.
 pub(crate) fn read_parts(text: &str) -> Result<Parts<'_>, RequirementError>
     ensures value { FrontGives result (read_prefix text.now) }
     ensures lifted { IfErr result IsRequirementLifted }
@@ -136,11 +135,11 @@ pub(crate) fn read_parts(text: &str) -> Result<Parts<'_>, RequirementError>
         return Err(RequirementError::Url);
     }
     let (name, rest) = split_name(skip_blanks(text));
-    prefix_after_name(name, skip_blanks(rest))
+    parse_after_name(name, skip_blanks(rest))
 }
 
-// The error of a text whose list is refused with this one.
-fn of_list(error: VersionSpecifiersParseError) -> RequirementError
+// The error of a requirement whose list has this error.
+fn from_list_error(error: VersionSpecifiersParseError) -> RequirementError
     requires { IsListLifted (list_kind_of error) }
     ensures refusal { requirement_refusal_of result ≡ option_map (λ f. Specifiers (line_of error) f) (list_refusal_of (list_kind_of error)) }
     ensures message { requirement_text_of result ≡ list_text_of (list_kind_of error) (line_of error) }
@@ -152,8 +151,8 @@ fn of_list(error: VersionSpecifiersParseError) -> RequirementError
     RequirementError::Specifiers(error)
 }
 
-// The list that the text means.
-pub(crate) fn list_of(alloc: Global, text: &str) -> Result<VersionSpecifiers, RequirementError>
+// The list that the string denotes.
+pub(crate) fn parse_list(alloc: Global, text: &str) -> Result<VersionSpecifiers, RequirementError>
     ensures found { IfOk result (λ list. DerivesList text.now list) }
     ensures operand { IfOk result (λ list. All HasOperand list) }
     ensures only { (list : List Spec) → DerivesList text.now list → ListGives text.now result (Ok list) }
@@ -164,6 +163,6 @@ pub(crate) fn list_of(alloc: Global, text: &str) -> Result<VersionSpecifiers, Re
 {
     match VersionSpecifiers::from_str(alloc, text) {
         Ok(list) => Ok(list),
-        Err(error) => Err(of_list(error)),
+        Err(error) => Err(from_list_error(error)),
     }
 }

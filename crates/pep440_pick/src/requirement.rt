@@ -1,4 +1,4 @@
-//! Requirements: their parts, and the reader.
+//! Requirements and their parser.
 ghost use Rattle.std.specs.Prelude.{◌≡◌, ◌∷◌, [], Ok, Err, Some, IfOk, IfErr, IfSome, option_to_list};
 ghost use Rattle.std.specs.List.{All};
 ghost use Rattle.pep440_rs.specs.Agreement.{HasOperand};
@@ -8,7 +8,7 @@ ghost use Rattle.pep440_pick.specs.RequirementTexts.{requirement_refusal_text, r
 
 use crate::error::RequirementError;
 use crate::name::same_name;
-use crate::read::{copy_extras, list_of, read_parts};
+use crate::read::{copy_extras, parse_list, read_parts};
 use pep440_rs::VersionSpecifiers;
 use std::alloc::{AllocError, Global};
 
@@ -26,29 +26,30 @@ pub struct Requirement {
 impl Requirement {
     ghost use Rattle.pep440_pick.specs.Requirements.{IsRequirementLifted, RequirementAnswers, needed, requirement_refusal_of};
 
-    /// What the text means: a name, extras in brackets if there are any, and a list of specifiers (PEP 440, "Version
-    /// specifiers"), with parentheses around it or without. Tabs, line feeds, form feeds, carriage returns and spaces may stand before, between and after them.
+    /// The requirement that the string denotes: a name, extras in brackets if there are any, and a list of specifiers (PEP 440,
+    /// "Version specifiers"), with or without parentheses around it. Tabs, line feeds, form feeds, carriage returns and spaces
+    /// may stand before, between and after the parts.
     ///
-    /// Takes memory. Every text that means nothing is refused, for the first reason that holds of it in the order of the
-    /// kinds of `RequirementError`; only where a request for memory was refused the kind may be `OutOfMemory` instead.
+    /// Allocates. Every string that is no requirement is rejected with the first kind of `RequirementError` that holds, in the
+    /// order of the enum; only if an allocation failed the kind may be `OutOfMemory` instead.
     pub fn from_str(alloc: Global, text: &str) -> Result<Requirement, RequirementError>
-        // What is answered is what the text means.
+        // What is returned is what the string denotes.
         ensures found { IfOk result (λ r. DerivesRequirement text.now (needed r)) }
-        // What the text means is answered, unless memory runs out.
+        // What the string denotes is returned, unless an allocation fails.
         ensures only { (n : Needed) → DerivesRequirement text.now n → RequirementAnswers result (Ok n) }
-        // A refusal holds of the text.
+        // The error is that of the string.
         ensures refused { IfErr result (λ e. IfSome (requirement_refusal_of e) (RefusesRequirement text.now)) }
-        // The refusal of the text is answered, unless memory runs out.
+        // The error of the string is returned, unless an allocation fails.
         ensures decided { (f : RequirementRefusal) → RefusesRequirement text.now f → RequirementAnswers result (Err f) }
-        // The error's text is the refusal's.
+        // The error's message is the stated one.
         ensures message { IfErr result (λ e. IfSome (requirement_refusal_of e) (λ f. requirement_text_of e ≡ Some (requirement_refusal_text f))) }
-        // Out of memory is the last kind, and stands in no other.
+        // `OutOfMemory` is a kind of its own, and is inside no other.
         ensures lifted { IfErr result IsRequirementLifted }
-        // The version of each member is one that a text can give beside the operator, as the agreement of ranges asks.
+        // The version of each member is one that a string can have beside the operator, as the agreement of ranges requires.
         ensures operand { IfOk result (λ r. All HasOperand r.specifiers) }
     {
         let parts = read_parts(text)?;
-        let specifiers = list_of(alloc, parts.list)?;
+        let specifiers = parse_list(alloc, parts.list)?;
         let name = String::from_str(alloc, parts.name)?;
         let extras = copy_extras(alloc, parts.extras)?;
         Ok(Requirement {
@@ -58,26 +59,26 @@ impl Requirement {
         })
     }
 
-    /// The list of specifiers of the requirement that the text means, if it is of this name, else none: what `from_str` and
+    /// The list of specifiers of the requirement that the string denotes, if it has this name, else `None`: what `from_str` and
     /// `same_name` give, without a copy of the name and the extras.
     ///
-    /// Allocates. A text that means no requirement is rejected as by `from_str`, whatever its name.
+    /// Allocates. A string that is no requirement is rejected as by `from_str`, whatever its name.
     pub fn specifiers_for(
         alloc: Global,
         name: &str,
         text: &str,
     ) -> Result<Option<VersionSpecifiers>, RequirementError>
-        // What is returned is the list of what the text means, if that is of the name.
+        // What is returned is the list of what the string denotes, if that has the name.
         ensures found { IfOk result (λ o. (n : Needed) × DerivesRequirement text.now n × (option_to_list o ≡ lists_of name.now (n ∷ []))) }
-        // A refusal holds of the text.
+        // The error is that of the string.
         ensures refused { IfErr result (λ e. IfSome (requirement_refusal_of e) (RefusesRequirement text.now)) }
-        // The error's text is the refusal's.
+        // The error's message is the stated one.
         ensures message { IfErr result (λ e. IfSome (requirement_refusal_of e) (λ f. requirement_text_of e ≡ Some (requirement_refusal_text f))) }
-        // Out of memory is the last kind, and stands in no other.
+        // `OutOfMemory` is a kind of its own, and is inside no other.
         ensures lifted { IfErr result IsRequirementLifted }
     {
         let parts = read_parts(text)?;
-        let specifiers = list_of(alloc, parts.list)?;
+        let specifiers = parse_list(alloc, parts.list)?;
         if same_name(parts.name, name) {
             Ok(Some(specifiers))
         } else {

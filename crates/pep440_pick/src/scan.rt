@@ -1,4 +1,4 @@
-//! Cuts of a text.
+//! Where the string of a requirement is split.
 ghost use Rattle.std.specs.Prelude.{◌≡◌, ◌<◌, ◌≤◌, Some, None, length, option_map, drop, if◌then◌else◌};
 ghost use Rattle.std.specs.Char.{is_ascii_whitespace};
 ghost use Rattle.std.specs.List.{list_all, prefix_len};
@@ -10,43 +10,43 @@ ghost use Rattle.pep440_pick.specs.RequirementReading.{split_at_byte, without_en
 
 use crate::name::is_name_byte;
 
-// The byte stands somewhere in the text.
+// The string has the byte.
 pub(crate) fn has_byte(text: &str, byte: u8) -> bool
     ensures { result ≡ has_byte byte text.now }
 {
     text.as_bytes().contains(&byte)
 }
 
-// What follows the blanks at the front.
+// What follows the blanks at the start.
 pub(crate) fn skip_blanks(text: &str) -> &str
     ensures { result.now ≡ past is_ascii_whitespace text.now }
 {
     text.trim_ascii_start()
 }
 
-// The text without the blanks at its ends.
+// The string without the blanks at its ends.
 pub(crate) fn trim_blanks(text: &str) -> &str
     ensures { result.now ≡ trim_blanks text.now }
 {
     text.trim_ascii()
 }
 
-fn name_len(text: &[u8]) -> usize
+fn count_name_bytes(text: &[u8]) -> usize
     ensures count { result ≡ prefix_len is_name_byte text.now }
     ensures inside { result ≤ length text.now }
 {
     text.iter().take_while(|byte| is_name_byte(**byte)).count()
 }
 
-// The longest run of bytes of names at the front, and what follows it.
+// The longest run of bytes of names at the start, and what follows it.
 pub(crate) fn split_name(text: &str) -> (&str, &str)
     ensures prefix { result.0.now ≡ lead is_name_byte text.now }
     ensures back { result.1.now ≡ past is_name_byte text.now }
 {
-    text.split_at(name_len(text.as_bytes()))
+    text.split_at(count_name_bytes(text.as_bytes()))
 }
 
-// Blanks alone, or nothing.
+// Only blanks, or nothing.
 pub(crate) fn are_blanks(text: &str) -> bool
     ensures { result ≡ list_all is_ascii_whitespace text.now }
 {
@@ -55,7 +55,7 @@ pub(crate) fn are_blanks(text: &str) -> bool
         .all(|byte| byte.is_ascii_whitespace())
 }
 
-// What stands before the first such character, and what behind it.
+// What comes before the first such character, and what after it.
 pub(crate) fn split_at_byte(text: &str, character: char) -> Option<(&str, &str)>
     requires { character < 128 }
     ensures { option_map (λ x. (x.0.now, x.1.now)) result ≡ split_at_byte character text.now }
@@ -63,7 +63,7 @@ pub(crate) fn split_at_byte(text: &str, character: char) -> Option<(&str, &str)>
     text.split_once(character)
 }
 
-// The text without this character at its front, where it stands there.
+// The string without this character at its start, if it begins with it.
 pub(crate) fn without_prefix(text: &str, character: char) -> Option<&str>
     requires { character < 128 }
     ensures { option_map (λ x. x.now) result ≡ (if opens character text.now then Some (drop 1 text.now) else None) }
@@ -71,7 +71,7 @@ pub(crate) fn without_prefix(text: &str, character: char) -> Option<&str>
     text.strip_prefix(character)
 }
 
-// The text without this character at its end, where it stands there.
+// The string without this character at its end, if it ends with it.
 pub(crate) fn without_end(text: &str, character: char) -> Option<&str>
     requires { character < 128 }
     ensures { option_map (λ x. x.now) result ≡ without_end character text.now }

@@ -86,10 +86,10 @@ no_word_left view ys i end = ap (enumerate_from (i + 1)) (drop_all i (map view y
 -- the contained versions in order
 pub shows_contained : (list : List Spec) (found : List Record) (a : ToolAnswer) (versions shown : List Record) (text : List ℕ) → versions ≡ filter (list_matches list) found → IsPermutation versions shown
     → IsSorted record_cmp shown → IsStable record_cmp versions shown → text ≡ flat_map (λ v. line (print v)) shown → a ≡ record { output = text; status = 0 } → ShowsContained list found a
-shows_contained list found a versions shown text are same rises stable lines answer_value = (
+shows_contained list found a versions shown text are same rises stable lines is_answer = (
   shown,
   record { same = rw are at same; rises = rises; stable = rw are at stable },
-  answer_value ∙ ap (λ (t : List ℕ). record { output = t; status = 0 }) (lines ∙ sym (flat_map-map line print shown)),
+  is_answer ∙ ap (λ (t : List ℕ). record { output = t; status = 0 }) (lines ∙ sym (flat_map-map line print shown)),
 )
 
 -- one requirement more
@@ -101,9 +101,9 @@ lists_append name xs x = ap (map (λ (n : Needed). n.specifiers)) (filter-append
 pub picked : (name : List ℕ) (texts : List (List ℕ)) (input : List ℕ) (versions given : List Record) (lists held : List (List Spec)) (position : ℕ) (v : Record) (t : List ℕ) (a : ToolAnswer)
     → is_name name ≡ true → AllZip CandidateMeans (enumerate_from 1 texts) versions → (found : List Needed) × AllZip (LineMeans DerivesRequirement) (numbered_lines input) found × (lists ≡ lists_of name found)
     → held ≡ lists → given ≡ versions → Newest held given (Some position) → position < length given → v ≡ get_or versions position v → t ≡ print v → a ≡ shown t → PickAnswer name texts input a
-picked name texts input versions given lists held position v t a command_from_name means k held_is given_is newest inside is text answer_value =
+picked name texts input versions given lists held position v t a valid_name means k held_is given_is newest inside is text is_answer =
     let within : position < length versions = subst (λ (g : List Record). position < length g) given_is inside in
     let by_name : Newest (lists_of name k.0) versions (Some position) =
     subst (λ (l : List (List Spec)). Newest l versions (Some position)) (held_is ∙ k.2) (subst (λ (g : List Record). Newest held g (Some position)) given_is newest) in
     let shows : slice_get versions position ≡ Some v = slice_get_read versions (length versions) position v refl within is in
-    inr (command_from_name, inl (versions, means, inl (k.0, k.1, (Some position, by_name, answer_value ∙ ap shown (text ∙ ap (λ (o : Option Record). option_map_or print o (codes "none")) (sym shows))))))
+    inr (valid_name, inl (versions, means, inl (k.0, k.1, (Some position, by_name, is_answer ∙ ap shown (text ∙ ap (λ (o : Option Record). option_map_or print o (codes "none")) (sym shows))))))

@@ -3,16 +3,18 @@ ghost use Rattle.std.specs.Prelude.{◌≡◌, ◌≤◌, ◌==◌, map, string_
 ghost use Rattle.pep440_tool.specs.Commands.{IsAnswer, asked, asked_by, reads_input};
 ghost use Rattle.pep440_tool.specs.AnswerValues.{Answered, request, answer_value};
 
-use crate::editing::edit;
+use crate::compare::compare;
+use crate::edit::edit;
 use crate::error::CommandError;
-use crate::filtering::filter;
+use crate::filter::filter;
+use crate::match_version::match_version;
 use crate::output::Answer;
-use crate::picking::pick;
-use crate::ranging::range;
-use crate::reading::{compare, contains, show};
+use crate::pick::pick;
+use crate::print_range::print_range;
+use crate::show::show;
 use std::alloc::{AllocError, Global};
 
-/// What words ask for.
+// What words ask for.
 #[derive(Clone, Copy, Debug)]
 pub enum Command<'a> {
     Show(&'a str),
@@ -22,11 +24,11 @@ pub enum Command<'a> {
     Range(&'a str),
     Filter(&'a str),
     Pick(&'a str, &'a [String]),
-    /// No such command, or a wrong number of words.
+    // No such command, or a wrong number of words.
     Usage,
 }
 
-/// The command with this name, and the words after it.
+// The command with this name, and the words after it.
 fn parse_named<'a>(command: &str, words: &'a [String]) -> Command<'a>
     ensures { request result ≡ asked_by command.now (map string_bytes words.now) }
 {
@@ -66,7 +68,7 @@ fn parse_named<'a>(command: &str, words: &'a [String]) -> Command<'a>
 }
 
 impl<'a> Command<'a> {
-    /// The command that the words ask for.
+    // The command that the words ask for.
     pub(crate) fn parse(words: &'a [String]) -> Command<'a>
         ensures { request result ≡ asked (map string_bytes words.now) }
     {
@@ -76,30 +78,30 @@ impl<'a> Command<'a> {
         }
     }
 
-    /// Whether it reads the input.
+    // Whether it reads the input.
     pub(crate) fn reads_input(self) -> bool
         ensures { result ≡ reads_input (request self.entry) }
     {
         matches!(self, Command::Filter(_) | Command::Pick(_, _))
     }
 
-    /// What it prints for its input, or why it prints no result.
+    // What it prints for its input, or why it prints no result.
     fn run(self, alloc: Global, input: &[u8]) -> Result<Answer, CommandError>
         ensures { Answered (IsAnswer (request self.entry) input.now) result }
     {
         match self {
             Command::Show(version) => show(alloc, version),
             Command::Compare(left, right) => compare(alloc, left, right),
-            Command::Match(list, version) => contains(alloc, list, version),
+            Command::Match(list, version) => match_version(alloc, list, version),
             Command::Edit(version, changes) => edit(alloc, version, changes),
-            Command::Range(list) => range(alloc, list),
+            Command::Range(list) => print_range(alloc, list),
             Command::Filter(list) => filter(alloc, list, input),
             Command::Pick(name, candidates) => pick(alloc, name, candidates, input),
             Command::Usage => Ok(Answer::usage(alloc)?),
         }
     }
 
-    /// What it prints for its input: a result, or the error's message.
+    // What it prints for its input: a result, or the error's message.
     pub(crate) fn answer(self, alloc: Global, input: &[u8]) -> Result<Answer, AllocError>
         ensures answer { IfOk result (λ a. IsAnswer (request self.entry) input.now (answer_value a)) }
         ensures known { IfOk result (λ a. a.status ≤ 2) }

@@ -11,30 +11,30 @@ use pep440_rs::{
 use std::alloc::{AllocError, AllocFailed};
 use std::fmt;
 
-/// Why a command prints no result. Words and lines are numbered from 1.
+// Why a command prints no result. Words and lines are numbered from 1.
 #[derive(Debug, Drop)]
 pub(crate) enum CommandError {
-    /// A word is no version.
+    // A word is no version.
     Version(VersionParseError),
-    /// A word is no list of specifiers.
+    // A word is no list of specifiers.
     List(VersionSpecifiersParseError),
-    /// The word with this number asks for no change.
+    // The word with this number asks for no change.
     NotAChange(usize),
-    /// A change cannot be made.
+    // A change cannot be made.
     Change(ChangeError),
-    /// The list has no range.
+    // The list has no range.
     Range(RangeError),
-    /// The word for a name is none.
+    // The word for a name is none.
     Name,
-    /// The candidate with this number is no version.
+    // The candidate with this number is no version.
     Candidate(usize, VersionParseError),
-    /// The line with this number is not UTF-8.
+    // The line with this number is not UTF-8.
     NotUtf8(usize),
-    /// The line with this number is no version.
+    // The line with this number is no version.
     Line(usize, VersionParseError),
-    /// The line with this number is no requirement.
+    // The line with this number is no requirement.
     Requirement(usize, RequirementError),
-    /// Out of memory.
+    // Out of memory.
     OutOfMemory,
 }
 
@@ -55,7 +55,7 @@ impl<T: Drop> From<AllocFailed<T>> for CommandError {
 }
 
 impl CommandError {
-    /// Whether it is out of memory, in itself or by the error that it holds.
+    // Whether it is out of memory, in itself or by the error that it holds.
     pub(crate) fn is_out_of_memory(&self) -> bool
         ensures { result ≡ lacks_memory self.now }
     {
@@ -72,7 +72,7 @@ impl CommandError {
         }
     }
 
-    /// Whether its message ends its own lines, as that of a list does.
+    // Whether its message ends its own lines, as that of a list does.
     pub(crate) fn ends_lines(&self) -> bool
         ensures { result ≡ ends_lines self.now }
     {

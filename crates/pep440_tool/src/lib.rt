@@ -1,17 +1,20 @@
 //! The program `pep440` as a function of its words and its input, and over any reader and any writer.
 #![tactic(auto)]
 
+mod arguments;
 mod command;
-mod editing;
+mod compare;
+mod edit;
 mod error;
-mod filtering;
+mod filter;
 pub mod laws;
 mod lines;
+mod match_version;
 mod output;
-mod picking;
+mod pick;
+mod print_range;
 mod program;
-mod ranging;
-mod reading;
+mod show;
 mod stream;
 
 pub use command::answer;

@@ -27,16 +27,16 @@ fn is_skipped(line: &[u8]) -> bool
     line.iter().all(|byte| *byte == b'\t' || *byte == 12 || *byte == b'\r' || *byte == b' ')
 }
 
-/// A line that is not skipped.
+// A line that is not skipped.
 #[derive(Clone, Copy)]
 pub(crate) struct Line<'a> {
-    /// Its number, from 1.
+    // Its number, from 1.
     pub(crate) number: usize,
     bytes: &'a [u8],
 }
 
 impl<'a> Line<'a> {
-    /// The text of the line.
+    // The text of the line.
     pub(crate) fn text(self) -> Result<&'a str, CommandError>
         ensures { MatchResult result (λ text. (text.now ≡ self.entry.bytes.now) × IsUtf8 self.entry.bytes.now) (λ e. (¬ IsUtf8 self.entry.bytes.now) × (e ≡ NotUtf8 self.entry.number)) }
     {
@@ -47,12 +47,12 @@ impl<'a> Line<'a> {
     }
 }
 
-/// The lines that are left of an input.
+// The lines that are left of an input.
 #[derive(Clone, Copy)]
 pub(crate) struct Lines<'a> {
-    /// None behind the last line.
+    // None behind the last line.
     rest: Option<&'a [u8]>,
-    /// How many lines were read.
+    // How many lines were read.
     read: usize,
     ghost counted: { ForSome rest (λ r. read + length r.now < 2 ^ 63) },
 }
@@ -60,7 +60,7 @@ pub(crate) struct Lines<'a> {
 impl<'a> Lines<'a> {
     ghost use Rattle.pep440_tool.specs.LinesLeft.{bytes_left, left};
 
-    /// The lines of the input.
+    // The lines of the input.
     pub(crate) fn new(input: &'a [u8]) -> Lines<'a>
         ensures { left result ≡ numbered_lines input.now }
     {
@@ -70,7 +70,7 @@ impl<'a> Lines<'a> {
         }
     }
 
-    /// The next line that is not skipped, and those that are left.
+    // The next line that is not skipped, and those that are left.
     pub(crate) fn next_line(self) -> Option<(Line<'a>, Lines<'a>)>
         ensures next { left self.entry ≡ option_map_or (λ x. (x.0.number, x.0.bytes.now) ∷ left x.1) result [] }
         ensures fewer { IfSome result (λ x. bytes_left x.1 < bytes_left self.entry) }

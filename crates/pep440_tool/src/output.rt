@@ -18,7 +18,7 @@ const USAGE: &str =
     "usage: pep440 show V / compare A B / match SPECS V / edit V CHANGE.. / range SPECS / filter SPECS / pick NAME V..\n";
 
 impl Answer {
-    /// The string as a line, with status 0.
+    // The string as a line, with status 0.
     pub(crate) fn from_line(alloc: Global, text: &str) -> Result<Answer, AllocError>
         ensures { IfOk result (λ a. answer_value a ≡ shown text.now) }
     {
@@ -27,7 +27,7 @@ impl Answer {
         Ok(Answer { output, status: 0 })
     }
 
-    /// The string, which is made of whole lines, with status 0.
+    // The string, which is made of whole lines, with status 0.
     pub(crate) fn from_lines(text: String) -> Answer
         ensures { answer_value result ≡ record { output = string_bytes text; status = 0 } }
     {
@@ -37,7 +37,7 @@ impl Answer {
         }
     }
 
-    /// The error's message as a line, with status 1.
+    // The error's message as a line, with status 1.
     pub(crate) fn from_error(alloc: Global, error: &CommandError) -> Result<Answer, AllocError>
         ensures memory { IfOk result (λ _. lacks_memory error.now ≡ false) }
         ensures status { IfOk result (λ a. a.status ≡ 1) }
@@ -54,7 +54,7 @@ impl Answer {
         Ok(Answer { output, status: 1 })
     }
 
-    /// The usage line, with status 2.
+    // The usage line, with status 2.
     pub(crate) fn usage(alloc: Global) -> Result<Answer, AllocError>
         ensures { IfOk result (λ a. answer_value a ≡ usage_answer) }
     {

@@ -24,22 +24,22 @@ pub fn run<R: Read, W: Write>(alloc: Global, words: &[String], reader: &mut R, w
             Err(ReadFailure::OutOfMemory) => return refuse(writer),
         }
     }
-    let Ok(answer_value) = command.answer(alloc, input.as_slice()) else {
+    let Ok(answer) = command.answer(alloc, input.as_slice()) else {
         return refuse(writer);
     };
-    if write_whole(writer, answer_value.output.as_slice()) {
-        answer_value.status
+    if write_whole(writer, answer.output.as_slice()) {
+        answer.status
     } else {
         4
     }
 }
 
-/// Writes that memory ran out, without allocating, and returns the status of the process: 3, or 4 where the writer
+/// Writes `error: out of memory`, without allocating, and returns the status of the process: 3, or 4 where the writer
 /// failed or took no byte.
 pub fn refuse<W: Write>(writer: &mut W) -> u8
     ensures status { (result ≡ 3) ⊎ (result ≡ 4) }
     ensures whole { result ≡ 3 → Appends (W.contents writer.old) (W.contents writer.new) memory_text }
-    ensures decomposition { WroteFront (W.contents writer.old) (W.contents writer.new) memory_text }
+    ensures prefix { WroteFront (W.contents writer.old) (W.contents writer.new) memory_text }
 {
     if write_whole(writer, MEMORY.as_bytes()) {
         3

@@ -6,5 +6,5 @@ use Rattle.pep440_pick.proofs.scan.split_name.Goals as goal
 
 pub split_at-requires : goal.split_at-requires
 split_at-requires c =
-    rw (c.name_len.ensures.count, c.as_bytes.ensures.value)
-    (split_after_ascii c.args.text.now _ c.utf8.text (rw (c.name_len.ensures.count, c.as_bytes.ensures.value) at c.name_len.ensures.inside) (prefix_ascii is_name_byte name_byte_ascii c.args.text.now))
+    rw (c.count_name_bytes.ensures.count, c.as_bytes.ensures.value)
+    (split_after_ascii c.args.text.now _ c.utf8.text (rw (c.count_name_bytes.ensures.count, c.as_bytes.ensures.value) at c.count_name_bytes.ensures.inside) (prefix_ascii is_name_byte name_byte_ascii c.args.text.now))

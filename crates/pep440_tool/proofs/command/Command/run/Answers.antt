@@ -12,7 +12,7 @@ returns-in-Compare c = answered_weaker (CompareAnswer c.in-Compare.left.now c.in
 
 pub returns-in-Match : goal.returns-in-Match
 returns-in-Match c = answered_weaker (MatchAnswer c.in-Match.list.now c.in-Match.version.now) (IsAnswer (request c.args.self) c.args.input.now)
-    (λ a h. subst (λ k. IsAnswer (request k) c.args.input.now a) (sym c.in-Match.is) h) c.contains.result c.contains.ensures
+    (λ a h. subst (λ k. IsAnswer (request k) c.args.input.now a) (sym c.in-Match.is) h) c.match_version.result c.match_version.ensures
 
 pub returns-in-Edit : goal.returns-in-Edit
 returns-in-Edit c = answered_weaker (EditAnswer c.in-Edit.version.now (map string_bytes c.in-Edit.changes.now)) (IsAnswer (request c.args.self) c.args.input.now)

@@ -1,0 +1,55 @@
+// The command `edit`.
+ghost use Rattle.std.specs.Prelude.{◌≡◌, map, string_bytes};
+ghost use Rattle.std.specs.List.{AllZip, enumerate_from};
+ghost use Rattle.pep440_tool.specs.Answers.{AsksChange, EditAnswer, RejectsChange, RejectsFirst, edited_answer};
+ghost use Rattle.pep440_tool.specs.CommandErrors.{HoldsOrStops};
+ghost use Rattle.pep440_tool.specs.AnswerValues.{Answered};
+ghost use Rattle.pep440_version.specs.Changes.{apply_edits, edit};
+
+use crate::arguments::parse_version;
+use crate::error::CommandError;
+use crate::output::Answer;
+use pep440_change_words::{ChangeWordError, parse_change};
+use pep440_rs::{Change, Version, WithSentinels};
+use std::alloc::Global;
+
+// The changes that the words ask for.
+fn read_changes(alloc: Global, words: &[String]) -> Result<Vec<Change>, CommandError>
+    ensures { HoldsOrStops (λ v. AllZip AsksChange (enumerate_from 1 (map string_bytes words.now)) (map edit v.items)) (RejectsFirst AsksChange RejectsChange (enumerate_from 1 (map string_bytes words.now))) result }
+{
+    let mut changes = Vec::new(alloc);
+    for (at, word) in words.iter().enumerate() {
+        match parse_change(alloc, word.as_str()) {
+            Ok(change) => changes.push(change)?,
+            Err(ChangeWordError::NotAChange) => return Err(CommandError::NotAChange(at + 1)),
+            Err(ChangeWordError::OutOfMemory) => return Err(CommandError::OutOfMemory),
+        }
+    }
+    Ok(changes)
+}
+
+// The version after the changes, with its sentinels.
+fn apply_changes(
+    alloc: Global,
+    version: Version,
+    changes: &[Change],
+) -> Result<Answer, CommandError>
+    ensures { Answered (λ a. a ≡ edited_answer (apply_edits 1 version (map edit changes.now))) result }
+{
+    match version.with_changes(alloc, changes) {
+        Ok(version) => {
+            let print = WithSentinels(&version).to_string(alloc)?;
+            Ok(Answer::from_line(alloc, print.as_str())?)
+        }
+        Err(error) => Err(CommandError::Change(error)),
+    }
+}
+
+// `edit V CHANGE..`: all words are read before a change is made.
+pub(crate) fn edit(alloc: Global, word: &str, words: &[String]) -> Result<Answer, CommandError>
+    ensures { Answered (EditAnswer word.now (map string_bytes words.now)) result }
+{
+    let version = parse_version(alloc, word)?;
+    let changes = read_changes(alloc, words)?;
+    apply_changes(alloc, version, changes.as_slice())
+}

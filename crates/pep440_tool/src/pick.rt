@@ -1,0 +1,107 @@
+// The command `pick`.
+ghost use Rattle.std.specs.Prelude.{◌≡◌, ◌++◌, ◌∷◌, [], List, map, option_to_list, string_bytes, IfOk};
+ghost use Rattle.std.specs.List.{AllZip, enumerate_from};
+ghost use Rattle.pep440_pick.specs.Allowed.{lists_of};
+ghost use Rattle.pep440_pick.specs.RequirementGrammar.{DerivesRequirement, Needed, RefusesRequirement};
+ghost use Rattle.pep440_tool.specs.Answers.{RejectsFirst};
+ghost use Rattle.pep440_tool.specs.CommandErrors.{HoldsOrStops};
+ghost use Rattle.pep440_tool.specs.Lines.{LineMeans, RejectsLine, numbered_lines};
+ghost use Rattle.pep440_tool.specs.Picks.{CandidateMeans, PickAnswer, RejectsCandidate, refused_requirement};
+ghost use Rattle.pep440_tool.specs.AnswerValues.{Answered};
+
+use crate::error::CommandError;
+use crate::lines::{Line, Lines};
+use crate::output::Answer;
+use pep440_pick::{Requirement, is_name, newest};
+use pep440_rs::{Version, VersionSpecifiers};
+use std::alloc::{AllocError, Global};
+
+// The version that the candidate with this number denotes.
+fn read_candidate(alloc: Global, number: usize, word: &str) -> Result<Version, CommandError>
+    ensures { HoldsOrStops (CandidateMeans (number, word.now)) (RejectsCandidate (number, word.now)) result }
+{
+    match Version::from_str(alloc, word) {
+        Ok(version) => Ok(version),
+        Err(error) => Err(CommandError::Candidate(number, error)),
+    }
+}
+
+// The versions that the candidates denote.
+fn read_candidates(alloc: Global, words: &[String]) -> Result<Vec<Version>, CommandError>
+    ensures { HoldsOrStops (λ v. AllZip CandidateMeans (enumerate_from 1 (map string_bytes words.now)) v.items) (RejectsFirst CandidateMeans RejectsCandidate (enumerate_from 1 (map string_bytes words.now))) result }
+{
+    let mut versions = Vec::new(alloc);
+    for (at, word) in words.iter().enumerate() {
+        let version = read_candidate(alloc, at + 1, word.as_str())?;
+        versions.push(version)?;
+    }
+    Ok(versions)
+}
+
+// The list of the requirement that the line denotes, if it is of that name.
+fn read_specifiers(
+    alloc: Global,
+    name: &str,
+    line: Line<'_>,
+) -> Result<Option<VersionSpecifiers>, CommandError>
+    ensures { HoldsOrStops (λ o. (n : Needed) × LineMeans DerivesRequirement (line.entry.number, line.entry.bytes.now) n × (option_to_list o ≡ lists_of name.now (n ∷ []))) (RejectsLine RefusesRequirement refused_requirement (line.entry.number, line.entry.bytes.now)) result }
+{
+    match Requirement::specifiers_for(alloc, name, line.text()?) {
+        Ok(specifiers) => Ok(specifiers),
+        Err(error) => Err(CommandError::Requirement(line.number, error)),
+    }
+}
+
+// One more list, where there is one.
+fn push_list(
+    lists: &mut Vec<VersionSpecifiers>,
+    list: Option<VersionSpecifiers>,
+) -> Result<(), AllocError>
+    ensures { IfOk result (λ _. lists.new.items ≡ lists.old.items ++ option_to_list list) }
+{
+    match list {
+        Some(list) => Ok(lists.push(list)?),
+        None => Ok(()),
+    }
+}
+
+// The lists of the lines of that name.
+fn read_lists(
+    alloc: Global,
+    name: &str,
+    input: &[u8],
+) -> Result<Vec<VersionSpecifiers>, CommandError>
+    ensures { HoldsOrStops (λ lists. (found : List Needed) × AllZip (LineMeans DerivesRequirement) (numbered_lines input.now) found × (lists.items ≡ lists_of name.now found)) (RejectsFirst (LineMeans DerivesRequirement) (RejectsLine RefusesRequirement refused_requirement) (numbered_lines input.now)) result }
+{
+    let mut lists = Vec::new(alloc);
+    let mut lines = Lines::new(input);
+    while let Some((line, later)) = lines.next_line() {
+        let list = read_specifiers(alloc, name, line)?;
+        push_list(&mut lists, list)?;
+        lines = later;
+    }
+    Ok(lists)
+}
+
+// `pick NAME V..`: the newest of the candidates, by the lists of the lines whose name is NAME.
+pub(crate) fn pick(
+    alloc: Global,
+    name: &str,
+    candidates: &[String],
+    input: &[u8],
+) -> Result<Answer, CommandError>
+    ensures { Answered (PickAnswer name.now (map string_bytes candidates.now) input.now) result }
+{
+    if !is_name(name) {
+        return Err(CommandError::Name);
+    }
+    let versions = read_candidates(alloc, candidates)?;
+    let lists = read_lists(alloc, name, input)?;
+    match newest(alloc, lists.as_slice(), versions.as_slice())? {
+        Some(position) => {
+            let print = versions[position].to_string(alloc)?;
+            Ok(Answer::from_line(alloc, print.as_str())?)
+        }
+        None => Ok(Answer::from_line(alloc, "none")?),
+    }
+}
