@@ -8,7 +8,7 @@ use Rattle.pep440_rs.specs.ListGrammar.{DerivesList, RefusesList}
 use Rattle.pep440_rs.specs.Matching.{list_matches}
 use Rattle.pep440_rs.specs.Specifiers.{Spec}
 use Rattle.example_calls.specs.Parts.{IsShort, list_part, version_part}
-use Rattle.example_calls.specs.declared.lock.Locked.{Locked}
+use Rattle.example_calls.specs.declared.lock.LockEntry.{LockEntry}
 use Rattle.example_calls.specs.declared.lock.LockError.{LockError}
 use Rattle.example_calls.specs.declared.lock.LockError.TheVariants.{Parts, Wanted, Version, OutOfMemory}
 
@@ -20,9 +20,9 @@ IsFault line (Version e) = (¬ IsShort line) × ((list : List Spec) × DerivesLi
 IsFault line OutOfMemory = Unit {0}
 
 -- its list does not contain its version
-abbrev pub is_broken : Locked → Bool
+abbrev pub is_broken : LockEntry → Bool
 is_broken l = not (list_matches l.wanted l.version)
 
 -- the names of the broken lines, in order
-abbrev pub broken_names : List Locked → List (List ℕ)
-broken_names lock = map (λ (l : Locked). string_bytes l.name) (filter is_broken lock)
+abbrev pub broken_names : List LockEntry → List (List ℕ)
+broken_names lock = map (λ (l : LockEntry). string_bytes l.name) (filter is_broken lock)

@@ -7,7 +7,7 @@ use pep440_rs::Version;
 use std::alloc::AllocError;
 use std::collections::BTreeMap;
 
-/// How often the version was loaded: 0 where it is no key. Equal versions, as `1.0` and `1.0.0`, are one key.
+/// How often the version was loaded: 0 if it is no key. Equal versions, as `1.0` and `1.0.0`, are one key.
 ///
 /// Allocates nothing.
 pub fn count_loads(downloads: &BTreeMap<Version, u64>, version: &Version) -> u64

@@ -10,7 +10,7 @@ use std::alloc::{AllocError, Global};
 
 /// A line of a lock file, as `demo; >=1.0, <2.0; 1.5`.
 #[derive(Debug, Drop)]
-pub struct Locked {
+pub struct LockEntry {
     /// The name, as it is written.
     pub name: String,
     /// The versions that are wanted.
@@ -62,7 +62,7 @@ impl From<AllocError> for LockError {
     }
 }
 
-// The parts of the line, which stand between semicolons; none where there are fewer than two.
+// The parts of the line, between semicolons; none if there are fewer than two.
 fn split_parts(line: &str) -> Option<(&str, &str, &str)>
     ensures short { IfNone result (IsShort line.now) }
     ensures long { IfSome result (λ _. ¬ IsShort line.now) }
@@ -75,12 +75,12 @@ fn split_parts(line: &str) -> Option<(&str, &str, &str)>
     Some((name, wanted, version))
 }
 
-impl Locked {
-    /// What the line says: a name, a list and a version, with semicolons between them.
+impl LockEntry {
+    /// The entry of a line: a name, a list and a version, with semicolons between them.
     ///
     /// Allocates. The error names the first fault: `Parts`, else that of the list, else that of the version. `OutOfMemory`
-    /// says nothing of the line.
-    pub fn from_line(alloc: Global, line: &str) -> Result<Locked, LockError>
+    /// says nothing about the line.
+    pub fn from_line(alloc: Global, line: &str) -> Result<LockEntry, LockError>
         ensures name { IfOk result (λ l. string_bytes l.name ≡ name_part line.now) }
         ensures wanted { IfOk result (λ l. DerivesList (list_part line.now) l.wanted) }
         ensures version { IfOk result (λ l. Derives (version_part line.now) l.version) }
@@ -89,7 +89,7 @@ impl Locked {
         let Some((name, wanted, version)) = split_parts(line) else {
             return Err(LockError::Parts);
         };
-        Ok(Locked {
+        Ok(LockEntry {
             name: String::from_str(alloc, name)?,
             wanted: VersionSpecifiers::from_str(alloc, wanted)?,
             version: Version::from_str(alloc, version)?,
@@ -100,7 +100,7 @@ impl Locked {
 /// The names of the lines whose version is not contained in their list, in order.
 ///
 /// Allocates; the error is out of memory.
-pub fn find_broken(alloc: Global, lock: &[Locked]) -> Result<Vec<String>, AllocError>
+pub fn find_broken(alloc: Global, lock: &[LockEntry]) -> Result<Vec<String>, AllocError>
     ensures { IfOk result (λ names. map string_bytes names.items ≡ broken_names lock.now) }
 {
     let mut names = Vec::new(alloc);

@@ -25,7 +25,7 @@ fn collect_contained(
 /// The newest version of the page that the list contains; none where it contains none. Of equal ones, as `1.0` and
 /// `1.0.0`, the last.
 ///
-/// Allocates; the error says that memory ran out.
+/// Allocates; the error is out of memory.
 pub fn newest(
     alloc: Global,
     wanted: &VersionSpecifiers,

@@ -7,23 +7,23 @@ ghost use Rattle.example_calls.specs.Texts.{Tells};
 use pep440_rs::{ErrorKind, Version, VersionParseError};
 use std::alloc::{AllocError, Global};
 
-/// What a string is: a version, or none for this reason.
+/// What a string is: a version, or invalid.
 #[derive(Debug, Drop)]
 pub enum Verdict {
     /// The version that the string denotes.
     Accepted(Version),
-    /// Why it means none.
+    /// Why it denotes none.
     Refused(String),
 }
 
-// The error says nothing of the string.
+// The error says nothing about the string.
 fn is_out_of_memory(error: &VersionParseError) -> bool
     ensures { result ≡ is_none (error_refusal error.now) }
 {
     matches!(error.kind(), ErrorKind::OutOfMemory)
 }
 
-/// The version that the string denotes, or why it means none.
+/// The version that the string denotes, or why it denotes none.
 ///
 /// Allocates; the error is out of memory.
 pub fn read(alloc: Global, text: &str) -> Result<Verdict, AllocError>

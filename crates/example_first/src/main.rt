@@ -1,4 +1,4 @@
-//! A first program: which of some texts are versions, and which of these the list contains.
+//! A first program: which of some strings are versions, and which of these the list contains.
 #![tactic(auto)]
 
 use anyhow::Result;

@@ -6,8 +6,8 @@ use std::env;
 use std::io::{self, ErrorKind};
 use std::process::ExitCode;
 
-/// The arguments after the program's own name.
-fn words(rt: &HostRuntime) -> io::Result<Vec<String>> {
+// The arguments after the program's own name.
+fn collect_words(rt: &HostRuntime) -> io::Result<Vec<String>> {
     let mut words = Vec::new(rt.alloc());
     for word in env::args(rt)?.skip(1) {
         words.push(word)?;
@@ -17,7 +17,7 @@ fn words(rt: &HostRuntime) -> io::Result<Vec<String>> {
 
 // Arguments that are no UTF-8 are no command.
 fn main(rt: HostRuntime) -> ExitCode {
-    let words = match words(&rt) {
+    let words = match collect_words(&rt) {
         Ok(words) => words,
         Err(error) => {
             if error.kind() == ErrorKind::OutOfMemory {

@@ -14,18 +14,18 @@ pub record Front : Type 0 where
   pub extras : List (List ℕ)
   pub list : List ℕ
 
--- what stands before the first such byte, and what behind it
+-- what comes before the first such byte, and what after it
 unfoldable pub split_at_byte : ℕ → List ℕ → Option (List ℕ × List ℕ)
 split_at_byte b [] = None
 split_at_byte b (x ∷ rest) = if x == b then Some ([], rest) else option_map (λ p. (x ∷ p.0, p.1)) (split_at_byte b rest)
 
--- the string without this byte at its end, where it stands there
+-- the string without this byte at its end, if it ends with it
 unfoldable pub without_end : ℕ → List ℕ → Option (List ℕ)
 without_end b [] = None
 without_end b (x ∷ []) = if x == b then Some [] else None
 without_end b (x ∷ y ∷ rest) = option_map (λ t. x ∷ t) (without_end b (y ∷ rest))
 
--- what stands between the commas, and nothing where blanks stand alone
+-- what is between the commas, and nothing if there are only blanks
 abbrev pub listed_extras : List ℕ → List (List ℕ)
 listed_extras inside = if list_all is_ascii_whitespace inside then [] else map trim_blanks (pieces inside)
 
@@ -37,7 +37,7 @@ abbrev pub bracketed : Option (List ℕ × List ℕ) → Option (List (List ℕ)
 bracketed None = None
 bracketed (Some p) = option_map (λ e. (e, p.1)) (extras_in p.0)
 
--- the extras at the front, and what follows
+-- the extras at the start, and what follows
 unfoldable pub extras_at : List ℕ → Option (List (List ℕ) × List ℕ)
 extras_at text = if opens 91 text then bracketed (split_at_byte 93 (drop 1 text)) else Some ([], text)
 
@@ -53,11 +53,11 @@ abbrev pub with_extras : List ℕ → Option (List (List ℕ) × List ℕ) → R
 with_extras name None = Err InvalidExtras
 with_extras name (Some p) = with_list name p.0 (list_in (trim_blanks p.1))
 
--- the name, and what follows it behind blanks
+-- the name, and what follows it after blanks
 unfoldable pub prefix_after_name : List ℕ → List ℕ → Result Front RequirementRefusal
 prefix_after_name name rest = if is_name name then with_extras name (extras_at rest) else Err InvalidName
 
--- the name of a string, and what follows it behind blanks
+-- the name of a string, and what follows it after blanks
 abbrev pub name_of : List ℕ → List ℕ
 name_of text = lead is_name_byte (past is_ascii_whitespace text)
 

@@ -15,7 +15,7 @@ use Rattle.pep440_pick.specs.declared.requirement.Requirement.{Requirement}
 abbrev pub needed : Requirement → Needed
 needed r = record { name = string_bytes r.name; extras = map string_bytes r.extras.items; specifiers = r.specifiers }
 
--- the reason of an error, or None if memory ran out
+-- the reason of an error, or `None` when out of memory
 abbrev pub requirement_refusal_of : RequirementError → Option RequirementRefusal
 requirement_refusal_of error.Marker = Some Marker
 requirement_refusal_of error.Url = Some Url
@@ -29,26 +29,26 @@ requirement_refusal_of error.OutOfMemory = None
 abbrev pub IsRequirementLifted : RequirementError → Type 0
 IsRequirementLifted e = requirement_refusal_of e ≡ None → e ≡ error.OutOfMemory
 
--- the result is this outcome, unless memory ran out
+-- the result is this outcome, unless an allocation failed
 abbrev pub RequirementAnswers : Result Requirement RequirementError → Result Needed RequirementRefusal → Type 0
 RequirementAnswers (Ok r) outcome = outcome ≡ Ok (needed r)
 RequirementAnswers (Err e) outcome = IfSome (requirement_refusal_of e) (λ f. outcome ≡ Err f)
 
--- ---- what the readers of the parts answer
+-- ---- what the parsers of the parts return
 
 abbrev pub prefix_of : Parts → Front
 prefix_of p = record { name = p.name.now; extras = listed_extras p.extras.now; list = p.list.now }
 
--- the parts were read as reading gives them, unless memory ran out
+-- the parts were read as reading gives them, unless an allocation failed
 abbrev pub FrontGives : Result Parts RequirementError → Result Front RequirementRefusal → Type 0
 FrontGives (Ok p) read = read ≡ Ok (prefix_of p)
 FrontGives (Err e) read = IfSome (requirement_refusal_of e) (λ f. read ≡ Err f)
 
--- the list of this string is this outcome, unless memory ran out
+-- the list of this string is this outcome, unless an allocation failed
 abbrev pub ListGives : List ℕ → Result (List Spec) RequirementError → Result (List Spec) PieceRefusal → Type 0
 ListGives text (Ok list) outcome = outcome ≡ Ok list
 ListGives text (Err e) outcome = IfSome (requirement_refusal_of e) (λ g. (f : PieceRefusal) × (outcome ≡ Err f) × (g ≡ Specifiers text f))
 
--- the refusal is that of the list of this string
+-- the error is that of the list of this string
 abbrev pub IsOfList : List ℕ → RequirementRefusal → Type 0
 IsOfList text g = (f : PieceRefusal) × RefusesList text f × (g ≡ Specifiers text f)

@@ -11,7 +11,7 @@ fn list(alloc: Global, text: &str) -> Result<VersionSpecifiers, CaseError> {
     })
 }
 
-// The lists, each with a semicolon behind it.
+// The lists, each with a semicolon after it.
 fn lists(alloc: Global, text: &str) -> Result<Vec<VersionSpecifiers>, CaseError> {
     let mut lists = Vec::new(alloc);
     for piece in text.split_terminator(';') {

@@ -1,5 +1,5 @@
 //! Test cases of requirements, of the newest candidate and of the range that is allowed; `stdin` beside `src/` says what each call
-//! answers.
+//! prints.
 #![tactic(auto)]
 
 mod choices;

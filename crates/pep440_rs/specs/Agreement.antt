@@ -50,7 +50,7 @@ pub record IsReleaseComparable (s : Spec) (v : Record) : Type 0 where
   pub operand : IsReleaseOnly s.version
   pub candidate : IsReleaseOnly v
 
--- ---- the agreement, of the versions that can be compared: of candidates for a specifier whose version a text can give,
+-- ---- the agreement, of the versions that can be compared: of candidates for a specifier whose version a string can give,
 -- and of releases for the release-only range
 
 module _ (IsComparable : Spec → Record → Type 0) where
@@ -62,7 +62,7 @@ module _ (IsComparable : Spec → Record → Type 0) where
   abbrev pub ListAgrees : List Spec → Segments → Type 0
   ListAgrees members range = (v : Record) → All (λ m. IsComparable m v) members → contains record_cmp range v ≡ list_matches members v
 
--- ---- the whole order, of a specifier whose version a text can give
+-- ---- the whole order, of a specifier whose version a string can give
 
 -- whatever the suffixes, the range of `<` holds only what matches
 abbrev pub HoldsOnlyMatches : Spec → Segments → Type 0

@@ -40,7 +40,7 @@ next_public s = after_locals s s.dev s.post s.pre
 
 -- ---- by operator
 
--- the range of `==`: the version alone if it has a local part, else the version and its local versions
+-- the range of `==`: only the version if it has a local part, else the version and its local versions
 abbrev pub with_locals : Record → Segments
 with_locals s = if has_local s then alone s else from_to s (next_public s)
 

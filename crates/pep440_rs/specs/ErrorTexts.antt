@@ -27,12 +27,12 @@ specifier_refusal_text (InvalidVersion f) = pattern_refusal_text f
 specifier_refusal_text (InvalidSpecifier b) = build_text b
 specifier_refusal_text (InvalidTrailing rest) = codes "Trailing `" ++ (rest ++ codes "` is not allowed")
 
--- the message of an operator's error, which quotes the string that is no operator; without one, memory ran out
+-- the message of an operator's error, which quotes the string that is no operator; without one, out of memory
 abbrev pub operator_error_text : Option (List ℕ) → Option (List ℕ)
 operator_error_text None = Some (codes "out of memory")
 operator_error_text (Some got) = if list_all is_ascii got then Some (specifier_refusal_text (InvalidOperator got)) else None
 
--- the message of an error by its reason; without one, memory ran out
+-- the message of an error by its reason; without one, out of memory
 abbrev pub specifier_error_text : Option SpecifierRefusal → Option (List ℕ)
 specifier_error_text None = Some (codes "out of memory")
 specifier_error_text (Some (InvalidOperator got)) = operator_error_text (Some got)

@@ -18,7 +18,7 @@ use Rattle.pep440_rs.specs.declared.specifier.error.VersionSpecifierParseError.{
 abbrev pub operator_kind_of : OperatorParseError → OperatorErrorKind
 operator_kind_of e = e.kind
 
--- the string that is no operator, or None if memory ran out
+-- the string that is no operator, or `None` when out of memory
 abbrev pub unknown_of : OperatorErrorKind → Option (List ℕ)
 unknown_of (operator.Unknown got) = Some (string_bytes got)
 unknown_of operator.OutOfMemory = None
@@ -41,7 +41,7 @@ Builds = Answers (λ e. Some (build_refusal_of (build_kind_of e)))
 abbrev pub parse_kind_of : VersionSpecifierParseError → ParseErrorKind
 parse_kind_of e = e.kind
 
--- the reason of an error, or None if memory ran out
+-- the reason of an error, or `None` when out of memory
 abbrev pub specifier_refusal_of : ParseErrorKind → Option SpecifierRefusal
 specifier_refusal_of parse.MissingOperator = Some MissingOperator
 specifier_refusal_of (parse.InvalidOperator e) = option_map InvalidOperator (unknown_of (operator_kind_of e))
@@ -55,11 +55,11 @@ specifier_refusal_of parse.OutOfMemory = None
 abbrev pub IsLifted : ParseErrorKind → Type 0
 IsLifted kind = specifier_refusal_of kind ≡ None → kind ≡ parse.OutOfMemory
 
--- what was read is what reading gives, unless memory ran out
+-- what was read is what reading gives, unless an allocation failed
 abbrev pub SpecifierGives : Result Spec ParseErrorKind → Result Spec SpecifierRefusal → Type 0
 SpecifierGives (Ok s) read = read ≡ Ok s
 SpecifierGives (Err kind) read = IfSome (specifier_refusal_of kind) (λ f. read ≡ Err f) × IsLifted kind
 
--- the public parser returns what the grammar and the reasons give, unless memory ran out
+-- the public parser returns what the grammar and the reasons give, unless an allocation failed
 abbrev pub SpecifierAnswers : Result Spec VersionSpecifierParseError → Result Spec SpecifierRefusal → Type 0
 SpecifierAnswers = Answers (λ e. specifier_refusal_of (parse_kind_of e))

@@ -20,8 +20,8 @@ IfText json.NotAString P = Unit {0}
 IfText (json.Text e) P = P e
 IfText json.OutOfMemory P = Unit {0}
 
--- the result of a JSON string is that of its parser, unless memory ran out; `refusal` is the reason of an error, or None if
--- memory ran out, which is never inside the parser's error
+-- the result of a JSON string is that of its parser, unless an allocation failed; `refusal` is the reason of an error, or None if
+-- an allocation failed, which is never inside the parser's error
 abbrev pub JsonAnswers : {X E F : Type 0} → (E → Option F) → Result X (JsonError E) → Result X F → Type 0
 JsonAnswers refusal (Ok x) outcome = outcome ≡ Ok x
 JsonAnswers refusal (Err json.NotAString) outcome = ⊥

@@ -17,16 +17,16 @@ list_kind_of e = e.kind
 abbrev pub line_of : VersionSpecifiersParseError → List ℕ
 line_of e = string_bytes e.line
 
--- the whole string if a piece is invalid; the empty string if memory ran out
+-- the whole string if a piece is invalid; the empty string when out of memory
 abbrev pub line_for : List ℕ → SpecifiersErrorKind → List ℕ
 line_for text (Piece error start stop) = text
 line_for text OutOfMemory = []
 
--- the result is this outcome, unless memory ran out
+-- the result is this outcome, unless an allocation failed
 abbrev pub ListAnswers : Result (List Spec) VersionSpecifiersParseError → Result (List Spec) PieceRefusal → Type 0
 ListAnswers = Answers (λ e. list_refusal_of (list_kind_of e))
 
--- the answer is the arrangement of the members that reading gives, or its refusal, unless memory ran out
+-- the result is the arrangement of the members that reading gives, or its error, unless an allocation failed
 abbrev pub ListReads : Result (List Spec) VersionSpecifiersParseError → Result (List Spec) PieceRefusal → Type 0
 ListReads (Ok list) read = (members : List Spec) × (read ≡ Ok members) × Arranges members list
 ListReads (Err e) read = IfSome (list_refusal_of (list_kind_of e)) (λ f. read ≡ Err f)

@@ -7,7 +7,7 @@ use Rattle.pep440_rs.specs.Specifiers.{Spec}
 use Rattle.pep440_rs.specs.declared.list.error.SpecifiersErrorKind.{SpecifiersErrorKind}
 use Rattle.pep440_rs.specs.declared.list.error.SpecifiersErrorKind.TheVariants.{Piece, OutOfMemory}
 
--- the reason of an error, or None if memory ran out
+-- the reason of an error, or `None` when out of memory
 abbrev pub list_refusal_of : SpecifiersErrorKind → Option PieceRefusal
 list_refusal_of (Piece error start stop) = option_map (λ f. record { error = f; start = start; stop = stop }) (specifier_refusal_of (parse_kind_of error))
 list_refusal_of OutOfMemory = None
@@ -17,7 +17,7 @@ abbrev pub span_of : SpecifiersErrorKind → ℕ × ℕ
 span_of (Piece error start stop) = (start, stop)
 span_of OutOfMemory = (0, 0)
 
--- the piece is a part of the string, and the string may be cut at both its ends
+-- the piece is a part of the string, and the string may be split at both its ends
 pub record IsSpan (text : List ℕ) (kind : SpecifiersErrorKind) : Type 0 where
   pub in_order : (span_of kind).0 ≤ (span_of kind).1
   pub starts : IsCharBoundary text (span_of kind).0
@@ -27,14 +27,14 @@ pub record IsSpan (text : List ℕ) (kind : SpecifiersErrorKind) : Type 0 where
 abbrev pub IsListLifted : SpecifiersErrorKind → Type 0
 IsListLifted kind = list_refusal_of kind ≡ None → kind ≡ OutOfMemory
 
--- a piece that begins at start was read as reading gives it, unless memory ran out
+-- a piece that begins at start was read as reading gives it, unless an allocation failed
 abbrev pub PieceGives : ℕ → List ℕ → Result Spec SpecifiersErrorKind → Result Spec SpecifierRefusal → Type 0
 PieceGives start piece (Ok s) read = read ≡ Ok s
 PieceGives start piece (Err OutOfMemory) read = Unit {0}
 PieceGives start piece (Err (Piece error begin end)) read =
     IfSome (specifier_refusal_of (parse_kind_of error)) (λ f. read ≡ Err f) × (begin ≡ start) × (end ≡ start + length piece)
 
--- the members, seen by view, were read as reading gives them, unless memory ran out
+-- the members, seen by view, were read as reading gives them, unless an allocation failed
 abbrev pub MembersGive : {X : Type 0} → (X → List Spec) → Result X SpecifiersErrorKind → Result (List Spec) PieceRefusal → Type 0
 MembersGive view (Ok members) read = read ≡ Ok (view members)
 MembersGive view (Err kind) read = IfSome (list_refusal_of kind) (λ f. read ≡ Err f)

@@ -27,7 +27,7 @@ raised_release_number op s = raised_number op (from_release s.release)
 abbrev pub RefusedAtMax : (Operator → Record → Option Segments) → (Operator → Record → Option ℕ) → Type 0
 RefusedAtMax conversion number = (s : Spec) → IsSpec s → (conversion s.operator s.version ≡ None) ↔ (number s.operator s.version ≡ Some 18446744073709551615)
 
--- ---- what is answered there
+-- ---- what is returned there
 
 -- the number that a conversion raises is the greatest
 abbrev pub raises_max : (Operator → Record → Option ℕ) → Spec → Bool

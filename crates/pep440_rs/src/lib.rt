@@ -1,7 +1,6 @@
 //! Versions and version specifiers of PEP 440: the one crate that users name.
 //!
-//! A specifier is an operator and a version, as `>=1.2`, and a list is specifiers with commas between them. All that
-//! `pep440_version` offers but its modules `key`, `laws` and `words`, and all of `pep440_ranges`, is offered here under the same names.
+//! A specifier is an operator and a version, as `>=1.2`, and a list is specifiers with commas between them.
 //!
 //! ```rust
 //! use anyhow::Result;
@@ -23,6 +22,22 @@
 //! ```
 //!
 //! A call that may allocate takes an allocator and returns a `Result`; nothing ends the process.
+//!
+//! What there is, in the order in which to read it:
+//!
+//! 1. versions: `Version`, `VersionPattern`, their parts, changes and errors, all of `pep440_version` but its modules `key`,
+//!    `laws` and `words`;
+//! 2. `Operator` and `VersionSpecifier`: made of parts or parsed, and `contains`;
+//! 3. `VersionSpecifiers`, the list: parsed, and `contains`;
+//! 4. why a string is no operator, specifier or list: `OperatorParseError`, `VersionSpecifierBuildError`,
+//!    `VersionSpecifierParseError`, `VersionSpecifiersParseError`, each with its kind;
+//! 5. ranges: `specifier_to_range` by the order of versions, `release_specifier_to_range` by releases, and
+//!    `specifier_to_cover`, each also of a list; `RangeLines` prints a range; `RangeError`; all of `pep440_ranges`;
+//! 6. specifiers from bounds: `from_lower_bound`, `from_upper_bound` and `from_release_only_bounds` of specifiers and lists,
+//!    `ReleaseBounds`, `BoundError`;
+//! 7. JSON strings: `version_to_json` and `version_from_json`, `to_json` and `from_json` of specifiers and lists,
+//!    `JsonError`;
+//! 8. `laws`: what is proved of all of these together.
 #![tactic(auto)]
 
 mod bounds;

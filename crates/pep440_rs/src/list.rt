@@ -186,11 +186,11 @@ impl VersionSpecifiers {
         // The version of each member is one that a string can have beside the operator, as the agreement of ranges
         // requires.
         ensures operand { IfOk result (λ list. All HasOperand list) }
-        // What the string denotes is returned, unless memory runs out.
+        // What the string denotes is returned, unless an allocation fails.
         ensures only { (list : List Spec) → DerivesList text.now list → ListAnswers result (Ok list) }
         // The error is that of the first invalid piece.
         ensures refused { IfErr result (λ e. IfSome (list_refusal_of (list_kind_of e)) (RefusesList text.now)) }
-        // The error of the string is returned, unless memory runs out.
+        // The error of the string is returned, unless an allocation fails.
         ensures decided { (f : PieceRefusal) → RefusesList text.now f → ListAnswers result (Err f) }
         // The error's message is the stated one, with the whole string and a line that marks the piece.
         ensures message { IfErr result (λ e. IfSome (list_refusal_of (list_kind_of e)) (λ f. list_text_of (list_kind_of e) (line_of e) ≡ Some (list_refusal_text f text.now))) }
@@ -198,9 +198,9 @@ impl VersionSpecifiers {
         ensures line { IfErr result (λ e. line_of e ≡ line_for text.now (list_kind_of e)) }
         // Out of memory is the last kind, and stands in no other.
         ensures lifted { IfErr result (λ e. IsListLifted (list_kind_of e)) }
-        // The printed form of what some string denotes round-trips, unless memory runs out.
+        // The printed form of what some string denotes round-trips, unless an allocation fails.
         ensures again { (t : List ℕ) (list : List Spec) → DerivesList t list → text.now ≡ list_print list → ListAnswers result (Ok list) }
-        // So does its form with commas alone between the members.
+        // So does its form with only commas between the members.
         ensures joined { (t : List ℕ) (list : List Spec) → DerivesList t list → text.now ≡ joined (codes ",") list → ListAnswers result (Ok list) }
     {
         VersionSpecifiers::read(alloc, text)
@@ -240,7 +240,7 @@ impl VersionSpecifiers {
     /// Whether each member contains the version; so the empty list contains every version. The first member that
     /// does not, or whose allocation fails, decides (PEP 440, "Version specifiers").
     ///
-    /// Allocates for members with `===` alone, and for none behind the first member that does not contain the version;
+    /// Allocates only for members with `===`, and for none after the first member that does not contain the version;
     /// where no `===` is reached it always succeeds.
     #[tactic(auto, using(crate::proofs::Arranging::InOrder::told_step, crate::proofs::Arranging::InOrder::told_open))]
     pub fn contains(&self, alloc: Global, version: &Version) -> Result<bool, AllocError>
@@ -279,7 +279,7 @@ impl VersionSpecifiers {
         ensures no_string { IsErrOf result NotAString ↔ (text_of value.now ≡ None) }
         // What is returned is what the string denotes.
         ensures found { IfOk result (λ list. (t : List ℕ) × IsString value.now t × DerivesList t list) }
-        // What the string denotes is returned, unless memory runs out.
+        // What the string denotes is returned, unless an allocation fails.
         ensures only { (t : List ℕ) (list : List Spec) → IsString value.now t → DerivesList t list → JsonAnswers (λ e. list_refusal_of (list_kind_of e)) result (Ok list) }
         // The error of the string is that of its first invalid piece, and not out of memory.
         ensures refused { IfErr result (λ e. IfText e (λ inner. IsSomeAnd (list_refusal_of (list_kind_of inner)) (λ f. (t : List ℕ) × IsString value.now t × RefusesList t f))) }
@@ -287,9 +287,9 @@ impl VersionSpecifiers {
         ensures message { IfErr result (λ e. IfText e (λ inner. IfSome (list_refusal_of (list_kind_of inner)) (λ f. list_text_of (list_kind_of inner) (line_of inner) ≡ Some (list_refusal_text f (line_of inner))))) }
         // The error of the string holds the whole string.
         ensures line { IfErr result (λ e. IfText e (λ inner. IsString value.now (line_of inner))) }
-        // The error of the string is returned, unless memory runs out.
+        // The error of the string is returned, unless an allocation fails.
         ensures decided { (t : List ℕ) (f : PieceRefusal) → IsString value.now t → RefusesList t f → JsonAnswers (λ e. list_refusal_of (list_kind_of e)) result (Err f) }
-        // The JSON form of what some string denotes round-trips, unless memory runs out.
+        // The JSON form of what some string denotes round-trips, unless an allocation fails.
         ensures again { (t : List ℕ) (list : List Spec) → DerivesList t list → IsString value.now (joined (codes ",") list) → JsonAnswers (λ e. list_refusal_of (list_kind_of e)) result (Ok list) }
     {
         let text = expect_string::<VersionSpecifiersParseError>(value)?;

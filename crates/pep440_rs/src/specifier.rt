@@ -302,17 +302,17 @@ impl VersionSpecifier {
         ensures found { IfOk result (λ s. DerivesSpecifier text.now s) }
         // Its version is one that a string can have beside the operator, as the agreement of ranges requires.
         ensures operand { IfOk result HasOperand }
-        // What the string denotes is returned, unless memory runs out.
+        // What the string denotes is returned, unless an allocation fails.
         ensures only { (s : Spec) → DerivesSpecifier text.now s → SpecifierAnswers result (Ok s) }
         // The error is that of the string.
         ensures refused { IfErr result (λ e. IfSome (specifier_refusal_of (parse_kind_of e)) (RefusesSpecifier text.now)) }
-        // The error of the string is returned, unless memory runs out.
+        // The error of the string is returned, unless an allocation fails.
         ensures decided { (f : SpecifierRefusal) → RefusesSpecifier text.now f → SpecifierAnswers result (Err f) }
         // The error's message is the stated one.
         ensures message { IfErr result (λ e. IfSome (specifier_refusal_of (parse_kind_of e)) (λ f. specifier_error_text (specifier_refusal_of (parse_kind_of e)) ≡ Some (specifier_refusal_text f))) }
         // Out of memory is the last kind, and stands in no other.
         ensures lifted { IfErr result (λ e. IsLifted (parse_kind_of e)) }
-        // The printed form of what some string denotes round-trips, unless memory runs out.
+        // The printed form of what some string denotes round-trips, unless an allocation fails.
         ensures again { (t : List ℕ) (s : Spec) → DerivesSpecifier t s → text.now ≡ spec_print s → SpecifierAnswers result (Ok s) }
     {
         VersionSpecifier::read(alloc, text)
@@ -321,7 +321,7 @@ impl VersionSpecifier {
     /// Whether the specifier contains the version (PEP 440, "Version specifiers"). A specifier whose version has no
     /// local part ignores that of the candidate.
     ///
-    /// Allocates for `===` alone, which compares normalized forms; with any other operator it always succeeds.
+    /// Allocates only for `===`, which compares normalized forms; with any other operator it always succeeds.
     pub fn contains(&self, alloc: Global, version: &Version) -> Result<bool, AllocError>
         ensures value { IfOk result (λ b. b ≡ matches self.now.operator self.now.version version.now) }
         ensures answered { self.now.operator ≢ ExactEqual → IsOk result }
@@ -373,15 +373,15 @@ impl VersionSpecifier {
         ensures no_string { IsErrOf result NotAString ↔ (text_of value.now ≡ None) }
         // What is returned is what the string denotes.
         ensures found { IfOk result (λ s. (t : List ℕ) × IsString value.now t × DerivesSpecifier t s) }
-        // What the string denotes is returned, unless memory runs out.
+        // What the string denotes is returned, unless an allocation fails.
         ensures only { (t : List ℕ) (s : Spec) → IsString value.now t → DerivesSpecifier t s → JsonAnswers (λ e. specifier_refusal_of (parse_kind_of e)) result (Ok s) }
         // The error of the string is its one error, and not out of memory.
         ensures refused { IfErr result (λ e. IfText e (λ inner. IsSomeAnd (specifier_refusal_of (parse_kind_of inner)) (λ f. (t : List ℕ) × IsString value.now t × RefusesSpecifier t f))) }
         // The error's message is the stated one.
         ensures message { IfErr result (λ e. IfText e (λ inner. IfSome (specifier_refusal_of (parse_kind_of inner)) (λ f. specifier_error_text (specifier_refusal_of (parse_kind_of inner)) ≡ Some (specifier_refusal_text f)))) }
-        // The error of the string is returned, unless memory runs out.
+        // The error of the string is returned, unless an allocation fails.
         ensures decided { (t : List ℕ) (f : SpecifierRefusal) → IsString value.now t → RefusesSpecifier t f → JsonAnswers (λ e. specifier_refusal_of (parse_kind_of e)) result (Err f) }
-        // The JSON form of what some string denotes round-trips, unless memory runs out.
+        // The JSON form of what some string denotes round-trips, unless an allocation fails.
         ensures again { (t : List ℕ) (s : Spec) → DerivesSpecifier t s → IsString value.now (spec_print s) → JsonAnswers (λ e. specifier_refusal_of (parse_kind_of e)) result (Ok s) }
     {
         let text = expect_string::<VersionSpecifierParseError>(value)?;

@@ -1,5 +1,5 @@
 //! Test cases of specifiers, lists, ranges, bounds and JSON strings, read from standard input; `stdin` beside `src/` says what each call
-//! answers.
+//! prints.
 #![tactic(auto)]
 
 mod bounds;
@@ -16,7 +16,7 @@ use json::{
     json_list, json_specifier, json_version, list_of_json, specifier_of_json, version_of_json,
 };
 use matching::{build, compare, contains, contains_unchecked, print_unchecked};
-use operators::operator;
+use operators::{operator, operator_number, operator_of_number};
 use parsers::{list, members, specifier};
 use ranges::{beside, cover, cover_beside, intersection, range, release_range, unchecked_range};
 use std::alloc::Global;
@@ -28,6 +28,8 @@ struct SpecifierCalls;
 fn of_one(alloc: Global, call: &str, text: &str) -> Result<String, CaseError> {
     match call {
         "operator" => operator(alloc, text),
+        "operator-number" => operator_number(alloc, text),
+        "operator-of-number" => operator_of_number(alloc, text),
         "specifier" => specifier(alloc, text),
         "list" => list(alloc, text),
         "members" => members(alloc, text),

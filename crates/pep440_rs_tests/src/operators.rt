@@ -15,7 +15,7 @@ pub fn operator_argument(alloc: Global, text: &str) -> Result<Operator, CaseErro
     }
 }
 
-/// Whether a specifier with the operator bounds versions from below.
+// Whether a specifier with the operator bounds versions from below.
 fn has_lower_bound(alloc: Global, operator: Operator) -> Result<bool, CaseError> {
     match VersionSpecifier::from_version(operator, Version::new(alloc, &[1, 0])?) {
         Ok(specifier) => Ok(specifier.has_lower_bound()),
@@ -58,5 +58,20 @@ pub fn operator(alloc: Global, text: &str) -> Result<String, CaseError> {
             Ok(operator) => operator_text(alloc, operator),
             Err(error) => error_text(alloc, &error),
         },
+    }
+}
+
+/// The operator's number.
+pub fn operator_number(alloc: Global, text: &str) -> Result<String, CaseError> {
+    let number = operator_argument(alloc, text)?.number();
+    Ok(format!(in alloc; "{number}")?)
+}
+
+/// The operator with the number, or `none`.
+pub fn operator_of_number(alloc: Global, text: &str) -> Result<String, CaseError> {
+    let number = text.parse::<u8>().map_err(|_| CaseError::Unreadable)?;
+    match Operator::from_number(number) {
+        Some(operator) => Ok(format!(in alloc; "{operator:?}")?),
+        None => Ok(String::from_str(alloc, "none")?),
     }
 }

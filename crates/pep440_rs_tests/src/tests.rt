@@ -1,5 +1,4 @@
-//! What no line of test cases can ask: refused memory, requests counted, very long strings, and iterators.
-mod bounds;
+//! What no line of test cases can check: failed allocations, counted allocations, and very long strings.
 mod calls;
 mod json;
 mod lists;

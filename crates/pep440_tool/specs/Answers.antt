@@ -1,4 +1,4 @@
--- What the program answers: bytes and a status. Each command's answer is determined by what its words denote.
+-- What the program prints: bytes and a status. Each command's answer is determined by what its words denote.
 use Rattle.std.specs.Prelude.{◌≡◌, ◌⊎◌, ℕ, List, ◌∷◌, ◌++◌, Bool, true, false, codes, Option, Some, None, Result, Ok, Err}
 use Rattle.std.specs.Fmt.{decimal}
 use Rattle.std.specs.List.{AllZip, enumerate_from}
@@ -50,7 +50,7 @@ refused_list text = record { output = codes "error: " ++ text; status = 1 }
 abbrev pub usage_answer : ToolAnswer
 usage_answer = record { output = usage_text; status = 2 }
 
--- ---- words that mean something, or are refused
+-- ---- words that denote something, or are rejected
 
 -- the answer is the error of a word that is no version
 abbrev pub RefusesWord : List ℕ → ToolAnswer → Type 0
@@ -68,7 +68,7 @@ RefusesListWord word a = (f : PieceRefusal) × RefusesList word f × (a ≡ refu
 abbrev pub ReadsList : List ℕ → (List Spec → Type 0) → ToolAnswer → Type 0
 ReadsList word Then a = ((list : List Spec) × DerivesList word list × Then list) ⊎ RefusesListWord word a
 
--- ---- texts with their numbers, one after another
+-- ---- strings with their numbers, one after another
 
 module _ {A : Type 0} (Means : ℕ × List ℕ → A → Type 0) (RejectsText : ℕ × List ℕ → ToolAnswer → Type 0) where
   -- the answer is the error of the first invalid string
@@ -106,7 +106,7 @@ abbrev pub edited_answer : Result Record ChangeError → ToolAnswer
 edited_answer (Ok r) = shown (print_with_sentinels r)
 edited_answer (Err e) = refused (change_error_text e)
 
--- ---- texts of errors with their numbers
+-- ---- messages of errors with their numbers
 
 -- the message of an invalid candidate: `candidate`, its number and the reason
 abbrev pub candidate_fault_text : ℕ → List ℕ → List ℕ

@@ -35,7 +35,7 @@ numbered_from first texts = filter (λ (line : ℕ × List ℕ). not (is_skipped
 abbrev pub numbered_lines : List ℕ → List (ℕ × List ℕ)
 numbered_lines input = numbered_from 1 (lines input)
 
--- ---- lines that mean something, or are rejected
+-- ---- lines that denote something, or are rejected
 
 -- the line is UTF-8 and denotes this value
 abbrev pub LineMeans : {A : Type 0} → (List ℕ → A → Type 0) → ℕ × List ℕ → A → Type 0

@@ -7,7 +7,7 @@ ghost use Rattle.pep440_tool.specs.declared.error.CommandError.TheVariants.{NotU
 
 use crate::error::CommandError;
 
-// The first line, and what stands behind its newline if it has one.
+// The first line, and what follows its newline if it has one.
 fn split_line(input: &[u8]) -> (&[u8], Option<&[u8]>)
     ensures lines { lines input.now ≡ result.0.now ∷ option_map_or (λ rest. lines rest.now) result.1 [] }
     ensures shorter { IfSome result.1 (λ rest. length rest.now < length input.now) }
@@ -20,7 +20,7 @@ fn split_line(input: &[u8]) -> (&[u8], Option<&[u8]>)
     (input, None)
 }
 
-// Blanks alone.
+// Only blanks.
 fn is_skipped(line: &[u8]) -> bool
     ensures { result ≡ is_skipped line.now }
 {
@@ -36,7 +36,7 @@ pub(crate) struct Line<'a> {
 }
 
 impl<'a> Line<'a> {
-    // The text of the line.
+    // The line as a string.
     pub(crate) fn text(self) -> Result<&'a str, CommandError>
         ensures { MatchResult result (λ text. (text.now ≡ self.entry.bytes.now) × IsUtf8 self.entry.bytes.now) (λ e. (¬ IsUtf8 self.entry.bytes.now) × (e ≡ NotUtf8 self.entry.number)) }
     {
@@ -50,7 +50,7 @@ impl<'a> Line<'a> {
 // The lines that are left of an input.
 #[derive(Clone, Copy)]
 pub(crate) struct Lines<'a> {
-    // None behind the last line.
+    // None after the last line.
     rest: Option<&'a [u8]>,
     // How many lines were read.
     read: usize,

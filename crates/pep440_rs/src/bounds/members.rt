@@ -47,7 +47,7 @@ pub(crate) fn convert_upper(bound: &Bound<Version>) -> Result<Option<VersionSpec
     })
 }
 
-// The members of a pair: one where one says it all, else the lower bound's, then the upper's.
+// The members of a pair: one if one is enough, else the lower bound's, then the upper's.
 pub(crate) fn convert_pair(
     start: &Bound<Version>,
     end: &Bound<Version>,
@@ -131,7 +131,7 @@ pub(crate) fn convert_pairs(
     Ok(members)
 }
 
-// The member, refused where its version has a local part.
+// The member, rejected if its version has a local part.
 pub(crate) fn reject_local(
     member: Option<VersionSpecifier>,
 ) -> Result<Option<VersionSpecifier>, BoundError>

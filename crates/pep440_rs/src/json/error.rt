@@ -13,7 +13,7 @@ use std::fmt;
 pub enum JsonError<E> {
     /// The value is no string. Numbers are rejected, including fractions.
     NotAString,
-    /// The string is rejected, and not because memory ran out.
+    /// The string is rejected, and not because an allocation failed.
     Text(E),
     /// Out of memory, which says nothing about the value.
     OutOfMemory,

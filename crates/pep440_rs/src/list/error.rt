@@ -3,7 +3,6 @@ ghost use Rattle.std.specs.Prelude.{◌≡◌, ◌<◌, ◌≤◌, ◌⊎◌, �
 ghost use Rattle.std.specs.Fmt.{DisplaysStyledOnOk, WritesStyledOnOk};
 ghost use Rattle.pep440_rs.specs.Errors.{parse_kind_of, specifier_refusal_of};
 ghost use Rattle.pep440_rs.specs.ErrorTexts.{specifier_error_text};
-ghost use Rattle.pep440_rs.specs.ListAnswers.{line_for, line_of, list_kind_of};
 ghost use Rattle.pep440_rs.specs.ListErrors.{IsSpan, list_refusal_of, span_of};
 ghost use Rattle.pep440_rs.specs.ListErrorTexts.{caret_line, list_text_of, piece_text};
 ghost use Rattle.pep440_rs.specs.declared.list.error.SpecifiersErrorKind.TheVariants.{OutOfMemory};
@@ -61,7 +60,7 @@ impl<T: Drop> From<AllocFailed<T>> for SpecifiersErrorKind {
     }
 }
 
-/// A string is no list of specifiers, or memory ran out. Two are equal exactly if they report the same of the same
+/// A string is no list of specifiers, or out of memory. Two are equal exactly if they report the same of the same
 /// string.
 #[derive(Debug, PartialEq, Eq, Drop)]
 pub struct VersionSpecifiersParseError {
@@ -200,29 +199,20 @@ fn write_piece<W: fmt::Write>(
     write_line(f, line, start, stop)
 }
 
-fn write_list_error<W: fmt::Write>(
-    f: &mut fmt::Formatter<W>,
-    error: &VersionSpecifiersParseError,
-) -> fmt::Result
-    ensures { DisplaysStyledOnOk W.write_str_gives f.old result (list_text_of (list_kind_of error.now) (line_of error.now)) f.new }
-{
-    match error.kind() {
-        SpecifiersErrorKind::Piece {
-            error: inner,
-            start,
-            stop,
-        } => write_piece(f, inner, error.line(), *start, *stop),
-        SpecifiersErrorKind::OutOfMemory => f.write_str("out of memory"),
-    }
-}
-
 impl fmt::Display for VersionSpecifiersParseError {
+    ghost use Rattle.pep440_rs.specs.ListAnswers.{line_of, list_kind_of};
+
     ghost output = { λ e. list_text_of (list_kind_of e) (line_of e) };
 
     ghost styled_output = { λ e _. list_text_of (list_kind_of e) (line_of e) };
 
     fn fmt<W: fmt::Write>(&self, f: &mut fmt::Formatter<W>) -> fmt::Result {
-        write_list_error(f, self)
+        match self.kind() {
+            SpecifiersErrorKind::Piece { error, start, stop } => {
+                write_piece(f, error, self.line(), *start, *stop)
+            }
+            SpecifiersErrorKind::OutOfMemory => f.write_str("out of memory"),
+        }
     }
 }
 

@@ -1,4 +1,4 @@
-//! The reader of lists, piece by piece.
+//! The parser of lists, piece by piece.
 ghost use Rattle.std.specs.Prelude.{◌<◌, ◌+◌, ◌^◌, ◌≡◌, ◌++◌, ◌∷◌, [], length, Ok, IfOk, Err, IfErr, IsCharBoundary};
 ghost use Rattle.std.specs.Option.{option_map_or};
 ghost use Rattle.pep440_rs.specs.ListErrors.{IsListLifted, IsSpan, MembersGive, PieceGives};
@@ -13,7 +13,7 @@ use crate::specifier::error::{ParseErrorKind, VersionSpecifierParseError};
 use crate::specifier::read::parse_specifier;
 use std::alloc::Global;
 
-// What a piece of a list reads as, which begins at this byte.
+// What a piece of a list that begins at this byte parses to.
 #[inline(always)]
 fn parse_piece(
     alloc: Global,
@@ -35,7 +35,7 @@ fn parse_piece(
     }
 }
 
-// One more member, which a piece that begins at this byte reads as.
+// Adds the member that a piece that begins at this byte parses to.
 #[inline(always)]
 fn add_piece(
     alloc: Global,
@@ -53,7 +53,7 @@ fn add_piece(
     Ok(())
 }
 
-// The first piece, and what stands behind the comma after it if there is one.
+// The first piece, and what follows the comma after it if there is one.
 #[inline(always)]
 fn split_piece(text: &str) -> (&str, Option<&str>)
     ensures pieces { pieces text.now ≡ result.0.now ∷ option_map_or (λ later. pieces later.now) result.1 [] }
@@ -69,7 +69,7 @@ fn split_piece(text: &str) -> (&str, Option<&str>)
     (text, None)
 }
 
-// The members of a list, in the order of the text.
+// The members of a list, in the order of the string.
 pub(crate) fn parse_members(
     alloc: Global,
     text: &str,

@@ -130,7 +130,7 @@ pub fn specifier_to_cover(
 ) -> Result<Ranges<Version>, RangeError>
     ensures cover { IfOk result (λ r. cover_of specifier.operator specifier.version ≡ Some r) }
     ensures refused { IsErrOf result RangeError.NumberAtMax → cover_of specifier.operator specifier.version ≡ None }
-    // `NumberAtMax` exactly where the number to be raised is the greatest there is, unless memory runs out.
+    // `NumberAtMax` exactly where the number to be raised is the greatest there is, unless an allocation fails.
     ensures at_max { TellsMax (raises_max raised_number specifier) result }
     // Of a version that a string can give beside the operator it holds every version that the specifier contains.
     ensures holds { IsCoverable specifier → IfOk result (Covers specifier) }

@@ -74,7 +74,7 @@ pub fn specifiers_to_ranges(
 ) -> Result<Ranges<Version>, RangeError>
     ensures range { IfOk result (λ r. list_range range_of specifiers ≡ Some r) }
     ensures refused { IsErrOf result RangeError.NumberAtMax → list_range range_of specifiers ≡ None }
-    // `NumberAtMax` exactly where some member has to raise the greatest number there is, unless memory runs out.
+    // `NumberAtMax` exactly where some member has to raise the greatest number there is, unless an allocation fails.
     ensures at_max { TellsMax (list_any (raises_max raised_number) specifiers) result }
     // Where each member's version is one that a string can have beside its operator, it holds exactly what the list
     // contains, as far as range and matching of each can be compared.
@@ -99,7 +99,7 @@ pub fn release_specifiers_to_ranges(
 ) -> Result<Ranges<Version>, RangeError>
     ensures range { IfOk result (λ r. list_range release_range_of specifiers ≡ Some r) }
     ensures refused { IsErrOf result RangeError.NumberAtMax → list_range release_range_of specifiers ≡ None }
-    // `NumberAtMax` exactly where some member has to raise the greatest number there is, unless memory runs out.
+    // `NumberAtMax` exactly where some member has to raise the greatest number there is, unless an allocation fails.
     ensures at_max { TellsMax (list_any (raises_max raised_release_number) specifiers) result }
     // It holds exactly the releases that the list contains.
     ensures agrees { IfOk result (λ r. ListAgrees IsReleaseComparable specifiers r) }
@@ -113,7 +113,7 @@ pub fn release_specifiers_to_ranges(
 }
 
 /// The cover of a list: all versions, intersected with each member's cover in the list's order. It holds every version that
-/// the list contains, local versions too (PEP 440, "Version specifiers"), and maybe more, as `specifier_to_cover` says.
+/// the list contains, local versions too (PEP 440, "Version specifiers"), and maybe more, as of `specifier_to_cover`.
 ///
 /// Allocates. Returns `NumberAtMax` exactly where `specifiers_to_ranges` does, and `OutOfMemory` if an allocation fails.
 pub fn specifiers_to_cover(
@@ -122,7 +122,7 @@ pub fn specifiers_to_cover(
 ) -> Result<Ranges<Version>, RangeError>
     ensures cover { IfOk result (λ r. list_range cover_of specifiers ≡ Some r) }
     ensures refused { IsErrOf result RangeError.NumberAtMax → list_range cover_of specifiers ≡ None }
-    // `NumberAtMax` exactly where some member has to raise the greatest number there is, unless memory runs out.
+    // `NumberAtMax` exactly where some member has to raise the greatest number there is, unless an allocation fails.
     ensures at_max { TellsMax (list_any (raises_max raised_number) specifiers) result }
     // Of members whose versions strings can give it holds every version that the list contains.
     ensures holds { All IsCoverable specifiers → IfOk result (ListCovers specifiers) }

@@ -87,7 +87,7 @@ pub fn release_specifier_to_range(
 ) -> Result<Ranges<Version>, RangeError>
     ensures range { IfOk result (λ r. release_range_of specifier.operator specifier.version ≡ Some r) }
     ensures refused { IsErrOf result RangeError.NumberAtMax → release_range_of specifier.operator specifier.version ≡ None }
-    // `NumberAtMax` exactly where the number to be raised is the greatest there is, unless memory runs out.
+    // `NumberAtMax` exactly where the number to be raised is the greatest there is, unless an allocation fails.
     ensures at_max { TellsMax (raises_max raised_release_number specifier) result }
     // It holds exactly the releases that the specifier contains.
     ensures agrees { IfOk result (Agrees IsReleaseComparable specifier) }

@@ -138,7 +138,7 @@ pub fn specifier_to_range(
 ) -> Result<Ranges<Version>, RangeError>
     ensures range { IfOk result (λ r. range_of specifier.operator specifier.version ≡ Some r) }
     ensures refused { IsErrOf result RangeError.NumberAtMax → range_of specifier.operator specifier.version ≡ None }
-    // `NumberAtMax` exactly where the number to be raised is the greatest there is, unless memory runs out.
+    // `NumberAtMax` exactly where the number to be raised is the greatest there is, unless an allocation fails.
     ensures at_max { TellsMax (raises_max raised_number specifier) result }
     // Where the version is one that a string can have beside the operator, it holds exactly what the specifier
     // contains, as far as the two can be compared.

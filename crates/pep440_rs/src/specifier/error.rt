@@ -360,7 +360,7 @@ fn is_out_of_memory(kind: &PatternErrorKind) -> bool
     }
 }
 
-/// A string is no specifier, or memory ran out. Two are equal exactly if they report the same.
+/// A string is no specifier, or out of memory. Two are equal exactly if they report the same.
 #[derive(Debug, PartialEq, Eq, Drop)]
 pub struct VersionSpecifierParseError {
     kind: ParseErrorKind,

@@ -1,4 +1,4 @@
-//! The comparison operators: their order, hash and string form, and the reader.
+//! The comparison operators: their numbers, order, hash and string form, and the parser.
 ghost use Rattle.std.specs.Prelude.{◌≡◌, ◌≢◌, Some, Ok, IfOk, IfErr, IfNone, IfSome, refl};
 ghost use Rattle.std.specs.Cmp.{partial_equiv_from_equiv};
 ghost use Rattle.std.specs.Ordering.{as_partial_cmp, eq_by_cmp};
@@ -40,8 +40,7 @@ pub enum Operator {
 }
 
 impl Operator {
-    /// The operator's number: its place in the enum, from 0. Numbers never change their meaning: they are what a hasher is fed,
-    /// and they may be stored.
+    /// The operator's position in the enum, from 0: what a hasher is fed. Compiled lists store it.
     pub fn number(self) -> u8
         ensures { result ≡ operator_rank self }
     {

@@ -1,4 +1,4 @@
-//! The reader of specifiers.
+//! The parser of specifiers.
 ghost use Rattle.std.specs.Prelude.{◌==◌, length, Err, if◌then◌else◌};
 ghost use Rattle.pep440_version.specs.Errors.{Answers, pattern_error_refusal};
 ghost use Rattle.pep440_version.specs.Whole.{read_pattern};
@@ -10,11 +10,11 @@ ghost use Rattle.pep440_rs.specs.SpecifierReading.{ended, read_specifier, with_p
 use crate::specifier::VersionSpecifier;
 use crate::specifier::error::ParseErrorKind;
 use crate::specifier::operator::Operator;
-use crate::specifier::scan::{Run, skip_blanks, split_run};
+use crate::specifier::scan::{Run, skip_white_space, split_run};
 use pep440_version::{VersionPattern, VersionPatternParseError};
 use std::alloc::Global;
 
-// The specifier of its parts, where nothing is left.
+// The specifier of an operator and a pattern, after which nothing may be left.
 fn build_specifier(
     alloc: Global,
     operator: Operator,
@@ -30,14 +30,14 @@ fn build_specifier(
     Err(ParseErrorKind::InvalidTrailing(String::from_str(alloc, rest)?))
 }
 
-// What the text reads as, by what the reader of patterns promises.
+// What the string parses to, by the contract of the parser of patterns.
 fn parse_pattern(alloc: Global, text: &str) -> Result<VersionPattern, VersionPatternParseError>
     ensures { Answers pattern_error_refusal result (read_pattern text.now) }
 {
     VersionPattern::from_str(alloc, text)
 }
 
-// The same, where the version is yet to be read.
+// The same of a version that is yet to be parsed.
 fn parse_version(
     alloc: Global,
     operator: Operator,
@@ -53,15 +53,15 @@ fn parse_version(
     build_specifier(alloc, operator, pattern, rest)
 }
 
-// What the text reads as.
+// What the string parses to.
 pub(crate) fn parse_specifier(alloc: Global, text: &str) -> Result<VersionSpecifier, ParseErrorKind>
     ensures { SpecifierGives result (read_specifier text.now) }
 {
-    let (spelled, behind) = split_run(skip_blanks(text), Run::Operator);
+    let (spelled, behind) = split_run(skip_white_space(text), Run::Operator);
     if spelled.is_empty() {
         return Err(ParseErrorKind::MissingOperator);
     }
     let operator = Operator::from_str(alloc, spelled).map_err(ParseErrorKind::from_operator_error)?;
-    let (version, behind) = split_run(skip_blanks(behind), Run::Word);
-    parse_version(alloc, operator, version, skip_blanks(behind))
+    let (version, behind) = split_run(skip_white_space(behind), Run::Word);
+    parse_version(alloc, operator, version, skip_white_space(behind))
 }

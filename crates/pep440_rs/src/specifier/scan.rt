@@ -1,4 +1,4 @@
-//! The runs that a text is made of.
+//! The runs of characters that a specifier is made of.
 ghost use Rattle.std.specs.Prelude.{◌≡◌};
 ghost use Rattle.std.specs.Char.{is_whitespace};
 ghost use Rattle.std.specs.Str.{chars, encode_utf8_all};
@@ -25,7 +25,7 @@ impl Run {
     }
 }
 
-// What follows the longest run at the front, character by character.
+// What follows the longest run at the start, character by character.
 fn skip_characters(text: &str, run: Run) -> &str
     ensures back { chars result.now ≡ past (passes run) (chars text.now) }
     ensures ends { EndsWith text.now result.now }
@@ -41,7 +41,7 @@ fn skip_characters(text: &str, run: Run) -> &str
     rest
 }
 
-// What follows the longest run at the front: byte by byte, up to one that is not ASCII.
+// What follows the longest run at the start: byte by byte, up to one that is not ASCII.
 #[inline(always)]
 fn skip_run(text: &str, run: Run) -> &str
     ensures back { chars result.now ≡ past (passes run) (chars text.now) }
@@ -59,7 +59,7 @@ fn skip_run(text: &str, run: Run) -> &str
     ""
 }
 
-// The longest run at the front, and what follows it.
+// The longest run at the start, and what follows it.
 #[inline(always)]
 pub(crate) fn split_run(text: &str, run: Run) -> (&str, &str)
     ensures prefix { result.0.now ≡ encode_utf8_all (lead (passes run) (chars text.now)) }
@@ -70,9 +70,9 @@ pub(crate) fn split_run(text: &str, run: Run) -> (&str, &str)
     text.split_at(text.len() - rest.len())
 }
 
-// What follows the blanks at the front.
+// What follows the white space at the start.
 #[inline(always)]
-pub(crate) fn skip_blanks(text: &str) -> &str
+pub(crate) fn skip_white_space(text: &str) -> &str
     ensures back { chars result.now ≡ past is_whitespace (chars text.now) }
     ensures bytes { result.now ≡ encode_utf8_all (past is_whitespace (chars text.now)) }
 {

@@ -1,8 +1,6 @@
-//! A range of a thousand gaps, and the errors of conversions.
+//! A range of a thousand gaps.
 use super::calls::list;
-use pep440_rs::{
-    RangeError, VersionSpecifiers, release_specifiers_to_ranges, specifiers_to_ranges,
-};
+use pep440_rs::{VersionSpecifiers, release_specifiers_to_ranges, specifiers_to_ranges};
 use std::test::Fail;
 
 // `!=1,!=2` and so on, up to `!=1000`.
@@ -20,22 +18,5 @@ fn thousand_exclusions(rt: HostRuntime) -> Result<(), Fail> {
     assert!(rt; range.iter().count() == 1001, "by the whole order");
     let range = release_specifiers_to_ranges(rt.alloc(), exclusions(rt)?)?;
     assert!(rt; range.iter().count() == 1001, "by releases");
-    Ok(())
-}
-
-#[test]
-fn errors(rt: HostRuntime) -> Result<(), Fail> {
-    let error = RangeError::NumberAtMax;
-    assert!(rt;
-        error == error.clone()? && error != RangeError::OutOfMemory,
-        "equality"
-    );
-    let wide = format!(in rt.alloc(); "{error:>60}")?;
-    assert!(rt;
-        wide.as_str() == "a number of 18446744073709551615 cannot be raised",
-        "{wide}"
-    );
-    let lack = RangeError::OutOfMemory.to_string(rt.alloc())?;
-    assert!(rt; lack.as_str() == "out of memory", "{lack}");
     Ok(())
 }

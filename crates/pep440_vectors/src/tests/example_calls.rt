@@ -1,6 +1,6 @@
 //! The examples, a case each.
 use example_calls::downloads::{add, count_loads};
-use example_calls::lock::{Locked, find_broken};
+use example_calls::lock::{LockEntry, find_broken};
 use example_calls::page::newest;
 use example_calls::untrusted::{Verdict, read_all};
 use example_calls::within::keep_wanted;
@@ -33,7 +33,7 @@ const LOCK: [&str; 3] = [
 fn a_lock_file_is_checked(rt: HostRuntime) -> Result<(), Fail> {
     let mut lock = Vec::new(rt.alloc());
     for line in LOCK {
-        lock.push(Locked::from_line(rt.alloc(), line)?)?;
+        lock.push(LockEntry::from_line(rt.alloc(), line)?)?;
     }
     let names = find_broken(rt.alloc(), &lock)?;
     let first = names.first().map(|name| name.as_str() == "other");

@@ -1,9 +1,9 @@
-//! Texts of more than 65,536 bytes: no reader gives up because a text is long.
+//! Strings of more than 65,536 bytes: no parser gives up because a string is long.
 use pep440_rs::{Operator, VersionSpecifier, VersionSpecifiers};
 use std::test::Fail;
 
-// The text so many times.
-fn repeated(rt: HostRuntime, text: &str, times: u64) -> Result<String, Fail> {
+// The string so many times.
+fn repeat(rt: HostRuntime, text: &str, times: u64) -> Result<String, Fail> {
     let mut all = String::new(rt.alloc());
     for _ in 0..times {
         all.push_str(text)?;
@@ -13,7 +13,7 @@ fn repeated(rt: HostRuntime, text: &str, times: u64) -> Result<String, Fail> {
 
 #[test]
 fn long_operator(rt: HostRuntime) -> Result<(), Fail> {
-    let text = repeated(rt, "=", 70_000)?;
+    let text = repeat(rt, "=", 70_000)?;
     let Err(error) = Operator::from_str(rt.alloc(), text.as_str()) else {
         return Err(Fail::new("an operator"));
     };
@@ -30,7 +30,7 @@ fn long_operator(rt: HostRuntime) -> Result<(), Fail> {
 #[test]
 fn long_specifier(rt: HostRuntime) -> Result<(), Fail> {
     let mut text = String::from_str(rt.alloc(), "==1")?;
-    text.push_str(repeated(rt, ".1", 40_000)?.as_str())?;
+    text.push_str(repeat(rt, ".1", 40_000)?.as_str())?;
     let read = VersionSpecifier::from_str(rt.alloc(), text.as_str())?;
     assert!(rt; read.version().release().len() == 40_001, "the specifier");
     Ok(())
@@ -38,7 +38,7 @@ fn long_specifier(rt: HostRuntime) -> Result<(), Fail> {
 
 #[test]
 fn long_list(rt: HostRuntime) -> Result<(), Fail> {
-    let mut text = repeated(rt, "!=1,", 20_000)?;
+    let mut text = repeat(rt, "!=1,", 20_000)?;
     text.push_str(">=1")?;
     let read = VersionSpecifiers::from_str(rt.alloc(), text.as_str())?;
     assert!(rt; read.as_slice().len() == 20_001, "the list");
@@ -47,7 +47,7 @@ fn long_list(rt: HostRuntime) -> Result<(), Fail> {
 
 #[test]
 fn long_invalid_list(rt: HostRuntime) -> Result<(), Fail> {
-    let mut text = repeated(rt, "!=1,", 20_000)?;
+    let mut text = repeat(rt, "!=1,", 20_000)?;
     text.push_str("1")?;
     let Err(error) = VersionSpecifiers::from_str(rt.alloc(), text.as_str()) else {
         return Err(Fail::new("a list"));

@@ -1,4 +1,4 @@
-//! What allocates nothing: reading a specifier whose version is packed, reading an operator, the list without members.
+//! What allocates nothing: parsing a specifier whose version is packed, parsing an operator, the list without members.
 use pep440_rs::{Operator, Version, VersionPattern, VersionSpecifier, VersionSpecifiers};
 use std::test::Fail;
 

@@ -7,13 +7,13 @@ use Rattle.example_calls.specs.Lock.{IsFault}
 use Rattle.pep440_rs.specs.ListGrammar.{DerivesList}
 use Rattle.pep440_rs.specs.Specifiers.{Spec}
 use Rattle.example_calls.specs.Parts.{IsShort, list_part, version_part}
-use Rattle.example_calls.specs.declared.lock.Locked.{Locked}
+use Rattle.example_calls.specs.declared.lock.LockEntry.{LockEntry}
 use Rattle.example_calls.specs.declared.lock.LockError.{LockError}
 use Rattle.example_calls.specs.declared.lock.LockError.TheVariants.{Version}
-use Rattle.example_calls.proofs.lock.Locked.from_line.Goals as goal
+use Rattle.example_calls.proofs.lock.LockEntry.from_line.Goals as goal
 
 -- an error of the third part is the fault of a line whose second part is a list
-third : (line text : List ℕ) (list : List Spec) (e : VersionParseError) (r : Result Locked LockError) → text ≡ version_part line → ¬ IsShort line → DerivesList (list_part line) list → IsErrAnd r (λ of. of ≡ Version e)
+third : (line text : List ℕ) (list : List Spec) (e : VersionParseError) (r : Result LockEntry LockError) → text ≡ version_part line → ¬ IsShort line → DerivesList (list_part line) list → IsErrAnd r (λ of. of ≡ Version e)
     → IfSome (error_refusal e) (Refuses text) → IfErr r (IsFault line)
 third line text list e (Ok locked) is long derived made why = absurd made
 third line text list e (Err of) is long derived made why =
