@@ -10,7 +10,7 @@ use Rattle.pep440_rs.specs.Specifiers.{Spec}
 use Rattle.pep440_version.specs.Key.{record_cmp}
 use Rattle.pep440_version.specs.Record.{Record}
 use Rattle.pep440_c.proofs.Once.{one_bytes_list, one_version}
-use Rattle.pep440_c.specs.Answers.{Contains, IsOrder, order_number}
+use Rattle.pep440_c.specs.CallResults.{Contains, IsOrder, order_number}
 use Rattle.pep440_c.specs.Compiled.{CompiledContains, CompiledOrder, DenotesNoList, DenotesNoVersion, IsCompiled, IsCompiledList}
 use Rattle.pep440_c.specs.Meaning.{MeansBytes, MeansListBytes, RefusesBytes}
 use Rattle.pep440_c.specs.Statuses.{Faults, PutsBytes}

@@ -14,7 +14,7 @@ use Rattle.pep440_version.specs.Patterns.{DerivesPattern}
 use Rattle.pep440_version.specs.Record.{Record}
 use Rattle.pep440_version.specs.Refusals.{PatternRefusal, RefusesPattern}
 use Rattle.pep440_c.proofs.Once.{no_utf8}
-use Rattle.pep440_c.specs.Patterns.{Combines, IsSpecifier, MeansPattern, RefusesOperand, RefusesOperator, RefusesPatternBytes}
+use Rattle.pep440_c.specs.PatternCalls.{Combines, IsSpecifier, MeansPattern, RefusesOperand, RefusesOperator, RefusesPatternBytes}
 
 -- ---- patterns
 

@@ -11,7 +11,7 @@ use Rattle.pep440_version.specs.declared.change.Change.{Change}
 use Rattle.pep440_version.specs.declared.change.ChangeError.{ChangeError}
 use Rattle.pep440_c.proofs.Once.{never_both}
 use Rattle.pep440_c.proofs.Placed.{each_more, refused_first}
-use Rattle.pep440_c.specs.Answers.{IsVersionError}
+use Rattle.pep440_c.specs.CallResults.{IsVersionError}
 use Rattle.pep440_c.specs.Edits.{ChangesTo, EditFaults, FailsEdit, IsEditError, MeansChange, OfVersion, RefusesChange, RefusesChangeAt, edit_status}
 use Rattle.pep440_c.specs.Meaning.{RefusesBytes}
 use Rattle.pep440_c.specs.Statuses.{Gives}

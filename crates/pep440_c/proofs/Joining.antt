@@ -3,7 +3,7 @@ use Rattle.std.proofs.Common.{◌≡◌, ◌+◌, ◌∙◌, ℕ, List, [], ◌�
 use Rattle.std.proofs.lemmas.List.Concat.{flat_map-append}
 use Rattle.std.proofs.lemmas.List.{length-append}
 use Rattle.std.specs.List.{flat_map}
-use Rattle.pep440_c.specs.Joined.{Joins, ends_from}
+use Rattle.pep440_c.specs.JoinedStrings.{Joins, ends_from}
 
 -- where one more string ends
 ends_push : (start : ℕ) (strings : List (List ℕ)) (s : List ℕ) → ends_from start (strings ++ s ∷ []) ≡ ends_from start strings ++ (start + (length (flat_map (λ (t : List ℕ). t) strings) + length s)) ∷ []

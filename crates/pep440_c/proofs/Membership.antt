@@ -16,7 +16,7 @@ use Rattle.pep440_version.specs.Key.{record_cmp}
 use Rattle.pep440_version.specs.Record.{Record}
 use Rattle.pep440_c.proofs.Keyed.{cover_has_keys, range_has_keys}
 use Rattle.pep440_c.proofs.Once.{one_bytes_list, one_version}
-use Rattle.pep440_c.specs.Answers.{Contains}
+use Rattle.pep440_c.specs.CallResults.{Contains}
 use Rattle.pep440_c.specs.Intervals.{HasRange}
 use Rattle.pep440_c.specs.Meaning.{MeansBytes}
 

@@ -15,7 +15,7 @@ use Rattle.pep440_version.specs.Grammar.{Derives}
 use Rattle.pep440_version.specs.Record.{Record}
 use Rattle.pep440_version.specs.Refusals.{Refusal, Refuses}
 use Rattle.pep440_c.proofs.Refused.{no_list_text, no_text}
-use Rattle.pep440_c.specs.Answers.{HasNoRange, IsRangeText}
+use Rattle.pep440_c.specs.CallResults.{HasNoRange, IsRangeText}
 use Rattle.pep440_c.specs.Meaning.{MeansBytes, MeansListBytes, RefusesBytes, RefusesListBytes, TellsWhy, TellsWhyNoList}
 
 pub no_utf8 : (bytes : List ℕ) → is_utf8 bytes ≡ false → ¬ IsUtf8 bytes

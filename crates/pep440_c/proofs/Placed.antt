@@ -10,7 +10,7 @@ use Rattle.pep440_keys.specs.SortKeys.{key_bytes}
 use Rattle.pep440_version.specs.Key.{record_cmp}
 use Rattle.pep440_version.specs.Record.{Record}
 use Rattle.pep440_c.specs.Batches.{ArrangesPlaces, MeansKeys, MeansPlaced, Sorts, StopsAll, stop_at}
-use Rattle.pep440_c.specs.Joined.{Joins}
+use Rattle.pep440_c.specs.JoinedStrings.{Joins}
 use Rattle.pep440_c.specs.Statuses.{Faults}
 use Rattle.pep440_c.specs.declared.texts.Fault.{Fault}
 use Rattle.pep440_c.specs.declared.texts.Fault.TheVariants.{InvalidVersion, InvalidList, NotCompiled, NumberAtMax, OutOfMemory}

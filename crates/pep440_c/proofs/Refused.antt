@@ -13,7 +13,7 @@ use Rattle.pep440_rs.specs.declared.specifier.operator.Operator.{Operator}
 use Rattle.pep440_version.specs.ErrorTexts.{refusal_text}
 use Rattle.pep440_version.specs.Refusals.{PatternRefusal, Refusal, Refuses, RefusesPattern}
 use Rattle.pep440_c.specs.Meaning.{RefusesBytes, RefusesListBytes, TellsWhy, TellsWhyNoList}
-use Rattle.pep440_c.specs.Patterns.{IsOperator, RefusesPatternBytes}
+use Rattle.pep440_c.specs.PatternCalls.{IsOperator, RefusesPatternBytes}
 
 pub no_text : (bytes : List ℕ) → (¬ IsUtf8 bytes) → RefusesBytes bytes
 no_text bytes not_utf8 = (codes "not UTF-8", inl (not_utf8, refl))

@@ -6,7 +6,7 @@ use Rattle.pep440_version.specs.Key.{record_cmp}
 use Rattle.pep440_version.specs.Record.{Record}
 use Rattle.pep440_version.specs.Word.{is_packed, word}
 use Rattle.pep440_c.proofs.Once.{one_version}
-use Rattle.pep440_c.specs.Answers.{TellsWord}
+use Rattle.pep440_c.specs.CallResults.{TellsWord}
 use Rattle.pep440_c.specs.Meaning.{MeansBytes}
 
 of_record : (bytes : List ℕ) (m : ℕ) (r : Record) → TellsWord bytes (Some m) → MeansBytes bytes r → Some m ≡ (if is_packed r then Some (word r) else None)

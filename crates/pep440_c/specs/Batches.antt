@@ -12,7 +12,7 @@ use Rattle.pep440_c.specs.declared.batch.BatchError.{BatchError}
 use Rattle.pep440_c.specs.declared.batch.BatchError.TheVariants as stop
 use Rattle.pep440_c.specs.declared.texts.Fault.{Fault}
 use Rattle.pep440_c.specs.declared.texts.Fault.TheVariants as fault
-use Rattle.pep440_c.specs.Joined.{Joins}
+use Rattle.pep440_c.specs.JoinedStrings.{Joins}
 use Rattle.pep440_c.specs.Meaning.{MeansBytes, MeansListBytes, RefusesBytes, RefusesListBytes}
 use Rattle.pep440_c.specs.Statuses.{Fails, PutsBoth, PutsFront}
 
@@ -39,7 +39,7 @@ pub record FirstRefusedText (texts : List (List ℕ)) (position : ℕ) : Type 0 
   pub refused : IsSomeAnd (slice_get texts position) RefusesBytes
   pub before : All (λ text. (r : Record) × MeansBytes text r) (take position texts)
 
--- the index of the first string that is no version is written; or memory ran out
+-- the index of the first string that is no version is written; or an allocation failed
 abbrev pub StopsAt : List (List ℕ) → ℕ → ℕ → ℕ → Type 0
 StopsAt texts old_at at status = ((status ≡ 1) × FirstRefusedText texts at) ⊎ ((status ≡ 3) × (at ≡ old_at))
 

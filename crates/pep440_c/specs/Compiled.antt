@@ -13,9 +13,9 @@ use Rattle.pep440_keys.specs.SortKeys.{key_bytes}
 use Rattle.pep440_version.specs.Key.{record_cmp}
 use Rattle.pep440_version.specs.Print.{print}
 use Rattle.pep440_version.specs.Record.{Record}
-use Rattle.pep440_c.specs.Answers.{TellsParts, order_number}
+use Rattle.pep440_c.specs.CallResults.{TellsParts, order_number}
 use Rattle.pep440_c.specs.Intervals.{interval_keys}
-use Rattle.pep440_c.specs.Joined.{Joins}
+use Rattle.pep440_c.specs.JoinedStrings.{Joins}
 use Rattle.pep440_c.specs.Meaning.{MeansBytes, MeansListBytes}
 use Rattle.pep440_c.specs.Statuses.{FailsCompiled, IsFlagOf, PutsFront}
 use Rattle.pep440_c.specs.declared.Parts.{Parts}

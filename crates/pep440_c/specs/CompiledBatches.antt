@@ -36,7 +36,7 @@ pub record FirstNotCompiled (forms : List (List ℕ)) (position : ℕ) : Type 0 
   pub rejected : IsSomeAnd (slice_get forms position) DenotesNoVersion
   pub before : All (λ form. (r : Record) × DenotesVersion form r) (take position forms)
 
--- the index of the first bytes that denote no version is written; or memory ran out
+-- the index of the first bytes that denote no version is written; or an allocation failed
 abbrev pub CompiledStopsAt : List (List ℕ) → ℕ → ℕ → ℕ → Type 0
 CompiledStopsAt forms old_at at status = ((status ≡ 6) × FirstNotCompiled forms at) ⊎ ((status ≡ 3) × (at ≡ old_at))
 

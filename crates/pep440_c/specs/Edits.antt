@@ -54,7 +54,7 @@ RefusesEdit text words why = (r : Record) × MeansBytes text r × TellsNoEdit r 
 abbrev pub IsEditError : List ℕ → List (List ℕ) → List ℕ → Type 0
 IsEditError text words bytes = ((edited : List ℕ) × IsEdited text words edited × (bytes ≡ [])) ⊎ (TellsWhy text bytes ⊎ RefusesEdit text words bytes)
 
--- the status names the cause: the string is no version, a change cannot be made, or memory ran out
+-- the status names the cause: the string is no version, a change cannot be made, or an allocation failed
 abbrev pub FailsEdit : List ℕ → List (List ℕ) → ℕ → Type 0
 FailsEdit text words status = ((status ≡ 1) × RefusesBytes text) ⊎ (((status ≡ 8) × (why : List ℕ) × RefusesEdit text words why) ⊎ (status ≡ 3))
 

@@ -1,13 +1,13 @@
 pub mod Meaning
 pub mod Statuses
-pub mod Joined
-pub mod Answers
+pub mod JoinedStrings
+pub mod CallResults
 pub mod Intervals
 pub mod Batches
 pub mod Compiled
 pub mod Room
 pub mod CompiledBatches
-pub mod Patterns
+pub mod PatternCalls
 pub mod Edits
 pub mod OneSpecifier
 pub mod RangeBounds

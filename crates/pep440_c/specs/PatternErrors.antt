@@ -10,7 +10,7 @@ use Rattle.pep440_rs.specs.declared.specifier.operator.Operator.{Operator}
 use Rattle.pep440_version.specs.ErrorTexts.{pattern_refusal_text}
 use Rattle.pep440_version.specs.Record.{Record}
 use Rattle.pep440_version.specs.Refusals.{PatternRefusal, RefusesPattern}
-use Rattle.pep440_c.specs.Patterns.{MeansPattern}
+use Rattle.pep440_c.specs.PatternCalls.{MeansPattern}
 
 -- ---- patterns
 

@@ -9,7 +9,7 @@ use Rattle.pep440_rs.specs.Bounds.{Segments, range_of}
 use Rattle.pep440_version.specs.Record.{Record}
 use Rattle.pep440_c.specs.Compiled.{CompiledRange}
 use Rattle.pep440_c.specs.Intervals.{HasRange}
-use Rattle.pep440_c.specs.Joined.{Joins}
+use Rattle.pep440_c.specs.JoinedStrings.{Joins}
 
 -- the bytes are the bound: 0 alone where there is none, else 1 for an included or 2 for an excluded version, and its compiled form
 abbrev pub DenotesBound : List ℕ → Bound Record → Type 0

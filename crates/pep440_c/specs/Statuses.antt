@@ -4,6 +4,8 @@
 use Rattle.std.specs.Prelude.{◌≡◌, ◌⊎◌, ◌≤◌, ◌<◌, ℕ, Bool, List, ◌++◌, drop, length, Result, Ok, Err, if◌then◌else◌}
 use Rattle.pep440_compiled.specs.declared.version.CompiledError.{CompiledError}
 use Rattle.pep440_compiled.specs.declared.version.CompiledError.TheVariants as compiled
+use Rattle.pep440_rs.specs.declared.range.error.RangeError.{RangeError}
+use Rattle.pep440_rs.specs.declared.range.error.RangeError.TheVariants as range_error
 use Rattle.pep440_c.specs.declared.texts.Fault.{Fault}
 use Rattle.pep440_c.specs.declared.texts.Fault.TheVariants as fault
 
@@ -19,6 +21,11 @@ fault_status fault.NotCompiled = 6
 abbrev pub fault_of_compiled : CompiledError → Fault
 fault_of_compiled compiled.NotCompiled = fault.NotCompiled
 fault_of_compiled compiled.OutOfMemory = fault.OutOfMemory
+
+-- why there is no range
+abbrev pub fault_of_range : RangeError → Fault
+fault_of_range range_error.NumberAtMax = fault.NumberAtMax
+fault_of_range range_error.OutOfMemory = fault.OutOfMemory
 
 -- a truth value as a number: 0 or 1
 abbrev pub flag : Bool → ℕ

@@ -7,7 +7,7 @@ ghost use Rattle.pep440_c.specs.Meaning.{RefusesListBytes};
 ghost use Rattle.pep440_c.specs.Statuses.{Gives};
 ghost use Rattle.pep440_c.specs.declared.batch.BatchError.TheVariants.{OutOfMemory};
 
-use crate::joined::Joined;
+use crate::joined_strings::JoinedStrings;
 use crate::texts::{Fault, read, read_list};
 use pep440_rs::{Version, VersionSpecifiers};
 use std::alloc::{AllocError, AllocFailed, Global};
@@ -26,7 +26,7 @@ pub(crate) const PRERELEASE_MATCH: u8 = 3;
 pub(crate) enum BatchError {
     /// The string at this position is the first that is no version.
     InvalidAt(usize),
-    /// Memory ran out.
+    /// Out of memory.
     OutOfMemory,
 }
 
@@ -98,7 +98,7 @@ pub(crate) fn filter(alloc: Global, list: &[u8], texts: &[&[u8]]) -> Result<Vec<
     Ok(mark_all(alloc, &specifiers, texts)?)
 }
 
-// The versions that the strings denote, with their places.
+// The versions that the strings denote, with their positions.
 fn read_all(alloc: Global, texts: &[&[u8]]) -> Result<Vec<(usize, Version)>, BatchError>
     ensures { GivesAll (map (λ t. t.now) texts.now) (λ pairs. MeansPlaced (map (λ t. t.now) texts.now) pairs.items) result }
 {
@@ -119,7 +119,7 @@ fn cmp_versions(a: &(usize, Version), b: &(usize, Version)) -> Ordering
     a.1.cmp(&b.1)
 }
 
-// The places, without the versions.
+// The positions, without the versions.
 fn collect_positions(alloc: Global, pairs: &[(usize, Version)]) -> Result<Vec<usize>, AllocError>
     ensures { IfOk result (λ found. found.items ≡ map (λ p. p.0) pairs.now) }
 {
@@ -130,7 +130,7 @@ fn collect_positions(alloc: Global, pairs: &[(usize, Version)]) -> Result<Vec<us
     Ok(found)
 }
 
-/// The places of the versions in order, equal ones in the order given.
+/// The positions of the versions in order, equal ones in the order given.
 pub(crate) fn sort_pairs(
     alloc: Global,
     pairs: Vec<(usize, Version)>,
@@ -151,10 +151,10 @@ pub(crate) fn sort(alloc: Global, texts: &[&[u8]]) -> Result<Vec<usize>, BatchEr
 }
 
 /// The sort keys of the strings.
-pub(crate) fn sort_keys(alloc: Global, texts: &[&[u8]]) -> Result<Joined, BatchError>
+pub(crate) fn sort_keys(alloc: Global, texts: &[&[u8]]) -> Result<JoinedStrings, BatchError>
     ensures { GivesAll (map (λ t. t.now) texts.now) (λ keys. MeansKeys (map (λ t. t.now) texts.now) keys.bytes.items keys.ends.items) result }
 {
-    let mut keys = Joined::with_capacity(alloc, texts.len())?;
+    let mut keys = JoinedStrings::with_capacity(alloc, texts.len())?;
     for (position, text) in texts.iter().enumerate() {
         match read(alloc, text) {
             Ok(version) => keys.push_key(&version)?,

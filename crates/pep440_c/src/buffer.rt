@@ -3,7 +3,7 @@ ghost use Rattle.std.specs.Prelude.{◌≡◌, length, string_bytes};
 ghost use Rattle.pep440_c.specs.Statuses.{PutsBoth, PutsFront, flag};
 ghost use Rattle.pep440_c.specs.Room.{PutsGiven, PutsGivenJoined};
 
-use crate::joined::Joined;
+use crate::joined_strings::JoinedStrings;
 use crate::texts::Fault;
 
 pub(crate) const OK: u8 = 0;
@@ -74,7 +74,7 @@ pub(crate) fn put_both(bytes: &[u8], places: &[usize], out: &mut [u8], ends: &mu
 
 /// The same of strings one after the other, and reports how many bytes and how many strings they are.
 pub(crate) fn put_joined(
-    given: Result<Joined, Fault>,
+    given: Result<JoinedStrings, Fault>,
     out: &mut [u8],
     ends: &mut [usize],
     written: &mut usize,

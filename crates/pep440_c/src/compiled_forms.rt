@@ -6,7 +6,7 @@ ghost use Rattle.pep440_compiled.specs.Lists.{DenotesList, IsPackedMember};
 ghost use Rattle.pep440_compiled.specs.Version.{DenotesVersion};
 ghost use Rattle.pep440_rs.specs.Specifiers.{Spec};
 ghost use Rattle.pep440_version.specs.Record.{Record};
-ghost use Rattle.pep440_c.specs.Answers.{order_number};
+ghost use Rattle.pep440_c.specs.CallResults.{order_number};
 ghost use Rattle.pep440_c.specs.Compiled.{CompiledContains, CompiledKey, CompiledNormal, CompiledNormalList, CompiledOrder, CompiledPrerelease, DenotesNoList, DenotesNoVersion, IsCompiledList};
 ghost use Rattle.pep440_c.specs.Meaning.{RefusesListBytes};
 ghost use Rattle.pep440_c.specs.Statuses.{Gives, GivesCompiled, fault_of_compiled};

@@ -5,37 +5,29 @@ ghost use Rattle.pep440_c.specs.Compiled.{CompiledIntervals, CompiledLacksRange,
 ghost use Rattle.pep440_c.specs.Statuses.{GivesCompiled};
 
 use crate::intervals::join_range;
-use crate::joined::Joined;
+use crate::joined_strings::JoinedStrings;
 use crate::texts::Fault;
 use pep440_compiled::read_list;
 use pep440_ranges::Ranges;
-use pep440_rs::{RangeError, Version, specifiers_to_cover, specifiers_to_ranges};
+use pep440_rs::{Version, specifiers_to_cover, specifiers_to_ranges};
 use std::alloc::Global;
 
 pub(crate) fn to_range(alloc: Global, list: &[u8]) -> Result<Ranges<Version>, Fault>
     ensures { GivesCompiled (DenotesNoList list.now) (CompiledLacksRange range_of list.now) (CompiledRange range_of list.now) result }
 {
     let specifiers = read_list(alloc, list)?;
-    match specifiers_to_ranges(alloc, specifiers) {
-        Ok(range) => Ok(range),
-        Err(RangeError::NumberAtMax) => Err(Fault::NumberAtMax),
-        Err(RangeError::OutOfMemory) => Err(Fault::OutOfMemory),
-    }
+    Ok(specifiers_to_ranges(alloc, specifiers)?)
 }
 
 fn to_cover(alloc: Global, list: &[u8]) -> Result<Ranges<Version>, Fault>
     ensures { GivesCompiled (DenotesNoList list.now) (CompiledLacksRange cover_of list.now) (CompiledRange cover_of list.now) result }
 {
     let specifiers = read_list(alloc, list)?;
-    match specifiers_to_cover(alloc, specifiers) {
-        Ok(cover) => Ok(cover),
-        Err(RangeError::NumberAtMax) => Err(Fault::NumberAtMax),
-        Err(RangeError::OutOfMemory) => Err(Fault::OutOfMemory),
-    }
+    Ok(specifiers_to_cover(alloc, specifiers)?)
 }
 
 /// The keys of the segments of the list's range.
-pub(crate) fn to_range_keys(alloc: Global, list: &[u8]) -> Result<Joined, Fault>
+pub(crate) fn to_range_keys(alloc: Global, list: &[u8]) -> Result<JoinedStrings, Fault>
     ensures { GivesCompiled (DenotesNoList list.now) (CompiledLacksRange range_of list.now) (λ found. CompiledIntervals range_of list.now found.bytes.items found.ends.items) result }
 {
     let range = to_range(alloc, list)?;
@@ -43,7 +35,7 @@ pub(crate) fn to_range_keys(alloc: Global, list: &[u8]) -> Result<Joined, Fault>
 }
 
 /// The same of its cover.
-pub(crate) fn to_cover_keys(alloc: Global, list: &[u8]) -> Result<Joined, Fault>
+pub(crate) fn to_cover_keys(alloc: Global, list: &[u8]) -> Result<JoinedStrings, Fault>
     ensures { GivesCompiled (DenotesNoList list.now) (CompiledLacksRange cover_of list.now) (λ found. CompiledIntervals cover_of list.now found.bytes.items found.ends.items) result }
 {
     let cover = to_cover(alloc, list)?;

@@ -5,37 +5,29 @@ ghost use Rattle.pep440_keys.specs.RangeKeys.{segment_interval};
 ghost use Rattle.pep440_rs.specs.Bounds.{range_of};
 ghost use Rattle.pep440_rs.specs.Cover.{cover_of};
 ghost use Rattle.pep440_c.specs.Intervals.{HasRange, LacksRange, TellsIntervals, interval_keys};
-ghost use Rattle.pep440_c.specs.Joined.{Joins};
+ghost use Rattle.pep440_c.specs.JoinedStrings.{Joins};
 ghost use Rattle.pep440_c.specs.Meaning.{RefusesListBytes};
 ghost use Rattle.pep440_c.specs.Statuses.{Gives};
 
-use crate::joined::Joined;
+use crate::joined_strings::JoinedStrings;
 use crate::texts::{Fault, read_list};
 use pep440_keys::{KeyInterval, range_keys};
 use pep440_ranges::Ranges;
-use pep440_rs::{RangeError, Version, specifiers_to_cover, specifiers_to_ranges};
+use pep440_rs::{Version, specifiers_to_cover, specifiers_to_ranges};
 use std::alloc::{AllocError, Global};
 
 pub(crate) fn to_range(alloc: Global, list: &[u8]) -> Result<Ranges<Version>, Fault>
     ensures { Gives ⊥ (RefusesListBytes list.now) (LacksRange range_of list.now) (HasRange range_of list.now) result }
 {
     let specifiers = read_list(alloc, list)?;
-    match specifiers_to_ranges(alloc, specifiers) {
-        Ok(range) => Ok(range),
-        Err(RangeError::NumberAtMax) => Err(Fault::NumberAtMax),
-        Err(RangeError::OutOfMemory) => Err(Fault::OutOfMemory),
-    }
+    Ok(specifiers_to_ranges(alloc, specifiers)?)
 }
 
 fn to_cover(alloc: Global, list: &[u8]) -> Result<Ranges<Version>, Fault>
     ensures { Gives ⊥ (RefusesListBytes list.now) (LacksRange cover_of list.now) (HasRange cover_of list.now) result }
 {
     let specifiers = read_list(alloc, list)?;
-    match specifiers_to_cover(alloc, specifiers) {
-        Ok(cover) => Ok(cover),
-        Err(RangeError::NumberAtMax) => Err(Fault::NumberAtMax),
-        Err(RangeError::OutOfMemory) => Err(Fault::OutOfMemory),
-    }
+    Ok(specifiers_to_cover(alloc, specifiers)?)
 }
 
 // The key, or no bytes.
@@ -48,7 +40,7 @@ fn unwrap_or_empty(key: Option<&[u8]>) -> &[u8]
     }
 }
 
-fn push_interval(found: &mut Joined, interval: &KeyInterval) -> Result<(), AllocError>
+fn push_interval(found: &mut JoinedStrings, interval: &KeyInterval) -> Result<(), AllocError>
     ensures { (strings : List (List ℕ)) → Joins strings found.old.bytes.items found.old.ends.items → OnOk result (Joins (strings ++ interval_keys interval.now) found.new.bytes.items found.new.ends.items) }
 {
     found.push(unwrap_or_empty(interval.low()))?;
@@ -57,10 +49,10 @@ fn push_interval(found: &mut Joined, interval: &KeyInterval) -> Result<(), Alloc
 }
 
 // The keys of the intervals, in their order.
-fn join_intervals(alloc: Global, intervals: &[KeyInterval]) -> Result<Joined, AllocError>
+fn join_intervals(alloc: Global, intervals: &[KeyInterval]) -> Result<JoinedStrings, AllocError>
     ensures { IfOk result (λ found. Joins (flat_map interval_keys intervals.now) found.bytes.items found.ends.items) }
 {
-    let mut found = Joined::with_capacity(alloc, intervals.len())?;
+    let mut found = JoinedStrings::with_capacity(alloc, intervals.len())?;
     for interval in intervals {
         push_interval(&mut found, interval)?;
     }
@@ -68,7 +60,10 @@ fn join_intervals(alloc: Global, intervals: &[KeyInterval]) -> Result<Joined, Al
 }
 
 /// The keys of the segments, in their order.
-pub(crate) fn join_range(alloc: Global, range: &Ranges<Version>) -> Result<Joined, AllocError>
+pub(crate) fn join_range(
+    alloc: Global,
+    range: &Ranges<Version>,
+) -> Result<JoinedStrings, AllocError>
     ensures { IfOk result (λ found. Joins (flat_map (λ s. interval_keys (segment_interval s)) range.now) found.bytes.items found.ends.items) }
 {
     let intervals = range_keys(alloc, range)?;
@@ -76,7 +71,7 @@ pub(crate) fn join_range(alloc: Global, range: &Ranges<Version>) -> Result<Joine
 }
 
 /// The keys of the segments of the list's range.
-pub(crate) fn to_range_keys(alloc: Global, list: &[u8]) -> Result<Joined, Fault>
+pub(crate) fn to_range_keys(alloc: Global, list: &[u8]) -> Result<JoinedStrings, Fault>
     ensures { Gives ⊥ (RefusesListBytes list.now) (LacksRange range_of list.now) (λ found. TellsIntervals range_of list.now found.bytes.items found.ends.items) result }
 {
     let range = to_range(alloc, list)?;
@@ -84,7 +79,7 @@ pub(crate) fn to_range_keys(alloc: Global, list: &[u8]) -> Result<Joined, Fault>
 }
 
 /// The same of its cover.
-pub(crate) fn to_cover_keys(alloc: Global, list: &[u8]) -> Result<Joined, Fault>
+pub(crate) fn to_cover_keys(alloc: Global, list: &[u8]) -> Result<JoinedStrings, Fault>
     ensures { Gives ⊥ (RefusesListBytes list.now) (LacksRange cover_of list.now) (λ found. TellsIntervals cover_of list.now found.bytes.items found.ends.items) result }
 {
     let cover = to_cover(alloc, list)?;

@@ -11,13 +11,13 @@ ghost use Rattle.pep440_version.specs.Record.{Record};
 ghost use Rattle.pep440_version.specs.Key.{record_cmp};
 ghost use Rattle.std.specs.Ordering.{nat_cmp};
 ghost use Rattle.std.specs.Prelude.{Some};
-ghost use Rattle.pep440_c.specs.Answers.{Contains, HasNoRange, IsKey, IsNormal, IsNormalList, IsOrder, IsPrerelease, IsRangeText, TellsWord};
+ghost use Rattle.pep440_c.specs.CallResults.{Contains, HasNoRange, IsKey, IsNormal, IsNormalList, IsOrder, IsPrerelease, IsRangeText, TellsWord};
 ghost use Rattle.pep440_c.specs.Compiled.{CompiledContains, CompiledKey, CompiledNormal, CompiledNormalList, CompiledOrder, CompiledPrerelease, DenotesNoList, DenotesNoVersion, IsCompiled, IsCompiledList};
 ghost use Rattle.pep440_c.specs.Intervals.{HasRange};
 ghost use Rattle.pep440_c.specs.OneSpecifier.{MeansSpecifierBytes, RefusesSpecifierBytes, TellsWhyNoSpecifier};
 ghost use Rattle.pep440_c.specs.RangeBounds.{CompiledBounds, TellsBounds};
 ghost use Rattle.pep440_c.specs.ReleaseRangeBounds.{CompiledReleaseBounds, TellsReleaseBounds};
-ghost use Rattle.pep440_c.specs.Patterns.{IsSpecifier, MeansPattern, RefusesOperand, RefusesOperator, RefusesPatternBytes};
+ghost use Rattle.pep440_c.specs.PatternCalls.{IsSpecifier, MeansPattern, RefusesOperand, RefusesOperator, RefusesPatternBytes};
 ghost use Rattle.pep440_c.specs.Meaning.{MeansBytes, MeansListBytes, RefusesBytes, RefusesListBytes, TellsWhy, TellsWhyNoList};
 
 /// Bytes denote one version, or are invalid with one error, and never both.

@@ -12,13 +12,13 @@
 ghost use Rattle.std.specs.Prelude.{◌≡◌, ◌⊎◌, map};
 ghost use Rattle.pep440_rs.specs.Bounds.{range_of};
 ghost use Rattle.pep440_rs.specs.Cover.{cover_of};
-ghost use Rattle.pep440_c.specs.Answers.{ContainsAnswer, HasNoRange, IsKey, IsListError, IsNormal, IsNormalList, IsOrder, IsRangeText, IsVersionError, NamesPrerelease, PartsAnswer, TellsMembers, WordAnswer, order_number};
+ghost use Rattle.pep440_c.specs.CallResults.{ContainsAnswer, HasNoRange, IsKey, IsListError, IsNormal, IsNormalList, IsOrder, IsRangeText, IsVersionError, NamesPrerelease, PartsAnswer, TellsMembers, WordAnswer, order_number};
 ghost use Rattle.pep440_c.specs.Batches.{FilterMarks, KeysAnswer, SortAnswer};
 ghost use Rattle.pep440_c.specs.Edits.{PutsEdited, IsEditError};
 ghost use Rattle.pep440_c.specs.Intervals.{LacksRange, TellsIntervals};
-ghost use Rattle.pep440_c.specs.Joined.{PutsJoined};
+ghost use Rattle.pep440_c.specs.JoinedStrings.{PutsJoined};
 ghost use Rattle.pep440_c.specs.Meaning.{RefusesBytes, RefusesListBytes};
-ghost use Rattle.pep440_c.specs.Patterns.{IsSpecifier, PatternAnswer, RefusesOperand, RefusesOperator};
+ghost use Rattle.pep440_c.specs.PatternCalls.{IsSpecifier, PatternAnswer, RefusesOperand, RefusesOperator};
 ghost use Rattle.pep440_c.specs.Statuses.{IsFlagOf, Puts, PutsBytes};
 
 mod batch;
@@ -29,9 +29,9 @@ mod compiled_forms;
 mod compiled_intervals;
 mod edits;
 mod intervals;
-mod joined;
+mod joined_strings;
 pub mod laws;
-mod members;
+mod list_members;
 mod one_specifier;
 mod pattern_errors;
 mod patterns;
@@ -98,7 +98,13 @@ pub extern "C" fn pep440_specifiers_of(
 ) -> u8
     ensures { PutsJoined ⊥ (RefusesListBytes list.now) ⊥ (TellsMembers list.now) out.old out.new ends.old ends.new written.old written.new count.old count.new result }
 {
-    put_joined(members::to_members(alloc, list), out, ends, written, count)
+    put_joined(
+        list_members::to_members(alloc, list),
+        out,
+        ends,
+        written,
+        count,
+    )
 }
 
 /// Writes the specifier of an operator and a version, as its list prints it; the version may end with `.*` for `==` and

@@ -2,7 +2,7 @@
 ghost use Rattle.std.specs.Prelude.{◌≡◌, is_none, string_bytes};
 ghost use Rattle.pep440_rs.specs.Operators.{Spells};
 ghost use Rattle.pep440_version.specs.Errors.{pattern_refusal_of};
-ghost use Rattle.pep440_c.specs.Patterns.{IsOperator, IsPattern, IsSpecifier, MeansPattern, RefusesOperand, RefusesOperator, RefusesPatternBytes};
+ghost use Rattle.pep440_c.specs.PatternCalls.{IsOperator, IsPattern, IsSpecifier, MeansPattern, RefusesOperand, RefusesOperator, RefusesPatternBytes};
 ghost use Rattle.pep440_c.specs.Statuses.{Gives};
 
 use crate::texts::Fault;
@@ -11,7 +11,7 @@ use pep440_rs::{
 };
 use std::alloc::Global;
 
-/// Whether memory ran out.
+/// Whether the error is out of memory.
 pub(crate) fn is_out_of_memory(kind: &PatternErrorKind) -> bool
     ensures { result ≡ is_none (pattern_refusal_of kind.now) }
 {

@@ -4,13 +4,13 @@ ghost use Rattle.pep440_compiled.specs.Version.{DenotesVersion};
 ghost use Rattle.pep440_rs.specs.Bounds.{Segments, range_of};
 ghost use Rattle.pep440_c.specs.Compiled.{CompiledLacksRange, DenotesNoList};
 ghost use Rattle.pep440_c.specs.Intervals.{LacksRange};
-ghost use Rattle.pep440_c.specs.Joined.{PutsJoined};
+ghost use Rattle.pep440_c.specs.JoinedStrings.{PutsJoined};
 ghost use Rattle.pep440_c.specs.Meaning.{RefusesListBytes};
 ghost use Rattle.pep440_c.specs.RangeBounds.{CompiledBounds, DenotesBound, JoinsBounds, TellsBounds};
 ghost use Rattle.pep440_c.specs.Statuses.{Gives, GivesCompiled, PutsCompiledJoined};
 
 use crate::buffer::put_joined;
-use crate::joined::Joined;
+use crate::joined_strings::JoinedStrings;
 use crate::texts::Fault;
 use crate::{compiled_intervals, intervals};
 use pep440_compiled::compile_version;
@@ -88,7 +88,7 @@ fn compile_bound(alloc: Global, bound: &Bound<Version>) -> Result<Vec<u8>, Alloc
 
 fn push_segment(
     alloc: Global,
-    found: &mut Joined,
+    found: &mut JoinedStrings,
     low: &Bound<Version>,
     high: &Bound<Version>,
 ) -> Result<(), AllocError>
@@ -102,24 +102,27 @@ fn push_segment(
 }
 
 /// The bounds of the segments, in their order.
-pub(crate) fn join_bounds(alloc: Global, range: &Ranges<Version>) -> Result<Joined, AllocError>
+pub(crate) fn join_bounds(
+    alloc: Global,
+    range: &Ranges<Version>,
+) -> Result<JoinedStrings, AllocError>
     ensures { IfOk result (λ found. JoinsBounds range.now found.bytes.items found.ends.items) }
 {
-    let mut found = Joined::with_capacity(alloc, 2)?;
+    let mut found = JoinedStrings::with_capacity(alloc, 2)?;
     for (low, high) in range.iter() {
         push_segment(alloc, &mut found, low, high)?;
     }
     Ok(found)
 }
 
-fn to_bounds(alloc: Global, list: &[u8]) -> Result<Joined, Fault>
+fn to_bounds(alloc: Global, list: &[u8]) -> Result<JoinedStrings, Fault>
     ensures { Gives ⊥ (RefusesListBytes list.now) (LacksRange range_of list.now) (λ found. TellsBounds list.now found.bytes.items found.ends.items) result }
 {
     let range = intervals::to_range(alloc, list)?;
     Ok(join_bounds(alloc, &range)?)
 }
 
-fn to_bounds_of_compiled(alloc: Global, list: &[u8]) -> Result<Joined, Fault>
+fn to_bounds_of_compiled(alloc: Global, list: &[u8]) -> Result<JoinedStrings, Fault>
     ensures { GivesCompiled (DenotesNoList list.now) (CompiledLacksRange range_of list.now) (λ found. CompiledBounds list.now found.bytes.items found.ends.items) result }
 {
     let range = compiled_intervals::to_range(alloc, list)?;

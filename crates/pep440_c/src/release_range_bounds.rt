@@ -2,18 +2,18 @@
 ghost use Rattle.pep440_rs.specs.Bounds.{release_range_of};
 ghost use Rattle.pep440_c.specs.Compiled.{CompiledLacksRange, CompiledRange, DenotesNoList};
 ghost use Rattle.pep440_c.specs.Intervals.{HasRange, LacksRange};
-ghost use Rattle.pep440_c.specs.Joined.{PutsJoined};
+ghost use Rattle.pep440_c.specs.JoinedStrings.{PutsJoined};
 ghost use Rattle.pep440_c.specs.Meaning.{RefusesListBytes};
 ghost use Rattle.pep440_c.specs.ReleaseRangeBounds.{CompiledReleaseBounds, TellsReleaseBounds};
 ghost use Rattle.pep440_c.specs.Statuses.{Gives, GivesCompiled, PutsCompiledJoined};
 
 use crate::buffer::put_joined;
-use crate::joined::Joined;
+use crate::joined_strings::JoinedStrings;
 use crate::range_bounds::join_bounds;
 use crate::texts;
 use crate::texts::Fault;
 use pep440_ranges::Ranges;
-use pep440_rs::{RangeError, Version, release_specifiers_to_ranges};
+use pep440_rs::{Version, release_specifiers_to_ranges};
 use std::alloc::Global;
 
 /// Writes the range of the list by releases alone (PEP 440, "Final releases"), as `pep440_range_bounds` writes that by the whole
@@ -57,32 +57,24 @@ fn to_range(alloc: Global, list: &[u8]) -> Result<Ranges<Version>, Fault>
     ensures { Gives ⊥ (RefusesListBytes list.now) (LacksRange release_range_of list.now) (HasRange release_range_of list.now) result }
 {
     let specifiers = texts::read_list(alloc, list)?;
-    match release_specifiers_to_ranges(alloc, specifiers) {
-        Ok(range) => Ok(range),
-        Err(RangeError::NumberAtMax) => Err(Fault::NumberAtMax),
-        Err(RangeError::OutOfMemory) => Err(Fault::OutOfMemory),
-    }
+    Ok(release_specifiers_to_ranges(alloc, specifiers)?)
 }
 
 fn to_range_of_compiled(alloc: Global, list: &[u8]) -> Result<Ranges<Version>, Fault>
     ensures { GivesCompiled (DenotesNoList list.now) (CompiledLacksRange release_range_of list.now) (CompiledRange release_range_of list.now) result }
 {
     let members = pep440_compiled::read_list(alloc, list)?;
-    match release_specifiers_to_ranges(alloc, members) {
-        Ok(range) => Ok(range),
-        Err(RangeError::NumberAtMax) => Err(Fault::NumberAtMax),
-        Err(RangeError::OutOfMemory) => Err(Fault::OutOfMemory),
-    }
+    Ok(release_specifiers_to_ranges(alloc, members)?)
 }
 
-fn to_bounds(alloc: Global, list: &[u8]) -> Result<Joined, Fault>
+fn to_bounds(alloc: Global, list: &[u8]) -> Result<JoinedStrings, Fault>
     ensures { Gives ⊥ (RefusesListBytes list.now) (LacksRange release_range_of list.now) (λ found. TellsReleaseBounds list.now found.bytes.items found.ends.items) result }
 {
     let range = to_range(alloc, list)?;
     Ok(join_bounds(alloc, &range)?)
 }
 
-fn to_bounds_of_compiled(alloc: Global, list: &[u8]) -> Result<Joined, Fault>
+fn to_bounds_of_compiled(alloc: Global, list: &[u8]) -> Result<JoinedStrings, Fault>
     ensures { GivesCompiled (DenotesNoList list.now) (CompiledLacksRange release_range_of list.now) (λ found. CompiledReleaseBounds list.now found.bytes.items found.ends.items) result }
 {
     let range = to_range_of_compiled(alloc, list)?;

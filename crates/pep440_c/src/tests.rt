@@ -37,7 +37,7 @@ fn write(alloc: Global, call: Call, text: &[u8], out: &mut [u8], written: &mut u
     }
 }
 
-// Texts that take memory wherever the call may take any: the version's numbers are too many for one word.
+// Strings for which each call that may allocate does: the version's numbers are too many for one word.
 const WRITTEN: [(Call, &[u8], &[u8]); 11] = [
     (
         Call::Normalize,
@@ -80,7 +80,7 @@ const ERRORS: [(Call, &[u8], u8); 9] = [
     (Call::Ranges, b">=1.2.3.4.5.6, ==18446744073709551615.*", 5),
 ];
 
-// The status of the call, asked for a second time where memory was refused; what the caller passed is then as it was.
+// The status of the call, called a second time if an allocation failed; what the caller passed is then as it was.
 fn write_again(
     rt: HostRuntime,
     call: Call,

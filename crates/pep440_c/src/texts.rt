@@ -3,9 +3,9 @@ ghost use Rattle.std.specs.Prelude.{◌≡◌, ◌⊎◌, is_none, string_bytes}
 ghost use Rattle.std.specs.List.{list_any};
 ghost use Rattle.pep440_rs.specs.Matching.{any_prerelease};
 ghost use Rattle.pep440_rs.specs.Specifiers.{Spec};
-ghost use Rattle.pep440_c.specs.Answers.{Contains, HasNoRange, IsKey, IsListError, IsNormal, IsNormalList, IsOrder, IsPrerelease, IsRangeText, IsVersionError, NamesPrerelease, RefusesSecond, TellsWord, order_number};
+ghost use Rattle.pep440_c.specs.CallResults.{Contains, HasNoRange, IsKey, IsListError, IsNormal, IsNormalList, IsOrder, IsPrerelease, IsRangeText, IsVersionError, NamesPrerelease, RefusesSecond, TellsWord, order_number};
 ghost use Rattle.pep440_c.specs.Meaning.{MeansBytes, MeansListBytes, RefusesBytes, RefusesListBytes};
-ghost use Rattle.pep440_c.specs.Statuses.{Gives, fault_status};
+ghost use Rattle.pep440_c.specs.Statuses.{Gives, fault_of_range, fault_status};
 ghost use Rattle.pep440_c.specs.declared.texts.Fault.TheVariants.{OutOfMemory};
 ghost use Rattle.pep440_version.specs.Errors.{refusal_of};
 
@@ -66,7 +66,18 @@ impl<T: Drop> From<AllocFailed<T>> for Fault {
     }
 }
 
-// Whether memory ran out.
+impl From<RangeError> for Fault {
+    ghost from_gives = { λ error fault. fault ≡ fault_of_range error };
+
+    fn from(error: RangeError) -> Fault {
+        match error {
+            RangeError::NumberAtMax => Fault::NumberAtMax,
+            RangeError::OutOfMemory => Fault::OutOfMemory,
+        }
+    }
+}
+
+// Whether the error is out of memory.
 fn is_out_of_memory(kind: &ErrorKind) -> bool
     ensures { result ≡ is_none (refusal_of kind.now) }
 {
@@ -216,9 +227,6 @@ pub(crate) fn to_range_lines(alloc: Global, list: &[u8]) -> Result<String, Fault
     ensures { Gives ⊥ (RefusesListBytes list.now) (HasNoRange list.now) (λ text. IsRangeText list.now (string_bytes text)) result }
 {
     let specifiers = read_list(alloc, list)?;
-    match specifiers_to_ranges(alloc, specifiers) {
-        Ok(range) => Ok(RangeLines(&range).to_string(alloc)?),
-        Err(RangeError::NumberAtMax) => Err(Fault::NumberAtMax),
-        Err(RangeError::OutOfMemory) => Err(Fault::OutOfMemory),
-    }
+    let range = specifiers_to_ranges(alloc, specifiers)?;
+    Ok(RangeLines(&range).to_string(alloc)?)
 }

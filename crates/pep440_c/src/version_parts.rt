@@ -1,5 +1,5 @@
 // The numbers of a version.
-ghost use Rattle.pep440_c.specs.Answers.{TellsParts, kind_number};
+ghost use Rattle.pep440_c.specs.CallResults.{TellsParts, kind_number};
 ghost use Rattle.std.specs.Prelude.{◌≡◌};
 
 use crate::Parts;

@@ -2,7 +2,7 @@ use Rattle.std.proofs.Common.{◌≡◌, ◌∙◌, ap, inl, refl, of_z, to_z, w
 use Rattle.std.specs.declared.cmp.Ordering.{Ordering}
 use Rattle.std.specs.declared.cmp.Ordering.TheVariants.{Less, Equal, Greater}
 use Rattle.pep440_compiled.proofs.Shown.{packed_version}
-use Rattle.pep440_c.specs.Answers.{order_number}
+use Rattle.pep440_c.specs.CallResults.{order_number}
 use Rattle.pep440_c.proofs.compiled.pep440_compare_compiled.Goals as goal
 
 fits_a_byte : (order : Ordering) → to_z w8 (of_z w8 (order_number order)) ≡ order_number order

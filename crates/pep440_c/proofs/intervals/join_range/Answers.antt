@@ -2,7 +2,7 @@ use Rattle.std.proofs.Common.{◌∙◌, ℕ, List, IfOk, ap, flat_map, subst}
 use Rattle.std.proofs.lemmas.List.Folds.{flat_map-map}
 use Rattle.pep440_keys.specs.RangeKeys.{segment_interval}
 use Rattle.pep440_c.specs.Intervals.{interval_keys}
-use Rattle.pep440_c.specs.Joined.{Joins}
+use Rattle.pep440_c.specs.JoinedStrings.{Joins}
 use Rattle.pep440_c.proofs.intervals.join_range.Goals as goal
 
 pub returns : goal.returns

@@ -1,8 +1,8 @@
 use Rattle.std.proofs.Common.{◌∙◌}
 use Rattle.pep440_rs.specs.Operators.{operator_text}
-use Rattle.pep440_c.specs.Answers.{version_text}
+use Rattle.pep440_c.specs.CallResults.{version_text}
 use Rattle.pep440_c.proofs.Joining.{pushed}
-use Rattle.pep440_c.proofs.members.push_member.Goals as goal
+use Rattle.pep440_c.proofs.list_members.push_member.Goals as goal
 
 pub returns : goal.returns
 returns c = λ strings joins.

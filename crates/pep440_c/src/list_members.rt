@@ -2,12 +2,12 @@
 ghost use Rattle.std.specs.Prelude.{◌≡◌, ◌++◌, ℕ, List, IfOk, OnOk, string_bytes};
 ghost use Rattle.std.specs.List.{flat_map};
 ghost use Rattle.pep440_rs.specs.Operators.{operator_text};
-ghost use Rattle.pep440_c.specs.Answers.{TellsMembers, member_texts, version_text};
-ghost use Rattle.pep440_c.specs.Joined.{Joins};
+ghost use Rattle.pep440_c.specs.CallResults.{TellsMembers, member_texts, version_text};
+ghost use Rattle.pep440_c.specs.JoinedStrings.{Joins};
 ghost use Rattle.pep440_c.specs.Meaning.{RefusesListBytes};
 ghost use Rattle.pep440_c.specs.Statuses.{Gives};
 
-use crate::joined::Joined;
+use crate::joined_strings::JoinedStrings;
 use crate::texts::{Fault, read_list};
 use pep440_rs::VersionSpecifier;
 use std::alloc::{AllocError, Global};
@@ -30,7 +30,7 @@ fn print_version(alloc: Global, member: &VersionSpecifier) -> Result<String, All
 
 fn push_member(
     alloc: Global,
-    found: &mut Joined,
+    found: &mut JoinedStrings,
     member: &VersionSpecifier,
 ) -> Result<(), AllocError>
     ensures { (strings : List (List ℕ)) → Joins strings found.old.bytes.items found.old.ends.items → OnOk result (Joins (strings ++ member_texts member.now) found.new.bytes.items found.new.ends.items) }
@@ -43,10 +43,10 @@ fn push_member(
 }
 
 // Operators and versions of the members, in their order.
-fn join_members(alloc: Global, members: &[VersionSpecifier]) -> Result<Joined, AllocError>
+fn join_members(alloc: Global, members: &[VersionSpecifier]) -> Result<JoinedStrings, AllocError>
     ensures { IfOk result (λ found. Joins (flat_map member_texts members.now) found.bytes.items found.ends.items) }
 {
-    let mut found = Joined::with_capacity(alloc, members.len())?;
+    let mut found = JoinedStrings::with_capacity(alloc, members.len())?;
     for member in members {
         push_member(alloc, &mut found, member)?;
     }
@@ -54,7 +54,7 @@ fn join_members(alloc: Global, members: &[VersionSpecifier]) -> Result<Joined, A
 }
 
 /// Operators and versions of the members of the list.
-pub(crate) fn to_members(alloc: Global, list: &[u8]) -> Result<Joined, Fault>
+pub(crate) fn to_members(alloc: Global, list: &[u8]) -> Result<JoinedStrings, Fault>
     ensures { Gives ⊥ (RefusesListBytes list.now) ⊥ (λ found. TellsMembers list.now found.bytes.items found.ends.items) result }
 {
     let specifiers = read_list(alloc, list)?;

@@ -18,7 +18,7 @@ use Rattle.pep440_version.specs.Word.{is_packed, word}
 use Rattle.pep440_version.specs.declared.prerelease.Prerelease.{Prerelease}
 use Rattle.pep440_version.specs.declared.prerelease.PrereleaseKind.{PrereleaseKind}
 use Rattle.pep440_version.specs.declared.prerelease.PrereleaseKind.TheVariants.{Alpha, Beta, Rc}
-use Rattle.pep440_c.specs.Joined.{Joins}
+use Rattle.pep440_c.specs.JoinedStrings.{Joins}
 use Rattle.pep440_c.specs.Meaning.{MeansBytes, MeansListBytes, RefusesBytes, RefusesListBytes, TellsWhy, TellsWhyNoList}
 use Rattle.pep440_c.specs.Statuses.{Fails, IsFlagOf, PutsFront, flag}
 use Rattle.pep440_c.specs.declared.Parts.{Parts}

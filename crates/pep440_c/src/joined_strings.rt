@@ -1,6 +1,6 @@
 //! Strings one after the other, and where each of them ends.
 ghost use Rattle.std.specs.Prelude.{◌≡◌, ◌++◌, ◌∷◌, [], length, IfOk};
-ghost use Rattle.pep440_c.specs.Joined.{Joins};
+ghost use Rattle.pep440_c.specs.JoinedStrings.{Joins};
 ghost use Rattle.pep440_keys.specs.SortKeys.{key_bytes};
 
 use pep440_keys::push_sort_key;
@@ -9,17 +9,17 @@ use std::alloc::{AllocError, Global};
 
 /// Strings one after the other, and where each of them ends.
 #[derive(Drop)]
-pub(crate) struct Joined {
+pub(crate) struct JoinedStrings {
     pub(crate) bytes: Vec<u8>,
     pub(crate) ends: Vec<usize>,
 }
 
-impl Joined {
+impl JoinedStrings {
     /// No string, with room for the ends of so many.
-    pub(crate) fn with_capacity(alloc: Global, count: usize) -> Result<Joined, AllocError>
+    pub(crate) fn with_capacity(alloc: Global, count: usize) -> Result<JoinedStrings, AllocError>
         ensures { IfOk result (λ joined. Joins [] joined.bytes.items joined.ends.items) }
     {
-        Ok(Joined {
+        Ok(JoinedStrings {
             bytes: Vec::new(alloc),
             ends: Vec::with_capacity(alloc, count)?,
         })
