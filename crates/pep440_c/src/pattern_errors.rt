@@ -1,6 +1,5 @@
 //! Why a string is no version pattern, and why an operator and a version make no specifier.
-ghost use Rattle.std.specs.Prelude.{◌≡◌, ◌==◌, ◌⊎◌, not, string_bytes, IfNone, IfSome, OnOk};
-ghost use Rattle.pep440_rs.specs.Operators.{operator_rank};
+ghost use Rattle.std.specs.Prelude.{◌≡◌, ◌==◌, ◌⊎◌, not, string_bytes, OnOk};
 ghost use Rattle.pep440_c.specs.Compiled.{DenotesNoVersion};
 ghost use Rattle.pep440_c.specs.PatternErrors.{IsBuildError, IsNoOperator, IsPatternError};
 ghost use Rattle.pep440_c.specs.Statuses.{Gives, GivesCompiled, PutsBytes, PutsCompiledBytes};
@@ -66,26 +65,6 @@ fn explain_pattern(alloc: Global, bytes: &[u8]) -> Result<String, Fault>
     }
 }
 
-// The operator of a number; `None` of one that no operator has.
-fn operator_from_number(number: u8) -> Option<Operator>
-    ensures some { IfSome result (λ o. operator_rank o ≡ number) }
-    ensures none { IfNone result (IsNoOperator number) }
-{
-    Some(match number {
-        0 => Operator::Equal,
-        1 => Operator::EqualStar,
-        2 => Operator::ExactEqual,
-        3 => Operator::NotEqual,
-        4 => Operator::NotEqualStar,
-        5 => Operator::TildeEqual,
-        6 => Operator::LessThan,
-        7 => Operator::LessThanEqual,
-        8 => Operator::GreaterThan,
-        9 => Operator::GreaterThanEqual,
-        _ => return None,
-    })
-}
-
 // Why the operator and the version make no specifier; empty where they do.
 fn explain_build(
     alloc: Global,
@@ -95,7 +74,7 @@ fn explain_build(
 ) -> Result<String, Fault>
     ensures { GivesCompiled (IsNoOperator operator ⊎ DenotesNoVersion compiled.now) ⊥ (λ words. IsBuildError operator compiled.now is_wildcard (string_bytes words)) result }
 {
-    let Some(operator) = operator_from_number(operator) else {
+    let Some(operator) = Operator::from_number(operator) else {
         return Err(Fault::NotCompiled);
     };
     let version = read_version(alloc, compiled)?;
