@@ -1,8 +1,7 @@
-//! A member of a list as bytes: its operator, by its place among the operators, and its version.
+//! A member of a list as bytes: its operator, by its number, and its version.
 ghost use Rattle.std.specs.Prelude.{◌≡◌, ◌++◌, ℕ, List, true, IfErr, IfNone, IfOk, IfSome, IsOk, OnOk};
 ghost use Rattle.std.specs.List.{All};
 ghost use Rattle.pep440_compiled.specs.Lists.{IsStoredMember, member_bytes};
-ghost use Rattle.pep440_rs.specs.Operators.{operator_rank};
 ghost use Rattle.pep440_rs.specs.Specifiers.{Spec};
 ghost use Rattle.pep440_version.specs.Word.{is_packed};
 
@@ -10,44 +9,6 @@ use crate::unpacked::prove_stored;
 use crate::version::{push_version, read_leading};
 use pep440_rs::{Operator, VersionSpecifier};
 use std::alloc::{AllocError, Global};
-
-// The place among the operators.
-fn operator_to_byte(operator: Operator) -> u8
-    ensures { result ≡ operator_rank operator }
-{
-    match operator {
-        Operator::Equal => 0,
-        Operator::EqualStar => 1,
-        Operator::ExactEqual => 2,
-        Operator::NotEqual => 3,
-        Operator::NotEqualStar => 4,
-        Operator::TildeEqual => 5,
-        Operator::LessThan => 6,
-        Operator::LessThanEqual => 7,
-        Operator::GreaterThan => 8,
-        Operator::GreaterThanEqual => 9,
-    }
-}
-
-// None of a byte that is no operator's.
-pub(crate) fn operator_from_byte(byte: u8) -> Option<Operator>
-    ensures some { IfSome result (λ o. operator_rank o ≡ byte) }
-    ensures none { IfNone result ((s : Spec) → operator_rank s.operator ≡ byte → ⊥) }
-{
-    Some(match byte {
-        0 => Operator::Equal,
-        1 => Operator::EqualStar,
-        2 => Operator::ExactEqual,
-        3 => Operator::NotEqual,
-        4 => Operator::NotEqualStar,
-        5 => Operator::TildeEqual,
-        6 => Operator::LessThan,
-        7 => Operator::LessThanEqual,
-        8 => Operator::GreaterThan,
-        9 => Operator::GreaterThanEqual,
-        _ => return None,
-    })
-}
 
 // A specifier can be stored, as its version can.
 fn prove_member_stored(member: &VersionSpecifier)
@@ -67,7 +28,7 @@ pub(crate) fn prove_members_stored(members: &[VersionSpecifier])
 pub(crate) fn push_member(bytes: &mut Vec<u8>, member: &VersionSpecifier) -> Result<(), AllocError>
     ensures { OnOk result (bytes.new.items ≡ bytes.old.items ++ member_bytes member.now) }
 {
-    bytes.push(operator_to_byte(*member.operator()))?;
+    bytes.push(member.operator().number())?;
     push_version(bytes, member.version())?;
     Ok(())
 }
@@ -84,7 +45,7 @@ pub(crate) fn read_member(
     let Some((byte, rest)) = bytes.split_first() else {
         return Ok(None);
     };
-    let Some(operator) = operator_from_byte(*byte) else {
+    let Some(operator) = Operator::from_number(*byte) else {
         return Ok(None);
     };
     let Some((version, rest)) = read_leading(alloc, rest)? else {

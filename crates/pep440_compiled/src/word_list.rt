@@ -8,7 +8,6 @@ ghost use Rattle.pep440_rs.specs.declared.specifier.operator.Operator.TheVariant
 ghost use Rattle.pep440_version.specs.Record.{Record};
 
 use crate::list::read_count;
-use crate::members::operator_from_byte;
 use crate::word_matching::matches_word;
 use crate::words::{PackedWord, read_word};
 use pep440_rs::Operator;
@@ -36,7 +35,7 @@ fn read_word_member(bytes: &[u8]) -> Option<(WordMember, &[u8])>
         × (bytes.now ≡ member_bytes (record { operator = p.0.operator; version = r }) ++ p.1.now)) }
 {
     let (byte, rest) = bytes.split_first()?;
-    let operator = operator_from_byte(*byte)?;
+    let operator = Operator::from_number(*byte)?;
     let (front, rest) = rest.split_first_chunk::<10>()?;
     let version = read_word(front)?;
     if has_enough_numbers(operator, version.count) {
