@@ -157,6 +157,24 @@ uint8_t pep440_sort_key(const uint8_t *version, size_t length, uint8_t *out, siz
    is at most 2097151. A word may be stored, as a sort key may; words and sort keys are not compared with each other. */
 uint8_t pep440_word(const uint8_t *version, size_t length, uint64_t *word);
 
+/* A word, from its highest bit on: the four numbers of the release, missing ones being 0, each from the bit that is named here on; the class of
+   the one part after the release; and its number. */
+enum {
+    PEP440_FIRST_SHIFT = 48,
+    PEP440_SECOND_SHIFT = 40,
+    PEP440_THIRD_SHIFT = 32,
+    PEP440_FOURTH_SHIFT = 24,
+    PEP440_CLASS_SHIFT = 21,
+    PEP440_CLASS_MIN = 0, /* a sentinel, which no string of a version has */
+    PEP440_CLASS_DEV = 1,
+    PEP440_CLASS_ALPHA = 2,
+    PEP440_CLASS_BETA = 3,
+    PEP440_CLASS_RC = 4,
+    PEP440_CLASS_NONE = 5,
+    PEP440_CLASS_POST = 6,
+    PEP440_CLASS_MAX = 7 /* a sentinel */
+};
+
 /* Writes the range of the list: its segments in ascending order, a line each, each line with a newline at its end; the one line `empty` where
    there are none. `out` and `written` as for pep440_normalize. A line is `[1.0, 1.5)`: two bounds between a square bracket, where the bound
    is in the segment, or a round one, where it is not. `*` is no bound, as in `(*, 2.0]`. A bound may have a sentinel after its version, which

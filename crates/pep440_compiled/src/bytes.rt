@@ -5,7 +5,7 @@ ghost use Rattle.pep440_compiled.specs.Format.{counted_word};
 // The format of packed versions.
 const PACKED: u8 = 1;
 
-// The greatest byte of the word first.
+// The most significant byte of the word first.
 pub(crate) fn to_bytes(count: u8, word: u64) -> [u8; 10]
     ensures { result ≡ counted_word count word }
 {
@@ -13,7 +13,7 @@ pub(crate) fn to_bytes(count: u8, word: u64) -> [u8; 10]
     [PACKED, count, a, b, c, d, e, f, g, h]
 }
 
-// The count and the word; None where the bytes are not ten of this format.
+// The count and the word; `None` if the bytes are not ten of this format.
 pub(crate) fn from_bytes(bytes: &[u8]) -> Option<(u8, u64)>
     ensures some { IfSome result (λ p. bytes.now ≡ counted_word p.0 p.1) }
     ensures fits { IfSome result (λ p. p.1 < 2 ^ 64) }

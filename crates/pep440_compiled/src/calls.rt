@@ -14,7 +14,7 @@ use std::alloc::Global;
 use std::cmp::Ordering;
 
 /// The order of the versions that the bytes denote (PEP 440, "Summary of permitted suffixes and relative ordering");
-/// `NotCompiled` where `a` or `b` denotes none.
+/// `NotCompiled` if `a` or `b` denotes none.
 ///
 /// Allocates only for versions that are not packed, and may then return `OutOfMemory`.
 pub fn compare(alloc: Global, a: &[u8], b: &[u8]) -> Result<Ordering, CompiledError>
@@ -28,7 +28,7 @@ pub fn compare(alloc: Global, a: &[u8], b: &[u8]) -> Result<Ordering, CompiledEr
     compare_versions(alloc, a, b)
 }
 
-// The same of any versions.
+// The same for any versions.
 #[inline(never)]
 fn compare_versions(alloc: Global, a: &[u8], b: &[u8]) -> Result<Ordering, CompiledError>
     ensures ok { IfOk result (λ ordering. (r : Record) × (q : Record) × DenotesVersion a.now r × DenotesVersion b.now q × (ordering ≡ record_cmp r q)) }
@@ -40,7 +40,7 @@ fn compare_versions(alloc: Global, a: &[u8], b: &[u8]) -> Result<Ordering, Compi
     Ok(first.cmp(&second))
 }
 
-/// The normalized form of the version that the bytes denote (PEP 440, "Normalization"); `NotCompiled` where they denote
+/// The normalized form of the version that the bytes denote (PEP 440, "Normalization"); `NotCompiled` if they denote
 /// none.
 ///
 /// Allocates, and may return `OutOfMemory`.
@@ -55,7 +55,7 @@ pub fn normalize(alloc: Global, bytes: &[u8]) -> Result<String, CompiledError>
     }
 }
 
-/// The sort key of the version that the bytes denote (`pep440_keys::sort_key`); `NotCompiled` where they denote none.
+/// The sort key of the version that the bytes denote (`pep440_keys::sort_key`); `NotCompiled` if they denote none.
 ///
 /// Allocates, and may return `OutOfMemory`.
 pub fn sort_key(alloc: Global, bytes: &[u8]) -> Result<Vec<u8>, CompiledError>

@@ -43,7 +43,7 @@ pub fn compile_list(alloc: Global, list: &VersionSpecifiers) -> Result<Vec<u8>, 
     Ok(bytes)
 }
 
-// How many members there are, and what follows the count.
+// How many members there are, and the rest.
 pub(crate) fn read_count(bytes: &[u8]) -> Option<(u64, &[u8])>
     ensures some { IfSome result (λ p. Fits p.0 × (bytes.now ≡ 3 ∷ eight_bytes p.0 ++ p.1.now)) }
     ensures none { IfNone result ((list : List Spec) → DenotesList bytes.now list → ⊥) }
@@ -60,7 +60,7 @@ pub(crate) fn read_count(bytes: &[u8]) -> Option<(u64, &[u8])>
     Some((count, rest))
 }
 
-// The next member, whose version is not below that of the one before it, and what follows it.
+// The next member, whose version is not below that of the one before it, and the rest.
 fn read_next<'a>(
     alloc: Global,
     before: Option<&VersionSpecifier>,
@@ -83,7 +83,7 @@ fn read_next<'a>(
     Ok((member, rest))
 }
 
-/// The list that the bytes denote; `NotCompiled` where they denote none.
+/// The list that the bytes denote; `NotCompiled` if they denote none.
 ///
 /// Allocates, and may return `OutOfMemory`.
 pub fn read_list(alloc: Global, bytes: &[u8]) -> Result<VersionSpecifiers, CompiledError>
@@ -110,7 +110,7 @@ pub fn read_list(alloc: Global, bytes: &[u8]) -> Result<VersionSpecifiers, Compi
     Ok(list)
 }
 
-// Whether this member contains the version too; it is asked only where the ones before it do.
+// Whether this member contains the version, too; called only if those before it do.
 fn contains_too(
     alloc: Global,
     contained: bool,
@@ -130,7 +130,7 @@ fn contains_too(
     }
 }
 
-// Whether the list that the bytes denote contains the version, by reading one member after the other.
+// Whether the list that the bytes denote contains the version, reading one member after the other.
 #[inline(never)]
 fn contains_by_members(alloc: Global, list: &[u8], version: &Version) -> Result<bool, CompiledError>
     ensures ok { IfOk result (λ b. (l : List Spec) × DenotesList list.now l × (b ≡ list_matches l version.now)) }
@@ -155,7 +155,7 @@ fn contains_by_members(alloc: Global, list: &[u8], version: &Version) -> Result<
 }
 
 /// Whether the list that the bytes denote contains the version, as `VersionSpecifiers::contains` (PEP 440, "Version
-/// specifiers"); `NotCompiled` where they denote none.
+/// specifiers"); `NotCompiled` if they denote none.
 ///
 /// Allocates only for members whose version is not packed and for those with `===`, and may then return `OutOfMemory`.
 pub fn contains_version(
@@ -176,7 +176,7 @@ pub fn contains_version(
 }
 
 /// Whether the list that the one bytes denote contains the version that the others denote, as `VersionSpecifiers::contains`
-/// (PEP 440, "Version specifiers"); `NotCompiled` where `list` denotes no list or `version` no version.
+/// (PEP 440, "Version specifiers"); `NotCompiled` if `list` denotes no list or `version` no version.
 ///
 /// Allocates only for versions that are not packed and for members with `===`, and may then return `OutOfMemory`.
 pub fn contains(alloc: Global, list: &[u8], version: &[u8]) -> Result<bool, CompiledError>
@@ -192,7 +192,7 @@ pub fn contains(alloc: Global, list: &[u8], version: &[u8]) -> Result<bool, Comp
     contains_any(alloc, list, version)
 }
 
-// The same of any versions.
+// The same for any versions.
 #[inline(never)]
 fn contains_any(alloc: Global, list: &[u8], version: &[u8]) -> Result<bool, CompiledError>
     ensures ok { IfOk result (λ b. (l : List Spec) × (r : Record) × DenotesList list.now l × DenotesVersion version.now r × (b ≡ list_matches l r)) }
@@ -204,7 +204,7 @@ fn contains_any(alloc: Global, list: &[u8], version: &[u8]) -> Result<bool, Comp
 }
 
 /// The normalized form of the list that the bytes denote, its members with a comma and a space between them; `NotCompiled`
-/// where they denote none.
+/// if they denote none.
 ///
 /// Allocates, and may return `OutOfMemory`.
 pub fn normalize_list(alloc: Global, bytes: &[u8]) -> Result<String, CompiledError>

@@ -33,7 +33,7 @@ pub(crate) fn push_member(bytes: &mut Vec<u8>, member: &VersionSpecifier) -> Res
     Ok(())
 }
 
-// The member in front, and what follows it; None where there is none.
+// The leading member, and the rest; `None` if there is none.
 pub(crate) fn read_member(
     alloc: Global,
     bytes: &[u8],

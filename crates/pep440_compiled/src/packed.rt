@@ -16,7 +16,7 @@ use std::cmp::Ordering;
 #[error("not a compiled version")]
 pub struct NotCompiled;
 
-/// The ten bytes of a packed version; None where the version is not packed.
+/// The ten bytes of a packed version; `None` if the version is not packed.
 ///
 /// Does not allocate.
 pub fn compile_packed(version: &Version) -> Option<[u8; 10]>
@@ -29,7 +29,7 @@ pub fn compile_packed(version: &Version) -> Option<[u8; 10]>
     Some(to_bytes(count, word))
 }
 
-/// The packed version that the bytes denote; `NotCompiled` where they denote none.
+/// The packed version that the bytes denote; `NotCompiled` if they denote none.
 ///
 /// Does not allocate.
 pub fn read_packed(bytes: &[u8]) -> Result<Version, NotCompiled>
@@ -47,7 +47,7 @@ pub fn read_packed(bytes: &[u8]) -> Result<Version, NotCompiled>
 }
 
 /// The order of the packed versions that the bytes denote (PEP 440, "Summary of permitted suffixes and relative
-/// ordering"); `NotCompiled` where `a` or `b` denotes none.
+/// ordering"); `NotCompiled` if `a` or `b` denotes none.
 ///
 /// Does not allocate.
 pub fn compare_packed(a: &[u8], b: &[u8]) -> Result<Ordering, NotCompiled>

@@ -1,4 +1,4 @@
-//! The parts of an unpacked version as bytes: written, and read with what follows them.
+//! The parts of an unpacked version as bytes: written, and read with the rest.
 ghost use Rattle.std.specs.Prelude.{◌≡◌, ◌<◌, ◌^◌, ◌++◌, ℕ, List, length, map, MatchOption, IfSome, IfOk, OnOk, Option};
 ghost use Rattle.std.specs.List.{All, flat_map};
 ghost use Rattle.std.specs.Str.{IsUtf8};
@@ -127,7 +127,7 @@ pub(crate) fn read_prerelease(bytes: &[u8]) -> Option<(Option<Prerelease>, &[u8]
     Some((Some(Prerelease { kind, number }), rest))
 }
 
-// As many numbers as the first eight bytes say.
+// The first eight bytes are the count of the numbers.
 pub(crate) fn read_release(
     alloc: Global,
     bytes: &[u8],
@@ -149,7 +149,7 @@ pub(crate) fn read_release(
     Ok(Some((numbers, rest)))
 }
 
-// A text, after its length.
+// A string, after its length.
 fn read_text(bytes: &[u8]) -> Option<(&str, &[u8])>
     ensures some { IfSome result (λ p. bytes.now ≡ eight_bytes (length p.0.now) ++ p.0.now ++ p.1.now) }
     ensures only { (t : List ℕ) (rest : List ℕ) → IsUtf8 t → Fits (length t) → bytes.now ≡ eight_bytes (length t) ++ t ++ rest → MatchOption result ⊥ (λ p. (p.0.now ≡ t) × (p.1.now ≡ rest)) }
@@ -182,7 +182,7 @@ fn read_segment(alloc: Global, bytes: &[u8]) -> Result<Option<(LocalSegment, &[u
     }
 }
 
-// As many segments as the first eight bytes say.
+// The first eight bytes are the count of the segments.
 pub(crate) fn read_local(
     alloc: Global,
     bytes: &[u8],

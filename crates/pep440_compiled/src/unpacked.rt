@@ -84,7 +84,7 @@ fn assemble(
         .with_local(alloc, local)
 }
 
-// The version whose parts stand in front, packed or not, and what follows them.
+// The version of the leading parts, packed or not, and the rest.
 fn read_parts(alloc: Global, bytes: &[u8]) -> Result<Option<(Version, &[u8])>, AllocError>
     ensures some { IfOk result (λ o. IfSome o (λ p. bytes.now ≡ unpacked_bytes p.0 ++ p.1.now)) }
     ensures only { (r : Record) (rest : List ℕ) → IsStored r → bytes.now ≡ unpacked_bytes r ++ rest → IfOk result (λ o. MatchOption o ⊥ (λ p. (p.0 ≡ r) × (p.1.now ≡ rest))) }
@@ -145,7 +145,7 @@ pub(crate) fn prove_stored(version: &Version)
     prove_local_storable(version.local());
 }
 
-// The version that is not packed and stands in front, and what follows it; None where there is none.
+// The leading version that is not packed, and the rest; `None` if there is none.
 #[inline(never)]
 pub(crate) fn read_leading(
     alloc: Global,
@@ -157,7 +157,7 @@ pub(crate) fn read_leading(
     let Some((version, rest)) = read_parts(alloc, bytes)? else {
         return Ok(None);
     };
-    // A packed version has packed bytes alone.
+    // A packed version has only packed bytes.
     if to_word(&version).is_some() {
         return Ok(None);
     }
@@ -165,7 +165,7 @@ pub(crate) fn read_leading(
     Ok(Some((version, rest)))
 }
 
-// None where no version that is not packed has these bytes.
+// `None` if no version that is not packed has these bytes.
 pub(crate) fn from_bytes(alloc: Global, bytes: &[u8]) -> Result<Option<Version>, AllocError>
     ensures some { IfOk result (λ o. IfSome o (λ v. IsStored v × (is_packed v ≡ false) × (bytes.now ≡ unpacked_bytes v))) }
     ensures none { IfOk result (λ o. IfNone o ((r : Record) → IsStored r → is_packed r ≡ false → bytes.now ≡ unpacked_bytes r → ⊥)) }

@@ -11,7 +11,7 @@ use crate::unpacked;
 use pep440_version::Version;
 use std::alloc::{AllocError, Global};
 
-/// Why bytes could not be read.
+/// Why bytes cannot be read.
 #[derive(Clone, Copy, Debug, PartialEq, Eq, thiserror::Error)]
 pub enum CompiledError {
     /// The bytes denote nothing.
@@ -22,7 +22,7 @@ pub enum CompiledError {
     OutOfMemory,
 }
 
-// The bytes of a version, behind those that are there.
+// Appends the bytes of a version.
 #[tactic(auto, using(crate::proofs::Whole::when_packed, crate::proofs::Whole::when_unpacked))]
 pub(crate) fn push_version(bytes: &mut Vec<u8>, version: &Version) -> Result<(), AllocError>
     ensures { OnOk result (bytes.new.items ≡ bytes.old.items ++ compiled_bytes version.now) }
@@ -33,7 +33,7 @@ pub(crate) fn push_version(bytes: &mut Vec<u8>, version: &Version) -> Result<(),
     }
 }
 
-// The version in front, and what follows it; None where there is none.
+// The leading version, and the rest; `None` if there is none.
 #[inline(always)]
 pub(crate) fn read_leading(
     alloc: Global,
@@ -52,7 +52,7 @@ pub(crate) fn read_leading(
     Ok(Some((version, rest)))
 }
 
-// The packed version in front, and what follows it; None where there is none.
+// The leading packed version, and the rest; `None` if there is none.
 #[inline(always)]
 fn read_leading_packed(bytes: &[u8]) -> Option<(Version, &[u8])>
     ensures some { IfSome result (λ p. IsStored p.0 × (bytes.now ≡ compiled_bytes p.0 ++ p.1.now)) }
@@ -76,7 +76,7 @@ pub fn compile_version(alloc: Global, version: &Version) -> Result<Vec<u8>, Allo
     Ok(bytes)
 }
 
-/// The version that the bytes denote; `NotCompiled` where they denote none.
+/// The version that the bytes denote; `NotCompiled` if they denote none.
 ///
 /// Allocates only if the version is not packed, and may then return `OutOfMemory`.
 pub fn read_version(alloc: Global, bytes: &[u8]) -> Result<Version, CompiledError>

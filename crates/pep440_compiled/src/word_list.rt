@@ -1,4 +1,4 @@
-//! Lists whose versions are packed, by counts and words alone.
+//! Lists whose versions are packed, as counts and words.
 ghost use Rattle.std.specs.Prelude.{◌≡◌, ◌++◌, ◌<◌, List, true, IfSome};
 ghost use Rattle.pep440_compiled.specs.Lists.{DenotesList, IsStoredMember, member_bytes};
 ghost use Rattle.pep440_compiled.specs.PackedWord.{IsWordOf};
@@ -29,7 +29,7 @@ fn has_enough_numbers(operator: Operator, count: u8) -> bool
     }
 }
 
-// The member in front, and what follows it; None where its version is not packed.
+// The leading member, and the rest; `None` if its version is not packed.
 fn read_word_member(bytes: &[u8]) -> Option<(WordMember, &[u8])>
     ensures { IfSome result (λ p. (r : Record) × IsWordOf r p.0.version × IsStoredMember (record { operator = p.0.operator; version = r })
         × (bytes.now ≡ member_bytes (record { operator = p.0.operator; version = r }) ++ p.1.now)) }
@@ -45,8 +45,8 @@ fn read_word_member(bytes: &[u8]) -> Option<(WordMember, &[u8])>
     }
 }
 
-// Whether the list that the bytes denote contains the version; None where a version is not packed or an operator is `===`,
-// or where the bytes denote no list.
+// Whether the list that the bytes denote contains the version; `None` if a version is not packed or an operator is `===`,
+// or if the bytes denote no list.
 pub(crate) fn contains_word(list: &[u8], version: PackedWord) -> Option<bool>
     ensures { IfSome result (λ b. (l : List Spec) × DenotesList list.now l × ((v : Record) → IsWordOf v version → b ≡ list_matches l v)) }
 {

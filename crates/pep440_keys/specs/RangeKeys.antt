@@ -55,6 +55,6 @@ IsKeyedSegment s = IsKeyedBound s.0 × IsKeyedBound s.1
 abbrev pub HasKeys : List (Segment Record) → Type 0
 HasKeys range = All IsKeyedSegment range
 
--- a version's key lies in some interval exactly where the version lies in the range
+-- a version's key lies in some interval exactly if the version lies in the range
 abbrev pub HoldsKeys : List (Segment Record) → List Interval → Type 0
 HoldsKeys range intervals = (v : Record) → IsKeyed v → list_any (λ interval. is_within interval (key_bytes v)) intervals ≡ contains record_cmp range v

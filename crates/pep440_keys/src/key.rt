@@ -80,7 +80,7 @@ fn estimate_length(version: &Version) -> usize {
     length
 }
 
-// The key of a release alone: whatever its numbers, the same bytes stand around them.
+// The key of a version that is only a release: whatever its numbers, the same bytes surround them.
 fn push_release_only(key: &mut Vec<u8>, release: &[u64]) -> Result<(), AllocError>
     ensures { OnOk result (key.new.items ≡ key.old.items ++ key_bytes (from_release release.now)) }
 {
@@ -118,7 +118,7 @@ pub fn push_sort_key(key: &mut Vec<u8>, version: &Version) -> Result<(), AllocEr
 
 /// The sort key of a version: bytes whose order, byte by byte, is the order of the versions (PEP 440, "Summary of
 /// permitted suffixes and relative ordering"); a proper prefix of a key is less. Two keys are the same bytes exactly
-/// where the versions are equal, as `1.0` and `1.0.0` are.
+/// if the versions are equal, as `1.0` and `1.0.0` are.
 ///
 /// `laws` states this for every version that a string parses to, and for each other one whose local segments have no
 /// zero byte. A version with a zero byte in a local segment gets a key too, but its order among the others is not

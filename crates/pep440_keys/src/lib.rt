@@ -4,8 +4,8 @@
 //! database, a sorted file or an index in another language orders versions by these bytes, without this library; and
 //! two keys are the same bytes exactly if the versions are equal. `laws` states this for every parsed version.
 //!
-//! A key is the parts of a version in turn: epoch, release, stage, post, dev, local. A number is a byte that says how
-//! many bytes it needs, and then these, most significant first; a list and a string end in a zero byte. A key does
+//! A key is the parts of a version in turn: epoch, release, stage, post, dev, local. A number is the count of the
+//! bytes that it needs, as a byte, and then these, most significant first; a list and a string end in a zero byte. A key does
 //! not parse back: trailing zeros of a release are not in it, since they make no difference to the order.
 //!
 //! Each segment of a range becomes a half-open interval: a key lies in it if it is at least the low key, if there is one, and below

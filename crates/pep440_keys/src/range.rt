@@ -11,7 +11,7 @@ use std::alloc::{AllocError, Global};
 use std::ops::Bound;
 
 // The least bytes above the key of the version that are no key: above it and below the key of each greater version.
-fn key_behind(alloc: Global, version: &Version) -> Result<Vec<u8>, AllocError>
+fn key_above(alloc: Global, version: &Version) -> Result<Vec<u8>, AllocError>
     ensures { IfOk result (λ key. key.items ≡ key_bytes version.now ++ 0 ∷ []) }
 {
     let mut key = sort_key(alloc, version)?;
@@ -24,7 +24,7 @@ fn low_key(alloc: Global, start: &Bound<Version>) -> Result<Option<Vec<u8>>, All
 {
     match start {
         Bound::Included(version) => Ok(Some(sort_key(alloc, version)?)),
-        Bound::Excluded(version) => Ok(Some(key_behind(alloc, version)?)),
+        Bound::Excluded(version) => Ok(Some(key_above(alloc, version)?)),
         Bound::Unbounded => Ok(None),
     }
 }
@@ -33,13 +33,13 @@ fn high_key(alloc: Global, end: &Bound<Version>) -> Result<Option<Vec<u8>>, Allo
     ensures { IfOk result (λ high. option_map (λ key. key.items) high ≡ high_key end.now) }
 {
     match end {
-        Bound::Included(version) => Ok(Some(key_behind(alloc, version)?)),
+        Bound::Included(version) => Ok(Some(key_above(alloc, version)?)),
         Bound::Excluded(version) => Ok(Some(sort_key(alloc, version)?)),
         Bound::Unbounded => Ok(None),
     }
 }
 
-/// The interval of the keys of the versions between two bounds. `laws` states that it holds the key of a version exactly where the
+/// The interval of the keys of the versions between two bounds. `laws` states that it holds the key of a version exactly if the
 /// version lies between the bounds.
 ///
 /// Allocates; the only error is out of memory.
@@ -66,7 +66,7 @@ fn collect_intervals(alloc: Global, range: &Ranges<Version>) -> Result<Vec<KeyIn
     Ok(intervals)
 }
 
-/// The intervals of the range's segments, in their order. The key of a version lies in one of them exactly where the range contains
+/// The intervals of the range's segments, in their order. The key of a version lies in one of them exactly if the range contains
 /// the version.
 ///
 /// Allocates; the only error is out of memory.

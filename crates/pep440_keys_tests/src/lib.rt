@@ -1,4 +1,4 @@
-//! Ranges, sort keys of versions, and ranges as intervals of sort keys: worked cases, and each call that allocates, made again once an
+//! Ranges, sort keys of versions, and ranges as intervals of sort keys: test cases, and each call that allocates, made again once an
 //! allocation failed.
 #![tactic(auto)]
 

@@ -1,4 +1,4 @@
-//! Worked rows: segments with their keys, and versions by their keys; and intervals with each request for memory refused in turn.
+//! Test cases: segments with their keys, and versions by their keys; and intervals with each allocation failing in turn.
 use pep440_keys::{KeyInterval, range_keys, segment_keys, sort_key};
 use pep440_ranges::Ranges;
 use pep440_version::Version;

@@ -1,4 +1,4 @@
-//! Test cases of versions and patterns, read from standard input; `stdin` beside `src/` says what each call answers.
+//! Test cases of versions and patterns, read from standard input; `stdin` beside `src/` has the result of each call.
 #![tactic(auto)]
 
 mod edits;

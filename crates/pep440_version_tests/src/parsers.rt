@@ -4,8 +4,8 @@ use pep440_version::{Version, VersionParseError, VersionPattern, VersionPatternP
 use std::alloc::Global;
 use testing::{CaseError, equals_copy, print_value};
 
-// The error, which is told alike as that of a pattern.
-fn refusal(alloc: Global, error: VersionParseError) -> Result<String, CaseError> {
+// The error, which has the same message as that of a pattern.
+fn print_error(alloc: Global, error: VersionParseError) -> Result<String, CaseError> {
     let text = error_text(alloc, &error)?;
     if pattern_error_text(alloc, &VersionPatternParseError::from(error))? != text {
         return Err(CaseError::Disagreement);
@@ -17,7 +17,7 @@ fn refusal(alloc: Global, error: VersionParseError) -> Result<String, CaseError>
 pub fn parse(alloc: Global, text: &str) -> Result<String, CaseError> {
     match Version::from_str(alloc, text) {
         Ok(version) => Ok(print_value(alloc, &version)?),
-        Err(error) => refusal(alloc, error),
+        Err(error) => print_error(alloc, error),
     }
 }
 
@@ -33,7 +33,7 @@ fn print_pattern(alloc: Global, pattern: &VersionPattern) -> Result<String, Case
     Ok(text)
 }
 
-/// The same of a pattern.
+/// The same for a pattern.
 pub fn parse_pattern(alloc: Global, text: &str) -> Result<String, CaseError> {
     match VersionPattern::from_str(alloc, text) {
         Ok(pattern) => print_pattern(alloc, &pattern),

@@ -1,5 +1,4 @@
 //! Versions and patterns.
-mod again;
 mod calls;
 mod copies;
 mod equal;
@@ -7,9 +6,10 @@ mod errors;
 mod extremes;
 mod generic;
 mod hashing;
-mod kept;
 mod long;
 mod packed;
 mod printing;
+mod recorder;
+mod retry;
 mod sweeps;
 mod without_memory;

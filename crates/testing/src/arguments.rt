@@ -1,4 +1,4 @@
-//! Versions as arguments: a version, and the changes that are made to it, each behind a `~`, as `1.0~min=0`.
+//! Versions as arguments: a version, and the changes to make to it, each after a `~`, as `1.0~min=0`.
 use crate::error::CaseError;
 use pep440_change_words::{ChangeWordError, parse_change};
 use pep440_version::{Change, ErrorKind, Version};
@@ -23,7 +23,7 @@ pub fn change_argument(alloc: Global, word: &str) -> Result<Change, CaseError> {
     })
 }
 
-// The version, changed by the setter of the change's name.
+// The version after the change, by its setter.
 fn set(alloc: Global, version: Version, change: Change) -> Result<Version, CaseError> {
     Ok(match change {
         Change::Release(numbers) => {
@@ -54,7 +54,7 @@ fn set(alloc: Global, version: Version, change: Change) -> Result<Version, CaseE
     })
 }
 
-/// The version with its changes.
+/// The version after its changes.
 pub fn version_argument(alloc: Global, text: &str) -> Result<Version, CaseError> {
     let mut words = text.split('~');
     let mut version = parse_version(alloc, words.next().unwrap_or(""))?;

@@ -1,14 +1,14 @@
-//! Why a case has no answer.
+//! Why a case has no result.
 use std::alloc::{AllocError, AllocFailed};
 
-/// Why a case has no answer.
+/// Why a case has no result.
 #[derive(Clone, Copy, Debug, PartialEq, Eq)]
 pub enum CaseError {
     /// There is no such call with so many arguments, or it takes no such argument.
     Unreadable,
-    /// Two answers of the case do not agree.
+    /// Two results of the case differ.
     Disagreement,
-    /// Out of memory, which says nothing of the case.
+    /// Out of memory; the case may hold or not.
     OutOfMemory,
 }
 

@@ -2,14 +2,14 @@
 use crate::error::CaseError;
 use std::alloc::Global;
 
-// The character of `{a0}` at the beginning, and what follows.
+// The character of a leading `{a0}`, and the rest.
 fn split_character(text: &str) -> Option<(char, &str)> {
     let (digits, rest) = text.strip_prefix('{')?.split_once('}')?;
     let number = u32::from_str_radix(digits, 16).ok()?;
     Some((char::from_u32(number)?, rest))
 }
 
-// Appends what stands behind a backslash.
+// Appends what an escape, without its backslash, stands for, and the rest.
 fn push_escape(text: &mut String, escape: &str) -> Result<(), CaseError> {
     let Some((name, rest)) = escape.split_at_checked(1) else {
         return Err(CaseError::Unreadable);
@@ -29,7 +29,7 @@ fn push_escape(text: &mut String, escape: &str) -> Result<(), CaseError> {
 // The field with its escapes replaced.
 fn unescape(alloc: Global, field: &str) -> Result<String, CaseError> {
     let mut text = String::new(alloc);
-    // What stands before the first backslash is plain, and what stands behind two.
+    // What precedes the first backslash is plain, and so is what follows two.
     let mut is_plain = true;
     for piece in field.split('\\') {
         if is_plain {

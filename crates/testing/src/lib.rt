@@ -1,5 +1,5 @@
-//! Test cases as lines of standard input: a call, its arguments and the wanted answer, with tabs between them; words of runs, and
-//! readers and writers for them. For test cases and tests alone; no contract says what they print.
+//! Test cases as lines of standard input: a call, its arguments and the wanted result, with tabs between them; and
+//! readers and writers for tests. Only tests use it; no contract pins what it prints.
 #![tactic(auto)]
 
 mod arguments;

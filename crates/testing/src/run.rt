@@ -7,11 +7,11 @@ use std::io;
 
 /// The calls that cases name.
 pub trait Calls {
-    /// What the call answers to the arguments.
+    /// The result of the call for these arguments.
     fn answer(&self, alloc: Global, call: &str, arguments: &[String]) -> Result<String, CaseError>;
 }
 
-// What the case answers where that is not what it wants.
+// The result of the case, if it is not the wanted one.
 fn difference<C: Calls>(alloc: Global, calls: &C, line: &str) -> Result<Option<String>, CaseError> {
     if let Some(case) = line.strip_prefix("sizes\t") {
         return failing_size(alloc, calls, case);
@@ -24,7 +24,7 @@ fn difference<C: Calls>(alloc: Global, calls: &C, line: &str) -> Result<Option<S
     Ok(if found == *wanted { None } else { Some(found) })
 }
 
-// The same, once more where memory was refused: of the requests of a run at most one is.
+// The same, again if out of memory: at most one allocation of a run fails.
 fn difference_again<C: Calls>(
     alloc: Global,
     calls: &C,
@@ -36,7 +36,7 @@ fn difference_again<C: Calls>(
     }
 }
 
-// Whether the case holds; prints where and how it does not.
+// Whether the case holds; if not, prints its line and its result.
 fn holds<C: Calls>(rt: HostRuntime, calls: &C, number: usize, line: &str) -> io::Result<bool> {
     match difference_again(rt.alloc(), calls, line) {
         Ok(None) => return Ok(true),
@@ -48,8 +48,8 @@ fn holds<C: Calls>(rt: HostRuntime, calls: &C, number: usize, line: &str) -> io:
     Ok(false)
 }
 
-/// Runs the case of each line that is neither empty nor a comment, which begins with `#`. Prints each that has another
-/// answer than it wants, and at the end how many there are of both.
+/// Runs the case of each line that is neither empty nor a comment, which begins with `#`. Prints each with another
+/// result than the wanted one, and at the end how many cases there are, and how many of these.
 pub fn run_cases<C: Calls>(rt: HostRuntime, calls: &C) -> io::Result<()> {
     let text = io::read_to_string(rt.alloc(), rt.stdin())?;
     let mut cases = 0u64;

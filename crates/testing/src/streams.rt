@@ -1,9 +1,9 @@
-//! Readers and writers of runs: they end, fail and take bytes as they are told, and count their calls.
+//! Readers and writers that end, fail and take bytes as a test wants, and count their calls.
 ghost use Rattle.std.specs.Prelude.{◌≤◌, length, IfOk};
 
 use std::io::{Error, ErrorKind, Read, Write};
 
-/// What a reader does once its text is used up.
+/// What a reader does after its last byte.
 #[derive(Clone, Copy)]
 pub enum After {
     End,
@@ -11,7 +11,7 @@ pub enum After {
     NewlinesForEver,
 }
 
-/// Gives its text a byte a call, and then goes on as told. It counts the calls.
+/// Reads one byte a call, and after the last one does as `after` wants. It counts the calls.
 #[derive(Drop)]
 pub struct Trickle<'a> {
     pub text: &'a [u8],
@@ -51,7 +51,7 @@ impl Read for Trickle<'_> {
     }
 }
 
-/// How a writer answers.
+/// What a writer does.
 #[derive(Clone, Copy)]
 pub enum Manner {
     TakesAtMost(usize),
@@ -61,7 +61,7 @@ pub enum Manner {
     FlushFails,
 }
 
-/// Keeps what it takes, up to 512 bytes, takes no memory, and counts its calls.
+/// Keeps what it takes, up to 512 bytes, without allocating, and counts its calls.
 #[derive(Drop)]
 pub struct Sink {
     kept: [u8; 512],

@@ -1,8 +1,8 @@
-//! How a value prints.
+//! `Display` output and copies of values.
 use std::alloc::{AllocError, Global};
 use std::fmt::Display;
 
-// Plainly, and where 30 columns are asked for, filled with blanks or stars; with bars between those that differ.
+// Plainly, and in 30 columns filled with blanks and with stars, with bars between those that differ.
 fn print_widths<T: Display>(alloc: Global, value: &T) -> Result<String, AllocError> {
     let mut text = value.to_string(alloc)?;
     let right = format!(in alloc; "{value:>30}")?;
@@ -13,7 +13,7 @@ fn print_widths<T: Display>(alloc: Global, value: &T) -> Result<String, AllocErr
     Ok(text)
 }
 
-/// The print, which is the same whatever width and fill are asked for; asked again where memory was refused.
+/// The `Display` output, and the padded ones if they differ; retried if out of memory.
 pub fn print_value<T: Display>(alloc: Global, value: &T) -> Result<String, AllocError> {
     match print_widths(alloc, value) {
         Ok(text) => Ok(text),
@@ -21,7 +21,7 @@ pub fn print_value<T: Display>(alloc: Global, value: &T) -> Result<String, Alloc
     }
 }
 
-/// A copy, asked for again where memory was refused.
+/// A copy; retried if out of memory.
 pub fn copy<T: Clone>(value: &T) -> Result<T, AllocError> {
     match value.clone() {
         Ok(copy) => Ok(copy),

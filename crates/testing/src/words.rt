@@ -1,4 +1,4 @@
-//! The words of a run.
+//! The words of a command line.
 use std::alloc::{AllocError, Global};
 
 /// The words, each between two bars.

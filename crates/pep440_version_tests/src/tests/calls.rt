@@ -3,19 +3,19 @@ use pep440_version::{ErrorKind, Version, VersionPattern};
 use std::alloc::{AllocError, Global};
 use std::test::Fail;
 
-/// The version that the text means.
+/// The version that the string denotes.
 pub fn version(rt: HostRuntime, text: &str) -> Result<Version, Fail> {
     Ok(Version::from_str(rt.alloc(), text)?)
 }
 
-/// The pattern that the text means.
+/// The pattern that the string denotes.
 pub fn pattern(rt: HostRuntime, text: &str) -> Result<VersionPattern, Fail> {
     Ok(VersionPattern::from_str(rt.alloc(), text)?)
 }
 
-/// A refusal, as a table writes it.
+/// A kind of error, as a table writes it.
 #[derive(Clone, Copy)]
-pub enum Refused<'a> {
+pub enum ErrorCase<'a> {
     Wildcard,
     TooBig(&'a str),
     NoNumber,
@@ -24,17 +24,17 @@ pub enum Refused<'a> {
     End(&'a str, &'a str),
 }
 
-/// The kind that says so.
-pub fn kind(alloc: Global, refused: Refused<'_>) -> Result<ErrorKind, AllocError> {
-    Ok(match refused {
-        Refused::Wildcard => ErrorKind::Wildcard,
-        Refused::TooBig(digits) => ErrorKind::NumberTooBig {
+/// The kind of the case.
+pub fn kind(alloc: Global, case: ErrorCase<'_>) -> Result<ErrorKind, AllocError> {
+    Ok(match case {
+        ErrorCase::Wildcard => ErrorKind::Wildcard,
+        ErrorCase::TooBig(digits) => ErrorKind::NumberTooBig {
             bytes: Vec::from_slice(alloc, digits.as_bytes())?,
         },
-        Refused::NoNumber => ErrorKind::NoLeadingNumber,
-        Refused::NoRelease => ErrorKind::NoLeadingReleaseNumber,
-        Refused::LocalEmpty(precursor) => ErrorKind::LocalEmpty { precursor },
-        Refused::End(version, remaining) => ErrorKind::UnexpectedEnd {
+        ErrorCase::NoNumber => ErrorKind::NoLeadingNumber,
+        ErrorCase::NoRelease => ErrorKind::NoLeadingReleaseNumber,
+        ErrorCase::LocalEmpty(precursor) => ErrorKind::LocalEmpty { precursor },
+        ErrorCase::End(version, remaining) => ErrorKind::UnexpectedEnd {
             version: String::from_str(alloc, version)?,
             remaining: String::from_str(alloc, remaining)?,
         },

@@ -1,4 +1,4 @@
-//! Kinds and errors are equal exactly where they say the same, wherever their texts lie in memory.
+//! Kinds and errors are equal exactly if their values are, wherever their strings lie in memory.
 ghost use Rattle.std.specs.Prelude.{◌≡◌, ◌↔◌, true};
 ghost use Rattle.pep440_version.specs.Errors.{kind_of, pattern_kind_of, pattern_refusal_of, refusal_of};
 

@@ -1,7 +1,7 @@
 //! What each type gives a hasher, call by call.
 use super::calls::{pattern, version};
-use super::kept::Call::Number;
-use super::kept::{Call, Kept, text};
+use super::recorder::Call::Number;
+use super::recorder::{Call, Recorder, text};
 use pep440_version::{LocalSegment, Prerelease, PrereleaseKind, Version, VersionPattern};
 use std::hash::Hash;
 use std::process::Abort;
@@ -9,7 +9,7 @@ use std::test::Fail;
 
 // Asserts that the value gives a hasher these calls.
 fn assert_feeds<T: Hash>(rt: &impl Abort, value: &T, want: &[Call]) {
-    let mut kept = Kept::new();
+    let mut kept = Recorder::new();
     value.hash(&mut kept);
     assert_eq!(rt; kept.calls(), want);
 }
@@ -113,7 +113,7 @@ fn local_and_release_set_back(rt: HostRuntime) -> Result<(), Fail> {
 }
 
 #[test]
-fn marks(rt: HostRuntime) -> Result<(), Fail> {
+fn sentinels(rt: HostRuntime) -> Result<(), Fail> {
     let max = Version::new(rt.alloc(), &[1, 0])?.with_max(rt.alloc(), Some(3))?;
     let want = [
         Number(0),
@@ -152,7 +152,7 @@ const STAGES: [(&str, u64, u64); 5] = [
 
 // Whether the version gives a hasher the stage and the number, fourth and fifth.
 fn feeds_stage(version: &Version, stage: u64, after: u64) -> bool {
-    let mut kept = Kept::new();
+    let mut kept = Recorder::new();
     version.hash(&mut kept);
     let calls = kept.calls();
     calls.get(3) == Some(&Number(stage)) && calls.get(4) == Some(&Number(after))
@@ -194,7 +194,7 @@ fn local_segments(rt: HostRuntime) -> Result<(), Fail> {
 
 // Whether the pattern gives a hasher what `1.0` gives it, and then the number.
 fn feeds_after_one(pattern: &VersionPattern, star: u64) -> bool {
-    let mut kept = Kept::new();
+    let mut kept = Recorder::new();
     pattern.hash(&mut kept);
     match kept.calls() {
         [before @ .., last] => before == ONE.as_slice() && *last == Number(star),

@@ -1,4 +1,4 @@
-//! Texts of more than 65,536 bytes: no reader gives up because a text is long.
+//! Strings of more than 65,536 bytes: no parser gives up because a string is long.
 use pep440_version::{Version, VersionPattern};
 use std::test::Fail;
 

@@ -10,8 +10,8 @@ fn word(version: &Version) -> Option<u64> {
     laws::word(version).copied()
 }
 
-// The release with these marks, which no text gives.
-fn marked(
+// The release with these sentinels, which no string has.
+fn with_sentinels(
     alloc: Global,
     release: &[u64],
     min: Option<u64>,
@@ -24,7 +24,7 @@ fn marked(
         .with_max(alloc, max)
 }
 
-// No request can be refused.
+// No allocation can fail.
 #[test]
 fn sweep_new_versions_take_none(rt: HostRuntime) -> Result<(), Fail> {
     let made = Version::new(rt.alloc(), &[1, 2, 3])?;
@@ -72,9 +72,9 @@ fn sweep_packed_changes_take_none(rt: HostRuntime) -> Result<(), Fail> {
 
 #[test]
 fn sweep_packed_marks_take_none(rt: HostRuntime) -> Result<(), Fail> {
-    let min = marked(rt.alloc(), &[1, 0], Some(0), None)?;
+    let min = with_sentinels(rt.alloc(), &[1, 0], Some(0), None)?;
     assert!(rt; word(&min) == Some(0x0001_0000_0000_0000), "min");
-    let max = marked(rt.alloc(), &[1, 0], None, Some(0))?;
+    let max = with_sentinels(rt.alloc(), &[1, 0], None, Some(0))?;
     assert!(rt; word(&max) == Some(0x0001_0000_00e0_0000), "max");
     Ok(())
 }

@@ -1,9 +1,9 @@
-//! Prints, whatever width and fill are asked for, and the debug forms.
+//! `Display` output, whatever the width and fill, and the debug forms.
 ghost use Rattle.std.specs.Prelude.{Some, map};
 ghost use Rattle.pep440_version.specs.Print.{dotted, segment_print};
 ghost use Rattle.pep440_version.specs.Segments.{segment};
 
-use super::calls::{Refused, kind, pattern, version};
+use super::calls::{ErrorCase, kind, pattern, version};
 use pep440_version::{
     Change, ChangeError, LocalSegment, Prerelease, PrereleaseKind, Version, VersionParseError,
     VersionPatternParseError, min_version, write_local_segments,
@@ -13,7 +13,7 @@ use std::fmt::{self, Debug, Display};
 use std::process::Abort;
 use std::test::Fail;
 
-// Asserts that the value prints so, plainly and where 30 columns are asked for.
+// Asserts that the value prints so, plainly and in 30 columns.
 fn assert_prints<T: Display>(
     rt: &impl Abort,
     alloc: Global,
@@ -53,11 +53,11 @@ fn local_segments(rt: HostRuntime) -> Result<(), Fail> {
 
 // The segments with dots between them.
 #[derive(Drop)]
-struct Joined<'a> {
+struct LocalPart<'a> {
     segments: &'a [LocalSegment],
 }
 
-impl Display for Joined<'_> {
+impl Display for LocalPart<'_> {
     ghost output = { λ j. Some (dotted segment_print (map segment j.segments.now)) };
 
     ghost styled_output = { λ j _. Some (dotted segment_print (map segment j.segments.now)) };
@@ -71,10 +71,10 @@ impl Display for Joined<'_> {
 fn local_segments_with_dots(rt: HostRuntime) -> Result<(), Fail> {
     for (text, want) in [("1", ""), ("1+a", "a"), ("1+Ubuntu-007_1", "ubuntu.7.1")] {
         let version = version(rt, text)?;
-        let joined = Joined {
+        let local = LocalPart {
             segments: version.local(),
         };
-        assert_prints(&rt, rt.alloc(), &joined, want)?;
+        assert_prints(&rt, rt.alloc(), &local, want)?;
     }
     Ok(())
 }
@@ -94,12 +94,6 @@ fn versions(rt: HostRuntime) -> Result<(), Fail> {
 }
 
 #[test]
-fn errors_of_changes(rt: HostRuntime) -> Result<(), Fail> {
-    let want = "change 12: a release needs at least one number";
-    assert_prints(&rt, rt.alloc(), &ChangeError::EmptyRelease(12), want)
-}
-
-#[test]
 fn versions_in_quotes(rt: HostRuntime) -> Result<(), Fail> {
     let shown = format!(in rt.alloc(); "{:?}", version(rt, "v1.0-a")?)?;
     assert!(rt; shown.as_str() == "\"1.0a0\"", "{shown}");
@@ -108,7 +102,7 @@ fn versions_in_quotes(rt: HostRuntime) -> Result<(), Fail> {
     Ok(())
 }
 
-// Asserts that there is a debug form, and that something stands in it.
+// Asserts that there is a debug form, which is not empty.
 fn assert_debugs<T: Debug>(rt: &impl Abort, alloc: Global, value: &T) -> Result<(), Fail> {
     let shown = format!(in alloc; "{value:?}")?;
     assert!(rt; !shown.is_empty(), "an empty form");
@@ -131,7 +125,7 @@ fn debug_forms(rt: HostRuntime) -> Result<(), Fail> {
 
 #[test]
 fn debug_forms_of_errors(rt: HostRuntime) -> Result<(), Fail> {
-    let inner = VersionParseError::from(kind(rt.alloc(), Refused::NoRelease)?);
+    let inner = VersionParseError::from(kind(rt.alloc(), ErrorCase::NoRelease)?);
     assert_debugs(&rt, rt.alloc(), inner.kind())?;
     assert_debugs(&rt, rt.alloc(), &inner)?;
     let outer = VersionPatternParseError::from(inner);

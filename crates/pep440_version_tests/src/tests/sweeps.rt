@@ -1,22 +1,22 @@
-//! Each call that takes memory, to be run with each request refused in turn: the call gives its row or is out of memory, and gives its row
-//! when it is made again. The versions are such as no word holds, since a packed one takes no memory.
-use super::again;
-use super::again::{TRIES, refused_each_time};
+//! Each call that allocates, to be run with each allocation failing in turn: the call returns the wanted version or is out of memory, and
+//! returns it if it is made again. The versions are not packed, since a packed one allocates nothing.
+use super::retry;
+use super::retry::{TRIES, each_try_failed};
 use pep440_version::{Version, min_version};
 use std::alloc::{AllocError, Global};
 use std::process::Abort;
 use std::test::Fail;
 
-// Whether memory was given; the version then prints so.
-fn is_answered(
+// Whether the call succeeded; the version then prints so.
+fn succeeds(
     rt: &impl Abort,
     alloc: Global,
-    answer: Result<Version, AllocError>,
+    made: Result<Version, AllocError>,
     want: &str,
 ) -> Result<bool, Fail> {
-    match answer {
+    match made {
         Ok(version) => {
-            assert!(rt; again::prints(alloc, &version, want)?, "{want}");
+            assert!(rt; retry::prints_as(alloc, &version, want)?, "{want}");
             Ok(true)
         }
         Err(_) => Ok(false),
@@ -27,35 +27,38 @@ fn is_answered(
 fn sweep_new(rt: HostRuntime) -> Result<(), Fail> {
     let release = [1, 2, 3, 4, 5];
     for _ in 0..TRIES {
-        let answer = Version::new(rt.alloc(), &release);
-        assert!(rt; release == [1, 2, 3, 4, 5], "what is lent");
-        if is_answered(&rt, rt.alloc(), answer, "1.2.3.4.5")? {
+        let made = Version::new(rt.alloc(), &release);
+        assert!(rt; release == [1, 2, 3, 4, 5], "what is borrowed");
+        if succeeds(&rt, rt.alloc(), made, "1.2.3.4.5")? {
             return Ok(());
         }
     }
-    Err(refused_each_time())
+    Err(each_try_failed())
 }
 
 #[test]
 fn sweep_min_version(rt: HostRuntime) -> Result<(), Fail> {
     for _ in 0..TRIES {
-        if is_answered(&rt, rt.alloc(), min_version(rt.alloc()), "0a0.dev0")? {
+        if succeeds(&rt, rt.alloc(), min_version(rt.alloc()), "0a0.dev0")? {
             return Ok(());
         }
     }
-    Err(refused_each_time())
+    Err(each_try_failed())
 }
 
 #[test]
 fn sweep_only_release(rt: HostRuntime) -> Result<(), Fail> {
     let print = "1!1.2.3.4.5a2.post3.dev0+ubuntu.1";
-    let whole = again::version(rt, print)?;
+    let whole = retry::version(rt, print)?;
     for _ in 0..TRIES {
-        let answer = whole.only_release(rt.alloc());
-        assert!(rt; again::prints(rt.alloc(), &whole, print)?, "what is lent");
-        if is_answered(&rt, rt.alloc(), answer, "1.2.3.4.5")? {
+        let made = whole.only_release(rt.alloc());
+        assert!(rt;
+            retry::prints_as(rt.alloc(), &whole, print)?,
+            "what is borrowed"
+        );
+        if succeeds(&rt, rt.alloc(), made, "1.2.3.4.5")? {
             return Ok(());
         }
     }
-    Err(refused_each_time())
+    Err(each_try_failed())
 }

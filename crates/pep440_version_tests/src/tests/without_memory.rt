@@ -1,8 +1,8 @@
-//! Texts whose versions fit a word are read without memory: whatever is refused, they are answered.
+//! Strings whose versions are packed are parsed without allocating: they parse whatever allocation fails.
 use pep440_version::{Version, VersionPattern, laws};
 use std::test::Fail;
 
-// A text, and the word of what it means.
+// A string, and the word of its version.
 const FIT: [(&str, u64); 38] = [
     ("1.2.3", 0x0001_0203_00a0_0000),
     (" V1.0-Rc.01 ", 0x0001_0000_0080_0001),

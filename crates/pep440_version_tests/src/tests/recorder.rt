@@ -1,4 +1,4 @@
-//! A hasher that keeps what it is given.
+//! A hasher that records its calls.
 ghost use Rattle.std.specs.Prelude.{◌≡◌};
 
 use std::hash::Hasher;
@@ -15,42 +15,42 @@ pub enum Call {
     Long,
 }
 
-/// The call of `write` with this text.
+/// The call of `write` with this string.
 pub fn text(text: &str) -> Call {
-    written(text.as_bytes())
+    call_of_bytes(text.as_bytes())
 }
 
-fn written(bytes: &[u8]) -> Call {
+fn call_of_bytes(bytes: &[u8]) -> Call {
     if bytes.len() > 8 {
         return Call::Long;
     }
-    let mut held = [0; 8];
-    held[..bytes.len()].copy_from_slice(bytes);
-    Call::Bytes(bytes.len(), held)
+    let mut padded = [0; 8];
+    padded[..bytes.len()].copy_from_slice(bytes);
+    Call::Bytes(bytes.len(), padded)
 }
 
 const MOST_CALLS: usize = 32;
 
-/// Keeps the first 32 calls. A clause sees nothing of it.
+/// Records the first 32 calls. No clause sees them.
 #[derive(Drop)]
-pub struct Kept {
+pub struct Recorder {
     calls: [Call; MOST_CALLS],
     used: usize,
 }
 
-impl Model for Kept {
+impl Model for Recorder {
     ghost use Rattle.std.specs.Prelude.{ℕ, ◌≤◌};
 
     ghost Value = { ℕ };
 
     ghost view = { λ _. 0 };
 
-    ghost invariant = { λ kept. kept.used ≤ 32 };
+    ghost invariant = { λ recorder. recorder.used ≤ 32 };
 }
 
-impl Kept {
-    pub fn new() -> Kept {
-        Kept {
+impl Recorder {
+    pub fn new() -> Recorder {
+        Recorder {
             calls: [Call::Long; MOST_CALLS],
             used: 0,
         }
@@ -60,7 +60,7 @@ impl Kept {
         &self.calls[..self.used]
     }
 
-    fn keep(&mut self, call: Call)
+    fn record(&mut self, call: Call)
         ensures { self.new ≡ self.old }
     {
         if self.used < MOST_CALLS {
@@ -70,8 +70,8 @@ impl Kept {
     }
 }
 
-impl Hasher for Kept {
-    ghost write = { λ kept _. kept };
+impl Hasher for Recorder {
+    ghost write = { λ recorder _. recorder };
 
     ghost finish = { λ _. 0 };
 
@@ -80,10 +80,10 @@ impl Hasher for Kept {
     }
 
     fn write(&mut self, bytes: &[u8]) {
-        self.keep(written(bytes));
+        self.record(call_of_bytes(bytes));
     }
 
     fn write_u64(&mut self, i: u64) {
-        self.keep(Call::Number(i));
+        self.record(Call::Number(i));
     }
 }
