@@ -1,5 +1,5 @@
 pub mod Lock
 pub mod Page
-pub mod Parts
-pub mod Texts
+pub mod LockParts
+pub mod Verdicts
 pub mod Within

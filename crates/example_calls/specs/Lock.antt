@@ -7,7 +7,7 @@ use Rattle.pep440_rs.specs.ListErrors.{list_refusal_of}
 use Rattle.pep440_rs.specs.ListGrammar.{DerivesList, RefusesList}
 use Rattle.pep440_rs.specs.Matching.{list_matches}
 use Rattle.pep440_rs.specs.Specifiers.{Spec}
-use Rattle.example_calls.specs.Parts.{IsShort, list_part, version_part}
+use Rattle.example_calls.specs.LockParts.{IsShort, list_part, version_part}
 use Rattle.example_calls.specs.declared.lock.LockEntry.{LockEntry}
 use Rattle.example_calls.specs.declared.lock.LockError.{LockError}
 use Rattle.example_calls.specs.declared.lock.LockError.TheVariants.{Parts, Wanted, Version, OutOfMemory}

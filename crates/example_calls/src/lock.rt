@@ -3,7 +3,7 @@ ghost use Rattle.std.specs.Prelude.{◌≡◌, map, string_bytes, IfErr, IfNone,
 ghost use Rattle.pep440_version.specs.Grammar.{Derives};
 ghost use Rattle.pep440_rs.specs.ListGrammar.{DerivesList};
 ghost use Rattle.example_calls.specs.Lock.{IsFault, broken_names};
-ghost use Rattle.example_calls.specs.Parts.{IsShort, list_part, name_part, version_part};
+ghost use Rattle.example_calls.specs.LockParts.{IsShort, list_part, name_part, version_part};
 
 use pep440_rs::{Version, VersionParseError, VersionSpecifiers, VersionSpecifiersParseError};
 use std::alloc::{AllocError, Global};

@@ -2,7 +2,7 @@
 ghost use Rattle.std.specs.Prelude.{◌≡◌, is_none, IfOk};
 ghost use Rattle.std.specs.List.{AllZip};
 ghost use Rattle.pep440_version.specs.Errors.{error_refusal};
-ghost use Rattle.example_calls.specs.Texts.{Tells};
+ghost use Rattle.example_calls.specs.Verdicts.{Tells};
 
 use pep440_rs::{ErrorKind, Version, VersionParseError};
 use std::alloc::{AllocError, Global};

@@ -8,7 +8,7 @@ use Rattle.pep440_pick.specs.RequirementGrammar.{InvalidExtras, InvalidName, Mar
 use Rattle.pep440_pick.specs.RequirementReading.{Front, listed_extras}
 use Rattle.pep440_pick.specs.declared.error.RequirementError.{RequirementError}
 use Rattle.pep440_pick.specs.declared.error.RequirementError.TheVariants as error
-use Rattle.pep440_pick.specs.declared.read.Parts.{Parts}
+use Rattle.pep440_pick.specs.declared.read.SplitRequirement.{SplitRequirement}
 use Rattle.pep440_pick.specs.declared.requirement.Requirement.{Requirement}
 
 -- the name, the extras and the members of the list
@@ -36,11 +36,11 @@ RequirementAnswers (Err e) outcome = IfSome (requirement_refusal_of e) (λ f. ou
 
 -- ---- what the parsers of the parts return
 
-abbrev pub prefix_of : Parts → Front
+abbrev pub prefix_of : SplitRequirement → Front
 prefix_of p = record { name = p.name.now; extras = listed_extras p.extras.now; list = p.list.now }
 
 -- the parts were read as reading gives them, unless an allocation failed
-abbrev pub FrontGives : Result Parts RequirementError → Result Front RequirementRefusal → Type 0
+abbrev pub FrontGives : Result SplitRequirement RequirementError → Result Front RequirementRefusal → Type 0
 FrontGives (Ok p) read = read ≡ Ok (prefix_of p)
 FrontGives (Err e) read = IfSome (requirement_refusal_of e) (λ f. read ≡ Err f)
 

@@ -3,17 +3,17 @@
 //! In reading order: `Requirement` and its errors, names, the newest candidate, the allowed range, and `laws`.
 #![tactic(auto)]
 
+mod allowed;
 mod candidates;
 mod error;
 pub mod laws;
 mod name;
-mod range;
 mod read;
 mod requirement;
 mod scan;
 
+pub use allowed::allowed;
 pub use candidates::newest;
 pub use error::RequirementError;
 pub use name::{is_name, same_name};
-pub use range::allowed;
 pub use requirement::Requirement;

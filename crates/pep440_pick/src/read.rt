@@ -26,7 +26,7 @@ use std::alloc::{AllocError, Global};
 
 // The parts of a requirement: the name, what stands in brackets, and the string of the list.
 #[derive(Clone, Copy)]
-pub(crate) struct Parts<'a> {
+pub(crate) struct SplitRequirement<'a> {
     pub(crate) name: &'a str,
     // Empty if there are no brackets.
     pub(crate) extras: &'a str,
@@ -104,7 +104,10 @@ fn strip_parentheses(text: &str) -> Option<&str>
 }
 
 // The parts of a requirement, by its name and what follows the name after blanks.
-fn parse_after_name<'a>(name: &'a str, rest: &'a str) -> Result<Parts<'a>, RequirementError>
+fn parse_after_name<'a>(
+    name: &'a str,
+    rest: &'a str,
+) -> Result<SplitRequirement<'a>, RequirementError>
     requires { list_all is_name_byte name.now ≡ true }
     ensures value { FrontGives result (prefix_after_name name.now rest.now) }
     ensures lifted { IfErr result IsRequirementLifted }
@@ -117,13 +120,13 @@ fn parse_after_name<'a>(name: &'a str, rest: &'a str) -> Result<Parts<'a>, Requi
         return Err(RequirementError::InvalidExtras);
     };
     match strip_parentheses(trim_blanks(behind)) {
-        Some(list) => Ok(Parts { name, extras, list }),
+        Some(list) => Ok(SplitRequirement { name, extras, list }),
         None => Err(RequirementError::Unclosed),
     }
 }
 
 // The parts of the string.
-pub(crate) fn read_parts(text: &str) -> Result<Parts<'_>, RequirementError>
+pub(crate) fn read_parts(text: &str) -> Result<SplitRequirement<'_>, RequirementError>
     ensures value { FrontGives result (read_prefix text.now) }
     ensures lifted { IfErr result IsRequirementLifted }
     ensures message { IfErr result (λ e. IfSome (requirement_refusal_of e) (λ f. requirement_text_of e ≡ Some (requirement_refusal_text f))) }

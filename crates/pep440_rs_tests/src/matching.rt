@@ -10,7 +10,7 @@ fn yes_or_no(alloc: Global, answer: bool) -> Result<String, CaseError> {
     Ok(String::from_str(alloc, if answer { "yes" } else { "no" })?)
 }
 
-/// Whether the specifier contains the version, asked again where memory was refused.
+/// Whether the specifier contains the version, once more if an allocation failed.
 pub fn holds(
     alloc: Global,
     specifier: &VersionSpecifier,
@@ -22,7 +22,7 @@ pub fn holds(
     }
 }
 
-/// Whether the list contains the version; a list of one specifier answers as the specifier does.
+/// Whether the list contains the version; a list of one specifier contains what the specifier does.
 pub fn contains(alloc: Global, text: &str, version: &str) -> Result<String, CaseError> {
     let list = list_argument(alloc, text)?;
     let version = version_argument(alloc, version)?;

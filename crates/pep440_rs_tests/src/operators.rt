@@ -23,7 +23,7 @@ fn has_lower_bound(alloc: Global, operator: Operator) -> Result<bool, CaseError>
     }
 }
 
-// The operator's name, its print, its negation, and whether it bounds from below.
+// The operator's name, its `Display` output, its negation, and whether it bounds from below.
 fn operator_text(alloc: Global, operator: Operator) -> Result<String, CaseError> {
     let print = print_value(alloc, &operator)?;
     let mut text = format!(in alloc; "{operator:?} {print}, ")?;

@@ -3,7 +3,7 @@ use Rattle.std.specs.Prelude.{ℕ, ◌+◌, List, [], Option, length}
 use Rattle.std.specs.Borrow.{Bor}
 use Rattle.std.specs.Option.{option_map_or}
 use Rattle.pep440_tool.specs.Lines.{lines, numbered_from}
-use Rattle.pep440_tool.specs.declared.lines.Lines.{Lines}
+use Rattle.pep440_tool.specs.declared.input_lines.Lines.{Lines}
 
 -- those that are not skipped, with their numbers, by what is left of the input and how many lines were read
 abbrev pub left_of : ℕ → Option (Bor (List ℕ)) → List (ℕ × List ℕ)

@@ -6,12 +6,12 @@ ghost use Rattle.pep440_tool.specs.AnswerValues.{Answered, request, answer_value
 use crate::compare::compare;
 use crate::edit::edit;
 use crate::error::CommandError;
-use crate::filter::filter;
+use crate::filter_lines::filter_lines;
 use crate::match_version::match_version;
 use crate::output::Answer;
 use crate::pick::pick;
 use crate::print_range::print_range;
-use crate::show::show;
+use crate::show_version::show_version;
 use std::alloc::{AllocError, Global};
 
 // What words ask for.
@@ -90,12 +90,12 @@ impl<'a> Command<'a> {
         ensures { Answered (IsAnswer (request self.entry) input.now) result }
     {
         match self {
-            Command::Show(version) => show(alloc, version),
+            Command::Show(version) => show_version(alloc, version),
             Command::Compare(left, right) => compare(alloc, left, right),
             Command::Match(list, version) => match_version(alloc, list, version),
             Command::Edit(version, changes) => edit(alloc, version, changes),
             Command::Range(list) => print_range(alloc, list),
-            Command::Filter(list) => filter(alloc, list, input),
+            Command::Filter(list) => filter_lines(alloc, list, input),
             Command::Pick(name, candidates) => pick(alloc, name, candidates, input),
             Command::Usage => Ok(Answer::usage(alloc)?),
         }

@@ -3,8 +3,8 @@ ghost use Rattle.std.specs.Prelude.{◌≡◌};
 ghost use Rattle.pep440_tool.specs.Answers.{CompareAnswer, sign_of};
 ghost use Rattle.pep440_tool.specs.AnswerValues.{Answered};
 
-use crate::arguments::parse_version;
 use crate::error::CommandError;
+use crate::operands::parse_version;
 use crate::output::Answer;
 use std::alloc::Global;
 use std::cmp::Ordering;

@@ -6,8 +6,8 @@ ghost use Rattle.pep440_tool.specs.CommandErrors.{HoldsOrStops};
 ghost use Rattle.pep440_tool.specs.AnswerValues.{Answered};
 ghost use Rattle.pep440_version.specs.Changes.{apply_edits, edit};
 
-use crate::arguments::parse_version;
 use crate::error::CommandError;
+use crate::operands::parse_version;
 use crate::output::Answer;
 use pep440_change_words::{ChangeWordError, parse_change};
 use pep440_rs::{Change, Version, WithSentinels};

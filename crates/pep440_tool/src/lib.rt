@@ -1,20 +1,20 @@
 //! The program `pep440` as a function of its words and its input, and over any reader and any writer.
 #![tactic(auto)]
 
-mod arguments;
 mod command;
 mod compare;
 mod edit;
 mod error;
-mod filter;
+mod filter_lines;
+mod input_lines;
 pub mod laws;
-mod lines;
 mod match_version;
+mod operands;
 mod output;
 mod pick;
 mod print_range;
 mod program;
-mod show;
+mod show_version;
 mod stream;
 
 pub use command::answer;

@@ -3,8 +3,8 @@ ghost use Rattle.std.specs.Prelude.{◌≡◌};
 ghost use Rattle.pep440_tool.specs.Answers.{MatchAnswer, yes_or_no};
 ghost use Rattle.pep440_tool.specs.AnswerValues.{Answered};
 
-use crate::arguments::{parse_list, parse_version};
 use crate::error::CommandError;
+use crate::operands::{parse_list, parse_version};
 use crate::output::Answer;
 use std::alloc::Global;
 

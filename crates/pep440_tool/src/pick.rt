@@ -10,7 +10,7 @@ ghost use Rattle.pep440_tool.specs.Picks.{CandidateMeans, PickAnswer, RejectsCan
 ghost use Rattle.pep440_tool.specs.AnswerValues.{Answered};
 
 use crate::error::CommandError;
-use crate::lines::{Line, Lines};
+use crate::input_lines::{Line, Lines};
 use crate::output::Answer;
 use pep440_pick::{Requirement, is_name, newest};
 use pep440_rs::{Version, VersionSpecifiers};

@@ -2,8 +2,8 @@
 ghost use Rattle.pep440_tool.specs.Answers.{RangeAnswer};
 ghost use Rattle.pep440_tool.specs.AnswerValues.{Answered};
 
-use crate::arguments::parse_list;
 use crate::error::CommandError;
+use crate::operands::parse_list;
 use crate::output::Answer;
 use pep440_rs::{RangeLines, specifiers_to_ranges};
 use std::alloc::Global;

@@ -1,4 +1,4 @@
-//! The two orders of matching, and its requests for memory.
+//! The two orders of matching, and how often it allocates.
 use super::calls::version as version_of;
 use pep440_rs::{cmp_releases, cmp_without_local};
 use std::test::Fail;

@@ -1,6 +1,6 @@
 use Rattle.std.proofs.Common.{take}
 use Rattle.std.specs.List.{AllZip}
-use Rattle.example_calls.specs.Texts.{Tells}
+use Rattle.example_calls.specs.Verdicts.{Tells}
 use Rattle.example_calls.proofs.untrusted.read_all.Given as goal
 
 abbrev pub invariant-loop-text : goal.invariant-loop-text

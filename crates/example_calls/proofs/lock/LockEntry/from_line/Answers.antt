@@ -6,7 +6,7 @@ use Rattle.pep440_version.specs.declared.error.VersionParseError.{VersionParseEr
 use Rattle.example_calls.specs.Lock.{IsFault}
 use Rattle.pep440_rs.specs.ListGrammar.{DerivesList}
 use Rattle.pep440_rs.specs.Specifiers.{Spec}
-use Rattle.example_calls.specs.Parts.{IsShort, list_part, version_part}
+use Rattle.example_calls.specs.LockParts.{IsShort, list_part, version_part}
 use Rattle.example_calls.specs.declared.lock.LockEntry.{LockEntry}
 use Rattle.example_calls.specs.declared.lock.LockError.{LockError}
 use Rattle.example_calls.specs.declared.lock.LockError.TheVariants.{Version}
