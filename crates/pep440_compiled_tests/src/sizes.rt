@@ -28,7 +28,7 @@ fn compile_and_call(rt: HostRuntime, text: &str) -> Result<(), Fail> {
 #[test]
 fn versions_of_each_size(rt: HostRuntime) -> Result<(), Fail> {
     for text in VERSIONS {
-        for size in &sizes(rt.alloc(), 70_000)? {
+        for size in &sizes(rt.alloc(), 1_025)? {
             let version = repeat(rt.alloc(), text, *size)?;
             let called = compile_and_call(rt, version.as_str());
             assert!(rt; called.is_ok(), "{text} of {size}");
@@ -66,7 +66,7 @@ fn compile_and_ask(rt: HostRuntime, list: &str, version: &str) -> Result<(), Fai
 #[test]
 fn lists_of_each_size(rt: HostRuntime) -> Result<(), Fail> {
     for (text, version) in LISTS {
-        for size in &sizes(rt.alloc(), 70_000)? {
+        for size in &sizes(rt.alloc(), 257)? {
             let list = repeat(rt.alloc(), text, *size)?;
             let called = compile_and_ask(rt, list.as_str(), version);
             assert!(rt; called.is_ok(), "{text} of {size}");

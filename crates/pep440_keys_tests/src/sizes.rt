@@ -26,7 +26,7 @@ fn make_keys(rt: HostRuntime, text: &str) -> Result<(), Fail> {
 #[test]
 fn versions_of_each_size(rt: HostRuntime) -> Result<(), Fail> {
     for text in VERSIONS {
-        for size in &sizes(rt.alloc(), 70_000)? {
+        for size in &sizes(rt.alloc(), 1_025)? {
             let version = repeat(rt.alloc(), text, *size)?;
             let made = make_keys(rt, version.as_str());
             assert!(rt; made.is_ok(), "{text} of {size}");
@@ -52,7 +52,7 @@ fn leave_out(
 #[test]
 fn ranges_of_each_size(rt: HostRuntime) -> Result<(), Fail> {
     let mut range = Ranges::full(rt.alloc())?;
-    for number in 0..257 {
+    for number in 0..=66 {
         let made = leave_out(rt, &range, number);
         assert!(rt; made.is_ok(), "{number} versions left out");
         range = made?;
