@@ -13,7 +13,7 @@ pub fn sizes(alloc: Global, greatest: usize) -> Result<Vec<usize>, AllocError> {
         sizes.push(size)?;
     }
     for power in POWERS {
-        for size in [power - 1, power, power + 1] {
+        for size in [power.saturating_sub(1), power, power.saturating_add(1)] {
             sizes.push(size)?;
         }
     }
