@@ -145,7 +145,7 @@ class Specifiers(unittest.TestCase):
         with self.assertRaises(InvalidSpecifier):
             _core.ranges("=1.0")
         self.assertEqual(Specifier(">=1.0").ranges(), [(Bound(Version("1.0"), True, ""), None)])
-        self.assertEqual(SpecifierSet("<2.0").ranges()[0][1], Bound(Version("2.0"), False, "min0"))
+        self.assertEqual(SpecifierSet("<2.0").ranges()[0][1], Bound(Version("2.0"), False, sentinel="min0"))
 
     def test_compiled_forms(self):
         # a specifier whose version alone was compiled has the bytes that the library makes of it as a list, and the same ones are refused;

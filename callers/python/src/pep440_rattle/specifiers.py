@@ -30,11 +30,11 @@ class Bound(NamedTuple):
 
     version: Version
     included: bool
-    mark: str
-    """`minN` or `maxN` where the bound lies below or above all that begins with the version, as in `2.0~min0`, else the empty text."""
+    sentinel: str
+    """`minN` or `maxN` if the bound lies below or above all that begins with the version, as in `2.0~min0`, else empty."""
 
     def __str__(self) -> str:
-        return f"{self.version}~{self.mark}" if self.mark else str(self.version)
+        return f"{self.version}~{self.sentinel}" if self.sentinel else str(self.version)
 
 
 # What stands behind an operator, by PEP 440, Appendix B: behind `==`, `!=` and `===` a version, behind the first two also a release with a star;
@@ -72,8 +72,8 @@ def _version_of(item: UnparsedVersion) -> Version:
 def _bound_of(text: str, included: bool) -> Bound | None:
     if text == "*":
         return None
-    version, _, mark = text.partition("~")
-    return Bound(Version(version), included, mark)
+    version, _, sentinel = text.partition("~")
+    return Bound(Version(version), included, sentinel)
 
 
 def _segment_of(line: str) -> tuple[Bound | None, Bound | None]:
