@@ -85,7 +85,7 @@ uint8_t pep440_pattern(const uint8_t *pattern, size_t length, uint8_t *out, size
 /* Writes the version that the changes make of a version, applied in order, as `1.0a1.post2` of `1.0a1` and `post=2`; `out` and `written` as for
    pep440_normalize. A change is `release=` and numbers with dots between them; `epoch=` and a number; `pre=` and `a`, `b` or `rc` with a number;
    `post=`, `dev=`, `min=` or `max=` and a number; `local=` and segments with dots between them; `only-release`; or `without-local`. After `=`
-   nothing stands for none, but for the epoch. `min` and `max` are the sentinels that pep440_ranges names; they are written behind the version,
+   nothing stands for none, but for the epoch. `min` and `max` are the sentinels that pep440_ranges names; they are written after the version,
    `~min0` and then `~max0`. With no changes the version is written.
 
    The version is parsed first, then all changes, and then they are applied. PEP440_INVALID_CHANGE where one is none of these, or cannot be
@@ -253,7 +253,8 @@ uint8_t pep440_normalize_compiled(const uint8_t *compiled, size_t length, uint8_
 /* As pep440_normalize_list, of a compiled list. */
 uint8_t pep440_normalize_list_compiled(const uint8_t *compiled, size_t length, uint8_t *out, size_t size, size_t *written);
 
-/* As pep440_sort_key, of a compiled version. */
+/* As pep440_sort_key, of a compiled version. With a zero byte in its local part, which pep440_compile never writes, the key's order is not the
+   version's. */
 uint8_t pep440_sort_key_compiled(const uint8_t *compiled, size_t length, uint8_t *out, size_t size, size_t *written);
 
 /* As pep440_compare, of two compiled versions. */
