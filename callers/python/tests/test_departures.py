@@ -128,7 +128,7 @@ class Departures(unittest.TestCase):
                 call()
         self.assertFalse(issubclass(InvalidVersion, theirs.InvalidVersion) or issubclass(theirs.InvalidVersion, InvalidVersion))
 
-    def test_refusals(self):
+    def test_error_messages(self):
         with self.assertRaises(InvalidVersion) as caught:
             Version("x")
         self.assertRegex(str(caught.exception), r"^Invalid version: 'x': .+")
