@@ -1,11 +1,12 @@
 /* PEP 440 for C: version numbers of Python packages, parsed, normalized, compared and matched by the proved library.
 
-   A string is its bytes and its length; it needs no zero at its end, and bytes that are no UTF-8 are an invalid version or list. Each call
-   returns a status. No call keeps a pointer, and none ends the process.
+   A string is its bytes and its length; it needs no zero at its end, and bytes that are not UTF-8 are an invalid version or list. Each call
+   returns a status. No call keeps a pointer, and none ends the process. Programs to begin with are in the folder examples of the release
+   archive, and in callers/c/examples of the repository.
 
    What the caller must keep, for nothing checks it:
-   - No pointer is null, not even where its length is 0 (docs/DECISIONS.md says why), and behind each lies what its length says. For an
-     empty string pass any other pointer, as "".
+   - No pointer is null, not even if its length is 0 (docs/DECISIONS.md says why), and each points to as many items as its length says. For
+     an empty string pass any other pointer, as "".
    - Each pointer is aligned as its type: a pep440_string, a pep440_parts, a size_t and a uint64_t to 8 bytes.
    - What a call writes to overlaps nothing else that is passed to it. Strings that it only reads may overlap each other.
    - While a call runs, nothing else writes to what it reads, or reads or writes what it writes.
@@ -16,9 +17,9 @@
    library has no state. A call takes at most 16 KiB of stack, whatever the length of what it reads (tested: callers/c/tests/stack.c). The code is
    for processors of the level x86-64-v2 and above.
 
-   PEP440_NO_ROOM: the result needs more than the buffer has. It is not written; each call below says what is. PEP440_OUT_OF_MEMORY: malloc
-   or realloc failed; the same call may be made again. With any status but PEP440_OK and PEP440_NO_ROOM nothing is written, except `index`
-   of the batches with PEP440_INVALID_VERSION or PEP440_NOT_COMPILED. */
+   PEP440_NO_ROOM: there is a result, and it needs more than the buffer has. It is not written; each call below says what is.
+   PEP440_OUT_OF_MEMORY: malloc or realloc failed; the same call may be made again. With any status but PEP440_OK and PEP440_NO_ROOM nothing
+   is written, except `index` of the batches with PEP440_INVALID_VERSION or PEP440_NOT_COMPILED. */
 #ifndef PEP440_H
 #define PEP440_H
 
@@ -39,13 +40,13 @@ uint32_t pep440_version_of_library(void);
 enum {
     PEP440_OK = 0,
     PEP440_INVALID_VERSION = 1, /* a string is no version */
-    PEP440_INVALID_LIST = 2,    /* a string is no list of specifiers, or an operator and a version are no specifier */
+    PEP440_INVALID_LIST = 2,    /* a string is no list of specifiers, or no single one; or an operator and a version make none */
     PEP440_OUT_OF_MEMORY = 3,
     PEP440_NO_ROOM = 4,
-    PEP440_NUMBER_AT_MAX = 5, /* of a range or a cover alone: a bound would lie above 18446744073709551615 */
-    PEP440_NOT_COMPILED = 6,  /* bytes that are passed as compiled denote no version, or no list */
-    PEP440_NOT_PACKED = 7,    /* of pep440_word alone: the version has no word */
-    PEP440_INVALID_CHANGE = 8 /* of pep440_edit alone: a change is none, or cannot be made */
+    PEP440_NUMBER_AT_MAX = 5, /* only of a range or a cover: a bound would need a number above 18446744073709551615 */
+    PEP440_NOT_COMPILED = 6,  /* bytes that are passed as compiled denote no version, or no list; or a number is no operator's */
+    PEP440_NOT_PACKED = 7,    /* only of pep440_word: the version has no word */
+    PEP440_INVALID_CHANGE = 8 /* only of pep440_edit: a change is none, or cannot be made */
 };
 
 /* A string of a batch, or a compiled version of one; a change of pep440_edit. */
@@ -71,14 +72,14 @@ uint8_t pep440_specifiers_of(const uint8_t *list, size_t length, uint8_t *out, s
 
 /* Writes the specifier of an operator and a version, as `>=1.16`, as pep440_normalize_list prints it; `out` and `written` as for
    pep440_normalize. For `==` and `!=` the version may end with `.*`. The operator is parsed first, and no blank stands beside it.
-   PEP440_INVALID_LIST where it is none of `==`, `!=`, `<=`, `>=`, `<`, `>`, `~=` and `===`, or does not go with the version: `.*` with another
-   operator, a local part with another one than `==`, `!=` and `===`, `~=` with a single release number. PEP440_INVALID_VERSION where `version`
+   PEP440_INVALID_LIST if it is none of `==`, `!=`, `<=`, `>=`, `<`, `>`, `~=` and `===`, or does not go with the version: `.*` with another
+   operator, a local part with another one than `==`, `!=` and `===`, `~=` with a single release number. PEP440_INVALID_VERSION if `version`
    is no version, with `.*` or without. */
 uint8_t pep440_specifier(const uint8_t *operator_string, size_t operator_length, const uint8_t *version, size_t length, uint8_t *out, size_t size,
                          size_t *written);
 
 /* Writes the normalized form of the version of a pattern, as `1.5` of `1.5.*` and of `1.5`, and to `star` whether `.*` follows it, 1 or 0; `out`
-   and `written` as for pep440_normalize. With PEP440_NO_ROOM `star` is written too. PEP440_INVALID_VERSION where it is no version, or `.*`
+   and `written` as for pep440_normalize. With PEP440_NO_ROOM `star` is written too. PEP440_INVALID_VERSION if it is no version, or `.*`
    follows more than epoch and release, as in `1.0a1.*`. */
 uint8_t pep440_pattern(const uint8_t *pattern, size_t length, uint8_t *out, size_t size, size_t *written, uint8_t *star);
 
@@ -88,19 +89,19 @@ uint8_t pep440_pattern(const uint8_t *pattern, size_t length, uint8_t *out, size
    nothing stands for none, but for the epoch. `min` and `max` are the sentinels that pep440_ranges names; they are written after the version,
    `~min0` and then `~max0`. With no changes the version is written.
 
-   The version is parsed first, then all changes, and then they are applied. PEP440_INVALID_CHANGE where one is none of these, or cannot be
+   The version is parsed first, then all changes, and then they are applied. PEP440_INVALID_CHANGE if one is none of these, or cannot be
    applied to the version that those before it made: a release needs a number, `min` goes with neither a pre-release nor a developmental part,
    `max` with neither a post-release nor a developmental part. pep440_edit_error writes which one. */
 uint8_t pep440_edit(const uint8_t *version, size_t length, const pep440_string *changes, size_t count, uint8_t *out, size_t size,
                     size_t *written);
 
-/* Writes why pep440_edit of the same version and changes writes nothing, in words, and 0 bytes where it writes a version: why the string is no
+/* Writes why pep440_edit of the same version and changes writes nothing, in words, and 0 bytes if it writes a version: why the string is no
    version, as pep440_version_error, or the number of the change, the first one being 1, and why, as `change 2: not a change`; `out` and
    `written` as for pep440_normalize. */
 uint8_t pep440_edit_error(const uint8_t *version, size_t length, const pep440_string *changes, size_t count, uint8_t *out, size_t size,
                           size_t *written);
 
-/* Writes why a string is no version, in words, and 0 bytes where it is one; `out` and `written` as for pep440_normalize. */
+/* Writes why a string is no version, in words, and 0 bytes if it is one; `out` and `written` as for pep440_normalize. */
 uint8_t pep440_version_error(const uint8_t *version, size_t length, uint8_t *out, size_t size, size_t *written);
 
 /* The same of a pattern, as `1.5.*` or `1.5`. */
@@ -109,7 +110,7 @@ uint8_t pep440_pattern_error(const uint8_t *pattern, size_t length, uint8_t *out
 /* The same of one specifier, as `>=1.16`. */
 uint8_t pep440_specifier_error(const uint8_t *specifier, size_t length, uint8_t *out, size_t size, size_t *written);
 
-/* Writes why a string is no list of specifiers, in lines, and 0 bytes where it is one; `out` and `written` as for pep440_normalize. */
+/* Writes why a string is no list of specifiers, in lines, and 0 bytes if it is one; `out` and `written` as for pep440_normalize. */
 uint8_t pep440_list_error(const uint8_t *list, size_t length, uint8_t *out, size_t size, size_t *written);
 
 /* Writes to `order` whether the left version is below the right one (-1), equal to it (0) or above it (1). */
@@ -128,7 +129,7 @@ uint8_t pep440_any_prerelease(const uint8_t *list, size_t length, uint8_t *any);
 /* The kind of a pre-release. */
 enum { PEP440_NO_PRE = 0, PEP440_ALPHA = 1, PEP440_BETA = 2, PEP440_RC = 3 };
 
-/* The numbers of a version, 0 where it has no such part. */
+/* The numbers of a version, 0 if it has no such part. */
 typedef struct {
     uint64_t epoch;
     uint64_t pre;
@@ -151,8 +152,8 @@ uint8_t pep440_parts_of(const uint8_t *version, size_t length, pep440_parts *par
    bytes: the key of a version is the same in each release. It cannot be parsed back, so store the version beside it. */
 uint8_t pep440_sort_key(const uint8_t *version, size_t length, uint8_t *out, size_t size, size_t *written);
 
-/* Writes the word of a version: as numbers words have the order of their versions, and are equal exactly where the versions are.
-   PEP440_NOT_PACKED where the version has none. It has one where its epoch is 0, it has no local part, its release has at most four numbers, the
+/* Writes the word of a version: as numbers words have the order of their versions, and are equal exactly if the versions are.
+   PEP440_NOT_PACKED if the version has none. It has one if its epoch is 0, it has no local part, its release has at most four numbers, the
    first at most 65535 and the others at most 255, and it has at most one of a pre-release, a post-release and a developmental part, whose number
    is at most 2097151. A word may be stored, as a sort key may; words and sort keys are not compared with each other. */
 uint8_t pep440_word(const uint8_t *version, size_t length, uint64_t *word);
@@ -175,21 +176,21 @@ enum {
     PEP440_CLASS_MAX = 7 /* a sentinel */
 };
 
-/* Writes the range of the list: its segments in ascending order, a line each, each line with a newline at its end; the one line `empty` where
-   there are none. `out` and `written` as for pep440_normalize. A line is `[1.0, 1.5)`: two bounds between a square bracket, where the bound
-   is in the segment, or a round one, where it is not. `*` is no bound, as in `(*, 2.0]`. A bound may have a sentinel after its version, which
+/* Writes the range of the list: its segments in ascending order, a line each, each line with a newline at its end; the one line `empty` if
+   there are none. `out` and `written` as for pep440_normalize. A line is `[1.0, 1.5)`: two bounds, each beside a square bracket if it is in
+   the segment, or a round one if it is not. `*` is no bound, as in `(*, 2.0]`. A bound may have a sentinel after its version, which
    no string of a version has: `2.0~min0` lies below each version of release 2.0, `2.0.dev0` too, as in `[1.0, 2.0~min0)` of `>=1.0,<2.0`;
    `1.0~max0` lies above each post-release and local version of `1.0`, and below `1.0.1`, as in `(1.0~max0, *)` of `>1.0`.
 
    A range goes by the order of versions, so it is not always what pep440_contains matches: `<=1.0` contains `1.0+cu1`, which its range ends
-   below, and `===1.0` does not contain `1.0.0`, which its range has. docs/PROMISES.md, "Conversions into ranges", says where both agree.
+   below, and `===1.0` does not contain `1.0.0`, which its range has. docs/PROMISES.md, "Conversions into ranges", says when both agree.
 
-   PEP440_NUMBER_AT_MAX where a bound would need a number above 18446744073709551615, as the end of `==18446744073709551615.*`. */
+   PEP440_NUMBER_AT_MAX if a bound would need a number above 18446744073709551615, as the end of `==18446744073709551615.*`. */
 uint8_t pep440_ranges(const uint8_t *list, size_t length, uint8_t *out, size_t size, size_t *written);
 
 /* Writes the range of the list as sort keys, two for each segment in ascending order, one after the other, at the start of `out`, and to `ends`
    where each of them ends, counted from the start of `out`; to `written` how many bytes they are, and to `count` how many keys. A version is in
-   a segment exactly where its sort key is at least the first of the two and below the second, compared as pep440_sort_key says: so an index over
+   a segment exactly if its sort key is at least the first of the two and below the second, compared as pep440_sort_key says: so an index over
    stored keys finds the versions of a range. A key of no bytes is no bound: of the first each key is at least that, of the second leave out the
    comparison. Keys of bounds are not always sort keys of versions. With PEP440_NO_ROOM (`size` is less than the bytes, or `ends_size` less than
    the keys) `written` and `count` are written, and `out` and `ends` are unchanged. PEP440_NUMBER_AT_MAX as for pep440_ranges. */
@@ -205,13 +206,13 @@ uint8_t pep440_cover_keys(const uint8_t *list, size_t length, uint8_t *out, size
 enum { PEP440_NO_BOUND = 0, PEP440_INCLUDED = 1, PEP440_EXCLUDED = 2 };
 
 /* Writes the range of the list as bounds, two for each segment in ascending order, as pep440_range_keys writes keys; to `count` how many bounds
-   there are. A bound is PEP440_NO_BOUND alone, or PEP440_INCLUDED or PEP440_EXCLUDED and then the compiled form of its version (below), with the
-   version's sentinel if it has one. So the bounds of `>=1.0,<2.0` are PEP440_INCLUDED and the compiled form of `1.0`, and PEP440_EXCLUDED and that
-   of `2.0~min0`. */
+   there are. A bound is just PEP440_NO_BOUND, or PEP440_INCLUDED or PEP440_EXCLUDED and then the compiled form of its version (below), with the
+   version's sentinel if it has one. So the bounds of `>=1.0,<2.0` are PEP440_INCLUDED and the compiled form of `1.0`, and PEP440_EXCLUDED and the
+   one of `2.0~min0`. */
 uint8_t pep440_range_bounds(const uint8_t *list, size_t length, uint8_t *out, size_t size, size_t *ends, size_t ends_size, size_t *written,
                             size_t *count);
 
-/* The same of the release-only range of the list, which is meant for versions that are a release alone, as those of Python itself. Of each
+/* The same of the release-only range of the list, which is meant for versions that are just a release, as those of Python itself. Of each
    specifier only the operator and the release count, so no bound has an epoch, a suffix or a sentinel: the bounds of `>1!1.0rc1` are
    PEP440_EXCLUDED and the compiled form of `1.0`, and PEP440_NO_BOUND. */
 uint8_t pep440_release_range_bounds(const uint8_t *list, size_t length, uint8_t *out, size_t size, size_t *ends, size_t ends_size,
@@ -224,13 +225,13 @@ uint8_t pep440_release_range_bounds(const uint8_t *list, size_t length, uint8_t 
    releases: what one release wrote each later one takes, and a format that a library does not know gets PEP440_NOT_COMPILED. So does whatever
    else denotes no version (no list): cut, changed or chosen by an attacker, bytes are never read beyond their length.
 
-   Bytes denote at most one version or one list. Two strings have the same compiled bytes exactly where all parts of their versions are the
+   Bytes denote at most one version or one list. Two strings have the same compiled bytes exactly if all parts of their versions are the
    same, or all specifiers of their lists in the same order: `1.0` and ` v1.0` have the same bytes, and `1.0.0` has others, though the versions
    are equal. The order of compiled bytes is not that of the versions: pep440_compare_compiled and pep440_sort_key_compiled have that.
 
-   A version takes ten bytes where it has a word (pep440_word), else 30, 8 for each number of its release and each suffix, and for each local
+   A version takes ten bytes if it has a word (pep440_word), else 30, 8 for each number of its release and each suffix, and for each local
    segment 9 and its letters; a list takes nine, and for each specifier one more than its version. Only the first three calls of this section
-   parse a string. pep440_compare_compiled allocates nothing where the versions have words, nor does pep440_contains_compiled where the version and
+   parse a string. pep440_compare_compiled allocates nothing if the versions have words, nor does pep440_contains_compiled if the version and
    those of the list have words and the list has no `===`.
 
    Bytes that pep440_compile did not write may denote a version that no string denotes: one with a sentinel, as a bound of pep440_ranges has
@@ -243,11 +244,11 @@ uint8_t pep440_compile(const uint8_t *version, size_t length, uint8_t *out, size
 /* Writes the compiled form of a list of specifiers; `out` and `written` as for pep440_normalize. */
 uint8_t pep440_compile_list(const uint8_t *list, size_t length, uint8_t *out, size_t size, size_t *written);
 
-/* Writes the compiled form of the list of one specifier, as `>=1.16`; `out` and `written` as for pep440_normalize. PEP440_INVALID_LIST where the
+/* Writes the compiled form of the list of one specifier, as `>=1.16`; `out` and `written` as for pep440_normalize. PEP440_INVALID_LIST if the
    string is no specifier, as the empty string and `>=1.16,<2.0`. */
 uint8_t pep440_compile_specifier(const uint8_t *specifier, size_t length, uint8_t *out, size_t size, size_t *written);
 
-/* As pep440_normalize, of a compiled version. PEP440_NOT_COMPILED where the bytes denote none; so in each call below. */
+/* As pep440_normalize, of a compiled version. PEP440_NOT_COMPILED if the bytes denote none; so in each call below. */
 uint8_t pep440_normalize_compiled(const uint8_t *compiled, size_t length, uint8_t *out, size_t size, size_t *written);
 
 /* As pep440_normalize_list, of a compiled list. */
@@ -293,9 +294,9 @@ enum {
     PEP440_GREATER_EQUAL = 9
 };
 
-/* Writes why an operator of these and a compiled version make no specifier, in words, and 0 bytes where they do; `out` and `written` as for
-   pep440_normalize. Unless `star` is 0, `.*` follows the version, which goes with PEP440_EQUAL and PEP440_NOT_EQUAL alone. PEP440_NOT_COMPILED
-   where the number is no operator's, or the bytes denote no version. */
+/* Writes why an operator of these and a compiled version make no specifier, in words, and 0 bytes if they do; `out` and `written` as for
+   pep440_normalize. Unless `star` is 0, `.*` follows the version, which goes only with PEP440_EQUAL and PEP440_NOT_EQUAL. PEP440_NOT_COMPILED
+   if the number is no operator's, or the bytes denote no version. */
 uint8_t pep440_build_error(uint8_t operator_number, const uint8_t *version, size_t length, uint8_t star, uint8_t *out, size_t size,
                            size_t *written);
 
@@ -309,12 +310,12 @@ uint8_t pep440_cover_keys_compiled(const uint8_t *list, size_t length, uint8_t *
 enum { PEP440_NO_MATCH = 0, PEP440_MATCH = 1, PEP440_NOT_A_VERSION = 2, PEP440_PRERELEASE_MATCH = 3 };
 
 /* Writes a mark for each string, in order: whether the list contains its version, and whether this is then a pre-release or a developmental
-   release, or that it is no version. PEP440_NO_ROOM where `size` is less than `count`; then nothing is written. */
+   release, or that it is no version. PEP440_NO_ROOM if `size` is less than `count`; then nothing is written. */
 uint8_t pep440_filter(const uint8_t *list, size_t list_length, const pep440_string *strings, size_t count, uint8_t *marks, size_t size);
 
 /* Writes the indices of the strings, from 0, in the order of their versions; equal ones in the order given. With PEP440_INVALID_VERSION
-   `index` is that of the first string that is no version, and nothing else is written. PEP440_NO_ROOM where `size` is less than `count`; then
-   nothing is written. */
+   `index` is that of the first string that is no version, and nothing else is written. PEP440_NO_ROOM if all are versions and `size` is less than
+   `count`; then nothing is written. */
 uint8_t pep440_sort(const pep440_string *strings, size_t count, size_t *indices, size_t size, size_t *index);
 
 /* Writes the sort keys of the strings, one after the other, at the start of `out`, and to `ends` where each of them ends, counted from the
