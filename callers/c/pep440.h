@@ -60,7 +60,8 @@ typedef struct {
    byte and size 0 asks for the length. */
 uint8_t pep440_normalize(const uint8_t *version, size_t length, uint8_t *out, size_t size, size_t *written);
 
-/* The same of a list of specifiers, as `>=1.16, <2.0`. */
+/* The same of a list of specifiers, as `>=1.16, <2.0` of `<2.0,>=1.16`: sorted by version, equal versions in the order given. The empty
+   string is a list, too, which contains each version. */
 uint8_t pep440_normalize_list(const uint8_t *list, size_t length, uint8_t *out, size_t size, size_t *written);
 
 /* Writes operator and version of each specifier of a list, as pep440_normalize_list prints them and in that order, as `>=`, `1.16`, `!=`, `1.5.*`, one
@@ -225,8 +226,8 @@ uint8_t pep440_release_range_bounds(const uint8_t *list, size_t length, uint8_t 
    releases: what one release wrote each later one takes, and a format that a library does not know gets PEP440_NOT_COMPILED. So does whatever
    else denotes no version (no list): cut, changed or chosen by an attacker, bytes are never read beyond their length.
 
-   Bytes denote at most one version or one list. Two strings have the same compiled bytes exactly if all parts of their versions are the
-   same, or all specifiers of their lists in the same order: `1.0` and ` v1.0` have the same bytes, and `1.0.0` has others, though the versions
+   Bytes denote at most one version or one list. Two strings have the same compiled bytes exactly if they have the same normal form: `1.0` and
+   ` v1.0` have the same bytes, and `1.0.0` has others, though the versions
    are equal. The order of compiled bytes is not that of the versions: pep440_compare_compiled and pep440_sort_key_compiled have that.
 
    A version takes ten bytes if it has a word (pep440_word), else 30, 8 for each number of its release and each suffix, and for each local
