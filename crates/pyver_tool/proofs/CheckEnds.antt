@@ -8,8 +8,8 @@ use Rattle.pyver_tool.specs.Runs.{WritesAnswer, WroteBeginning, memory_message}
 use Rattle.pyver_tool.specs.SourceViews.{Reports}
 use Rattle.pyver_tool.specs.Sources.{KnownFile, no_input, source_names}
 use Rattle.pyver_tool.specs.Tasks.{Check, IsOutcome, NeedsInput, Task}
-use Rattle.pyver_tool.specs.declared.stream.Stop.{Stop}
-use Rattle.pyver_tool.specs.declared.stream.Stop.TheVariants as stop
+use Rattle.pyver_tool.specs.declared.stream.RunFailure.{RunFailure}
+use Rattle.pyver_tool.specs.declared.stream.RunFailure.TheVariants as run_failure
 use Rattle.pyver_findings.specs.ReportTexts.{summary_text}
 use Rattle.pyver_findings.specs.Reports.{Report}
 
@@ -43,7 +43,7 @@ module _ {F R W E : Type 0} (known : F → List ℕ → KnownFile) (path : F →
   ends_checked o so kept checks written = same_check so (kept, inl (record { outcome = o; is = checks; written = written }))
 
   -- reading stopped, or an allocation failed after it
-  pub ends_unchecked : (why : Stop) (message : List ℕ) → task ≡ Check here there → known files' ≡ known files → StopsCheck (known files) (path files) remaining there reader reader' why → out' ≡ out → Reports why status message
+  pub ends_unchecked : (why : RunFailure) (message : List ℕ) → task ≡ Check here there → known files' ≡ known files → StopsCheck (known files) (path files) remaining there reader reader' why → out' ≡ out → Reports why status message
       → WroteBeginning (error_contents err) (error_contents err') message → EndsCheck known path remaining contents error_contents json names files files' reader reader' out out' err err' status
   ends_unchecked why message so kept stops silent reports errors = same_check so (kept, inr (record { why = why; stops = stops; message = message; reports = reports; silent = silent; errors = errors }))
 
@@ -52,7 +52,7 @@ module _ {F R W E : Type 0} (known : F → List ℕ → KnownFile) (path : F →
   -- an allocation failed before anything was read
   pub ends_unread : status ≡ 3 → WroteBeginning (error_contents err) (error_contents err') memory_message → EndsCheck known path remaining contents error_contents json names files files reader reader out out err err' status
   ends_unread three errors = let first = some_source names in
-      (refl, inr (record { why = stop.OutOfMemory; stops = inl (stops_at_once (known files) (path files) remaining (source_names names) first.0 first.1 reader first.2); message = memory_message; reports = (three, refl); silent = refl; errors = errors }))
+      (refl, inr (record { why = run_failure.OutOfMemory; stops = inl (stops_at_once (known files) (path files) remaining (source_names names) first.0 first.1 reader first.2); message = memory_message; reports = (three, refl); silent = refl; errors = errors }))
 
 -- the outcome of a report
 pub outcome_is : (output errors : List ℕ) (status : ℕ) (json : Bool) (r : Report) → output ≡ findings_text json r → errors ≡ summary_text r → status ≡ findings_status r.findings → record { output = output; errors = errors; status = status } ≡ report_outcome json r

@@ -7,13 +7,13 @@ use Rattle.std.specs.List.{flat_map}
 use Rattle.std.specs.Str.{IsUtf8}
 use Rattle.pyver_tool.specs.FileSteps.{GainsFile, HasNames, HasReads, OpensOrRefused, ReadsStep, GainsText, StepsOrRefused, names_of_files, read_of}
 use Rattle.pyver_tool.specs.RequirementFiles.{FilesRead, HasPath, ReadsFilesInTurn, ReadsFiles, ReadsNext, StopsInFile, StopsInFiles, has_path, none_read}
-use Rattle.pyver_tool.specs.SourceViews.{IsReadingStop}
+use Rattle.pyver_tool.specs.SourceViews.{IsReadingFailure}
 use Rattle.pyver_tool.specs.Sources.{KnownFile, MayOpen, is_input}
 use Rattle.pyver_tool.specs.Sources.{ReadsText as ReadsSourceText}
 use Rattle.pyver_tool.specs.declared.open_failure.OpenFailure.{OpenFailure}
 use Rattle.pyver_tool.specs.declared.requirement_files.RequirementFiles.{RequirementFiles}
-use Rattle.pyver_tool.specs.declared.stream.Stop.{Stop}
-use Rattle.pyver_tool.specs.declared.stream.Stop.TheVariants as stop
+use Rattle.pyver_tool.specs.declared.stream.RunFailure.{RunFailure}
+use Rattle.pyver_tool.specs.declared.stream.RunFailure.TheVariants as run_failure
 use Rattle.pyver_findings.specs.FileLines.{File}
 use Rattle.pyver_findings.specs.NamedFiles.{named_files}
 
@@ -52,7 +52,7 @@ module _ {R : Type 0} (files : List ℕ → KnownFile) (remaining : R → Option
   )
 
 module _ {R : Type 0} (files : List ℕ → KnownFile) (remaining : R → Option (List ℕ)) (name : List ℕ) where
-  pub input_stops : (why : Stop) (reader reader' : R) (text : List ℕ) → IsUtf8 name → is_input name ≡ true → Consumes (remaining reader) (remaining reader') text → IsReadingStop name why → StopsInFile files remaining name reader reader' why
+  pub input_stops : (why : RunFailure) (reader reader' : R) (text : List ℕ) → IsUtf8 name → is_input name ≡ true → Consumes (remaining reader) (remaining reader') text → IsReadingFailure name why → StopsInFile files remaining name reader reader' why
   input_stops why reader reader' text utf8 named consumed stops = inr (record {
     utf8 = utf8;
     text = text;
@@ -61,7 +61,7 @@ module _ {R : Type 0} (files : List ℕ → KnownFile) (remaining : R → Option
     stops = stops;
   })
 
-  pub file_stops : {S : Type 0} (left_of : S → Option (List ℕ)) (why : Stop) (file file' : S) (reader : R) (text : List ℕ) → IsUtf8 name → is_input name ≡ false → MayOpen (files name) (left_of file) → Consumes (left_of file) (left_of file') text → IsReadingStop name why
+  pub file_stops : {S : Type 0} (left_of : S → Option (List ℕ)) (why : RunFailure) (file file' : S) (reader : R) (text : List ℕ) → IsUtf8 name → is_input name ≡ false → MayOpen (files name) (left_of file) → Consumes (left_of file) (left_of file') text → IsReadingFailure name why
       → StopsInFile files remaining name reader reader why
   file_stops left_of why file file' reader text utf8 named opens consumed stops = inr (record {
     utf8 = utf8;
@@ -72,7 +72,7 @@ module _ {R : Type 0} (files : List ℕ → KnownFile) (remaining : R → Option
   })
 
   -- an allocation failed before anything was read
-  pub stops_before : (reader : R) → StopsInFile files remaining name reader reader stop.OutOfMemory
+  pub stops_before : (reader : R) → StopsInFile files remaining name reader reader run_failure.OutOfMemory
   stops_before reader = inl (refl, refl)
 
 -- ---- the names of the files
@@ -131,7 +131,7 @@ module _ {R : Type 0} (files : List ℕ → KnownFile) (paths : List ℕ → Opt
       ends = (refl, refuses);
     }
 
-    pub ends_stopped : HasNames first a → (why : Stop) → StopsInFile files remaining name middle reader' why → StopsInFiles files paths remaining first reader reader' why
+    pub ends_stopped : HasNames first a → (why : RunFailure) → StopsInFile files remaining name middle reader' why → StopsInFiles files paths remaining first reader reader' why
     ends_stopped h why part = record {
       done = front;
       name = name;
@@ -157,7 +157,7 @@ module _ {R : Type 0} (files : List ℕ → KnownFile) (paths : List ℕ → Opt
   }
 
   -- an allocation failed before anything was read
-  pub stops_at_once : (first : List (List ℕ)) (name : List ℕ) (left : List (List ℕ)) (reader : R) → first ≡ name ∷ left → StopsInFiles files paths remaining first reader reader stop.OutOfMemory
+  pub stops_at_once : (first : List (List ℕ)) (name : List ℕ) (left : List (List ℕ)) (reader : R) → first ≡ name ∷ left → StopsInFiles files paths remaining first reader reader run_failure.OutOfMemory
   stops_at_once first name left reader is = record {
     done = [];
     name = name;

@@ -29,7 +29,7 @@ use Rattle.pyver_tool.specs.ReadLines.{Entry, Header, IsEntry, IsRead, LineReadi
 use Rattle.pyver_tool.specs.Readings.{Reading, Reads, Denotes, Fails}
 use Rattle.pyver_tool.specs.Shows.{Shows, ShowsWord, show_outcome}
 use Rattle.pyver_tool.specs.Sorts.{SortsParts, sort_outcome}
-use Rattle.pyver_tool.specs.Sources.{Input, Unopened}
+use Rattle.pyver_tool.specs.Sources.{Input, UnopenedSource}
 use Rattle.pyver_tool.specs.Tasks.{Help, NameVersion, Compare, Match, Filter, Sort, Newest, Show, Bump, Range, Check, Misused}
 use Rattle.pyver_tool.specs.VersionLines.{InputParts, OfFound, OfSources, OfVersions, input_parts}
 use Rattle.pyver_tool.specs.declared.allowed.MatchOptions.{MatchOptions}
@@ -128,7 +128,7 @@ of_found_once how Gives once found a b (inl (none, h)) (inr (some, k)) = absurd 
 of_found_once how Gives once found a b (inr (some, h)) (inl (none, k)) = absurd (omega (arith, none, some))
 of_found_once how Gives once found a b (inr (some, is)) (inr (also, so)) = is ∙ sym so
 
-of_sources_once : (options : LineOptions) (Gives : InputParts → Outcome → Type 0) → ((parts : InputParts) (a b : Outcome) → Gives parts a → Gives parts b → a ≡ b) → (sources : List Source) (unopened : Option Unopened) (a b : Outcome)
+of_sources_once : (options : LineOptions) (Gives : InputParts → Outcome → Type 0) → ((parts : InputParts) (a b : Outcome) → Gives parts a → Gives parts b → a ≡ b) → (sources : List Source) (unopened : Option UnopenedSource) (a b : Outcome)
     → OfSources options Gives sources unopened a → OfSources options Gives sources unopened b → a ≡ b
 of_sources_once options Gives once sources None a b (es, h, is) (fs, k, so) =
     of_found_once options.invalid Gives once es a b is (subst (λ (l : List ReadLine). OfFound options.invalid Gives l b) (sym (all_once (IsRead options) (is_read_once options) (filled_lines sources) es fs h k)) so)

@@ -11,13 +11,13 @@ use Rattle.pyver_tool.specs.Matches.{DenotesList}
 use Rattle.pyver_tool.specs.Newest.{newest_rule}
 use Rattle.pyver_tool.specs.Outcomes.{Outcome}
 use Rattle.pyver_tool.specs.Runs.{Ends, IsLast, IsReadMessage, ReadsSome, WritesAnswer, WroteBeginning, memory_message}
-use Rattle.pyver_tool.specs.SourceViews.{IsStopOf, Reports}
+use Rattle.pyver_tool.specs.SourceViews.{IsRunFailureOf, Reports}
 use Rattle.pyver_tool.specs.Sources.{Input, KnownFile, ReadsFirst, ReadsInput, StopsReading, input_name, last_name, no_input, source_names}
 use Rattle.pyver_tool.specs.Tasks.{Bump, Check, Compare, Filter, Help, IsOutcome, IsStream, Match, Misused, NameVersion, NeedsInput, Newest, Range, Show, Sort, Task, names_of, task_of}
 use Rattle.pyver_tool.specs.WholeInputs.{AnswersInput, ReadsUnused, WholeFinishes, WholeStops}
 use Rattle.pyver_tool.specs.declared.filter.FilterRule.{FilterRule}
-use Rattle.pyver_tool.specs.declared.stream.Stop.{Stop}
-use Rattle.pyver_tool.specs.declared.stream.Stop.TheVariants as stop
+use Rattle.pyver_tool.specs.declared.stream.RunFailure.{RunFailure}
+use Rattle.pyver_tool.specs.declared.stream.RunFailure.TheVariants as run_failure
 use Rattle.pyver_tool.specs.declared.whole_input.Question.{Question}
 use Rattle.pyver_tool.specs.declared.whole_input.Question.TheVariants as question
 
@@ -59,16 +59,16 @@ first_source (Misused message) n = absurd n
 
 -- ---- how a run that stopped ends
 
-is_last : (last : Option (List ℕ)) (why : Stop) (status : ℕ) (message : List ℕ) → IsStopOf last why → Reports why status message → IsLast last status message
-is_last last stop.OutOfMemory status message is h = inl h
-is_last last stop.Read status message is h = inr (inl (h.0, subst (IsReadMessage last) (sym h.1) is))
-is_last last (stop.ReadFile told) status message is h = inr (inl (h.0, subst (IsReadMessage last) (sym h.1) is))
-is_last last (stop.Output failure) status message is h = inr (inr h)
-is_last last (stop.Errors failure) status message is h = inr (inr h)
+is_last : (last : Option (List ℕ)) (why : RunFailure) (status : ℕ) (message : List ℕ) → IsRunFailureOf last why → Reports why status message → IsLast last status message
+is_last last run_failure.OutOfMemory status message is h = inl h
+is_last last run_failure.Read status message is h = inr (inl (h.0, subst (IsReadMessage last) (sym h.1) is))
+is_last last (run_failure.ReadFile told) status message is h = inr (inl (h.0, subst (IsReadMessage last) (sym h.1) is))
+is_last last (run_failure.Output failure) status message is h = inr (inr h)
+is_last last (run_failure.Errors failure) status message is h = inr (inr h)
 
 -- the status where an allocation failed
-memory_status : (why : Stop) (status : ℕ) (message : List ℕ) → Reports why status message → why ≡ stop.OutOfMemory → status ≡ 3
-memory_status why status message reports memory = (subst (λ (w : Stop). Reports w status message) memory reports).0
+memory_status : (why : RunFailure) (status : ℕ) (message : List ℕ) → Reports why status message → why ≡ run_failure.OutOfMemory → status ≡ 3
+memory_status why status message reports memory = (subst (λ (w : RunFailure). Reports w status message) memory reports).0
 
 not_low : (last : Option (List ℕ)) (status : ℕ) (message : List ℕ) → IsLast last status message → status ≤ 2 → ⊥
 not_low last status message (inl h) low = absurd (omega (arith, h.0, low))
@@ -166,16 +166,16 @@ module _ {F R W E : Type 0} (known : F → List ℕ → KnownFile) (remaining : 
       ends_by_all k.input k.outcome needs kept low (subst (λ n. ReadsInput (known files) remaining n reader reader' k.input) (sym same) k.reads) (is k.input k.outcome k.is) k.output k.errors k.ended
 
   -- what was read and written before the last message
-  pub record Began (why : Stop) (told : E) : Type 0 where
+  pub record Began (why : RunFailure) (told : E) : Type 0 where
     pub input : Input
     pub read : ReadsSome known remaining contents error_contents words files reader reader' status input
     pub outcome : Outcome
     pub is : IsOutcome (task_of words) input outcome
     pub output : WroteBeginning (contents out) (contents out') outcome.output
     pub errors : WroteBeginning (error_contents err) (error_contents told) outcome.errors
-    pub stops : IsStopOf (last_name input.sources) why
+    pub stops : IsRunFailureOf (last_name input.sources) why
 
-  pub filter_began : (rule : FilterRule) (names : List (List ℕ)) (why : Stop) (told : E) (message : List ℕ) → Reports why status message → IsStream (task_of words) → names_of (task_of words) ≡ names → ((input : Input) (o : Outcome) → Filters rule input o → IsOutcome (task_of words) input o)
+  pub filter_began : (rule : FilterRule) (names : List (List ℕ)) (why : RunFailure) (told : E) (message : List ℕ) → Reports why status message → IsStream (task_of words) → names_of (task_of words) ≡ names → ((input : Input) (o : Outcome) → Filters rule input o → IsOutcome (task_of words) input o)
       → FilterStops (known files) remaining contents error_contents rule names reader reader' out out' err told why → Began why told
   filter_began rule names why told message reports stream same is k = record {
     input = k.input;
@@ -187,14 +187,14 @@ module _ {F R W E : Type 0} (known : F → List ℕ → KnownFile) (remaining : 
     stops = k.stops;
   }
     where
-      some_of : ReadsInput (known files) remaining names reader reader' k.input ⊎ (StopsReading (known files) remaining (why ≡ stop.OutOfMemory) names reader reader' k.input.sources × (k.input.unopened ≡ None))
+      some_of : ReadsInput (known files) remaining names reader reader' k.input ⊎ (StopsReading (known files) remaining (why ≡ run_failure.OutOfMemory) names reader reader' k.input.sources × (k.input.unopened ≡ None))
           → ReadsSome known remaining contents error_contents words files reader reader' status k.input
       some_of (inl r) = inl (subst (λ n. ReadsInput (known files) remaining n reader reader' k.input) (sym same) r)
       some_of (inr r) =
-          let stopped = stops_by (known files) remaining (why ≡ stop.OutOfMemory) (status ≡ 3) (memory_status why status message reports) names reader reader' k.input.sources r.0 in
+          let stopped = stops_by (known files) remaining (why ≡ run_failure.OutOfMemory) (status ≡ 3) (memory_status why status message reports) names reader reader' k.input.sources r.0 in
           inr (k.input.sources, inr (subst (λ n. StopsReading (known files) remaining (status ≡ 3) n reader reader' k.input.sources) (sym same) stopped), (r.1, λ _. refl, λ whole. absurd (whole stream)))
 
-  pub whole_began : (asked : Question) (names : List (List ℕ)) (why : Stop) (told : E) (message : List ℕ) → Reports why status message → ¬ IsStream (task_of words) → names_of (task_of words) ≡ names → ((input : Input) (o : Outcome) → AnswersInput asked input o → IsOutcome (task_of words) input o)
+  pub whole_began : (asked : Question) (names : List (List ℕ)) (why : RunFailure) (told : E) (message : List ℕ) → Reports why status message → ¬ IsStream (task_of words) → names_of (task_of words) ≡ names → ((input : Input) (o : Outcome) → AnswersInput asked input o → IsOutcome (task_of words) input o)
       → WholeStops (known files) remaining contents error_contents asked names reader reader' out out' err told why → Began why told
   whole_began asked names why told message reports whole same is k = record {
     input = k.input;
@@ -209,11 +209,11 @@ module _ {F R W E : Type 0} (known : F → List ℕ → KnownFile) (remaining : 
       some_of : ReadsUnused (known files) remaining contents error_contents names reader reader' k.input why → ReadsSome known remaining contents error_contents words files reader reader' status k.input
       some_of (inl r) = inl (subst (λ n. ReadsInput (known files) remaining n reader reader' k.input) (sym same) r)
       some_of (inr (read, first, none, without)) =
-          let reads = first_by (known files) remaining (why ≡ stop.OutOfMemory) (status ≡ 3) (memory_status why status message reports) names reader reader' read first in
+          let reads = first_by (known files) remaining (why ≡ run_failure.OutOfMemory) (status ≡ 3) (memory_status why status message reports) names reader reader' read first in
           inr (read, subst (λ n. ReadsFirst (known files) remaining (status ≡ 3) n reader reader' read) (sym same) reads, (none, λ stream. absurd (whole stream), λ _. without))
 
   -- a run stopped, and then the last message was written
-  pub ends_by_stop : (why : Stop) (told : E) (message : List ℕ) → NeedsInput (task_of words) → known files' ≡ known files → Began why told → Reports why status message → WroteBeginning (error_contents told) (error_contents err') message
+  pub ends_by_stop : (why : RunFailure) (told : E) (message : List ℕ) → NeedsInput (task_of words) → known files' ≡ known files → Began why told → Reports why status message → WroteBeginning (error_contents told) (error_contents err') message
       → Ends known remaining contents error_contents words files files' reader reader' out out' err err' status
   ends_by_stop why told message needs same k reports wrote =
       let last = is_last (last_name k.input.sources) why status message k.stops reports in

@@ -13,13 +13,13 @@ use Rattle.pyver_tool.specs.InputLines.{Origin, Source, input_lines}
 use Rattle.pyver_tool.specs.InvalidLines.{last_message, lines_status, message_limit}
 use Rattle.pyver_tool.specs.ReadLines.{IsRead, faults}
 use Rattle.pyver_tool.specs.Runs.{WroteBeginning}
-use Rattle.pyver_tool.specs.SourceViews.{IsStopOf}
-use Rattle.pyver_tool.specs.Sources.{KnownFile, MayOpen, ReadsAll, ReadsSource, ReadsText, Unopened, input_name, input_origin, is_input, is_none, last_name, source_names, unopened_message, unopened_status}
+use Rattle.pyver_tool.specs.SourceViews.{IsRunFailureOf}
+use Rattle.pyver_tool.specs.Sources.{KnownFile, MayOpen, ReadsAll, ReadsSource, ReadsText, UnopenedSource, input_name, input_origin, is_input, is_none, last_name, source_names, unopened_message, unopened_status}
 use Rattle.pyver_tool.specs.declared.filter.FilterRule.{FilterRule}
 use Rattle.pyver_tool.specs.declared.filter.FilterState.{FilterState}
 use Rattle.pyver_tool.specs.declared.open_failure.OpenFailure.{OpenFailure}
-use Rattle.pyver_tool.specs.declared.stream.Stop.{Stop}
-use Rattle.pyver_tool.specs.declared.stream.Stop.TheVariants as stop
+use Rattle.pyver_tool.specs.declared.stream.RunFailure.{RunFailure}
+use Rattle.pyver_tool.specs.declared.stream.RunFailure.TheVariants as run_failure
 
 pub last_is : (sources : List Source) (source : Source) → last_name (sources ++ source ∷ []) ≡ Some source.origin.name
 last_is [] source = refl
@@ -69,7 +69,7 @@ module _ {R W E : Type 0} (files : List ℕ → KnownFile) (remaining : R → Op
     wrote = k.wrote;
   }
 
-  pub input_stops : (reader reader' : R) (out out' : W) (err err' : E) (stop : Stop) → is_input origin.name ≡ true → SourceStops remaining contents error_contents rule origin earlier reader reader' out out' err err' → IsStopOf (Some origin.name) stop
+  pub input_stops : (reader reader' : R) (out out' : W) (err err' : E) (stop : RunFailure) → is_input origin.name ≡ true → SourceStops remaining contents error_contents rule origin earlier reader reader' out out' err err' → IsRunFailureOf (Some origin.name) stop
       → OneStops files remaining contents error_contents rule origin earlier reader reader' out out' err err' stop
   input_stops reader reader' out out' err err' stop named k stops = inr (record {
     source = record { origin = origin; lines = k.front };
@@ -100,8 +100,8 @@ module _ {R W E : Type 0} (files : List ℕ → KnownFile) (remaining : R → Op
     wrote = k.wrote;
   }
 
-  pub file_stops : {S : Type 0} (left_of : S → Option (List ℕ)) (file file' : S) (reader : R) (out out' : W) (err err' : E) (stop : Stop) → is_input origin.name ≡ false → MayOpen (files origin.name) (left_of file)
-      → SourceStops left_of contents error_contents rule origin earlier file file' out out' err err' → IsStopOf (Some origin.name) stop → OneStops files remaining contents error_contents rule origin earlier reader reader out out' err err' stop
+  pub file_stops : {S : Type 0} (left_of : S → Option (List ℕ)) (file file' : S) (reader : R) (out out' : W) (err err' : E) (stop : RunFailure) → is_input origin.name ≡ false → MayOpen (files origin.name) (left_of file)
+      → SourceStops left_of contents error_contents rule origin earlier file file' out out' err err' → IsRunFailureOf (Some origin.name) stop → OneStops files remaining contents error_contents rule origin earlier reader reader out out' err err' stop
   file_stops left_of file file' reader out out' err err' stop named opens k stops = inr (record {
     source = record { origin = origin; lines = k.front };
     lines = record {
@@ -118,7 +118,7 @@ module _ {R W E : Type 0} (files : List ℕ → KnownFile) (remaining : R → Op
   })
 
   -- an allocation failed before the file was opened
-  pub unopened_stops : (reader : R) (out : W) (err : E) → is_input origin.name ≡ false → OneStops files remaining contents error_contents rule origin earlier reader reader out out err err stop.OutOfMemory
+  pub unopened_stops : (reader : R) (out : W) (err : E) → is_input origin.name ≡ false → OneStops files remaining contents error_contents rule origin earlier reader reader out out err err run_failure.OutOfMemory
   unopened_stops reader out err named = inl (record { file = named; memory = refl; reader_kept = refl; out_kept = refl; err_kept = refl })
 
 -- ---- one source after another
@@ -196,7 +196,7 @@ module _ {R W E : Type 0} (files : List ℕ → KnownFile) (remaining : R → Op
           (subst (λ o. WroteAll contents error_contents rule k.sources b out o err err'') (sym m.out_kept) (subst (λ e. WroteAll contents error_contents rule k.sources b out out' err e) (sym m.err_kept) k.wrote));
     }
 
-    pub goes_on_stops : (next : List ℕ) (left : List (List ℕ)) (why : Stop) → OneStops files remaining contents error_contents rule (record { is_first = is_none read; name = next }) b.fault_count reader' reader'' out' out'' err' err'' why
+    pub goes_on_stops : (next : List ℕ) (left : List (List ℕ)) (why : RunFailure) → OneStops files remaining contents error_contents rule (record { is_first = is_none read; name = next }) b.fault_count reader' reader'' out' out'' err' err'' why
         → AllStop files remaining contents error_contents rule (read ++ next ∷ left) reader reader'' out out'' err err'' why
     goes_on_stops next left why (inl m) =
         let w = k.wrote in
@@ -208,7 +208,7 @@ module _ {R W E : Type 0} (files : List ℕ → KnownFile) (remaining : R → Op
           are = w.are;
           output = subst (λ o. WroteBeginning (contents out) (contents o) (printed_lines rule w.found)) (sym m.out_kept) (wrote_front _ _ (printed_lines rule w.found) [] _ w.output (sym (append-nil (printed_lines rule w.found))));
           errors = subst (λ e. WroteBeginning (error_contents err) (error_contents e) first) (sym m.err_kept) (wrote_front _ _ first [] _ w.errors (sym (append-nil first)));
-          stops = subst (IsStopOf (last_name k.sources)) (sym m.memory) tt;
+          stops = subst (IsRunFailureOf (last_name k.sources)) (sym m.memory) tt;
         }
     goes_on_stops next left why (inr m) =
         let w = k.wrote in
@@ -222,7 +222,7 @@ module _ {R W E : Type 0} (files : List ℕ → KnownFile) (remaining : R → Op
           output = began _ _ _ (printed_lines rule w.found) (printed_lines rule n.found) [] _ w.output n.output (printed_lines-append rule w.found n.found ∙ sym (append-nil (printed_lines rule w.found ++ printed_lines rule n.found)));
           errors = began _ _ _ (concat (take limit (faults w.found))) (concat (take (limit - b.fault_count) (faults n.found))) [] _ w.errors n.errors
               (first-append limit (limit - b.fault_count) w.found n.found (ap (λ x. limit - x) w.fault_count) ∙ sym (append-nil _));
-          stops = subst (λ l. IsStopOf l why) (sym (last_is k.sources m.source ∙ ap (λ (o : Origin). Some o.name) m.lines.is)) m.stops;
+          stops = subst (λ l. IsRunFailureOf l why) (sym (last_is k.sources m.source ∙ ap (λ (o : Origin). Some o.name) m.lines.is)) m.stops;
         }
 
   pub goes_on_ends : (rule : FilterRule) (read : List (List ℕ)) (b : FilterState) (reader reader' : R) (out out' : W) (err err' : E) → GoesOn rule read b reader reader' out out' err err'
@@ -243,8 +243,8 @@ module _ {R W E : Type 0} (files : List ℕ → KnownFile) (remaining : R → Op
       (goes_on_more rule [] a reader reader reader' out out out' err err err' (goes_on_none rule a reader out err fault output errors) input_name b
       (input_reads files remaining contents error_contents rule input_origin a.fault_count b reader reader' out out' err err' refl k)))
 
-  pub alone_stops : (rule : FilterRule) (names : List (List ℕ)) (a : FilterState) (reader reader' : R) (out out' : W) (err err' : E) (stop : Stop) → names ≡ [] → a.fault_count ≡ 0 → a.output.items ≡ [] → a.errors.items ≡ []
-      → SourceStops remaining contents error_contents rule input_origin a.fault_count reader reader' out out' err err' → IsStopOf (Some input_name) stop
+  pub alone_stops : (rule : FilterRule) (names : List (List ℕ)) (a : FilterState) (reader reader' : R) (out out' : W) (err err' : E) (stop : RunFailure) → names ≡ [] → a.fault_count ≡ 0 → a.output.items ≡ [] → a.errors.items ≡ []
+      → SourceStops remaining contents error_contents rule input_origin a.fault_count reader reader' out out' err err' → IsRunFailureOf (Some input_name) stop
       → AllStop files remaining contents error_contents rule (source_names names) reader reader' out out' err err' stop
   alone_stops rule names a reader reader' out out' err err' stop empty fault output errors k stops =
       subst (λ n. AllStop files remaining contents error_contents rule (source_names n) reader reader' out out' err err' stop) (sym empty)
@@ -253,9 +253,9 @@ module _ {R W E : Type 0} (files : List ℕ → KnownFile) (remaining : R → Op
 
   -- ---- the end
 
-  module _ (rule : FilterRule) (names : List (List ℕ)) (unopened : Option Unopened) (b : FilterState) (reader reader' : R) (out out' : W) (err err' : E) (k : AllFinish files remaining contents error_contents rule names unopened b reader reader' out out' err err') where
+  module _ (rule : FilterRule) (names : List (List ℕ)) (unopened : Option UnopenedSource) (b : FilterState) (reader reader' : R) (out out' : W) (err err' : E) (k : AllFinish files remaining contents error_contents rule names unopened b reader reader' out out' err err') where
     -- nothing more was written
-    pub stops_at_end : (stop : Stop) → IsStopOf (last_name k.sources) stop → FilterStops files remaining contents error_contents rule names reader reader' out out' err err' stop
+    pub stops_at_end : (stop : RunFailure) → IsRunFailureOf (last_name k.sources) stop → FilterStops files remaining contents error_contents rule names reader reader' out out' err err' stop
     stops_at_end stop stops = let w = k.wrote in record {
       input = record { sources = k.sources; unopened = unopened };
       reads = inl k.reads;
@@ -288,7 +288,7 @@ module _ {R W E : Type 0} (files : List ℕ → KnownFile) (remaining : R → Op
       }
 
       -- a beginning was written
-      pub stops_at_last : (stop : Stop) → IsStopOf (last_name k.sources) stop → WroteBeginning (contents out') (contents out'') c.output.items → WroteBeginning (error_contents err') (error_contents err'') c.errors.items
+      pub stops_at_last : (stop : RunFailure) → IsRunFailureOf (last_name k.sources) stop → WroteBeginning (contents out') (contents out'') c.output.items → WroteBeginning (error_contents err') (error_contents err'') c.errors.items
           → FilterStops files remaining contents error_contents rule names reader reader' out out'' err err'' stop
       stops_at_last stop stops output errors = let w = k.wrote in record {
         input = record { sources = k.sources; unopened = unopened };
@@ -303,7 +303,7 @@ module _ {R W E : Type 0} (files : List ℕ → KnownFile) (remaining : R → Op
       }
 
   -- a run that stopped before the end of the sources
-  pub stops_before : (rule : FilterRule) (names : List (List ℕ)) (reader reader' : R) (out out' : W) (err err' : E) (stop : Stop) → AllStop files remaining contents error_contents rule names reader reader' out out' err err' stop
+  pub stops_before : (rule : FilterRule) (names : List (List ℕ)) (reader reader' : R) (out out' : W) (err err' : E) (stop : RunFailure) → AllStop files remaining contents error_contents rule names reader reader' out out' err err' stop
       → FilterStops files remaining contents error_contents rule names reader reader' out out' err err' stop
   stops_before rule names reader reader' out out' err err' stop k = record {
     input = record { sources = k.sources; unopened = None };
@@ -330,7 +330,7 @@ module _ {R W E : Type 0} (files files' : List ℕ → KnownFile) (remaining : R
       subst (λ f. OneRefuses f remaining contents error_contents (record { is_first = is_none read; name = next }) failure a b reader reader' out out' err err') same
       (subst (λ first. OneRefuses files' remaining contents error_contents (record { is_first = first; name = next }) failure a b reader reader' out out' err err') is k)
 
-  pub same_stops : (earlier : ℕ) (reader reader' : R) (out out' : W) (err err' : E) (stop : Stop) → OneStops files' remaining contents error_contents rule (record { is_first = first; name = next }) earlier reader reader' out out' err err' stop
+  pub same_stops : (earlier : ℕ) (reader reader' : R) (out out' : W) (err err' : E) (stop : RunFailure) → OneStops files' remaining contents error_contents rule (record { is_first = first; name = next }) earlier reader reader' out out' err err' stop
       → OneStops files remaining contents error_contents rule (record { is_first = is_none read; name = next }) earlier reader reader' out out' err err' stop
   same_stops earlier reader reader' out out' err err' stop k =
       subst (λ f. OneStops f remaining contents error_contents rule (record { is_first = is_none read; name = next }) earlier reader reader' out out' err err' stop) same

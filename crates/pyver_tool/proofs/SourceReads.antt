@@ -7,12 +7,12 @@ use Rattle.pyver_tool.proofs.Keeping.{size_of-append}
 use Rattle.pyver_tool.proofs.SourceFilters.{last_is, reads_last}
 use Rattle.pyver_tool.specs.InputLines.{Origin, Source, input_lines}
 use Rattle.pyver_tool.specs.SourceTexts.{StopsInSources, GainsSource, StopsInSource, ReadsTo, size_of, source_of}
-use Rattle.pyver_tool.specs.SourceViews.{IsStopOf}
+use Rattle.pyver_tool.specs.SourceViews.{IsRunFailureOf}
 use Rattle.pyver_tool.specs.Sources.{KnownFile, MayOpen, ReadsAll, ReadsInput, ReadsLines, ReadsSource, ReadsText, input_name, input_origin, is_input, is_none, last_name, source_names}
 use Rattle.pyver_tool.specs.declared.open_failure.OpenFailure.{OpenFailure}
 use Rattle.pyver_tool.specs.declared.source_texts.SourceText.{SourceText}
-use Rattle.pyver_tool.specs.declared.stream.Stop.{Stop}
-use Rattle.pyver_tool.specs.declared.stream.Stop.TheVariants as stop
+use Rattle.pyver_tool.specs.declared.stream.RunFailure.{RunFailure}
+use Rattle.pyver_tool.specs.declared.stream.RunFailure.TheVariants as run_failure
 
 -- one text more
 pub size_pushed : (xs : List SourceText) (x : SourceText) → size_of (xs ++ x ∷ []) ≡ size_of xs + (length x.text.items + 1)
@@ -51,25 +51,25 @@ module _ {R : Type 0} (files : List ℕ → KnownFile) (remaining : R → Option
   )
 
   -- no line is reported
-  part_read : (stop : Stop) (reader reader' : R) (text : List ℕ) (left : Option (List ℕ)) → ReadsText files remaining (is_input origin.name) (files origin.name) reader reader' text left → IsStopOf (Some origin.name) stop → StopsInSource files remaining origin reader reader' stop
+  part_read : (stop : RunFailure) (reader reader' : R) (text : List ℕ) (left : Option (List ℕ)) → ReadsText files remaining (is_input origin.name) (files origin.name) reader reader' text left → IsRunFailureOf (Some origin.name) stop → StopsInSource files remaining origin reader reader' stop
   part_read stop reader reader' text left reads stops = inr (
     record { origin = origin; lines = [] },
     record { text = text; left = left; reads = reads; rest = input_lines text; split = refl; whole = λ none. absurd (some_line text none); is = refl },
     stops,
   )
 
-  pub input_stopped : (stop : Stop) (reader reader' : R) (text : List ℕ) → is_input origin.name ≡ true → Consumes (remaining reader) (remaining reader') text → IsStopOf (Some origin.name) stop → StopsInSource files remaining origin reader reader' stop
+  pub input_stopped : (stop : RunFailure) (reader reader' : R) (text : List ℕ) → is_input origin.name ≡ true → Consumes (remaining reader) (remaining reader') text → IsRunFailureOf (Some origin.name) stop → StopsInSource files remaining origin reader reader' stop
   input_stopped stop reader reader' text named consumed stops =
       part_read stop reader reader' text (remaining reader') (subst (λ t. ReadsText files remaining t (files origin.name) reader reader' text (remaining reader')) (sym named) (consumed, refl)) stops
 
-  pub file_stopped : {S : Type 0} (left_of : S → Option (List ℕ)) (stop : Stop) (file file' : S) (reader : R) (text : List ℕ) → is_input origin.name ≡ false → MayOpen (files origin.name) (left_of file) → Consumes (left_of file) (left_of file') text → IsStopOf (Some origin.name) stop
+  pub file_stopped : {S : Type 0} (left_of : S → Option (List ℕ)) (stop : RunFailure) (file file' : S) (reader : R) (text : List ℕ) → is_input origin.name ≡ false → MayOpen (files origin.name) (left_of file) → Consumes (left_of file) (left_of file') text → IsRunFailureOf (Some origin.name) stop
       → StopsInSource files remaining origin reader reader stop
   file_stopped left_of stop file file' reader text named opens consumed stops =
       part_read stop reader reader text (left_of file')
       (subst (λ t. ReadsText files remaining t (files origin.name) reader reader text (left_of file')) (sym named) (left_of file, opens, consumed, refl)) stops
 
   -- an allocation failed before the file was opened
-  pub unopened_stopped : (reader : R) → is_input origin.name ≡ false → StopsInSource files remaining origin reader reader stop.OutOfMemory
+  pub unopened_stopped : (reader : R) → is_input origin.name ≡ false → StopsInSource files remaining origin reader reader run_failure.OutOfMemory
   unopened_stopped reader named = inl (named, refl, refl)
 
 -- ---- one source after another
@@ -90,11 +90,11 @@ module _ {R : Type 0} (files : List ℕ → KnownFile) (remaining : R → Option
     ends = (refl, named, refuses);
   }
 
-  pub all_stopped : (left : List (List ℕ)) (why : Stop) → StopsInSource files remaining (record { is_first = first; name = next }) reader' reader'' why → StopsInSources files remaining (read ++ next ∷ left) reader reader'' why
+  pub all_stopped : (left : List (List ℕ)) (why : RunFailure) → StopsInSource files remaining (record { is_first = first; name = next }) reader' reader'' why → StopsInSources files remaining (read ++ next ∷ left) reader reader'' why
   all_stopped left why (inl (named, memory, kept)) = (
     a,
     inr (memory, record { read = read; name = next; left = left; split = refl; whole = subst (λ r. ReadsAll files remaining true read reader r a) (sym kept) k }),
-    subst (IsStopOf (last_name a)) (sym memory) tt,
+    subst (IsRunFailureOf (last_name a)) (sym memory) tt,
   )
   all_stopped left why (inr (part, lines, stops)) = (
     a ++ part ∷ [],
@@ -110,7 +110,7 @@ module _ {R : Type 0} (files : List ℕ → KnownFile) (remaining : R → Option
       lines = subst (λ f. ReadsLines files remaining (record { is_first = f; name = next }) reader' reader'' part) is lines;
       are = refl;
     }),
-    subst (λ l. IsStopOf l why) (sym (last_is a part ∙ ap (λ (o : Origin). Some o.name) lines.is)) stops,
+    subst (λ l. IsRunFailureOf l why) (sym (last_is a part ∙ ap (λ (o : Origin). Some o.name) lines.is)) stops,
   )
 
 module _ {R : Type 0} (files : List ℕ → KnownFile) (remaining : R → Option (List ℕ)) where
@@ -123,7 +123,7 @@ module _ {R : Type 0} (files : List ℕ → KnownFile) (remaining : R → Option
       subst (λ n. ReadsInput files remaining (source_names n) reader reader' (record { sources = b; unopened = None })) (sym empty)
       (all_ends (source_names []) b reader reader' (all_more files remaining [] true input_name a b reader reader reader' refl (refl, none) (input_read files remaining input_origin a b reader reader' refl k)))
 
-  pub alone_stopped : (names : List (List ℕ)) (stop : Stop) (reader reader' : R) (text : List ℕ) → names ≡ [] → Consumes (remaining reader) (remaining reader') text → IsStopOf (Some input_name) stop → StopsInSources files remaining (source_names names) reader reader' stop
+  pub alone_stopped : (names : List (List ℕ)) (stop : RunFailure) (reader reader' : R) (text : List ℕ) → names ≡ [] → Consumes (remaining reader) (remaining reader') text → IsRunFailureOf (Some input_name) stop → StopsInSources files remaining (source_names names) reader reader' stop
   alone_stopped names stop reader reader' text empty consumed stops =
       subst (λ n. StopsInSources files remaining (source_names n) reader reader' stop) (sym empty)
       (all_stopped files remaining [] true input_name [] [] reader reader reader' refl (refl, refl) [] stop (input_stopped files remaining input_origin stop reader reader' text refl consumed stops))

@@ -13,15 +13,15 @@ use Rattle.pyver_tool.specs.Outcomes.{Outcome}
 use Rattle.pyver_tool.specs.ReadLines.{IsRead}
 use Rattle.pyver_tool.specs.Runs.{WroteBeginning}
 use Rattle.pyver_tool.specs.Sorts.{sort_outcome}
-use Rattle.pyver_tool.specs.SourceViews.{IsStopOf}
-use Rattle.pyver_tool.specs.Sources.{Input, KnownFile, ReadsFirst, ReadsInput, Unopened, last_name, without_lines}
+use Rattle.pyver_tool.specs.SourceViews.{IsRunFailureOf}
+use Rattle.pyver_tool.specs.Sources.{Input, KnownFile, ReadsFirst, ReadsInput, UnopenedSource, last_name, without_lines}
 use Rattle.pyver_tool.specs.VersionLines.{line_messages, input_parts, unopened_outcome}
 use Rattle.pyver_tool.specs.WholeInputs.{AnswersInput, WholeStops}
 use Rattle.pyver_tool.specs.declared.invalid_lines.InvalidLines.{InvalidLines}
 use Rattle.pyver_tool.specs.declared.invalid_lines.InvalidLines.TheVariants as invalid
 use Rattle.pyver_tool.specs.declared.line_options.LineOptions.{LineOptions}
-use Rattle.pyver_tool.specs.declared.stream.Stop.{Stop}
-use Rattle.pyver_tool.specs.declared.stream.Stop.TheVariants as stop
+use Rattle.pyver_tool.specs.declared.stream.RunFailure.{RunFailure}
+use Rattle.pyver_tool.specs.declared.stream.RunFailure.TheVariants as run_failure
 use Rattle.pyver_tool.specs.declared.whole_input.Question.{Question}
 use Rattle.pyver_tool.specs.declared.whole_input.Question.TheVariants as question
 
@@ -55,9 +55,9 @@ unused (question.Newest rule) sources =
 wrote_nothing : (old : Option (List ℕ)) (all : List ℕ) → WroteBeginning old old all
 wrote_nothing old all = record { written = []; left = all; wrote = Appends-nil old; whole = refl }
 
-module _ {R W E : Type 0} (files : List ℕ → KnownFile) (remaining : R → Option (List ℕ)) (contents : W → Option (List ℕ)) (error_contents : E → Option (List ℕ)) (asked : Question) (names : List (List ℕ)) (reader reader' : R) (out out' : W) (err err' : E) (why : Stop) where
+module _ {R W E : Type 0} (files : List ℕ → KnownFile) (remaining : R → Option (List ℕ)) (contents : W → Option (List ℕ)) (error_contents : E → Option (List ℕ)) (asked : Question) (names : List (List ℕ)) (reader reader' : R) (out out' : W) (err err' : E) (why : RunFailure) where
   -- nothing was written, and no line was used
-  pub stops_unused : (sources : List Source) → ReadsFirst files remaining (why ≡ stop.OutOfMemory) names reader reader' sources → IsStopOf (last_name sources) why → WholeStops files remaining contents error_contents asked names reader reader' out out err err why
+  pub stops_unused : (sources : List Source) → ReadsFirst files remaining (why ≡ run_failure.OutOfMemory) names reader reader' sources → IsRunFailureOf (last_name sources) why → WholeStops files remaining contents error_contents asked names reader reader' out out err err why
   stops_unused sources reads stops = let none = unused asked sources in record {
     input = record { sources = without_lines sources; unopened = None };
     reads = inr (sources, reads, refl, refl);
@@ -65,11 +65,11 @@ module _ {R W E : Type 0} (files : List ℕ → KnownFile) (remaining : R → Op
     is = none.1;
     output = wrote_nothing (contents out) none.0.output;
     errors = wrote_nothing (error_contents err) none.0.errors;
-    stops = subst (λ l. IsStopOf l why) (sym (last_without sources)) stops;
+    stops = subst (λ l. IsRunFailureOf l why) (sym (last_without sources)) stops;
   }
 
   -- nothing was written after all was read
-  pub stops_silent : (sources : List Source) (unopened : Option Unopened) → ReadsInput files remaining names reader reader' (record { sources = sources; unopened = unopened }) → IsStopOf (last_name sources) why
+  pub stops_silent : (sources : List Source) (unopened : Option UnopenedSource) → ReadsInput files remaining names reader reader' (record { sources = sources; unopened = unopened }) → IsRunFailureOf (last_name sources) why
       → WholeStops files remaining contents error_contents asked names reader reader' out out err err why
   stops_silent sources None reads stops = stops_unused sources (inl reads) stops
   stops_silent sources (Some file) reads stops = record {
@@ -84,6 +84,6 @@ module _ {R W E : Type 0} (files : List ℕ → KnownFile) (remaining : R → Op
 
   -- a beginning was written
   pub stops_written : (input : Input) (o : Outcome) → ReadsInput files remaining names reader reader' input → AnswersInput asked input o
-      → WroteBeginning (contents out) (contents out') o.output → WroteBeginning (error_contents err) (error_contents err') o.errors → IsStopOf (last_name input.sources) why
+      → WroteBeginning (contents out) (contents out') o.output → WroteBeginning (error_contents err) (error_contents err') o.errors → IsRunFailureOf (last_name input.sources) why
       → WholeStops files remaining contents error_contents asked names reader reader' out out' err err' why
   stops_written input o reads is output errors stops = record { input = input; reads = inl reads; outcome = o; is = is; output = output; errors = errors; stops = stops }

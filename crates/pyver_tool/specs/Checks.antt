@@ -4,10 +4,10 @@ use Rattle.pyver_tool.specs.Outcomes.{Outcome}
 use Rattle.pyver_tool.specs.RequirementFiles.{FilesFound, ReadsFiles, StopsInFiles}
 use Rattle.pyver_tool.specs.Runs.{WritesAnswer, WroteBeginning}
 use Rattle.pyver_tool.specs.SourceViews.{Reports}
-use Rattle.pyver_tool.specs.Sources.{KnownFile, Unopened, source_names}
+use Rattle.pyver_tool.specs.Sources.{KnownFile, UnopenedSource, source_names}
 use Rattle.pyver_tool.specs.VersionLines.{unopened_outcome}
-use Rattle.pyver_tool.specs.declared.stream.Stop.{Stop}
-use Rattle.pyver_tool.specs.declared.stream.Stop.TheVariants as stop
+use Rattle.pyver_tool.specs.declared.stream.RunFailure.{RunFailure}
+use Rattle.pyver_tool.specs.declared.stream.RunFailure.TheVariants as run_failure
 use Rattle.pyver_findings.specs.FileLines.{File}
 use Rattle.pyver_findings.specs.Findings.{Finding}
 use Rattle.pyver_findings.specs.ReportObjects.{report_object}
@@ -32,7 +32,7 @@ abbrev pub ReportsFiles : Bool → List File → Outcome → Type 0
 ReportsFiles json files o = (r : Report) × IsReport files r × (o ≡ report_outcome json r)
 
 -- the same, or the message of the file that was not opened and nothing else
-abbrev pub ChecksFiles : Bool → List File → Option Unopened → Outcome → Type 0
+abbrev pub ChecksFiles : Bool → List File → Option UnopenedSource → Outcome → Type 0
 ChecksFiles json files None o = ReportsFiles json files o
 ChecksFiles json files (Some file) o = o ≡ unopened_outcome file
 
@@ -42,14 +42,14 @@ module _ {R : Type 0} (files : List ℕ → KnownFile) (paths : List ℕ → Opt
   Checks json names reader reader' o = (found : FilesFound) × ReadsFiles files paths remaining (source_names names) reader reader' found × ChecksFiles json found.files found.unopened o
 
   -- nothing is to be written: reading stopped, or an allocation failed after it
-  abbrev pub StopsCheck : List (List ℕ) → R → R → Stop → Type 0
+  abbrev pub StopsCheck : List (List ℕ) → R → R → RunFailure → Type 0
   StopsCheck names reader reader' why = StopsInFiles files paths remaining (source_names names) reader reader' why
-      ⊎ ((why ≡ stop.OutOfMemory) × ((found : FilesFound) × ReadsFiles files paths remaining (source_names names) reader reader' found))
+      ⊎ ((why ≡ run_failure.OutOfMemory) × ((found : FilesFound) × ReadsFiles files paths remaining (source_names names) reader reader' found))
 
 module _ {F R W E : Type 0} (known : F → List ℕ → KnownFile) (path : F → List ℕ → Option (List ℕ)) (remaining : R → Option (List ℕ)) (contents : W → Option (List ℕ)) (error_contents : E → Option (List ℕ)) where
   -- nothing was written but a beginning of the message of why reading stopped, or that an allocation failed
   pub record EndsUnchecked (names : List (List ℕ)) (files : F) (reader reader' : R) (out out' : W) (err err' : E) (status : ℕ) : Type 0 where
-    pub why : Stop
+    pub why : RunFailure
     pub stops : StopsCheck (known files) (path files) remaining names reader reader' why
     pub message : List ℕ
     pub reports : Reports why status message

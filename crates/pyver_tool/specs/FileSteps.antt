@@ -3,7 +3,7 @@ use Rattle.std.specs.Prelude.{◌≡◌, ◌⊎◌, ◌≤◌, ◌<◌, ℕ, Lis
 use Rattle.std.specs.Io.KnownBytes.{Consumes, IsAtEnd}
 use Rattle.std.specs.List.{flat_map}
 use Rattle.pyver_tool.specs.RequirementFiles.{FilesRead, IsRefused, ReadsFile, ReadsNext, with_file}
-use Rattle.pyver_tool.specs.Sources.{KnownFile, MayRefuse, Unopened, is_input}
+use Rattle.pyver_tool.specs.Sources.{KnownFile, MayRefuse, UnopenedSource, is_input}
 use Rattle.pyver_tool.specs.declared.open_failure.OpenFailure.{OpenFailure}
 use Rattle.pyver_tool.specs.declared.requirement_files.RequirementFiles.{RequirementFiles}
 use Rattle.pyver_tool.specs.declared.requirement_files.UnopenedFile.{UnopenedFile}
@@ -17,7 +17,7 @@ read_of state = record { files = map file_of state.files.items; paths = map stri
 abbrev pub names_of_files : RequirementFiles → List (List ℕ)
 names_of_files state = map (λ name. name.items) state.names.items
 
-abbrev pub unopened_file_of : UnopenedFile → Unopened
+abbrev pub unopened_file_of : UnopenedFile → UnopenedSource
 unopened_file_of file = record { name = file.name.items; failure = file.failure }
 
 -- a file more, and the names in it

@@ -8,13 +8,13 @@ use Rattle.pyver_tool.specs.InvalidLines.{last_message, lines_status, message_li
 use Rattle.pyver_tool.specs.Outcomes.{Outcome}
 use Rattle.pyver_tool.specs.ReadLines.{IsRead, ReadLine, faults}
 use Rattle.pyver_tool.specs.Runs.{WroteBeginning}
-use Rattle.pyver_tool.specs.SourceViews.{IsStopOf}
-use Rattle.pyver_tool.specs.Sources.{Input, KnownFile, MayRefuse, ReadsInput, ReadsLines, ReadsSource, StopsReading, Unopened, is_input, last_name, unopened_message, unopened_status}
+use Rattle.pyver_tool.specs.SourceViews.{IsRunFailureOf}
+use Rattle.pyver_tool.specs.Sources.{Input, KnownFile, MayRefuse, ReadsInput, ReadsLines, ReadsSource, StopsReading, UnopenedSource, is_input, last_name, unopened_message, unopened_status}
 use Rattle.pyver_tool.specs.declared.filter.FilterRule.{FilterRule}
 use Rattle.pyver_tool.specs.declared.filter.FilterState.{FilterState}
 use Rattle.pyver_tool.specs.declared.open_failure.OpenFailure.{OpenFailure}
-use Rattle.pyver_tool.specs.declared.stream.Stop.{Stop}
-use Rattle.pyver_tool.specs.declared.stream.Stop.TheVariants as stop
+use Rattle.pyver_tool.specs.declared.stream.RunFailure.{RunFailure}
+use Rattle.pyver_tool.specs.declared.stream.RunFailure.TheVariants as run_failure
 
 abbrev pub HasNoNewline : List ℕ → Type 0
 HasNoNewline line = All (λ b. (b == 10) ≡ false) line
@@ -45,7 +45,7 @@ pub record StepsBy (rule : FilterRule) (x : ReadLine) (a b : FilterState) : Type
   pub errors : b.errors.items ≡ a.errors.items ++ concat (take (message_limit rule.lines.invalid - a.fault_count) (faults (x ∷ [])))
 
 -- by the end of the messages, where the last is of a file that was not opened
-pub record FinishesBy (rule : FilterRule) (unopened : Option Unopened) (a b : FilterState) (status : ℕ) : Type 0 where
+pub record FinishesBy (rule : FilterRule) (unopened : Option UnopenedSource) (a b : FilterState) (status : ℕ) : Type 0 where
   pub output : b.output.items ≡ a.output.items
   pub errors : b.errors.items ≡ a.errors.items ++ (last_message rule.lines.invalid a.fault_count ++ unopened_message unopened)
   pub ended : status ≡ unopened_status unopened (lines_status rule.lines.invalid a.fault_count)
@@ -127,38 +127,38 @@ module _ {R W E : Type 0} (files : List ℕ → KnownFile) (remaining : R → Op
   OneFinishes rule origin a b reader reader' out out' err err' (Some failure) = OneRefuses origin failure a b reader reader' out out' err err'
 
   -- an allocation failed before the file with this name was opened, and nothing was done
-  pub record OneUnread (origin : Origin) (reader reader' : R) (out out' : W) (err err' : E) (why : Stop) : Type 0 where
+  pub record OneUnread (origin : Origin) (reader reader' : R) (out out' : W) (err err' : E) (why : RunFailure) : Type 0 where
     pub file : is_input origin.name ≡ false
-    pub memory : why ≡ stop.OutOfMemory
+    pub memory : why ≡ run_failure.OutOfMemory
     pub reader_kept : reader' ≡ reader
     pub out_kept : out' ≡ out
     pub err_kept : err' ≡ err
 
   -- some lines of the source with this name were read, and a beginning of what they ask for was written
-  pub record OneCut (rule : FilterRule) (origin : Origin) (earlier : ℕ) (reader reader' : R) (out out' : W) (err err' : E) (why : Stop) : Type 0 where
+  pub record OneCut (rule : FilterRule) (origin : Origin) (earlier : ℕ) (reader reader' : R) (out out' : W) (err err' : E) (why : RunFailure) : Type 0 where
     pub source : Source
     pub lines : ReadsLines files remaining origin reader reader' source
     pub wrote : WroteSome contents error_contents rule source earlier out out' err err'
-    pub stops : IsStopOf (Some origin.name) why
+    pub stops : IsRunFailureOf (Some origin.name) why
 
-  abbrev pub OneStops : FilterRule → Origin → ℕ → R → R → W → W → E → E → Stop → Type 0
+  abbrev pub OneStops : FilterRule → Origin → ℕ → R → R → W → W → E → E → RunFailure → Type 0
   OneStops rule origin earlier reader reader' out out' err err' why = OneUnread origin reader reader' out out' err err' why ⊎ OneCut rule origin earlier reader reader' out out' err err' why
 
   -- the sources with these names were read, up to one that was not opened if there was one, and all that they ask for was written
-  pub record AllFinish (rule : FilterRule) (names : List (List ℕ)) (unopened : Option Unopened) (b : FilterState) (reader reader' : R) (out out' : W) (err err' : E) : Type 0 where
+  pub record AllFinish (rule : FilterRule) (names : List (List ℕ)) (unopened : Option UnopenedSource) (b : FilterState) (reader reader' : R) (out out' : W) (err err' : E) : Type 0 where
     pub sources : List Source
     pub reads : ReadsInput files remaining names reader reader' (record { sources = sources; unopened = unopened })
     pub wrote : WroteAll contents error_contents rule sources b out out' err err'
 
   -- some of the lines of the sources with these names were read, and a beginning of what they ask for was written
-  pub record AllStop (rule : FilterRule) (names : List (List ℕ)) (reader reader' : R) (out out' : W) (err err' : E) (why : Stop) : Type 0 where
+  pub record AllStop (rule : FilterRule) (names : List (List ℕ)) (reader reader' : R) (out out' : W) (err err' : E) (why : RunFailure) : Type 0 where
     pub sources : List Source
-    pub reads : StopsReading files remaining (why ≡ stop.OutOfMemory) names reader reader' sources
+    pub reads : StopsReading files remaining (why ≡ run_failure.OutOfMemory) names reader reader' sources
     pub found : List ReadLine
     pub are : AllZip (IsRead rule.lines) (filled_lines sources) found
     pub output : WroteBeginning (contents out) (contents out') (printed_lines rule found)
     pub errors : WroteBeginning (error_contents err) (error_contents err') (concat (take (message_limit rule.lines.invalid) (faults found)))
-    pub stops : IsStopOf (last_name sources) why
+    pub stops : IsRunFailureOf (last_name sources) why
 
   -- all was read, up to a file that was not opened if there was one, and all was written
   pub record FilterFinishes (rule : FilterRule) (names : List (List ℕ)) (reader reader' : R) (out out' : W) (err err' : E) (status : ℕ) : Type 0 where
@@ -171,11 +171,11 @@ module _ {R W E : Type 0} (files : List ℕ → KnownFile) (remaining : R → Op
     pub ended : status ≡ outcome.status
 
   -- some lines were read, and a beginning of what they ask for was written
-  pub record FilterStops (rule : FilterRule) (names : List (List ℕ)) (reader reader' : R) (out out' : W) (err err' : E) (why : Stop) : Type 0 where
+  pub record FilterStops (rule : FilterRule) (names : List (List ℕ)) (reader reader' : R) (out out' : W) (err err' : E) (why : RunFailure) : Type 0 where
     pub input : Input
-    pub reads : ReadsInput files remaining names reader reader' input ⊎ (StopsReading files remaining (why ≡ stop.OutOfMemory) names reader reader' input.sources × (input.unopened ≡ None))
+    pub reads : ReadsInput files remaining names reader reader' input ⊎ (StopsReading files remaining (why ≡ run_failure.OutOfMemory) names reader reader' input.sources × (input.unopened ≡ None))
     pub outcome : Outcome
     pub is : Filters rule input outcome
     pub output : WroteBeginning (contents out) (contents out') outcome.output
     pub errors : WroteBeginning (error_contents err) (error_contents err') outcome.errors
-    pub stops : IsStopOf (last_name input.sources) why
+    pub stops : IsRunFailureOf (last_name input.sources) why

@@ -9,7 +9,7 @@ use Rattle.pyver_tool.specs.Outcomes.{Outcome, followed_by, no_outcome}
 use Rattle.pyver_tool.specs.Prereleases.{allows, takes_prereleases}
 use Rattle.pyver_tool.specs.ReadLines.{Entry, Header, IsRead, LineReading, ReadLine, faults}
 use Rattle.pyver_tool.specs.Readings.{Denotes, Fails}
-use Rattle.pyver_tool.specs.Sources.{Input, Unopened, unopened_message, unopened_status}
+use Rattle.pyver_tool.specs.Sources.{Input, UnopenedSource, unopened_message, unopened_status}
 use Rattle.pep440_version.specs.Record.{Record}
 use Rattle.pyver_tool.specs.declared.filter.FilterOptions.{FilterOptions}
 use Rattle.pyver_tool.specs.declared.filter.FilterRule.{FilterRule}
@@ -29,7 +29,7 @@ abbrev pub printed_lines : FilterRule → List ReadLine → List ℕ
 printed_lines rule found = flat_map (λ (x : ReadLine). x.line.text ++ codes "\n") (filter (λ (x : ReadLine). is_printed rule x.line.origin.is_first x.reading) found)
 
 -- the printed lines, the messages of the first invalid lines, the last message of these, and that of a file that was not opened
-abbrev pub filter_outcome : FilterRule → List ReadLine → Option Unopened → Outcome
+abbrev pub filter_outcome : FilterRule → List ReadLine → Option UnopenedSource → Outcome
 filter_outcome rule found unopened = record {
   output = printed_lines rule found;
   errors = concat (take (message_limit rule.lines.invalid) (faults found)) ++ (last_message rule.lines.invalid (length (faults found)) ++ unopened_message unopened);

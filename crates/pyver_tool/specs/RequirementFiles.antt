@@ -3,12 +3,12 @@ use Rattle.std.specs.Prelude.{◌≡◌, ◌⊎◌, ⊤, ℕ, List, [], ◌∷�
 use Rattle.std.specs.Io.KnownBytes.{IsAtEnd}
 use Rattle.std.specs.List.{flat_map, list_any}
 use Rattle.std.specs.Str.{IsUtf8}
-use Rattle.pyver_tool.specs.SourceViews.{IsReadingStop}
-use Rattle.pyver_tool.specs.Sources.{KnownFile, MayRefuse, ReadsByName, Unopened, is_input}
+use Rattle.pyver_tool.specs.SourceViews.{IsReadingFailure}
+use Rattle.pyver_tool.specs.Sources.{KnownFile, MayRefuse, ReadsByName, UnopenedSource, is_input}
 use Rattle.pyver_tool.specs.declared.open_failure.OpenFailure.{OpenFailure}
 use Rattle.pyver_tool.specs.declared.open_failure.OpenFailure.TheVariants as failure
-use Rattle.pyver_tool.specs.declared.stream.Stop.{Stop}
-use Rattle.pyver_tool.specs.declared.stream.Stop.TheVariants as stop
+use Rattle.pyver_tool.specs.declared.stream.RunFailure.{RunFailure}
+use Rattle.pyver_tool.specs.declared.stream.RunFailure.TheVariants as run_failure
 use Rattle.pyver_findings.specs.FileLines.{File}
 use Rattle.pyver_findings.specs.NamedFiles.{named_files}
 
@@ -44,7 +44,7 @@ IsRefused file name why = ((¬ IsUtf8 name) × (why ≡ failure.Other)) ⊎ (IsU
 -- the files that were read, and the one at which reading ended, if one was not opened
 pub record FilesFound : Type 0 where
   pub files : List File
-  pub unopened : Option Unopened
+  pub unopened : Option UnopenedSource
 
 -- `files` is what is known of each file, `remaining` are the bytes that standard input has left
 module _ {R : Type 0} (files : List ℕ → KnownFile) (remaining : R → Option (List ℕ)) where
@@ -57,16 +57,16 @@ module _ {R : Type 0} (files : List ℕ → KnownFile) (remaining : R → Option
     pub is : file ≡ record { name = name; text = text }
 
   -- a part of the source with this name, which is UTF-8, was read, when reading stopped
-  pub record ReadsFilePart (name : List ℕ) (reader reader' : R) (why : Stop) : Type 0 where
+  pub record ReadsFilePart (name : List ℕ) (reader reader' : R) (why : RunFailure) : Type 0 where
     pub utf8 : IsUtf8 name
     pub text : List ℕ
     pub rest : Option (List ℕ)
     pub part : ReadsByName files remaining name reader reader' text rest
-    pub stops : IsReadingStop name why
+    pub stops : IsReadingFailure name why
 
   -- when reading stopped, a part of the source with this name was read, or, where an allocation failed, nothing
-  abbrev pub StopsInFile : List ℕ → R → R → Stop → Type 0
-  StopsInFile name reader reader' why = ((why ≡ stop.OutOfMemory) × (reader' ≡ reader)) ⊎ ReadsFilePart name reader reader' why
+  abbrev pub StopsInFile : List ℕ → R → R → RunFailure → Type 0
+  StopsInFile name reader reader' why = ((why ≡ run_failure.OutOfMemory) × (reader' ≡ reader)) ⊎ ReadsFilePart name reader reader' why
 
 -- `paths` is what is known of the path of each file
 module _ {R : Type 0} (files : List ℕ → KnownFile) (paths : List ℕ → Option (List ℕ)) (remaining : R → Option (List ℕ)) where
@@ -86,7 +86,7 @@ module _ {R : Type 0} (files : List ℕ → KnownFile) (paths : List ℕ → Opt
   ReadsFilesInTurn (name ∷ names) a b reader reader' = (c : FilesRead) × (middle : R) × ReadsNext name a c reader middle × ReadsFilesInTurn names c b middle reader'
 
   -- no name is left; or the file with the first of them was not opened
-  abbrev pub EndsFiles : List (List ℕ) → Option Unopened → Type 0
+  abbrev pub EndsFiles : List (List ℕ) → Option UnopenedSource → Type 0
   EndsFiles [] None = ⊤
   EndsFiles [] (Some file) = ⊥
   EndsFiles (name ∷ names) None = ⊥
@@ -104,7 +104,7 @@ module _ {R : Type 0} (files : List ℕ → KnownFile) (paths : List ℕ → Opt
     pub ends : EndsFiles left found.unopened
 
   -- some names were read so, and a part of the source with the next one, or, where an allocation failed, nothing
-  pub record StopsInFiles (names : List (List ℕ)) (reader reader' : R) (why : Stop) : Type 0 where
+  pub record StopsInFiles (names : List (List ℕ)) (reader reader' : R) (why : RunFailure) : Type 0 where
     pub done : List (List ℕ)
     pub name : List ℕ
     pub left : List (List ℕ)

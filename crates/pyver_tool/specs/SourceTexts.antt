@@ -2,13 +2,13 @@
 use Rattle.std.specs.Prelude.{◌≡◌, ◌⊎◌, ◌≤◌, ◌+◌, ◌*◌, ℕ, List, [], ◌∷◌, ◌++◌, false, Option, Some, None, length, map}
 use Rattle.std.specs.Io.KnownBytes.{Consumes, IsAtEnd}
 use Rattle.pyver_tool.specs.InputLines.{Origin, Source, input_lines}
-use Rattle.pyver_tool.specs.SourceViews.{IsStopOf, origin_of}
+use Rattle.pyver_tool.specs.SourceViews.{IsRunFailureOf, origin_of}
 use Rattle.pyver_tool.specs.Sources.{KnownFile, MayRefuse, ReadsLines, ReadsSource, StopsReading, is_input, last_name}
 use Rattle.pyver_tool.specs.declared.open_failure.OpenFailure.{OpenFailure}
 use Rattle.pyver_tool.specs.declared.source_texts.SourceText.{SourceText}
 use Rattle.pyver_tool.specs.declared.source_texts.SourceTexts.{SourceTexts}
-use Rattle.pyver_tool.specs.declared.stream.Stop.{Stop}
-use Rattle.pyver_tool.specs.declared.stream.Stop.TheVariants as stop
+use Rattle.pyver_tool.specs.declared.stream.RunFailure.{RunFailure}
+use Rattle.pyver_tool.specs.declared.stream.RunFailure.TheVariants as run_failure
 
 -- a source and its lines
 abbrev pub source_of : SourceText → Source
@@ -40,10 +40,10 @@ module _ {R : Type 0} (files : List ℕ → KnownFile) (remaining : R → Option
   GainsSource origin a b reader reader' (Some failure) = (is_input origin.name ≡ false) × MayRefuse (files origin.name) failure × (b ≡ a) × (reader' ≡ reader)
 
   -- an allocation failed before the file with this name was opened; or some of the source was read
-  abbrev pub StopsInSource : Origin → R → R → Stop → Type 0
-  StopsInSource origin reader reader' why = ((is_input origin.name ≡ false) × (why ≡ stop.OutOfMemory) × (reader' ≡ reader))
-      ⊎ ((source : Source) × ReadsLines files remaining origin reader reader' source × IsStopOf (Some origin.name) why)
+  abbrev pub StopsInSource : Origin → R → R → RunFailure → Type 0
+  StopsInSource origin reader reader' why = ((is_input origin.name ≡ false) × (why ≡ run_failure.OutOfMemory) × (reader' ≡ reader))
+      ⊎ ((source : Source) × ReadsLines files remaining origin reader reader' source × IsRunFailureOf (Some origin.name) why)
 
   -- some sources were read to their ends, and some of the next one, or, where an allocation failed, nothing
-  abbrev pub StopsInSources : List (List ℕ) → R → R → Stop → Type 0
-  StopsInSources names reader reader' why = (sources : List Source) × StopsReading files remaining (why ≡ stop.OutOfMemory) names reader reader' sources × IsStopOf (last_name sources) why
+  abbrev pub StopsInSources : List (List ℕ) → R → R → RunFailure → Type 0
+  StopsInSources names reader reader' why = (sources : List Source) × StopsReading files remaining (why ≡ run_failure.OutOfMemory) names reader reader' sources × IsRunFailureOf (last_name sources) why

@@ -64,17 +64,17 @@ failure_reason failure.OutOfMemory = codes "out of memory"
 failure_reason failure.Other = codes "cannot be opened"
 
 -- a file that was not opened
-pub record Unopened : Type 0 where
+pub record UnopenedSource : Type 0 where
   pub name : List ℕ
   pub failure : OpenFailure
 
 -- its message, where there is one
-abbrev pub unopened_message : Option Unopened → List ℕ
+abbrev pub unopened_message : Option UnopenedSource → List ℕ
 unopened_message None = []
 unopened_message (Some file) = file_message file.name (failure_reason file.failure)
 
 -- the status 2 where there is one, and otherwise this one
-abbrev pub unopened_status : Option Unopened → ℕ → ℕ
+abbrev pub unopened_status : Option UnopenedSource → ℕ → ℕ
 unopened_status None status = status
 unopened_status (Some file) status = 2
 
@@ -87,7 +87,7 @@ read_message name = if is_input name then codes "pyver: a read failed\n" else fi
 -- the sources that were read, and the file at which reading ended, if one was not opened
 pub record Input : Type 0 where
   pub sources : List Source
-  pub unopened : Option Unopened
+  pub unopened : Option UnopenedSource
 
 -- the sources without their lines
 abbrev pub without_lines : List Source → List Source
@@ -133,7 +133,7 @@ module _ {R : Type 0} (files : List ℕ → KnownFile) (remaining : R → Option
       (middle : R) × (source : Source) × (rest : List Source) × ReadsSource (record { is_first = first; name = name }) reader middle source × ReadsAll false names middle reader' rest × (sources ≡ source ∷ rest)
 
   -- the first of these names is of a file that was not opened; or no name is left
-  abbrev pub EndsAt : List (List ℕ) → Option Unopened → Type 0
+  abbrev pub EndsAt : List (List ℕ) → Option UnopenedSource → Type 0
   EndsAt [] None = ⊤
   EndsAt [] (Some file) = ⊥
   EndsAt (name ∷ names) None = ⊥

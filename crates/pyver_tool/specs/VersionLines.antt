@@ -7,7 +7,7 @@ use Rattle.pyver_tool.specs.InvalidLines.{last_message, lines_status, message_li
 use Rattle.pyver_tool.specs.Outcomes.{Outcome}
 use Rattle.pyver_tool.specs.ReadLines.{Entry, Header, IsRead, LineReading, ReadLine, faults}
 use Rattle.pyver_tool.specs.Readings.{Denotes, Fails}
-use Rattle.pyver_tool.specs.Sources.{Input, Unopened, unopened_message}
+use Rattle.pyver_tool.specs.Sources.{Input, UnopenedSource, unopened_message}
 use Rattle.pyver_tool.specs.declared.invalid_lines.InvalidLines.{InvalidLines}
 use Rattle.pyver_tool.specs.declared.invalid_lines.InvalidLines.TheVariants as invalid
 use Rattle.pyver_tool.specs.declared.line_options.LineOptions.{LineOptions}
@@ -73,11 +73,11 @@ OfFound how Gives found o = ((lines_status how (length (faults found)) ≡ 0) ×
     ⊎ ((0 < lines_status how (length (faults found))) × (o ≡ invalid_outcome how found))
 
 -- a file was not opened: this is the only message
-abbrev pub unopened_outcome : Unopened → Outcome
+abbrev pub unopened_outcome : UnopenedSource → Outcome
 unopened_outcome file = record { output = []; errors = unopened_message (Some file); status = 2 }
 
 -- what is written of the lines of the sources, or of the file at which reading ended
-abbrev pub OfSources : LineOptions → (InputParts → Outcome → Type 0) → List Source → Option Unopened → Outcome → Type 0
+abbrev pub OfSources : LineOptions → (InputParts → Outcome → Type 0) → List Source → Option UnopenedSource → Outcome → Type 0
 OfSources options Gives sources None o = (found : List ReadLine) × AllZip (IsRead options) (filled_lines sources) found × OfFound options.invalid Gives found o
 OfSources options Gives sources (Some file) o = o ≡ unopened_outcome file
 

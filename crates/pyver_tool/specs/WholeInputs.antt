@@ -8,12 +8,12 @@ use Rattle.pyver_tool.specs.Outcomes.{Outcome}
 use Rattle.pyver_tool.specs.Runs.{WroteBeginning}
 use Rattle.pyver_tool.specs.Newest.{FindsNewest}
 use Rattle.pyver_tool.specs.Sorts.{SortsParts}
-use Rattle.pyver_tool.specs.SourceViews.{IsStopOf}
+use Rattle.pyver_tool.specs.SourceViews.{IsRunFailureOf}
 use Rattle.pyver_tool.specs.Sources.{Input, KnownFile, ReadsFirst, ReadsInput, last_name, without_lines}
 use Rattle.pyver_tool.specs.VersionLines.{InputParts, OfVersions}
 use Rattle.pyver_tool.specs.declared.line_options.LineOptions.{LineOptions}
-use Rattle.pyver_tool.specs.declared.stream.Stop.{Stop}
-use Rattle.pyver_tool.specs.declared.stream.Stop.TheVariants as stop
+use Rattle.pyver_tool.specs.declared.stream.RunFailure.{RunFailure}
+use Rattle.pyver_tool.specs.declared.stream.RunFailure.TheVariants as run_failure
 use Rattle.pyver_tool.specs.declared.whole_input.Question.{Question}
 use Rattle.pyver_tool.specs.declared.whole_input.Question.TheVariants as question
 
@@ -45,17 +45,17 @@ module _ {R W E : Type 0} (files : List ℕ → KnownFile) (remaining : R → Op
     pub ended : status ≡ outcome.status
 
   -- all was read, or some of which no line was used
-  abbrev pub ReadsUnused : List (List ℕ) → R → R → Input → Stop → Type 0
+  abbrev pub ReadsUnused : List (List ℕ) → R → R → Input → RunFailure → Type 0
   ReadsUnused names reader reader' input why =
       ReadsInput files remaining names reader reader' input
-      ⊎ ((read : List Source) × ReadsFirst files remaining (why ≡ stop.OutOfMemory) names reader reader' read × (input.unopened ≡ None) × (input.sources ≡ without_lines read))
+      ⊎ ((read : List Source) × ReadsFirst files remaining (why ≡ run_failure.OutOfMemory) names reader reader' read × (input.unopened ≡ None) × (input.sources ≡ without_lines read))
 
   -- nothing was written, or a beginning of what is asked for by all sources
-  pub record WholeStops (asked : Question) (names : List (List ℕ)) (reader reader' : R) (out out' : W) (err err' : E) (why : Stop) : Type 0 where
+  pub record WholeStops (asked : Question) (names : List (List ℕ)) (reader reader' : R) (out out' : W) (err err' : E) (why : RunFailure) : Type 0 where
     pub input : Input
     pub reads : ReadsUnused names reader reader' input why
     pub outcome : Outcome
     pub is : AnswersInput asked input outcome
     pub output : WroteBeginning (contents out) (contents out') outcome.output
     pub errors : WroteBeginning (error_contents err) (error_contents err') outcome.errors
-    pub stops : IsStopOf (last_name input.sources) why
+    pub stops : IsRunFailureOf (last_name input.sources) why

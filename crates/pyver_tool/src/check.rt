@@ -4,14 +4,13 @@ ghost use Rattle.std.specs.Option.{option_map};
 ghost use Rattle.pyver_tool.specs.AnswerViews.{outcome_of};
 ghost use Rattle.pyver_tool.specs.Checks.{Checks, ChecksFiles, ReportsFiles, StopsCheck, findings_status, findings_text};
 ghost use Rattle.pyver_tool.specs.FileSteps.{unopened_file_of};
-ghost use Rattle.pyver_tool.specs.VersionLines.{unopened_outcome};
 ghost use Rattle.pyver_findings.specs.Views.{file_of, finding_of, report_of};
 
 use crate::answer::Answer;
 use crate::files::Files;
-use crate::open_failure::push_file_fault;
+use crate::open_failure::report_open_failure;
 use crate::requirement_files::{UnopenedFile, read_files};
-use crate::stream::Stop;
+use crate::stream::RunFailure;
 use pyver_findings::{Finding, Report, SourceFile, find_problems};
 use std::alloc::{AllocError, Global};
 use std::io::Read;
@@ -49,19 +48,6 @@ fn report_files(alloc: Global, json: bool, files: &[SourceFile]) -> Result<Answe
     })
 }
 
-// The message of the file that was not opened, and nothing else.
-fn report_open_failure(alloc: Global, file: &UnopenedFile) -> Result<Answer, AllocError>
-    ensures { IfOk result (λ a. outcome_of a ≡ unopened_outcome (unopened_file_of file.now)) }
-{
-    let mut answer = Answer::silent(alloc, 2);
-    push_file_fault(
-        &mut answer.errors,
-        file.name.as_slice(),
-        file.failure.reason(),
-    )?;
-    Ok(answer)
-}
-
 fn answer_check(
     alloc: Global,
     json: bool,
@@ -71,7 +57,7 @@ fn answer_check(
     ensures { IfOk result (λ a. ChecksFiles json (map file_of files.now) (option_map (λ file. unopened_file_of file.now) unopened.entry) (outcome_of a)) }
 {
     match unopened {
-        Some(file) => report_open_failure(alloc, file),
+        Some(file) => report_open_failure(alloc, file.name.as_slice(), file.failure),
         None => report_files(alloc, json, files),
     }
 }
@@ -83,7 +69,7 @@ pub(crate) fn check_files<F: Files, R: Read>(
     names: &[String],
     files: &mut F,
     input: &mut R,
-) -> Result<Answer, Stop>
+) -> Result<Answer, RunFailure>
     ensures finished { IfOk result (λ a. Checks (F.known files.old) (F.path files.old) R.remaining json (map string_bytes names.now) input.old input.new (outcome_of a)) }
     ensures stopped { IfErr result (StopsCheck (F.known files.old) (F.path files.old) R.remaining (map string_bytes names.now) input.old input.new) }
     ensures kept { F.known files.new ≡ F.known files.old }

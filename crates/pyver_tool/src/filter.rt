@@ -67,12 +67,15 @@ pub(crate) fn push_line_fault(
 
 // A file that was not opened.
 #[derive(Clone, Copy)]
-pub(crate) struct Unopened<'a> {
+pub(crate) struct UnopenedSource<'a> {
     pub(crate) name: &'a str,
     pub(crate) failure: OpenFailure,
 }
 
-fn push_open_failure(errors: &mut Vec<u8>, unopened: Option<Unopened<'_>>) -> Result<(), AllocError>
+fn push_open_failure(
+    errors: &mut Vec<u8>,
+    unopened: Option<UnopenedSource<'_>>,
+) -> Result<(), AllocError>
     ensures { IfOk result (λ _. errors.new.items ≡ errors.old.items ++ unopened_message (option_map unopened_of unopened.entry)) }
 {
     match unopened {
@@ -82,7 +85,7 @@ fn push_open_failure(errors: &mut Vec<u8>, unopened: Option<Unopened<'_>>) -> Re
 }
 
 // The status, where it is this one without the file.
-fn unopened_status(unopened: Option<Unopened<'_>>, status: u8) -> u8
+fn unopened_status(unopened: Option<UnopenedSource<'_>>, status: u8) -> u8
     requires { status ≤ 2 }
     ensures is { result ≡ unopened_status (option_map unopened_of unopened.entry) status }
     ensures low { result ≤ 2 }
@@ -259,7 +262,7 @@ impl FilterState {
         &mut self,
         alloc: Global,
         rule: &FilterRule,
-        unopened: Option<Unopened<'_>>,
+        unopened: Option<UnopenedSource<'_>>,
     ) -> Result<u8, AllocError>
         ensures { IfOk result (λ status. FinishesBy rule.now (option_map unopened_of unopened.entry) self.old self.new status) }
     {

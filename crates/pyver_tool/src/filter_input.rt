@@ -1,12 +1,12 @@
 // The loop of `filter` over a source.
 ghost use Rattle.std.specs.Prelude.{◌≡◌, ◌≤◌, ◌*◌, [], Some, IfErr, IfOk};
 ghost use Rattle.pyver_tool.specs.FilterSteps.{SourceFinishes, SourceStops};
-ghost use Rattle.pyver_tool.specs.SourceViews.{IsReadingStop, IsStopOf, origin_of};
+ghost use Rattle.pyver_tool.specs.SourceViews.{IsReadingFailure, IsRunFailureOf, origin_of};
 
 use crate::filter::{FilterRule, FilterState};
 use crate::open_failure::push_file_fault;
 use crate::origin::{Origin, is_input};
-use crate::stream::{Stop, write_both};
+use crate::stream::{RunFailure, write_both};
 use std::alloc::Global;
 use std::io::{Read, Write};
 
@@ -16,17 +16,17 @@ pub(crate) const MOST_READS: u64 = 562949953421312;
 pub(crate) const READ_SIZE: usize = 8192;
 
 // A read of the source with this name failed.
-pub(crate) fn stop_reading(alloc: Global, name: &str) -> Stop
-    ensures of { IsStopOf (Some name.now) result }
-    ensures reading { IsReadingStop name.now result }
+pub(crate) fn fail_reading(alloc: Global, name: &str) -> RunFailure
+    ensures of { IsRunFailureOf (Some name.now) result }
+    ensures reading { IsReadingFailure name.now result }
 {
     if is_input(name) {
-        return Stop::Read;
+        return RunFailure::Read;
     }
     let mut message = Vec::new(alloc);
     match push_file_fault(&mut message, name.as_bytes(), "a read failed") {
-        Ok(()) => Stop::ReadFile(message),
-        Err(_) => Stop::OutOfMemory,
+        Ok(()) => RunFailure::ReadFile(message),
+        Err(_) => RunFailure::OutOfMemory,
     }
 }
 
@@ -39,13 +39,13 @@ pub(crate) fn filter_input<R: Read, W: Write, E: Write>(
     input: &mut R,
     out: &mut W,
     err: &mut E,
-) -> Result<(), Stop>
+) -> Result<(), RunFailure>
     requires nothing { (state.old.output.items ≡ []) × (state.old.errors.items ≡ []) }
     requires room { state.old.fault_count ≤ 8192 * state.old.read_count }
     ensures finished { IfOk result (λ _. SourceFinishes R.remaining W.contents E.contents rule.now (origin_of origin.entry) state.old.fault_count state.new input.old input.new out.old out.new err.old err.new) }
     ensures room { IfOk result (λ _. state.new.fault_count ≤ 8192 * state.new.read_count) }
     ensures stopped { IfErr result (λ _. SourceStops R.remaining W.contents E.contents rule.now (origin_of origin.entry) state.old.fault_count input.old input.new out.old out.new err.old err.new) }
-    ensures stop { IfErr result (IsStopOf (Some (origin_of origin.entry).name)) }
+    ensures failure { IfErr result (IsRunFailureOf (Some (origin_of origin.entry).name)) }
 {
     let mut buffer = [0u8; READ_SIZE];
     let mut line = Vec::new(alloc);
@@ -53,7 +53,7 @@ pub(crate) fn filter_input<R: Read, W: Write, E: Write>(
     while state.read_count < MOST_READS {
         state.read_count += 1;
         let Ok(count) = input.read(&mut buffer) else {
-            return Err(stop_reading(alloc, origin.name));
+            return Err(fail_reading(alloc, origin.name));
         };
         if count == 0 {
             state.push_line(alloc, rule, origin, line.as_slice())?;
@@ -65,5 +65,5 @@ pub(crate) fn filter_input<R: Read, W: Write, E: Write>(
         write_both(out, err, state.output.as_slice(), state.errors.as_slice())?;
         state.clear();
     }
-    Err(stop_reading(alloc, origin.name))
+    Err(fail_reading(alloc, origin.name))
 }

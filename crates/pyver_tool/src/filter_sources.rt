@@ -6,11 +6,11 @@ ghost use Rattle.pyver_tool.specs.Sources.{source_names};
 ghost use Rattle.pyver_tool.specs.SourceViews.{origin_of, unopened_of};
 
 use crate::files::Files;
-use crate::filter::{FilterRule, FilterState, Unopened};
+use crate::filter::{FilterRule, FilterState, UnopenedSource};
 use crate::filter_input::filter_input;
 use crate::open_failure::OpenFailure;
 use crate::origin::{Origin, is_input};
-use crate::stream::{Stop, write_both};
+use crate::stream::{RunFailure, write_both};
 use std::alloc::Global;
 use std::io::{Read, Write};
 
@@ -24,7 +24,7 @@ fn open_and_filter<F: Files, R: Read, W: Write, E: Write>(
     input: &mut R,
     out: &mut W,
     err: &mut E,
-) -> Result<Option<OpenFailure>, Stop>
+) -> Result<Option<OpenFailure>, RunFailure>
     requires nothing { (state.old.output.items ≡ []) × (state.old.errors.items ≡ []) }
     requires room { state.old.fault_count ≤ 8192 * state.old.read_count }
     ensures finished { IfOk result (OneFinishes (F.known files.old) R.remaining W.contents E.contents rule.now (origin_of origin.entry) state.old state.new input.old input.new out.old out.new err.old err.new) }
@@ -41,7 +41,7 @@ fn open_and_filter<F: Files, R: Read, W: Write, E: Write>(
             filter_input(alloc, rule, origin, state, &mut file, out, err)?;
             Ok(None)
         }
-        Err(OpenFailure::OutOfMemory) => Err(Stop::OutOfMemory),
+        Err(OpenFailure::OutOfMemory) => Err(RunFailure::OutOfMemory),
         Err(failure) => Ok(Some(failure)),
     }
 }
@@ -56,7 +56,7 @@ fn filter_all<'a, F: Files, R: Read, W: Write, E: Write>(
     input: &mut R,
     out: &mut W,
     err: &mut E,
-) -> Result<Option<Unopened<'a>>, Stop>
+) -> Result<Option<UnopenedSource<'a>>, RunFailure>
     requires new { (state.old.read_count ≡ 0) × (state.old.fault_count ≡ 0) × (state.old.output.items ≡ []) × (state.old.errors.items ≡ []) }
     ensures finished { IfOk result (λ unopened. AllFinish (F.known files.old) R.remaining W.contents E.contents rule.now (map string_bytes names.now) (option_map unopened_of unopened) state.new input.old input.new out.old out.new err.old err.new) }
     ensures stopped { IfErr result (AllStop (F.known files.old) R.remaining W.contents E.contents rule.now (map string_bytes names.now) input.old input.new out.old out.new err.old err.new) }
@@ -68,7 +68,7 @@ fn filter_all<'a, F: Files, R: Read, W: Write, E: Write>(
         let origin = Origin { is_first, name };
         match open_and_filter(alloc, rule, origin, state, files, input, out, err)? {
             None => is_first = false,
-            Some(failure) => return Ok(Some(Unopened { name, failure })),
+            Some(failure) => return Ok(Some(UnopenedSource { name, failure })),
         }
     }
     Ok(None)
@@ -84,7 +84,7 @@ fn filter_all_sources<'a, F: Files, R: Read, W: Write, E: Write>(
     input: &mut R,
     out: &mut W,
     err: &mut E,
-) -> Result<Option<Unopened<'a>>, Stop>
+) -> Result<Option<UnopenedSource<'a>>, RunFailure>
     requires new { (state.old.read_count ≡ 0) × (state.old.fault_count ≡ 0) × (state.old.output.items ≡ []) × (state.old.errors.items ≡ []) }
     ensures finished { IfOk result (λ unopened. AllFinish (F.known files.old) R.remaining W.contents E.contents rule.now (source_names (map string_bytes names.now)) (option_map unopened_of unopened) state.new input.old input.new out.old out.new err.old err.new) }
     ensures stopped { IfErr result (AllStop (F.known files.old) R.remaining W.contents E.contents rule.now (source_names (map string_bytes names.now)) input.old input.new out.old out.new err.old err.new) }
@@ -110,7 +110,7 @@ pub(crate) fn filter_sources<F: Files, R: Read, W: Write, E: Write>(
     input: &mut R,
     out: &mut W,
     err: &mut E,
-) -> Result<u8, Stop>
+) -> Result<u8, RunFailure>
     ensures finished { IfOk result (λ status. (status ≤ 2) × FilterFinishes (F.known files.old) R.remaining W.contents E.contents rule.now (source_names (map string_bytes names.now)) input.old input.new out.old out.new err.old err.new status) }
     ensures stopped { IfErr result (FilterStops (F.known files.old) R.remaining W.contents E.contents rule.now (source_names (map string_bytes names.now)) input.old input.new out.old out.new err.old err.new) }
     ensures kept { F.known files.new ≡ F.known files.old }

@@ -1,10 +1,13 @@
 // Why a file is not opened, and messages of files.
 ghost use Rattle.std.specs.Prelude.{◌≡◌, ◌++◌, IfOk};
+ghost use Rattle.pyver_tool.specs.AnswerViews.{outcome_of};
 ghost use Rattle.pyver_tool.specs.Messages.{file_message};
 ghost use Rattle.pyver_tool.specs.Sources.{failure_reason};
+ghost use Rattle.pyver_tool.specs.VersionLines.{unopened_outcome};
 
+use crate::answer::Answer;
 use pyver_findings::push_escaped;
-use std::alloc::AllocError;
+use std::alloc::{AllocError, Global};
 
 /// Why a file could not be opened.
 #[derive(Clone, Copy)]
@@ -44,4 +47,17 @@ pub(crate) fn push_file_fault(
     errors.extend_from_slice(reason.as_bytes())?;
     errors.push(b'\n')?;
     Ok(())
+}
+
+// Only the message of the file with this name, which is not opened.
+pub(crate) fn report_open_failure(
+    alloc: Global,
+    name: &[u8],
+    failure: OpenFailure,
+) -> Result<Answer, AllocError>
+    ensures { IfOk result (λ a. outcome_of a ≡ unopened_outcome (record { name = name.now; failure = failure })) }
+{
+    let mut answer = Answer::silent(alloc, 2);
+    push_file_fault(&mut answer.errors, name, failure.reason())?;
+    Ok(answer)
 }

@@ -11,7 +11,7 @@ use crate::check::check_files;
 use crate::command::{Command, Work};
 use crate::files::Files;
 use crate::filter_sources::filter_sources;
-use crate::stream::{Stop, WriteFailure, write_whole};
+use crate::stream::{RunFailure, WriteFailure, write_whole};
 use crate::whole_input::answer_input;
 use std::alloc::Global;
 use std::io::{Read, Write};
@@ -32,7 +32,7 @@ fn failure_status(failure: WriteFailure) -> u8
 }
 
 // Writes that a write failed, unless nobody reads, and returns the status.
-fn report_failure<E: Write>(failure: WriteFailure, err: &mut E) -> u8
+fn report_write_failure<E: Write>(failure: WriteFailure, err: &mut E) -> u8
     ensures status { (result ≡ 4) ⊎ (result ≡ 141) }
     ensures written { (message : List ℕ) × IsWriteFailure result message × WroteBeginning (E.contents err.old) (E.contents err.new) message }
 {
@@ -50,7 +50,7 @@ fn write_answer<W: Write, E: Write>(answer: &Answer, out: &mut W, err: &mut E) -
     ensures { WritesAnswer W.contents E.contents (outcome_of answer.now) out.old out.new err.old err.new result }
 {
     if let Err(failure) = write_whole(out, answer.output.as_slice()) {
-        return report_failure(failure, err);
+        return report_write_failure(failure, err);
     }
     if let Err(failure) = write_whole(err, answer.errors.as_slice()) {
         return failure_status(failure);
@@ -59,21 +59,21 @@ fn write_answer<W: Write, E: Write>(answer: &Answer, out: &mut W, err: &mut E) -
 }
 
 // Writes why a run stopped, where somebody reads that, and returns the status.
-fn report_stop<E: Write>(stop: Stop, err: &mut E) -> u8
-    ensures { (message : List ℕ) × Reports stop result message × WroteBeginning (E.contents err.old) (E.contents err.new) message }
+fn report_run_failure<E: Write>(failure: RunFailure, err: &mut E) -> u8
+    ensures { (message : List ℕ) × Reports failure result message × WroteBeginning (E.contents err.old) (E.contents err.new) message }
 {
-    match stop {
-        Stop::OutOfMemory => refuse(err),
-        Stop::Read => {
+    match failure {
+        RunFailure::OutOfMemory => refuse(err),
+        RunFailure::Read => {
             let _ = write_whole(err, READ.as_bytes());
             4
         }
-        Stop::ReadFile(message) => {
+        RunFailure::ReadFile(message) => {
             let _ = write_whole(err, message.as_slice());
             4
         }
-        Stop::Output(failure) => report_failure(failure, err),
-        Stop::Errors(failure) => failure_status(failure),
+        RunFailure::Output(failure) => report_write_failure(failure, err),
+        RunFailure::Errors(failure) => failure_status(failure),
     }
 }
 
@@ -96,18 +96,18 @@ pub fn run<F: Files, R: Read, W: Write, E: Write>(
         Ok(Work::Filter(rule, names)) => {
             match filter_sources(alloc, &rule, names, files, input, out, err) {
                 Ok(status) => status,
-                Err(stop) => report_stop(stop, err),
+                Err(failure) => report_run_failure(failure, err),
             }
         }
         Ok(Work::Whole(question, names)) => {
             match answer_input(alloc, &question, names, files, input, out, err) {
                 Ok(status) => status,
-                Err(stop) => report_stop(stop, err),
+                Err(failure) => report_run_failure(failure, err),
             }
         }
         Ok(Work::Check(json, names)) => match check_files(alloc, json, names, files, input) {
             Ok(answer) => write_answer(&answer, out, err),
-            Err(stop) => report_stop(stop, err),
+            Err(failure) => report_run_failure(failure, err),
         },
         Err(_) => refuse(err),
     }

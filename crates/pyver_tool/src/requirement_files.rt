@@ -10,7 +10,7 @@ use crate::files::Files;
 use crate::open_failure::OpenFailure;
 use crate::origin::is_input;
 use crate::source_texts::read_text;
-use crate::stream::Stop;
+use crate::stream::RunFailure;
 use pyver_findings::{SourceFile, push_named_files};
 use std::alloc::{AllocError, Global};
 use std::io::Read;
@@ -74,7 +74,7 @@ impl RequirementFiles {
     ghost use Rattle.std.specs.Io.KnownBytes.{Consumes};
     ghost use Rattle.pyver_tool.specs.FileSteps.{GainsFile, HasReads, OpensOrRefused, GainsText, StepsOrRefused, names_of_files, read_of};
     ghost use Rattle.pyver_tool.specs.RequirementFiles.{StopsInFile, has_path, none_read};
-    ghost use Rattle.pyver_tool.specs.SourceViews.{IsReadingStop};
+    ghost use Rattle.pyver_tool.specs.SourceViews.{IsReadingFailure};
 
     // Nothing was read yet.
     fn new(alloc: Global, names: Vec<Vec<u8>>) -> RequirementFiles
@@ -128,12 +128,12 @@ impl RequirementFiles {
         name: &str,
         path: String,
         input: &mut R,
-    ) -> Result<(), Stop>
+    ) -> Result<(), RunFailure>
         requires { HasReads self.old }
         ensures read { IfOk result (λ _. GainsText R.remaining name.now (string_bytes path) self.old self.new input.old input.new) }
         ensures count { IfOk result (λ _. (self.old.read_count < self.new.read_count) × HasReads self.new) }
         ensures part { IfErr result (λ _. (read : List ℕ) × Consumes (R.remaining input.old) (R.remaining input.new) read) }
-        ensures stop { IfErr result (IsReadingStop name.now) }
+        ensures failure { IfErr result (IsReadingFailure name.now) }
     {
         let text = read_text(alloc, name, &mut self.read_count, input)?;
         Ok(self.push_file(alloc, name, path, text)?)
@@ -147,7 +147,7 @@ impl RequirementFiles {
         path: String,
         files: &mut F,
         input: &mut R,
-    ) -> Result<Option<OpenFailure>, Stop>
+    ) -> Result<Option<OpenFailure>, RunFailure>
         requires { HasReads self.old }
         ensures read { IfOk result (OpensOrRefused (F.known files.old) R.remaining name.now (string_bytes path) self.old self.new input.old input.new) }
         ensures stopped { IfErr result (StopsInFile (F.known files.old) R.remaining name.now input.old input.new) }
@@ -163,7 +163,7 @@ impl RequirementFiles {
                 self.read_source(alloc, name, path, &mut file)?;
                 Ok(None)
             }
-            Err(OpenFailure::OutOfMemory) => Err(Stop::OutOfMemory),
+            Err(OpenFailure::OutOfMemory) => Err(RunFailure::OutOfMemory),
             Err(failure) => Ok(Some(failure)),
         }
     }
@@ -175,7 +175,7 @@ impl RequirementFiles {
         name: &str,
         files: &mut F,
         input: &mut R,
-    ) -> Result<Option<OpenFailure>, Stop>
+    ) -> Result<Option<OpenFailure>, RunFailure>
         requires { HasReads self.old }
         ensures read { IfOk result (StepsOrRefused (F.known files.old) (F.path files.old) R.remaining name.now self.old self.new input.old input.new) }
         ensures stopped { IfErr result (StopsInFile (F.known files.old) R.remaining name.now input.old input.new) }
@@ -196,7 +196,7 @@ impl RequirementFiles {
         name: &[u8],
         files: &mut F,
         input: &mut R,
-    ) -> Result<Option<OpenFailure>, Stop>
+    ) -> Result<Option<OpenFailure>, RunFailure>
         requires { HasReads self.old }
         ensures read { IfOk result (StepsOrRefused (F.known files.old) (F.path files.old) R.remaining name.now self.old self.new input.old input.new) }
         ensures stopped { IfErr result (StopsInFile (F.known files.old) R.remaining name.now input.old input.new) }
@@ -215,7 +215,7 @@ impl RequirementFiles {
         alloc: Global,
         files: &mut F,
         input: &mut R,
-    ) -> Result<Option<UnopenedFile>, Stop>
+    ) -> Result<Option<UnopenedFile>, RunFailure>
         requires new { (read_of self.old ≡ none_read) × (self.old.read_count ≡ 0) }
         ensures read { IfOk result (λ unopened. ReadsFiles (F.known files.old) (F.path files.old) R.remaining (names_of_files self.old) input.old input.new (record { files = map file_of self.new.files.items; unopened = option_map unopened_file_of unopened })) }
         ensures stopped { IfErr result (StopsInFiles (F.known files.old) (F.path files.old) R.remaining (names_of_files self.old) input.old input.new) }
@@ -241,7 +241,7 @@ pub(crate) fn read_files<F: Files, R: Read>(
     names: &[String],
     files: &mut F,
     input: &mut R,
-) -> Result<(Vec<SourceFile>, Option<UnopenedFile>), Stop>
+) -> Result<(Vec<SourceFile>, Option<UnopenedFile>), RunFailure>
     ensures read { IfOk result (λ found. ReadsFiles (F.known files.old) (F.path files.old) R.remaining (source_names (map string_bytes names.now)) input.old input.new (record { files = map file_of found.0.items; unopened = option_map unopened_file_of found.1 })) }
     ensures stopped { IfErr result (StopsInFiles (F.known files.old) (F.path files.old) R.remaining (source_names (map string_bytes names.now)) input.old input.new) }
     ensures kept { F.known files.new ≡ F.known files.old }

@@ -3,15 +3,15 @@ ghost use Rattle.std.specs.Prelude.{◌≡◌, ◌+◌, ◌<◌, ◌≤◌, ◌*
 ghost use Rattle.std.specs.Io.KnownBytes.{Consumes, IsAtEnd};
 ghost use Rattle.std.specs.Option.{option_map};
 ghost use Rattle.pyver_tool.specs.Sources.{ReadsInput, source_names};
-ghost use Rattle.pyver_tool.specs.SourceViews.{IsReadingStop, IsStopOf, origin_of, unopened_of};
+ghost use Rattle.pyver_tool.specs.SourceViews.{IsReadingFailure, IsRunFailureOf, origin_of, unopened_of};
 ghost use Rattle.pyver_tool.specs.SourceTexts.{StopsInSources, HasRoom, GainsSource, StopsInSource, ReadsTo, sources_of};
 
 use crate::files::Files;
-use crate::filter::Unopened;
-use crate::filter_input::{MOST_READS, READ_SIZE, stop_reading};
+use crate::filter::UnopenedSource;
+use crate::filter_input::{MOST_READS, READ_SIZE, fail_reading};
 use crate::open_failure::OpenFailure;
 use crate::origin::{Origin, is_input};
-use crate::stream::Stop;
+use crate::stream::RunFailure;
 use std::alloc::Global;
 use std::io::Read;
 
@@ -35,27 +35,27 @@ pub(crate) fn read_text<R: Read>(
     name: &str,
     read_count: &mut u64,
     input: &mut R,
-) -> Result<Vec<u8>, Stop>
+) -> Result<Vec<u8>, RunFailure>
     requires { read_count.old ≤ 562949953421312 }
     ensures whole { IfOk result (λ text. Consumes (R.remaining input.old) (R.remaining input.new) text.items × IsAtEnd (R.remaining input.new)) }
     ensures room { IfOk result (λ text. (length text.items + 8192 * read_count.old < 8192 * read_count.new) × (read_count.new ≤ 562949953421312)) }
     ensures part { IfErr result (λ _. (read : List ℕ) × Consumes (R.remaining input.old) (R.remaining input.new) read) }
-    ensures stop { IfErr result (IsStopOf (Some name.now)) }
-    ensures reading { IfErr result (IsReadingStop name.now) }
+    ensures failure { IfErr result (IsRunFailureOf (Some name.now)) }
+    ensures reading { IfErr result (IsReadingFailure name.now) }
 {
     let mut text = Vec::new(alloc);
     let mut buffer = [0u8; READ_SIZE];
     while *read_count < MOST_READS {
         *read_count += 1;
         let Ok(count) = input.read(&mut buffer) else {
-            return Err(stop_reading(alloc, name));
+            return Err(fail_reading(alloc, name));
         };
         if count == 0 {
             return Ok(text);
         }
         text.extend_from_slice(&buffer[..count])?;
     }
-    Err(stop_reading(alloc, name))
+    Err(fail_reading(alloc, name))
 }
 
 // Reads a source.
@@ -64,12 +64,12 @@ fn read_source<'a, R: Read>(
     origin: Origin<'a>,
     state: &mut SourceTexts<'a>,
     input: &mut R,
-) -> Result<(), Stop>
+) -> Result<(), RunFailure>
     requires { HasRoom state.old }
     ensures read { IfOk result (λ _. ReadsTo R.remaining (origin_of origin.entry) (sources_of state.old) (sources_of state.new) input.old input.new) }
     ensures room { IfOk result (λ _. HasRoom state.new) }
     ensures part { IfErr result (λ _. (read : List ℕ) × Consumes (R.remaining input.old) (R.remaining input.new) read) }
-    ensures stop { IfErr result (IsStopOf (Some (origin_of origin.entry).name)) }
+    ensures failure { IfErr result (IsRunFailureOf (Some (origin_of origin.entry).name)) }
 {
     let text = read_text(alloc, origin.name, &mut state.read_count, input)?;
     state.texts.push(SourceText { origin, text })?;
@@ -83,7 +83,7 @@ fn open_and_read<'a, F: Files, R: Read>(
     state: &mut SourceTexts<'a>,
     files: &mut F,
     input: &mut R,
-) -> Result<Option<OpenFailure>, Stop>
+) -> Result<Option<OpenFailure>, RunFailure>
     requires { HasRoom state.old }
     ensures read { IfOk result (GainsSource (F.known files.old) R.remaining (origin_of origin.entry) (sources_of state.old) (sources_of state.new) input.old input.new) }
     ensures room { IfOk result (λ _. HasRoom state.new) }
@@ -99,7 +99,7 @@ fn open_and_read<'a, F: Files, R: Read>(
             read_source(alloc, origin, state, &mut file)?;
             Ok(None)
         }
-        Err(OpenFailure::OutOfMemory) => Err(Stop::OutOfMemory),
+        Err(OpenFailure::OutOfMemory) => Err(RunFailure::OutOfMemory),
         Err(failure) => Ok(Some(failure)),
     }
 }
@@ -111,7 +111,7 @@ fn read_all<'a, F: Files, R: Read>(
     state: &mut SourceTexts<'a>,
     files: &mut F,
     input: &mut R,
-) -> Result<Option<Unopened<'a>>, Stop>
+) -> Result<Option<UnopenedSource<'a>>, RunFailure>
     requires new { (state.old.texts.items ≡ []) × (state.old.read_count ≡ 0) }
     ensures read { IfOk result (λ unopened. ReadsInput (F.known files.old) R.remaining (map string_bytes names.now) input.old input.new (record { sources = sources_of state.new; unopened = option_map unopened_of unopened })) }
     ensures room { IfOk result (λ _. HasRoom state.new) }
@@ -124,7 +124,7 @@ fn read_all<'a, F: Files, R: Read>(
         let origin = Origin { is_first, name };
         match open_and_read(alloc, origin, state, files, input)? {
             None => is_first = false,
-            Some(failure) => return Ok(Some(Unopened { name, failure })),
+            Some(failure) => return Ok(Some(UnopenedSource { name, failure })),
         }
     }
     Ok(None)
@@ -137,7 +137,7 @@ pub(crate) fn read_sources<'a, F: Files, R: Read>(
     state: &mut SourceTexts<'a>,
     files: &mut F,
     input: &mut R,
-) -> Result<Option<Unopened<'a>>, Stop>
+) -> Result<Option<UnopenedSource<'a>>, RunFailure>
     requires new { (state.old.texts.items ≡ []) × (state.old.read_count ≡ 0) }
     ensures read { IfOk result (λ unopened. ReadsInput (F.known files.old) R.remaining (source_names (map string_bytes names.now)) input.old input.new (record { sources = sources_of state.new; unopened = option_map unopened_of unopened })) }
     ensures room { IfOk result (λ _. HasRoom state.new) }

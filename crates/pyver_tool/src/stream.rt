@@ -2,8 +2,8 @@
 ghost use Rattle.std.specs.Prelude.{◌≡◌, IfErr, List, OnOk, Option, ℕ};
 ghost use Rattle.std.specs.Io.KnownBytes.{Appends, Keeps};
 ghost use Rattle.pyver_tool.specs.Runs.{WroteBeginning};
-ghost use Rattle.pyver_tool.specs.SourceViews.{IsStopOf};
-ghost use Rattle.pyver_tool.specs.declared.stream.Stop.TheVariants.{OutOfMemory};
+ghost use Rattle.pyver_tool.specs.SourceViews.{IsRunFailureOf};
+ghost use Rattle.pyver_tool.specs.declared.stream.RunFailure.TheVariants.{OutOfMemory};
 
 use std::alloc::{AllocError, AllocFailed};
 use std::io::{ErrorKind, Write};
@@ -50,7 +50,7 @@ fn failure(kind: ErrorKind) -> WriteFailure {
 
 // Why a run stopped before its end.
 #[derive(Drop)]
-pub(crate) enum Stop {
+pub(crate) enum RunFailure {
     OutOfMemory,
     // A read of standard input.
     Read,
@@ -62,19 +62,19 @@ pub(crate) enum Stop {
     Errors(WriteFailure),
 }
 
-impl From<AllocError> for Stop {
-    ghost from_gives = { λ _ stop. stop ≡ OutOfMemory };
+impl From<AllocError> for RunFailure {
+    ghost from_gives = { λ _ failure. failure ≡ OutOfMemory };
 
-    fn from(_: AllocError) -> Stop {
-        Stop::OutOfMemory
+    fn from(_: AllocError) -> RunFailure {
+        RunFailure::OutOfMemory
     }
 }
 
-impl<T: Drop> From<AllocFailed<T>> for Stop {
-    ghost from_gives = { λ _ stop. stop ≡ OutOfMemory };
+impl<T: Drop> From<AllocFailed<T>> for RunFailure {
+    ghost from_gives = { λ _ failure. failure ≡ OutOfMemory };
 
-    fn from(_: AllocFailed<T>) -> Stop {
-        Stop::OutOfMemory
+    fn from(_: AllocFailed<T>) -> RunFailure {
+        RunFailure::OutOfMemory
     }
 }
 
@@ -84,12 +84,12 @@ pub(crate) fn write_both<W: Write, E: Write>(
     err: &mut E,
     output: &[u8],
     errors: &[u8],
-) -> Result<(), Stop>
+) -> Result<(), RunFailure>
     ensures whole { OnOk result (Appends (W.contents out.old) (W.contents out.new) output.now × Appends (E.contents err.old) (E.contents err.new) errors.now) }
     ensures output { WroteBeginning (W.contents out.old) (W.contents out.new) output.now }
     ensures errors { WroteBeginning (E.contents err.old) (E.contents err.new) errors.now }
-    ensures stop { IfErr result (λ stop. (last : Option (List ℕ)) → IsStopOf last stop) }
+    ensures failure { IfErr result (λ failure. (last : Option (List ℕ)) → IsRunFailureOf last failure) }
 {
-    write_whole(out, output).map_err(Stop::Output)?;
-    write_whole(err, errors).map_err(Stop::Errors)
+    write_whole(out, output).map_err(RunFailure::Output)?;
+    write_whole(err, errors).map_err(RunFailure::Errors)
 }

@@ -6,20 +6,19 @@ ghost use Rattle.pyver_tool.specs.InputLines.{Source, filled_lines};
 ghost use Rattle.pyver_tool.specs.Sources.{source_names};
 ghost use Rattle.pyver_tool.specs.SourceTexts.{size_of, source_of};
 ghost use Rattle.pyver_tool.specs.SourceViews.{unopened_of};
-ghost use Rattle.pyver_tool.specs.VersionLines.{unopened_outcome};
 ghost use Rattle.pyver_tool.specs.VersionLineViews.{IsOfLines, input_parts_of};
 ghost use Rattle.pyver_tool.specs.WholeInputs.{AnswersInput, AnswersParts, WholeFinishes, WholeStops, question_lines};
 
 use crate::answer::Answer;
 use crate::bump_input::{BumpRule, bump_only};
 use crate::files::Files;
-use crate::filter::Unopened;
+use crate::filter::UnopenedSource;
 use crate::line_options::LineOptions;
 use crate::newest::{NewestRule, find_newest};
-use crate::open_failure::push_file_fault;
+use crate::open_failure::report_open_failure;
 use crate::sort::{SortOptions, sort_versions};
 use crate::source_texts::{SourceText, SourceTexts, read_sources};
-use crate::stream::{Stop, write_both};
+use crate::stream::{RunFailure, write_both};
 use crate::version_line::VersionLines;
 use std::alloc::{AllocError, Global};
 use std::io::{Read, Write};
@@ -77,31 +76,18 @@ fn answer_lines(
     answer_valid(alloc, question, lines)
 }
 
-// The message of a file that is not opened, and nothing else.
-fn report_open_failure(alloc: Global, file: Unopened<'_>) -> Result<Answer, AllocError>
-    ensures { IfOk result (λ a. outcome_of a ≡ unopened_outcome (unopened_of file.entry)) }
-{
-    let mut answer = Answer::silent(alloc, 2);
-    push_file_fault(
-        &mut answer.errors,
-        file.name.as_bytes(),
-        file.failure.reason(),
-    )?;
-    Ok(answer)
-}
-
 // What is to be written of these sources, after which a file may not be opened.
 fn answer_sources(
     alloc: Global,
     question: &Question,
     sources: &[SourceText<'_>],
-    unopened: Option<Unopened<'_>>,
+    unopened: Option<UnopenedSource<'_>>,
 ) -> Result<Answer, AllocError>
     requires { size_of sources.now < 2 ^ 63 }
     ensures { IfOk result (λ a. AnswersInput question.now (record { sources = map source_of sources.now; unopened = option_map unopened_of unopened.entry }) (outcome_of a)) }
 {
     if let Some(file) = unopened {
-        return report_open_failure(alloc, file);
+        return report_open_failure(alloc, file.name.as_bytes(), file.failure);
     }
     let lines = VersionLines::read(alloc, question_lines(question), sources)?;
     answer_lines(alloc, question, lines)
@@ -116,7 +102,7 @@ pub(crate) fn answer_input<F: Files, R: Read, W: Write, E: Write>(
     input: &mut R,
     out: &mut W,
     err: &mut E,
-) -> Result<u8, Stop>
+) -> Result<u8, RunFailure>
     ensures finished { IfOk result (λ status. (status ≤ 2) × WholeFinishes (F.known files.old) R.remaining W.contents E.contents question.now (source_names (map string_bytes names.now)) input.old input.new out.old out.new err.old err.new status) }
     ensures stopped { IfErr result (WholeStops (F.known files.old) R.remaining W.contents E.contents question.now (source_names (map string_bytes names.now)) input.old input.new out.old out.new err.old err.new) }
     ensures kept { F.known files.new ≡ F.known files.old }

@@ -42,8 +42,8 @@ returns-in-Err-clause-stopped g c =
     (c.in-Ok.ensures.bytes.1 zero (omega arith)) (rw c.as_slice.ensures.value at c.in-Ok-push_line.ensures) (rw c.as_slice-then-count-eq0.ensures.value at c.write_both.ensures.output)
     (rw c.as_slice-then-count-eq0-2.ensures.value at c.write_both.ensures.errors)
 
-pub returns-in-Err-clause-stop : goal.returns-in-Err-clause-stop
-returns-in-Err-clause-stop g c = c.in-Err.ensures.stop (Some c.args.origin.name.now)
+pub returns-in-Err-clause-failure : goal.returns-in-Err-clause-failure
+returns-in-Err-clause-failure g c = c.in-Err.ensures.failure (Some c.args.origin.name.now)
 
 pub returns-then-count-eq0-clause-finished : goal.returns-then-count-eq0-clause-finished
 returns-then-count-eq0-clause-finished g c =
@@ -63,8 +63,8 @@ returns-in-Err-write_both-clause-stopped g c =
     going c.read.new.self c.write_both-in-loop-state.new.out c.write_both-in-loop-state.new.err c.push_bytes.new.self _ steps.0 c.push_bytes.new.line.items c.in-Ok.ensures.bytes.0 steps.1 steps.2
     (rw c.as_slice-in-loop-state.ensures.value at c.write_both-in-loop-state.ensures.output) (rw c.as_slice-in-loop-state-2.ensures.value at c.write_both-in-loop-state.ensures.errors)
 
-pub returns-in-Err-write_both-clause-stop : goal.returns-in-Err-write_both-clause-stop
-returns-in-Err-write_both-clause-stop g c = c.in-Err-write_both.ensures.stop (Some c.args.origin.name.now)
+pub returns-in-Err-write_both-clause-failure : goal.returns-in-Err-write_both-clause-failure
+returns-in-Err-write_both-clause-failure g c = c.in-Err-write_both.ensures.failure (Some c.args.origin.name.now)
 
 pub loop-state-preserved : goal.loop-state-preserved
 loop-state-preserved g c =

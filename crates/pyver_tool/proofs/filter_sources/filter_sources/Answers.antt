@@ -13,7 +13,7 @@ pub returns-in-Err-write_both-clause-stopped : goal.returns-in-Err-write_both-cl
 returns-in-Err-write_both-clause-stopped g c =
     let k = c.in-Ok.ensures.finished in
     stops_at_last _ _ _ _ c.args.rule.now _ _ c.filter_all_sources.new.state c.args.input.now c.filter_all_sources.new.input c.args.out.now c.filter_all_sources.new.out c.args.err.now c.filter_all_sources.new.err k c.write_both.new.out c.write_both.new.err
-    c.finish.new.self c.in-Ok-finish.status c.in-Ok-finish.ensures c.in-Err-write_both.stop (c.in-Err-write_both.ensures.stop _) (rw c.as_slice.ensures.value at c.write_both.ensures.output) (rw c.as_slice-2.ensures.value at c.write_both.ensures.errors)
+    c.finish.new.self c.in-Ok-finish.status c.in-Ok-finish.ensures c.in-Err-write_both.stop (c.in-Err-write_both.ensures.failure _) (rw c.as_slice.ensures.value at c.write_both.ensures.output) (rw c.as_slice-2.ensures.value at c.write_both.ensures.errors)
 
 pub returns-clause-finished : goal.returns-clause-finished
 returns-clause-finished g c =

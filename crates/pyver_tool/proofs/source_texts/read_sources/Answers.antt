@@ -12,4 +12,4 @@ returns-in-Ok-clause-read g c =
 pub returns-in-Err-clause-stopped : goal.returns-in-Err-clause-stopped
 returns-in-Err-clause-stopped g c =
     let none : map string_bytes c.args.names.now ≡ [] = none_names string_bytes c.args.names.now (sym c.is_empty.ensures ∙ c.if-not-is_empty.false) in
-    alone_stopped _ _ (map string_bytes c.args.names.now) c.in-Err.stop c.args.input.now c.read_source.new.input c.in-Err.ensures.part.0 none c.in-Err.ensures.part.1 c.in-Err.ensures.stop
+    alone_stopped _ _ (map string_bytes c.args.names.now) c.in-Err.stop c.args.input.now c.read_source.new.input c.in-Err.ensures.part.0 none c.in-Err.ensures.part.1 c.in-Err.ensures.failure

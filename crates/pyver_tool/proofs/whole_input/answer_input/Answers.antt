@@ -16,4 +16,4 @@ pub returns-in-Err-write_both-clause-stopped : goal.returns-in-Err-write_both-cl
 returns-in-Err-write_both-clause-stopped g c =
     stops_written _ _ _ _ c.args.question.now _ c.args.input.now c.read_sources.new.input c.args.out.now c.write_both.new.out c.args.err.now c.write_both.new.err c.in-Err-write_both.stop _ (outcome_of c.in-Ok-answer_sources.answer)
     c.in-Ok.ensures.read (rw c.as_slice.ensures.value at c.in-Ok-answer_sources.ensures) (rw c.as_slice-2.ensures.value at c.write_both.ensures.output) (rw c.as_slice-3.ensures.value at c.write_both.ensures.errors)
-    (c.in-Err-write_both.ensures.stop _)
+    (c.in-Err-write_both.ensures.failure _)

@@ -4,7 +4,7 @@ use Rattle.pyver_tool.proofs.FileReads.{each_more, ends_refused, ends_stopped, e
 use Rattle.pyver_tool.proofs.SourceFilters.{names_split}
 use Rattle.pyver_tool.specs.FileSteps.{ReadsStep, StepsOrRefused, names_of_files, read_of}
 use Rattle.pyver_tool.specs.RequirementFiles.{ReadsFilesInTurn, StopsInFile, none_read}
-use Rattle.pyver_tool.specs.declared.stream.Stop.TheVariants as stop
+use Rattle.pyver_tool.specs.declared.stream.RunFailure.TheVariants as run_failure
 use Rattle.pyver_tool.proofs.requirement_files.RequirementFiles.read_all.Goals as goal
 
 pub returns-in_default-clause-stopped : goal.returns-in_default-clause-stopped
@@ -15,7 +15,7 @@ returns-in_default-clause-stopped g c =
     let front = map (λ n. n.items) (take here.index here.self.names.items) in
     let split = names_split (λ n. n.items) here.self.names.items here.index c.index.result.now _ c.as_slice.result.now (omega (arith, c.loop-index-test.true, here.invariant.5)) c.index.ensures c.as_slice.ensures.value in
     let each = subst (λ f. ReadsFilesInTurn known paths g.R.Read.remaining f none_read (read_of here.self) c.args.input.now here.input) (take-map (λ n. n.items) here.index here.self.names.items) here.invariant.0 in
-    ends_stopped known paths g.R.Read.remaining (names_of_files c.args.self.now) here.self here.self c.args.input.now here.input here.input front _ c.as_slice.result.now split each here.invariant.1 stop.OutOfMemory
+    ends_stopped known paths g.R.Read.remaining (names_of_files c.args.self.now) here.self here.self c.args.input.now here.input here.input front _ c.as_slice.result.now split each here.invariant.1 run_failure.OutOfMemory
     (stops_before known g.R.Read.remaining c.as_slice.result.now here.input)
 
 pub returns-in-Err-clause-stopped : goal.returns-in-Err-clause-stopped
