@@ -56,13 +56,26 @@ pub(crate) fn filter_input<R: Read, W: Write, E: Write>(
             return Err(fail_reading(alloc, origin.name));
         };
         if count == 0 {
-            state.push_line(alloc, rule, origin, line.as_slice())?;
-            write_both(out, err, state.output.as_slice(), state.errors.as_slice())?;
+            let Ok(()) = state.push_line(alloc, rule, origin, line.as_slice()) else {
+                return Err(RunFailure::OutOfMemory);
+            };
+            if let Err(stop) = write_both(
+                out,
+                err,
+                state.output.as_slice(),
+                state.errors.as_slice(),
+            ) {
+                return Err(stop);
+            }
             state.clear();
             return Ok(());
         }
-        state.push_bytes(alloc, rule, origin, &mut line, &buffer[..count])?;
-        write_both(out, err, state.output.as_slice(), state.errors.as_slice())?;
+        let Ok(()) = state.push_bytes(alloc, rule, origin, &mut line, &buffer[..count]) else {
+            return Err(RunFailure::OutOfMemory);
+        };
+        if let Err(stop) = write_both(out, err, state.output.as_slice(), state.errors.as_slice()) {
+            return Err(stop);
+        }
         state.clear();
     }
     Err(fail_reading(alloc, origin.name))

@@ -33,14 +33,16 @@ fn open_and_filter<F: Files, R: Read, W: Write, E: Write>(
     ensures kept { F.known files.new ≡ F.known files.old }
 {
     if is_input(origin.name) {
-        filter_input(alloc, rule, origin, state, input, out, err)?;
-        return Ok(None);
+        return match filter_input(alloc, rule, origin, state, input, out, err) {
+            Ok(()) => Ok(None),
+            Err(stop) => Err(stop),
+        };
     }
     match files.open(alloc, origin.name) {
-        Ok(mut file) => {
-            filter_input(alloc, rule, origin, state, &mut file, out, err)?;
-            Ok(None)
-        }
+        Ok(mut file) => match filter_input(alloc, rule, origin, state, &mut file, out, err) {
+            Ok(()) => Ok(None),
+            Err(stop) => Err(stop),
+        },
         Err(OpenFailure::OutOfMemory) => Err(RunFailure::OutOfMemory),
         Err(failure) => Ok(Some(failure)),
     }
@@ -66,9 +68,10 @@ fn filter_all<'a, F: Files, R: Read, W: Write, E: Write>(
     for name in names {
         let name = name.as_str();
         let origin = Origin { is_first, name };
-        match open_and_filter(alloc, rule, origin, state, files, input, out, err)? {
-            None => is_first = false,
-            Some(failure) => return Ok(Some(UnopenedSource { name, failure })),
+        match open_and_filter(alloc, rule, origin, state, files, input, out, err) {
+            Ok(None) => is_first = false,
+            Ok(Some(failure)) => return Ok(Some(UnopenedSource { name, failure })),
+            Err(stop) => return Err(stop),
         }
     }
     Ok(None)
@@ -97,8 +100,10 @@ fn filter_all_sources<'a, F: Files, R: Read, W: Write, E: Write>(
         is_first: true,
         name: "-",
     };
-    filter_input(alloc, rule, origin, state, input, out, err)?;
-    Ok(None)
+    match filter_input(alloc, rule, origin, state, input, out, err) {
+        Ok(()) => Ok(None),
+        Err(stop) => Err(stop),
+    }
 }
 
 // Writes what the rule asks for of the sources, of each before the next is read, and returns the status.
@@ -116,8 +121,17 @@ pub(crate) fn filter_sources<F: Files, R: Read, W: Write, E: Write>(
     ensures kept { F.known files.new ≡ F.known files.old }
 {
     let mut state = FilterState::new(alloc);
-    let unopened = filter_all_sources(alloc, rule, names, &mut state, files, input, out, err)?;
-    let status = state.finish(alloc, rule, unopened)?;
-    write_both(out, err, state.output.as_slice(), state.errors.as_slice())?;
+    let unopened = match filter_all_sources(
+        alloc, rule, names, &mut state, files, input, out, err,
+    ) {
+        Ok(unopened) => unopened,
+        Err(stop) => return Err(stop),
+    };
+    let Ok(status) = state.finish(alloc, rule, unopened) else {
+        return Err(RunFailure::OutOfMemory);
+    };
+    if let Err(stop) = write_both(out, err, state.output.as_slice(), state.errors.as_slice()) {
+        return Err(stop);
+    }
     Ok(status)
 }

@@ -155,14 +155,16 @@ impl RequirementFiles {
         ensures kept_paths { F.path files.new ≡ F.path files.old }
     {
         if is_input(name) {
-            self.read_source(alloc, name, path, input)?;
-            return Ok(None);
+            return match self.read_source(alloc, name, path, input) {
+                Ok(()) => Ok(None),
+                Err(stop) => Err(stop),
+            };
         }
         match files.open(alloc, name) {
-            Ok(mut file) => {
-                self.read_source(alloc, name, path, &mut file)?;
-                Ok(None)
-            }
+            Ok(mut file) => match self.read_source(alloc, name, path, &mut file) {
+                Ok(()) => Ok(None),
+                Err(stop) => Err(stop),
+            },
             Err(OpenFailure::OutOfMemory) => Err(RunFailure::OutOfMemory),
             Err(failure) => Ok(Some(failure)),
         }
@@ -182,7 +184,9 @@ impl RequirementFiles {
         ensures kept { F.known files.new ≡ F.known files.old }
         ensures kept_paths { F.path files.new ≡ F.path files.old }
     {
-        let path = source_path(alloc, name, files)?;
+        let Ok(path) = source_path(alloc, name, files) else {
+            return Err(RunFailure::OutOfMemory);
+        };
         if self.has_path(path.as_str()) {
             return Ok(None);
         }
@@ -224,10 +228,13 @@ impl RequirementFiles {
         let mut index = 0;
         let mut count = self.names.len();
         while index < count {
-            let name = Vec::from_slice(alloc, self.names[index].as_slice())?;
-            match self.read_next(alloc, name.as_slice(), files, input)? {
-                None => index += 1,
-                Some(failure) => return Ok(Some(UnopenedFile { name, failure })),
+            let Ok(name) = Vec::from_slice(alloc, self.names[index].as_slice()) else {
+                return Err(RunFailure::OutOfMemory);
+            };
+            match self.read_next(alloc, name.as_slice(), files, input) {
+                Ok(None) => index += 1,
+                Ok(Some(failure)) => return Ok(Some(UnopenedFile { name, failure })),
+                Err(stop) => return Err(stop),
             }
             count = self.names.len();
         }
@@ -246,8 +253,12 @@ pub(crate) fn read_files<F: Files, R: Read>(
     ensures stopped { IfErr result (StopsInFiles (F.known files.old) (F.path files.old) R.remaining (source_names (map string_bytes names.now)) input.old input.new) }
     ensures kept { F.known files.new ≡ F.known files.old }
 {
-    let names = copy_names(alloc, names)?;
+    let Ok(names) = copy_names(alloc, names) else {
+        return Err(RunFailure::OutOfMemory);
+    };
     let mut state = RequirementFiles::new(alloc, names);
-    let unopened = state.read_all(alloc, files, input)?;
-    Ok((state.files, unopened))
+    match state.read_all(alloc, files, input) {
+        Ok(unopened) => Ok((state.files, unopened)),
+        Err(stop) => Err(stop),
+    }
 }

@@ -53,7 +53,9 @@ pub(crate) fn read_text<R: Read>(
         if count == 0 {
             return Ok(text);
         }
-        text.extend_from_slice(&buffer[..count])?;
+        if text.extend_from_slice(&buffer[..count]).is_err() {
+            return Err(RunFailure::OutOfMemory);
+        }
     }
     Err(fail_reading(alloc, name))
 }
@@ -71,8 +73,13 @@ fn read_source<'a, R: Read>(
     ensures part { IfErr result (λ _. (read : List ℕ) × Consumes (R.remaining input.old) (R.remaining input.new) read) }
     ensures failure { IfErr result (IsRunFailureOf (Some (origin_of origin.entry).name)) }
 {
-    let text = read_text(alloc, origin.name, &mut state.read_count, input)?;
-    state.texts.push(SourceText { origin, text })?;
+    let text = match read_text(alloc, origin.name, &mut state.read_count, input) {
+        Ok(text) => text,
+        Err(stop) => return Err(stop),
+    };
+    let Ok(()) = state.texts.push(SourceText { origin, text }) else {
+        return Err(RunFailure::OutOfMemory);
+    };
     Ok(())
 }
 
@@ -91,14 +98,16 @@ fn open_and_read<'a, F: Files, R: Read>(
     ensures kept { F.known files.new ≡ F.known files.old }
 {
     if is_input(origin.name) {
-        read_source(alloc, origin, state, input)?;
-        return Ok(None);
+        return match read_source(alloc, origin, state, input) {
+            Ok(()) => Ok(None),
+            Err(stop) => Err(stop),
+        };
     }
     match files.open(alloc, origin.name) {
-        Ok(mut file) => {
-            read_source(alloc, origin, state, &mut file)?;
-            Ok(None)
-        }
+        Ok(mut file) => match read_source(alloc, origin, state, &mut file) {
+            Ok(()) => Ok(None),
+            Err(stop) => Err(stop),
+        },
         Err(OpenFailure::OutOfMemory) => Err(RunFailure::OutOfMemory),
         Err(failure) => Ok(Some(failure)),
     }
@@ -122,9 +131,10 @@ fn read_all<'a, F: Files, R: Read>(
     for name in names {
         let name = name.as_str();
         let origin = Origin { is_first, name };
-        match open_and_read(alloc, origin, state, files, input)? {
-            None => is_first = false,
-            Some(failure) => return Ok(Some(UnopenedSource { name, failure })),
+        match open_and_read(alloc, origin, state, files, input) {
+            Ok(None) => is_first = false,
+            Ok(Some(failure)) => return Ok(Some(UnopenedSource { name, failure })),
+            Err(stop) => return Err(stop),
         }
     }
     Ok(None)
@@ -151,6 +161,8 @@ pub(crate) fn read_sources<'a, F: Files, R: Read>(
         is_first: true,
         name: "-",
     };
-    read_source(alloc, origin, state, input)?;
-    Ok(None)
+    match read_source(alloc, origin, state, input) {
+        Ok(()) => Ok(None),
+        Err(stop) => Err(stop),
+    }
 }
