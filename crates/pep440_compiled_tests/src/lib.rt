@@ -1,4 +1,4 @@
-//! Compiled versions and lists: worked cases with their bytes, bytes that denote nothing, and refused memory.
+//! Compiled versions and lists: test cases with their bytes, bytes that denote nothing, and failing allocations.
 #![tactic(auto)]
 
 #[cfg(test)]

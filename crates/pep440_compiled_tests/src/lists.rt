@@ -1,4 +1,4 @@
-//! Worked cases: lists and their bytes, bytes that denote no list, what lists contain, and refused memory.
+//! Test cases: lists and their bytes, bytes that denote no list, what lists contain, and failing allocations.
 use pep440_compiled::{
     CompiledError, compile_list, compile_version, contains, normalize_list, read_list,
 };
@@ -145,8 +145,8 @@ fn sweep_contains(rt: HostRuntime) -> Result<(), Fail> {
     Ok(())
 }
 
-// Of no byte, of another format, a count alone, a member too few, an operator that is none, no version, `~=` before one
-// number, members that are not in order, a byte behind the end.
+// No byte, another format, only a count, a member too few, an operator that is none, no version, `~=` before one
+// number, members that are not in order, a byte after the end.
 const REJECTED: [&[u8]; 9] = [
     &[],
     &[1, 2, 0, 1, 0, 0, 0, 0xa0, 0, 0],
@@ -182,29 +182,5 @@ fn sweep_rejected_lists(rt: HostRuntime) -> Result<(), Fail> {
     }
     let asked = contains_again(rt, ONE, ONE) == Err(CompiledError::NotCompiled);
     assert!(rt; asked);
-    Ok(())
-}
-
-// Whether the bytes are rejected, or those of the list that they denote.
-fn is_exact(rt: HostRuntime, bytes: &[u8]) -> Result<bool, Fail> {
-    let asked = contains(rt.alloc(), bytes, FIRST);
-    match read_list(rt.alloc(), bytes) {
-        Ok(list) => Ok(asked.is_ok() && compile_list(rt.alloc(), &list)?.as_slice() == bytes),
-        Err(error) => Ok(error == CompiledError::NotCompiled && asked == Err(error)),
-    }
-}
-
-#[test]
-fn each_change_of_a_byte_is_exact(rt: HostRuntime) -> Result<(), Fail> {
-    for (text, bytes) in COMPILED {
-        for i in 0..bytes.len() {
-            for value in [0, 1, 2, 3, 5, 9, 255] {
-                let mut changed = bytes.to_vec(rt.alloc())?;
-                changed[i] = value;
-                assert!(rt; is_exact(rt, &changed)?, "{text}");
-            }
-            assert!(rt; is_exact(rt, &bytes[..i])?, "{text}");
-        }
-    }
     Ok(())
 }

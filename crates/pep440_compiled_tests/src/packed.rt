@@ -1,4 +1,4 @@
-//! Worked cases: packed versions and their bytes, bytes that denote nothing, and the order of compiled versions.
+//! Test cases: packed versions and their bytes, bytes that denote nothing, and the order of compiled versions.
 use pep440_compiled::{NotCompiled, compare_packed, compile_packed, read_packed};
 use pep440_version::Version;
 use std::cmp::Ordering;
@@ -50,7 +50,7 @@ fn others_have_none(rt: HostRuntime) -> Result<(), Fail> {
     Ok(())
 }
 
-// Of no length, too short, of another format, of no number, of five, a number after the count, a number of no suffix, too
+// No byte, too short, another format, no number, five, a number after the count, a number of no suffix, too
 // long.
 const REJECTED: [&[u8]; 8] = [
     &[],

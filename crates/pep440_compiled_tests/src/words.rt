@@ -1,5 +1,5 @@
-//! Worked cases: packed versions compared and matched by their words, words that no version has, and lists asked of a version
-//! that is read already.
+//! Test cases: packed versions compared and matched by their words, words that no version has, and lists with a version that is
+//! not compiled.
 use pep440_compiled::{
     CompiledError, compare, compile_list, compile_version, contains, contains_version,
 };
@@ -8,12 +8,12 @@ use pep440_version::Version;
 use std::cmp::Ordering;
 use std::test::Fail;
 
-fn compile_text(rt: HostRuntime, text: &str) -> Result<Vec<u8>, Fail> {
+fn compile_version_of(rt: HostRuntime, text: &str) -> Result<Vec<u8>, Fail> {
     let version = Version::from_str(rt.alloc(), text)?;
     Ok(compile_version(rt.alloc(), &version)?)
 }
 
-fn compile_text_of_list(rt: HostRuntime, text: &str) -> Result<Vec<u8>, Fail> {
+fn compile_list_of(rt: HostRuntime, text: &str) -> Result<Vec<u8>, Fail> {
     let list = VersionSpecifiers::from_str(rt.alloc(), text)?;
     Ok(compile_list(rt.alloc(), &list)?)
 }
@@ -35,7 +35,7 @@ const RISING: [&str; 12] = [
 ];
 
 fn compare_texts(rt: HostRuntime, a: &str, b: &str) -> Result<Ordering, Fail> {
-    let (first, second) = (compile_text(rt, a)?, compile_text(rt, b)?);
+    let (first, second) = (compile_version_of(rt, a)?, compile_version_of(rt, b)?);
     Ok(compare(rt.alloc(), &first, &second)?)
 }
 
@@ -122,13 +122,13 @@ const LISTS: [(&str, &str, bool); 9] = [
 ];
 
 fn ask(rt: HostRuntime, list: &str, version: &str) -> Result<bool, Fail> {
-    let (list, version) = (compile_text_of_list(rt, list)?, compile_text(rt, version)?);
+    let (list, version) = (compile_list_of(rt, list)?, compile_version_of(rt, version)?);
     Ok(contains(rt.alloc(), &list, &version)?)
 }
 
-// The same of a version that is read already.
+// The same with a version that is not compiled.
 fn ask_version(rt: HostRuntime, list: &str, version: &str) -> Result<bool, Fail> {
-    let list = compile_text_of_list(rt, list)?;
+    let list = compile_list_of(rt, list)?;
     let version = Version::from_str(rt.alloc(), version)?;
     Ok(contains_version(rt.alloc(), &list, &version)?)
 }
@@ -241,7 +241,7 @@ fn sweep_contains_version(rt: HostRuntime) -> Result<(), Fail> {
     Ok(())
 }
 
-// Of a packed list nothing is allocated, whatever the version: to make it takes as many requests as to make it and ask.
+// A packed list allocates nothing, whatever the version: compiling it allocates as often as compiling it and matching.
 #[test]
 fn requests_of_packed_lists_0(rt: HostRuntime) -> Result<(), Fail> {
     version_again(rt, "1!0.1")?;

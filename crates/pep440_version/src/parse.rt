@@ -261,7 +261,7 @@ impl Version {
         ensures refused { IfErr result (λ e. IfSome (error_refusal e) (Refuses text.now)) }
         // The error that the prefixes of the string determine is returned, unless out of memory.
         ensures decided { (f : Refusal) → Refuses text.now f → Answers error_refusal result (Err f) }
-        // The error's message is that of the refusal.
+        // The message of the error is the stated one.
         ensures message { IfErr result (λ e. IfSome (error_refusal e) (λ f. error_text (error_refusal e) ≡ Some (refusal_text f))) }
         // The normalized form of a record that round-trips parses back to that record, unless out of memory.
         ensures round_trips { (r : Record) → IsRecord r → RoundTrips r → text.now ≡ print r → Answers error_refusal result (Ok r) }

@@ -3,18 +3,18 @@
 #![tactic(auto)]
 
 mod arguments;
+mod case_fields;
+mod command_lines;
 mod error;
-mod fields;
 mod run;
 mod sizes;
 mod streams;
 mod values;
-mod words;
 
 pub use arguments::{change_argument, parse_version, version_argument, version_arguments};
+pub use command_lines::split_words;
 pub use error::CaseError;
 pub use run::{Calls, run_cases};
 pub use sizes::{repeat, sizes};
 pub use streams::{After, Manner, Sink, Trickle};
 pub use values::{copy, equals_copy, print_value};
-pub use words::split_words;

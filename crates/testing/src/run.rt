@@ -1,6 +1,6 @@
 //! Runs the cases of standard input.
+use crate::case_fields::split_fields;
 use crate::error::CaseError;
-use crate::fields::split_fields;
 use crate::sizes::failing_size;
 use std::alloc::Global;
 use std::io;
