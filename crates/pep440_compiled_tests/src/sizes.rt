@@ -6,7 +6,7 @@ use pep440_compiled::{
 use pep440_rs::VersionSpecifiers;
 use pep440_version::Version;
 use std::test::Fail;
-use testing::{repeat, sizes};
+use testing::{repeat, sizes_up_to};
 
 // What each size repeats: numbers and digits of the release, local segments, and bytes of one.
 const VERSIONS: [&str; 4] = ["1«.1»", "1.«0»1", "1+a«.#»", "1+a«b»"];
@@ -28,7 +28,7 @@ fn compile_and_call(rt: HostRuntime, text: &str) -> Result<(), Fail> {
 #[test]
 fn versions_of_each_size(rt: HostRuntime) -> Result<(), Fail> {
     for text in VERSIONS {
-        for size in &sizes(rt.alloc(), 1_025)? {
+        for size in &sizes_up_to(rt.alloc(), 1_025)? {
             let version = repeat(rt.alloc(), text, *size)?;
             let called = compile_and_call(rt, version.as_str());
             assert!(rt; called.is_ok(), "{text} of {size}");
@@ -66,7 +66,7 @@ fn compile_and_ask(rt: HostRuntime, list: &str, version: &str) -> Result<(), Fai
 #[test]
 fn lists_of_each_size(rt: HostRuntime) -> Result<(), Fail> {
     for (text, version) in LISTS {
-        for size in &sizes(rt.alloc(), 257)? {
+        for size in &sizes_up_to(rt.alloc(), 257)? {
             let list = repeat(rt.alloc(), text, *size)?;
             let called = compile_and_ask(rt, list.as_str(), version);
             assert!(rt; called.is_ok(), "{text} of {size}");

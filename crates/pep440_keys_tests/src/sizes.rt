@@ -4,7 +4,7 @@ use pep440_ranges::Ranges;
 use pep440_version::Version;
 use std::ops::Bound;
 use std::test::Fail;
-use testing::{repeat, sizes};
+use testing::{repeat, sizes_up_to};
 
 // What each size repeats: numbers and digits of the release, local segments, and bytes of one.
 const VERSIONS: [&str; 5] = [
@@ -26,7 +26,7 @@ fn make_keys(rt: HostRuntime, text: &str) -> Result<(), Fail> {
 #[test]
 fn versions_of_each_size(rt: HostRuntime) -> Result<(), Fail> {
     for text in VERSIONS {
-        for size in &sizes(rt.alloc(), 1_025)? {
+        for size in &sizes_up_to(rt.alloc(), 1_025)? {
             let version = repeat(rt.alloc(), text, *size)?;
             let made = make_keys(rt, version.as_str());
             assert!(rt; made.is_ok(), "{text} of {size}");

@@ -15,6 +15,6 @@ pub use arguments::{change_argument, parse_version, version_argument, version_ar
 pub use command_lines::split_words;
 pub use error::CaseError;
 pub use run::{Calls, run_cases};
-pub use sizes::{repeat, sizes};
+pub use sizes::{repeat, sizes_up_to};
 pub use streams::{After, Manner, Sink, Trickle};
 pub use values::{copy, equals_copy, print_value};

@@ -7,7 +7,7 @@ use std::alloc::{AllocError, Global};
 const POWERS: [usize; 10] = [128, 256, 512, 1024, 2048, 4096, 8192, 16384, 32768, 65536];
 
 /// 0 to 66, then each power of two with its neighbours, and 70,000; none above the greatest one wanted.
-pub fn sizes(alloc: Global, greatest: usize) -> Result<Vec<usize>, AllocError> {
+pub fn sizes_up_to(alloc: Global, greatest: usize) -> Result<Vec<usize>, AllocError> {
     let mut sizes = Vec::new(alloc);
     for size in 0..=66 {
         sizes.push(size)?;
@@ -72,7 +72,7 @@ pub fn failing_size<C: Calls>(
     let Ok(greatest) = usize::from_str_radix(greatest, 10) else {
         return Err(CaseError::Unreadable);
     };
-    for size in &sizes(alloc, greatest)? {
+    for size in &sizes_up_to(alloc, greatest)? {
         match run_size(alloc, calls, line, *size) {
             Ok(()) => {}
             Err(CaseError::OutOfMemory) => {
