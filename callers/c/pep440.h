@@ -32,7 +32,7 @@ extern "C" {
 
 /* The version of this header, a byte for each number. */
 #define PEP440_VERSION 0x000200
-#define PEP440_VERSION_TEXT "0.2.0"
+#define PEP440_VERSION_TEXT "0.3.0"
 
 /* The version of the library, as PEP440_VERSION. With the library of another soname nothing is promised. */
 uint32_t pep440_version_of_library(void);

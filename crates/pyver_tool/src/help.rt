@@ -40,7 +40,7 @@ const RANGE_USAGE: &str = "pyver range [--cover] [--json] SPECS..";
 
 const CHECK_USAGE: &str = "pyver check [--json] [FILE..]";
 
-pub(crate) const VERSION_LINE: &str = "pyver 0.2.0\n";
+pub(crate) const VERSION_LINE: &str = "pyver 0.3.0\n";
 
 const PROGRAM_HELP: &str = "usage: pyver COMMAND [WORD]..
 
