@@ -6,6 +6,7 @@
 #include <stdio.h>
 #include <stdlib.h>
 #include <string.h>
+#include <sys/resource.h>
 #include <sys/wait.h>
 #include <unistd.h>
 
@@ -42,7 +43,7 @@ static bool is_child(uint32_t number, const char *input)
         _exit(99);
     close(ends[1]), dup2(ends[0], 0), dup2(results, 1), dup2(results, 2);
     tried = number;
-    alarm(20);
+    setrlimit(RLIMIT_CPU, &(struct rlimit){20, 20});
     __sanitizer_install_malloc_and_free_hooks(count, ignore);
     atexit(write_requests);
     return true;
