@@ -1,6 +1,6 @@
 -- The versions that a range holds.
 use Rattle.std.specs.Prelude.{List, Option, filter, option_map}
-use Rattle.pep440_ranges.specs.Segments.{contains}
+use Rattle.pep440_ranges.specs.RangeSegments.{contains}
 use Rattle.pep440_rs.specs.Bounds.{Segments}
 use Rattle.pep440_version.specs.Key.{record_cmp}
 use Rattle.pep440_version.specs.Record.{Record}

@@ -1,7 +1,7 @@
 //! Many versions filtered by one range, which is built once.
 ghost use Rattle.std.specs.Prelude.{◌≡◌, filter, IsErrOf, None, OnErr, OnOk, Some};
 ghost use Rattle.std.specs.List.{All};
-ghost use Rattle.pep440_ranges.specs.Segments.{contains};
+ghost use Rattle.pep440_ranges.specs.RangeSegments.{contains};
 ghost use Rattle.pep440_version.specs.Key.{record_cmp};
 ghost use Rattle.pep440_rs.specs.Agreement.{HasOperand, IsCandidate};
 ghost use Rattle.pep440_rs.specs.Bounds.{list_range, range_of};

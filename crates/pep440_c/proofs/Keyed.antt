@@ -7,10 +7,10 @@ use Rattle.std.specs.Option.{option_map_or}
 use Rattle.std.specs.declared.ops.Bound.{Bound}
 use Rattle.std.specs.declared.ops.Bound.TheVariants.{Included, Excluded, Unbounded}
 use Rattle.pep440_keys.specs.RangeKeys.{HasKeys, IsKeyedBound, IsKeyedSegment}
-use Rattle.pep440_ranges.specs.Bounds.{is_valid, starts_before, ends_before, flipped_bound}
+use Rattle.pep440_ranges.specs.BoundOrder.{is_valid, starts_before, ends_before, flipped_bound}
 use Rattle.pep440_ranges.specs.Complement.{gap_after, gap_before, gaps, gaps_after}
 use Rattle.pep440_ranges.specs.Intersection.{is_valid_segment, overlap, overlaps, overlaps_with}
-use Rattle.pep440_ranges.specs.Segments.{Segment}
+use Rattle.pep440_ranges.specs.RangeSegments.{Segment}
 use Rattle.pep440_rs.proofs.Agreement.Operands.{list_has_texts}
 use Rattle.pep440_rs.proofs.Covering.Lists.{is_coverable}
 use Rattle.pep440_rs.specs.Bounds.{Segments, alone, compatible_end, from_to, full, greater, less, list_range, next_number, raise_last, range_from, range_of, star, star_end}

@@ -3,7 +3,7 @@ use Rattle.std.proofs.Common.{◌≡◌, ◌∙◌, ◌||◌, ℕ, Bool, List, [
 use Rattle.std.specs.List.{list_any}
 use Rattle.pep440_keys.proofs.Membership.{in_range as tells_membership}
 use Rattle.pep440_keys.specs.RangeKeys.{HasKeys, is_within, segment_interval}
-use Rattle.pep440_ranges.specs.Segments.{contains}
+use Rattle.pep440_ranges.specs.RangeSegments.{contains}
 use Rattle.pep440_rs.proofs.Agreement.Operands.{list_has_texts}
 use Rattle.pep440_rs.proofs.Covering.Lists.{list_text_covers}
 use Rattle.pep440_rs.specs.Bounds.{Segments, range_of}

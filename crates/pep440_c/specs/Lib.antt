@@ -5,7 +5,7 @@ pub mod CallResults
 pub mod Intervals
 pub mod Batches
 pub mod Compiled
-pub mod Room
+pub mod Buffers
 pub mod CompiledBatches
 pub mod PatternCalls
 pub mod Edits

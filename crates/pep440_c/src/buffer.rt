@@ -1,7 +1,7 @@
 // What is written to the caller's memory.
 ghost use Rattle.std.specs.Prelude.{◌≡◌, length, string_bytes};
 ghost use Rattle.pep440_c.specs.Statuses.{PutsBoth, PutsFront, flag};
-ghost use Rattle.pep440_c.specs.Room.{PutsGiven, PutsGivenJoined};
+ghost use Rattle.pep440_c.specs.Buffers.{PutsGiven, PutsGivenJoined};
 
 use crate::joined_strings::JoinedStrings;
 use crate::texts::Fault;

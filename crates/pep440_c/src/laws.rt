@@ -2,7 +2,7 @@
 ghost use Rattle.std.specs.Prelude.{◌≡◌, ◌⊎◌, ◌↔◌, ℕ, ℤ, Bool, List, true};
 ghost use Rattle.std.specs.List.{list_any};
 ghost use Rattle.pep440_keys.specs.RangeKeys.{is_within, segment_interval};
-ghost use Rattle.pep440_ranges.specs.Segments.{contains};
+ghost use Rattle.pep440_ranges.specs.RangeSegments.{contains};
 ghost use Rattle.pep440_rs.specs.Bounds.{Segments, range_of};
 ghost use Rattle.pep440_rs.specs.Cover.{cover_of};
 ghost use Rattle.pep440_keys.specs.SortKeys.{key_bytes};

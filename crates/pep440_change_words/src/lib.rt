@@ -1,8 +1,8 @@
 //! Changes of versions as words, as `post=2`.
 #![tactic(auto)]
 
-mod change;
+mod change_word;
 mod error;
 
-pub use change::parse_change;
+pub use change_word::parse_change;
 pub use error::ChangeWordError;

@@ -6,7 +6,7 @@ use Rattle.std.proofs.lemmas.Nat.{from_be_bytes-to_be_bytes_8}
 use Rattle.std.specs.Int.{from_be_bytes, to_be_bytes, w64}
 use Rattle.std.specs.List.{All, AllByRecursion, flat_map}
 use Rattle.std.specs.Prelude.{Option, None, Some, IfSome}
-use Rattle.pep440_compiled.specs.Parts.{counted, eight_bytes, optional_number, optional_prerelease, tagged_segment}
+use Rattle.pep440_compiled.specs.PartBytes.{counted, eight_bytes, optional_number, optional_prerelease, tagged_segment}
 use Rattle.pep440_compiled.specs.Version.{IsStorable}
 use Rattle.pep440_version.specs.Key.{kind_rank}
 use Rattle.pep440_version.specs.Record.{Fits, Text, Number}

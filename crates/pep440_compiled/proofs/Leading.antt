@@ -4,7 +4,7 @@ use Rattle.std.proofs.lemmas.Bool.{cases_lt}
 use Rattle.std.proofs.lemmas.List.{get_or-take, get_or_past, length-take-le, take-append-drop}
 use Rattle.std.proofs.lemmas.Nat.{be_bytes_8}
 use Rattle.std.specs.Int.{from_be_bytes, to_be_bytes, w64}
-use Rattle.pep440_compiled.specs.Parts.{eight_bytes}
+use Rattle.pep440_compiled.specs.PartBytes.{eight_bytes}
 
 pub eight_length : (n : ℕ) (rest : List ℕ) → 8 ≤ length (eight_bytes n ++ rest)
 unfolding eight_bytes

@@ -15,7 +15,7 @@ use Rattle.std.specs.declared.cmp.Ordering.TheVariants as ordering
 use Rattle.pep440_compiled.proofs.Exact.{IsExact, counted_exact, item_follows, items_are, one_more}
 use Rattle.pep440_compiled.proofs.Whole.{compiled_exact}
 use Rattle.pep440_compiled.specs.Lists.{DenotesList, IsPackedMember, IsStoredMember, MayFollow, member_bytes}
-use Rattle.pep440_compiled.specs.Parts.{counted, eight_bytes}
+use Rattle.pep440_compiled.specs.PartBytes.{counted, eight_bytes}
 use Rattle.pep440_compiled.specs.Version.{IsStored, compiled_bytes}
 use Rattle.pep440_compiled.specs.declared.version.CompiledError.{CompiledError}
 use Rattle.pep440_compiled.specs.declared.version.CompiledError.TheVariants.{NotCompiled, OutOfMemory}

@@ -5,7 +5,7 @@ use Rattle.std.proofs.lemmas.List.{get_or-map, take-append-drop}
 use Rattle.pep440_compiled.proofs.Denoted.{one_record}
 use Rattle.pep440_compiled.proofs.Exact.{IsExact, counted_exact, eight_exact, optional_exact, prerelease_exact, segment_exact}
 use Rattle.pep440_compiled.specs.Format.{DenotesPacked, packed_bytes}
-use Rattle.pep440_compiled.specs.Parts.{counted, eight_bytes, optional_number, optional_parts, optional_prerelease, tagged_segment, unpacked_bytes}
+use Rattle.pep440_compiled.specs.PartBytes.{counted, eight_bytes, optional_number, optional_parts, optional_prerelease, tagged_segment, unpacked_bytes}
 use Rattle.pep440_compiled.specs.Version.{IsStorable, IsStored, compiled_bytes}
 use Rattle.pep440_version.specs.Record.{Fits, IsRecord, LocalSegmentValue, Record}
 use Rattle.pep440_version.specs.Segments.{segment}

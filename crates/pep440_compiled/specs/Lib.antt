@@ -2,5 +2,5 @@ pub mod Format
 pub mod Lists
 pub mod OptionalParts
 pub mod PackedWord
-pub mod Parts
+pub mod PartBytes
 pub mod Version

@@ -2,7 +2,7 @@
 use Rattle.std.specs.Prelude.{◌≡◌, ◌≢◌, ℕ, List, ◌∷◌, length, true, false, Option, IfSome}
 use Rattle.std.specs.List.{All}
 use Rattle.std.specs.Ordering.{is_lt}
-use Rattle.pep440_compiled.specs.Parts.{counted}
+use Rattle.pep440_compiled.specs.PartBytes.{counted}
 use Rattle.pep440_compiled.specs.Version.{IsStored, compiled_bytes}
 use Rattle.pep440_rs.specs.Arrangement.{IsArranged, version_cmp}
 use Rattle.pep440_rs.specs.Operators.{operator_rank}

@@ -3,7 +3,7 @@ use Rattle.std.specs.Prelude.{◌≡◌, ℕ, List, length, if◌then◌else◌}
 use Rattle.std.specs.List.{All}
 use Rattle.std.specs.Str.{IsUtf8}
 use Rattle.pep440_compiled.specs.Format.{packed_bytes}
-use Rattle.pep440_compiled.specs.Parts.{unpacked_bytes}
+use Rattle.pep440_compiled.specs.PartBytes.{unpacked_bytes}
 use Rattle.pep440_version.specs.Record.{Fits, IsRecord, LocalSegmentValue, Number, Record, Text}
 use Rattle.pep440_version.specs.Word.{is_packed}
 

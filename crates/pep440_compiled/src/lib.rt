@@ -15,7 +15,7 @@ mod bytes;
 mod calls;
 pub mod laws;
 mod list;
-mod members;
+mod member_bytes;
 mod packed;
 mod parts;
 mod unpacked;

@@ -4,7 +4,7 @@ ghost use Rattle.std.specs.List.{All};
 ghost use Rattle.std.specs.Option.{option_copied};
 ghost use Rattle.pep440_compiled.specs.Format.{DenotesPacked};
 ghost use Rattle.pep440_compiled.specs.Lists.{DenotesList, IsPackedMember, IsStoredMember, MayFollow, member_bytes};
-ghost use Rattle.pep440_compiled.specs.Parts.{eight_bytes};
+ghost use Rattle.pep440_compiled.specs.PartBytes.{eight_bytes};
 ghost use Rattle.pep440_compiled.specs.Version.{DenotesVersion};
 ghost use Rattle.pep440_compiled.specs.declared.version.CompiledError.TheVariants.{NotCompiled, OutOfMemory};
 ghost use Rattle.pep440_rs.specs.Lists.{list_print};
@@ -14,7 +14,7 @@ ghost use Rattle.pep440_rs.specs.declared.specifier.operator.Operator.TheVariant
 ghost use Rattle.pep440_version.specs.Record.{Fits, Record};
 ghost use Rattle.pep440_version.specs.Word.{is_packed};
 
-use crate::members::{prove_members_stored, push_member, read_member};
+use crate::member_bytes::{prove_members_stored, push_member, read_member};
 use crate::parts::{push_number, read_number};
 use crate::version::{CompiledError, read_version};
 use crate::word_list::contains_word;

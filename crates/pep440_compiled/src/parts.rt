@@ -2,7 +2,7 @@
 ghost use Rattle.std.specs.Prelude.{◌≡◌, ◌<◌, ◌^◌, ◌++◌, ℕ, List, length, map, MatchOption, IfSome, IfOk, OnOk, Option};
 ghost use Rattle.std.specs.List.{All, flat_map};
 ghost use Rattle.std.specs.Str.{IsUtf8};
-ghost use Rattle.pep440_compiled.specs.Parts.{counted, eight_bytes, optional_number, optional_prerelease, tagged_segment};
+ghost use Rattle.pep440_compiled.specs.PartBytes.{counted, eight_bytes, optional_number, optional_prerelease, tagged_segment};
 ghost use Rattle.pep440_compiled.specs.Version.{IsStorable};
 ghost use Rattle.pep440_version.specs.Record.{Fits, LocalSegmentValue};
 ghost use Rattle.pep440_version.specs.Segments.{segment};

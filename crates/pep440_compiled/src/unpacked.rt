@@ -1,7 +1,7 @@
 //! Versions that are not packed, as bytes.
 ghost use Rattle.std.specs.Prelude.{◌≡◌, ◌<◌, ◌++◌, ℕ, List, false, length, map, MatchOption, IfNone, IfOk, IfSome, OnOk, Option};
 ghost use Rattle.std.specs.List.{All};
-ghost use Rattle.pep440_compiled.specs.Parts.{optional_parts, unpacked_bytes};
+ghost use Rattle.pep440_compiled.specs.PartBytes.{optional_parts, unpacked_bytes};
 ghost use Rattle.pep440_compiled.specs.OptionalParts.{with_optional_parts};
 ghost use Rattle.pep440_compiled.specs.Version.{IsStorable, IsStored};
 ghost use Rattle.pep440_version.specs.Record.{IsRecord, Record, from_parts, zero_alpha_dev};

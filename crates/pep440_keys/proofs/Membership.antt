@@ -9,8 +9,8 @@ use Rattle.std.specs.declared.cmp.Ordering.{Ordering}
 use Rattle.std.specs.declared.cmp.Ordering.TheVariants as ord
 use Rattle.std.specs.declared.ops.Bound.{Bound}
 use Rattle.std.specs.declared.ops.Bound.TheVariants.{Included, Excluded, Unbounded}
-use Rattle.pep440_ranges.specs.Bounds.{is_from_start, is_up_to_end}
-use Rattle.pep440_ranges.specs.Segments.{Segment, lies_in}
+use Rattle.pep440_ranges.specs.BoundOrder.{is_from_start, is_up_to_end}
+use Rattle.pep440_ranges.specs.RangeSegments.{Segment, lies_in}
 use Rattle.pep440_keys.specs.RangeKeys.{HasKeys, HoldsKeys, IsKeyedBound, IsKeyedSegment, high_key, is_below_key, is_within, low_key, segment_interval}
 use Rattle.pep440_keys.proofs.Order.{followed_in_order, keys_in_order}
 use Rattle.pep440_keys.specs.SortKeys.{IsKeyed, key_bytes}

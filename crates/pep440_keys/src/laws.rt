@@ -3,7 +3,7 @@ ghost use Rattle.std.specs.Prelude.{◌≡◌, ◌↔◌, ◌++◌, ℕ, List, B
 ghost use Rattle.std.specs.Cmp.Lexicographic.{slice_cmp};
 ghost use Rattle.std.specs.Ordering.{nat_cmp, ordering_then};
 ghost use Rattle.std.specs.declared.cmp.Ordering.TheVariants.{Equal};
-ghost use Rattle.pep440_ranges.specs.Segments.{Segment, lies_in};
+ghost use Rattle.pep440_ranges.specs.RangeSegments.{Segment, lies_in};
 ghost use Rattle.pep440_version.specs.Grammar.{Derives};
 ghost use Rattle.pep440_version.specs.Key.{record_cmp};
 ghost use Rattle.pep440_version.specs.Patterns.{DerivesPattern};

@@ -14,11 +14,11 @@
 #![tactic(auto)]
 
 mod interval;
-mod key;
+mod key_bytes;
 pub mod laws;
-mod number;
-mod range;
+mod number_bytes;
+mod range_intervals;
 
 pub use interval::KeyInterval;
-pub use key::{push_sort_key, sort_key};
-pub use range::{range_keys, segment_keys};
+pub use key_bytes::{push_sort_key, sort_key};
+pub use range_intervals::{range_keys, segment_keys};

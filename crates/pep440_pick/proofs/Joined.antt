@@ -8,7 +8,7 @@ use Rattle.std.specs.List.{Any, flat_map, list_all, list_any}
 use Rattle.std.specs.List.Sorted.{IsPermutation}
 use Rattle.std.specs.Option.{option_map_or}
 use Rattle.std.specs.Prelude.{IfOk, IsErrOf, is_none}
-use Rattle.pep440_ranges.specs.Segments.{contains}
+use Rattle.pep440_ranges.specs.RangeSegments.{contains}
 use Rattle.pep440_rs.specs.Agreement.{HoldsInEach}
 use Rattle.pep440_rs.specs.Bounds.{Segments, full, list_range, range_of}
 use Rattle.pep440_rs.specs.Refused.{TellsMax}

@@ -3,7 +3,7 @@
 //! In reading order: `Requirement` and its errors, names, the newest candidate, the allowed range, and `laws`.
 #![tactic(auto)]
 
-mod allowed;
+mod allowed_range;
 mod candidates;
 mod error;
 pub mod laws;
@@ -12,7 +12,7 @@ mod read;
 mod requirement;
 mod scan;
 
-pub use allowed::allowed;
+pub use allowed_range::allowed;
 pub use candidates::newest;
 pub use error::RequirementError;
 pub use name::{is_name, same_name};

@@ -2,7 +2,7 @@
 use Rattle.std.proofs.Common.{List, [], ◌∷◌, refl, inl, inr}
 use Rattle.std.specs.declared.ops.Bound.{Bound}
 use Rattle.std.specs.declared.ops.Bound.TheVariants.{Included, Excluded, Unbounded}
-use Rattle.pep440_ranges.specs.Segments.{Segment}
+use Rattle.pep440_ranges.specs.RangeSegments.{Segment}
 use Rattle.pep440_ranges.specs.Clones.{IsValueOf, IsCloneSame, ClonesBound, ClonesBoundValues, ClonesEach}
 
 module _ {V : Type 0} (is_clone : V → V → Type 0) where

@@ -8,8 +8,8 @@ use Rattle.std.specs.declared.ops.Bound.{Bound}
 use Rattle.std.specs.declared.ops.Bound.TheVariants.{Included, Excluded, Unbounded}
 use Rattle.std.specs.Cmp.{IsTotalOrder}
 use Rattle.std.specs.Ordering.{is_lt, is_le, ordering_reverse}
-use Rattle.pep440_ranges.specs.Bounds.{flipped_bound, is_valid, is_apart, is_from_start, is_up_to_end}
-use Rattle.pep440_ranges.specs.Segments.{Segment, lies_in, contains, IsRange, IsRangeAfter}
+use Rattle.pep440_ranges.specs.BoundOrder.{flipped_bound, is_valid, is_apart, is_from_start, is_up_to_end}
+use Rattle.pep440_ranges.specs.RangeSegments.{Segment, lies_in, contains, IsRange, IsRangeAfter}
 use Rattle.pep440_ranges.specs.Complement.{gaps, gaps_after, gap_before}
 use Rattle.pep440_ranges.proofs.Places.{start_place, end_place, value_place, below, valid_is, apart_is, from_is, upto_is, lt_lt}
 

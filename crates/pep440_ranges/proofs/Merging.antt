@@ -3,8 +3,8 @@ use Rattle.std.proofs.Common.{◌≡◌, true, false, List, [], ◌∷◌, ◌++
 use Rattle.std.specs.declared.cmp.Ordering.{Ordering}
 use Rattle.std.specs.declared.ops.Bound.{Bound}
 use Rattle.std.specs.Cmp.{IsTotalOrder}
-use Rattle.pep440_ranges.specs.Bounds.{ends_before}
-use Rattle.pep440_ranges.specs.Segments.{Segment, IsRange, IsRangeAfter, one_segment}
+use Rattle.pep440_ranges.specs.BoundOrder.{ends_before}
+use Rattle.pep440_ranges.specs.RangeSegments.{Segment, IsRange, IsRangeAfter, one_segment}
 use Rattle.pep440_ranges.specs.Intersection.{overlap, overlaps_with, overlaps}
 use Rattle.pep440_ranges.specs.Clones.{ClonesEach}
 use Rattle.pep440_ranges.proofs.Steps.{step_left, step_right, overlaps_nil, taken, skipped}

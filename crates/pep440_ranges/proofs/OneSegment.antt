@@ -5,8 +5,8 @@ use Rattle.std.proofs.Math.Bool.{or-false}
 use Rattle.std.specs.declared.cmp.Ordering.{Ordering}
 use Rattle.std.specs.declared.ops.Bound.{Bound}
 use Rattle.std.specs.Cmp.{IsTotalOrder}
-use Rattle.pep440_ranges.specs.Bounds.{is_valid}
-use Rattle.pep440_ranges.specs.Segments.{lies_in, contains, IsRange, one_segment}
+use Rattle.pep440_ranges.specs.BoundOrder.{is_valid}
+use Rattle.pep440_ranges.specs.RangeSegments.{lies_in, contains, IsRange, one_segment}
 use Rattle.pep440_ranges.proofs.Overlap.{lies_valid}
 
 module _ {V : Type 0} {cmp : V → V → Ordering} (o : IsTotalOrder cmp) where

@@ -7,8 +7,8 @@ use Rattle.std.specs.declared.ops.Bound.{Bound}
 use Rattle.std.specs.Cmp.{IsTotalOrder}
 use Rattle.std.specs.Ordering.{is_lt}
 use Rattle.std.proofs.lemmas.Cmp.{tied_itself}
-use Rattle.pep440_ranges.specs.Bounds.{is_from_start, is_up_to_end, starts_before, ends_before}
-use Rattle.pep440_ranges.specs.Segments.{Segment, lies_in, contains}
+use Rattle.pep440_ranges.specs.BoundOrder.{is_from_start, is_up_to_end, starts_before, ends_before}
+use Rattle.pep440_ranges.specs.RangeSegments.{Segment, lies_in, contains}
 use Rattle.pep440_ranges.specs.Intersection.{is_valid_segment, overlap, overlaps_with, overlaps}
 use Rattle.pep440_ranges.proofs.Places.{Place, start_place, end_place, value_place, below, valid_is, starts_is, ends_is, from_is, upto_is, rank_total, asym, le_le, le_lt, lt_le}
 use Rattle.pep440_ranges.proofs.Complement.{contains-append, either}

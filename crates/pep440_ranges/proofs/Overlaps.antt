@@ -4,8 +4,8 @@ use Rattle.std.specs.declared.cmp.Ordering.{Ordering}
 use Rattle.std.specs.declared.ops.Bound.{Bound}
 use Rattle.std.specs.declared.ops.Bound.TheVariants.{Included, Excluded, Unbounded}
 use Rattle.std.specs.Cmp.{IsTotalOrder}
-use Rattle.pep440_ranges.specs.Bounds.{is_valid, ends_before}
-use Rattle.pep440_ranges.specs.Segments.{Segment, IsRange, IsRangeAfter}
+use Rattle.pep440_ranges.specs.BoundOrder.{is_valid, ends_before}
+use Rattle.pep440_ranges.specs.RangeSegments.{Segment, IsRange, IsRangeAfter}
 use Rattle.pep440_ranges.specs.Intersection.{is_valid_segment, overlap, overlaps_with, overlaps}
 use Rattle.pep440_ranges.proofs.Places.{Place, start_place, end_place, below, valid_is, apart_is, asym, le_lt, lt_le, lt_lt}
 use Rattle.pep440_ranges.proofs.Overlap.{greater_left, greater_right, lesser_left, lesser_right}

@@ -10,7 +10,7 @@ use Rattle.std.specs.Cmp.{IsTotalOrder}
 use Rattle.std.specs.Cmp.Lexicographic.{options_total}
 use Rattle.std.specs.Ordering.{is_lt, is_le, is_gt, nat_cmp, ordering_then, ordering_reverse, on, then_cmp}
 use Rattle.std.proofs.lemmas.Cmp.{upto, on_total, then_total, nat_cmp_total}
-use Rattle.pep440_ranges.specs.Bounds.{is_valid, is_apart, starts_before, ends_before, is_from_start, is_up_to_end}
+use Rattle.pep440_ranges.specs.BoundOrder.{is_valid, is_apart, starts_before, ends_before, is_from_start, is_up_to_end}
 
 abbrev pub Place : Type 0 → Type 0
 Place V = ℕ × Option V × ℕ

@@ -2,7 +2,7 @@
 use Rattle.std.specs.Prelude.{◌≡◌, ◌⊎◌, List, [], ◌∷◌}
 use Rattle.std.specs.declared.ops.Bound.{Bound}
 use Rattle.std.specs.declared.ops.Bound.TheVariants.{Included, Excluded, Unbounded}
-use Rattle.pep440_ranges.specs.Segments.{Segment}
+use Rattle.pep440_ranges.specs.RangeSegments.{Segment}
 
 module _ {V : Type 0} where
   -- x is the value of the bound

@@ -2,8 +2,8 @@
 use Rattle.std.specs.Prelude.{List, [], ◌∷◌, ◌++◌}
 use Rattle.std.specs.declared.ops.Bound.{Bound}
 use Rattle.std.specs.declared.ops.Bound.TheVariants.{Included, Excluded, Unbounded}
-use Rattle.pep440_ranges.specs.Bounds.{flipped_bound}
-use Rattle.pep440_ranges.specs.Segments.{Segment}
+use Rattle.pep440_ranges.specs.BoundOrder.{flipped_bound}
+use Rattle.pep440_ranges.specs.RangeSegments.{Segment}
 
 module _ {V : Type 0} where
   -- the gap before a start

@@ -2,8 +2,8 @@
 use Rattle.std.specs.Prelude.{Bool, List, map, filter, if◌then◌else◌}
 use Rattle.std.specs.List.{flat_map}
 use Rattle.std.specs.declared.cmp.Ordering.{Ordering}
-use Rattle.pep440_ranges.specs.Bounds.{is_valid, starts_before, ends_before}
-use Rattle.pep440_ranges.specs.Segments.{Segment}
+use Rattle.pep440_ranges.specs.BoundOrder.{is_valid, starts_before, ends_before}
+use Rattle.pep440_ranges.specs.RangeSegments.{Segment}
 
 module _ {V : Type 0} (cmp : V → V → Ordering) where
   -- what two segments share: the later start and the earlier end, of two alike that of s

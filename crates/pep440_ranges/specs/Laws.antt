@@ -2,7 +2,7 @@
 use Rattle.std.specs.Prelude.{◌≡◌, ◌+◌, ◌-◌, ◌≤◌, not, ◌&&◌, List, length}
 use Rattle.std.specs.declared.cmp.Ordering.{Ordering}
 use Rattle.std.specs.declared.ops.Bound.{Bound}
-use Rattle.pep440_ranges.specs.Segments.{Segment, lies_in, contains, IsRange, one_segment}
+use Rattle.pep440_ranges.specs.RangeSegments.{Segment, lies_in, contains, IsRange, one_segment}
 use Rattle.pep440_ranges.specs.Complement.{gaps}
 use Rattle.pep440_ranges.specs.Intersection.{overlaps}
 

@@ -1,5 +1,5 @@
-pub mod Bounds
-pub mod Segments
+pub mod BoundOrder
+pub mod RangeSegments
 pub mod Complement
 pub mod Intersection
 pub mod Clones

@@ -4,7 +4,7 @@ ghost use Rattle.std.specs.Prelude.{◌≡◌, IfOk};
 ghost use Rattle.pep440_ranges.specs.Complement.{gaps};
 ghost use Rattle.pep440_ranges.specs.Clones.{ClonesEach};
 
-use crate::bounds::flip_bound;
+use crate::bound_order::flip_bound;
 use crate::segments::Segment;
 use std::alloc::{AllocError, Global};
 use std::ops::Bound;

@@ -11,7 +11,7 @@
 //! A call fails only if an allocation fails.
 #![tactic(auto)]
 
-mod bounds;
+mod bound_order;
 mod gaps;
 mod merge;
 mod ranges;

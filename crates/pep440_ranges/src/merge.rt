@@ -1,11 +1,11 @@
 //! The merge of two lists of segments into their overlaps.
 
 ghost use Rattle.std.specs.Prelude.{◌≡◌, ◌++◌, IfOk, OnOk};
-ghost use Rattle.pep440_ranges.specs.Segments.{IsRange, one_segment};
+ghost use Rattle.pep440_ranges.specs.RangeSegments.{IsRange, one_segment};
 ghost use Rattle.pep440_ranges.specs.Intersection.{overlaps};
 ghost use Rattle.pep440_ranges.specs.Clones.{ClonesBound, ClonesEach};
 
-use crate::bounds::{clone_bound, ends_before, greater_start, is_valid};
+use crate::bound_order::{clone_bound, ends_before, greater_start, is_valid};
 use crate::segments::Segment;
 use std::alloc::{AllocError, Global};
 use std::ops::Bound;

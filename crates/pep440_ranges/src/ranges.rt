@@ -3,12 +3,12 @@
 ghost use Rattle.std.specs.Prelude.{◌≡◌, ◌∷◌, [], ◌+◌, ◌-◌, ◌≤◌, ◌↔◌, length, IfOk, not, ◌&&◌, true, false, IsTrue};
 ghost use Rattle.std.specs.Ordering.{is_eq, is_lt, is_le};
 ghost use Rattle.std.specs.declared.ops.Bound.TheVariants.{Included, Excluded, Unbounded};
-ghost use Rattle.pep440_ranges.specs.Segments.{lies_in, contains, IsRange, one_segment};
+ghost use Rattle.pep440_ranges.specs.RangeSegments.{lies_in, contains, IsRange, one_segment};
 ghost use Rattle.pep440_ranges.specs.Complement.{gaps};
 ghost use Rattle.pep440_ranges.specs.Intersection.{overlaps};
 ghost use Rattle.pep440_ranges.specs.Clones.{IsCloneSame, ClonesBoundValues};
 
-use crate::bounds::{is_from_start, is_up_to_end, is_valid};
+use crate::bound_order::{is_from_start, is_up_to_end, is_valid};
 use crate::gaps::find_gaps;
 use crate::merge::find_overlaps;
 use crate::segments::{Segment, Segments, clone_segments};
@@ -27,7 +27,7 @@ pub struct Ranges<V: Ord + Clone> {
 
 impl<V: Ord + Clone> Model for Ranges<V> {
     ghost use Rattle.std.specs.Prelude.{List};
-    ghost use Rattle.pep440_ranges.specs.Segments.{Segment, IsRange};
+    ghost use Rattle.pep440_ranges.specs.RangeSegments.{Segment, IsRange};
 
     ghost Value = { List (Segment V) };
 

@@ -4,7 +4,7 @@ ghost use Rattle.std.specs.Prelude.{◌≡◌, IfOk};
 ghost use Rattle.std.specs.Iterator.{YieldsFirstBy, item_count};
 ghost use Rattle.pep440_ranges.specs.Clones.{ClonesEach};
 
-use crate::bounds::clone_bound;
+use crate::bound_order::clone_bound;
 use std::alloc::{AllocError, Global};
 use std::marker::Model;
 use std::ops::Bound;
@@ -22,7 +22,7 @@ pub struct Segments<'a, V> {
 
 impl<'a, V> Model for Segments<'a, V> {
     ghost use Rattle.std.specs.Prelude.{List};
-    ghost use Rattle.pep440_ranges.specs.Segments.{Segment};
+    ghost use Rattle.pep440_ranges.specs.RangeSegments.{Segment};
 
     ghost Value = { List (Segment V) };
 

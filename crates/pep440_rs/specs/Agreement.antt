@@ -9,7 +9,7 @@ use Rattle.pep440_rs.specs.Operators.{allows_local, is_star}
 use Rattle.pep440_rs.specs.Specifiers.{Spec}
 use Rattle.pep440_rs.specs.declared.specifier.operator.Operator.{Operator}
 use Rattle.pep440_rs.specs.declared.specifier.operator.Operator.TheVariants.{ExactEqual, NotEqual, NotEqualStar, LessThan, GreaterThan}
-use Rattle.pep440_ranges.specs.Segments.{contains, IsRange}
+use Rattle.pep440_ranges.specs.RangeSegments.{contains, IsRange}
 use Rattle.pep440_version.specs.Key.{record_cmp}
 use Rattle.pep440_version.specs.Record.{Record, from_release, epoch_and_release}
 

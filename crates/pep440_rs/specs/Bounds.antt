@@ -9,7 +9,7 @@ use Rattle.pep440_rs.specs.declared.specifier.operator.Operator.{Operator}
 use Rattle.pep440_rs.specs.declared.specifier.operator.Operator.TheVariants.{Equal, EqualStar, ExactEqual, NotEqual, NotEqualStar, TildeEqual, LessThan, LessThanEqual, GreaterThan, GreaterThanEqual}
 use Rattle.pep440_ranges.specs.Complement.{gaps}
 use Rattle.pep440_ranges.specs.Intersection.{overlaps}
-use Rattle.pep440_ranges.specs.Segments.{Segment, one_segment}
+use Rattle.pep440_ranges.specs.RangeSegments.{Segment, one_segment}
 use Rattle.pep440_version.specs.Key.{record_cmp}
 use Rattle.pep440_version.specs.Record.{Record, from_release, epoch_and_release}
 use Rattle.pep440_version.specs.declared.prerelease.Prerelease.{Prerelease}

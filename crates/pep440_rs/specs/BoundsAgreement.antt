@@ -6,8 +6,8 @@ use Rattle.pep440_rs.specs.Agreement.{IsReleaseOnly}
 use Rattle.pep440_rs.specs.Matching.{list_matches}
 use Rattle.pep440_rs.specs.Specifiers.{Spec}
 use Rattle.pep440_rs.specs.Members.{gap_members}
-use Rattle.pep440_ranges.specs.Bounds.{is_valid, flipped_bound}
-use Rattle.pep440_ranges.specs.Segments.{Segment, lies_in, contains}
+use Rattle.pep440_ranges.specs.BoundOrder.{is_valid, flipped_bound}
+use Rattle.pep440_ranges.specs.RangeSegments.{Segment, lies_in, contains}
 use Rattle.pep440_version.specs.Key.{record_cmp}
 use Rattle.pep440_version.specs.Record.{Record}
 

@@ -4,7 +4,7 @@ use Rattle.std.specs.List.{flat_map}
 use Rattle.std.specs.declared.ops.Bound.{Bound}
 use Rattle.std.specs.declared.ops.Bound.TheVariants.{Included, Excluded, Unbounded}
 use Rattle.pep440_version.specs.Sentinels.{print_with_sentinels}
-use Rattle.pep440_ranges.specs.Segments.{Segment}
+use Rattle.pep440_ranges.specs.RangeSegments.{Segment}
 use Rattle.pep440_rs.specs.Bounds.{Segments}
 use Rattle.pep440_version.specs.Record.{Record}
 

@@ -12,7 +12,7 @@ ghost use Rattle.pep440_rs.specs.Matching.{matches};
 ghost use Rattle.pep440_rs.specs.Members.{list_members, pair_members};
 ghost use Rattle.pep440_rs.specs.SpecifierGrammar.{DerivesSpecifier, HasText, RefusesSpecifier, SpecifierRefusal};
 ghost use Rattle.pep440_rs.specs.Specifiers.{Spec};
-ghost use Rattle.pep440_ranges.specs.Segments.{Segment};
+ghost use Rattle.pep440_ranges.specs.RangeSegments.{Segment};
 ghost use Rattle.pep440_version.specs.Record.{Record};
 ghost use Rattle.pep440_rs.specs.Refused.{RefusedAtMax, raised_number, raised_release_number};
 

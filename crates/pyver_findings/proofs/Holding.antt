@@ -8,7 +8,7 @@ use Rattle.pep440_pick.specs.Names.{same_name}
 use Rattle.pep440_pick.specs.RequirementGrammar.{DerivesRequirement, Needed}
 use Rattle.pep440_ranges.proofs.Laws.{overlaps_hold_both}
 use Rattle.pep440_ranges.specs.Intersection.{overlaps}
-use Rattle.pep440_ranges.specs.Segments.{contains}
+use Rattle.pep440_ranges.specs.RangeSegments.{contains}
 use Rattle.pep440_rs.proofs.Agreement.Operands.{list_has_texts}
 use Rattle.pep440_rs.proofs.Covering.Lists.{list_text_covers}
 use Rattle.pep440_rs.specs.Bounds.{Segments, full, list_range}

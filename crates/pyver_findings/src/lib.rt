@@ -17,7 +17,7 @@ mod pairs;
 mod report;
 mod report_json;
 mod report_text;
-mod requirement;
+mod requirement_line;
 
 pub use cause::Cause;
 pub use escape::{push_escaped, push_escaped_lines};

@@ -8,7 +8,7 @@ use crate::cause::Cause;
 use crate::demand::Demand;
 use crate::file_line::FileLine;
 use crate::finding::Finding;
-use crate::requirement::{parse_requirement, reject};
+use crate::requirement_line::{parse_requirement, reject};
 use pyver_requirements::{LineKind, classify, has_variable};
 use std::alloc::{AllocError, Global};
 

@@ -1,7 +1,7 @@
 -- What holds of the outcomes of `range`: 'no version' is never wrong, and an intersection holds what each range holds.
 use Rattle.std.specs.Prelude.{◌≡◌, ℕ, List, IsTrue, codes}
 use Rattle.std.specs.List.{All, list_all}
-use Rattle.pep440_ranges.specs.Segments.{contains}
+use Rattle.pep440_ranges.specs.RangeSegments.{contains}
 use Rattle.pep440_rs.specs.Bounds.{Segments}
 use Rattle.pep440_rs.specs.Cover.{IsDenoted}
 use Rattle.pep440_rs.specs.ListGrammar.{DerivesList}

@@ -2,7 +2,7 @@
 
 ghost use Rattle.std.specs.Prelude.{◌≡◌, ℕ, length, not, IfOk};
 ghost use Rattle.std.specs.Ordering.{nat_cmp};
-ghost use Rattle.pep440_ranges.specs.Segments.{contains};
+ghost use Rattle.pep440_ranges.specs.RangeSegments.{contains};
 ghost use Rattle.pep440_ranges.specs.Clones.{IsCloneSame};
 
 use pep440_ranges::Ranges;

@@ -13,7 +13,7 @@ use Rattle.pep440_rs.specs.Agreement.{IsSuffixComparable}
 use Rattle.pep440_rs.specs.Bounds.{Segments, greater, next_number}
 use Rattle.pep440_rs.specs.Matching.{any_prerelease, matches}
 use Rattle.pep440_rs.specs.declared.specifier.operator.Operator.TheVariants.{GreaterThan}
-use Rattle.pep440_ranges.specs.Segments.{contains}
+use Rattle.pep440_ranges.specs.RangeSegments.{contains}
 use Rattle.pep440_version.specs.Key.{base_cmp, suffix_cmp, record_cmp}
 use Rattle.pep440_version.specs.Record.{Record, from_parts}
 use Rattle.pep440_version.specs.declared.prerelease.Prerelease.{Prerelease}

@@ -11,7 +11,7 @@ use Rattle.pep440_rs.specs.Agreement.{IsSuffixComparable}
 use Rattle.pep440_rs.specs.Bounds.{less}
 use Rattle.pep440_rs.specs.Matching.{matches, same_release, any_prerelease}
 use Rattle.pep440_rs.specs.declared.specifier.operator.Operator.TheVariants.{LessThan}
-use Rattle.pep440_ranges.specs.Segments.{contains}
+use Rattle.pep440_ranges.specs.RangeSegments.{contains}
 use Rattle.pep440_version.specs.Key.{base_cmp, suffix_cmp, record_cmp}
 use Rattle.pep440_version.specs.Record.{Record}
 

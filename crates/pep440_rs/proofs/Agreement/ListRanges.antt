@@ -13,7 +13,7 @@ use Rattle.pep440_rs.specs.declared.specifier.operator.Operator.{Operator}
 use Rattle.pep440_rs.specs.declared.range.error.RangeError.{RangeError}
 use Rattle.pep440_ranges.proofs.Laws.{overlaps_are_range, overlaps_hold_both, overlaps_are_few}
 use Rattle.pep440_ranges.specs.Intersection.{overlaps}
-use Rattle.pep440_ranges.specs.Segments.{contains, IsRange}
+use Rattle.pep440_ranges.specs.RangeSegments.{contains, IsRange}
 use Rattle.pep440_version.specs.Key.{record_cmp}
 use Rattle.pep440_version.specs.KeyLaws.{record_total}
 use Rattle.pep440_version.specs.Record.{Record}

@@ -13,7 +13,7 @@ use Rattle.pep440_rs.specs.Matching.{matches, begins_with, has_prefix, without_l
 use Rattle.pep440_rs.specs.declared.specifier.operator.Operator.TheVariants.{TildeEqual}
 use Rattle.pep440_ranges.proofs.Laws.{one_segment_holds_between, one_segment_is_range, gaps_hold_the_rest}
 use Rattle.pep440_ranges.specs.Complement.{gaps}
-use Rattle.pep440_ranges.specs.Segments.{contains}
+use Rattle.pep440_ranges.specs.RangeSegments.{contains}
 use Rattle.pep440_version.specs.Key.{suffix_cmp, record_cmp, release_cmp}
 use Rattle.pep440_version.specs.KeyLaws.{record_total}
 use Rattle.pep440_version.specs.Record.{Record, from_parts, epoch_and_release}

@@ -8,7 +8,7 @@ use Rattle.std.specs.declared.ops.Bound.TheVariants.{Included, Excluded}
 use Rattle.pep440_rs.proofs.Agreement.VersionOrder.{by_parts, turn_le, both}
 use Rattle.pep440_rs.specs.Bounds.{from_to}
 use Rattle.pep440_ranges.proofs.Laws.{one_segment_holds_between}
-use Rattle.pep440_ranges.specs.Segments.{contains}
+use Rattle.pep440_ranges.specs.RangeSegments.{contains}
 use Rattle.pep440_version.specs.Grammar.{Derives}
 use Rattle.pep440_version.specs.Key.{base_cmp, suffix_cmp, record_cmp, local_cmp}
 use Rattle.pep440_version.specs.KeyLaws.{record_total}

@@ -25,7 +25,7 @@ use Rattle.pep440_rs.specs.declared.specifier.operator.Operator.{Operator}
 use Rattle.pep440_rs.specs.declared.specifier.operator.Operator.TheVariants.{Equal, EqualStar, ExactEqual, NotEqual, NotEqualStar, TildeEqual, LessThan, LessThanEqual, GreaterThan, GreaterThanEqual}
 use Rattle.pep440_ranges.proofs.Laws.{gaps_hold_the_rest, one_segment_is_range, overlaps_hold_both}
 use Rattle.pep440_ranges.specs.Complement.{gaps}
-use Rattle.pep440_ranges.specs.Segments.{contains}
+use Rattle.pep440_ranges.specs.RangeSegments.{contains}
 use Rattle.pep440_version.proofs.Reading.Agreement.{one_record}
 use Rattle.pep440_version.proofs.RoundTrip.PrintIsRead.{derived_again}
 use Rattle.pep440_version.specs.Grammar.{Derives}

@@ -9,8 +9,8 @@ use Rattle.std.specs.List.{filter}
 use Rattle.std.specs.declared.cmp.Ordering.{Ordering}
 use Rattle.std.specs.declared.ops.Bound.{Bound}
 use Rattle.std.specs.Cmp.{IsTotalOrder}
-use Rattle.pep440_ranges.specs.Bounds.{starts_before, ends_before}
-use Rattle.pep440_ranges.specs.Segments.{Segment}
+use Rattle.pep440_ranges.specs.BoundOrder.{starts_before, ends_before}
+use Rattle.pep440_ranges.specs.RangeSegments.{Segment}
 use Rattle.pep440_ranges.specs.Intersection.{is_valid_segment, overlap, overlaps_with, overlaps}
 use Rattle.pep440_ranges.proofs.Places.{start_place, end_place, valid_is, starts_is, ends_is, le_le, le_lt, lt_le, lt_lt}
 use Rattle.pep440_ranges.proofs.Overlap.{greater_left, greater_right, lesser_left, lesser_right}

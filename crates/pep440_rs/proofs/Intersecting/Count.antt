@@ -12,9 +12,9 @@ use Rattle.pep440_rs.specs.Matching.{any_prerelease, has_local, without_last}
 use Rattle.pep440_rs.specs.declared.specifier.operator.Operator.{Operator}
 use Rattle.pep440_rs.specs.declared.specifier.operator.Operator.TheVariants.{Equal, EqualStar, ExactEqual, NotEqual, NotEqualStar, TildeEqual, LessThan, LessThanEqual, GreaterThan, GreaterThanEqual}
 use Rattle.pep440_ranges.proofs.Laws.{one_segment_is_range, gaps_are_range, gaps_are_few, overlaps_are_range}
-use Rattle.pep440_ranges.specs.Bounds.{is_valid}
+use Rattle.pep440_ranges.specs.BoundOrder.{is_valid}
 use Rattle.pep440_ranges.specs.Complement.{gaps}
-use Rattle.pep440_ranges.specs.Segments.{Segment, IsRange, one_segment}
+use Rattle.pep440_ranges.specs.RangeSegments.{Segment, IsRange, one_segment}
 use Rattle.pep440_version.specs.Key.{record_cmp}
 use Rattle.pep440_version.specs.KeyLaws.{record_total}
 use Rattle.pep440_version.specs.Record.{Record, epoch_and_release, from_release}

@@ -3,9 +3,9 @@ use Rattle.std.proofs.Common.{◌≡◌, cond, IsTrue, [], ◌∷◌, Some, refl
 use Rattle.std.proofs.lemmas.List.{append-nil}
 use Rattle.std.specs.declared.ops.Bound.{Bound}
 use Rattle.std.specs.declared.ops.Bound.TheVariants.{Included, Excluded, Unbounded}
-use Rattle.pep440_ranges.specs.Bounds.{is_valid, starts_before, ends_before}
+use Rattle.pep440_ranges.specs.BoundOrder.{is_valid, starts_before, ends_before}
 use Rattle.pep440_ranges.specs.Intersection.{overlap, overlaps, overlaps_with, is_valid_segment}
-use Rattle.pep440_ranges.specs.Segments.{Segment, IsRange, IsRangeAfter}
+use Rattle.pep440_ranges.specs.RangeSegments.{Segment, IsRange, IsRangeAfter}
 use Rattle.pep440_rs.specs.Agreement.{GivesRanges}
 use Rattle.pep440_rs.specs.Bounds.{Segments, full}
 use Rattle.pep440_rs.specs.Conversions.{converted, IsKept}

@@ -15,8 +15,8 @@ use Rattle.pep440_rs.specs.Matching.{matches, list_matches}
 use Rattle.pep440_rs.specs.Specifiers.{Spec}
 use Rattle.pep440_rs.specs.Members.{pair_members, gap_members, gaps_members, last_end, list_members}
 use Rattle.pep440_ranges.proofs.Places.{below, start_place, end_place, value_place, valid_is, upto_is, from_is, asym, le_le, lt_le, lt_lt}
-use Rattle.pep440_ranges.specs.Bounds.{is_valid, is_from_start, is_up_to_end}
-use Rattle.pep440_ranges.specs.Segments.{Segment, lies_in, contains}
+use Rattle.pep440_ranges.specs.BoundOrder.{is_valid, is_from_start, is_up_to_end}
+use Rattle.pep440_ranges.specs.RangeSegments.{Segment, lies_in, contains}
 use Rattle.pep440_version.specs.Key.{record_cmp}
 use Rattle.pep440_version.specs.KeyLaws.{record_total}
 use Rattle.pep440_version.specs.Record.{Record}

@@ -17,8 +17,8 @@ use Rattle.pep440_rs.specs.Specifiers.{Spec}
 use Rattle.pep440_rs.specs.Members.{spec, is_next, lower_member, upper_member, outer_members, pair_members, gap_members}
 use Rattle.pep440_rs.specs.declared.specifier.operator.Operator.TheVariants.{Equal, EqualStar, NotEqual, NotEqualStar, LessThan, LessThanEqual, GreaterThan, GreaterThanEqual}
 use Rattle.pep440_ranges.proofs.Places.{below, start_place, end_place, value_place, valid_is, upto_is, from_is, le_le}
-use Rattle.pep440_ranges.specs.Bounds.{is_valid, is_from_start, is_up_to_end}
-use Rattle.pep440_ranges.specs.Segments.{Segment, lies_in}
+use Rattle.pep440_ranges.specs.BoundOrder.{is_valid, is_from_start, is_up_to_end}
+use Rattle.pep440_ranges.specs.RangeSegments.{Segment, lies_in}
 use Rattle.pep440_version.specs.Key.{record_cmp}
 use Rattle.pep440_version.specs.KeyLaws.{record_total}
 use Rattle.pep440_version.specs.Record.{Record, from_release}

@@ -1,6 +1,6 @@
 use Rattle.std.proofs.Common.{◌≡◌, ◌++◌, map, take}
 use Rattle.std.specs.List.{flat_map}
-use Rattle.pep440_compiled.specs.Parts.{tagged_segment}
+use Rattle.pep440_compiled.specs.PartBytes.{tagged_segment}
 use Rattle.pep440_version.specs.Segments.{segment}
 use Rattle.pep440_compiled.proofs.parts.push_local.Given as goal
 

@@ -4,7 +4,7 @@ use Rattle.std.proofs.lemmas.List.Elements.{All-push}
 use Rattle.std.specs.List.{All, flat_map}
 use Rattle.pep440_compiled.proofs.Exact.{item_follows, items_are, one_more, segment_exact}
 use Rattle.pep440_compiled.proofs.parts.read_local.Goals as goal
-use Rattle.pep440_compiled.specs.Parts.{tagged_segment}
+use Rattle.pep440_compiled.specs.PartBytes.{tagged_segment}
 use Rattle.pep440_compiled.specs.Version.{IsStorable}
 use Rattle.pep440_version.specs.Segments.{segment}
 

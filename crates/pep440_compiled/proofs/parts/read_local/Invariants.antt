@@ -1,6 +1,6 @@
 use Rattle.std.proofs.Common.{◌≡◌, ◌++◌, length, map}
 use Rattle.std.specs.List.{All, flat_map}
-use Rattle.pep440_compiled.specs.Parts.{tagged_segment}
+use Rattle.pep440_compiled.specs.PartBytes.{tagged_segment}
 use Rattle.pep440_compiled.specs.Version.{IsStorable}
 use Rattle.pep440_version.specs.Segments.{segment}
 use Rattle.pep440_compiled.proofs.parts.read_local.Given as goal

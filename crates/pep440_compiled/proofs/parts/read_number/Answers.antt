@@ -2,7 +2,7 @@ use Rattle.std.proofs.Common.{◌≡◌, ◌∙◌, ◌++◌, sym, ap, length, a
 use Rattle.pep440_compiled.proofs.Exact.{eight_exact}
 use Rattle.pep440_compiled.proofs.Leading.{eight_from, eight_length}
 use Rattle.pep440_compiled.proofs.parts.read_number.Goals as goal
-use Rattle.pep440_compiled.specs.Parts.{eight_bytes}
+use Rattle.pep440_compiled.specs.PartBytes.{eight_bytes}
 
 pub returns-clause-some : goal.returns-clause-some
 returns-clause-some c =

@@ -4,7 +4,7 @@ use Rattle.std.proofs.lemmas.List.Elements.{All-push}
 use Rattle.std.specs.List.{All, flat_map}
 use Rattle.pep440_compiled.proofs.Exact.{eight_exact, item_follows, items_are, one_more}
 use Rattle.pep440_compiled.proofs.parts.read_release.Goals as goal
-use Rattle.pep440_compiled.specs.Parts.{eight_bytes}
+use Rattle.pep440_compiled.specs.PartBytes.{eight_bytes}
 use Rattle.pep440_version.specs.Record.{Fits}
 
 pub returns-in_default-read_number-clause-only : goal.returns-in_default-read_number-clause-only

@@ -1,6 +1,6 @@
 use Rattle.std.proofs.Common.{◌≡◌, ◌++◌, length}
 use Rattle.std.specs.List.{All, flat_map}
-use Rattle.pep440_compiled.specs.Parts.{eight_bytes}
+use Rattle.pep440_compiled.specs.PartBytes.{eight_bytes}
 use Rattle.pep440_version.specs.Record.{Fits}
 use Rattle.pep440_compiled.proofs.parts.read_release.Given as goal
 

@@ -2,7 +2,7 @@ use Rattle.std.proofs.Common.{◌∙◌, sym, []}
 use Rattle.std.proofs.lemmas.List.{append-nil}
 use Rattle.pep440_compiled.proofs.Whole.{is_not_nil, unpacked_exact}
 use Rattle.pep440_compiled.proofs.unpacked.from_bytes.Goals as goal
-use Rattle.pep440_compiled.specs.Parts.{unpacked_bytes}
+use Rattle.pep440_compiled.specs.PartBytes.{unpacked_bytes}
 
 pub returns-then-not-is_empty-clause-none : goal.returns-then-not-is_empty-clause-none
 returns-then-not-is_empty-clause-none c r s unpacked e =

@@ -1,7 +1,7 @@
 use Rattle.std.proofs.Common.{◌∙◌, ◌++◌, ap}
 use Rattle.pep440_compiled.proofs.Whole.{written}
 use Rattle.pep440_compiled.proofs.unpacked.push_parts.Goals as goal
-use Rattle.pep440_compiled.specs.Parts.{counted, eight_bytes, optional_number, optional_prerelease, tagged_segment}
+use Rattle.pep440_compiled.specs.PartBytes.{counted, eight_bytes, optional_number, optional_prerelease, tagged_segment}
 
 pub returns : goal.returns
 returns c =

@@ -2,7 +2,7 @@ use Rattle.std.proofs.Common.{◌≡◌, ◌∙◌, ◌++◌, sym, ap, subst, ma
 use Rattle.pep440_compiled.proofs.Whole.{after_epoch, after_release, joined_parts, spread}
 use Rattle.pep440_compiled.proofs.unpacked.read_parts.Goals as goal
 use Rattle.pep440_compiled.specs.OptionalParts.{with_optional_parts}
-use Rattle.pep440_compiled.specs.Parts.{counted, tagged_segment, unpacked_bytes}
+use Rattle.pep440_compiled.specs.PartBytes.{counted, tagged_segment, unpacked_bytes}
 use Rattle.pep440_version.specs.Segments.{segment}
 use Rattle.pep440_version.specs.Record.{Record, from_parts, zero_alpha_dev}
 

@@ -1,5 +1,5 @@
 use Rattle.std.proofs.Common.{◌≡◌, ◌++◌, ◌+◌, length}
-use Rattle.pep440_ranges.specs.Segments.{IsRange}
+use Rattle.pep440_ranges.specs.RangeSegments.{IsRange}
 use Rattle.pep440_ranges.specs.Intersection.{overlaps}
 use Rattle.pep440_ranges.specs.Clones.{ClonesEach}
 use Rattle.pep440_ranges.proofs.merge.find_overlaps.Given as goal

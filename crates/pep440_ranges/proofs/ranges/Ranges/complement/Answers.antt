@@ -1,6 +1,6 @@
 -- What the gaps of a range are.
 use Rattle.std.proofs.Common.{◌≡◌, ◌∙◌, ap, sym, subst}
-use Rattle.pep440_ranges.specs.Segments.{IsRange}
+use Rattle.pep440_ranges.specs.RangeSegments.{IsRange}
 use Rattle.pep440_ranges.specs.Complement.{gaps}
 use Rattle.pep440_ranges.specs.Clones.{ClonesBoundValues}
 use Rattle.pep440_ranges.proofs.Clones.{clones_each}

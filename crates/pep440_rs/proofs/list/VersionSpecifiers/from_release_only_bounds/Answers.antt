@@ -6,7 +6,7 @@ use Rattle.pep440_rs.specs.Arrangement.{Arranges}
 use Rattle.pep440_rs.specs.BoundsAgreement.{IsReleasePair, IsOrdered, KnowsGaps, HoldsWithin, HoldsOnlyWithin}
 use Rattle.pep440_rs.specs.Members.{list_members}
 use Rattle.pep440_rs.specs.Specifiers.{Spec}
-use Rattle.pep440_ranges.specs.Segments.{Segment}
+use Rattle.pep440_ranges.specs.RangeSegments.{Segment}
 use Rattle.pep440_version.specs.Record.{Record}
 use Rattle.pep440_rs.proofs.list.VersionSpecifiers.from_release_only_bounds.Goals as goal
 

@@ -5,7 +5,7 @@ use Rattle.pep440_rs.specs.BoundsAgreement.{IsReleasePair, MatchesWithin}
 use Rattle.pep440_rs.specs.Matching.{list_matches}
 use Rattle.pep440_rs.specs.Members.{pair_members}
 use Rattle.pep440_rs.specs.Specifiers.{Spec}
-use Rattle.pep440_ranges.specs.Segments.{Segment}
+use Rattle.pep440_ranges.specs.RangeSegments.{Segment}
 use Rattle.pep440_version.specs.Record.{Record}
 use Rattle.pep440_rs.proofs.specifier.VersionSpecifier.from_release_only_bounds.Goals as goal
 

@@ -1,0 +1,7 @@
+use Rattle.std.proofs.Common.{◌≡◌, ◌++◌, take}
+use Rattle.std.specs.List.{flat_map}
+use Rattle.pep440_keys.specs.SortKeys.{number_bytes}
+use Rattle.pep440_keys.proofs.key_bytes.push_numbers.Given as goal
+
+abbrev pub invariant-loop-number : goal.invariant-loop-number
+invariant-loop-number l = l.key.items ≡ l.initial.key.items ++ flat_map (number_bytes 1) (take l.number-index l.number-items)
