@@ -13,12 +13,12 @@ use Rattle.pep440_rs.specs.Specifiers.{Spec}
 use Rattle.pep440_version.specs.Key.{record_cmp}
 use Rattle.pep440_version.specs.KeyLaws.{record_total}
 use Rattle.pep440_version.specs.Record.{Record}
-use Rattle.pyver_tool.specs.Newest.{IsNewestLine, NewestLine, allowed_lines, or_else}
+use Rattle.pyver_tool.specs.NewestOutcomes.{IsNewestLine, NewestLine, allowed_lines, or_else}
 use Rattle.pyver_tool.specs.Prereleases.{allows}
 use Rattle.pyver_tool.specs.VersionLines.{VersionLine}
 use Rattle.pyver_tool.specs.VersionLineViews.{version_line_of}
-use Rattle.pyver_tool.specs.declared.prerelease.Prereleases.{Prereleases}
-use Rattle.pyver_tool.specs.declared.prerelease.Prereleases.TheVariants as prereleases
+use Rattle.pyver_tool.specs.declared.prerelease_rule.Prereleases.{Prereleases}
+use Rattle.pyver_tool.specs.declared.prerelease_rule.Prereleases.TheVariants as prereleases
 use Rattle.pyver_tool.specs.declared.version_line.VersionLine.{VersionLine as LineInMemory}
 
 -- ---- the order

@@ -23,7 +23,7 @@ use Rattle.pyver_tool.specs.CommonRanges.{FindsCommon, RangeReading, ReadsRange,
 use Rattle.pyver_tool.specs.Matches.{DenotesList, ListFails}
 use Rattle.pyver_tool.specs.Outcomes.{Outcome}
 use Rattle.pyver_tool.specs.RangeLaws.{CommonIsInEach, AllowsVersion, NoVersionIsCommon}
-use Rattle.pyver_tool.specs.declared.range.RangeOptions.{RangeOptions}
+use Rattle.pyver_tool.specs.declared.common_range.RangeOptions.{RangeOptions}
 use Rattle.pyver_tool.proofs.InTurn.{all_more}
 
 -- ---- one list after another

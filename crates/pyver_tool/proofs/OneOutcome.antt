@@ -19,7 +19,7 @@ use Rattle.pyver_tool.specs.Filters.{Filters, FiltersBy, FiltersLines, filter_ou
 use Rattle.pyver_tool.specs.InputLines.{SourceLine, Source, filled_lines}
 use Rattle.pyver_tool.specs.LineOptions.{is_header, no_line_options}
 use Rattle.pyver_tool.specs.Matches.{Matches, MatchesBy, MatchesWord, MatchesWords, ReadsSpecifiers, SpecifiersReading, DenotesList, ListFails, word_outcome}
-use Rattle.pyver_tool.specs.Newest.{FindsNewest, FindsNewestBy, FindsNewestLine, candidates, newest_outcome, newest_rule}
+use Rattle.pyver_tool.specs.NewestOutcomes.{FindsNewest, FindsNewestBy, FindsNewestLine, candidates, newest_outcome, newest_rule}
 use Rattle.pyver_tool.specs.CheckLaws.{ChecksOnce}
 use Rattle.pyver_tool.specs.Checks.{report_outcome}
 use Rattle.pyver_findings.proofs.Once.{reports_once}
@@ -41,7 +41,7 @@ use Rattle.pyver_tool.specs.declared.invalid_lines.InvalidLines.{InvalidLines}
 use Rattle.pyver_tool.specs.declared.line_options.LineOptions.{LineOptions}
 use Rattle.pyver_tool.specs.declared.newest.NewestOptions.{NewestOptions}
 use Rattle.pyver_tool.specs.declared.newest.NewestRule.{NewestRule}
-use Rattle.pyver_tool.specs.declared.range.RangeOptions.{RangeOptions}
+use Rattle.pyver_tool.specs.declared.common_range.RangeOptions.{RangeOptions}
 use Rattle.pyver_tool.specs.declared.show.ShowFormat.{ShowFormat}
 use Rattle.pyver_tool.specs.declared.sort.SortOptions.{SortOptions}
 

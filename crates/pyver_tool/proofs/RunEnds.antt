@@ -8,7 +8,7 @@ use Rattle.pyver_tool.specs.FilterSteps.{FilterFinishes, FilterStops}
 use Rattle.pyver_tool.specs.Filters.{Filters, filter_outcome, rule_of}
 use Rattle.pyver_tool.specs.InputLines.{Source}
 use Rattle.pyver_tool.specs.Matches.{DenotesList}
-use Rattle.pyver_tool.specs.Newest.{newest_rule}
+use Rattle.pyver_tool.specs.NewestOutcomes.{newest_rule}
 use Rattle.pyver_tool.specs.Outcomes.{Outcome}
 use Rattle.pyver_tool.specs.Runs.{Ends, IsLast, IsReadMessage, ReadsSome, WritesAnswer, WroteBeginning, memory_message}
 use Rattle.pyver_tool.specs.SourceViews.{IsRunFailureOf, Reports}

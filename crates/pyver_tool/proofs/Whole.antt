@@ -8,7 +8,7 @@ use Rattle.pyver_tool.specs.BumpInputs.{only_outcome}
 use Rattle.pyver_tool.specs.InputLines.{Source, filled_lines}
 use Rattle.pyver_tool.specs.InvalidLines.{lines_status}
 use Rattle.pyver_tool.specs.LineOptions.{no_line_options}
-use Rattle.pyver_tool.specs.Newest.{newest_outcome}
+use Rattle.pyver_tool.specs.NewestOutcomes.{newest_outcome}
 use Rattle.pyver_tool.specs.Outcomes.{Outcome}
 use Rattle.pyver_tool.specs.ReadLines.{IsRead}
 use Rattle.pyver_tool.specs.Runs.{WroteBeginning}

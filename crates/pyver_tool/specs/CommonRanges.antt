@@ -12,7 +12,7 @@ use Rattle.pyver_tool.specs.Matches.{DenotesList, ListFails, ReadsSpecifiers, Sp
 use Rattle.pyver_tool.specs.Messages.{fault_message}
 use Rattle.pyver_tool.specs.Outcomes.{Outcome}
 use Rattle.pyver_tool.specs.RangeObjects.{json_segments}
-use Rattle.pyver_tool.specs.declared.range.RangeOptions.{RangeOptions}
+use Rattle.pyver_tool.specs.declared.common_range.RangeOptions.{RangeOptions}
 
 -- ---- each list
 

@@ -26,7 +26,7 @@ pub mod ReadLines
 pub mod Filters
 pub mod VersionLines
 pub mod Sorts
-pub mod Newest
+pub mod NewestOutcomes
 pub mod Tasks
 pub mod TaskViews
 pub mod Runs

@@ -6,8 +6,8 @@ use Rattle.pep440_rs.specs.Agreement.{is_exclusion}
 use Rattle.pep440_rs.specs.Matching.{any_prerelease, list_matches}
 use Rattle.pep440_rs.specs.Specifiers.{Spec}
 use Rattle.pep440_version.specs.Record.{Record}
-use Rattle.pyver_tool.specs.declared.prerelease.Prereleases.{Prereleases}
-use Rattle.pyver_tool.specs.declared.prerelease.Prereleases.TheVariants as prereleases
+use Rattle.pyver_tool.specs.declared.prerelease_rule.Prereleases.{Prereleases}
+use Rattle.pyver_tool.specs.declared.prerelease_rule.Prereleases.TheVariants as prereleases
 
 -- the specifier names a pre-release and its operator is not `!=`
 abbrev pub asks_for_prerelease : Spec → Bool

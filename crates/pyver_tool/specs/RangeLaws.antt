@@ -11,7 +11,7 @@ use Rattle.pep440_version.specs.Key.{record_cmp}
 use Rattle.pep440_version.specs.Record.{Record}
 use Rattle.pyver_tool.specs.CommonRanges.{FindsCommon, common}
 use Rattle.pyver_tool.specs.Outcomes.{Outcome}
-use Rattle.pyver_tool.specs.declared.range.RangeOptions.{RangeOptions}
+use Rattle.pyver_tool.specs.declared.common_range.RangeOptions.{RangeOptions}
 
 -- the word is a list that contains the version
 abbrev pub AllowsVersion : Record → List ℕ → Type 0

@@ -11,7 +11,7 @@ use Rattle.pyver_tool.specs.Filters.{FiltersLines}
 use Rattle.pyver_tool.specs.LineOptions.{joined_value, line_option, no_line_options, value_behind, value_kind, value_names, value_option_of, with_value}
 use Rattle.pyver_tool.specs.Matches.{Matches}
 use Rattle.pyver_tool.specs.Messages.{unknown_message, usage_message}
-use Rattle.pyver_tool.specs.Newest.{FindsNewestLine}
+use Rattle.pyver_tool.specs.NewestOutcomes.{FindsNewestLine}
 use Rattle.pyver_tool.specs.Numbers.{word_number}
 use Rattle.pyver_tool.specs.Outcomes.{Outcome, message_outcome}
 use Rattle.pyver_tool.specs.Parts.{part_of}
@@ -29,8 +29,8 @@ use Rattle.pyver_tool.specs.declared.line_options.LineOptions.{LineOptions}
 use Rattle.pyver_tool.specs.declared.line_options.ValueOption.{ValueOption}
 use Rattle.pyver_tool.specs.declared.newest.NewestOptions.{NewestOptions}
 use Rattle.pyver_tool.specs.declared.part.VersionPart.{VersionPart}
-use Rattle.pyver_tool.specs.declared.prerelease.Prereleases.TheVariants as prereleases
-use Rattle.pyver_tool.specs.declared.range.RangeOptions.{RangeOptions}
+use Rattle.pyver_tool.specs.declared.prerelease_rule.Prereleases.TheVariants as prereleases
+use Rattle.pyver_tool.specs.declared.common_range.RangeOptions.{RangeOptions}
 use Rattle.pyver_tool.specs.declared.show.ShowFormat.{ShowFormat}
 use Rattle.pyver_tool.specs.declared.show.ShowFormat.TheVariants as format
 use Rattle.pyver_tool.specs.declared.sort.SortOptions.{SortOptions}

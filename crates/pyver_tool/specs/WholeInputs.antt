@@ -6,7 +6,7 @@ use Rattle.pyver_tool.specs.InputLines.{Source}
 use Rattle.pyver_tool.specs.LineOptions.{no_line_options}
 use Rattle.pyver_tool.specs.Outcomes.{Outcome}
 use Rattle.pyver_tool.specs.Runs.{WroteBeginning}
-use Rattle.pyver_tool.specs.Newest.{FindsNewest}
+use Rattle.pyver_tool.specs.NewestOutcomes.{FindsNewest}
 use Rattle.pyver_tool.specs.Sorts.{SortsParts}
 use Rattle.pyver_tool.specs.SourceViews.{IsRunFailureOf}
 use Rattle.pyver_tool.specs.Sources.{Input, KnownFile, ReadsFirst, ReadsInput, last_name, without_lines}

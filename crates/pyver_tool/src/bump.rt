@@ -7,9 +7,9 @@ ghost use Rattle.pyver_tool.specs.Bumps.{Bumps, bump, bump_dev, bump_error_text,
 ghost use Rattle.pyver_tool.specs.Outcomes.{followed_by};
 
 use crate::answer::Answer;
-use crate::json::push_text;
 use crate::part::{base_version, release_number};
 use crate::reading::{Reading, parse_version};
+use crate::version_json::push_text;
 use pep440_rs::{Prerelease, PrereleaseKind, Version};
 use std::alloc::{AllocError, Global};
 

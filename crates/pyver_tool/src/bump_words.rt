@@ -7,7 +7,7 @@ use crate::bump::parse_bump_part;
 use crate::command::{Command, is_help, is_option};
 use crate::help::Topic;
 use crate::misuse::Misuse;
-use crate::number::parse_number;
+use crate::word_number::parse_number;
 
 fn parse_word<'a>(to: Option<u64>, parts: &'a [String], version: &'a str) -> Command<'a>
     ensures { task result ≡ bump_word to (map string_bytes parts.now) version.now }

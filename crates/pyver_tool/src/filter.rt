@@ -6,11 +6,11 @@ ghost use Rattle.pyver_tool.specs.Sources.{unopened_message, unopened_status};
 ghost use Rattle.pyver_tool.specs.SourceViews.{unopened_of};
 
 use crate::line_options::LineOptions;
-use crate::lines::{is_blank, line_text, parse_line};
 use crate::open_failure::{OpenFailure, push_file_fault};
 use crate::origin::Origin;
-use crate::prerelease::{Prereleases, allows};
+use crate::prerelease_rule::{Prereleases, allows};
 use crate::reading::Reading;
+use crate::source_lines::{is_blank, line_text, parse_line};
 use pep440_rs::{Version, VersionSpecifiers};
 use pyver_findings::push_escaped;
 use std::alloc::{AllocError, Global};
@@ -242,7 +242,7 @@ impl FilterState {
         bytes: &[u8],
     ) -> Result<(), AllocError>
         requires line { HasNoNewline line.old.items }
-        requires room { (self.old.line_count + length bytes.now < 2 ^ 63) × (self.old.fault_count + length bytes.now < 2 ^ 63) }
+        requires limits { (self.old.line_count + length bytes.now < 2 ^ 63) × (self.old.fault_count + length bytes.now < 2 ^ 63) }
         ensures steps { IfOk result (λ _. (ended : List (List ℕ)) × Cuts (line.old.items ++ bytes.now) ended line.new.items × Steps rule.now (origin_of origin.entry) ended self.old self.new) }
         ensures count { IfOk result (λ _. (self.new.line_count ≤ self.old.line_count + length bytes.now) × (self.new.fault_count ≤ self.old.fault_count + length bytes.now)) }
     {

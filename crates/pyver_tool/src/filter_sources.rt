@@ -26,9 +26,9 @@ fn open_and_filter<F: Files, R: Read, W: Write, E: Write>(
     err: &mut E,
 ) -> Result<Option<OpenFailure>, RunFailure>
     requires nothing { (state.old.output.items ≡ []) × (state.old.errors.items ≡ []) }
-    requires room { state.old.fault_count ≤ 8192 * state.old.read_count }
+    requires limits { state.old.fault_count ≤ 8192 * state.old.read_count }
     ensures finished { IfOk result (OneFinishes (F.known files.old) R.remaining W.contents E.contents rule.now (origin_of origin.entry) state.old state.new input.old input.new out.old out.new err.old err.new) }
-    ensures room { IfOk result (λ _. state.new.fault_count ≤ 8192 * state.new.read_count) }
+    ensures limits { IfOk result (λ _. state.new.fault_count ≤ 8192 * state.new.read_count) }
     ensures stopped { IfErr result (OneStops (F.known files.old) R.remaining W.contents E.contents rule.now (origin_of origin.entry) state.old.fault_count input.old input.new out.old out.new err.old err.new) }
     ensures kept { F.known files.new ≡ F.known files.old }
 {

@@ -10,7 +10,7 @@ use crate::line_options::{
     LineOptions, parse_line_option, parse_value_option, split_value, with_value,
 };
 use crate::misuse::Misuse;
-use crate::prerelease::Prereleases;
+use crate::prerelease_rule::Prereleases;
 
 fn parse_filter_operands<'a>(options: FilterOptions, words: &'a [String]) -> Command<'a>
     ensures { task result ≡ filter_operands options (map string_bytes words.now) }

@@ -4,7 +4,7 @@ ghost use Rattle.std.specs.Option.{option_copied, option_map};
 ghost use Rattle.pyver_tool.specs.LineOptions.{delimiter_of, field_number_of, joined_value, line_option, value_behind, value_option_of, with_value};
 
 use crate::invalid_lines::{InvalidLines, parse_invalid_lines};
-use crate::number::parse_number;
+use crate::word_number::parse_number;
 
 // How lines are read.
 #[derive(Clone, Copy)]

@@ -4,12 +4,12 @@ ghost use Rattle.std.specs.Option.{option_map, option_map_or};
 ghost use Rattle.std.specs.Ordering.{is_lt};
 ghost use Rattle.pep440_version.specs.Key.{record_cmp};
 ghost use Rattle.pyver_tool.specs.AnswerViews.{outcome_of};
-ghost use Rattle.pyver_tool.specs.Newest.{FindsNewest, NewestLine, allowed_lines, candidates, newest_outcome};
+ghost use Rattle.pyver_tool.specs.NewestOutcomes.{FindsNewest, NewestLine, allowed_lines, candidates, newest_outcome};
 ghost use Rattle.pyver_tool.specs.VersionLineViews.{input_parts_of, version_line_of};
 
 use crate::answer::Answer;
 use crate::line_options::LineOptions;
-use crate::prerelease::{Prereleases, allows, takes_prereleases};
+use crate::prerelease_rule::{Prereleases, allows, takes_prereleases};
 use crate::version_line::{VersionLine, VersionLines};
 use pep440_rs::{Version, VersionSpecifiers};
 use std::alloc::{AllocError, Global};

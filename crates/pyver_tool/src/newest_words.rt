@@ -10,7 +10,7 @@ use crate::line_options::{
 };
 use crate::misuse::Misuse;
 use crate::newest::NewestOptions;
-use crate::prerelease::Prereleases;
+use crate::prerelease_rule::Prereleases;
 
 fn parse_newest_operands<'a>(options: NewestOptions, words: &'a [String]) -> Command<'a>
     ensures { task result ≡ newest_operands options (map string_bytes words.now) }

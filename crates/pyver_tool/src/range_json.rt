@@ -3,7 +3,7 @@ ghost use Rattle.std.specs.Prelude.{◌≡◌, ◌++◌, IfOk};
 ghost use Rattle.std.specs.List.{flat_map};
 ghost use Rattle.pyver_tool.specs.RangeObjects.{json_bound, json_high, json_included, json_low, json_segment, json_segments, next_segment};
 
-use crate::json::{push_quoted, push_text};
+use crate::version_json::{push_quoted, push_text};
 use pep440_rs::{Ranges, Segments, Version, WithSentinels};
 use std::alloc::{AllocError, Global};
 use std::ops::Bound;

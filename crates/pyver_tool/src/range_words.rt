@@ -4,9 +4,9 @@ ghost use Rattle.pyver_tool.specs.TaskViews.{task};
 ghost use Rattle.pyver_tool.specs.Tasks.{no_range_options, range_operands, range_option, range_rest, range_task};
 
 use crate::command::{Command, is_help, is_option};
+use crate::common_range::RangeOptions;
 use crate::help::Topic;
 use crate::misuse::Misuse;
-use crate::range::RangeOptions;
 
 fn parse_operands<'a>(options: RangeOptions, words: &'a [String]) -> Command<'a>
     ensures { task result ≡ range_operands options (map string_bytes words.now) }

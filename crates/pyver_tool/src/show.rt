@@ -5,9 +5,9 @@ ghost use Rattle.pyver_tool.specs.Outcomes.{followed_by};
 ghost use Rattle.pyver_tool.specs.Shows.{Shows, show_outcome, show_line, show_text};
 
 use crate::answer::Answer;
-use crate::json::{push_object, push_text};
 use crate::part::{VersionPart, part_text};
 use crate::reading::{Reading, parse_version};
+use crate::version_json::{push_object, push_text};
 use pep440_rs::Version;
 use std::alloc::{AllocError, Global};
 

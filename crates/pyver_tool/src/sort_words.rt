@@ -9,8 +9,8 @@ use crate::line_options::{
     LineOptions, ValueOption, parse_line_option, parse_value_option, split_value, with_value,
 };
 use crate::misuse::Misuse;
-use crate::number::parse_number;
 use crate::sort::SortOptions;
+use crate::word_number::parse_number;
 
 // An option that takes a value.
 #[derive(Clone, Copy)]

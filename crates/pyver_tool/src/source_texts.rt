@@ -38,7 +38,7 @@ pub(crate) fn read_text<R: Read>(
 ) -> Result<Vec<u8>, RunFailure>
     requires { read_count.old ≤ 562949953421312 }
     ensures whole { IfOk result (λ text. Consumes (R.remaining input.old) (R.remaining input.new) text.items × IsAtEnd (R.remaining input.new)) }
-    ensures room { IfOk result (λ text. (length text.items + 8192 * read_count.old < 8192 * read_count.new) × (read_count.new ≤ 562949953421312)) }
+    ensures limits { IfOk result (λ text. (length text.items + 8192 * read_count.old < 8192 * read_count.new) × (read_count.new ≤ 562949953421312)) }
     ensures part { IfErr result (λ _. (read : List ℕ) × Consumes (R.remaining input.old) (R.remaining input.new) read) }
     ensures failure { IfErr result (IsRunFailureOf (Some name.now)) }
     ensures reading { IfErr result (IsReadingFailure name.now) }
@@ -69,7 +69,7 @@ fn read_source<'a, R: Read>(
 ) -> Result<(), RunFailure>
     requires { HasRoom state.old }
     ensures read { IfOk result (λ _. ReadsTo R.remaining (origin_of origin.entry) (sources_of state.old) (sources_of state.new) input.old input.new) }
-    ensures room { IfOk result (λ _. HasRoom state.new) }
+    ensures limits { IfOk result (λ _. HasRoom state.new) }
     ensures part { IfErr result (λ _. (read : List ℕ) × Consumes (R.remaining input.old) (R.remaining input.new) read) }
     ensures failure { IfErr result (IsRunFailureOf (Some (origin_of origin.entry).name)) }
 {
@@ -93,7 +93,7 @@ fn open_and_read<'a, F: Files, R: Read>(
 ) -> Result<Option<OpenFailure>, RunFailure>
     requires { HasRoom state.old }
     ensures read { IfOk result (GainsSource (F.known files.old) R.remaining (origin_of origin.entry) (sources_of state.old) (sources_of state.new) input.old input.new) }
-    ensures room { IfOk result (λ _. HasRoom state.new) }
+    ensures limits { IfOk result (λ _. HasRoom state.new) }
     ensures stopped { IfErr result (StopsInSource (F.known files.old) R.remaining (origin_of origin.entry) input.old input.new) }
     ensures kept { F.known files.new ≡ F.known files.old }
 {
@@ -123,7 +123,7 @@ fn read_all<'a, F: Files, R: Read>(
 ) -> Result<Option<UnopenedSource<'a>>, RunFailure>
     requires new { (state.old.texts.items ≡ []) × (state.old.read_count ≡ 0) }
     ensures read { IfOk result (λ unopened. ReadsInput (F.known files.old) R.remaining (map string_bytes names.now) input.old input.new (record { sources = sources_of state.new; unopened = option_map unopened_of unopened })) }
-    ensures room { IfOk result (λ _. HasRoom state.new) }
+    ensures limits { IfOk result (λ _. HasRoom state.new) }
     ensures stopped { IfErr result (StopsInSources (F.known files.old) R.remaining (map string_bytes names.now) input.old input.new) }
     ensures kept { F.known files.new ≡ F.known files.old }
 {
@@ -150,7 +150,7 @@ pub(crate) fn read_sources<'a, F: Files, R: Read>(
 ) -> Result<Option<UnopenedSource<'a>>, RunFailure>
     requires new { (state.old.texts.items ≡ []) × (state.old.read_count ≡ 0) }
     ensures read { IfOk result (λ unopened. ReadsInput (F.known files.old) R.remaining (source_names (map string_bytes names.now)) input.old input.new (record { sources = sources_of state.new; unopened = option_map unopened_of unopened })) }
-    ensures room { IfOk result (λ _. HasRoom state.new) }
+    ensures limits { IfOk result (λ _. HasRoom state.new) }
     ensures stopped { IfErr result (StopsInSources (F.known files.old) R.remaining (source_names (map string_bytes names.now)) input.old input.new) }
     ensures kept { F.known files.new ≡ F.known files.old }
 {

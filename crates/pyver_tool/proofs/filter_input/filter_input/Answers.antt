@@ -9,7 +9,7 @@ pub loop-state-init : goal.loop-state-init
 loop-state-init g c = (
   goes_none _ _ _ c.args.rule.now (origin_of c.args.origin) _ _ c.args.input.now c.args.out.now c.args.err.now c.new-line.result.items refl refl c.requires.nothing.0 c.requires.nothing.1 c.new-line.ensures.items,
   omega arith,
-  c.requires.room,
+  c.requires.limits,
 )
 
 pub returns-in_default-clause-stopped : goal.returns-in_default-clause-stopped

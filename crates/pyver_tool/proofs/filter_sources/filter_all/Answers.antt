@@ -49,7 +49,7 @@ loop-name-preserved g c =
           (same_reads _ _ _ _ _ c.args.rule.now read c.loop-name.is_first text c.loop-name.invariant.1 c.loop-name.invariant.3 c.loop-name.state.fault_count c.open_and_filter.new.state c.loop-name.input c.open_and_filter.new.input c.loop-name.out
           c.open_and_filter.new.out c.loop-name.err c.open_and_filter.new.err reads)),
       c.in-Ok-None.ensures.kept ∙ c.loop-name.invariant.1,
-      c.in-Ok-None.ensures.room,
+      c.in-Ok-None.ensures.limits,
       not_none read text ∙ ap is_none (sym more),
     )
 

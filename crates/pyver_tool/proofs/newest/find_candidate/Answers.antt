@@ -1,6 +1,6 @@
 use Rattle.std.proofs.Common.{map, true}
 use Rattle.pyver_tool.proofs.Choosing.{kept}
-use Rattle.pyver_tool.specs.Newest.{allowed_lines}
+use Rattle.pyver_tool.specs.NewestOutcomes.{allowed_lines}
 use Rattle.pyver_tool.specs.VersionLineViews.{version_line_of}
 use Rattle.pyver_tool.proofs.newest.find_candidate.Goals as goal
 

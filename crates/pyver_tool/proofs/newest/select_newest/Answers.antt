@@ -1,6 +1,6 @@
 use Rattle.std.proofs.Common.{◌+◌, ◌∙◌, sym, subst}
 use Rattle.pyver_tool.proofs.Choosing.{allowed_front, below_more, found_more, newest_value, out_more}
-use Rattle.pyver_tool.specs.Newest.{NewestLine}
+use Rattle.pyver_tool.specs.NewestOutcomes.{NewestLine}
 use Rattle.pyver_tool.proofs.newest.select_newest.Goals.{then-is_newer+in_ok-allows+then-branch, else-is_newer, else-is_newer-via-then-is_newer+in_ok-allows+else-branch, else-is_newer-via-else-is_newer}
 use Rattle.pyver_tool.proofs.newest.select_newest.Goals as goal
 

@@ -43,7 +43,7 @@ loop-name-preserved g c =
           (all_more _ _ read c.loop-name.is_first text _ (sources_of c.open_and_read.new.state) c.args.input.now c.loop-name.input c.open_and_read.new.input c.loop-name.invariant.3 c.loop-name.invariant.0
           (subst (λ f. GainsSource f g.R.Read.remaining (record { is_first = c.loop-name.is_first; name = text }) (sources_of c.loop-name.state) (sources_of c.open_and_read.new.state) c.loop-name.input c.open_and_read.new.input None) c.loop-name.invariant.1 reads)),
       c.in-Ok-None.ensures.kept ∙ c.loop-name.invariant.1,
-      c.in-Ok-None.ensures.room,
+      c.in-Ok-None.ensures.limits,
       not_none read text ∙ ap is_none (sym more),
     )
 

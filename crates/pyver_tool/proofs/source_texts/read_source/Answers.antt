@@ -3,7 +3,7 @@ use Rattle.pyver_tool.proofs.SourceReads.{size_pushed}
 use Rattle.pyver_tool.specs.SourceTexts.{size_of}
 use Rattle.pyver_tool.proofs.source_texts.read_source.Goals as goal
 
-pub returns-clause-room : goal.returns-clause-room
-returns-clause-room g c =
+pub returns-clause-limits : goal.returns-clause-limits
+returns-clause-limits g c =
     let pushed : size_of c.push.new.self.items ≡ size_of c.args.state.now.texts.items + (length c.in-Ok.text.items + 1) = ap size_of c.in-Ok-push.ensures.items ∙ size_pushed c.args.state.now.texts.items _ in
-    (omega (arith, pushed, c.in-Ok.ensures.room.0, c.requires.0), c.in-Ok.ensures.room.1)
+    (omega (arith, pushed, c.in-Ok.ensures.limits.0, c.requires.0), c.in-Ok.ensures.limits.1)

@@ -7,5 +7,5 @@ use Rattle.pyver_tool.proofs.version_line.VersionLines.read.Given as goal
 abbrev pub invariant-loop-source : goal.invariant-loop-source
 invariant-loop-source l = record {
   keeps : KeepsLines l.options (filled_lines (map source_of (take l.source-index l.sources))) l.lines;
-  room : l.lines.fault_count ≤ size_of (take l.source-index l.sources);
+  limits : l.lines.fault_count ≤ size_of (take l.source-index l.sources);
 }

@@ -11,8 +11,8 @@ use Rattle.pyver_tool.specs.Sources.{Input}
 use Rattle.pyver_tool.specs.VersionLines.{InputParts, OfVersions, VersionLine}
 use Rattle.pyver_tool.specs.declared.newest.NewestOptions.{NewestOptions}
 use Rattle.pyver_tool.specs.declared.newest.NewestRule.{NewestRule}
-use Rattle.pyver_tool.specs.declared.prerelease.Prereleases.{Prereleases}
-use Rattle.pyver_tool.specs.declared.prerelease.Prereleases.TheVariants as prereleases
+use Rattle.pyver_tool.specs.declared.prerelease_rule.Prereleases.{Prereleases}
+use Rattle.pyver_tool.specs.declared.prerelease_rule.Prereleases.TheVariants as prereleases
 
 -- the lines whose version the list allows
 abbrev pub allowed_lines : Bool → List Spec → List VersionLine → List VersionLine

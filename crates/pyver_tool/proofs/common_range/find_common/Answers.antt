@@ -1,7 +1,7 @@
 use Rattle.std.proofs.Common.{string_bytes}
 use Rattle.pyver_tool.specs.RangeViews.{range_reading_of}
 use Rattle.pyver_tool.proofs.CommonRanges.{found_all, found_more}
-use Rattle.pyver_tool.proofs.range.find_common.Goals as goal
+use Rattle.pyver_tool.proofs.common_range.find_common.Goals as goal
 
 pub loop-word-preserved : goal.loop-word-preserved
 loop-word-preserved c =

@@ -10,8 +10,8 @@ ghost use Rattle.pyver_tool.specs.RangeViews.{range_reading_of};
 
 use crate::allowed::{SpecifiersReading, parse_specifiers, push_list_message};
 use crate::answer::{Answer, push_fault};
-use crate::json::push_text;
 use crate::range_json::push_segments;
+use crate::version_json::push_text;
 use pep440_rs::{
     RangeError, RangeLines, Ranges, Version, VersionSpecifiers, specifiers_to_cover,
     specifiers_to_ranges,

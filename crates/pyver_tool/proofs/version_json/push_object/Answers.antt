@@ -2,7 +2,7 @@ use Rattle.std.proofs.Common.{codes}
 use Rattle.pep440_version.specs.Print.{print}
 use Rattle.pyver_tool.proofs.Appended.{appended_more}
 use Rattle.pyver_tool.specs.JsonObjects.{in_quotes, json_members}
-use Rattle.pyver_tool.proofs.json.push_object.Goals as goal
+use Rattle.pyver_tool.proofs.version_json.push_object.Goals as goal
 
 pub returns : goal.returns
 returns c =

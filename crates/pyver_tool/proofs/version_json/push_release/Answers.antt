@@ -1,7 +1,7 @@
 use Rattle.std.proofs.Common.{codes}
 use Rattle.pyver_tool.proofs.Appended.{appended_more}
 use Rattle.pyver_tool.specs.JsonObjects.{json_array, json_numbers, next_name, number_member}
-use Rattle.pyver_tool.proofs.json.push_release.Goals as goal
+use Rattle.pyver_tool.proofs.version_json.push_release.Goals as goal
 
 pub returns : goal.returns
 returns c =
