@@ -1,4 +1,4 @@
-//! Input that is not UTF-8; an invalid list cut anywhere; runs of `filter` and `pick` over readers and writers that fail.
+//! Input that is not UTF-8; an error that is written in part; runs of `filter` and `pick` over readers and writers that fail.
 use super::support::{answer_words_again, run_over, split_words, words_of};
 use std::alloc::{AllocError, Global};
 use std::test::Fail;
