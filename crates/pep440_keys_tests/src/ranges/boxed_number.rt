@@ -10,19 +10,19 @@ use std::cmp::Ordering;
 use std::marker::Model;
 
 #[derive(Drop)]
-pub(crate) struct BoxedNumber {
+pub(crate) struct Boxed {
     number: Box<u64>,
 }
 
-impl Model for BoxedNumber {
+impl Model for Boxed {
     ghost Value = { ℕ };
 
     ghost view = { λ h. h.number.value };
 }
 
-impl BoxedNumber {
-    pub(crate) fn new(alloc: Global, number: u64) -> Result<BoxedNumber, AllocError> {
-        Ok(BoxedNumber {
+impl Boxed {
+    pub(crate) fn new(alloc: Global, number: u64) -> Result<Boxed, AllocError> {
+        Ok(Boxed {
             number: Box::new(alloc, number)?,
         })
     }
@@ -34,41 +34,41 @@ impl BoxedNumber {
     }
 }
 
-impl Clone for BoxedNumber {
+impl Clone for Boxed {
     ghost is_clone = { λ x y. y ≡ x };
 
-    fn clone(&self) -> Result<BoxedNumber, AllocError> {
-        Ok(BoxedNumber {
+    fn clone(&self) -> Result<Boxed, AllocError> {
+        Ok(Boxed {
             number: self.number.clone()?,
         })
     }
 }
 
-impl PartialEq for BoxedNumber {
+impl PartialEq for Boxed {
     ghost eq = { eq_by_cmp nat_cmp };
 
     ghost laws = { partial_equiv_from_equiv (eq_by_cmp_equiv nat_cmp_total) };
 
-    fn eq(&self, other: &BoxedNumber) -> bool {
+    fn eq(&self, other: &Boxed) -> bool {
         self.cmp(other).is_eq()
     }
 }
 
-impl Eq for BoxedNumber {
+impl Eq for Boxed {
     ghost laws = { eq_by_cmp_equiv nat_cmp_total };
 }
 
-impl PartialOrd for BoxedNumber {
+impl PartialOrd for Boxed {
     ghost partial_cmp = { as_partial_cmp nat_cmp };
 
     ghost laws = { po nat_cmp_total (λ _ _. refl) };
 
-    fn partial_cmp(&self, other: &BoxedNumber) -> Option<Ordering> {
+    fn partial_cmp(&self, other: &Boxed) -> Option<Ordering> {
         Some(self.cmp(other))
     }
 }
 
-impl Ord for BoxedNumber {
+impl Ord for Boxed {
     ghost cmp = { nat_cmp };
 
     ghost total = { nat_cmp_total };
@@ -77,7 +77,7 @@ impl Ord for BoxedNumber {
 
     ghost matches_eq = { λ _ _. refl };
 
-    fn cmp(&self, other: &BoxedNumber) -> Ordering {
+    fn cmp(&self, other: &Boxed) -> Ordering {
         self.number().cmp(&other.number())
     }
 }
