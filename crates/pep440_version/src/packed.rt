@@ -1,9 +1,9 @@
 //! A packed version: its word (`word`), read and changed part by part.
-ghost use Rattle.std.specs.Prelude.{◌≡◌, ◌+◌, ◌*◌, ◌^◌, ◌<◌, ◌≤◌, ◌&&◌, nat_le, true, false, None, length, slice_index, take, IfSome, IfNone, if◌then◌else◌};
+ghost use Rattle.std.specs.Prelude.{◌≡◌, ◌+◌, ◌<◌, ◌≤◌, ◌&&◌, true, false, None, length, slice_index, take, IfSome, IfNone, if◌then◌else◌};
 ghost use Rattle.pep440_version.specs.Form.{IsWord, is_class_of_part, unpacked_record, number_of_class, packed_record, prerelease_of_class, record_in, suffix_of_part, word_with_part};
 ghost use Rattle.pep440_version.specs.Key.{kind_rank};
 ghost use Rattle.pep440_version.specs.Normal.{IsPadded, IsKnown};
-ghost use Rattle.pep440_version.specs.Word.{class_in, dev_class, is_packed, is_short, max_class, min_class, number_in, post_class, suffix, word_with};
+ghost use Rattle.pep440_version.specs.Word.{class_in, dev_class, is_packed, is_short, max_class, min_class, number_in, post_class, suffix};
 
 use crate::prerelease::{Prerelease, PrereleaseKind};
 use crate::release::pad_with_zeros;

@@ -2,7 +2,7 @@
 //!
 //! From its highest bit on it has four release numbers, missing ones being 0, the first in 16 bits and the others in 8 each; the
 //! class of the suffix in 3 bits; and the number of the suffix in 21. The count of release numbers is not in it.
-ghost use Rattle.std.specs.Prelude.{◌≡◌, ◌+◌, ◌*◌, ◌^◌, ◌<◌, ◌≤◌, ◌&&◌, ℕ, nat_le, false, true, length, slice_index, IfNone, IfSome};
+ghost use Rattle.std.specs.Prelude.{◌≡◌, ◌+◌, ◌*◌, ◌^◌, ◌<◌, ◌≤◌, ◌&&◌, nat_le, false, true, length, slice_index, IfNone, IfSome};
 ghost use Rattle.pep440_version.specs.Record.{IsRecord, Record};
 ghost use Rattle.pep440_version.specs.Word.{class_in, is_packed, is_suffix, is_word, number_in, numbers_in, word, word_with};
 
