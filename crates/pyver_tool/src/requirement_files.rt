@@ -155,16 +155,14 @@ impl RequirementFiles {
         ensures kept_paths { F.path files.new ≡ F.path files.old }
     {
         if is_input(name) {
-            return match self.read_source(alloc, name, path, input) {
-                Ok(()) => Ok(None),
-                Err(stop) => Err(stop),
-            };
+            self.read_source(alloc, name, path, input)?;
+            return Ok(None);
         }
         match files.open(alloc, name) {
-            Ok(mut file) => match self.read_source(alloc, name, path, &mut file) {
-                Ok(()) => Ok(None),
-                Err(stop) => Err(stop),
-            },
+            Ok(mut file) => {
+                self.read_source(alloc, name, path, &mut file)?;
+                Ok(None)
+            }
             Err(OpenFailure::OutOfMemory) => Err(RunFailure::OutOfMemory),
             Err(failure) => Ok(Some(failure)),
         }
@@ -184,9 +182,7 @@ impl RequirementFiles {
         ensures kept { F.known files.new ≡ F.known files.old }
         ensures kept_paths { F.path files.new ≡ F.path files.old }
     {
-        let Ok(path) = source_path(alloc, name, files) else {
-            return Err(RunFailure::OutOfMemory);
-        };
+        let path = source_path(alloc, name, files)?;
         if self.has_path(path.as_str()) {
             return Ok(None);
         }
@@ -253,12 +249,8 @@ pub(crate) fn read_files<F: Files, R: Read>(
     ensures stopped { IfErr result (StopsInFiles (F.known files.old) (F.path files.old) R.remaining (source_names (map string_bytes names.now)) input.old input.new) }
     ensures kept { F.known files.new ≡ F.known files.old }
 {
-    let Ok(names) = copy_names(alloc, names) else {
-        return Err(RunFailure::OutOfMemory);
-    };
+    let names = copy_names(alloc, names)?;
     let mut state = RequirementFiles::new(alloc, names);
-    match state.read_all(alloc, files, input) {
-        Ok(unopened) => Ok((state.files, unopened)),
-        Err(stop) => Err(stop),
-    }
+    let unopened = state.read_all(alloc, files, input)?;
+    Ok((state.files, unopened))
 }

@@ -53,9 +53,7 @@ pub(crate) fn read_text<R: Read>(
         if count == 0 {
             return Ok(text);
         }
-        if text.extend_from_slice(&buffer[..count]).is_err() {
-            return Err(RunFailure::OutOfMemory);
-        }
+        text.extend_from_slice(&buffer[..count])?;
     }
     Err(fail_reading(alloc, name))
 }
@@ -73,13 +71,8 @@ fn read_source<'a, R: Read>(
     ensures part { IfErr result (λ _. (read : List ℕ) × Consumes (R.remaining input.old) (R.remaining input.new) read) }
     ensures failure { IfErr result (IsRunFailureOf (Some (origin_of origin.entry).name)) }
 {
-    let text = match read_text(alloc, origin.name, &mut state.read_count, input) {
-        Ok(text) => text,
-        Err(stop) => return Err(stop),
-    };
-    let Ok(()) = state.texts.push(SourceText { origin, text }) else {
-        return Err(RunFailure::OutOfMemory);
-    };
+    let text = read_text(alloc, origin.name, &mut state.read_count, input)?;
+    state.texts.push(SourceText { origin, text })?;
     Ok(())
 }
 
@@ -98,16 +91,14 @@ fn open_and_read<'a, F: Files, R: Read>(
     ensures kept { F.known files.new ≡ F.known files.old }
 {
     if is_input(origin.name) {
-        return match read_source(alloc, origin, state, input) {
-            Ok(()) => Ok(None),
-            Err(stop) => Err(stop),
-        };
+        read_source(alloc, origin, state, input)?;
+        return Ok(None);
     }
     match files.open(alloc, origin.name) {
-        Ok(mut file) => match read_source(alloc, origin, state, &mut file) {
-            Ok(()) => Ok(None),
-            Err(stop) => Err(stop),
-        },
+        Ok(mut file) => {
+            read_source(alloc, origin, state, &mut file)?;
+            Ok(None)
+        }
         Err(OpenFailure::OutOfMemory) => Err(RunFailure::OutOfMemory),
         Err(failure) => Ok(Some(failure)),
     }
@@ -161,8 +152,6 @@ pub(crate) fn read_sources<'a, F: Files, R: Read>(
         is_first: true,
         name: "-",
     };
-    match read_source(alloc, origin, state, input) {
-        Ok(()) => Ok(None),
-        Err(stop) => Err(stop),
-    }
+    read_source(alloc, origin, state, input)?;
+    Ok(None)
 }

@@ -1,5 +1,8 @@
 use Rattle.std.proofs.KnownBytes.{Consumes-trans}
+use Rattle.std.proofs.lemmas.Result.{err_from_is_err_and}
 use Rattle.pyver_tool.proofs.source_texts.read_text.Goals as goal
 
-pub returns-then-is_err-clause-part : goal.returns-then-is_err-clause-part
-returns-then-is_err-clause-part g c = (_, Consumes-trans _ _ _ _ _ c.loop-read_count.invariant.0 c.in-Ok.ensures.bytes.0)
+pub returns-in_err-extend_from_slice-clause-part : goal.returns-in_err-extend_from_slice-clause-part
+returns-in_err-extend_from_slice-clause-part g c =
+    let p = err_from_is_err_and c.from_residual.result c.from_residual.ensures.1 in
+    rw p.1 (_, Consumes-trans _ _ _ _ _ c.loop-read_count.invariant.0 c.in-Ok.ensures.bytes.0)
