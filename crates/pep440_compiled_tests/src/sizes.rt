@@ -30,8 +30,7 @@ fn versions_of_each_size(rt: HostRuntime) -> Result<(), Fail> {
     for text in VERSIONS {
         for size in &sizes_up_to(rt.alloc(), 1_025)? {
             let version = repeat(rt.alloc(), text, *size)?;
-            let called = compile_and_call(rt, version.as_str());
-            assert!(rt; called.is_ok(), "{text} of {size}");
+            compile_and_call(rt, version.as_str())?;
         }
     }
     Ok(())
@@ -68,8 +67,7 @@ fn lists_of_each_size(rt: HostRuntime) -> Result<(), Fail> {
     for (text, version) in LISTS {
         for size in &sizes_up_to(rt.alloc(), 257)? {
             let list = repeat(rt.alloc(), text, *size)?;
-            let called = compile_and_ask(rt, list.as_str(), version);
-            assert!(rt; called.is_ok(), "{text} of {size}");
+            compile_and_ask(rt, list.as_str(), version)?;
         }
     }
     Ok(())

@@ -28,8 +28,7 @@ fn versions_of_each_size(rt: HostRuntime) -> Result<(), Fail> {
     for text in VERSIONS {
         for size in &sizes_up_to(rt.alloc(), 1_025)? {
             let version = repeat(rt.alloc(), text, *size)?;
-            let made = make_keys(rt, version.as_str());
-            assert!(rt; made.is_ok(), "{text} of {size}");
+            make_keys(rt, version.as_str())?;
         }
     }
     Ok(())
@@ -44,7 +43,7 @@ fn leave_out(
     let text = format!(in rt.alloc(); "1.{number}")?;
     let version = Version::from_str(rt.alloc(), text.as_str())?;
     let others = Ranges::singleton(rt.alloc(), version)?.complement(rt.alloc())?;
-    let range = range.clone()?.intersection(rt.alloc(), &others)?;
+    let range = range.clone(rt.alloc())?.intersection(rt.alloc(), &others)?;
     range_keys(rt.alloc(), &range)?;
     Ok(range.complement(rt.alloc())?.complement(rt.alloc())?)
 }
@@ -53,9 +52,7 @@ fn leave_out(
 fn ranges_of_each_size(rt: HostRuntime) -> Result<(), Fail> {
     let mut range = Ranges::full(rt.alloc())?;
     for number in 0..=66 {
-        let made = leave_out(rt, &range, number);
-        assert!(rt; made.is_ok(), "{number} versions left out");
-        range = made?;
+        range = leave_out(rt, &range, number)?;
     }
     Ok(())
 }
