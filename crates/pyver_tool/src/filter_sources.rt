@@ -33,16 +33,14 @@ fn open_and_filter<F: Files, R: Read, W: Write, E: Write>(
     ensures kept { F.known files.new ≡ F.known files.old }
 {
     if is_input(origin.name) {
-        return match filter_input(alloc, rule, origin, state, input, out, err) {
-            Ok(()) => Ok(None),
-            Err(stop) => Err(stop),
-        };
+        filter_input(alloc, rule, origin, state, input, out, err)?;
+        return Ok(None);
     }
     match files.open(alloc, origin.name) {
-        Ok(mut file) => match filter_input(alloc, rule, origin, state, &mut file, out, err) {
-            Ok(()) => Ok(None),
-            Err(stop) => Err(stop),
-        },
+        Ok(mut file) => {
+            filter_input(alloc, rule, origin, state, &mut file, out, err)?;
+            Ok(None)
+        }
         Err(OpenFailure::OutOfMemory) => Err(RunFailure::OutOfMemory),
         Err(failure) => Ok(Some(failure)),
     }
@@ -100,10 +98,8 @@ fn filter_all_sources<'a, F: Files, R: Read, W: Write, E: Write>(
         is_first: true,
         name: "-",
     };
-    match filter_input(alloc, rule, origin, state, input, out, err) {
-        Ok(()) => Ok(None),
-        Err(stop) => Err(stop),
-    }
+    filter_input(alloc, rule, origin, state, input, out, err)?;
+    Ok(None)
 }
 
 // Writes what the rule asks for of the sources, of each before the next is read, and returns the status.
@@ -121,17 +117,8 @@ pub(crate) fn filter_sources<F: Files, R: Read, W: Write, E: Write>(
     ensures kept { F.known files.new ≡ F.known files.old }
 {
     let mut state = FilterState::new(alloc);
-    let unopened = match filter_all_sources(
-        alloc, rule, names, &mut state, files, input, out, err,
-    ) {
-        Ok(unopened) => unopened,
-        Err(stop) => return Err(stop),
-    };
-    let Ok(status) = state.finish(alloc, rule, unopened) else {
-        return Err(RunFailure::OutOfMemory);
-    };
-    if let Err(stop) = write_both(out, err, state.output.as_slice(), state.errors.as_slice()) {
-        return Err(stop);
-    }
+    let unopened = filter_all_sources(alloc, rule, names, &mut state, files, input, out, err)?;
+    let status = state.finish(alloc, rule, unopened)?;
+    write_both(out, err, state.output.as_slice(), state.errors.as_slice())?;
     Ok(status)
 }
