@@ -1,5 +1,5 @@
 -- Strings without the blanks at their ends, and the last byte of a string.
-use Rattle.std.proofs.Common.{◌≡◌, ◌<◌, ◌≤◌, ◌+◌, ◌-◌, ◌∙◌, ℕ, suc, zero, List, [], ◌∷◌, Bool, true, false, cond, length, get_or, take, drop, refl, sym, ap, subst, arith, inl, inr}
+use Rattle.std.proofs.Common.{◌≡◌, ◌<◌, ◌≤◌, ◌-◌, ◌∙◌, ℕ, suc, zero, List, [], ◌∷◌, Bool, true, false, cond, length, get_or, take, drop, refl, sym, ap, subst, arith, inl, inr}
 use Rattle.std.proofs.lemmas.Bool.{cases_lt}
 use Rattle.std.proofs.lemmas.List.{get_or_default, get_or_past, length-take}
 use Rattle.std.proofs.lemmas.List.Folds.{list_all_at}
