@@ -1,7 +1,7 @@
 """Holds the extension against the page, against itself without an index, and against refused memory: python3 test.py EXTENSION [PROGRAM|--small]
 
 EXTENSION is the built pep440.so; PROGRAM, if given, is `pep440`, whose `filter` must contain what `pep440_match` does. It wants a Python whose
-sqlite3 loads extensions. With --small there are fewer rows, and nothing is timed. The last line is `N passed, M failed`.
+sqlite3 loads extensions. With --small there are fewer rows, and no time is compared. The last line is `N passed, M failed`.
 """
 import pathlib
 import random
@@ -109,11 +109,12 @@ def test_list_is_kept():
     db.execute("CREATE TABLE many AS WITH RECURSIVE n(i) AS (SELECT 1 UNION ALL SELECT i + 1 FROM n WHERE i < 300) SELECT '6.' || i AS version, i FROM n")
     seconds = {}
     for specs in ("?1", "?1 || substr('', i)") * 3:
-        begun = time.perf_counter()
+        begun = time.process_time()
         assert value(db, f"SELECT sum(pep440_match({specs}, version)) FROM many", long) == 300
-        seconds[specs] = min(seconds.get(specs, 9), time.perf_counter() - begun)
+        spent = time.process_time() - begun
+        seconds[specs] = min(seconds.get(specs, spent), spent)
     kept, read = seconds.values()
-    assert kept < 0.8 * read, seconds
+    assert SMALL or kept < 0.8 * read, seconds
     return f"12 rows; a list of 2,000 specifiers in {kept / read:.2f} of the time"
 
 
@@ -186,10 +187,10 @@ def test_speed():
         ("none", "SELECT version FROM releases NOT INDEXED ORDER BY pep440_key(version) DESC LIMIT 10"),
     ):
         rows(db, query)
-        begun = time.perf_counter()
+        begun = time.process_time()
         for _ in range(200 if name == "index" else 1):
             found = rows(db, query)
-        seconds[name] = (time.perf_counter() - begun) / (200 if name == "index" else 1), [pair for (pair,) in found]
+        seconds[name] = (time.process_time() - begun) / (200 if name == "index" else 1), [pair for (pair,) in found]
     assert "by_key" in plan_of(db, "SELECT version FROM releases ORDER BY key DESC LIMIT 10")
     ratio = seconds["none"][0] / seconds["index"][0]
     assert ratio >= 1000, ratio
