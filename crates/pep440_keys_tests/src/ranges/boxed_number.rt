@@ -10,19 +10,19 @@ use std::cmp::Ordering;
 use std::marker::Model;
 
 #[derive(Drop)]
-pub(crate) struct Boxed {
+pub(crate) struct BoxedNumber {
     number: Box<u64>,
 }
 
-impl Model for Boxed {
+impl Model for BoxedNumber {
     ghost Value = { ℕ };
 
     ghost view = { λ h. h.number.value };
 }
 
-impl Boxed {
-    pub(crate) fn new(alloc: Global, number: u64) -> Result<Boxed, AllocError> {
-        Ok(Boxed {
+impl BoxedNumber {
+    pub(crate) fn new(alloc: Global, number: u64) -> Result<BoxedNumber, AllocError> {
+        Ok(BoxedNumber {
             number: Box::new(alloc, number)?,
         })
     }
@@ -34,41 +34,41 @@ impl Boxed {
     }
 }
 
-impl Clone for Boxed {
+impl Clone for BoxedNumber {
     ghost is_clone = { λ x y. y ≡ x };
 
-    fn clone(&self) -> Result<Boxed, AllocError> {
-        Ok(Boxed {
+    fn clone(&self) -> Result<BoxedNumber, AllocError> {
+        Ok(BoxedNumber {
             number: self.number.clone()?,
         })
     }
 }
 
-impl PartialEq for Boxed {
+impl PartialEq for BoxedNumber {
     ghost eq = { eq_by_cmp nat_cmp };
 
     ghost laws = { partial_equiv_from_equiv (eq_by_cmp_equiv nat_cmp_total) };
 
-    fn eq(&self, other: &Boxed) -> bool {
+    fn eq(&self, other: &BoxedNumber) -> bool {
         self.cmp(other).is_eq()
     }
 }
 
-impl Eq for Boxed {
+impl Eq for BoxedNumber {
     ghost laws = { eq_by_cmp_equiv nat_cmp_total };
 }
 
-impl PartialOrd for Boxed {
+impl PartialOrd for BoxedNumber {
     ghost partial_cmp = { as_partial_cmp nat_cmp };
 
     ghost laws = { po nat_cmp_total (λ _ _. refl) };
 
-    fn partial_cmp(&self, other: &Boxed) -> Option<Ordering> {
+    fn partial_cmp(&self, other: &BoxedNumber) -> Option<Ordering> {
         Some(self.cmp(other))
     }
 }
 
-impl Ord for Boxed {
+impl Ord for BoxedNumber {
     ghost cmp = { nat_cmp };
 
     ghost total = { nat_cmp_total };
@@ -77,7 +77,7 @@ impl Ord for Boxed {
 
     ghost matches_eq = { λ _ _. refl };
 
-    fn cmp(&self, other: &Boxed) -> Ordering {
+    fn cmp(&self, other: &BoxedNumber) -> Ordering {
         self.number().cmp(&other.number())
     }
 }

@@ -4,14 +4,14 @@
 //! made. The call under test returns the expected segments or, out of memory, leaves its arguments
 //! unchanged and returns them on the second try.
 
-use crate::ranges::boxed_number::Boxed;
+use crate::ranges::boxed_number::BoxedNumber;
 use pep440_ranges::Ranges;
 use std::alloc::{AllocError, Global};
 use std::ops::Bound;
 use std::ops::Bound::{Excluded, Included, Unbounded};
 use std::test::Fail;
 
-fn is_bound(bound: &Bound<Boxed>, wanted: &Bound<u64>) -> bool {
+fn is_bound(bound: &Bound<BoxedNumber>, wanted: &Bound<u64>) -> bool {
     match (bound, wanted) {
         (Included(boxed), Included(number)) | (Excluded(boxed), Excluded(number)) => {
             boxed.number() == *number
@@ -22,7 +22,7 @@ fn is_bound(bound: &Bound<Boxed>, wanted: &Bound<u64>) -> bool {
 }
 
 // The segments are these, in order.
-fn is(range: &Ranges<Boxed>, wanted: &[(Bound<u64>, Bound<u64>)]) -> bool {
+fn is(range: &Ranges<BoxedNumber>, wanted: &[(Bound<u64>, Bound<u64>)]) -> bool {
     let mut at = 0usize;
     for (start, end) in range.iter() {
         match wanted.get(at) {
@@ -38,14 +38,14 @@ fn is(range: &Ranges<Boxed>, wanted: &[(Bound<u64>, Bound<u64>)]) -> bool {
     at == wanted.len()
 }
 
-fn between(alloc: Global, start: u64, end: u64) -> Result<Ranges<Boxed>, AllocError> {
-    let start = Included(Boxed::new(alloc, start)?);
-    let end = Excluded(Boxed::new(alloc, end)?);
+fn between(alloc: Global, start: u64, end: u64) -> Result<Ranges<BoxedNumber>, AllocError> {
+    let start = Included(BoxedNumber::new(alloc, start)?);
+    let end = Excluded(BoxedNumber::new(alloc, end)?);
     Ranges::from_range_bounds(alloc, start, end)
 }
 
 // From 1 to 3 and from 5 to 9.
-fn two_parts(alloc: Global) -> Result<Ranges<Boxed>, AllocError> {
+fn two_parts(alloc: Global) -> Result<Ranges<BoxedNumber>, AllocError> {
     let hole = between(alloc, 3, 5)?.complement(alloc)?;
     between(alloc, 1, 9)?.intersection(alloc, &hole)
 }
@@ -57,7 +57,7 @@ const TWO_PARTS: [(Bound<u64>, Bound<u64>); 2] = [
 
 #[test]
 fn sweep_empty_ranges_take_none(rt: HostRuntime) -> Result<(), Fail> {
-    let range: Ranges<Boxed> = Ranges::empty(rt.alloc());
+    let range: Ranges<BoxedNumber> = Ranges::empty(rt.alloc());
     assert!(rt; is(&range, &[]));
     Ok(())
 }
@@ -74,7 +74,10 @@ fn sweep_full(rt: HostRuntime) -> Result<(), Fail> {
 
 #[test]
 fn sweep_singleton(rt: HostRuntime) -> Result<(), Fail> {
-    let (Ok(value), Ok(spare)) = (Boxed::new(rt.alloc(), 3), Boxed::new(rt.alloc(), 3)) else {
+    let (Ok(value), Ok(spare)) = (
+        BoxedNumber::new(rt.alloc(), 3),
+        BoxedNumber::new(rt.alloc(), 3),
+    ) else {
         return Ok(());
     };
     let range = match Ranges::singleton(rt.alloc(), value) {
@@ -87,7 +90,10 @@ fn sweep_singleton(rt: HostRuntime) -> Result<(), Fail> {
 
 #[test]
 fn sweep_higher_than(rt: HostRuntime) -> Result<(), Fail> {
-    let (Ok(value), Ok(spare)) = (Boxed::new(rt.alloc(), 3), Boxed::new(rt.alloc(), 3)) else {
+    let (Ok(value), Ok(spare)) = (
+        BoxedNumber::new(rt.alloc(), 3),
+        BoxedNumber::new(rt.alloc(), 3),
+    ) else {
         return Ok(());
     };
     let range = match Ranges::higher_than(rt.alloc(), value) {
@@ -100,7 +106,10 @@ fn sweep_higher_than(rt: HostRuntime) -> Result<(), Fail> {
 
 #[test]
 fn sweep_strictly_higher_than(rt: HostRuntime) -> Result<(), Fail> {
-    let (Ok(value), Ok(spare)) = (Boxed::new(rt.alloc(), 3), Boxed::new(rt.alloc(), 3)) else {
+    let (Ok(value), Ok(spare)) = (
+        BoxedNumber::new(rt.alloc(), 3),
+        BoxedNumber::new(rt.alloc(), 3),
+    ) else {
         return Ok(());
     };
     let range = match Ranges::strictly_higher_than(rt.alloc(), value) {
@@ -113,7 +122,10 @@ fn sweep_strictly_higher_than(rt: HostRuntime) -> Result<(), Fail> {
 
 #[test]
 fn sweep_lower_than(rt: HostRuntime) -> Result<(), Fail> {
-    let (Ok(value), Ok(spare)) = (Boxed::new(rt.alloc(), 3), Boxed::new(rt.alloc(), 3)) else {
+    let (Ok(value), Ok(spare)) = (
+        BoxedNumber::new(rt.alloc(), 3),
+        BoxedNumber::new(rt.alloc(), 3),
+    ) else {
         return Ok(());
     };
     let range = match Ranges::lower_than(rt.alloc(), value) {
@@ -126,7 +138,10 @@ fn sweep_lower_than(rt: HostRuntime) -> Result<(), Fail> {
 
 #[test]
 fn sweep_strictly_lower_than(rt: HostRuntime) -> Result<(), Fail> {
-    let (Ok(value), Ok(spare)) = (Boxed::new(rt.alloc(), 3), Boxed::new(rt.alloc(), 3)) else {
+    let (Ok(value), Ok(spare)) = (
+        BoxedNumber::new(rt.alloc(), 3),
+        BoxedNumber::new(rt.alloc(), 3),
+    ) else {
         return Ok(());
     };
     let range = match Ranges::strictly_lower_than(rt.alloc(), value) {
@@ -139,11 +154,16 @@ fn sweep_strictly_lower_than(rt: HostRuntime) -> Result<(), Fail> {
 
 #[test]
 fn sweep_from_range_bounds(rt: HostRuntime) -> Result<(), Fail> {
-    let (Ok(start), Ok(end)) = (Boxed::new(rt.alloc(), 3), Boxed::new(rt.alloc(), 5)) else {
+    let (Ok(start), Ok(end)) = (
+        BoxedNumber::new(rt.alloc(), 3),
+        BoxedNumber::new(rt.alloc(), 5),
+    ) else {
         return Ok(());
     };
-    let (Ok(spare_start), Ok(spare_end)) = (Boxed::new(rt.alloc(), 3), Boxed::new(rt.alloc(), 5))
-    else {
+    let (Ok(spare_start), Ok(spare_end)) = (
+        BoxedNumber::new(rt.alloc(), 3),
+        BoxedNumber::new(rt.alloc(), 5),
+    ) else {
         return Ok(());
     };
     let range = match Ranges::from_range_bounds(rt.alloc(), Excluded(start), Included(end)) {
