@@ -1,6 +1,6 @@
 //! The sizes at which calls are run, and strings of such a size.
+use crate::case_fields::split_fields;
 use crate::error::CaseError;
-use crate::fields::split_fields;
 use crate::run::Calls;
 use std::alloc::{AllocError, Global};
 
