@@ -2,7 +2,7 @@
 //! `example_calls`.
 mod buffer_size;
 mod change_words;
-mod example_calls;
+mod examples;
 mod lists;
 mod long;
 mod no_files;
