@@ -75,10 +75,10 @@ IsDenoted v = (text : List ℕ) × Derives text v
 abbrev pub IsCoverable : Spec → Type 0
 IsCoverable s = HasOperand s × IsDenoted s.version
 
--- the cover holds every version that the specifier contains
+-- the cover holds every version that some string denotes and the specifier contains
 abbrev pub Covers : Spec → Segments → Type 0
 Covers s cover = (v : Record) → IsDenoted v → IsTrue (matches s.operator s.version v) → IsTrue (contains record_cmp cover v)
 
--- the cover holds every version that the list contains
+-- the cover holds every version that some string denotes and the list contains
 abbrev pub ListCovers : List Spec → Segments → Type 0
 ListCovers members cover = (v : Record) → IsDenoted v → IsTrue (list_matches members v) → IsTrue (contains record_cmp cover v)
