@@ -2,7 +2,7 @@
 
 typedef struct {
     PyObject *items;
-    PyObject *held; /* the strings of versions */
+    PyObject *held; /* the strings that are not items */
     size_t count;
     pep440_string *texts;
     uint8_t *copies; /* the compiled forms of the items, where the texts are these */
@@ -43,14 +43,19 @@ static int copy_compiled(Batch *batch)
     return end ? 0 : -1;
 }
 
-/* Lets the texts be those of the items, of which the versions' are held. */
+/* Lets the texts be those of the items, which are held where they are others. */
 static int hold_texts(Batch *batch)
 {
     batch->held = PyList_New(0);
-    for (size_t place = 0; batch->held && place < batch->count; place++)
-        if (view(item(batch, place), &batch->texts[place]) < 0 ||
-            (is_version(batch, place) && PyList_Append(batch->held, str_of(item(batch, place))) < 0))
+    for (size_t place = 0; batch->held && place < batch->count; place++) {
+        PyObject *text = text_of(item(batch, place));
+        int done = text ? view_str(text, &batch->texts[place]) : -1;
+        if (done == 0 && text != item(batch, place))
+            done = PyList_Append(batch->held, text);
+        Py_XDECREF(text);
+        if (done < 0)
             return -1;
+    }
     return batch->held ? 0 : -1;
 }
 

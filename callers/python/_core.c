@@ -8,6 +8,9 @@
 #include <Python.h>
 #include <stdlib.h>
 #include <string.h>
+#ifdef __x86_64__
+#include <cpuid.h>
+#endif
 
 #include "pep440.h"
 
@@ -43,9 +46,13 @@ static PyObject *compile_list(PyObject *module, PyObject *list)
 
 static PyObject *make_members_of(PyObject *module, PyObject *class)
 {
-    PyObject *old = member_class;
-    member_class = Py_NewRef(class);
-    Py_XDECREF(old);
+    kept_in(&member_class, Py_NewRef(class));
+    Py_RETURN_NONE;
+}
+
+static PyObject *read_others_by(PyObject *module, PyObject *reader)
+{
+    kept_in(&reader_of_others, Py_NewRef(reader));
     Py_RETURN_NONE;
 }
 
@@ -69,27 +76,29 @@ static PyMethodDef set_calls[] = {
 #define PRERELEASES \
     {"prereleases", (getter)get_prereleases, (setter)set_prereleases, "Whether pre-releases are allowed. May be set.", NULL}, \
     {"_prereleases", (getter)get_said, (setter)set_prereleases, "What was said of pre-releases, or None.", NULL}, \
-    {"_compiled", (getter)get_compiled, NULL, "The compiled list.", NULL}
+    {"_is_by_python", (getter)get_is_by_python, NULL, "Whether Python is to compare.", NULL}, \
+    {"_compiled", (getter)get_compiled, NULL, "The compiled list, of all but what Python is to compare.", NULL}
 
 static PyGetSetDef specifier_values[] = {
     PRERELEASES,
     {"operator", (getter)get_half, NULL, "The operator.", (void *)0},
     {"version", (getter)get_half, NULL, "The version as it was written, with its star.", (void *)1},
-    {"_spec", (getter)get_spec, NULL, "(operator, version)", NULL},
+    {"_spec", (getter)get_spec, (setter)assign_spec, "(operator, version)", NULL},
     {"_canonical_spec", (getter)get_canonical, NULL, "What equal specifiers share.", NULL},
     {NULL, NULL, NULL, NULL, NULL}};
 
 static PyGetSetDef set_values[] = {
     PRERELEASES,
-    {"_specs", (getter)get_members, NULL, "The members.", NULL},
+    {"_specs", (getter)get_members, (setter)assign_members, "The members.", NULL},
     {NULL, NULL, NULL, NULL, NULL}};
 
-static PyType_Slot specifier_slots[] = {{Py_tp_new, PyType_GenericNew},
-                                        {Py_tp_init, specifier_init},
+/* None has a `tp_new` of its own, so that `object.__new__` makes one, as copyreg does for pickles. */
+static PyType_Slot specifier_slots[] = {{Py_tp_init, specifier_init},
                                         {Py_tp_dealloc, specifiers_free},
                                         {Py_tp_traverse, specifiers_traverse},
                                         {Py_tp_clear, specifiers_clear},
                                         {Py_tp_hash, specifier_hash},
+                                        {Py_tp_richcompare, specifier_compare},
                                         {Py_tp_str, specifier_str},
                                         {Py_sq_contains, has},
                                         {Py_tp_methods, specifier_calls},
@@ -97,11 +106,14 @@ static PyType_Slot specifier_slots[] = {{Py_tp_new, PyType_GenericNew},
                                         {Py_tp_doc, "HeldSpecifier(spec='', prereleases=None)\n--\n\nA specifier, compiled."},
                                         {0, NULL}};
 
-static PyType_Slot set_slots[] = {{Py_tp_new, PyType_GenericNew},
-                                  {Py_tp_init, set_init},
+static PyType_Slot set_slots[] = {{Py_tp_init, set_init},
                                   {Py_tp_dealloc, specifiers_free},
                                   {Py_tp_traverse, specifiers_traverse},
                                   {Py_tp_clear, specifiers_clear},
+                                  {Py_tp_hash, set_hash},
+                                  {Py_tp_richcompare, set_compare},
+                                  {Py_tp_iter, set_iterator},
+                                  {Py_sq_length, set_length},
                                   {Py_sq_contains, has},
                                   {Py_tp_methods, set_calls},
                                   {Py_tp_getset, set_values},
@@ -118,6 +130,7 @@ static PyMethodDef calls[] = {
     {"ranges", ranges, METH_O, "The range of a list, a segment a line."},
     {"compile_list", compile_list, METH_O, "The compiled list, of the string at once."},
     {"make_members_of", make_members_of, METH_O, "From now on the members of sets are of this class."},
+    {"read_others_by", read_others_by, METH_O, "From now on this gives the strings of other libraries' versions."},
     {"sort", sort, METH_O, "The items in the order of their versions."},
     {"sort_keys", sort_keys, METH_O, "The sort key of each item."},
     {NULL, NULL, 0, NULL}};
@@ -136,9 +149,32 @@ static int add_error(PyObject *module, PyObject **error, const char *name, const
     return *error ? PyModule_AddObjectRef(module, strrchr(name, '.') + 1, *error) : -1;
 }
 
+/* What the library's code takes of a processor, as those since 2009 have it (x86-64-v2): another one would end the process at the first use. A library
+   that is built for all may be linked with PEP440_ANY_PROCESSOR defined. Returns what is missing, or NULL. */
+static const char *missing_of_processor(void)
+{
+#if defined(__x86_64__) && !defined(PEP440_ANY_PROCESSOR)
+    static const struct {
+        unsigned bit;
+        const char *name;
+    } FEATURES[] = {{bit_SSE3, "SSE3"}, {bit_SSSE3, "SSSE3"}, {bit_SSE4_1, "SSE4.1"}, {bit_SSE4_2, "SSE4.2"}, {bit_POPCNT, "POPCNT"}};
+    unsigned eax, ebx, ecx = 0, edx;
+    __get_cpuid(1, &eax, &ebx, &ecx, &edx);
+    for (size_t place = 0; place < sizeof FEATURES / sizeof *FEATURES; place++)
+        if (!(ecx & FEATURES[place].bit))
+            return FEATURES[place].name;
+#endif
+    return NULL;
+}
+
 /* The types and the exceptions are held by static variables, so that there is one interpreter for them. */
 static int execute(PyObject *module)
 {
+    const char *missing = missing_of_processor();
+    if (missing) {
+        PyErr_Format(PyExc_ImportError, "pep440_rattle needs a processor with %s (x86-64-v2), which this one lacks", missing);
+        return -1;
+    }
     if (PyInterpreterState_GetID(PyInterpreterState_Get()) != 0) {
         PyErr_SetString(PyExc_ImportError, "pep440_rattle can be imported in the main interpreter alone");
         return -1;

@@ -14,14 +14,20 @@ typedef struct {
     size_t length;
     long asked_at;       /* `times_set` when `allows` was found */
     signed char allows;  /* whether it allows pre-releases where nobody says so; -1: not asked yet */
-    signed char changed; /* whether its class, or that of a member, has a comparison or properties of its own; -1: not asked yet */
+    signed char changed; /* whether Python is to compare (`is_changed`); -1: not asked yet */
     uint8_t few[48];
 } Specifiers;
 
 /* How often `prereleases` of some specifier was set, so that a set knows when to ask its members again. */
 static long times_set;
 
+/* How many characters `===` has, alone of all operators. */
+enum { ARBITRARY = 3 };
+
 static int is_specifier(const Specifiers *self) { return PyObject_TypeCheck((PyObject *)self, HeldSpecifierType); }
+
+/* Whether it is a specifier with `===`, of which nothing is compiled. */
+static int is_arbitrary(const Specifiers *self) { return is_specifier(self) && self->length == LIST_HEAD; }
 
 static int is_compiled(const Specifiers *self)
 {
@@ -82,41 +88,30 @@ static void specifiers_free(Specifiers *self)
     Py_DECREF(type);
 }
 
-/* The str without white space at its ends, as str.strip has it. */
-static PyObject *stripped(PyObject *given)
+/* How many characters the operator in front has; of one to three, all but `<` and `>` have a `=` at their ends. */
+static Py_ssize_t operator_width(PyObject *text)
 {
-    Py_ssize_t length = 0;
-    PyObject *text = PyUnicode_FromObject(given), *made;
-    const char *bytes = text ? PyUnicode_AsUTF8AndSize(text, &length) : NULL;
-    if (bytes && length && bytes[0] > ' ' && bytes[0] < 127 && bytes[length - 1] > ' ' && bytes[length - 1] < 127)
-        return text;
-    if (!text || (!bytes && !PyErr_ExceptionMatches(PyExc_UnicodeEncodeError))) {
-        Py_XDECREF(text);
-        return NULL;
-    }
-    PyErr_Clear();
-    made = PyObject_CallMethod(text, "strip", NULL);
-    Py_DECREF(text);
-    return made;
+    Py_ssize_t length = PyUnicode_GetLength(text);
+    if (length < 2 || PyUnicode_ReadChar(text, 1) != '=')
+        return length > 0;
+    return length > 2 && PyUnicode_ReadChar(text, 0) == '=' && PyUnicode_ReadChar(text, 2) == '=' ? ARBITRARY : 2;
 }
 
-/* How many bytes the operator in front has; of one to three characters, all but `<` and `>` have a `=` at their ends. */
-static size_t operator_width(const uint8_t *bytes) { return bytes[1] != '=' ? 1 : bytes[0] == '=' && bytes[2] == '=' ? 3 : 2; }
-
-/* The specifier as it prints: without blanks behind its operator. */
-static PyObject *joined(PyObject *text, const uint8_t *bytes, size_t length)
+/* The specifier as it prints: without white space behind its operator. It stays where this is no operator, which a `=` behind the space makes longer. */
+static PyObject *joined(PyObject *text)
 {
-    size_t width = operator_width(bytes), start = width;
-    PyObject *operator, *version, *made = NULL;
-    while (start < length && bytes[start] <= ' ')
-        start++;
-    if (start == width)
+    Py_ssize_t width = operator_width(text);
+    Py_UCS4 next = width < PyUnicode_GetLength(text) ? PyUnicode_ReadChar(text, width) : '=';
+    PyObject *operator, *rest, *version, *made = NULL;
+    if (next > ' ' && next < 127)
         return Py_NewRef(text);
-    operator = PyUnicode_FromStringAndSize((const char *)bytes, (Py_ssize_t)width);
-    version = PyUnicode_FromStringAndSize((const char *)bytes + start, (Py_ssize_t)(length - start));
+    operator = PyUnicode_Substring(text, 0, width);
+    rest = PyUnicode_Substring(text, width, PY_SSIZE_T_MAX);
+    version = rest ? stripped(rest) : NULL;
     if (operator && version)
-        made = PyUnicode_Concat(operator, version);
+        made = width < ARBITRARY && PyUnicode_ReadChar(version, 0) == '=' ? Py_NewRef(text) : PyUnicode_Concat(operator, version);
     Py_XDECREF(operator);
+    Py_XDECREF(rest);
     Py_XDECREF(version);
     return made;
 }
@@ -132,7 +127,7 @@ static int init_arguments(PyObject *args, PyObject *named, char *first, const ch
     return PyArg_ParseTupleAndKeywords(args, named, form, names, given, said) ? 0 : -1;
 }
 
-/* The operators that a version alone stands behind, and their bytes in a compiled list (docs/PROMISES.md, "Compiled versions"). */
+/* The operators that a version alone stands behind, and their numbers in a compiled list (docs/PROMISES.md, "Compiled versions"). */
 static const struct {
     char bytes[3];
     uint8_t code;
@@ -140,33 +135,49 @@ static const struct {
 
 /* Whether the version may stand behind the operator that begins so: one with a local part behind `==` and `!=` alone, one of a single number
    not behind `~=`. */
-static int may_follow(uint8_t operator, const uint8_t *version, size_t length)
+static int may_follow(uint8_t operator, const uint8_t *key, size_t length)
 {
-    pep440_parts parts;
-    uint64_t release[1];
-    uint8_t status;
-    if (version[0] == PACKED)
-        return operator != '~' || version[1] > 1;
-    status = pep440_parts_of_compiled(version, length, &parts, release, 1);
-    return (status == PEP440_OK || status == PEP440_NO_ROOM) && (operator != '~' || parts.release_length > 1) &&
-           (operator == '=' || operator == '!' || !parts.has_local);
+    KeyView view = view_key(key);
+    if (key[view.local])
+        return operator == '=' || operator == '!';
+    return operator != '~' || view.numbers + length - view.local > 2;
 }
 
-/* Compiles a specifier as the list of it alone. Where a version stands behind an operator this is compiled, which takes a third of the time. All
-   else the library compiles as a list: `===`, a star, and what is none. Both make the same bytes (tested by tests/test_rows.py). */
-static uint8_t compile_specifier(pep440_string text, Compiled *compiled)
+/* Whether the text behind `===` has no white space, `;` or `)`, and so is any that may stand there. 1, 0, or -1 with an error. */
+static int is_any_text(PyObject *print)
 {
-    size_t width = operator_width(text.bytes), place = 0;
+    PyObject *words = PyUnicode_Split(print, NULL, 1);
+    int found = !words ? -1 : PyList_Size(words) == 1;
+    for (const char *each = ";)"; found > 0 && *each; each++)
+        found = PyUnicode_FindChar(print, (Py_UCS4)*each, 0, PY_SSIZE_T_MAX, 1) == -1;
+    Py_XDECREF(words);
+    return found;
+}
+
+/* Compiles a specifier as the list of it alone, and one with `===` as the list of nothing, since any text may stand there: Python compares it. Where a
+   version stands behind another operator this is compiled, which takes a third of the time. All else the library compiles as a list: a star, and what
+   is none. Both make the same bytes (tested by tests/test_rows.py). */
+static uint8_t compile_specifier(PyObject *print, pep440_string text, Compiled *compiled)
+{
+    size_t width = (size_t)operator_width(print), place = 0;
     pep440_string version = {text.bytes + width, text.length - width};
+    int is_any = width == ARBITRARY ? is_any_text(print) : 0;
     uint8_t status;
+    if (is_any) {
+        compiled->bytes = memcpy(compiled->few, EMPTY_LIST, LIST_HEAD);
+        compiled->length = LIST_HEAD;
+        return is_any < 0 ? PEP440_OUT_OF_MEMORY : PEP440_OK;
+    }
+    if (!text.length || memchr(text.bytes, ',', text.length))
+        return PEP440_INVALID_LIST;
     while (OPERATORS[place].bytes[0] && (OPERATORS[place].bytes[0] != text.bytes[0] || (OPERATORS[place].bytes[1] ? 2 : 1) != width))
         place++;
     if (!OPERATORS[place].bytes[0] || text.bytes[text.length - 1] == '*')
         return compile(pep440_compile_list, text, 0, compiled);
-    status = compile(pep440_compile, version, MEMBER_HEAD, compiled);
+    status = compile(pep440_compile, version, LIST_HEAD, compiled);
     if (status == PEP440_OK && may_follow(text.bytes[0], compiled->bytes + MEMBER_HEAD, compiled->length - MEMBER_HEAD)) {
-        memcpy(compiled->bytes, ONE_MEMBER, LIST_HEAD);
-        compiled->bytes[LIST_HEAD] = OPERATORS[place].code;
+        compiled->bytes[0] = LIST;
+        compiled->bytes[LIST_HEAD] = OPERATOR + OPERATORS[place].code;
         return PEP440_OK;
     }
     if (status == PEP440_OK)
@@ -174,9 +185,19 @@ static uint8_t compile_specifier(pep440_string text, Compiled *compiled)
     return status == PEP440_OUT_OF_MEMORY ? status : compile(pep440_compile_list, text, 0, compiled);
 }
 
+/* Raises the error of a string that is no specifier. */
+static void raise_invalid_specifier(PyObject *given, PyObject *text)
+{
+    pep440_string string;
+    if (view_str(text, &string) == 0 && (!string.length || memchr(string.bytes, ',', string.length)))
+        PyErr_Format(InvalidSpecifier, "Invalid specifier: %R: it is not one specifier", given);
+    else if (!PyErr_Occurred())
+        raise_invalid(InvalidSpecifier, INVALID_SPECIFIER, given, text, pep440_list_error);
+}
+
 static int specifier_init(Specifiers *self, PyObject *args, PyObject *named)
 {
-    PyObject *given = NULL, *said = Py_None, *text, *print = NULL;
+    PyObject *given = NULL, *said = Py_None, *text, *print;
     pep440_string string;
     Compiled compiled;
     uint8_t status;
@@ -188,22 +209,19 @@ static int specifier_init(Specifiers *self, PyObject *args, PyObject *named)
         return -1;
     }
     text = given ? stripped(given) : PyUnicode_FromString("");
-    if (!text || view_str(text, &string) < 0) {
-        Py_XDECREF(text);
-        return -1;
+    print = text ? joined(text) : NULL;
+    if (print && view_str(print, &string) == 0) {
+        status = compile_specifier(print, string, &compiled);
+        if (status == PEP440_OK) {
+            done = take(self, Py_NewRef(print), NULL, said, compiled.bytes, compiled.length);
+            drop_compiled(&compiled);
+        } else if (status == PEP440_INVALID_LIST)
+            raise_invalid_specifier(given ? given : text, text);
+        else
+            raise_by(status, NULL, text);
     }
-    if (!string.length || memchr(string.bytes, ',', string.length))
-        PyErr_Format(InvalidSpecifier, "Invalid specifier: %R: it is not one specifier", given ? given : text);
-    else if ((status = compile_specifier(string, &compiled)) == PEP440_INVALID_LIST)
-        raise_invalid(InvalidSpecifier, INVALID_SPECIFIER, given, text, pep440_list_error);
-    else if (status != PEP440_OK)
-        raise_by(status, NULL, text);
-    else {
-        print = joined(text, string.bytes, string.length);
-        done = print ? take(self, print, NULL, said, compiled.bytes, compiled.length) : -1;
-        drop_compiled(&compiled);
-    }
-    Py_DECREF(text);
+    Py_XDECREF(text);
+    Py_XDECREF(print);
     return done;
 }
 
@@ -214,13 +232,12 @@ static PyObject *specifier_str(Specifiers *self) { return is_compiled(self) ? Py
 /* (operator, version), borrowed. */
 static PyObject *spec_of(Specifiers *self)
 {
-    Py_ssize_t length = 0;
-    const char *bytes;
-    size_t width;
-    if (self->members || !is_compiled(self) || !(bytes = PyUnicode_AsUTF8AndSize(self->text, &length)))
+    Py_ssize_t width;
+    if (self->members || !is_compiled(self))
         return self->members;
-    width = operator_width((const uint8_t *)bytes);
-    return kept_in(&self->members, Py_BuildValue("s#s#", bytes, (Py_ssize_t)width, bytes + width, length - (Py_ssize_t)width));
+    width = operator_width(self->text);
+    return kept_in(&self->members, Py_BuildValue("NN", PyUnicode_Substring(self->text, 0, width),
+                                                 PyUnicode_Substring(self->text, width, PY_SSIZE_T_MAX)));
 }
 
 static PyObject *get_spec(Specifiers *self, void *unused) { return Py_XNewRef(spec_of(self)); }
@@ -231,30 +248,68 @@ static PyObject *get_half(Specifiers *self, void *place)
     return spec ? Py_NewRef(PyTuple_GetItem(spec, (Py_ssize_t)(intptr_t)place)) : NULL;
 }
 
+/* Compiles the text behind `===`, which need not be a version. To be dropped where the status is PEP440_OK. */
+static uint8_t compile_behind(Specifiers *self, Compiled *compiled)
+{
+    PyObject *spec = spec_of(self);
+    pep440_string text;
+    if (!spec || view_str(PyTuple_GetItem(spec, 1), &text) < 0)
+        return PEP440_OUT_OF_MEMORY;
+    return compile(pep440_compile, text, 0, compiled);
+}
+
+/* The sort key of the version behind `===`, or the text where it is none. */
+static PyObject *key_or_text(Specifiers *self, PyObject *text)
+{
+    Compiled compiled;
+    uint8_t status = compile_behind(self, &compiled);
+    PyObject *key;
+    if (status != PEP440_OK)
+        return status == PEP440_INVALID_VERSION ? Py_NewRef(text) : raise_by(status, NULL, NULL);
+    key = made_of(pep440_sort_key_compiled, compiled.bytes, compiled.length, PyBytes_FromStringAndSize);
+    drop_compiled(&compiled);
+    return key;
+}
+
+/* Makes it of other strings or members, with what was said of pre-releases. */
+static int make_of(Specifiers *self, PyObject *given, int (*init)(Specifiers *, PyObject *, PyObject *))
+{
+    PyObject *args = given ? PyTuple_Pack(2, given, self->said ? self->said : Py_None) : NULL;
+    int done = args ? init(self, args, NULL) : -1;
+    Py_XDECREF(args);
+    return done;
+}
+
+static int assign_spec(Specifiers *self, PyObject *value, void *unused)
+{
+    PyObject *nothing = PyUnicode_FromString(""), *text = nothing && value ? PyUnicode_Join(nothing, value) : NULL;
+    int done = make_of(self, text, specifier_init);
+    if (!value)
+        PyErr_SetString(PyExc_AttributeError, "_spec cannot be deleted");
+    Py_XDECREF(nothing);
+    Py_XDECREF(text);
+    return done;
+}
+
 /* What tells two specifiers apart: versions that are equal are one, but for `~=`, where zeros at the end count, and those with a star. */
 static PyObject *canonical_of(Specifiers *self)
 {
-    PyObject *spec = spec_of(self), *operator, *version;
-    const uint8_t *compiled;
-    size_t length;
-    Py_ssize_t size = 0;
-    const char *bytes;
+    PyObject *spec = spec_of(self), *version;
+    const char *key = (const char *)self->compiled + MEMBER_HEAD;
+    size_t length = self->length - MEMBER_HEAD;
     if (!spec || self->canonical)
         return self->canonical;
-    compiled = self->compiled + MEMBER_HEAD;
-    length = self->length - MEMBER_HEAD;
-    operator = PyTuple_GetItem(spec, 0);
     version = PyTuple_GetItem(spec, 1);
-    bytes = PyUnicode_AsUTF8AndSize(version, &size);
-    if (!bytes)
-        return NULL;
-    if (size && bytes[size - 1] == '*')
+    if (is_arbitrary(self))
+        version = key_or_text(self, version);
+    else if (PyUnicode_ReadChar(version, PyUnicode_GetLength(version) - 1) == '*')
         version = Py_NewRef(version);
-    else if (PyUnicode_CompareWithASCIIString(operator, "~=") == 0)
-        version = made_of(pep440_normalize_compiled, compiled, length, PyUnicode_FromStringAndSize);
-    else
-        version = made_of(pep440_sort_key_compiled, compiled, length, PyBytes_FromStringAndSize);
-    return version ? kept_in(&self->canonical, Py_BuildValue("ON", operator, version)) : NULL;
+    else {
+        while (PyUnicode_ReadChar(self->text, 0) != '~' && key[length - 1] == 1)
+            length--;
+        version = PyBytes_FromStringAndSize(key, (Py_ssize_t)length);
+    }
+    return version ? kept_in(&self->canonical, Py_BuildValue("ON", PyTuple_GetItem(spec, 0), version)) : NULL;
 }
 
 static PyObject *get_canonical(Specifiers *self, void *unused) { return Py_XNewRef(canonical_of(self)); }
@@ -265,18 +320,50 @@ static Py_hash_t specifier_hash(Specifiers *self)
     return canonical ? PyObject_Hash(canonical) : -1;
 }
 
-/* Whether the version behind any operator but `!=` is a pre-release: who excludes one does not ask for any. 1, 0, or -1 with an error. */
+/* Whether both are equal: a string is read as a specifier, and equals none where it is none. */
+static PyObject *specifier_compare(PyObject *left, PyObject *right, int operation)
+{
+    PyObject *other, *one, *two, *answer = NULL;
+    int is_same = Py_TYPE(left) == Py_TYPE(right);
+    if (operation != Py_EQ && operation != Py_NE)
+        Py_RETURN_NOTIMPLEMENTED;
+    if (!is_same && PyObject_TypeCheck(right, HeldSpecifierType) && (is_same = PyObject_IsInstance(right, (PyObject *)Py_TYPE(left))) < 0)
+        return NULL;
+    if (!is_same && !PyUnicode_Check(right))
+        Py_RETURN_NOTIMPLEMENTED;
+    other = is_same ? Py_NewRef(right) : PyObject_CallFunctionObjArgs((PyObject *)Py_TYPE(left), right, NULL);
+    if (!other && PyErr_ExceptionMatches(InvalidSpecifier)) {
+        PyErr_Clear();
+        Py_RETURN_NOTIMPLEMENTED;
+    }
+    one = other ? canonical_of((Specifiers *)left) : NULL;
+    if (one && !PyObject_TypeCheck(other, HeldSpecifierType)) /* a subclass may make anything */
+        answer = Py_NewRef(Py_NotImplemented);
+    else if (one && (two = canonical_of((Specifiers *)other)))
+        answer = PyObject_RichCompare(one, two, operation);
+    Py_XDECREF(other);
+    return answer;
+}
+
+/* Whether the version behind any operator but `!=` is a pre-release: who excludes one does not ask for any. 1, 0, or -1 with an error, as where the text
+   behind `===` is no version. */
 static int names_prerelease(Specifiers *self)
 {
-    uint8_t contained, early = 0, status;
+    uint8_t status = PEP440_OK;
+    int early = 0;
+    Compiled compiled;
     if (self->allows >= 0)
         return self->allows;
-    if (PyUnicode_ReadChar(self->text, 0) != '!') {
-        status = pep440_contains_compiled(EMPTY_LIST, LIST_HEAD, self->compiled + MEMBER_HEAD, self->length - MEMBER_HEAD, &contained, &early);
-        if (status != PEP440_OK) {
-            raise_by(status, NULL, NULL);
-            return -1;
+    if (is_arbitrary(self)) {
+        if ((status = compile_behind(self, &compiled)) == PEP440_OK) {
+            early = view_key(compiled.bytes + 1).is_early;
+            drop_compiled(&compiled);
         }
+    } else if (PyUnicode_ReadChar(self->text, 0) != '!')
+        early = view_key(self->compiled + MEMBER_HEAD).is_early;
+    if (status != PEP440_OK) {
+        raise_by(status, self->members ? PyTuple_GetItem(self->members, 1) : NULL, NULL);
+        return -1;
     }
     return self->allows = (signed char)early;
 }
@@ -347,36 +434,48 @@ static int set_prereleases(Specifiers *self, PyObject *value, void *unused)
 
 /* ---- sets */
 
-/* The compiled list of the members: theirs, one after the other in the order of their versions. To be freed. */
+/* A member of a set, and which one it is. */
+typedef struct {
+    const Specifiers *member;
+    size_t place;
+} Placed;
+
+/* By version, and those of equal ones as they came. */
+static int compare_placed(const void *left, const void *right)
+{
+    const Placed *one = left, *other = right;
+    int order = compare_forms(one->member->compiled + MEMBER_HEAD, one->member->length - MEMBER_HEAD, other->member->compiled + MEMBER_HEAD,
+                              other->member->length - MEMBER_HEAD);
+    return order ? order : (one->place > other->place) - (one->place < other->place);
+}
+
+/* The compiled list of the members but those with `===`: theirs, one after the other in the order of their versions. To be freed. */
 static uint8_t *assemble(PyObject *members, size_t *length)
 {
-    size_t count = (size_t)PyTuple_Size(members), *places = PyMem_Calloc(count + 1, sizeof *places), at = 0;
-    pep440_string *versions = PyMem_Calloc(count + 1, sizeof *versions);
-    uint8_t *list = NULL, *end, status = PEP440_OUT_OF_MEMORY;
+    size_t all = (size_t)PyTuple_Size(members), count = 0;
+    Placed *sorted = PyMem_Calloc(all + 1, sizeof *sorted);
+    uint8_t *list = NULL, *end;
     *length = LIST_HEAD;
-    for (size_t place = 0; versions && place < count; place++) {
+    for (size_t place = 0; sorted && place < all; place++) {
         const Specifiers *member = (Specifiers *)PyTuple_GetItem(members, (Py_ssize_t)place);
-        versions[place].bytes = member->compiled + MEMBER_HEAD;
-        versions[place].length = member->length - MEMBER_HEAD;
+        if (is_arbitrary(member))
+            continue;
+        sorted[count++] = (Placed){member, place};
         *length += member->length - LIST_HEAD;
     }
-    if (versions && places)
-        status = count > 1 ? pep440_sort_compiled(versions, count, places, count, &at) : PEP440_OK;
-    if (status == PEP440_OK && (list = PyMem_Malloc(*length))) {
+    if (sorted && (list = PyMem_Malloc(*length))) {
+        qsort(sorted, count, sizeof *sorted, compare_placed);
         list[0] = LIST;
-        for (int place = 1; place < LIST_HEAD; place++)
-            list[place] = (uint8_t)(count >> 8 * (LIST_HEAD - 1 - place));
         end = list + LIST_HEAD;
         for (size_t turn = 0; turn < count; turn++) {
-            pep440_string version = versions[places[turn]];
-            memcpy(end, version.bytes - 1, version.length + 1);
-            end += version.length + 1;
+            size_t size = sorted[turn].member->length - LIST_HEAD;
+            memcpy(end, sorted[turn].member->compiled + LIST_HEAD, size);
+            end += size;
         }
     }
-    PyMem_Free(places);
-    PyMem_Free(versions);
+    PyMem_Free(sorted);
     if (!list)
-        raise_by(status == PEP440_OK ? PEP440_OUT_OF_MEMORY : status, NULL, NULL);
+        PyErr_NoMemory();
     return list;
 }
 
@@ -442,6 +541,13 @@ static int set_init(Specifiers *self, PyObject *args, PyObject *named)
     return done;
 }
 
+static int assign_members(Specifiers *self, PyObject *value, void *unused)
+{
+    if (!value)
+        PyErr_SetString(PyExc_AttributeError, "_specs cannot be deleted");
+    return make_of(self, value, set_init);
+}
+
 /* The members as a frozenset, borrowed: of equal ones the first. */
 static PyObject *members_of(Specifiers *self)
 {
@@ -452,9 +558,47 @@ static PyObject *members_of(Specifiers *self)
 
 static PyObject *get_members(Specifiers *self, void *unused) { return Py_XNewRef(members_of(self)); }
 
+static Py_ssize_t set_length(Specifiers *self)
+{
+    PyObject *members = members_of(self);
+    return members ? PyObject_Size(members) : -1;
+}
+
+static PyObject *set_iterator(Specifiers *self)
+{
+    PyObject *members = members_of(self);
+    return members ? PyObject_GetIter(members) : NULL;
+}
+
+static Py_hash_t set_hash(Specifiers *self)
+{
+    PyObject *members = members_of(self);
+    return members ? PyObject_Hash(members) : -1;
+}
+
+/* Whether both have equal members; of a string or a specifier a set is made. */
+static PyObject *set_compare(PyObject *left, PyObject *right, int operation)
+{
+    int is_set = PyObject_TypeCheck(right, HeldSetType), is_text = PyUnicode_Check(right) || PyObject_TypeCheck(right, HeldSpecifierType);
+    PyObject *text, *other, *one, *two, *answer = NULL;
+    if ((operation != Py_EQ && operation != Py_NE) || (!is_set && !is_text))
+        Py_RETURN_NOTIMPLEMENTED;
+    text = is_set ? Py_NewRef(right) : PyObject_Str(right);
+    other = is_set || !text ? Py_XNewRef(text) : PyObject_CallFunctionObjArgs((PyObject *)HeldSetType, text, NULL);
+    one = other ? Py_XNewRef(members_of((Specifiers *)left)) : NULL;
+    two = one ? Py_XNewRef(members_of((Specifiers *)other)) : NULL;
+    if (two)
+        answer = PyObject_RichCompare(one, two, operation);
+    Py_XDECREF(text);
+    Py_XDECREF(other);
+    Py_XDECREF(one);
+    Py_XDECREF(two);
+    return answer;
+}
+
 /* ---- what is contained */
 
-/* Whether the class or a member's class has a comparison or properties of its own, so that Python is to compare. */
+/* Whether Python is to compare: it is or has a specifier with `===`, or the class or a member's class has a comparison or properties of its own. */
 static int is_changed(Specifiers *self)
 {
     PyObject *flag, *each, *all;
@@ -464,6 +608,8 @@ static int is_changed(Specifiers *self)
     flag = PyObject_GetAttrString((PyObject *)Py_TYPE((PyObject *)self), "_is_changed");
     changed = flag ? PyObject_IsTrue(flag) : -1;
     Py_XDECREF(flag);
+    if (changed == 0 && is_arbitrary(self))
+        changed = 1;
     if (changed == 0 && !is_specifier(self)) {
         all = PyObject_GetIter(self->members);
         while (all && changed == 0 && (each = PyIter_Next(all))) {
@@ -477,25 +623,33 @@ static int is_changed(Specifiers *self)
     return self->changed = (signed char)changed;
 }
 
+static PyObject *get_is_by_python(Specifiers *self, void *unused)
+{
+    int changed = is_compiled(self) ? is_changed(self) : -1;
+    return changed < 0 ? NULL : PyBool_FromLong(changed);
+}
+
 /* 1, 0, or -1 with an error. */
 static int contains(Specifiers *self, PyObject *item, PyObject *prereleases)
 {
     const Held *version = (Held *)item;
+    PyObject *text;
     pep440_string string;
     Compiled compiled;
-    uint8_t contained, early, status;
+    uint8_t contained, early, status = PEP440_OUT_OF_MEMORY;
     if (PyObject_TypeCheck(item, HeldType)) {
         if (!is_initialised(version))
             return -1;
         status = pep440_contains_compiled(self->compiled, self->length, version->compiled, version->length, &contained, &early);
     } else {
-        if (view(item, &string) < 0)
-            return -1;
-        status = compile(pep440_compile, string, 0, &compiled);
+        text = text_of(item);
+        if (text && view_str(text, &string) == 0)
+            status = compile(pep440_compile, string, 0, &compiled);
         if (status == PEP440_OK) {
             status = pep440_contains_compiled(self->compiled, self->length, compiled.bytes, compiled.length, &contained, &early);
             drop_compiled(&compiled);
         }
+        Py_XDECREF(text);
     }
     if (status != PEP440_OK) {
         raise_by(status, item, NULL);

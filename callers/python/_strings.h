@@ -8,14 +8,13 @@ static PyTypeObject *HeldType, *HeldSpecifierType, *HeldSetType;
 typedef struct {
     PyObject_HEAD
     PyObject *text;
-    PyObject *key;
+    PyObject *key; /* its sort key, or what was set in its place */
     PyObject *parts;
     PyObject *prints;
-    uint64_t word;     /* of a packed version: it stands as the version does */
     uint8_t *compiled; /* `few`, or a block of its own */
     size_t length;
-    uint8_t few[16];
-    char is_packed;
+    uint8_t few[32];
+    char has_own_key;  /* a key was set */
 } Held;
 
 /* ---- texts in, answers out */
@@ -51,6 +50,41 @@ static int view_str(PyObject *given, pep440_string *text)
     text->bytes = (const uint8_t *)bytes;
     text->length = (size_t)length;
     return 0;
+}
+
+/* The str without white space at its ends, as str.strip has it. */
+static PyObject *stripped(PyObject *given)
+{
+    Py_ssize_t length = 0;
+    PyObject *text = PyUnicode_FromObject(given), *made; /* of a subclass of str the plain str */
+    const char *bytes = text ? PyUnicode_AsUTF8AndSize(text, &length) : NULL;
+    if (bytes && length && bytes[0] > ' ' && bytes[0] < 127 && bytes[length - 1] > ' ' && bytes[length - 1] < 127)
+        return text;
+    if (!text || (!bytes && !PyErr_ExceptionMatches(PyExc_UnicodeEncodeError))) {
+        Py_XDECREF(text);
+        return NULL;
+    }
+    PyErr_Clear();
+    made = PyObject_CallMethod(text, "strip", NULL);
+    Py_DECREF(text);
+    return made;
+}
+
+/* What gives the string of another library's version, or raises TypeError: set by the module of versions. */
+static PyObject *reader_of_others;
+
+/* The string that is read of what is given for a version. */
+static PyObject *text_of(PyObject *given)
+{
+    PyObject *text, *made;
+    if (PyUnicode_Check(given))
+        return stripped(given);
+    if (PyObject_TypeCheck(given, HeldType))
+        return is_initialised((Held *)given) ? Py_NewRef(((Held *)given)->text) : NULL;
+    text = PyObject_CallFunctionObjArgs(reader_of_others, given, NULL);
+    made = text ? stripped(text) : NULL;
+    Py_XDECREF(text);
+    return made;
 }
 
 /* The same of a str or of a version's text. */
@@ -130,18 +164,39 @@ static PyObject *raise_by(uint8_t status, PyObject *version, PyObject *list)
 
 /* ---- compiled forms */
 
-/* The first bytes of the forms (docs/PROMISES.md, "Compiled versions"): a packed version has ten bytes, the last eight of which are its word,
-   greatest byte first; a list has nine bytes, the last eight of which are the count of its members, and for each one its operator and its version. */
-enum { PACKED = 1, LIST = 3, LIST_HEAD = 9, MEMBER_HEAD = 10 };
+/* The forms (docs/PROMISES.md, "Compiled versions"): a version is a byte, its sort key, and a byte 1 for each zero that ends its release; a list is a
+   byte, and for each member its operator, and key and zeros of its version. */
+enum { LIST = 5, LIST_HEAD = 1, OPERATOR = 16, MEMBER_HEAD = 2 };
 
-static const uint8_t EMPTY_LIST[LIST_HEAD] = {LIST}, ONE_MEMBER[LIST_HEAD] = {LIST, [LIST_HEAD - 1] = 1};
+static const uint8_t EMPTY_LIST[LIST_HEAD] = {LIST};
 
-static uint64_t word_of(const uint8_t *packed)
+/* The order of two versions by their forms, or by what follows the first byte: no key is a prefix of another one, so what follows it counts for
+   nothing. */
+static int compare_forms(const uint8_t *left, size_t left_length, const uint8_t *right, size_t right_length)
 {
-    uint64_t word = 0;
-    for (int place = 2; place < 10; place++)
-        word = word << 8 | packed[place];
-    return word;
+    return memcmp(left, right, left_length < right_length ? left_length : right_length);
+}
+
+/* What is read in a sort key: how many numbers the release has without the zeros at its end, where the local part lies, and whether it is of a
+   pre-release or a developmental release. */
+typedef struct {
+    size_t numbers;
+    size_t local;
+    int is_early;
+} KeyView;
+
+static KeyView view_key(const uint8_t *key)
+{
+    size_t at = 1 + key[0] % 16, numbers = 0;
+    int is_early;
+    for (; key[at]; numbers++)
+        at += key[at];
+    at++;
+    is_early = key[at] / 16 < 5; /* the stage */
+    at += 1 + key[at] % 16;
+    at += 1 + key[at] % 16;
+    is_early |= key[at] / 16 == 0; /* the developmental part */
+    return (KeyView){numbers, at + 1 + key[at] % 16, is_early};
 }
 
 /* Bytes that the library compiled, in `few` where these are enough. */
@@ -157,15 +212,15 @@ static void drop_compiled(Compiled *compiled)
         free(compiled->bytes);
 }
 
-/* Compiles a string in one call, and leaves room in front: by the header a version or a specifier takes at most 40 bytes and 10 for each byte of
+/* Compiles a string in one call, and leaves room in front: by the header a version or a specifier takes at most 10 bytes and 3 for each byte of
    its string. To be dropped where the status is PEP440_OK. */
 static uint8_t compile(Writer call, pep440_string text, size_t front, Compiled *compiled)
 {
-    size_t room = sizeof compiled->few, most = (SIZE_MAX - 40 - MEMBER_HEAD) / 10;
+    size_t room = sizeof compiled->few, most = (SIZE_MAX - 10 - MEMBER_HEAD) / 3;
     uint8_t status;
     compiled->bytes = compiled->few;
-    if (text.length > (room - 40 - MEMBER_HEAD) / 10) {
-        room = 40 + MEMBER_HEAD + 10 * text.length;
+    if (text.length > (room - 10 - MEMBER_HEAD) / 3) {
+        room = 10 + MEMBER_HEAD + 3 * text.length;
         compiled->bytes = text.length <= most ? malloc(room) : NULL;
         if (!compiled->bytes)
             return PEP440_OUT_OF_MEMORY;

@@ -16,28 +16,29 @@ static int held_init(Held *self, PyObject *args, PyObject *named)
         PyErr_Format(PyExc_TypeError, "expected a str, not %R", Py_TYPE(given));
         return -1;
     }
-    if (view_str(given, &string) < 0)
+    text = stripped(given);
+    if (!text || view_str(text, &string) < 0) {
+        Py_XDECREF(text);
         return -1;
+    }
     status = compile(pep440_compile, string, 0, &compiled);
     if (status != PEP440_OK) {
+        Py_DECREF(text);
         raise_by(status, given, NULL);
         return -1;
     }
-    text = PyUnicode_FromObject(given); /* of a subclass of str the plain str */
     old_block = self->compiled == self->few ? NULL : self->compiled;
-    kept = text ? keep(compiled.bytes, compiled.length, self->few, sizeof self->few) : NULL;
+    kept = keep(compiled.bytes, compiled.length, self->few, sizeof self->few);
     drop_compiled(&compiled);
     if (!kept) {
-        if (text)
-            PyErr_NoMemory();
-        Py_XDECREF(text);
+        Py_DECREF(text);
+        PyErr_NoMemory();
         return -1;
     }
     old[0] = self->text, old[1] = self->key, old[2] = self->parts, old[3] = self->prints;
     self->compiled = kept;
     self->length = compiled.length;
-    self->is_packed = self->compiled[0] == PACKED;
-    self->word = self->is_packed ? word_of(self->compiled) : 0;
+    self->has_own_key = 0;
     self->text = text, self->key = NULL, self->parts = NULL, self->prints = NULL;
     free(old_block);
     for (int each = 0; each < 4; each++)
@@ -77,18 +78,28 @@ static PyObject *key_of(Held *self)
     return kept_in(&self->key, made_of(pep440_sort_key_compiled, self->compiled, self->length, PyBytes_FromStringAndSize));
 }
 
+/* Compares what both have of this name. */
+static PyObject *compare_by(const char *name, PyObject *left, PyObject *right, int operation)
+{
+    PyObject *one = PyObject_GetAttrString(left, name), *other = one ? PyObject_GetAttrString(right, name) : NULL;
+    PyObject *answer = other ? PyObject_RichCompare(one, other, operation) : NULL;
+    Py_XDECREF(one);
+    Py_XDECREF(other);
+    return answer;
+}
+
 static PyObject *held_compare(PyObject *left, PyObject *right, int operation)
 {
     Held *one = (Held *)left, *other = (Held *)right; /* the left one is a version, since its type has this call */
+    int order;
     if (Py_TYPE(right) != Py_TYPE(left) && !PyObject_TypeCheck(right, HeldType))
         Py_RETURN_NOTIMPLEMENTED;
-    if (one->is_packed && other->is_packed) /* and so both are initialised */
-        Py_RETURN_RICHCOMPARE(one->word, other->word, operation);
     if (!is_initialised(one) || !is_initialised(other))
         return NULL;
-    if (!key_of(one) || !key_of(other))
-        return NULL;
-    return PyObject_RichCompare(one->key, other->key, operation);
+    if (one->has_own_key || other->has_own_key)
+        return compare_by("_key", left, right, operation);
+    order = compare_forms(one->compiled, one->length, other->compiled, other->length);
+    Py_RETURN_RICHCOMPARE(order, 0, operation);
 }
 
 static Py_hash_t held_hash(Held *self)
@@ -141,6 +152,8 @@ static PyObject *get_print(Held *self, void *place)
 }
 
 static PyObject *held_str(Held *self) { return get_print(self, (void *)NORMAL); }
+
+static PyObject *held_repr(PyObject *self) { return PyUnicode_FromFormat("<Version('%S')>", self); }
 
 static PyObject *number_or_none(uint8_t is_there, uint64_t number)
 {
@@ -215,13 +228,33 @@ static PyObject *get_number(Held *self, void *place)
     return (intptr_t)place < PyTuple_Size(release) ? Py_NewRef(PyTuple_GetItem(release, (Py_ssize_t)(intptr_t)place)) : PyLong_FromLong(0);
 }
 
-static PyObject *get_key(Held *self, void *unused) { return Py_XNewRef(key_of(self)); }
+static PyObject *get_key(Held *self, void *unused)
+{
+    if (self->has_own_key)
+        return made_of(pep440_sort_key_compiled, self->compiled, self->length, PyBytes_FromStringAndSize);
+    return Py_XNewRef(key_of(self));
+}
+
+static PyObject *get_own_key(Held *self, void *unused) { return Py_NewRef(self->has_own_key ? self->key : Py_None); }
+
+/* From now on it is compared by this, and hashed. */
+static int set_own_key(Held *self, PyObject *value, void *unused)
+{
+    if (!value)
+        PyErr_SetString(PyExc_AttributeError, "_key cannot be deleted");
+    if (!value || !is_initialised(self))
+        return -1;
+    kept_in(&self->key, Py_NewRef(value));
+    self->has_own_key = 1;
+    return 0;
+}
 
 static PyObject *get_text(Held *self, void *unused) { return is_initialised(self) ? Py_NewRef(self->text) : NULL; }
 
 static PyGetSetDef held_values[] = {
     {"_text", (getter)get_text, NULL, "The string as it was given.", NULL},
     {"_parts", (getter)get_parts, NULL, "(epoch, release, pre, post, dev)", NULL},
+    {"_own_key", (getter)get_own_key, (setter)set_own_key, "What was set to compare it by, or None.", NULL},
     {"sort_key", (getter)get_key, NULL,
      "Bytes that stand as the versions do: less, equal or greater. They may be stored, and compared by whatever compares bytes.", NULL},
     {"epoch", (getter)get_part, NULL, "The epoch, 0 where there is none.", (void *)EPOCH},
@@ -240,9 +273,10 @@ static PyGetSetDef held_values[] = {
     {"micro", (getter)get_number, NULL, "The third number of the release, 0 where there is none.", (void *)2},
     {NULL, NULL, NULL, NULL, NULL}};
 
-static PyType_Slot held_slots[] = {{Py_tp_new, PyType_GenericNew}, {Py_tp_init, held_init},           {Py_tp_dealloc, held_free},
-                                   {Py_tp_hash, held_hash},        {Py_tp_richcompare, held_compare}, {Py_tp_str, held_str},
-                                   {Py_tp_getset, held_values},    {Py_tp_doc, "Held(version)\n--\n\nA version, compiled."}, {0, NULL}};
+static PyType_Slot held_slots[] = {{Py_tp_init, held_init},       {Py_tp_dealloc, held_free},        {Py_tp_hash, held_hash},
+                                   {Py_tp_str, held_str},         {Py_tp_repr, held_repr},           {Py_tp_richcompare, held_compare},
+                                   {Py_tp_getset, held_values},   {Py_tp_doc, "Version(version)\n--\n\nA version, compiled."}, {0, NULL}};
 
-static PyType_Spec held_spec = {"pep440_rattle._core.Held", sizeof(Held), 0, Py_TPFLAGS_DEFAULT | Py_TPFLAGS_BASETYPE, held_slots};
+/* It holds nothing that may hold it, so the garbage collector need not see it. What Python has of it, its module sets. */
+static PyType_Spec held_spec = {"pep440_rattle.version.Version", sizeof(Held), 0, Py_TPFLAGS_DEFAULT | Py_TPFLAGS_BASETYPE, held_slots};
 

@@ -1,4 +1,4 @@
-"""Builds the wheel and the source archive with `cc` and the standard library alone (the hooks of PEP 517).
+"""Builds the wheel and the source archive with `cc` and the standard library alone (the hooks of PEP 517 and PEP 660).
 
 The wheel has the static library in it, the first of these that is there:
 
@@ -38,9 +38,14 @@ LICENCES = {name: (CLONE or HERE) / name for name in ("LICENSE", "NOTICE")}
 
 
 def project():
-    """The texts under [project] of pyproject.toml."""
+    """The strings under [project] of pyproject.toml, and the lists of strings, one a line."""
     table = (HERE / "pyproject.toml").read_text(encoding="utf-8").partition("[project]\n")[2]
-    return dict(re.findall(r'^([a-z-]+) = "(.*)"$', table, re.M))
+    lists = {name: re.findall('"(.*)"', lines) for name, lines in re.findall(r"^([a-z-]+) = \[\n(.*?)^\]$", table, re.M | re.S)}
+    return dict(re.findall(r'^([a-z-]+) = "(.*)"$', table, re.M)) | lists
+
+
+def stop(missing):
+    raise SystemExit(f"{PACKAGE}: {missing}")
 
 
 def installed():
@@ -63,18 +68,20 @@ def archives():
         if all(each.is_file() for each in found):
             return found
     missing = " ".join(str(each) for found in choices for each in found if not each.is_file())
-    raise SystemExit(
-        f"{PACKAGE}: not there: {missing or 'libpep440.a'}\n"
-        "In a clone, run `rt lib` in crates/pep440_c, which proves and builds the library (rt is the toolchain's command). Elsewhere unpack\n"
-        "the release's library archive, and let PKG_CONFIG_PATH name its folder lib/pkgconfig, or PEP440_ARCHIVES its lib/libpep440.a."
-    )
+    made = "run `rt lib` in crates/pep440_c (24 minutes of processor), or " if CLONE else ""
+    return stop(f"no library: {missing or 'libpep440.a'} is not there; {made}let PEP440_ARCHIVES name lib/libpep440.a of the release's library archive")
 
 
 def compile_extension(out):
     """Compiles and links _core.c with what it includes; of what the libraries define, nothing is left to see from outside."""
     include = [sysconfig.get_path("include"), sysconfig.get_path("platinclude"), str(HEADER.parent)]
+    compiler = shlex.split(os.environ.get("CC", "cc"))
+    if not shutil.which(compiler[0]):
+        stop(f"no C compiler: there is no {compiler[0]}; install one (apt-get install gcc libc6-dev), or let CC name it")
+    if not os.path.isfile(os.path.join(include[0], "Python.h")):
+        stop(f"no headers of Python: {include[0]}/Python.h is not there; install them (apt-get install python3-dev)")
     command = [
-        *shlex.split(os.environ.get("CC", "cc")),
+        *compiler,
         *"-std=c11 -O2 -Wall -Werror=implicit-function-declaration -fPIC -fvisibility=hidden -shared -Wl,--exclude-libs,ALL".split(),
         *shlex.split(os.environ.get("CFLAGS", "")),
         *(f"-I{each}" for each in dict.fromkeys(include)),
@@ -82,11 +89,12 @@ def compile_extension(out):
         *map(str, archives()),
     ]
     if subprocess.run(command, check=False).returncode:
-        raise SystemExit(f"{PACKAGE}: not compiled: {shlex.join(command)}")
+        stop(f"not compiled: {shlex.join(command)}")
 
 
 def platform_of(extension):
-    """The platform of the wheel's tag: by the newest glibc that the extension asks for (PEP 600), where that can be read and it needs no more."""
+    """The platforms of the wheel's tag, with points between them: by the newest glibc that the extension asks for (PEP 600), where that can be read and
+    it needs no more; where glibc 2.17 has that, by both of its names too, since pip asks by these."""
     machine = re.sub(r"[-.]", "_", sysconfig.get_platform())
     readelf = shutil.which("readelf")
     if not machine.startswith("linux_") or not readelf:
@@ -97,23 +105,30 @@ def platform_of(extension):
     if needed != ["libc.so.6"] or not asked:
         return machine
     # no index takes a lower one than 2.5
-    return "manylinux_{}_{}_{}".format(*max(*asked, (2, 5)), machine.removeprefix("linux_"))
+    newest = max(*asked, (2, 5))
+    names = ["manylinux_{}_{}".format(*newest), *(("manylinux_2_17", "manylinux2014") if newest <= (2, 17) else ())]
+    return ".".join(f"{each}_{machine.removeprefix('linux_')}" for each in dict.fromkeys(names))
 
 
 def metadata(tag):
     """The files of the wheel's folder .dist-info, but for RECORD."""
     told = project()
     head = [
-        "Metadata-Version: 2.1",
+        "Metadata-Version: 2.4",
         f"Name: {told['name']}",
         f"Version: {told['version']}",
         f"Summary: {told['description']}",
-        f"License: {told['license']}",
+        f"Keywords: {','.join(told['keywords'])}",
+        f"License-Expression: {told['license']}",
+        *(f"License-File: {name}" for name in LICENCES),
+        *(f"Classifier: {each}" for each in told["classifiers"]),
         f"Requires-Python: {told['requires-python']}",
         "Description-Content-Type: text/markdown",
     ]
     readme = (HERE / told["readme"]).read_text(encoding="utf-8")
-    wheel = ["Wheel-Version: 1.0", "Generator: build_backend", "Root-Is-Purelib: false", f"Tag: {tag}"]
+    start, _, platforms = tag.rpartition("-")
+    tags = [f"Tag: {start}-{each}" for each in platforms.split(".")]
+    wheel = ["Wheel-Version: 1.0", "Generator: build_backend", "Root-Is-Purelib: false", *tags]
     return {"METADATA": "\n".join([*head, "", readme]), "WHEEL": "\n".join([*wheel, ""])}
 
 
@@ -126,8 +141,8 @@ def record_line(name, data):
     return f"{name},sha256={digest},{len(data)}"
 
 
-def contents():
-    """The wheel's tag, and its files by their names in it, RECORD last."""
+def package():
+    """The files of the package by their names in a wheel, and the platform of its tag."""
     files = {}
     for path in sorted((HERE / "src" / PACKAGE).iterdir()):
         if path.suffix in (".py", ".pyi", ".typed"):
@@ -135,8 +150,19 @@ def contents():
     with tempfile.TemporaryDirectory() as work:
         extension = pathlib.Path(work) / EXTENSION
         compile_extension(extension)
-        files[f"{PACKAGE}/{EXTENSION}"] = extension.read_bytes()
-        tag = f"{PYTHON_TAG}-abi3-{platform_of(extension)}"
+        return files | {f"{PACKAGE}/{EXTENSION}": extension.read_bytes()}, platform_of(extension)
+
+
+def links():
+    """The file that leads to the sources, beside which the extension is made, and the platform of an editable wheel's tag."""
+    extension = HERE / "src" / PACKAGE / EXTENSION
+    compile_extension(extension)
+    return {f"{PACKAGE}.pth": f"{HERE / 'src'}\n".encode()}, platform_of(extension)
+
+
+def contents(files, platform):
+    """The wheel's tag, and its files by their names in it, RECORD last."""
+    tag = f"{PYTHON_TAG}-abi3-{platform}"
     info = f"{release()}.dist-info"
     files |= {f"{info}/{name}": text.encode() for name, text in metadata(tag).items()}
     files |= {f"{info}/licenses/{name}": path.read_bytes() for name, path in LICENCES.items()}
@@ -145,8 +171,7 @@ def contents():
     return tag, files
 
 
-def build_wheel(wheel_directory, config_settings=None, metadata_directory=None):
-    tag, files = contents()
+def write_wheel(wheel_directory, tag, files):
     name = f"{release()}-{tag}.whl"
     with zipfile.ZipFile(os.path.join(wheel_directory, name), "w", zipfile.ZIP_DEFLATED) as wheel:
         for each, data in files.items():
@@ -156,6 +181,14 @@ def build_wheel(wheel_directory, config_settings=None, metadata_directory=None):
             entry.external_attr = (0o755 if each.endswith(".so") else 0o644) << 16
             wheel.writestr(entry, data)
     return name
+
+
+def build_wheel(wheel_directory, config_settings=None, metadata_directory=None):
+    return write_wheel(wheel_directory, *contents(*package()))
+
+
+def build_editable(wheel_directory, config_settings=None, metadata_directory=None):
+    return write_wheel(wheel_directory, *contents(*links()))
 
 
 def sources():

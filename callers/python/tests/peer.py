@@ -16,7 +16,7 @@ import unittest
 MOST = 2**64 - 1
 TOKENS = (
     "1 0 01 10 . - _ a b c rc alpha beta pre preview post rev r dev + ! v V A RC Dev x ubuntu 1.0 2.3.4 .*".split()
-    + [" ", "\t", "\n", "\v", "\u00a0", "\u0663", "\u017f", "18446744073709551615", "18446744073709551616"]
+    + [" ", "\t", "\n", "\v", "\x1c", "\u00a0", "\u2003", "\u0663", "\u017f", "18446744073709551615", "18446744073709551616"]
 )
 OPERATORS = ["==", "!=", "<=", ">=", "<", ">", "~=", "==="]
 SUFFIX = re.compile(r"(a|b|rc|\.post|\.dev|\+).*")
@@ -114,11 +114,13 @@ def some_text():
 def some_specifier():
     operator = random.choice(OPERATORS)
     version = some_version(0.2)
-    if operator in ("==", "!=") and random.random() < 0.4:
+    if operator == "===" and random.random() < 0.3:
+        version = "".join(random.choices("1.0aB+x*=!~_-/[", k=random.randint(0, 4)))
+    elif operator in ("==", "!=") and random.random() < 0.4:
         version = re.sub(SUFFIX, "", version) + ".*"
     elif random.random() < 0.3:
         version = loosely(version)
-    return random.choice(["", "", " "]) + operator + random.choice(["", "", " ", " \t"]) + version
+    return random.choice(["", "", " "]) + operator + random.choice(["", "", " ", " \t", "\v", "\u00a0 "]) + version
 
 
 def some_piece():
@@ -132,18 +134,8 @@ def some_piece():
 
 
 def is_beyond(text):
-    """`big numbers`, `other scripts`, `rare blanks`: texts that only `packaging` takes."""
-    return not text.isascii() or bool(re.search(r"[\v\x1c-\x1f]", text)) or any(int(it) > MOST for it in re.findall(r"[0-9]+", text))
-
-
-def is_arbitrary(operator, version, print_of):
-    """`arbitrary equality`: `===` beside a text that is no version's print."""
-    if operator != "===":
-        return False
-    try:
-        return print_of(version) != version.lower()
-    except ValueError:
-        return True
+    """`big numbers`, `other scripts`: texts that only `packaging` takes."""
+    return not re.sub(r"\s", "", text).isascii() or any(int(it) > MOST for it in re.findall(r"[0-9]+", text))
 
 
 def is_compatible_by_text(operator, version, print_of):
@@ -156,6 +148,17 @@ def is_local_above(operator, bound, candidate):
     if operator != ">" or candidate.local is None:
         return False
     return type(candidate)(bound.base_version) == type(candidate)(candidate.base_version) and type(candidate)(candidate.public) != bound
+
+
+def is_by_chance(specifiers):
+    """The order of a set's members decides whether one that allows pre-releases is asked before one whose text is no version."""
+    says = set()
+    for each in specifiers:
+        try:
+            says.add(each.prereleases)
+        except ValueError:
+            says.add(None)
+    return "order of members" if says >= {None, True} else None
 
 
 # ---- what earlier releases of `packaging` did otherwise than the one that is followed (`pep440_rattle.behaves_like`)

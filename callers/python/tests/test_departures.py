@@ -54,25 +54,9 @@ class Departures(unittest.TestCase):
         self.assertLess(Version(f"1+{MOST + 1}"), Version("1+0"))
 
     def test_other_scripts(self):
-        for text in ("1.0.po\u017ft1", "\u0661.0", "1.0\u00a0", "\u20031.0", "1.\uff10"):
+        for text in ("1.0.po\u017ft1", "1.0+\u212a", "1.0+\u0131"):
             with self.assertRaises(InvalidVersion):
                 Version(text)
-
-    def test_rare_blanks(self):
-        for text in ("1.0\v", "\x1c1.0", "1.0\x85"):
-            with self.assertRaises(InvalidVersion):
-                Version(text)
-        # around a specifier they go, by Python's rules, and behind its operator by those of Unicode
-        self.assertEqual(Specifier("\v\u00a0>=\v\u00a01.0\x1f"), Specifier(">=1.0"))
-        with self.assertRaises(InvalidSpecifier):
-            Specifier(">=\x1c1.0")
-
-    def test_arbitrary_equality(self):
-        for text in ("===foobar", "===1.0.*", "==="):
-            with self.assertRaises(InvalidSpecifier):
-                Specifier(text)
-        self.assertTrue(Specifier("===1.0-alpha").contains("1.0a0"))
-        self.assertFalse(Specifier("===1.0").contains("1.0.0"))
 
     def test_loose_compatible_release(self):
         self.assertTrue(Specifier("~=v1.0").contains("1.5"))
@@ -82,14 +66,6 @@ class Departures(unittest.TestCase):
         self.assertTrue(SpecifierSet(">1.0.post1").contains("1.0.post2+x"))
         self.assertTrue(SpecifierSet(">1.0a1").contains("1.0+x"))
         self.assertFalse(SpecifierSet(">1.0.post1").contains("1.0.post1+x"))
-
-    def test_filter(self):
-        read = []
-        kept = SpecifierSet(">=1.0").filter(read.append(it) or it for it in ("1.0", "2.0"))
-        self.assertEqual(read, ["1.0", "2.0"])
-        self.assertEqual(list(kept), ["1.0", "2.0"])
-        with self.assertRaises(InvalidVersion):
-            SpecifierSet(">=1.0").filter(["1.0", "x"])
 
     def test_held(self):
         version = Version("1.0")
@@ -112,20 +88,21 @@ class Departures(unittest.TestCase):
 
     def test_private_names(self):
         self.assertFalse(hasattr(Version, "_regex") or hasattr(pep440_rattle.specifiers, "_version_split"))
-        self.assertEqual(Version("1.0")._key, Version("1.0").sort_key)
         self.assertIsInstance(Version("1.0"), pep440_rattle.version._BaseVersion)
-        for it, name in ((Specifier(">=1.0"), "_spec"), (SpecifierSet(">=1.0"), "_specs")):
-            with self.assertRaises(AttributeError):
-                setattr(it, name, getattr(it, name))
         self.assertEqual(set(Specifier._operators), {"==", "!=", "<=", ">=", "<", ">", "~=", "==="})
         self.assertEqual(Version("1!2.0rc1.post2.dev3+u-1")._version, (1, (2, 0), ("dev", 3), ("rc", 1), ("post", 2), ("u", 1)))
 
     def test_other_objects(self):
         theirs = peer.load()[0]
         self.assertNotEqual(Version("1.0"), theirs.Version("1.0"))
-        for call in (lambda: Version("1.0") < theirs.Version("2.0"), lambda: SpecifierSet("").contains(theirs.Version("1.0"))):
+        for call in (lambda: Version("1.0") < theirs.Version("2.0"), lambda: Version(theirs.Version("1.0")), lambda: SpecifierSet("").contains(5)):
             with self.assertRaises(TypeError):
                 call()
+        # what is contained may be a version of either
+        for kind in (Specifier, SpecifierSet):
+            for text in (">=1.0", "===1.1+u"):
+                items = [theirs.Version("0.9"), theirs.Version("1.1+u"), Version("0.8")]
+                self.assertEqual([items[1] in kind(text), items[0] in kind(text), list(kind(text).filter(items)), list(kind(text).filter(iter(items)))], [True, False, items[1:2], items[1:2]])
         self.assertFalse(issubclass(InvalidVersion, theirs.InvalidVersion) or issubclass(theirs.InvalidVersion, InvalidVersion))
 
     def test_error_messages(self):

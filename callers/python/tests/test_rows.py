@@ -1,8 +1,10 @@
 """Worked rows, from PEP 440 and from the documentation of `packaging`, and the examples of the docstrings and of the README."""
 import ast
+import copy
 import doctest
 import importlib
 import os
+import pickle
 import random
 import re
 import sqlite3
@@ -119,6 +121,57 @@ class Specifiers(unittest.TestCase):
         several.prereleases = False
         self.assertFalse(several.contains("1.1a1"))
 
+    def test_arbitrary_equality(self):
+        # PEP 440, "Arbitrary equality": a simple comparison of strings
+        for text, version, wanted in (("===foobar", "1.0", False), ("===1.0-alpha", "1.0a0", False), ("===1.0A0", "1.0-alpha", True), ("===1.0", "1.0.0", False)):
+            one, several = Specifier(text), SpecifierSet(f"{text},!=7")
+            for it in (one, several):
+                self.assertIs(it.contains(version, True), wanted, text)
+                self.assertIs(it.contains(Version(version), prereleases=True), wanted, text)
+                self.assertEqual(list(it.filter([version], True)), [version] * wanted)
+                self.assertEqual(filter_texts(it, ["x", version], skip_invalid=True), [version] * wanted)
+                self.assertEqual((pickle.loads(pickle.dumps(it)), hash(copy.deepcopy(it))), (it, hash(it)))
+        self.assertEqual([Specifier(f"==={it} ").version for it in ("", "1.0.*", "\u00a0x", "a,b", "=", "\ud800")], ["", "1.0.*", "x", "a,b", "=", "\ud800"])
+        for text in ("===a b", "===a;b", "===a)"):
+            with self.assertRaises(InvalidSpecifier):
+                Specifier(text)
+        # whether it asks for pre-releases is a question to a version
+        self.assertTrue(Specifier("===1.0A1").prereleases and "1.0a1" in Specifier("===1.0A1"))
+        for call in (lambda: Specifier("===foobar").prereleases, lambda: "1.0" in SpecifierSet("===foobar")):
+            with self.assertRaises(InvalidVersion):
+                call()
+        self.assertEqual(list(Specifier("===foobar").filter(["1.0"])), [])
+        self.assertEqual(len({Specifier("===1.0"), Specifier("===1.0.0"), Specifier("===x"), Specifier("===X")}), 3)
+        self.assertEqual((SpecifierSet("===x, ===y") & "===x", str(SpecifierSet("=== x,>1"))), (SpecifierSet("===x,===y"), "===x,>1"))
+        self.assertEqual((Specifier("===1.0-a").ranges(), len(SpecifierSet("===1.0A1,>0").ranges())), ([], 1))
+
+    def test_white_space(self):
+        # that of Unicode, as PEP 440 has it at the ends of a version, and as `packaging` drops it behind an operator
+        for blank in " \t\n\r\f\v\x1c\x85\u00a0\u2003\u3000":
+            self.assertEqual((str(Version(f"{blank}1.0{blank}")), sort_texts([f"2{blank}", "1"])), ("1.0", ["1", f"2{blank}"]))
+            specifier = Specifier(f"{blank}>={blank}1.0{blank}")
+            self.assertEqual((str(specifier), specifier.version), (">=1.0", "1.0"))
+            self.assertTrue(f"1.0{blank}" in SpecifierSet(f">={blank}1.0"))
+            for text in (f">{blank}=1.0", f"={blank}=1.0", f">=1.{blank}0"):
+                with self.assertRaises(InvalidSpecifier):
+                    Specifier(text)
+        self.assertEqual(Specifier(">= 1.0\u00a0"), Specifier(">=1.0"))
+
+    def test_filter_one_by_one(self):
+        def ones():
+            read.append(1)
+            yield "1.0"
+            raise RuntimeError("read too far")
+
+        for it in (SpecifierSet(">=1.0"), Specifier(">=1.0")):
+            read = []
+            kept = it.filter(ones())
+            self.assertEqual((list(read), next(kept)), ([], "1.0"))
+            kept = it.filter(["1.0", "x"])
+            self.assertEqual(next(kept), "1.0")
+            with self.assertRaises(InvalidVersion):
+                next(kept)
+
     def test_refusals(self):
         for text in ("1.0", "==", "=1.0", ">=1.0.*", "~=1", ">=1.0+x", "== 1.0 2.0", ">= =1.0", "", " "):
             with self.assertRaises(InvalidSpecifier) as caught:
@@ -165,12 +218,15 @@ class Specifiers(unittest.TestCase):
         for text in texts:
             if "," in text or not text.strip():
                 continue
-            of_list = compiled(_core.compile_list, text.strip())
+            # of `===` nothing is compiled; the library keeps white space behind an operator that is rarer than it knows
+            plain = re.sub(r"^(~=|==|!=|<=?|>=?)\s+(?!=)", r"\1", text.strip())
+            of_list = compiled(_core.compile_list, "" if re.fullmatch(r"===\s*[^\s;)]*", plain) else plain)
             self.assertEqual(compiled(lambda it: Specifier(it)._compiled, text), of_list, repr(text))
             self.assertEqual(bool(Specifier._regex.search(text)), of_list is not None, repr(text))
             kinds[of_list and True] += 1
             if of_list:
-                self.assertEqual(SpecifierSet(f"{text}, >=0.1, <7")._compiled, _core.compile_list(f"{text.strip()}, >=0.1, <7"), repr(text))
+                others = ">=0.1, <7" if plain.startswith("===") else f"{plain}, >=0.1, <7"
+                self.assertEqual(SpecifierSet(f"{text}, >=0.1, <7")._compiled, _core.compile_list(others), repr(text))
         self.assertGreater(min(kinds.values()), 1000, kinds)
 
     def test_sets(self):

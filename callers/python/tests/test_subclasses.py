@@ -46,6 +46,29 @@ class Equal(Specifier):
         return prospective.public == spec
 
 
+class Slotted(Version):
+    __slots__ = ("note", "__hidden", "left_out")
+
+    def __init__(self, text, note=None):
+        super().__init__(text)
+        self.note, self.__hidden = note, note
+
+    def hidden(self):
+        return self.__hidden
+
+
+class SlottedSet(SpecifierSet):
+    __slots__ = ("note",)
+
+
+class ByYear(Version):
+    """Is compared by its first number alone."""
+
+    def __init__(self, text):
+        super().__init__(text)
+        self._key = self._key[:1] + ((self.major,),) + self._key[2:]
+
+
 class AnyOf(BaseSpecifier):
     """A specifier of a user's own."""
 
@@ -82,6 +105,31 @@ class Versions(unittest.TestCase):
         for again in (copy.copy(version), copy.deepcopy(version), pickle.loads(pickle.dumps(version))):
             self.assertEqual((type(again), again, again.note), (Cleaned, version, "mine"))
 
+    def test_slots(self):
+        for text in ("1!2.0rc1.post2.dev3+u.1", "1.0"):
+            for protocol in range(pickle.HIGHEST_PROTOCOL + 1):
+                again = pickle.loads(pickle.dumps(Slotted(text, "mine"), protocol))
+                self.assertEqual((type(again), str(again), again.note, again.hidden()), (Slotted, text, "mine", "mine"))
+        again = copy.deepcopy(copy.copy(Slotted("1.0", ["mine"])))
+        self.assertEqual((again, again.note, again.hidden(), hasattr(again, "left_out")), (Version("1.0"), ["mine"], ["mine"], False))
+        several = SlottedSet(">=1.0", prereleases=True)
+        several.note, several.other = "mine", "too"
+        again = copy.copy(several)
+        self.assertEqual((again, type(again), again.note, again.other, again.prereleases), (several, SlottedSet, "mine", "too", True))
+
+    def test_a_key_of_its_own(self):
+        one, other = ByYear("1.5rc1"), ByYear("1.7rc1")
+        self.assertTrue(one == other and hash(one) == hash(other) and not one < other and one <= other)
+        self.assertTrue(one < Version("1.1") and Version("0.9") < one and Version("1rc1") == one and one != Version("1.5rc1"))
+        self.assertEqual((one.sort_key, str(one), one in {other}), (Version("1.5rc1").sort_key, "1.5rc1", True))
+        for again in (copy.copy(one), pickle.loads(pickle.dumps(one))):
+            self.assertEqual((again, hash(again), str(again)), (other, hash(other), "1.5rc1"))
+        one.__init__("1.5rc1")
+        one._key = (7,)
+        self.assertEqual((hash(one), one._key), (hash((7,)), (7,)))
+        Version.__init__(one, "1.5rc1")
+        self.assertEqual(one, Version("1.5rc1"))
+
     def test_one_with_a_release_of_its_own(self):
         version = Short("1!2.3.4rc1+u")
         self.assertEqual((str(version), version.public, version.base_version), ("1!2.3rc1+u", "1!2.3rc1", "1!2.3"))
@@ -116,7 +164,9 @@ class Versions(unittest.TestCase):
         self.assertEqual(_parse_letter_version("Preview", None), ("rc", 0))
         self.assertEqual((_parse_letter_version(None, "3"), _parse_letter_version(None, None)), (("post", 3), None))
         parts = Version("1.0a1+u")._version
-        self.assertEqual(_cmpkey(parts.epoch, parts.release, parts.pre, parts.post, parts.dev, parts.local), Version("1.0a1+u").sort_key)
+        self.assertEqual(_cmpkey(parts.epoch, parts.release, parts.pre, parts.post, parts.dev, parts.local), Version("1.0.0a1+u")._key)
+        ascending = [Version(it)._key for it in "1.dev0 1a1 1 1+a 1+a.1 1+1 1.post1.dev1 1.post1 1!0".split()]
+        self.assertEqual(sorted(reversed(ascending)), ascending)
 
     def test_signatures(self):
         self.assertEqual(str(inspect.signature(Version)), "(version)")
@@ -204,12 +254,22 @@ class Specifiers(unittest.TestCase):
         one = Specifier(">=1.0")
         several = SpecifierSet([one])
         one.several, several.note = several, "mine"
-        for again in (copy.deepcopy(several), pickle.loads(pickle.dumps(several))):
+        for again in (copy.deepcopy(several), *(pickle.loads(pickle.dumps(several, it)) for it in range(pickle.HIGHEST_PROTOCOL + 1))):
             self.assertEqual((again, again.note, next(iter(again)).several), (several, "mine", several))
         gone = weakref.ref(several)
         del one, several, again
         gc.collect()
         self.assertIsNone(gone())
+
+    def test_parts_that_a_tool_sets(self):
+        one, several = Specifier(">=1.0", prereleases=True), SpecifierSet(">=1.0", prereleases=True)
+        one._spec, several._specs = ("<", "3"), frozenset([Specifier("<3"), Specifier("===x")])
+        self.assertEqual((one, several, one.prereleases, "2a1" in one), (Specifier("<3"), SpecifierSet("===x,<3"), True, True))
+        for it, name in ((one, "_spec"), (several, "_specs")):
+            with self.assertRaises(AttributeError):
+                delattr(it, name)
+        with self.assertRaises(InvalidSpecifier):
+            one._spec = (">", "x")
 
     def test_a_member_that_changes(self):
         several = SpecifierSet(">=1.0,!=2.0a1")
@@ -239,8 +299,8 @@ class Names(unittest.TestCase):
     def test_public_names(self):
         for module in (pep440_rattle.version, pep440_rattle.specifiers):
             own = {name for name, it in vars(module).items() if getattr(it, "__module__", "").startswith("pep440_rattle") and name[0] != "_"}
-            self.assertLessEqual(own, {*module.__all__, "Version", "UnparsedVersionVar"}, module)
-        self.assertEqual(pep440_rattle.behaves_like, "24.2")
+            self.assertLessEqual(own, {*module.__all__, "Version", "InvalidVersion", "UnparsedVersionVar"}, module)
+        self.assertEqual(pep440_rattle.behaves_like, "25.0")
 
 
 if __name__ == "__main__":

@@ -71,8 +71,53 @@ if metadata:
 print(json.dumps(said))
 """
 
+# What is pickled, with or without the swap, and shown once it was loaded, with it or without.
+PICKLED = r"""
+import pickle, sys
+if sys.argv[1] == "swapped":
+    import pep440_rattle.swap
+    pep440_rattle.swap.swap()
+sys.path.insert(0, sys.argv[2])
+from packaging.specifiers import InvalidSpecifier, Specifier, SpecifierSet
+from packaging.version import InvalidVersion, Version
+
+class Slotted(Version):
+    __slots__ = ("note", "__hidden")
+
+class Named(Specifier):
+    def __init__(self, name, text):
+        super().__init__(text)
+        self.name = name
+
+class Keyed(Version):
+    def __init__(self, text):
+        super().__init__(text)
+        self._key = (self._key[0], self._key[1][:1], *self._key[2:])
+
+def objects():
+    slotted = Slotted("1.0")
+    slotted.note = slotted._Slotted__hidden = "mine"
+    named, several = Named("mine", "=== X-y"), SpecifierSet("", prereleases=False)
+    several._specs = frozenset([named])
+    yield from [Version("1!2.0rc1.post2.dev3+U-1"), Version("1.dev0"), Version("0.0"), slotted, Keyed("1.7+1")]
+    yield from [Specifier("~= 1.0", prereleases=True), named, SpecifierSet(""), SpecifierSet(">=1.0,<2,===v1"), several]
+    yield from [InvalidVersion("x"), InvalidSpecifier("y")]
+
+def shown(it):
+    notes = [getattr(it, name, None) for name in ("note", "_Slotted__hidden", "name", "_prereleases", "_key", "_spec")]
+    about = [it < Version("1.9"), Keyed("1.5+1") == it, it.release] if isinstance(it, Version) else [str(it)]
+    return [type(it).__module__, type(it).__qualname__, repr(it), notes, about, hash(it) == hash(next(again for again in objects() if repr(again) == repr(it)))]
+
+if len(sys.argv) > 3:
+    for it in pickle.loads(bytes.fromhex(sys.argv[3])):
+        print(shown(it)[:-1] if isinstance(it, Exception) else shown(it))
+else:
+    # copyreg has no slots before protocol 2
+    print(*(pickle.dumps([it for it in objects() if protocol > 1 or not isinstance(it, Slotted)], protocol).hex() for protocol in range(5)), sep="\n")
+"""
+
 # Requirements that only `packaging` takes, by the row of the README's table.
-REFUSED = {"name===foo.bar": "arbitrary equality", "name>=18446744073709551616": "big numbers"}
+REFUSED = {"name>=18446744073709551616": "big numbers"}
 
 # Programs of others, by the module that runs them and their words; each is run over a project of its own.
 OF_WHEELS = ["pip", "download", "--no-index", "--find-links", ".", "--dest", "out"]
@@ -183,6 +228,22 @@ class OtherModules(unittest.TestCase):
         self.assertEqual(set(refused), set(REFUSED))
         print(f"\n{len(plain) - 1} questions to the other modules of {peer.load()[2]}, {len(refused)} left out as departures: {', '.join(REFUSED.values())}")
 
+    def test_pickles(self):
+        theirs = peer.load()[0]
+        folder = folder_of(sys.modules[theirs.__name__.rpartition(".")[0]])
+
+        def said(*words):
+            status, lines, errors = run(["-c", PICKLED, words[0], folder, *words[1:]])
+            self.assertEqual((status, errors), (0, ""))
+            return lines
+
+        made = {kind: said(kind).split() for kind in ("plain", "swapped")}
+        for protocol, plain in enumerate(made["plain"]):
+            wanted = said("plain", plain)
+            for words in (("swapped", plain), ("plain", made["swapped"][protocol]), ("swapped", made["swapped"][protocol])):
+                with self.subTest(loaded=words[0], is_made_plain=words[1] is plain, protocol=protocol):
+                    self.assertEqual(said(*words), wanted)
+
     @staticmethod
     def plainly(said):
         """Without the reasons that these modules add to messages."""
@@ -209,10 +270,8 @@ class Programs(unittest.TestCase):
         if status:
             self.skipTest("no pip here")
         said = "Invalid requirement: " if peer.is_fit(told) else "Could not find a version that satisfies the requirement "
-        for text in ("nothing>=18446744073709551616", "nothing===foo.bar"):
-            with self.subTest(requirement=text):
-                status, _, errors = run(["-m", "pep440_rattle.swap", "-m", "pip", "download", "--no-index", text])
-                self.assertEqual((status, "Traceback" in errors, f"ERROR: {said}" in errors), (1, False, True), errors)
+        status, _, errors = run(["-m", "pep440_rattle.swap", "-m", "pip", "download", "--no-index", "nothing>=18446744073709551616"])
+        self.assertEqual((status, "Traceback" in errors, f"ERROR: {said}" in errors), (1, False, True), errors)
 
     def results(self, words, folder):
         """What the program says, and what it leaves of the project's files."""

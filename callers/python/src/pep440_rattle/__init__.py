@@ -11,7 +11,9 @@ from .specifiers import Bound, InvalidSpecifier, Specifier, SpecifierSet
 from .texts import filter_texts, sort_keys, sort_texts
 from .version import VERSION_PATTERN, InvalidVersion, Version, parse
 
-behaves_like = "24.2"
+__version__ = "0.3.0"
+
+behaves_like = "25.0"
 """The release of `packaging` whose behaviour `version` and `specifiers` have; README.md names the departures."""
 
 __all__ = [

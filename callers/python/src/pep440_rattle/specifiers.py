@@ -1,7 +1,7 @@
 """Specifiers and sets of them, with the names and the behaviour of `packaging.specifiers`.
 
-What a specifier is and which versions it contains says the proved library. Here stands what is Python's: how a set is cut at its
-commas and compared, and when pre-releases are allowed.
+What a specifier is and which versions it contains says the proved library, but for `===`, which compares strings. Here stands what is Python's:
+that, how a set is cut at its commas and compared, and when pre-releases are allowed.
 
 >>> from pep440_rattle.specifiers import SpecifierSet
 >>> "1.19" in SpecifierSet(">=1.16, <2.0")
@@ -18,7 +18,7 @@ from typing import NamedTuple, TypeVar, Union
 
 from . import _core
 from ._core import InvalidSpecifier
-from .version import Version
+from .version import InvalidVersion, Version, _set_attributes, _split_state, _State, _state_of, _text_of_other
 
 __all__ = ["BaseSpecifier", "Bound", "InvalidSpecifier", "Specifier", "SpecifierSet"]
 
@@ -37,11 +37,12 @@ class Bound(NamedTuple):
         return f"{self.version}~{self.sentinel}" if self.sentinel else str(self.version)
 
 
-# What stands behind an operator, by PEP 440, Appendix B: behind `==`, `!=` and `===` a version, behind the first two also a release with a star;
-# behind `~=` two numbers or more; a local part behind no other one. Letters are ASCII, and no number before a local part is too big.
+# What stands behind an operator, by PEP 440, Appendix B: behind `==` and `!=` a version or a release with a star; behind `~=` two numbers or more; a
+# local part behind no other one; behind `===` anything without white space, `;` and `)`. Letters of a version are ASCII, and no number before its local
+# part is too big.
 _MOST = str(2**64 - 1)
 _TOO_BIG = "|".join(["[1-9][0-9]{20}", *(f"{_MOST[:at]}[{int(it) + 1}-9][0-9]{{{19 - at}}}" for at, it in enumerate(_MOST) if it != "9")])
-_BLANKS = r"(?u: [^\S\x1c-\x1f]* )"
+_BLANKS = r"(?u: \s* )"
 _START = rf"{_BLANKS} v? (?: [0-9]+ ! )? [0-9]+"
 _SUFFIXES = r"""
     (?: [-_.]? (?: alpha | a | beta | b | preview | pre | c | rc ) [-_.]? [0-9]* )?
@@ -50,12 +51,10 @@ _SUFFIXES = r"""
 """
 _LOCAL = r"(?: \+ [a-z0-9]+ (?: [-_.] [a-z0-9]+ )* )?"
 _VERSION_OF_OPERATOR = rf"""
-    (?P<version> (?a:
+    (?P<version> (?<= === ) \s* [^\s;)]* | (?<! === ) (?a:
         (?! {_BLANKS} [a-z0-9.!_-]*? (?<! [0-9] ) 0* (?: {_TOO_BIG} ) )
         (?:
-            (?<= === ) {_START} (?: \. [0-9]+ )* {_SUFFIXES} {_LOCAL}
-            |
-            (?<! === ) (?<= == | != ) {_START} (?: \. [0-9]+ )* (?: \. \* | {_SUFFIXES} {_LOCAL} )
+            (?<= == | != ) {_START} (?: \. [0-9]+ )* (?: \. \* | {_SUFFIXES} {_LOCAL} )
             |
             (?<= ~= ) {_START} (?: \. [0-9]+ )+ {_SUFFIXES}
             |
@@ -65,8 +64,23 @@ _VERSION_OF_OPERATOR = rf"""
 """
 
 
+class _WholeSpecifier:
+    """A regular expression that is compiled when it is first read, since that takes longer than all else here."""
+
+    def __get__(self, _: object, kind: type[Specifier]) -> re.Pattern[str]:
+        return re.compile(rf"^\s*{kind._operator_regex_str}{kind._version_regex_str}\s*\Z", re.VERBOSE | re.IGNORECASE)
+
+
 def _version_of(item: UnparsedVersion) -> Version:
-    return item if isinstance(item, Version) else Version(item)
+    return item if isinstance(item, Version) else Version(item if isinstance(item, str) else _text_of_other(item))
+
+
+def _is_normal(text: str) -> bool:
+    """Whether some version prints the text, in either case."""
+    try:
+        return str(Version(text)) == text.lower()
+    except InvalidVersion:
+        return False
 
 
 def _bound_of(text: str, included: bool) -> Bound | None:
@@ -81,9 +95,9 @@ def _segment_of(line: str) -> tuple[Bound | None, Bound | None]:
     return _bound_of(lower, line[0] == "["), _bound_of(upper, line[-1] == "]")
 
 
-def _shown(specifier: Specifier | SpecifierSet) -> str:
-    pre = "" if specifier._prereleases is None else f", prereleases={specifier._prereleases!r}"
-    return f"<{type(specifier).__name__}({str(specifier)!r}{pre})>"
+def _shown(specifier: Specifier | SpecifierSet, name: str) -> str:
+    pre = "" if specifier._prereleases is None else f", prereleases={specifier.prereleases!r}"
+    return f"<{name}({str(specifier)!r}{pre})>"
 
 
 class BaseSpecifier(metaclass=abc.ABCMeta):
@@ -120,6 +134,7 @@ class BaseSpecifier(metaclass=abc.ABCMeta):
 
     def ranges(self) -> list[tuple[Bound | None, Bound | None]]:
         """The versions that are contained, pre-releases too, as segments between two bounds in rising order; None is no bound.
+        `===` with what no version prints contains none.
 
         Local parts, `===`, and suffixes beside `<` and `>` part ranges from `contains` (docs/PROMISES.md).
 
@@ -128,21 +143,23 @@ class BaseSpecifier(metaclass=abc.ABCMeta):
 
         Raises `OverflowError` where a bound lies above 18446744073709551615, as that of `==18446744073709551615.*`.
         """
+        if any(it.startswith("===") and not _is_normal(it[3:]) for it in str(self).split(",")):
+            return []
         return [_segment_of(line) for line in _core.ranges(str(self)).splitlines() if line != "empty"]
 
 
-def _restore_specifier(kind: type[Specifier], text: str, prereleases: bool | None) -> Specifier:
-    """A copy of a specifier of a class whose `__init__` may take anything."""
-    specifier = kind.__new__(kind)
-    Specifier.__init__(specifier, text, prereleases)
-    return specifier
-
-
-def _restore_set(kind: type[SpecifierSet], members: tuple[Specifier, ...], prereleases: bool | None) -> SpecifierSet:
-    """A copy of a set of a class whose `__init__` may take anything."""
-    several = kind.__new__(kind)
-    SpecifierSet.__init__(several, members, prereleases)
-    return several
+def _kept_at_once(
+    several: Specifier | SpecifierSet, items: Iterable[UnparsedVersionVar], prereleases: bool | None
+) -> list[UnparsedVersionVar] | None:
+    """Those that are contained, or None where the items are to be read one by one: what makes them may wait, and one behind those that somebody asks
+    for may be no version."""
+    if several._is_by_python or not isinstance(items, (list, tuple)):
+        return None
+    try:
+        kept = several._kept(items, several.prereleases if prereleases is None else prereleases, False)
+        return kept if kept or prereleases is not None else several._kept(items, True, False)
+    except (InvalidVersion, TypeError):
+        return None
 
 
 def _contains_by_name(self: Specifier | SpecifierSet, item: UnparsedVersion) -> bool:
@@ -161,6 +178,11 @@ class Specifier(_core.HeldSpecifier, BaseSpecifier):
     ('!=', '2.1.*')
     >>> Specifier(">2.1").contains("3.0rc1"), Specifier(">2.1").contains("3.0rc1", prereleases=True)
     (False, True)
+
+    Equal ones say the same; `prereleases` is not looked at.
+
+    >>> Specifier(">=2.1") == Specifier(">= 2.1.0") == ">=2.1"
+    True
     """
 
     # The operators, where pip looks for them, and what a subclass names its own comparison: `_compare_equal` and the like.
@@ -174,13 +196,13 @@ class Specifier(_core.HeldSpecifier, BaseSpecifier):
         ">": "greater_than",
         "===": "arbitrary",
     }
-    # Whether this is a class with a comparison or with properties of its own, for which `_contains` answers.
+    # Whether this is a class with a comparison or with properties of its own, for which `_contains` answers, as it does for `===`.
     _is_changed = False
 
     # Regular expressions for other modules of `packaging` and for tools; nothing here uses them.
     _operator_regex_str = r"(?P<operator>~=|===?|!=|<=?|>=?)"
     _version_regex_str = _VERSION_OF_OPERATOR
-    _regex = re.compile(rf"^\s*{_operator_regex_str}{_version_regex_str}\s*\Z", re.VERBOSE | re.IGNORECASE)
+    _regex = _WholeSpecifier()
 
     def __init_subclass__(cls, **named: object) -> None:
         super().__init_subclass__(**named)
@@ -190,28 +212,16 @@ class Specifier(_core.HeldSpecifier, BaseSpecifier):
         if is_by_name and cls.__contains__ is Specifier.__contains__:
             cls.__contains__ = _contains_by_name  # type: ignore[assignment]
 
-    __hash__ = _core.HeldSpecifier.__hash__
+    def __getstate__(self) -> _State:
+        return _state_of(self, {"_spec": self._spec, "_prereleases": self._prereleases})
 
-    def __reduce__(self) -> tuple[object, ...]:
-        return _restore_specifier, (type(self), "".join(self._spec), self._prereleases), self.__dict__ or None
+    def __setstate__(self, state: _State) -> None:
+        attributes, slots = _split_state(state)
+        Specifier.__init__(self, "".join(attributes.pop("_spec")), attributes.pop("_prereleases"))
+        _set_attributes(self, attributes, slots)
 
     def __repr__(self) -> str:
-        return _shown(self)
-
-    def __eq__(self, other: object) -> bool:
-        """Whether both say the same; `prereleases` is not looked at.
-
-        >>> Specifier(">=2.1") == Specifier(">= 2.1.0") == ">=2.1"
-        True
-        """
-        if isinstance(other, str):
-            try:
-                other = type(self)(other)
-            except InvalidSpecifier:
-                return NotImplemented
-        elif not isinstance(other, type(self)):
-            return NotImplemented
-        return self._canonical_spec == other._canonical_spec
+        return _shown(self, type(self).__name__)
 
     def _contains(self, item: UnparsedVersion, prereleases: bool | None, _: object) -> bool:
         """Whether the version is contained, by what a subclass has of its own."""
@@ -225,15 +235,22 @@ class Specifier(_core.HeldSpecifier, BaseSpecifier):
         >>> list(Specifier(">2.1").filter(["2.0", "2.2", "3.0rc1"])), list(Specifier(">2.1").filter(["2.0", "3.0rc1"]))
         (['2.2'], ['3.0rc1'])
         """
-        items = tuple(iterable)
-        if prereleases is not None:
-            return iter(self._filtered(items, prereleases))
-        return iter(self._filtered(items, self.prereleases) or self._filtered(items, True))
-
-    def _filtered(self, items: tuple[UnparsedVersionVar, ...], prereleases: bool) -> list[UnparsedVersionVar]:
-        if self._is_changed:
-            return [it for it in items if self.contains(it, prereleases)]
-        return self._kept(items, prereleases, False)
+        kept = _kept_at_once(self, iterable, prereleases)
+        if kept is not None:
+            yield from kept
+            return
+        is_found, later = False, []
+        for item in iterable:
+            version = _version_of(item)
+            if not self.contains(version, True if prereleases is None else prereleases):
+                continue
+            if version.is_prerelease and not (prereleases or self.prereleases):
+                later.append(item)
+            else:
+                is_found = True
+                yield item
+        if not is_found:
+            yield from later
 
     # ---- a comparison for each operator, which a subclass may have its own of
 
@@ -263,7 +280,7 @@ class Specifier(_core.HeldSpecifier, BaseSpecifier):
         return Specifier(f">{spec}").contains(prospective, True)
 
     def _compare_arbitrary(self, prospective: Version, spec: str) -> bool:
-        return Specifier(f"==={spec}").contains(prospective, True)
+        return str(prospective).lower() == spec.lower()
 
 
 _core.make_members_of(Specifier)
@@ -278,6 +295,11 @@ class SpecifierSet(_core.HeldSet, BaseSpecifier):
 
     >>> SpecifierSet(">2.1,<4").contains("3.0rc1"), SpecifierSet(">2.1,<4").contains("3.0rc1", prereleases=True)
     (False, True)
+
+    Equal ones have the same members; `prereleases` is not looked at.
+
+    >>> SpecifierSet(">=2.1,<3") == "<3.0,>=2.1.0"
+    True
     """
 
     # Whether this is a class with properties of its own, for which `_contains` answers.
@@ -289,11 +311,16 @@ class SpecifierSet(_core.HeldSet, BaseSpecifier):
         if cls.contains is not SpecifierSet.contains and cls.__contains__ is SpecifierSet.__contains__:
             cls.__contains__ = _contains_by_name  # type: ignore[assignment]
 
-    def __reduce__(self) -> tuple[object, ...]:
-        return _restore_set, (type(self), tuple(self._specs), self._prereleases), self.__dict__ or None
+    def __getstate__(self) -> _State:
+        return _state_of(self, {"_specs": self._specs, "_prereleases": self._prereleases})
+
+    def __setstate__(self, state: _State) -> None:
+        attributes, slots = _split_state(state)
+        SpecifierSet.__init__(self, attributes.pop("_specs"), attributes.pop("_prereleases"))
+        _set_attributes(self, attributes, slots)
 
     def __repr__(self) -> str:
-        return _shown(self)
+        return _shown(self, "SpecifierSet")
 
     def __str__(self) -> str:
         """The members in the order of their texts, with commas alone between them.
@@ -302,21 +329,6 @@ class SpecifierSet(_core.HeldSet, BaseSpecifier):
         '!=2.2.*,>2.1'
         """
         return ",".join(sorted(map(str, self._specs)))
-
-    def __hash__(self) -> int:
-        return hash(self._specs)
-
-    def __eq__(self, other: object) -> bool:
-        """Whether both have the same members; `prereleases` is not looked at.
-
-        >>> SpecifierSet(">=2.1,<3") == "<3.0,>=2.1.0"
-        True
-        """
-        if isinstance(other, (str, Specifier)):
-            other = SpecifierSet(str(other))
-        elif not isinstance(other, SpecifierSet):
-            return NotImplemented
-        return self._specs == other._specs
 
     def __and__(self, other: SpecifierSet | str) -> SpecifierSet:
         """The members of both.
@@ -332,22 +344,18 @@ class SpecifierSet(_core.HeldSet, BaseSpecifier):
             return NotImplemented
         said = {each._prereleases for each in (self, other)} - {None}
         if len(said) > 1:
-            raise ValueError("one set allows pre-releases expressly, and the other forbids them")
+            raise ValueError("Cannot combine SpecifierSets with True and False prerelease overrides.")
         return SpecifierSet(self._specs | other._specs, said.pop() if said else None)
 
-    def __len__(self) -> int:
-        return len(self._specs)
-
-    def __iter__(self) -> Iterator[Specifier]:
-        return iter(self._specs)
-
     def _contains(self, item: UnparsedVersion, prereleases: bool | None, installed: bool | None) -> bool:
-        """Whether the version is contained, by what the members' subclasses have of their own; and the base version of an installed one."""
-        allowed = self.prereleases if prereleases is None else prereleases
+        """Whether the version is contained, by each member; and the base version of an installed one."""
         version = _version_of(item)
-        if installed and allowed and version.is_prerelease:
+        allowed = self.prereleases if prereleases is None else prereleases
+        if version.is_prerelease and not allowed:
+            return False
+        if installed and version.is_prerelease:
             version = Version(version.base_version)
-        return (bool(allowed) or not version.is_prerelease) and all(each.contains(version, allowed) for each in self._specs)
+        return all(each.contains(version, allowed) for each in self._specs)
 
     def filter(self, iterable: Iterable[UnparsedVersionVar], prereleases: bool | None = None) -> Iterator[UnparsedVersionVar]:
         """The items that each member contains, in their order. Of a set with no member, with no word on pre-releases, these are given
@@ -357,9 +365,12 @@ class SpecifierSet(_core.HeldSet, BaseSpecifier):
         ([], ['3.0rc1'])
         """
         allowed = self.prereleases if prereleases is None else prereleases
-        if self._is_changed or any(each._is_changed for each in self._specs):
-            return iter([it for it in iterable if self.contains(it, bool(allowed))])
-        if self._specs or allowed is not None:
-            return iter(self._kept(iterable, allowed, False))
-        items = tuple(iterable)
-        return iter(self._kept(items, False, False) or items)
+        if not self._specs:
+            items = tuple(iterable)
+            return iter(self._kept(items, allowed, False) or (items if allowed is None else ()))
+        kept = _kept_at_once(self, iterable, bool(allowed))
+        if kept is not None:
+            return iter(kept)
+        for each in self._specs:
+            iterable = each.filter(iterable, bool(allowed))
+        return iter(iterable)

@@ -25,6 +25,8 @@ from . import specifiers, version
 __all__ = ["swap"]
 
 _OURS = {"version": version, "specifiers": specifiers}
+# The classes that `packaging` has, too: pickles know them by their modules' names.
+_CLASSES = ("Version", "InvalidVersion", "_Version", "_TrimmedRelease", "BaseSpecifier", "Specifier", "SpecifierSet", "InvalidSpecifier")
 _REPLACED = re.compile(r"(?:.*\.(?:_vendor|extern)\.)?packaging\.(version|specifiers)")
 
 
@@ -43,7 +45,13 @@ class _Finder(importlib.abc.MetaPathFinder, importlib.abc.Loader):
 
     def exec_module(self, module: types.ModuleType) -> None:
         # the import system takes what stands here by then
-        sys.modules[module.__name__] = _OURS[module.__name__.rpartition(".")[2]]
+        last = module.__name__.rpartition(".")[2]
+        sys.modules[module.__name__] = ours = _OURS[last]
+        for it in vars(ours).values():
+            is_own = isinstance(it, type) and it.__name__ in _CLASSES and it.__module__.rpartition(".")[2] == last
+            # of several copies `packaging` itself names them, else the first
+            if is_own and (it.__module__ == ours.__name__ or module.__name__ == f"packaging.{last}"):
+                it.__module__ = module.__name__
 
 
 def swap() -> None:

@@ -8,6 +8,7 @@ from collections.abc import Iterable
 
 from . import _core
 from .specifiers import Specifier, SpecifierSet, UnparsedVersion, UnparsedVersionVar
+from .version import InvalidVersion
 
 __all__ = ["filter_texts", "sort_keys", "sort_texts"]
 
@@ -24,8 +25,19 @@ def filter_texts(
     >>> filter_texts(">=1.0", ["1.0", "latest"], skip_invalid=True)
     ['1.0']
     """
-    several = SpecifierSet(str(specifiers)) if isinstance(specifiers, str) or specifiers._is_changed else specifiers
-    return several._kept(texts, True, skip_invalid)
+    several = SpecifierSet(specifiers) if isinstance(specifiers, str) else specifiers
+    if not several._is_by_python:
+        return several._kept(texts, True, skip_invalid)
+    return [it for it in texts if _is_kept(several, it, skip_invalid)]
+
+
+def _is_kept(several: Specifier | SpecifierSet, text: UnparsedVersion, skip_invalid: bool) -> bool:
+    try:
+        return several.contains(text, True)
+    except InvalidVersion:
+        if skip_invalid:
+            return False
+        raise
 
 
 def sort_texts(texts: Iterable[UnparsedVersionVar]) -> list[UnparsedVersionVar]:

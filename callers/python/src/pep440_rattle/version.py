@@ -8,20 +8,23 @@ True
 """
 from __future__ import annotations
 
+import copyreg
+import functools
+import importlib
 import re
 from collections.abc import Callable
-from typing import NamedTuple, TypeVar, Union
+from typing import Any, NamedTuple, Union
 
 from . import _core
-from ._core import InvalidVersion
+from ._core import InvalidVersion, Version
 
 __all__ = ["VERSION_PATTERN", "InvalidVersion", "Version", "parse"]
 
 _LocalSegments = tuple[Union[int, str], ...]
-_AnyVersion = TypeVar("_AnyVersion", bound="Version")
+_State = Union[dict[str, Any], tuple[Union[dict[str, Any], None], dict[str, Any]]]
 
 # The name by which tools annotate what is compared.
-_BaseVersion = _core.Held
+_BaseVersion = Version
 
 VERSION_PATTERN = r"""
     v?
@@ -122,15 +125,89 @@ def _compose(version: Version) -> str:
     return "".join(parts)
 
 
-def _restore(kind: type[_AnyVersion], text: str) -> _AnyVersion:
-    """A copy of a version of a class whose `__init__` may take anything."""
-    version = kind.__new__(kind)
-    Version.__init__(version, text)
-    return version
+# ---- copies and pickles, which have the form of those of `packaging`, so that either takes the other's
 
 
-class Version(_core.Held):
-    """A version, read from a string.
+def _state_of(it: object, own: dict[str, Any]) -> _State:
+    """What a copy is made of: this, the attributes, and what is in slots of subclasses."""
+    attributes = {**own, **getattr(it, "__dict__", {})}
+    slots = {name: getattr(it, name) for name in copyreg._slotnames(type(it)) if hasattr(it, name)}  # type: ignore[attr-defined]
+    return (attributes, slots) if slots else attributes
+
+
+def _split_state(state: _State) -> tuple[dict[str, Any], dict[str, Any]]:
+    attributes, slots = state if isinstance(state, tuple) else (state, {})
+    return dict(attributes or {}), slots
+
+
+def _set_attributes(it: object, attributes: dict[str, Any], slots: dict[str, Any]) -> None:
+    if attributes:
+        it.__dict__.update(attributes)
+    for name, value in slots.items():
+        setattr(it, name, value)
+
+
+# ---- what the type of versions has of Python; it is written in C, so that a version is one object, which the garbage collector does not see
+
+
+def _init_subclass(cls: type[Version], **named: object) -> None:
+    super(Version, cls).__init_subclass__(**named)
+    is_changed = any(getattr(cls, it) is not getattr(Version, it) for it in _PRINTED)
+    # a subclass that has such a property prints it, unless it prints itself
+    if is_changed and cls.__str__ is Version.__str__:
+        cls.__str__ = _compose  # type: ignore[assignment]
+    # and what is made of these properties, or of what it prints, is made anew
+    if is_changed or cls.__str__ is not Version.__str__:
+        for name, it in _DERIVED.items():
+            if getattr(cls, name) is getattr(Version, name):
+                setattr(cls, name, property(it, doc=it.__doc__))
+
+
+def _get_state(version: Version) -> _State:
+    return _state_of(version, {"_version": version._version, "_key": version._key})
+
+
+def _set_state(version: Version, state: _State) -> None:
+    attributes, slots = _split_state(state)
+    _set_parts(version, attributes.pop("_version"))
+    key = attributes.pop("_key", None)
+    if key is not None and key != version._key:
+        version._key = key
+    _set_attributes(version, attributes, slots)
+
+
+def _get_parts(version: Version) -> _Version:
+    epoch, release, pre, post, dev = version._parts
+    local = _parse_local_version(Version.local.__get__(version))
+    return _Version(epoch, release, None if dev is None else ("dev", dev), pre, None if post is None else ("post", post), local)
+
+
+def _set_parts(version: Version, parts: _Version) -> None:
+    Version.__init__(version, _text_of(*parts))
+
+
+def _get_key(version: Version) -> Any:
+    """What it is compared by, as a tuple, or what a subclass has set."""
+    if version._own_key is not None:
+        return version._own_key
+    parts = version._version
+    return _cmpkey(parts.epoch, parts.release, parts.pre, parts.post, parts.dev, parts.local)
+
+
+def _set_key(version: Version, key: object) -> None:
+    version._own_key = key
+
+
+_OF_PYTHON = {
+    "__init_subclass__": classmethod(_init_subclass),
+    "__getstate__": _get_state,
+    "__setstate__": _set_state,
+    "_version": property(_get_parts, _set_parts),
+    "_key": property(_get_key, _set_key),
+}
+for _name, _it in _OF_PYTHON.items():
+    setattr(Version, _name, _it)
+Version.__doc__ = """A version, read from a string.
 
     The string is parsed once: versions hold what the library compiled of it, and by that they are compared, hashed and matched. Parts and
     prints are held once they were asked for.
@@ -145,40 +222,6 @@ class Version(_core.Held):
 
     Raises `InvalidVersion`, with the reason, where the string is no version.
     """
-
-    __slots__ = ()
-
-    def __init_subclass__(cls, **named: object) -> None:
-        super().__init_subclass__(**named)
-        is_changed = any(getattr(cls, it) is not getattr(Version, it) for it in _PRINTED)
-        # a subclass that has such a property prints it, unless it prints itself
-        if is_changed and cls.__str__ is Version.__str__:
-            cls.__str__ = _compose  # type: ignore[assignment]
-        # and what is made of these properties, or of what it prints, is made anew
-        if is_changed or cls.__str__ is not Version.__str__:
-            for name, it in _DERIVED.items():
-                if getattr(cls, name) is getattr(Version, name):
-                    setattr(cls, name, property(it, doc=it.__doc__))
-
-    def __repr__(self) -> str:
-        return f"<Version('{self}')>"
-
-    def __reduce__(self) -> tuple[object, ...]:
-        return _restore, (type(self), self._text), getattr(self, "__dict__", None) or None
-
-    @property
-    def _key(self) -> bytes:
-        return self.sort_key
-
-    @property
-    def _version(self) -> _Version:
-        epoch, release, pre, post, dev = self._parts
-        local = _parse_local_version(Version.local.__get__(self))
-        return _Version(epoch, release, None if dev is None else ("dev", dev), pre, None if post is None else ("post", post), local)
-
-    @_version.setter
-    def _version(self, parts: _Version) -> None:
-        Version.__init__(self, _text_of(*parts))
 
 
 def parse(version: str) -> Version:
@@ -236,6 +279,31 @@ def _text_of(
     return f"{epoch}!{'.'.join(map(str, release))}{''.join(suffixes)}{'+' + '.'.join(map(str, local)) if local else ''}"
 
 
+@functools.total_ordering
+class _Extreme:
+    """What lies above all else in a key, or below."""
+
+    def __init__(self, is_above: bool) -> None:
+        self.is_above = is_above
+
+    def __lt__(self, other: object) -> bool:
+        return not self.is_above and self is not other
+
+    def __reduce__(self) -> str:
+        return "_ABOVE" if self.is_above else "_BELOW"
+
+
+_ABOVE, _BELOW = _Extreme(True), _Extreme(False)
+
+
+def _extremes() -> tuple[Any, Any]:
+    """What lies above all else and below; where these modules stand in place of `packaging`, what it has."""
+    if Version.__module__ == __name__:
+        return _ABOVE, _BELOW
+    structures = importlib.import_module(Version.__module__.rpartition(".")[0] + "._structures")
+    return structures.Infinity, structures.NegativeInfinity
+
+
 def _cmpkey(
     epoch: int,
     release: tuple[int, ...],
@@ -243,6 +311,23 @@ def _cmpkey(
     post: tuple[str, int] | None,
     dev: tuple[str, int] | None,
     local: _LocalSegments | None,
-) -> bytes:
-    """The sort key of the version with these parts."""
-    return Version(_text_of(epoch, release, dev, pre, post, local)).sort_key
+) -> tuple[Any, ...]:
+    """A tuple that stands as the version with these parts does."""
+    above, below = _extremes()
+    length = len(release)
+    while length and not release[length - 1]:
+        length -= 1
+    first = (below if dev and not post else above) if pre is None else pre
+    segments = below if local is None else tuple((it, "") if isinstance(it, int) else (below, it) for it in local)
+    return epoch, release[:length], first, below if post is None else post, above if dev is None else dev, segments
+
+
+def _text_of_other(item: object) -> str:
+    """The string of a version of `packaging`, or of one of its copies."""
+    for each in type(item).__mro__:
+        if each.__qualname__ == "Version" and each.__module__.endswith("packaging.version"):
+            return each.__str__(item)  # type: ignore[call-arg]
+    raise TypeError(f"expected a str or a Version, not {type(item)!r}")
+
+
+_core.read_others_by(_text_of_other)

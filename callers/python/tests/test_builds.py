@@ -1,0 +1,109 @@
+"""What the build makes, what it says where something is missing, and on which processors the package runs."""
+import importlib
+import os
+import pathlib
+import shutil
+import subprocess
+import sys
+import tarfile
+import tempfile
+import unittest
+import zipfile
+
+import peer
+import pep440_rattle
+
+HERE = pathlib.Path(__file__).resolve().parent.parent
+BUILD = "import sys, sysconfig; sys.path.insert(0, sys.argv[1]); import build_backend as it; "
+
+
+def run(program, *words, **environment):
+    environment = dict(os.environ, PYTHONDONTWRITEBYTECODE="1", **environment)
+    return subprocess.run([sys.executable, "-c", program, *map(str, words)], capture_output=True, text=True, check=False, env=environment)
+
+
+class Missing(unittest.TestCase):
+    def said(self, program="pass", **environment):
+        with tempfile.TemporaryDirectory() as work:
+            ran = run(f"{BUILD}{program}; it.build_wheel(sys.argv[2])", HERE, work, **environment)
+        self.assertEqual((ran.returncode, ran.stderr.count("\n")), (1, 1), ran.stderr)
+        return ran.stderr
+
+    def test_compiler(self):
+        self.assertIn("pep440_rattle: no C compiler: there is no nowhere; install one", self.said(CC="nowhere -m64"))
+
+    def test_headers(self):
+        said = self.said("sysconfig.get_path = lambda name: '/nowhere'", PEP440_ARCHIVES="/nowhere/libpep440.a")
+        self.assertIn("pep440_rattle: no headers of Python: /nowhere/Python.h is not there; install them", said)
+
+    def test_library(self):
+        self.assertIn("pep440_rattle: no library: /nowhere/libpep440.a is not there; ", self.said(PEP440_ARCHIVES="/nowhere/libpep440.a"))
+
+
+class Made(unittest.TestCase):
+    def setUp(self):
+        self.room = tempfile.TemporaryDirectory()
+        self.addCleanup(self.room.cleanup)
+        self.work = pathlib.Path(self.room.name)
+        ran = run(f"{BUILD}it.archives(); print(it.build_sdist(sys.argv[2]))", HERE, self.work)
+        if ran.returncode:
+            self.skipTest("no library to build with")
+        with tarfile.open(self.work / ran.stdout.strip()) as it:
+            it.extraction_filter = getattr(tarfile, "data_filter", None)
+            it.extractall(self.work)
+        (self.sources,) = (each for each in self.work.iterdir() if each.is_dir())
+
+    def built(self, hook):
+        """The name of the wheel that is made of the source archive, and its files."""
+        libraries = run(f"{BUILD}print(*it.archives(), sep=':')", HERE).stdout.strip()
+        ran = run(f"{BUILD}print(it.{hook}(sys.argv[2]))", self.sources, self.work, PEP440_ARCHIVES=libraries)
+        self.assertEqual((ran.returncode, ran.stderr), (0, ""))
+        with zipfile.ZipFile(self.work / ran.stdout.strip()) as it:
+            return ran.stdout.strip(), {name.partition(".dist-info/")[2] or name: it.read(name).decode(errors="replace") for name in it.namelist()}
+
+    def test_wheel(self):
+        name, files = self.built("build_wheel")
+        start, _, platforms = name.removesuffix(".whl").rpartition("-")
+        tags = [line.removeprefix("Tag: ") for line in files["WHEEL"].splitlines() if line.startswith("Tag: ")]
+        self.assertEqual(tags, [f"cp310-abi3-{each}" for each in platforms.split(".")])
+        self.assertEqual(start, f"pep440_rattle-{pep440_rattle.__version__}-cp310-abi3")
+        self.assertLessEqual({"METADATA", "RECORD", "licenses/LICENSE", "licenses/NOTICE", "pep440_rattle/py.typed", "pep440_rattle/_core.abi3.so"}, {*files})
+        head = files["METADATA"].partition("\n\n")[0].splitlines()
+        self.assertLessEqual({"License-Expression: Apache-2.0", "License-File: LICENSE", "License-File: NOTICE", f"Version: {pep440_rattle.__version__}"}, {*head})
+        self.assertGreater(sum(line.startswith("Classifier: ") for line in head), 5)
+        theirs = peer.load()[0]
+        try:
+            metadata = importlib.import_module(theirs.__name__.rpartition(".")[0] + ".metadata")
+        except ImportError:
+            self.skipTest("this packaging has no metadata to check with")
+        read, unread = metadata.parse_email(files["METADATA"])
+        self.assertEqual((unread, read["name"]), ({}, "pep440-rattle"))
+        if "license_expression" in read:
+            metadata.Metadata.from_raw(read)
+
+    def test_editable(self):
+        _, files = self.built("build_editable")
+        self.assertEqual(files["pep440_rattle.pth"], f"{self.sources / 'src'}\n")
+        (self.work / "pep440_rattle.pth").write_text(files["pep440_rattle.pth"], encoding="utf-8")
+        ran = run(f"import site; site.addsitedir({str(self.work)!r}); import sys; sys.path.insert(0, sys.path.pop()); import pep440_rattle as it; print(it.__file__, it.Version('v1'))")
+        self.assertEqual(ran.stdout, f"{self.sources}/src/pep440_rattle/__init__.py 1\n", ran.stderr)
+
+
+@unittest.skipUnless(shutil.which("qemu-x86_64-static"), "no qemu-x86_64-static here")
+class Processors(unittest.TestCase):
+    def said(self, processor):
+        program = "import pep440_rattle; print(pep440_rattle.Version('v1.0+A').public, '1.5' in pep440_rattle.SpecifierSet('>=1'))"
+        words = ["qemu-x86_64-static", "-cpu", processor, os.path.realpath(sys.executable), "-c", program]
+        path = os.pathsep.join(filter(None, sys.path))
+        return subprocess.run(words, capture_output=True, text=True, check=False, env=dict(os.environ, PYTHONPATH=path))
+
+    def test_processors(self):
+        for processor in ("Nehalem", "Haswell"):
+            self.assertEqual(self.said(processor).stdout, "1.0 True\n")
+        ran = self.said("kvm64")
+        self.assertEqual((ran.returncode, ran.stdout), (1, ""))
+        self.assertIn("ImportError: pep440_rattle needs a processor with SSSE3 (x86-64-v2), which this one lacks", ran.stderr)
+
+
+if __name__ == "__main__":
+    unittest.main()
