@@ -39,7 +39,7 @@ typedef struct {
     size_t length;
 } Compiled;
 
-static Compiled compiled, next, list, one;
+static Compiled compiled, next, list, one, dated, dated_next, dated_one, local, local_one;
 
 #define OF(form) (form).bytes, (form).length
 static uint8_t compile(void) { return pep440_compile(TEXT("1.2.3"), out, sizeof out, &written); }
@@ -50,6 +50,11 @@ static uint8_t sort_key_compiled(void) { return pep440_sort_key_compiled(OF(comp
 static uint8_t compare_compiled(void) { return pep440_compare_compiled(OF(compiled), OF(next), &order); }
 static uint8_t contains_compiled(void) { return pep440_contains_compiled(OF(list), OF(compiled), &is, &early); }
 static uint8_t contains_compiled_one(void) { return pep440_contains_compiled(OF(one), OF(compiled), &is, &early); }
+static uint8_t compile_dated(void) { return pep440_compile(TEXT("2024.10.20240101"), out, sizeof out, &written); }
+static uint8_t compile_local(void) { return pep440_compile(TEXT("1.0+cu118"), out, sizeof out, &written); }
+static uint8_t compare_compiled_dated(void) { return pep440_compare_compiled(OF(dated), OF(dated_next), &order); }
+static uint8_t contains_compiled_dated(void) { return pep440_contains_compiled(OF(dated_one), OF(dated), &is, &early); }
+static uint8_t contains_compiled_local(void) { return pep440_contains_compiled(OF(local_one), OF(local), &is, &early); }
 
 static void compile_all(void)
 {
@@ -57,6 +62,11 @@ static void compile_all(void)
     pep440_compile(TEXT("1.2.4"), next.bytes, sizeof next.bytes, &next.length);
     pep440_compile_list(TEXT(LIST), list.bytes, sizeof list.bytes, &list.length);
     pep440_compile_list(TEXT(">=1.0"), one.bytes, sizeof one.bytes, &one.length);
+    pep440_compile(TEXT("2024.10.20240101"), dated.bytes, sizeof dated.bytes, &dated.length);
+    pep440_compile(TEXT("2024.10.20240102"), dated_next.bytes, sizeof dated_next.bytes, &dated_next.length);
+    pep440_compile_list(TEXT(">=2024.10.20240101"), dated_one.bytes, sizeof dated_one.bytes, &dated_one.length);
+    pep440_compile(TEXT("1.0+cu118"), local.bytes, sizeof local.bytes, &local.length);
+    pep440_compile_list(TEXT("==1.0+cu118"), local_one.bytes, sizeof local_one.bytes, &local_one.length);
 }
 
 static const struct {
@@ -78,7 +88,12 @@ static const struct {
              {"sort_key_compiled", sort_key_compiled, PEP440_OK},
              {"compare_compiled", compare_compiled, PEP440_OK},
              {"contains_compiled", contains_compiled, PEP440_OK},
-             {"contains_compiled_one", contains_compiled_one, PEP440_OK}};
+             {"contains_compiled_one", contains_compiled_one, PEP440_OK},
+             {"compile_dated", compile_dated, PEP440_OK},
+             {"compile_local", compile_local, PEP440_OK},
+             {"compare_compiled_dated", compare_compiled_dated, PEP440_OK},
+             {"contains_compiled_dated", contains_compiled_dated, PEP440_OK},
+             {"contains_compiled_local", contains_compiled_local, PEP440_OK}};
 
 /* Versions of three numbers, scrambled: one in eight each with a pre-release, a post-release and a dev. */
 static pep440_string *some_texts(size_t how_many)
@@ -112,10 +127,38 @@ static uint8_t filter(void) { return pep440_filter(TEXT(LIST), texts, count, roo
 static uint8_t sort(void) { return pep440_sort(texts, count, places, count, &at); }
 static uint8_t sort_keys(void) { return pep440_sort_keys(texts, count, room, count * 64, places, count, &written, &at); }
 
+/* Compiled versions of a batch, in order of their bytes: no sort key is a prefix of another one. */
+static pep440_string *forms;
+
+static uint8_t compile_batch(void)
+{
+    forms = calloc(count + 1, sizeof *forms);
+    for (size_t place = 0; place < count; place++) {
+        uint8_t *bytes = room + place * 64;
+        if (pep440_compile(texts[place].bytes, texts[place].length, bytes, 64, &written) != PEP440_OK)
+            return PEP440_INVALID_VERSION;
+        forms[place] = (pep440_string){bytes, written};
+    }
+    return PEP440_OK;
+}
+
+static int compare_forms(const void *left, const void *right)
+{
+    const pep440_string *one = left, *other = right;
+    return memcmp(one->bytes, other->bytes, one->length < other->length ? one->length : other->length);
+}
+
+static uint8_t compile_and_sort(void)
+{
+    uint8_t status = compile_batch();
+    qsort(forms, count, sizeof *forms, compare_forms);
+    return status;
+}
+
 static const struct {
     const char *name;
     uint8_t (*call)(void);
-} BATCHES[] = {{"made", nothing}, {"filter", filter}, {"sort", sort}, {"sort_keys", sort_keys}};
+} BATCHES[] = {{"made", nothing}, {"filter", filter}, {"sort", sort}, {"sort_keys", sort_keys}, {"compile_batch", compile_batch}, {"compile_and_sort", compile_and_sort}};
 
 /* Whether the calls of this name have the status that they are to have; `start` is when they began. */
 static int run(const char *name, struct timespec *start)

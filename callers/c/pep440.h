@@ -159,24 +159,6 @@ uint8_t pep440_sort_key(const uint8_t *version, size_t length, uint8_t *out, siz
    is at most 2097151. A word may be stored, as a sort key may; words and sort keys are not compared with each other. */
 uint8_t pep440_word(const uint8_t *version, size_t length, uint64_t *word);
 
-/* A word, from its highest bit on: the four numbers of the release, missing ones being 0, each from the bit that is named here on; the class of
-   the one part after the release; and its number. */
-enum {
-    PEP440_FIRST_SHIFT = 48,
-    PEP440_SECOND_SHIFT = 40,
-    PEP440_THIRD_SHIFT = 32,
-    PEP440_FOURTH_SHIFT = 24,
-    PEP440_CLASS_SHIFT = 21,
-    PEP440_CLASS_MIN = 0, /* a sentinel, which no string of a version has */
-    PEP440_CLASS_DEV = 1,
-    PEP440_CLASS_ALPHA = 2,
-    PEP440_CLASS_BETA = 3,
-    PEP440_CLASS_RC = 4,
-    PEP440_CLASS_NONE = 5,
-    PEP440_CLASS_POST = 6,
-    PEP440_CLASS_MAX = 7 /* a sentinel */
-};
-
 /* Writes the range of the list: its segments in ascending order, a line each, each line with a newline at its end; the one line `empty` if
    there are none. `out` and `written` as for pep440_normalize. A line is `[1.0, 1.5)`: two bounds, each beside a square bracket if it is in
    the segment, or a round one if it is not. `*` is no bound, as in `(*, 2.0]`. A bound may have a sentinel after its version, which
@@ -207,9 +189,9 @@ uint8_t pep440_cover_keys(const uint8_t *list, size_t length, uint8_t *out, size
 enum { PEP440_NO_BOUND = 0, PEP440_INCLUDED = 1, PEP440_EXCLUDED = 2 };
 
 /* Writes the range of the list as bounds, two for each segment in ascending order, as pep440_range_keys writes keys; to `count` how many bounds
-   there are. A bound is just PEP440_NO_BOUND, or PEP440_INCLUDED or PEP440_EXCLUDED and then the compiled form of its version (below), with the
-   version's sentinel if it has one. So the bounds of `>=1.0,<2.0` are PEP440_INCLUDED and the compiled form of `1.0`, and PEP440_EXCLUDED and the
-   one of `2.0~min0`. */
+   there are. A bound is just PEP440_NO_BOUND, or PEP440_INCLUDED or PEP440_EXCLUDED and then bytes of its version as in compiled form (below), its
+   sentinel among them. So the bounds of `>=1.0,<2.0` are PEP440_INCLUDED and the compiled form of `1.0`, and PEP440_EXCLUDED and the bytes of
+   `2.0~min0`. Such bytes with a sentinel are no compiled version, though they are ordered as those are. */
 uint8_t pep440_range_bounds(const uint8_t *list, size_t length, uint8_t *out, size_t size, size_t *ends, size_t ends_size, size_t *written,
                             size_t *count);
 
@@ -223,21 +205,23 @@ uint8_t pep440_release_range_bounds(const uint8_t *list, size_t length, uint8_t 
 
    Compiled bytes are plain bytes: keep them in memory, in a file or in a column, copy them, share them among threads, give them to another
    process or machine. There is no handle, and nothing to free. Their first byte is a format, and the bytes of a format never change between
-   releases: what one release wrote each later one takes, and a format that a library does not know gets PEP440_NOT_COMPILED. So does whatever
-   else denotes no version (no list): cut, changed or chosen by an attacker, bytes are never read beyond their length.
+   releases: what one release wrote each later one takes, and a format that a library does not know gets PEP440_NOT_COMPILED, as 1, 2
+   and 3 do, which earlier libraries wrote.
 
-   Bytes denote at most one version or one list. Two strings have the same compiled bytes exactly if they have the same normal form: `1.0` and
-   ` v1.0` have the same bytes, and `1.0.0` has others, though the versions
-   are equal. The order of compiled bytes is not that of the versions: pep440_compare_compiled and pep440_sort_key_compiled have that.
+   A compiled version is the byte 4, the sort key of the version, and a byte 1 for each zero that ends its release, which is all that a sort key
+   leaves out. A sort key ends with a byte 0. So the order of versions is that of their sort keys as they lie in the bytes, two versions are equal
+   exactly if their sort keys are, and a hash of a sort key is one of the version. A compiled list is the byte 5, and of each specifier 16 and the
+   number of its operator (below), and then its version without the byte 4. `1.0` takes 10 bytes, `2024.10.20240101` 17; no version and no
+   list takes more than 10 bytes and 3 for each byte of its string.
 
-   A version takes ten bytes if it has a word (pep440_word), else 30, 8 for each number of its release and each suffix, and for each local
-   segment 9 and its letters; a list takes nine, and for each specifier one more than its version. Only the first three calls of this section
-   parse a string. pep440_compare_compiled allocates nothing if the versions have words, nor does pep440_contains_compiled if the version and
-   those of the list have words and the list has no `===`.
+   Bytes denote at most one version or one list, and two strings have the same compiled bytes exactly if they have the same normal form: `1.0` and
+   ` v1.0` have the same bytes, and `1.0.0` has others, though the versions are equal. Bytes that pep440_compile_list did not write may denote a
+   list that no string denotes, as `>=1.0+a`, but each version in them is one of a string. Only the first three calls of this section parse a string.
 
-   Bytes that pep440_compile did not write may denote a version that no string denotes: one with a sentinel, as a bound of pep440_ranges has
-   one, or one whose local part has other characters. It is compared as such, and pep440_normalize_compiled writes `1.0` for `1.0~max0`, and
-   such a local part as it is. */
+   Bytes are never read beyond their length, whether they are compiled, cut, changed or chosen by an attacker.
+   pep440_compare_compiled, pep440_contains_compiled and pep440_sort_key_compiled read them as they lie, and allocate nothing: for bytes that denote
+   nothing they return PEP440_NOT_COMPILED, or write any result. All other calls return PEP440_NOT_COMPILED for these. So give bytes of
+   unknown origin to pep440_normalize_compiled or pep440_normalize_list_compiled once. */
 
 /* Writes the compiled form of a version; `out` and `written` as for pep440_normalize. */
 uint8_t pep440_compile(const uint8_t *version, size_t length, uint8_t *out, size_t size, size_t *written);
@@ -249,14 +233,13 @@ uint8_t pep440_compile_list(const uint8_t *list, size_t length, uint8_t *out, si
    string is no specifier, as the empty string and `>=1.16,<2.0`. */
 uint8_t pep440_compile_specifier(const uint8_t *specifier, size_t length, uint8_t *out, size_t size, size_t *written);
 
-/* As pep440_normalize, of a compiled version. PEP440_NOT_COMPILED if the bytes denote none; so in each call below. */
+/* As pep440_normalize, of a compiled version. PEP440_NOT_COMPILED if the bytes denote none. */
 uint8_t pep440_normalize_compiled(const uint8_t *compiled, size_t length, uint8_t *out, size_t size, size_t *written);
 
 /* As pep440_normalize_list, of a compiled list. */
 uint8_t pep440_normalize_list_compiled(const uint8_t *compiled, size_t length, uint8_t *out, size_t size, size_t *written);
 
-/* As pep440_sort_key, of a compiled version. With a zero byte in its local part, which pep440_compile never writes, the key's order is not the
-   version's. */
+/* As pep440_sort_key, of a compiled version: copies the key. */
 uint8_t pep440_sort_key_compiled(const uint8_t *compiled, size_t length, uint8_t *out, size_t size, size_t *written);
 
 /* As pep440_compare, of two compiled versions. */
@@ -281,7 +264,7 @@ uint8_t pep440_range_bounds_compiled(const uint8_t *list, size_t length, uint8_t
 uint8_t pep440_release_range_bounds_compiled(const uint8_t *list, size_t length, uint8_t *out, size_t size, size_t *ends, size_t ends_size,
                                              size_t *written, size_t *count);
 
-/* The operators in compiled lists: the byte in front of each version. The star forms are `==` and `!=` with a version and `.*`. */
+/* The operators in compiled lists, where 16 is added to their numbers. The star forms are `==` and `!=` with a version and `.*`. */
 enum {
     PEP440_EQUAL = 0,
     PEP440_EQUAL_STAR = 1,

@@ -12,7 +12,7 @@ typedef struct {
     size_t length;
 } Bytes;
 
-/* A value of the type pep440: the sort key, the compiled bytes and the normal form, one after the other. */
+/* A value of the type pep440: the compiled bytes, in which the sort key lies, and the normal form. */
 typedef struct {
     Bytes key;
     Bytes compiled;
@@ -50,6 +50,11 @@ void fail(uint8_t status) pg_attribute_noreturn();
 /* The parts of a stored value. */
 Version version_of(const struct varlena *stored);
 Specs specs_of(const struct varlena *stored);
+/* The first byte of compiled versions and lists. */
+enum { VERSION_FORMAT = 4, LIST_FORMAT = 5 };
+/* The compiled bytes, if they have this format, else those that the call makes of the normal form: an older release stored them. */
+Bytes current(Bytes compiled, uint8_t format, Bytes normal, Writer compile);
+#define CURRENT(version) current((version).compiled, VERSION_FORMAT, (version).normal, pep440_compile)
 /* A value of the type, or the error that says why the text is none. */
 struct varlena *read_version(Bytes text);
 struct varlena *read_specs(Bytes text);

@@ -14,7 +14,8 @@ static Datum make_numeric(uint64_t number)
 /* All parts but the numbers of the release. */
 static pep440_parts parts_of(FunctionCallInfo fcinfo)
 {
-    Bytes compiled = GET_VERSION(0).compiled;
+    Version version = GET_VERSION(0);
+    Bytes compiled = CURRENT(version);
     pep440_parts parts;
     uint64_t none[1];
     uint8_t status = pep440_parts_of_compiled(compiled.bytes, compiled.length, &parts, none, 0);
@@ -32,7 +33,8 @@ Datum version_epoch(PG_FUNCTION_ARGS)
 PG_FUNCTION_INFO_V1(version_release);
 Datum version_release(PG_FUNCTION_ARGS)
 {
-    Bytes compiled = GET_VERSION(0).compiled;
+    Version version = GET_VERSION(0);
+    Bytes compiled = CURRENT(version);
     pep440_parts parts = parts_of(fcinfo);
     size_t count = parts.release_length;
     uint64_t *numbers = palloc(count * sizeof *numbers);

@@ -14,8 +14,8 @@ Specs specs_of(const struct varlena *stored)
     memcpy(&compiled, bytes, sizeof compiled);
     if (length - sizeof compiled < compiled)
         fail(PEP440_NOT_COMPILED);
-    const uint8_t *normal = bytes + sizeof compiled + compiled;
-    return (Specs){{bytes + sizeof compiled, compiled}, {normal, length - sizeof compiled - compiled}};
+    Bytes stored_list = {bytes + sizeof compiled, compiled}, normal = {stored_list.bytes + compiled, length - sizeof compiled - compiled};
+    return (Specs){current(stored_list, LIST_FORMAT, normal, pep440_compile_list), normal};
 }
 
 static void fail_specs(Bytes text)
@@ -251,8 +251,8 @@ static bool contains(FmgrInfo *function, Specs specs, Version version)
         return false;
     if (known != NULL && memchr(version.normal.bytes, '+', version.normal.length) == NULL && is_in_cover(&known->contained, version.key))
         return true;
-    uint8_t status = pep440_contains_compiled(specs.compiled.bytes, specs.compiled.length, version.compiled.bytes, version.compiled.length,
-                                              &contained, &prerelease);
+    Bytes compiled = CURRENT(version);
+    uint8_t status = pep440_contains_compiled(specs.compiled.bytes, specs.compiled.length, compiled.bytes, compiled.length, &contained, &prerelease);
     if (status != PEP440_OK)
         fail(status);
     return contained != 0;

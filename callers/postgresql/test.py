@@ -194,6 +194,28 @@ def test_order(server):
     return f"{len(queries)} queries by an index as without, 60 by the hash index"
 
 
+def test_older(server):
+    """Values as older releases stored them: key and compiled bytes, then the normal form. They are what those are that are stored now."""
+    server.connect().rows("CREATE DATABASE older")
+    db = server.connect("older")
+    db.rows("CREATE EXTENSION pep440; CREATE CAST (bytea AS pep440) WITHOUT FUNCTION; CREATE CAST (bytea AS pep440_specs) WITHOUT FUNCTION")
+    key, packed = bytes([0, 2, 1, 0, 80, 0, 16, 0]), bytes([1, 2, 0, 1, 0, 0, 0, 0xA0, 0, 0])
+    local_key = key[:-1] + b"\x01cu118\0\0"
+    unpacked = bytes([2]) + b"".join(number.to_bytes(8, "big") for number in (0, 2, 1, 0)) + bytes(5) + (1).to_bytes(8, "big") + b"\x01" + (5).to_bytes(8, "big") + b"cu118"
+    older = {"1.0": (key, packed), "1.0+cu118": (local_key, unpacked)}
+    for normal, (own, compiled) in older.items():
+        stored = b"".join(len(part).to_bytes(2, "little") for part in (own, compiled)) + own + compiled + normal.encode()
+        found = db.rows(f"SELECT v, v = w, v < w, pep440_key(v) = pep440_key(w), pep440_release(v), pep440_local(v), v <@ '==1.0', v <@ '>1.0', v <@ '>=1.0,<1.1' "
+                        f"FROM (SELECT '\\x{stored.hex()}'::bytea::pep440 AS v, '{normal}'::pep440 AS w) AS pair")
+        assert found == db.rows(f"SELECT v, true, false, true, pep440_release(v), pep440_local(v), v <@ '==1.0', v <@ '>1.0', v <@ '>=1.0,<1.1' FROM (SELECT '{normal}'::pep440 AS v) AS one"), found
+    old_list = bytes([3]) + (1).to_bytes(8, "big") + bytes([9]) + packed
+    stored = len(old_list).to_bytes(4, "little") + old_list + b">=1.0"
+    found = db.rows(f"SELECT s, s @> '1.0', s @> '0.9', pep440_any_prerelease(s) FROM (SELECT '\\x{stored.hex()}'::bytea::pep440_specs AS s) AS one")
+    assert found == [(">=1.0", "t", "f", "f")], found
+    db.close()
+    return f"{len(older)} versions and a list of an older release"
+
+
 def test_joins(server):
     """Lists in a table: a nested loop over the index finds what a join without one does."""
     db = server.connect()

@@ -3,7 +3,8 @@
 
 PG_MODULE_MAGIC;
 
-/* Lengths of the key and of the compiled bytes; then both, and the normal form. */
+/* Lengths; then the compiled bytes and the normal form. Values of older releases have the sort key first, and compiled bytes of another format, which
+   `current` makes anew; `key` is the length of that key, and 0 of values as they are stored now. */
 typedef struct {
     uint16_t key;
     uint16_t compiled;
@@ -57,6 +58,15 @@ struct varlena *make_bytea(Bytes bytes)
 
 /* ---- values */
 
+/* The sort key in compiled bytes: without the first byte, and the zeros of the release, a byte 1 each. */
+static Bytes key_of(Bytes compiled)
+{
+    size_t end = compiled.length;
+    while (end > 1 && compiled.bytes[end - 1] == 1)
+        end--;
+    return end == 0 ? compiled : (Bytes){compiled.bytes + 1, end - 1};
+}
+
 Version version_of(const struct varlena *stored)
 {
     const uint8_t *bytes = (const uint8_t *)VARDATA_ANY(stored);
@@ -68,29 +78,32 @@ Version version_of(const struct varlena *stored)
     size_t before = sizeof lengths + lengths.key + lengths.compiled;
     if (length < before)
         fail(PEP440_NOT_COMPILED);
-    const uint8_t *key = bytes + sizeof lengths;
-    return (Version){{key, lengths.key}, {key + lengths.key, lengths.compiled}, {bytes + before, length - before}};
+    Bytes key = {bytes + sizeof lengths, lengths.key}, compiled = {key.bytes + key.length, lengths.compiled};
+    return (Version){key.length > 0 ? key : key_of(compiled), compiled, {bytes + before, length - before}};
+}
+
+Bytes current(Bytes compiled, uint8_t format, Bytes normal, Writer compile)
+{
+    Bytes made;
+    if (compiled.length > 0 && compiled.bytes[0] == format)
+        return compiled;
+    uint8_t status = write_all(compile, normal, &made);
+    if (status != PEP440_OK)
+        fail(status);
+    return made;
 }
 
 /* Writes the parts of a value to `room`, which has MOST_PARTS bytes; PEP440_NO_ROOM where they are more. */
 static uint8_t write_parts(Bytes text, uint8_t *room, size_t *written)
 {
-    uint8_t compiled[MOST_PARTS];
-    size_t length, key, normal, at = sizeof(Lengths);
-    uint8_t status = pep440_compile(text.bytes, text.length, compiled, sizeof compiled, &length);
+    size_t length, normal, at = sizeof(Lengths);
+    uint8_t status = pep440_compile(text.bytes, text.length, room + at, MOST_PARTS - at, &length);
     if (status != PEP440_OK)
         return status;
-    status = pep440_sort_key_compiled(compiled, length, room + at, MOST_PARTS - at, &key);
-    if (status != PEP440_OK)
-        return status;
-    Lengths lengths = {(uint16_t)key, (uint16_t)length};
+    Lengths lengths = {0, (uint16_t)length};
     memcpy(room, &lengths, sizeof lengths);
-    at += key;
-    if (length > MOST_PARTS - at)
-        return PEP440_NO_ROOM;
-    memcpy(room + at, compiled, length);
     at += length;
-    status = pep440_normalize_compiled(compiled, length, room + at, MOST_PARTS - at, &normal);
+    status = pep440_normalize_compiled(room + sizeof lengths, length, room + at, MOST_PARTS - at, &normal);
     *written = at + normal;
     return status;
 }

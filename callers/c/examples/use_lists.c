@@ -14,8 +14,8 @@
 
 int main(int count, char **words)
 {
-    uint8_t version[1024], contained, prerelease;
-    size_t version_length, length;
+    uint8_t version[1024], contained, prerelease, none;
+    size_t version_length, length, size;
     if (count != 3)
         errx(EXIT_FAILURE, "usage: use_lists FILE VERSION");
     FILE *file = fopen(words[1], "rb");
@@ -25,7 +25,10 @@ int main(int count, char **words)
         errx(EXIT_FAILURE, "%s: not a version, or too long", words[2]);
     for (int number = 1; fscanf(file, "%zu", &length) == 1; number++) {
         uint8_t *list = malloc(length), status = list ? PEP440_NOT_COMPILED : PEP440_OUT_OF_MEMORY;
+        /* Who knows who wrote the file: this call looks at all bytes, which the next one does not. */
         if (list && getc(file) == '\n' && fread(list, 1, length, file) == length)
+            status = pep440_normalize_list_compiled(list, length, &none, 0, &size);
+        if (status == PEP440_OK || status == PEP440_NO_ROOM)
             status = pep440_contains_compiled(list, length, version, version_length, &contained, &prerelease);
         if (status != PEP440_OK)
             errx(EXIT_FAILURE, "%s: %s", words[1], status == PEP440_NOT_COMPILED ? "not a compiled list" : "out of memory");

@@ -1,7 +1,7 @@
 /* Compiled bytes that no call wrote, and those of another process.
 
-   bytes         200,000 random byte strings, and every change of one byte of 1,000 compiled versions and lists: each is rejected by every call, or
-                 denotes what it is printed as
+   bytes         literal bytes, made by hand of their definition; 200,000 random byte strings, and every change of one byte of 1,000 compiled
+                 versions and lists: each is rejected, or is what its normalized form is compiled to, if a string denotes it
    bytes write   prints the 1,000 compiled forms, each behind its length
    bytes read    holds what another process wrote so against its own */
 #include <stdio.h>
@@ -44,7 +44,7 @@ static void add(Bytes *text, const char *format, unsigned number)
     text->length += (size_t)snprintf((char *)text->bytes + text->length, ROOM - text->length, format, number);
 }
 
-/* Most versions have a word; the others get a part that no word holds. */
+/* Most versions are a release with a suffix; a third has an epoch, a great number or a local part. */
 static void some_version(Bytes *text)
 {
     int is_long = below(3) == 0;
@@ -105,81 +105,168 @@ static int have_same_parts(const Bytes *form, const Bytes *text)
            parts.release_length == of_text.release_length && memcmp(release, release_of_text, parts.release_length * sizeof *release) == 0;
 }
 
-/* Whether the version that the bytes denote is what it is printed as. The header says which versions no string denotes: they have the parts of what
-   they are printed as, where that is a version, and are not equal to it. */
+/* Calls that read bytes as they lie: of any bytes they say that these denote nothing, or write some result. */
+static void ask_in_place(const Bytes *form)
+{
+    static const uint8_t list[] = {5, 25, 0, 2, 1, 0, 80, 0, 16, 0}, version[] = {4, 0, 2, 1, 0, 80, 0, 16, 0};
+    Bytes key;
+    int8_t order = 0;
+    uint8_t is = 0, early = 0, status = pep440_sort_key_compiled(OF(form), TO(&key));
+    hold(status == PEP440_NOT_COMPILED || (status == PEP440_OK && key.length < form->length), "sort_key_compiled");
+    status = pep440_compare_compiled(OF(form), version, sizeof version, &order);
+    hold(status == PEP440_NOT_COMPILED || (status == PEP440_OK && order >= -1 && order <= 1), "compare_compiled");
+    status = pep440_contains_compiled(list, sizeof list, OF(form), &is, &early);
+    hold(status == PEP440_NOT_COMPILED || (status == PEP440_OK && is <= 1 && early <= 1), "contains_compiled, a version");
+    status = pep440_contains_compiled(OF(form), version, sizeof version, &is, &early);
+    hold(status == PEP440_NOT_COMPILED || (status == PEP440_OK && is <= 1 && early <= 1), "contains_compiled, a list");
+}
+
+/* Bytes that denote a version are those that its normalized form is compiled to. */
 static void hold_version(const Bytes *form)
 {
-    Bytes text, key, again;
-    int8_t order = 0;
+    Bytes text, key, key_of_text, again;
+    int8_t order = 1;
     pep440_parts parts;
     uint64_t release[64];
     uint8_t status = pep440_normalize_compiled(OF(form), TO(&text));
     if (status == PEP440_NOT_COMPILED) {
         rejected++;
-        hold(pep440_sort_key_compiled(OF(form), TO(&key)) == PEP440_NOT_COMPILED, "sort_key_compiled of what is rejected");
-        hold(pep440_compare_compiled(OF(form), OF(form), &order) == PEP440_NOT_COMPILED, "compare_compiled of what is rejected");
         hold(pep440_parts_of_compiled(OF(form), &parts, release, 64) == PEP440_NOT_COMPILED, "parts_of_compiled of what is rejected");
         return;
     }
+    printed++;
     hold(status == PEP440_OK, "normalize_compiled");
-    hold(pep440_compare_compiled(OF(form), OF(form), &order) == PEP440_OK && order == 0, "a version is equal to itself");
-    if (pep440_compile(OF(&text), TO(&again)) != PEP440_OK) {
-        of_no_string++;
-        return;
-    }
+    hold(pep440_compile(OF(&text), TO(&again)) == PEP440_OK && are_same(form, &again), "the bytes are those of the printed version");
     hold(have_same_parts(form, &text), "the parts are those of the printed version");
-    if (are_same(form, &again)) {
-        printed++;
-        return;
-    }
-    of_no_string++;
-    hold(pep440_compare_compiled(OF(form), OF(&again), &order) == PEP440_OK && order != 0, "other bytes denote another version");
+    hold(pep440_compare_compiled(OF(form), OF(&again), &order) == PEP440_OK && order == 0, "a version is equal to itself");
+    hold(pep440_sort_key_compiled(OF(form), TO(&key)) == PEP440_OK && pep440_sort_key(OF(&text), TO(&key_of_text)) == PEP440_OK &&
+             are_same(&key, &key_of_text) && memcmp(form->bytes + 1, key.bytes, key.length) == 0,
+         "the key is that of the printed version, and lies after the first byte");
 }
 
-/* The same of lists. A list is printed again as it was, where what is printed is one. */
+/* The same of lists, if a string denotes them: none denotes that of `>=1.0+a`. */
 static void hold_list(const Bytes *form)
 {
-    Bytes text, again, printed_again;
-    uint8_t is, early, status = pep440_normalize_list_compiled(OF(form), TO(&text));
-    static const uint8_t one[] = {1, 1, 0, 1, 0, 0, 0, 0xa0, 0, 0};
+    Bytes text, again;
+    uint8_t status = pep440_normalize_list_compiled(OF(form), TO(&text));
     if (status == PEP440_NOT_COMPILED) {
         rejected++;
-        hold(pep440_contains_compiled(OF(form), one, sizeof one, &is, &early) == PEP440_NOT_COMPILED, "contains_compiled of what is rejected");
         return;
     }
     hold(status == PEP440_OK, "normalize_list_compiled");
-    hold(pep440_contains_compiled(OF(form), one, sizeof one, &is, &early) == PEP440_OK, "contains_compiled");
-    if (pep440_compile_list(OF(&text), TO(&again)) != PEP440_OK) {
+    if (pep440_compile_list(OF(&text), TO(&again)) == PEP440_INVALID_LIST) {
         of_no_string++;
         return;
     }
-    hold(pep440_normalize_list_compiled(OF(&again), TO(&printed_again)) == PEP440_OK && are_same(&text, &printed_again), "a list is printed again");
-    are_same(form, &again) ? printed++ : of_no_string++;
+    printed++;
+    hold(are_same(form, &again), "the bytes are those of the printed list");
 }
 
 static void hold_bytes(const Bytes *form)
 {
+    ask_in_place(form);
     hold_version(form);
     hold_list(form);
 }
 
-/* Random bytes; those of a packed version, with a random word; or a compiled form, some of whose bytes are replaced, or which is cut. */
+/* ---- literal bytes */
+
+#define BYTES(...) {{__VA_ARGS__}, sizeof((uint8_t[]){__VA_ARGS__})}
+
+/* 4; the epoch; the release and 0; stage, post and dev; the local part and 0; a byte 1 for each zero that ends the release. */
+static const struct {
+    const char *text;
+    Bytes bytes;
+} FORMS[] = {
+    {"1.2.3", BYTES(4, 0, 2, 1, 2, 2, 2, 3, 0, 80, 0, 16, 0)},
+    {"0", BYTES(4, 0, 0, 80, 0, 16, 0, 1)},
+    {"1.0", BYTES(4, 0, 2, 1, 0, 80, 0, 16, 0, 1)},
+    {"1.0.0", BYTES(4, 0, 2, 1, 0, 80, 0, 16, 0, 1, 1)},
+    {"0.0.1.0", BYTES(4, 0, 1, 1, 2, 1, 0, 80, 0, 16, 0, 1)},
+    {"2024.10.20240101", BYTES(4, 0, 3, 7, 232, 2, 10, 5, 1, 52, 214, 229, 0, 80, 0, 16, 0)},
+    {"18446744073709551615", BYTES(4, 0, 9, 255, 255, 255, 255, 255, 255, 255, 255, 0, 80, 0, 16, 0)},
+    {"1!2", BYTES(4, 1, 1, 2, 2, 0, 80, 0, 16, 0)},
+    {"1.dev0", BYTES(4, 0, 2, 1, 0, 16, 0, 0, 0)},
+    {"1a0", BYTES(4, 0, 2, 1, 0, 32, 0, 16, 0)},
+    {"1b1", BYTES(4, 0, 2, 1, 0, 49, 1, 0, 16, 0)},
+    {"1rc256", BYTES(4, 0, 2, 1, 0, 66, 1, 0, 0, 16, 0)},
+    {"1rc2.dev3", BYTES(4, 0, 2, 1, 0, 65, 2, 0, 1, 3, 0)},
+    {"1.post0", BYTES(4, 0, 2, 1, 0, 80, 16, 16, 0)},
+    {"1.post4.dev5", BYTES(4, 0, 2, 1, 0, 80, 17, 4, 1, 5, 0)},
+    {"1.0+cu118", BYTES(4, 0, 2, 1, 0, 80, 0, 16, 1, 'c', 'u', '1', '1', '8', 0, 0, 1)},
+    {"1+a.0.7", BYTES(4, 0, 2, 1, 0, 80, 0, 16, 1, 'a', 0, 2, 3, 7, 0)},
+};
+
+/* 5, and of each member 16 and the number of its operator, and its version without the 4. */
+static const struct {
+    const char *text;
+    Bytes bytes;
+} LIST_FORMS[] = {
+    {"", BYTES(5)},
+    {"==1", BYTES(5, 16, 0, 2, 1, 0, 80, 0, 16, 0)},
+    {"==1.*", BYTES(5, 17, 0, 2, 1, 0, 80, 0, 16, 0)},
+    {"===1", BYTES(5, 18, 0, 2, 1, 0, 80, 0, 16, 0)},
+    {"!=1", BYTES(5, 19, 0, 2, 1, 0, 80, 0, 16, 0)},
+    {"!=1.*", BYTES(5, 20, 0, 2, 1, 0, 80, 0, 16, 0)},
+    {"~=1.0", BYTES(5, 21, 0, 2, 1, 0, 80, 0, 16, 0, 1)},
+    {"<1", BYTES(5, 22, 0, 2, 1, 0, 80, 0, 16, 0)},
+    {"<=1", BYTES(5, 23, 0, 2, 1, 0, 80, 0, 16, 0)},
+    {">1", BYTES(5, 24, 0, 2, 1, 0, 80, 0, 16, 0)},
+    {">=1", BYTES(5, 25, 0, 2, 1, 0, 80, 0, 16, 0)},
+    {"==1+a,==1", BYTES(5, 16, 0, 2, 1, 0, 80, 0, 16, 0, 16, 0, 2, 1, 0, 80, 0, 16, 1, 'a', 0, 0)},
+    {"<2,>=1.0", BYTES(5, 25, 0, 2, 1, 0, 80, 0, 16, 0, 1, 22, 0, 2, 2, 0, 80, 0, 16, 0)},
+};
+
+/* Of a version: other formats, no version, bytes after it, numbers with a zero in front or of nine bytes, a release that ends with a zero, ranks that
+   no string has, local strings that none has. Of a list: a version's format, no operator, an order that falls, ~= with one number. */
+static const Bytes NOTHING[] = {
+    BYTES(0), BYTES(4), BYTES(5, 4), BYTES(1, 2, 0, 1, 0, 0, 0, 0xa0, 0, 0), BYTES(3, 0, 0, 0, 0, 0, 0, 0, 0), BYTES(4, 0, 0, 80, 0, 16, 0),
+    BYTES(4, 0, 2, 1, 0, 80, 0, 16), BYTES(4, 0, 2, 1, 0, 80, 0, 16, 0, 2), BYTES(4, 0, 2, 1, 0, 80, 0, 16, 0, 1, 0), BYTES(4, 1, 0, 2, 1, 0, 80, 0, 16, 0),
+    BYTES(4, 0, 3, 0, 1, 0, 80, 0, 16, 0), BYTES(4, 0, 10, 1, 0, 0, 0, 0, 0, 0, 0, 0, 0, 80, 0, 16, 0), BYTES(4, 0, 2, 1, 1, 0, 80, 0, 16, 0),
+    BYTES(4, 16, 2, 1, 0, 80, 0, 16, 0), BYTES(4, 0, 2, 1, 0, 0, 0, 0, 0), BYTES(4, 0, 2, 1, 0, 80, 32, 16, 0), BYTES(4, 0, 2, 1, 0, 96, 0, 16, 0),
+    BYTES(4, 0, 2, 1, 0, 16, 0, 16, 0), BYTES(4, 0, 2, 1, 0, 16, 16, 0, 0), BYTES(4, 0, 2, 1, 0, 80, 0, 0, 0), BYTES(4, 0, 2, 1, 0, 81, 1, 0, 16, 0),
+    BYTES(4, 0, 2, 1, 0, 80, 1, 1, 16, 0), BYTES(4, 0, 2, 1, 0, 80, 0, 32, 0), BYTES(4, 0, 2, 1, 0, 80, 0, 16, 1, 0, 0),
+    BYTES(4, 0, 2, 1, 0, 80, 0, 16, 1, 'A', 0, 0), BYTES(4, 0, 2, 1, 0, 80, 0, 16, 1, '7', 0, 0), BYTES(4, 0, 2, 1, 0, 80, 0, 16, 1, 'a', '.', 'b', 0, 0),
+    BYTES(5, 26, 0, 2, 1, 0, 80, 0, 16, 0), BYTES(5, 15, 0, 2, 1, 0, 80, 0, 16, 0), BYTES(5, 9, 0, 2, 1, 0, 80, 0, 16, 0),
+    BYTES(5, 22, 0, 2, 2, 0, 80, 0, 16, 0, 25, 0, 2, 1, 0, 80, 0, 16, 0, 1), BYTES(5, 21, 0, 2, 1, 0, 80, 0, 16, 0), BYTES(5, 16), BYTES(4, 25, 0, 2, 1),
+    BYTES(5, 25, 4, 0, 2, 1, 0, 80, 0, 16, 0), BYTES(5, 25, 0, 2, 1, 0, 80, 0, 16, 0, 1, 0)};
+
+#define EACH(place, table) (size_t place = 0; place < sizeof(table) / sizeof *(table); place++)
+
+static void hold_literals(void)
+{
+    Bytes found;
+    for EACH (place, FORMS) {
+        const uint8_t *text = (const uint8_t *)FORMS[place].text;
+        hold(pep440_compile(text, strlen(FORMS[place].text), TO(&found)) == PEP440_OK && are_same(&found, &FORMS[place].bytes), FORMS[place].text);
+        hold_bytes(&FORMS[place].bytes);
+    }
+    for EACH (place, LIST_FORMS) {
+        const uint8_t *text = (const uint8_t *)LIST_FORMS[place].text;
+        hold(pep440_compile_list(text, strlen(LIST_FORMS[place].text), TO(&found)) == PEP440_OK && are_same(&found, &LIST_FORMS[place].bytes),
+             LIST_FORMS[place].text);
+        hold_bytes(&LIST_FORMS[place].bytes);
+    }
+    for EACH (place, NOTHING) {
+        ask_in_place(&NOTHING[place]);
+        hold(pep440_normalize_compiled(OF(&NOTHING[place]), TO(&found)) == PEP440_NOT_COMPILED, "bytes that denote no version");
+        hold(pep440_normalize_list_compiled(OF(&NOTHING[place]), TO(&found)) == PEP440_NOT_COMPILED, "bytes that denote no list");
+    }
+}
+
+/* Random bytes; those that begin as a version or a list; or a compiled form, some of whose bytes are replaced, or which is cut. */
 static void some_bytes(Bytes *form)
 {
     unsigned kind = below(3);
-    if (kind == 0)
-        form->length = below(80);
-    else if (kind == 1)
-        form->length = 10;
+    if (kind < 2)
+        form->length = 1 + below(kind == 0 ? 80 : 16);
     else
         some_form(below(VERSIONS + LISTS), form);
     if (kind < 2)
         for (size_t at = 0; at < form->length; at++)
             form->bytes[at] = (uint8_t)(below(2) ? below(256) : below(4));
-    if (kind == 1) {
-        form->bytes[0] = 1;
-        form->bytes[1] = (uint8_t)below(6);
-    }
+    if (kind == 1)
+        form->bytes[0] = (uint8_t)(4 + below(2));
     if (kind == 2) {
         for (unsigned more = 1 + below(4); more > 0; more--)
             form->bytes[below((unsigned)form->length)] = (uint8_t)below(256);
@@ -234,16 +321,18 @@ int main(int count, char **words)
     Bytes form;
     if (count > 1)
         return strcmp(words[1], "write") == 0 ? write_forms() : read_forms();
+    hold_literals();
     for (size_t number = 0; number < VERSIONS + LISTS; number++) {
         some_form(number, &form);
+        hold_bytes(&form);
         change_each_byte(&form);
     }
     for (size_t turn = 0; turn < RANDOM; turn++) {
         some_bytes(&form);
         hold_bytes(&form);
     }
-    hold(rejected > RANDOM && printed > RANDOM && of_no_string > 0, "each result is met");
-    printf("%zu results: %zu rejected, %zu denote what they are printed as, %zu no string denotes; %d wrong\n", rejected + printed + of_no_string, rejected,
-           printed, of_no_string, wrong);
+    hold(rejected > RANDOM && printed > VERSIONS + LISTS && of_no_string > 0, "each result is met");
+    printf("%zu results: %zu rejected, %zu are what they are printed as, %zu lists no string denotes; %d wrong\n", rejected + printed + of_no_string,
+           rejected, printed, of_no_string, wrong);
     return wrong ? EXIT_FAILURE : EXIT_SUCCESS;
 }

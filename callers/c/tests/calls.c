@@ -132,10 +132,6 @@ static void keep_keys(void)
 
     /* Of most versions a number does as well. */
     hold(pep440_word(TEXT("1.10rc1"), &word) == PEP440_OK && pep440_word(TEXT("1.10"), &other) == PEP440_OK && word < other, "words are in order");
-    hold(pep440_word(TEXT("1.2.3.4rc5"), &word) == PEP440_OK &&
-             word == ((uint64_t)1 << PEP440_FIRST_SHIFT | (uint64_t)2 << PEP440_SECOND_SHIFT | (uint64_t)3 << PEP440_THIRD_SHIFT |
-                      (uint64_t)4 << PEP440_FOURTH_SHIFT | (uint64_t)PEP440_CLASS_RC << PEP440_CLASS_SHIFT | 5),
-         "the parts of a word");
     hold(pep440_word(TEXT("1.10+local"), &word) == PEP440_NOT_PACKED, "a version without a word");
 }
 

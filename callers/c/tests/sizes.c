@@ -83,7 +83,7 @@ static void of_versions(const char *before, const char *part, size_t size)
     drop(version), drop(invalid), drop(specifier), drop(compiled);
 }
 
-/* Of a list: members that are packed and others. */
+/* Of a list: asked of a version without a local part, and of one with. */
 static void of_lists(const char *before, const char *part, size_t size)
 {
     pep440_string list = repeat(before, part, "", size), invalid = repeat(before, part, ",=", size);
@@ -94,16 +94,16 @@ static void of_lists(const char *before, const char *part, size_t size)
     CHECK(pep440_filter(PARSED(list), &(pep440_string){TEXT("0.5")}, 1, marks, 1));
     CHECK(pep440_specifiers_of(PARSED(list), KEYS));
     CHECK(pep440_compile(TEXT("0.5"), OUT));
-    pep440_string packed = keep();
+    pep440_string public = keep();
     CHECK(pep440_compile(TEXT("0.5+a"), OUT));
-    pep440_string unpacked = keep();
+    pep440_string local = keep();
     CHECK(pep440_compile_list(PARSED(list), OUT));
     pep440_string compiled = keep();
     CHECK(pep440_normalize_list_compiled(PARSED(compiled), OUT));
-    CHECK(pep440_contains_compiled(PARSED(compiled), PARSED(packed), &is, &early));
-    CHECK(pep440_contains_compiled(PARSED(compiled), PARSED(unpacked), &is, &early));
-    CHECK(pep440_filter_compiled(PARSED(compiled), &unpacked, 1, marks, 1));
-    drop(list), drop(invalid), drop(packed), drop(unpacked), drop(compiled);
+    CHECK(pep440_contains_compiled(PARSED(compiled), PARSED(public), &is, &early));
+    CHECK(pep440_contains_compiled(PARSED(compiled), PARSED(local), &is, &early));
+    CHECK(pep440_filter_compiled(PARSED(compiled), &local, 1, marks, 1));
+    drop(list), drop(invalid), drop(public), drop(local), drop(compiled);
 }
 
 /* Of a list whose range has a segment for each member. */

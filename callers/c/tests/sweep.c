@@ -40,13 +40,13 @@ typedef struct {
     uint8_t is, early;
 } Answer;
 
-/* Compiled forms, made once before the sweep: of a version that is packed and of one that is not, of lists with and without `===`. */
+/* Compiled forms, made once before the sweep: of a short version and of one with all parts, and of a list. */
 typedef struct {
     uint8_t bytes[256];
     size_t length;
 } Compiled;
 
-static Compiled packed, longer, list, packed_list;
+static Compiled shorter, longer, list;
 
 static size_t at;
 static const pep440_string TEXTS[] = {{TEXT("1.0+a.1")}, {TEXT("0.9")}, {TEXT(LONG)}, {TEXT("1.0.0")}, {TEXT("1.5rc1")}};
@@ -106,7 +106,7 @@ static uint8_t sort_keys(Answer *answer)
 }
 
 static uint8_t compile(Answer *answer) { return pep440_compile(TEXT(LONG), OUT); }
-static uint8_t compile_packed(Answer *answer) { return pep440_compile(TEXT("1.17"), OUT); }
+static uint8_t compile_short(Answer *answer) { return pep440_compile(TEXT("1.17"), OUT); }
 static uint8_t compile_invalid(Answer *answer) { return pep440_compile(TEXT("1.0prev"), OUT); }
 static uint8_t compile_specifier(Answer *answer) { return pep440_compile_specifier(TEXT("===" LONG), OUT); }
 static uint8_t compile_no_specifier(Answer *answer) { return pep440_compile_specifier(TEXT(">=1.16,<2.0"), OUT); }
@@ -118,15 +118,10 @@ static uint8_t normalize_not_compiled(Answer *answer) { return pep440_normalize_
 static uint8_t normalize_list_compiled(Answer *answer) { return pep440_normalize_list_compiled(OF(list), OUT); }
 static uint8_t normalize_list_not_compiled(Answer *answer) { return pep440_normalize_list_compiled(list.bytes, list.length - 1, OUT); }
 static uint8_t sort_key_compiled(Answer *answer) { return pep440_sort_key_compiled(OF(longer), OUT); }
-static uint8_t compare_compiled(Answer *answer) { return pep440_compare_compiled(OF(longer), OF(packed), &answer->order); }
-static uint8_t compare_packed(Answer *answer) { return pep440_compare_compiled(OF(packed), OF(packed), &answer->order); }
+static uint8_t compare_compiled(Answer *answer) { return pep440_compare_compiled(OF(longer), OF(shorter), &answer->order); }
 static uint8_t contains_compiled(Answer *answer)
 {
     return pep440_contains_compiled(OF(list), OF(longer), &answer->is, &answer->early);
-}
-static uint8_t contains_packed(Answer *answer)
-{
-    return pep440_contains_compiled(OF(packed_list), OF(packed), &answer->is, &answer->early);
 }
 static uint8_t contains_not_compiled(Answer *answer)
 {
@@ -190,7 +185,7 @@ static const struct {
              {"sort, invalid", sort_invalid, PEP440_INVALID_VERSION},
              {"sort_keys", sort_keys, PEP440_OK},
              {"compile", compile, PEP440_OK},
-             {"compile, packed", compile_packed, PEP440_OK},
+             {"compile, short", compile_short, PEP440_OK},
              {"compile, invalid", compile_invalid, PEP440_INVALID_VERSION},
              {"compile_specifier", compile_specifier, PEP440_OK},
              {"compile_specifier, invalid", compile_no_specifier, PEP440_INVALID_LIST},
@@ -200,10 +195,6 @@ static const struct {
              {"normalize_compiled, other", normalize_not_compiled, PEP440_NOT_COMPILED},
              {"normalize_list_compiled", normalize_list_compiled, PEP440_OK},
              {"normalize_list_compiled, other", normalize_list_not_compiled, PEP440_NOT_COMPILED},
-             {"sort_key_compiled", sort_key_compiled, PEP440_OK},
-             {"compare_compiled", compare_compiled, PEP440_OK},
-             {"contains_compiled", contains_compiled, PEP440_OK},
-             {"contains_compiled, other", contains_not_compiled, PEP440_NOT_COMPILED},
              {"parts_of_compiled", parts_of_compiled, PEP440_OK},
              {"range_keys_compiled", range_keys_compiled, PEP440_OK},
              {"range_keys_compiled, other", range_keys_not_compiled, PEP440_NOT_COMPILED},
@@ -234,7 +225,11 @@ static const struct {
 static const struct {
     const char *name;
     uint8_t (*call)(Answer *);
-} WITHOUT[] = {{"compare_compiled, packed", compare_packed}, {"contains_compiled, packed", contains_packed}};
+    uint8_t wanted;
+} WITHOUT[] = {{"sort_key_compiled", sort_key_compiled, PEP440_OK},
+               {"compare_compiled", compare_compiled, PEP440_OK},
+               {"contains_compiled", contains_compiled, PEP440_OK},
+               {"contains_compiled, other", contains_not_compiled, PEP440_NOT_COMPILED}};
 
 /* Wrong results of this call; `failed` counts the allocations that failed. */
 static int sweep(uint8_t (*call)(Answer *), uint8_t wanted, int may_guess, int *failed)
@@ -262,12 +257,11 @@ static int sweep(uint8_t (*call)(Answer *), uint8_t wanted, int may_guess, int *
 
 static int compile_all(void)
 {
-    int failed = pep440_compile(TEXT("1.17"), packed.bytes, sizeof packed.bytes, &packed.length) ||
+    int failed = pep440_compile(TEXT("1.17"), shorter.bytes, sizeof shorter.bytes, &shorter.length) ||
            pep440_compile(TEXT(LONG), longer.bytes, sizeof longer.bytes, &longer.length) ||
-           pep440_compile_list(TEXT(MEMBERS), list.bytes, sizeof list.bytes, &list.length) ||
-           pep440_compile_list(TEXT(">=1.16, !=1.5.*, <2.0"), packed_list.bytes, sizeof packed_list.bytes, &packed_list.length);
+           pep440_compile_list(TEXT(MEMBERS), list.bytes, sizeof list.bytes, &list.length);
     forms[0] = (pep440_string){longer.bytes, longer.length};
-    forms[1] = (pep440_string){packed.bytes, packed.length};
+    forms[1] = (pep440_string){shorter.bytes, shorter.length};
     forms[2] = (pep440_string){list.bytes, list.length};
     return failed;
 }
@@ -288,7 +282,7 @@ int main(void)
         all_wrong += wrong;
     }
     for (size_t place = 0; place < sizeof WITHOUT / sizeof *WITHOUT; place++) {
-        int failed = 0, wrong = sweep(WITHOUT[place].call, PEP440_OK, 0, &failed) + failed;
+        int failed = 0, wrong = sweep(WITHOUT[place].call, WITHOUT[place].wanted, 0, &failed) + failed;
         printf("%-36s %3d allocations failed in turn, %d wrong\n", WITHOUT[place].name, failed, wrong);
         all_wrong += wrong;
     }

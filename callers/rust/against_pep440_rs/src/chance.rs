@@ -205,7 +205,7 @@ impl Chance {
     }
 
     /// A version as on an index of packages: most are a release of three numbers, one in seven has a pre-release or a
-    /// developmental part. One in thirteen is not packed.
+    /// developmental part.
     pub fn usual_version(&mut self) -> String {
         let mut text = self.below(20).to_string();
         let more = if self.one_in(40) { 4 } else { 2 };

@@ -1,5 +1,5 @@
 //! Where the two crates differ by `docs/DIFFERENCES.md`: rules that tell for given values what is wanted, or that nothing is.
-use crate::peer::{release_specifier_to_range, Operator, Version, VersionSpecifier};
+use crate::peer::{release_specifier_to_range, LocalSegment, Operator, Version, VersionSpecifier};
 use crate::version_ranges::Ranges;
 use std::cmp::Ordering;
 
@@ -7,6 +7,17 @@ use std::cmp::Ordering;
 /// developmental release and for the sentinel `max`.
 pub fn is_confused(version: &Version) -> bool {
     version.dev() == Some(u64::MAX) || version.post() == Some(u64::MAX)
+}
+
+/// Whether a string parses to the version. Of others no list contains what is specified, and no specifier has a range.
+pub fn is_parsed(version: &Version) -> bool {
+    let is_normal = |segment: &LocalSegment| match segment {
+        LocalSegment::String(text) => {
+            !text.is_empty() && text.bytes().all(|byte| matches!(byte, b'a'..=b'z' | b'0'..=b'9')) && text.parse::<u64>().is_err()
+        }
+        LocalSegment::Number(_) => true,
+    };
+    version.min().is_none() && version.max().is_none() && version.local().iter().all(is_normal)
 }
 
 /// Whether the order of the two is one that the ported crate gets wrong.

@@ -138,13 +138,17 @@ fn unchecked(chance: &mut Chance) -> Option<Case> {
         return None;
     }
     let asked = format!("{operator} {asked} {also}");
+    let is_parsed = departures::is_parsed(other.version());
+    let there = |found| if is_parsed { show_range_there(found) } else { Err(ours::RangeError::NotParsed) };
     let range = show_range(mine.ranges());
-    let is_confused = departures::is_confused(other.version());
-    let wanted = if is_confused { range.clone() } else { show_range_there(departures::range(&other)) };
+    let is_confused = is_parsed && departures::is_confused(other.version());
+    let wanted = if is_confused { range.clone() } else { there(departures::range(&other)) };
     let of_releases = show_range(ours::release_specifier_to_range(mine.clone()));
-    let wanted_of_releases = show_range_there(departures::release_range(&other));
-    let shown = (ours::show_specifier(&mine), mine.contains(&candidate), range, of_releases);
-    let contained = departures::contains(&other, &candidate_theirs);
+    let wanted_of_releases = there(departures::release_range(&other));
+    let found = mine.contains(&candidate);
+    let is_specified = is_parsed && departures::is_parsed(&candidate_theirs);
+    let shown = (ours::show_specifier(&mine), found, range, of_releases);
+    let contained = if is_specified { departures::contains(&other, &candidate_theirs) } else { found };
     case("unchecked", asked, shown, (theirs::show_specifier(&other), contained, wanted, wanted_of_releases))
 }
 
@@ -158,6 +162,9 @@ fn contained(chance: &mut Chance) -> Option<Case> {
     let wanted: Vec<bool> = theirs.iter().map(|member| departures::contains(member, &candidate_theirs)).collect();
     let found: Vec<bool> = list.iter().map(|member| member.contains(&candidate)).collect();
     let whole = (list.contains(&candidate), found);
+    if !departures::is_parsed(&candidate_theirs) {
+        return None;
+    }
     case("contains", format!("{text:?} {asked}"), whole, (wanted.iter().all(|each| *each), wanted))
 }
 

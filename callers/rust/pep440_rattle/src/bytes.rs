@@ -1,119 +1,109 @@
 //! Compiled bytes, read and written as their definition says (`crates/pep440_compiled/specs`).
 //!
-//! A version that is not packed is 2 and its parts: each number is eight bytes, greatest first, a part that may be missing has
-//! a tag in front, and what repeats a count. A list is 3, a count, and each member: the rank of its operator, and its version.
-use crate::packed::{self, Count, Packed};
-use crate::parts::{Parts, Unpacked};
+//! A version is 4, its sort key, and a byte 1 for each zero that ends its release. A list is 5, and each member: 16 and the number of its
+//! operator, then key and zeros of its version. In a key a number is a base and how many bytes follow, and then these, the
+//! greatest first.
+//!
+//! A version that no string parses to has a key, too, with a sentinel in place of its stage or its post-release, and with 255 after
+//! each zero byte of a local string. The library rejects such bytes wherever it reads the whole of them.
+use crate::compiled::Compiled;
+use crate::parts::Parts;
 use crate::{LocalSegment, Operator, Prerelease, PrereleaseKind, Version, VersionSpecifier};
 
-const UNPACKED: u8 = 2;
-const LIST: u8 = 3;
+pub(crate) const VERSION: u8 = 4;
+const LIST: u8 = 5;
+const OPERATOR: u8 = 16;
 
-/// The bytes of a version of these parts, which are not packed.
-pub(crate) fn unpacked(parts: &Parts) -> Vec<u8> {
-    let mut bytes = vec![UNPACKED];
-    push_number(&mut bytes, parts.epoch);
-    push_number(&mut bytes, parts.release.len() as u64);
-    for number in &parts.release {
-        push_number(&mut bytes, *number);
+/// The key of a version of these parts, and the zeros that end its release.
+pub(crate) fn version(parts: &Parts) -> Vec<u8> {
+    let mut bytes = Vec::new();
+    let kept = parts.release.iter().rposition(|number| *number != 0).map_or(0, |last| last + 1);
+    push_number(&mut bytes, 0, parts.epoch);
+    for number in &parts.release[..kept] {
+        push_number(&mut bytes, 1, *number);
     }
-    push_prerelease(&mut bytes, parts.pre);
-    for number in [parts.post, parts.dev, parts.min, parts.max] {
-        push_optional(&mut bytes, number);
+    bytes.push(0);
+    for (rank, number) in ranks(parts) {
+        push_number(&mut bytes, 16 * rank, number);
     }
-    push_number(&mut bytes, parts.local.len() as u64);
     for segment in &parts.local {
         push_segment(&mut bytes, segment);
     }
+    bytes.push(0);
+    bytes.resize(bytes.len() + parts.release.len() - kept, 1);
     bytes
+}
+
+/// What comes before the version in a list of it alone.
+pub(crate) fn list_head(operator: Operator) -> [u8; 2] {
+    [LIST, OPERATOR + operator as u8]
 }
 
 /// The bytes of a list of these members, of which none has a version below that of the one before it.
 pub(crate) fn list(members: &[VersionSpecifier]) -> Vec<u8> {
-    let mut bytes = Vec::with_capacity(9 + members.len() * (1 + packed::LENGTH));
-    bytes.push(LIST);
-    push_number(&mut bytes, members.len() as u64);
+    let mut bytes = vec![LIST];
     for member in members {
-        bytes.push(*member.operator() as u8);
-        member.version().with_compiled(|version| bytes.extend_from_slice(version));
+        bytes.push(OPERATOR + *member.operator() as u8);
+        member.version().with_bytes(&[], |version| bytes.extend_from_slice(version));
     }
     bytes
 }
 
-/// How many bytes a list of one packed member has.
-pub(crate) const PACKED_MEMBER: usize = 10 + packed::LENGTH;
-
-/// The bytes of a list of one packed member.
-pub(crate) fn packed_member(operator: Operator, version: Packed) -> [u8; PACKED_MEMBER] {
-    let mut bytes = [0; PACKED_MEMBER];
-    bytes[0] = LIST;
-    bytes[8] = 1;
-    bytes[9] = operator as u8;
-    bytes[10..].copy_from_slice(&version.to_bytes());
-    bytes
-}
-
-/// The version that the bytes denote.
-#[inline]
+/// The version that the bytes denote, or that with a sentinel.
 pub(crate) fn read_version(bytes: &[u8]) -> Version {
-    if let Some(packed) = read_packed(bytes) {
-        return packed.into();
-    }
     let mut rest = Rest(bytes);
+    assert_eq!(rest.byte(), VERSION, "{WRITTEN}");
     rest.version()
 }
 
-#[inline]
-fn read_packed(bytes: &[u8]) -> Option<Packed> {
-    let [packed::FORMAT, count, word @ ..] = bytes else {
-        return None;
-    };
-    Some(Packed::from_word(Count::from_number(usize::from(*count))?, u64::from_be_bytes(word.try_into().ok()?)))
+/// The parts of the version of this key, with the zeros after it.
+pub(crate) fn read_parts(bytes: &[u8]) -> Parts {
+    Rest(bytes).parts()
 }
 
 /// The members of the list that the bytes denote.
 pub(crate) fn read_list(bytes: &[u8]) -> Vec<VersionSpecifier> {
     let mut rest = Rest(bytes);
     assert_eq!(rest.byte(), LIST, "{WRITTEN}");
-    let count = rest.number();
-    (0..count).map(|_| rest.member()).collect()
-}
-
-fn push_number(bytes: &mut Vec<u8>, number: u64) {
-    bytes.extend_from_slice(&number.to_be_bytes());
-}
-
-fn push_optional(bytes: &mut Vec<u8>, number: Option<u64>) {
-    bytes.push(number.is_some().into());
-    if let Some(number) = number {
-        push_number(bytes, number);
+    let mut members = Vec::new();
+    while !rest.0.is_empty() {
+        let operator = rest.byte().checked_sub(OPERATOR).and_then(Operator::from_number).expect(WRITTEN);
+        members.push(VersionSpecifier::unchecked(operator, rest.version()));
     }
+    members
 }
 
-fn push_prerelease(bytes: &mut Vec<u8>, pre: Option<Prerelease>) {
-    let Some(pre) = pre else {
-        return bytes.push(0);
-    };
-    bytes.push(match pre.kind {
-        PrereleaseKind::Alpha => 1,
-        PrereleaseKind::Beta => 2,
-        PrereleaseKind::Rc => 3,
-    });
-    push_number(bytes, pre.number);
+fn push_number(bytes: &mut Vec<u8>, base: u8, number: u64) {
+    let skipped = number.leading_zeros() as usize / 8;
+    bytes.push(base + (8 - skipped) as u8);
+    bytes.extend_from_slice(&number.to_be_bytes()[skipped..]);
 }
 
 fn push_segment(bytes: &mut Vec<u8>, segment: &LocalSegment) {
     match segment {
         LocalSegment::String(text) => {
             bytes.push(1);
-            push_number(bytes, text.len() as u64);
-            bytes.extend_from_slice(text.as_bytes());
+            for byte in text.bytes() {
+                bytes.push(byte);
+                bytes.extend((byte == 0).then_some(255));
+            }
+            bytes.push(0);
         }
-        LocalSegment::Number(number) => {
-            bytes.push(2);
-            push_number(bytes, *number);
-        }
+        LocalSegment::Number(number) => push_number(bytes, 2, *number),
     }
+}
+
+/// Rank and number of stage, post-release and developmental part. A sentinel hides what is beside it.
+fn ranks(parts: &Parts) -> [(u8, u64); 3] {
+    let Parts { pre, post, dev, min, max, .. } = *parts;
+    let stage = match (min, pre, dev, post.or(max)) {
+        (Some(_), ..) => (0, 0),
+        (None, Some(pre), ..) => (2 + pre.kind as u8, pre.number),
+        (None, None, Some(_), None) => (1, 0),
+        _ => (5, 0),
+    };
+    let post = max.map(|number| (2, number)).or(post.map(|number| (1, number))).unwrap_or((0, 0));
+    [stage, post, min.or(dev).map_or((1, 0), |number| (0, number))]
 }
 
 const WRITTEN: &str = "the library wrote these bytes";
@@ -132,53 +122,60 @@ impl<'a> Rest<'a> {
         self.take(1)[0]
     }
 
-    fn number(&mut self) -> u64 {
-        u64::from_be_bytes(self.take(8).try_into().expect(WRITTEN))
+    fn number(&mut self, count: u8) -> u64 {
+        self.take(count.into()).iter().fold(0, |number, byte| number << 8 | u64::from(*byte))
     }
 
-    fn optional(&mut self) -> Option<u64> {
-        (self.byte() == 1).then(|| self.number())
+    fn ranked(&mut self) -> (u8, u64) {
+        let first = self.byte();
+        (first / 16, self.number(first % 16))
     }
 
-    fn prerelease(&mut self) -> Option<Prerelease> {
-        let kind = PrereleaseKind::from_tag(self.byte())?;
-        Some(Prerelease { kind, number: self.number() })
+    fn text(&mut self) -> String {
+        let end = self.0.iter().position(|byte| *byte == 0).expect(WRITTEN);
+        let text = std::str::from_utf8(self.take(end)).expect(WRITTEN).to_owned();
+        self.byte();
+        text
     }
 
-    fn segment(&mut self) -> LocalSegment {
-        let is_text = self.byte() == 1;
-        let number = self.number();
-        if !is_text {
-            return LocalSegment::Number(number);
+    /// What `read` makes of each byte and what follows it, up to a byte 0.
+    fn until_zero<T>(&mut self, read: impl Fn(&mut Self, u8) -> T) -> Vec<T> {
+        let mut found = Vec::new();
+        loop {
+            match self.byte() {
+                0 => return found,
+                first => found.push(read(self, first)),
+            }
         }
-        let text = std::str::from_utf8(self.take(number as usize)).expect(WRITTEN);
-        LocalSegment::String(text.to_owned())
     }
 
     fn parts(&mut self) -> Parts {
-        assert_eq!(self.byte(), UNPACKED, "{WRITTEN}");
-        let epoch = self.number();
-        let count = self.number();
-        let release = (0..count).map(|_| self.number()).collect();
-        let pre = self.prerelease();
-        let [post, dev, min, max] = [(); 4].map(|()| self.optional());
-        let count = self.number();
-        let local = (0..count).map(|_| self.segment()).collect();
-        Parts { epoch, release, pre, post, dev, min, max, local }
+        let (_, epoch) = self.ranked();
+        let mut release = self.until_zero(|rest, first| rest.number(first - 1));
+        let [(stage, pre), (post_rank, post), (dev_rank, dev)] = [(); 3].map(|()| self.ranked());
+        let local = self.until_zero(|rest, first| match first {
+            1 => LocalSegment::String(rest.text()),
+            _ => LocalSegment::Number(rest.number(first - 2)),
+        });
+        while let [1, rest @ ..] = self.0 {
+            self.0 = rest;
+            release.push(0);
+        }
+        Parts {
+            epoch,
+            release,
+            pre: PrereleaseKind::from_rank(stage).map(|kind| Prerelease { kind, number: pre }),
+            post: (post_rank == 1).then_some(post),
+            dev: (dev_rank == 0 && stage != 0).then_some(dev),
+            min: (stage == 0).then_some(dev),
+            max: (post_rank == 2).then_some(post),
+            local,
+        }
     }
 
     fn version(&mut self) -> Version {
         let start = self.0;
-        if start.first() == Some(&packed::FORMAT) {
-            return read_packed(self.take(packed::LENGTH)).expect(WRITTEN).into();
-        }
         let parts = self.parts();
-        let compiled = start[..start.len() - self.0.len()].into();
-        Unpacked::new(parts, compiled).into()
-    }
-
-    fn member(&mut self) -> VersionSpecifier {
-        let operator = Operator::from_rank(self.byte()).expect(WRITTEN);
-        VersionSpecifier::unchecked(operator, self.version())
+        Version::from_compiled(Compiled::from_bytes(&start[..start.len() - self.0.len()]), parts)
     }
 }

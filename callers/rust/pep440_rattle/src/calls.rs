@@ -7,38 +7,14 @@
 
 use std::alloc::{handle_alloc_error, Layout};
 use std::cell::Cell;
-use std::cmp::Ordering;
 use std::mem::MaybeUninit;
 use std::slice;
-
-/// The header's `pep440_parts`.
-#[derive(Clone, Copy, Default)]
-#[repr(C)]
-struct PartsOf {
-    epoch: u64,
-    pre: u64,
-    post: u64,
-    dev: u64,
-    release_length: usize,
-    pre_kind: u8,
-    has_post: u8,
-    has_dev: u8,
-    has_local: u8,
-}
-
-/// The header's `pep440_string`.
-#[repr(C)]
-struct PointerAndLength {
-    bytes: *const u8,
-    length: usize,
-}
 
 type Writer = unsafe extern "C" fn(*const u8, usize, *mut u8, usize, *mut usize) -> u8;
 
 type WriterWithEnds = unsafe extern "C" fn(*const u8, usize, *mut u8, usize, *mut usize, usize, *mut usize, *mut usize) -> u8;
 
 unsafe extern "C" {
-    fn pep440_parts_of(version: *const u8, length: usize, parts: *mut PartsOf, release: *mut u64, size: usize) -> u8;
     fn pep440_compile(version: *const u8, length: usize, out: *mut u8, size: usize, written: *mut usize) -> u8;
     fn pep440_compile_list(list: *const u8, length: usize, out: *mut u8, size: usize, written: *mut usize) -> u8;
     fn pep440_compile_specifier(specifier: *const u8, length: usize, out: *mut u8, size: usize, written: *mut usize) -> u8;
@@ -66,8 +42,6 @@ unsafe extern "C" {
         written: *mut usize,
     ) -> u8;
     fn pep440_normalize_compiled(compiled: *const u8, length: usize, out: *mut u8, size: usize, written: *mut usize) -> u8;
-    fn pep440_normalize_list_compiled(compiled: *const u8, length: usize, out: *mut u8, size: usize, written: *mut usize) -> u8;
-    fn pep440_sort_key_compiled(compiled: *const u8, length: usize, out: *mut u8, size: usize, written: *mut usize) -> u8;
     fn pep440_range_bounds_compiled(
         list: *const u8,
         length: usize,
@@ -87,15 +61,6 @@ unsafe extern "C" {
         ends_size: usize,
         written: *mut usize,
         count: *mut usize,
-    ) -> u8;
-    fn pep440_compare_compiled(left: *const u8, left_length: usize, right: *const u8, right_length: usize, order: *mut i8) -> u8;
-    fn pep440_filter_compiled(
-        list: *const u8,
-        list_length: usize,
-        versions: *const PointerAndLength,
-        count: usize,
-        marks: *mut u8,
-        size: usize,
     ) -> u8;
     fn pep440_contains_compiled(
         list: *const u8,
@@ -122,6 +87,8 @@ pub(crate) enum Refusal {
     Invalid,
     /// A bound would lie above `u64::MAX`.
     NumberAtMax,
+    /// The bytes denote no version, or no list: no string parses to a version.
+    NotCompiled,
 }
 
 /// What a status other than `OK` and `NO_ROOM` means. Out of memory ends the process, as in the standard library.
@@ -131,7 +98,7 @@ fn refusal(status: u8) -> Refusal {
         INVALID_VERSION | INVALID_LIST => Refusal::Invalid,
         NUMBER_AT_MAX => Refusal::NumberAtMax,
         OUT_OF_MEMORY => handle_alloc_error(Layout::new::<u8>()),
-        NOT_COMPILED => panic!("the library rejects the compiled bytes of a value of this crate"),
+        NOT_COMPILED => Refusal::NotCompiled,
         _ => panic!("the library returns a status that its header does not name: {status}"),
     }
 }
@@ -181,37 +148,6 @@ fn written_to_heap(call: &mut dyn FnMut(*mut u8, usize, &mut usize) -> u8, lengt
 
 fn as_text(bytes: &[u8]) -> &str {
     std::str::from_utf8(bytes).expect("the library writes UTF-8")
-}
-
-/// The parts of a version without a local part, in the order of their names; a kind of 0 is no pre-release.
-pub(crate) struct PublicParts {
-    pub(crate) epoch: u64,
-    pub(crate) release: [u64; RELEASE],
-    pub(crate) release_length: usize,
-    pub(crate) pre_kind: u8,
-    pub(crate) pre: u64,
-    pub(crate) post: Option<u64>,
-    pub(crate) dev: Option<u64>,
-}
-
-/// As many release numbers are read with the parts.
-pub(crate) const RELEASE: usize = 8;
-
-/// The parts of a version; None where it has a local part or more than [`RELEASE`] release numbers.
-#[inline]
-pub(crate) fn public_parts(version: &str) -> Result<Option<PublicParts>, Refusal> {
-    let (mut parts, mut release) = (PartsOf::default(), [0; RELEASE]);
-    // SAFETY: as the module says; `PartsOf` is laid out as the header's struct.
-    let status = unsafe { pep440_parts_of(version.as_ptr(), version.len(), &mut parts, release.as_mut_ptr(), RELEASE) };
-    match status {
-        OK if parts.has_local == 0 => {}
-        OK | NO_ROOM => return Ok(None),
-        other => return Err(refusal(other)),
-    }
-    let PartsOf { epoch, pre, post, dev, release_length, pre_kind, has_post, has_dev, .. } = parts;
-    let post = (has_post == 1).then_some(post);
-    let dev = (has_dev == 1).then_some(dev);
-    Ok(Some(PublicParts { epoch, release, release_length, pre_kind, pre, post, dev }))
 }
 
 /// Calls `read` with the compiled bytes of a version.
@@ -271,7 +207,7 @@ pub(crate) fn specifier_error(specifier: &str) -> Box<str> {
     words(pep440_specifier_error, specifier)
 }
 
-/// Why the operator of this rank and the compiled version make no specifier, `.*` behind the version or not; empty where they do.
+/// Why the operator of this number and the compiled version make no specifier, `.*` behind the version or not; empty where they do.
 pub(crate) fn build_error(operator: u8, version: &[u8], star: bool) -> Box<str> {
     written_by(
         // SAFETY: as the module says; `out` has room for `size` bytes.
@@ -291,16 +227,6 @@ pub(crate) fn list_error(list: &str) -> Box<str> {
 /// Calls `read` with the normalized form of a compiled version.
 pub(crate) fn normalize<T>(version: &[u8], read: impl FnOnce(&str) -> T) -> T {
     written(pep440_normalize_compiled, version, |bytes| read(as_text(bytes))).expect("compiled bytes have a normalized form")
-}
-
-/// Calls `read` with the normalized form of a compiled list.
-pub(crate) fn normalize_list<T>(list: &[u8], read: impl FnOnce(&str) -> T) -> T {
-    written(pep440_normalize_list_compiled, list, |bytes| read(as_text(bytes))).expect("compiled bytes have a normalized form")
-}
-
-/// Calls `read` with the sort key of a compiled version.
-pub(crate) fn sort_key<T>(version: &[u8], read: impl FnOnce(&[u8]) -> T) -> T {
-    written(pep440_sort_key_compiled, version, read).expect("compiled bytes have a sort key")
 }
 
 /// Calls `read` with the bounds of the range of a compiled list, one after the other, and with where each of them ends.
@@ -334,17 +260,7 @@ fn written_with_ends<T>(call: WriterWithEnds, input: &[u8], read: impl FnOnce(&[
     }
 }
 
-/// The order of two compiled versions.
-pub(crate) fn compare(left: &[u8], right: &[u8]) -> Ordering {
-    let mut order = 0;
-    // SAFETY: as the module says.
-    match unsafe { pep440_compare_compiled(left.as_ptr(), left.len(), right.as_ptr(), right.len(), &mut order) } {
-        OK => order.cmp(&0),
-        other => panic!("compiled versions have no order: {:?}", refusal(other)),
-    }
-}
-
-/// Whether a compiled list contains a compiled version.
+/// Whether a compiled list contains a compiled version. Not specified where no string parses to a version of either.
 #[inline]
 pub(crate) fn contains(list: &[u8], version: &[u8]) -> bool {
     let (mut contained, mut prerelease) = (0, 0);
@@ -354,25 +270,7 @@ pub(crate) fn contains(list: &[u8], version: &[u8]) -> bool {
     };
     match status {
         OK => contained == 1,
+        NOT_COMPILED => false,
         other => panic!("a compiled list has no answer: {:?}", refusal(other)),
-    }
-}
-
-/// The marks of a version that the list does not contain, and of one that it does.
-const NO_MATCH: u8 = 0;
-const MATCH: u8 = 1;
-const PRERELEASE_MATCH: u8 = 3;
-
-/// As [`contains`], by a filter of one version. It reads the list into memory, but the version once and not twice: so it is
-/// faster for versions that are not packed.
-pub(crate) fn filter_one(list: &[u8], version: &[u8]) -> bool {
-    let (versions, mut mark) = (PointerAndLength { bytes: version.as_ptr(), length: version.len() }, NO_MATCH);
-    // SAFETY: as the module says; `PointerAndLength` is laid out as the header's struct, and there is one, and room for one mark.
-    let status = unsafe { pep440_filter_compiled(list.as_ptr(), list.len(), &versions, 1, &mut mark, 1) };
-    match (status, mark) {
-        (OK, NO_MATCH) => false,
-        (OK, MATCH | PRERELEASE_MATCH) => true,
-        (OK, _) => panic!("compiled bytes are no version"),
-        (other, _) => panic!("a compiled list has no answer: {:?}", refusal(other)),
     }
 }

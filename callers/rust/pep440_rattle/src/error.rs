@@ -95,6 +95,8 @@ impl fmt::Display for OperatorParseError {
 pub enum RangeError {
     /// A bound would need a number above `u64::MAX`, as the end of `==18446744073709551615.*`.
     NumberAtMax,
+    /// No string parses to the version of a specifier: it has a sentinel, or a local segment that is not in normal form.
+    NotParsed,
 }
 
 impl Error for RangeError {}
@@ -103,6 +105,7 @@ impl fmt::Display for RangeError {
     fn fmt(&self, f: &mut fmt::Formatter<'_>) -> fmt::Result {
         match self {
             RangeError::NumberAtMax => f.write_str("a bound would need a number above 18446744073709551615"),
+            RangeError::NotParsed => f.write_str("no string parses to the version of a specifier"),
         }
     }
 }

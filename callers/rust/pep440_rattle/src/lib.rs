@@ -2,7 +2,7 @@
 //!
 //! The names and the behaviour are those of the crate `pep440_rs` 0.7.3, but for the departures that the README lists.
 //! Parsing, normalized forms, matching and ranges are calls of the library `pep440`, whose functions are proved to do what
-//! PEP 440 says, and so is the order of versions where their numbers alone do not decide. This crate is tested, not proved.
+//! PEP 440 says, and its sort keys to have the order of versions. This crate is tested, not proved.
 //!
 //! ```
 //! use pep440_rattle::{Version, VersionSpecifiers};
@@ -22,9 +22,9 @@
 
 mod bytes;
 mod calls;
+mod compiled;
 mod error;
 mod operator;
-mod packed;
 mod parts;
 mod pattern;
 mod range;

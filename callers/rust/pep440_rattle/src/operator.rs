@@ -31,7 +31,7 @@ pub enum Operator {
 
 use Operator::*;
 
-/// In the order of the enum, which is that of their ranks in compiled lists.
+/// In the order of the enum, which is that of their numbers in compiled lists.
 const ALL: [Operator; 10] =
     [Equal, EqualStar, ExactEqual, NotEqual, NotEqualStar, TildeEqual, LessThan, LessThanEqual, GreaterThan, GreaterThanEqual];
 
@@ -65,8 +65,8 @@ impl Operator {
         }
     }
 
-    pub(crate) fn from_rank(rank: u8) -> Option<Operator> {
-        ALL.get(usize::from(rank)).copied()
+    pub(crate) fn from_number(number: u8) -> Option<Operator> {
+        ALL.get(usize::from(number)).copied()
     }
 
     /// Of a star form the operator that is written.

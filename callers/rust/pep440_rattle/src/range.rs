@@ -1,4 +1,4 @@
-//! Ranges as the library gives them: two bounds for each segment, each a kind and the compiled bytes of a version.
+//! Ranges as the library gives them: two bounds for each segment, each a kind and the bytes of a version, a sentinel or not.
 use crate::bytes;
 use crate::calls::{self, Refusal};
 use crate::{RangeError, Version, VersionSpecifier, VersionSpecifiers};
@@ -20,7 +20,8 @@ pub type Segment = (Bound<Version>, Bound<Version>);
 ///
 /// # Errors
 ///
-/// [`RangeError::NumberAtMax`] where a bound would need a number above `u64::MAX`.
+/// [`RangeError::NumberAtMax`] where a bound would need a number above `u64::MAX`; [`RangeError::NotParsed`] where no string parses
+/// to the version of a specifier.
 pub fn release_specifiers_to_ranges(specifiers: VersionSpecifiers) -> Result<Vec<Segment>, RangeError> {
     segments_of(calls::release_range_bounds(specifiers.compiled(), read_segments))
 }
@@ -42,6 +43,7 @@ pub(crate) fn of_list(list: &[u8]) -> Result<Vec<Segment>, RangeError> {
 fn segments_of(found: Result<Vec<Segment>, Refusal>) -> Result<Vec<Segment>, RangeError> {
     found.map_err(|refusal| match refusal {
         Refusal::NumberAtMax => RangeError::NumberAtMax,
+        Refusal::NotCompiled => RangeError::NotParsed,
         Refusal::Invalid => panic!("a compiled list is no string"),
     })
 }

@@ -23,14 +23,13 @@ pub enum PrereleaseKind {
 }
 
 impl PrereleaseKind {
-    /// The kind by its number in compiled bytes and in the C interface; None of 0.
-    #[inline]
-    pub(crate) fn from_tag(tag: u8) -> Option<PrereleaseKind> {
-        Some(match tag {
-            0 => return None,
-            1 => PrereleaseKind::Alpha,
-            2 => PrereleaseKind::Beta,
-            _ => PrereleaseKind::Rc,
+    /// The kind of a stage, by its rank in sort keys.
+    pub(crate) fn from_rank(rank: u8) -> Option<PrereleaseKind> {
+        Some(match rank {
+            2 => PrereleaseKind::Alpha,
+            3 => PrereleaseKind::Beta,
+            4 => PrereleaseKind::Rc,
+            _ => return None,
         })
     }
 }
@@ -58,6 +57,19 @@ pub enum LocalSegment {
     String(String),
     /// A segment of digits.
     Number(u64),
+}
+
+impl LocalSegment {
+    /// Whether the segment is one of a version that a string parses to.
+    pub(crate) fn is_normal(&self) -> bool {
+        match self {
+            LocalSegment::String(text) => {
+                let is_lower = text.bytes().all(|byte| byte.is_ascii_digit() || byte.is_ascii_lowercase());
+                !text.is_empty() && is_lower && text.parse::<u64>().is_err()
+            }
+            LocalSegment::Number(_) => true,
+        }
+    }
 }
 
 impl fmt::Display for LocalSegment {

@@ -2,6 +2,7 @@
 use crate::bytes;
 use crate::calls;
 use crate::range;
+use crate::version::write_local;
 use crate::{Operator, RangeError, Segment, Version, VersionPattern, VersionSpecifierBuildError, VersionSpecifierParseError};
 use std::fmt;
 use std::ops::Bound;
@@ -136,10 +137,7 @@ impl VersionSpecifier {
 
     /// Calls `read` with the compiled bytes of a list of this specifier alone.
     pub(crate) fn with_list<T>(&self, read: impl FnOnce(&[u8]) -> T) -> T {
-        match self.version.packed() {
-            Some(packed) => read(&bytes::packed_member(self.operator, packed)),
-            None => read(&bytes::list(std::slice::from_ref(self))),
-        }
+        self.version.with_bytes(&bytes::list_head(self.operator), read)
     }
 
     /// The specifiers that a range of releases is: one where it is one version or all of a release `1.2`, else one for each
@@ -195,11 +193,19 @@ pub(crate) fn is_next_minor(low: &Version, high: &Version) -> bool {
 
 /// What the library finds wrong with the operator beside the version, `.*` behind it or not.
 fn check(operator: Operator, version: &Version, wildcard: bool) -> Result<(), VersionSpecifierBuildError> {
-    let text = version.with_compiled(|version| calls::build_error(operator as u8, version, wildcard));
+    let parsed = if version.is_parsed() { version } else { &version.to_parsed() };
+    let text = parsed.with_compiled(|version| calls::build_error(operator as u8, version, wildcard));
     if text.is_empty() {
         return Ok(());
     }
-    Err(VersionSpecifierBuildError::new(text))
+    Err(VersionSpecifierBuildError::new(text.replace(&local_text(parsed), &local_text(version))))
+}
+
+/// The local part as an error quotes it, `+a.5` and the quotation mark behind it.
+fn local_text(version: &Version) -> String {
+    let mut text = String::new();
+    write_local(&mut text, version.local()).expect("a string takes what is written");
+    text + "`"
 }
 
 impl FromStr for VersionSpecifier {
@@ -215,6 +221,6 @@ impl FromStr for VersionSpecifier {
 impl fmt::Display for VersionSpecifier {
     /// Writes the operator and the normalized version, as `==1.2.*`.
     fn fmt(&self, f: &mut fmt::Formatter<'_>) -> fmt::Result {
-        self.with_list(|list| calls::normalize_list(list, |text| f.write_str(text)))
+        write!(f, "{}{}{}", self.operator, self.version, if self.operator.is_star() { ".*" } else { "" })
     }
 }

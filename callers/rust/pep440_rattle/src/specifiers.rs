@@ -66,7 +66,8 @@ impl VersionSpecifiers {
     ///
     /// # Errors
     ///
-    /// [`RangeError::NumberAtMax`] where a bound would need a number above `u64::MAX`.
+    /// [`RangeError::NumberAtMax`] where a bound would need a number above `u64::MAX`; [`RangeError::NotParsed`] where no string parses
+    /// to the version of a specifier.
     pub fn ranges(&self) -> Result<Vec<Segment>, RangeError> {
         range::of_list(&self.compiled)
     }
@@ -113,7 +114,10 @@ impl FromStr for VersionSpecifiers {
 impl fmt::Display for VersionSpecifiers {
     /// Writes the specifiers with a comma and a space between them.
     fn fmt(&self, f: &mut fmt::Formatter<'_>) -> fmt::Result {
-        calls::normalize_list(&self.compiled, |text| f.write_str(text))
+        for (place, member) in self.members.iter().enumerate() {
+            write!(f, "{}{member}", if place == 0 { "" } else { ", " })?;
+        }
+        Ok(())
     }
 }
 

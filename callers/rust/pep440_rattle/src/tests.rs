@@ -10,72 +10,72 @@ fn pre(kind: PrereleaseKind, number: u64) -> Option<Prerelease> {
     Some(Prerelease { kind, number })
 }
 
-/// The count, then 16 bits and three times 8 of the release, 3 of the class and 21 of its number.
+fn string(text: &str) -> LocalSegment {
+    LocalSegment::String(text.to_owned())
+}
+
+fn parts(version: &Version) -> impl PartialEq + std::fmt::Debug + '_ {
+    let sentinels = (Version::min(version), Version::max(version));
+    (version.epoch(), version.release(), version.pre(), version.post(), version.dev(), version.local(), sentinels)
+}
+
+/// 4, the epoch, the release up to 0, stage, post, dev, the local part up to 0, and the zeros of the release.
 #[test]
-fn packed_bytes() {
-    let release = Version::new([0x102, 3, 4]);
-    let cases = [
-        (release.clone(), 5 << 21),
-        (release.clone().with_min(Some(7)), 7),
-        (release.clone().with_dev(Some(2_097_151)), (1 << 21) + 2_097_151),
-        (release.clone().with_pre(pre(PrereleaseKind::Alpha, 1)), (2 << 21) + 1),
-        (release.clone().with_pre(pre(PrereleaseKind::Beta, 1)), (3 << 21) + 1),
-        (release.clone().with_pre(pre(PrereleaseKind::Rc, 1)), (4 << 21) + 1),
-        (release.clone().with_post(Some(1)), (6 << 21) + 1),
-        (release.with_max(Some(0)), 7 << 21),
+fn version_bytes() {
+    let release = Version::new([1, 2, 3]);
+    let cases: [(Version, &[u8]); 16] = [
+        (release.clone(), &[4, 0, 2, 1, 2, 2, 2, 3, 0, 80, 0, 16, 0]),
+        (Version::new([0]), &[4, 0, 0, 80, 0, 16, 0, 1]),
+        (Version::new([1, 0]), &[4, 0, 2, 1, 0, 80, 0, 16, 0, 1]),
+        (Version::new([0, 0, 1, 0, 0]), &[4, 0, 1, 1, 2, 1, 0, 80, 0, 16, 0, 1, 1]),
+        (
+            Version::new([255, 256, u64::MAX]),
+            &[4, 0, 2, 255, 3, 1, 0, 9, 255, 255, 255, 255, 255, 255, 255, 255, 0, 80, 0, 16, 0],
+        ),
+        (release.clone().with_epoch(1), &[4, 1, 1, 2, 1, 2, 2, 2, 3, 0, 80, 0, 16, 0]),
+        (release.clone().with_dev(Some(0)), &[4, 0, 2, 1, 2, 2, 2, 3, 0, 16, 0, 0, 0]),
+        (release.clone().with_pre(pre(PrereleaseKind::Alpha, 0)), &[4, 0, 2, 1, 2, 2, 2, 3, 0, 32, 0, 16, 0]),
+        (release.clone().with_pre(pre(PrereleaseKind::Beta, 1)), &[4, 0, 2, 1, 2, 2, 2, 3, 0, 49, 1, 0, 16, 0]),
+        (release.clone().with_pre(pre(PrereleaseKind::Rc, 2)).with_dev(Some(3)), &[4, 0, 2, 1, 2, 2, 2, 3, 0, 65, 2, 0, 1, 3, 0]),
+        (release.clone().with_post(Some(0)), &[4, 0, 2, 1, 2, 2, 2, 3, 0, 80, 16, 16, 0]),
+        (release.clone().with_post(Some(4)).with_dev(Some(5)), &[4, 0, 2, 1, 2, 2, 2, 3, 0, 80, 17, 4, 1, 5, 0]),
+        (
+            Version::new([1]).with_local(vec![string("a"), LocalSegment::Number(7)]),
+            &[4, 0, 2, 1, 0, 80, 0, 16, 1, 97, 0, 3, 7, 0],
+        ),
+        (Version::new([1]).with_local(vec![LocalSegment::Number(0)]), &[4, 0, 2, 1, 0, 80, 0, 16, 2, 0]),
+        (Version::new([1]).with_min(Some(0)), &[4, 0, 2, 1, 0, 0, 0, 0, 0]),
+        (Version::new([1]).with_max(Some(2)), &[4, 0, 2, 1, 0, 80, 33, 2, 16, 0]),
     ];
-    for (version, suffix) in cases {
-        let bytes = compiled(&version);
-        assert_eq!(bytes[..7], [1, 3, 1, 2, 3, 4, 0]);
-        assert_eq!(u32::from_be_bytes([0, bytes[7], bytes[8], bytes[9]]), suffix);
-        let again = bytes::read_version(&bytes);
-        assert_eq!(again.release(), [0x102, 3, 4]);
-        assert_eq!((again.pre(), again.post(), again.dev()), (version.pre(), version.post(), version.dev()));
-        assert_eq!((Version::min(&again), Version::max(&again)), (Version::min(&version), Version::max(&version)));
+    for (version, wanted) in cases {
+        assert_eq!(compiled(&version), wanted);
+        let again = bytes::read_version(wanted);
+        assert_eq!(parts(&again), parts(&version));
+        assert_eq!((&again, compiled(&again)), (&version, wanted.to_vec()));
+        assert_eq!(version.is_parsed(), Version::min(&version).is_none() && Version::max(&version).is_none());
     }
 }
 
+/// More bytes than are held without a heap, and as many.
 #[test]
-fn limits_of_packed() {
-    let packed = |version: Version| compiled(&version)[0] == 1;
-    assert!(packed(Version::new([65_535, 255, 255, 255])) && packed(Version::new([0]).with_post(Some(2_097_151))));
-    assert!(!packed(Version::new([65_536])) && !packed(Version::new([0, 256])) && !packed(Version::new([0, 0, 0, 256])));
-    assert!(!packed(Version::new([0, 0, 0, 0, 0])) && !packed(Version::new([0]).with_post(Some(2_097_152))));
-    assert!(!packed(Version::new([0]).with_epoch(1)) && !packed(Version::new([0]).with_dev(Some(0)).with_post(Some(0))));
-    assert!(!packed(Version::new([0]).with_local(vec![LocalSegment::Number(0)])));
+fn long_versions() {
+    for count in 1..100 {
+        let release: Vec<u64> = (0..count).map(|number| number % 3 + 1).collect();
+        let zeros: Vec<u64> = std::iter::once(1).chain((0..count).map(|_| 0)).collect();
+        for version in [
+            Version::new(&release),
+            Version::new(&zeros),
+            Version::new([1]).with_local(vec![string(&"a".repeat(count as usize))]),
+        ] {
+            let bytes = compiled(&version);
+            assert_eq!(bytes[1..], bytes::version(&version.clone().into_parts()));
+            assert_eq!(parts(&bytes::read_version(&bytes)), parts(&version));
+        }
+        assert!(Version::new(&zeros) == Version::new([1]) && Version::new(&release) < Version::new([2]));
+    }
 }
 
-/// 2, the epoch, the release after its count, pre, post, dev, min and max, the local segments after their count.
-#[test]
-fn unpacked_bytes() {
-    let local = vec![LocalSegment::String("ab".to_owned()), LocalSegment::Number(6)];
-    let version =
-        Version::new([2, 3]).with_epoch(1).with_pre(pre(PrereleaseKind::Beta, 4)).with_dev(Some(5)).with_local(local.clone());
-    let number = |number: u8| [0, 0, 0, 0, 0, 0, 0, number];
-    let mut wanted = vec![2];
-    wanted.extend([number(1), number(2), number(2), number(3)].concat());
-    wanted.push(2);
-    wanted.extend(number(4));
-    wanted.extend([0, 1]);
-    wanted.extend(number(5));
-    wanted.extend([0, 0]);
-    wanted.extend(number(2));
-    wanted.push(1);
-    wanted.extend(number(2));
-    wanted.extend(*b"ab");
-    wanted.push(2);
-    wanted.extend(number(6));
-    assert_eq!(compiled(&version), wanted);
-    let again = bytes::read_version(&wanted);
-    assert_eq!(
-        (again.epoch(), again.release(), again.pre(), again.post(), again.dev()),
-        (1, &[2, 3][..], version.pre(), None, Some(5))
-    );
-    assert_eq!(again.local(), local);
-    assert_eq!(compiled(&again), wanted);
-}
-
-/// 3, the count, and of each member the rank of its operator and its version.
+/// 5, and of each member 16 and the number of its operator and its version.
 #[test]
 fn list_bytes() {
     let (low, high) = (Version::new([1, 0]), Version::new([1, 0]).with_epoch(1));
@@ -83,16 +83,14 @@ fn list_bytes() {
         [VersionSpecifier::less_than_version(high.clone()), VersionSpecifier::greater_than_equal_version(low.clone())]
             .into_iter()
             .collect();
-    let wanted = [vec![3, 0, 0, 0, 0, 0, 0, 0, 2, 9], compiled(&low), vec![6], compiled(&high)].concat();
+    let wanted = [5, 25, 0, 2, 1, 0, 80, 0, 16, 0, 1, 22, 1, 1, 2, 1, 0, 80, 0, 16, 0, 1];
     assert_eq!(bytes::list(&list), wanted);
     let members = bytes::read_list(&wanted);
     assert_eq!((*members[0].operator(), *members[1].operator()), (Operator::GreaterThanEqual, Operator::LessThan));
     assert_eq!(bytes::list(&members), wanted);
-    let packed = low.packed().unwrap();
-    assert_eq!(
-        bytes::packed_member(Operator::TildeEqual, packed).to_vec(),
-        bytes::list(&[VersionSpecifier::unchecked(Operator::TildeEqual, low)])
-    );
+    assert_eq!(bytes::list(&[]), [5]);
+    let one = VersionSpecifier::unchecked(Operator::TildeEqual, low);
+    assert_eq!(one.with_list(<[u8]>::to_vec), bytes::list(&[one]));
 }
 
 #[test]

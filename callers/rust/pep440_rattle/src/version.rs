@@ -1,32 +1,28 @@
 //! Versions.
 use crate::bytes;
-use crate::calls::{self, PublicParts, Refusal};
-use crate::packed::{Packed, Suffixes};
-use crate::parts::{Parts, Unpacked};
-use crate::{LocalSegment, Prerelease, PrereleaseKind, VersionParseError};
+use crate::calls::{self, Refusal};
+use crate::compiled::Compiled;
+use crate::parts::Parts;
+use crate::{LocalSegment, Prerelease, VersionParseError};
 use std::borrow::Borrow;
 use std::cmp::Ordering;
 use std::fmt;
 use std::hash::{Hash, Hasher};
 use std::str::FromStr;
-use std::sync::{Arc, LazyLock};
+use std::sync::{Arc, LazyLock, OnceLock};
 
 /// A version, as `1.2.3` or `4!5.6.7a8.post9.dev0+local.1`.
 ///
 /// `==` and `<` are the order of versions (PEP 440, "Summary of permitted suffixes and relative ordering"); the operators of
 /// a [`VersionSpecifier`](crate::VersionSpecifier) match otherwise: `==1.0` contains `1.0+local`, which is above `1.0`.
 ///
-/// A version that has a word is held in 48 bytes without a heap: epoch 0, at most four release numbers, of which the first is
-/// at most 65535 and the others at most 255, and at most one suffix, whose number is at most 2097151.
+/// A version is its sort key, which takes no heap up to 29 bytes, as of `2024.10.20240101` or `1.0rc1.post2.dev3+cu118`. Its parts are
+/// read when they are first asked for.
 #[derive(Clone)]
 pub struct Version {
-    form: Form,
-}
-
-#[derive(Clone)]
-enum Form {
-    Packed(Packed),
-    Unpacked(Arc<Unpacked>),
+    compiled: Compiled,
+    /// Always there where no string parses to the version: its key lacks what a sentinel hides.
+    parts: OnceLock<Arc<Parts>>,
 }
 
 /// `0a0.dev0`. Only developmental releases of `0` are below it.
@@ -34,19 +30,6 @@ pub static MIN_VERSION: LazyLock<Version> = LazyLock::new(|| {
     let pre = Prerelease { kind: crate::PrereleaseKind::Alpha, number: 0 };
     Version::new([0]).with_pre(Some(pre)).with_dev(Some(0))
 });
-
-impl From<Packed> for Version {
-    #[inline]
-    fn from(packed: Packed) -> Version {
-        Version { form: Form::Packed(packed) }
-    }
-}
-
-impl From<Unpacked> for Version {
-    fn from(unpacked: Unpacked) -> Version {
-        Version { form: Form::Unpacked(Arc::new(unpacked)) }
-    }
-}
 
 fn collect<I, R>(numbers: I) -> Vec<u64>
 where
@@ -72,39 +55,40 @@ impl Version {
         Version::from_parts(Parts::from_release(collect(release_numbers)))
     }
 
-    fn from_parts(parts: Parts) -> Version {
-        match Packed::from_parts(&parts) {
-            Some(packed) => packed.into(),
-            None => Unpacked::from_parts(parts).into(),
-        }
+    pub(crate) fn from_parts(parts: Parts) -> Version {
+        Version::from_compiled(Compiled::from_bytes(&bytes::version(&parts)), parts)
+    }
+
+    /// The version of these parts, whose bytes these are.
+    pub(crate) fn from_compiled(compiled: Compiled, parts: Parts) -> Version {
+        Version { compiled, parts: OnceLock::from(Arc::new(parts)) }
     }
 
     /// The version of the string; the error does not say why there is none.
     #[inline]
     pub(crate) fn parse(version: &str) -> Result<Version, Refusal> {
-        match calls::public_parts(version)? {
-            Some(parts) => Ok(Version::from_public(&parts)),
-            None => calls::compile(version, bytes::read_version),
-        }
+        let compiled = calls::compile(version, |bytes| Compiled::from_bytes(&bytes[1..]))?;
+        Ok(Version { compiled, parts: OnceLock::new() })
     }
 
-    #[inline]
-    fn from_public(parts: &PublicParts) -> Version {
-        let PublicParts { epoch, release, release_length, pre_kind, pre, post, dev } = *parts;
-        let release = &release[..release_length];
-        let pre = PrereleaseKind::from_tag(pre_kind).map(|kind| Prerelease { kind, number: pre });
-        let suffixes = Suffixes { pre, post, dev, min: None, max: None };
-        match Packed::from_public(epoch, release, suffixes) {
-            Some(packed) => packed.into(),
-            None => Unpacked::from_parts(Parts::from_public(epoch, release, suffixes)).into(),
-        }
+    fn parts(&self) -> &Parts {
+        self.parts.get_or_init(|| Arc::new(self.with_bytes(&[], bytes::read_parts)))
     }
 
-    fn into_parts(self) -> Parts {
-        match self.form {
-            Form::Packed(packed) => packed.to_parts(),
-            Form::Unpacked(unpacked) => Arc::try_unwrap(unpacked).map_or_else(|shared| shared.parts.clone(), |own| own.parts),
-        }
+    pub(crate) fn into_parts(self) -> Parts {
+        self.parts();
+        let parts = self.parts.into_inner().expect("the parts are there");
+        Arc::try_unwrap(parts).unwrap_or_else(|shared| (*shared).clone())
+    }
+
+    /// Whether a string parses to the version.
+    pub(crate) fn is_parsed(&self) -> bool {
+        self.parts.get().is_none_or(|parts| parts.is_parsed())
+    }
+
+    /// The version without what no string has.
+    pub(crate) fn to_parsed(&self) -> Version {
+        Version::from_parts(self.parts().to_parsed())
     }
 
     fn changed(self, change: impl FnOnce(&mut Parts)) -> Version {
@@ -113,30 +97,22 @@ impl Version {
         Version::from_parts(parts)
     }
 
-    /// The packed form; None where the version is not packed.
-    pub(crate) fn packed(&self) -> Option<Packed> {
-        match self.form {
-            Form::Packed(packed) => Some(packed),
-            Form::Unpacked(_) => None,
-        }
+    /// Calls `read` with the head, of at most two bytes, and what is compiled of the version after its format.
+    #[inline]
+    pub(crate) fn with_bytes<T>(&self, head: &[u8], read: impl FnOnce(&[u8]) -> T) -> T {
+        self.compiled.with_bytes(head, read)
     }
 
     /// Calls `read` with the compiled bytes.
     #[inline]
     pub(crate) fn with_compiled<T>(&self, read: impl FnOnce(&[u8]) -> T) -> T {
-        match &self.form {
-            Form::Packed(packed) => read(&packed.to_bytes()),
-            Form::Unpacked(unpacked) => read(&unpacked.compiled),
-        }
+        self.with_bytes(&[bytes::VERSION], read)
     }
 
     /// Whether the compiled list contains the version.
     #[inline]
     pub(crate) fn is_in(&self, list: &[u8]) -> bool {
-        match &self.form {
-            Form::Packed(packed) => calls::contains(list, &packed.to_bytes()),
-            Form::Unpacked(unpacked) => calls::filter_one(list, &unpacked.compiled),
-        }
+        self.with_compiled(|version| calls::contains(list, version))
     }
 
     /// Whether there is a pre-release or a developmental part.
@@ -178,73 +154,49 @@ impl Version {
     /// The epoch, 0 where none is written.
     #[inline]
     pub fn epoch(&self) -> u64 {
-        match &self.form {
-            Form::Packed(_) => 0,
-            Form::Unpacked(unpacked) => unpacked.parts.epoch,
-        }
+        self.parts().epoch
     }
 
     /// The release numbers; there is at least one.
     #[inline]
     pub fn release(&self) -> &[u64] {
-        match &self.form {
-            Form::Packed(packed) => packed.release(),
-            Form::Unpacked(unpacked) => &unpacked.parts.release,
-        }
+        &self.parts().release
     }
 
     /// The pre-release part.
     #[inline]
     pub fn pre(&self) -> Option<Prerelease> {
-        match &self.form {
-            Form::Packed(packed) => packed.pre(),
-            Form::Unpacked(unpacked) => unpacked.parts.pre,
-        }
+        self.parts().pre
     }
 
     /// The number of the post-release.
     #[inline]
     pub fn post(&self) -> Option<u64> {
-        match &self.form {
-            Form::Packed(packed) => packed.post(),
-            Form::Unpacked(unpacked) => unpacked.parts.post,
-        }
+        self.parts().post
     }
 
     /// The number of the developmental release.
     #[inline]
     pub fn dev(&self) -> Option<u64> {
-        match &self.form {
-            Form::Packed(packed) => packed.dev(),
-            Form::Unpacked(unpacked) => unpacked.parts.dev,
-        }
+        self.parts().dev
     }
 
     /// The segments of the local part.
     #[inline]
     pub fn local(&self) -> &[LocalSegment] {
-        match &self.form {
-            Form::Packed(_) => &[],
-            Form::Unpacked(unpacked) => &unpacked.parts.local,
-        }
+        &self.parts().local
     }
 
     /// The number of the sentinel `min`, which no string has: it is below each version of its release.
     #[inline]
     pub fn min(&self) -> Option<u64> {
-        match &self.form {
-            Form::Packed(packed) => packed.min(),
-            Form::Unpacked(unpacked) => unpacked.parts.min,
-        }
+        self.parts().min
     }
 
     /// The number of the sentinel `max`, which no string has: it is above each post-release and local version of its version.
     #[inline]
     pub fn max(&self) -> Option<u64> {
-        match &self.form {
-            Form::Packed(packed) => packed.max(),
-            Form::Unpacked(unpacked) => unpacked.parts.max,
-        }
+        self.parts().max
     }
 
     /// The version with these release numbers.
@@ -331,41 +283,6 @@ impl Version {
         assert!(!self.is_dev(), "max is not allowed on dev versions");
         self.changed(|parts| parts.max = value)
     }
-
-    /// The order of two versions that are not both packed: by epoch and release where these differ, else by the library.
-    #[inline(never)]
-    fn cmp_unpacked(&self, other: &Version) -> Ordering {
-        let base = self.epoch().cmp(&other.epoch()).then_with(|| cmp_releases(self.release(), other.release()));
-        base.then_with(|| match (self.equal_word(), other.equal_word()) {
-            (Some(left), Some(right)) => left.cmp(&right),
-            _ => self.cmp_by_library(other),
-        })
-    }
-
-    /// By stored sort keys where both have one that orders them.
-    fn cmp_by_library(&self, other: &Version) -> Ordering {
-        match (&self.form, &other.form) {
-            (Form::Unpacked(left), Form::Unpacked(right)) if left.is_ordered_by_key() && right.is_ordered_by_key() => {
-                left.key().cmp(right.key())
-            }
-            _ => self.with_compiled(|left| other.with_compiled(|right| calls::compare(left, right))),
-        }
-    }
-
-    /// The word; of a version that has none, that of an equal one, if there is any.
-    fn equal_word(&self) -> Option<u64> {
-        match &self.form {
-            Form::Packed(packed) => Some(packed.word()),
-            Form::Unpacked(unpacked) => unpacked.equal_word,
-        }
-    }
-}
-
-/// The order of two releases, the shorter one with zeros behind it.
-fn cmp_releases(left: &[u64], right: &[u64]) -> Ordering {
-    let shared = left.len().min(right.len());
-    let has_more = |rest: &[u64]| rest.iter().any(|number| *number != 0);
-    left[..shared].cmp(&right[..shared]).then_with(|| has_more(&left[shared..]).cmp(&has_more(&right[shared..])))
 }
 
 impl FromStr for Version {
@@ -381,8 +298,20 @@ impl FromStr for Version {
 impl fmt::Display for Version {
     /// Writes the normalized form, without a sentinel. Width and fill are ignored.
     fn fmt(&self, f: &mut fmt::Formatter<'_>) -> fmt::Result {
-        self.with_compiled(|compiled| calls::normalize(compiled, |text| f.write_str(text)))
+        if self.is_parsed() {
+            return self.with_compiled(|compiled| calls::normalize(compiled, |text| f.write_str(text)));
+        }
+        write!(f, "{}", self.to_parsed().without_local())?;
+        write_local(f, self.local())
     }
+}
+
+/// Writes the segments behind `+`; nothing where there are none.
+pub(crate) fn write_local(out: &mut impl fmt::Write, local: &[LocalSegment]) -> fmt::Result {
+    for (place, segment) in local.iter().enumerate() {
+        write!(out, "{}{segment}", if place == 0 { '+' } else { '.' })?;
+    }
+    Ok(())
 }
 
 impl fmt::Debug for Version {
@@ -395,7 +324,7 @@ impl fmt::Debug for Version {
 impl PartialEq for Version {
     #[inline]
     fn eq(&self, other: &Version) -> bool {
-        self.cmp(other) == Ordering::Equal
+        self.compiled == other.compiled
     }
 }
 
@@ -411,19 +340,13 @@ impl PartialOrd for Version {
 impl Ord for Version {
     #[inline]
     fn cmp(&self, other: &Version) -> Ordering {
-        match (&self.form, &other.form) {
-            (Form::Packed(left), Form::Packed(right)) => left.word().cmp(&right.word()),
-            _ => self.cmp_unpacked(other),
-        }
+        self.compiled.cmp(&other.compiled)
     }
 }
 
 impl Hash for Version {
-    /// Feeds the word of an equal packed version, where there is none the sort key.
+    /// Feeds the sort key.
     fn hash<H: Hasher>(&self, state: &mut H) {
-        match (&self.form, self.equal_word()) {
-            (Form::Unpacked(unpacked), None) => unpacked.key().hash(state),
-            (_, word) => word.hash(state),
-        }
+        self.compiled.hash(state);
     }
 }

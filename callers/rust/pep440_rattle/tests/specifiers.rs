@@ -1,6 +1,6 @@
 //! Specifiers and lists: PEP 440, "Version specifiers", and what this crate says of its calls.
 use pep440_rattle::{
-    release_specifier_to_range, release_specifiers_to_ranges, Operator, RangeError, Version, VersionPattern,
+    release_specifier_to_range, release_specifiers_to_ranges, LocalSegment, Operator, RangeError, Version, VersionPattern,
     VersionPatternParseError, VersionSpecifier, VersionSpecifiers,
 };
 use std::ops::Bound;
@@ -120,8 +120,18 @@ fn checked_and_unchecked() {
     assert!(odd.contains(&version("1.0+local.1")) && !odd.contains(&version("1.0")));
     let above = |version| Ok(vec![(Bound::Included(version), Bound::Unbounded)]);
     assert_eq!(odd.ranges(), above(version("1.0+local")));
-    let hidden = VersionSpecifier::greater_than_equal_version(version("1.0").with_min(Some(0)));
-    assert_eq!((hidden.to_string(), hidden.ranges()), (">=1.0".to_owned(), above(version("1.0").with_min(Some(0)))));
+    for odd in [version("1.0").with_min(Some(0)), version("1.0").with_max(Some(0))] {
+        let odd = VersionSpecifier::greater_than_equal_version(odd);
+        assert_eq!((odd.to_string(), odd.ranges()), (">=1.0".to_owned(), Err(RangeError::NotParsed)));
+        assert_eq!(release_specifier_to_range(odd.clone()), Err(RangeError::NotParsed));
+        assert_eq!(VersionSpecifiers::from(odd).ranges(), Err(RangeError::NotParsed));
+    }
+    let upper = version("1.0").with_local(vec![LocalSegment::String("A".to_owned())]);
+    assert_eq!(
+        VersionSpecifier::from_version(Operator::LessThan, upper.clone()).unwrap_err().to_string(),
+        "Operator < is incompatible with versions containing non-empty local segments (`+A`)"
+    );
+    assert_eq!(VersionSpecifier::equals_version(upper).to_string(), "==1.0+A");
     assert!(specifier(">1.0rc1").any_prerelease() && !specifier(">1.0").any_prerelease());
     assert!(specifier("==1.0").has_lower_bound() && !specifier("!=1.0").has_lower_bound());
 }

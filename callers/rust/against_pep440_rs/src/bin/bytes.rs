@@ -1,0 +1,132 @@
+//! Compares random pairs of versions by their compiled bytes, by their strings and by the ported crate; then gives random and changed byte
+//! strings to `pep440_normalize_compiled`: it rejects them, or they are what the printed version is compiled to.
+//!
+//! Usage: bytes [COUNT [SEED]]    (1,000,000 of each, seed 440)
+use against_pep440_rs::chance::Chance;
+use against_pep440_rs::departures::is_misordered;
+use against_pep440_rs::views::{ours, theirs};
+use std::cmp::Ordering;
+
+type Writer = unsafe extern "C" fn(*const u8, usize, *mut u8, usize, *mut usize) -> u8;
+type Comparer = unsafe extern "C" fn(*const u8, usize, *const u8, usize, *mut i8) -> u8;
+
+unsafe extern "C" {
+    fn pep440_compile(version: *const u8, length: usize, out: *mut u8, size: usize, written: *mut usize) -> u8;
+    fn pep440_normalize_compiled(compiled: *const u8, length: usize, out: *mut u8, size: usize, written: *mut usize) -> u8;
+    fn pep440_compare(left: *const u8, left_length: usize, right: *const u8, right_length: usize, order: *mut i8) -> u8;
+    fn pep440_compare_compiled(left: *const u8, left_length: usize, right: *const u8, right_length: usize, order: *mut i8) -> u8;
+}
+
+const OK: u8 = 0;
+const NOT_COMPILED: u8 = 6;
+
+/// What the call writes of the bytes, or its status.
+fn write(call: Writer, bytes: &[u8]) -> Result<Vec<u8>, u8> {
+    let (mut out, mut written) = (vec![0; 1024], 0);
+    // SAFETY: both vectors have as many bytes as is said, and a slice's pointer is never null.
+    match unsafe { call(bytes.as_ptr(), bytes.len(), out.as_mut_ptr(), out.len(), &mut written) } {
+        OK => {
+            out.truncate(written);
+            Ok(out)
+        }
+        other => Err(other),
+    }
+}
+
+fn compare(call: Comparer, left: &[u8], right: &[u8]) -> Ordering {
+    let mut order = 0;
+    // SAFETY: as in `write`.
+    let status = unsafe { call(left.as_ptr(), left.len(), right.as_ptr(), right.len(), &mut order) };
+    assert_eq!(status, OK, "{left:?} {right:?}");
+    order.cmp(&0)
+}
+
+/// The sort key: all but the first byte and the bytes 1 at the end.
+fn key(compiled: &[u8]) -> &[u8] {
+    let end = compiled.iter().rposition(|byte| *byte != 1).expect("a key ends with 0");
+    &compiled[1..=end]
+}
+
+/// A version, its compiled bytes and that of the ported crate.
+fn some_version(chance: &mut Chance) -> (String, Vec<u8>, theirs::Version) {
+    loop {
+        let text = chance.version();
+        if let Some(other) = theirs::version(&text) {
+            let compiled = write(pep440_compile, text.as_bytes()).unwrap_or_else(|status| panic!("{text:?}: {status}"));
+            return (text, compiled, other);
+        }
+    }
+}
+
+/// How many of the pairs are equal, and how many the ported crate orders wrongly.
+fn compare_pairs(chance: &mut Chance, count: u64) -> (u64, u64) {
+    let (mut equal, mut misordered) = (0, 0);
+    for _ in 0..count {
+        let (left, left_bytes, left_theirs) = some_version(chance);
+        let (right, right_bytes, right_theirs) = some_version(chance);
+        let order = key(&left_bytes).cmp(key(&right_bytes));
+        let asked = format!("{left:?} {right:?}");
+        assert_eq!(compare(pep440_compare_compiled, &left_bytes, &right_bytes), order, "{asked}");
+        assert_eq!(compare(pep440_compare, left.as_bytes(), right.as_bytes()), order, "{asked}");
+        assert_eq!(ours::version(&left).cmp(&ours::version(&right)), order, "{asked}");
+        equal += u64::from(order == Ordering::Equal);
+        if is_misordered(&left_theirs, &right_theirs) {
+            misordered += 1;
+        } else {
+            assert_eq!(left_theirs.cmp(&right_theirs), order, "{asked}");
+        }
+    }
+    (equal, misordered)
+}
+
+/// Compiled bytes with some bytes replaced, put in, left out, or cut; now and then bytes by chance.
+fn some_bytes(chance: &mut Chance) -> Vec<u8> {
+    if chance.one_in(4) {
+        let random =
+            (0..chance.below(24)).map(|_| if chance.one_in(2) { chance.below(4) as u8 * 16 } else { chance.below(256) as u8 });
+        return std::iter::once(4).chain(random.collect::<Vec<u8>>()).collect();
+    }
+    let mut bytes = some_version(chance).1;
+    for _ in 0..=chance.below(2) {
+        let place = chance.below(bytes.len() as u64) as usize;
+        let value =
+            if chance.one_in(2) { [0, 1, 2, 16, 32, 80, 81, 97][chance.below(8) as usize] } else { chance.below(256) as u8 };
+        match chance.below(8) {
+            0 => bytes.insert(place, value),
+            1 if bytes.len() > 1 => drop(bytes.remove(place)),
+            2 if place > 0 => bytes.truncate(place),
+            3 => bytes.push(value),
+            _ => bytes[place] = value,
+        }
+    }
+    bytes
+}
+
+/// How many byte strings denote a version.
+fn read_bytes(chance: &mut Chance, count: u64) -> u64 {
+    let mut printed = 0;
+    for _ in 0..count {
+        let bytes = some_bytes(chance);
+        match write(pep440_normalize_compiled, &bytes) {
+            Ok(print) => {
+                assert_eq!(write(pep440_compile, &print).as_ref(), Ok(&bytes), "{}", String::from_utf8_lossy(&print));
+                printed += 1;
+            }
+            Err(status) => assert_eq!(status, NOT_COMPILED, "{bytes:?}"),
+        }
+    }
+    printed
+}
+
+fn main() {
+    let mut words = std::env::args().skip(1);
+    let count: u64 = words.next().map_or(1_000_000, |word| word.parse().expect("a count"));
+    let mut chance = Chance::new(words.next().map_or(440, |word| word.parse().expect("a seed")));
+    let (equal, misordered) = compare_pairs(&mut chance, count);
+    let printed = read_bytes(&mut chance, count);
+    println!(
+        "{count} pairs have one order by bytes, by strings and by the ported crate ({equal} equal; {misordered} that it orders wrongly); \
+         of {count} byte strings {printed} are what they print as, the others are rejected"
+    );
+    assert!(printed > count / 100 && printed < count, "each result is met");
+}
