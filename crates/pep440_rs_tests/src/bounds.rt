@@ -9,17 +9,7 @@ use pep440_rs::{
 };
 use std::alloc::Global;
 use std::ops::Bound;
-use testing::{CaseError, copy, equals_copy, parse_version, print_value};
-
-/// The bound.
-pub fn bound(alloc: Global, text: &str) -> Result<Bound<Version>, CaseError> {
-    match text.split_at_checked(1) {
-        Some(("[", version)) => Ok(Bound::Included(parse_version(alloc, version)?)),
-        Some(("(", version)) => Ok(Bound::Excluded(parse_version(alloc, version)?)),
-        Some(("*", "")) => Ok(Bound::Unbounded),
-        _ => Err(CaseError::Unreadable),
-    }
-}
+use testing::{CaseError, bound_argument, copy, equals_copy, parse_version, print_value};
 
 // The operator that the error names, and its message.
 fn error_text(alloc: Global, error: &BoundError) -> Result<String, CaseError> {
@@ -52,13 +42,13 @@ fn member_text(
 
 /// The specifier of the bound as a lower one.
 pub fn lower_bound(alloc: Global, text: &str) -> Result<String, CaseError> {
-    let bound = bound(alloc, text)?;
+    let bound = bound_argument(alloc, text)?;
     member_text(alloc, VersionSpecifier::from_lower_bound(alloc, &bound))
 }
 
 /// The same as an upper one.
 pub fn upper_bound(alloc: Global, text: &str) -> Result<String, CaseError> {
-    let bound = bound(alloc, text)?;
+    let bound = bound_argument(alloc, text)?;
     member_text(alloc, VersionSpecifier::from_upper_bound(alloc, &bound))
 }
 

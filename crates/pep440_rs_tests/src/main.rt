@@ -8,16 +8,17 @@ mod matching;
 mod operators;
 mod parsers;
 mod ranges;
-#[cfg(test)]
-mod tests;
 
 use bounds::{lower_bound, pairs, upper_bound};
 use json::{
     json_list, json_specifier, json_version, list_of_json, specifier_of_json, version_of_json,
 };
-use matching::{build, compare, contains, contains_unchecked, print_unchecked};
+use matching::{
+    build, compare, compare_releases, compare_without_local, contains, contains_unchecked,
+    print_unchecked,
+};
 use operators::{operator, operator_number, operator_of_number};
-use parsers::{list, members, specifier};
+use parsers::{list, list_of, members, specifier};
 use ranges::{beside, cover, cover_beside, intersection, range, release_range, unchecked_range};
 use std::alloc::Global;
 use std::io;
@@ -52,6 +53,8 @@ fn of_two(alloc: Global, call: &str, one: &str, other: &str) -> Result<String, C
     match call {
         "contains" => contains(alloc, one, other),
         "compare" => compare(alloc, one, other),
+        "compare-releases" => compare_releases(alloc, one, other),
+        "compare-without-local" => compare_without_local(alloc, one, other),
         "build" => build(alloc, one, other),
         "unchecked" => print_unchecked(alloc, one, other),
         "unchecked-range" => unchecked_range(alloc, one, other),
@@ -65,6 +68,7 @@ impl Calls for SpecifierCalls {
     fn answer(&self, alloc: Global, call: &str, arguments: &[String]) -> Result<String, CaseError> {
         match (call, arguments) {
             ("pairs", sides) => pairs(alloc, sides),
+            ("list-of", specifiers) => list_of(alloc, specifiers),
             ("unchecked-contains", [operator, operand, version]) => contains_unchecked(
                 alloc,
                 operator.as_str(),

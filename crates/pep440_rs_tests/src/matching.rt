@@ -1,7 +1,10 @@
 //! What specifiers and lists contain, lists compared, and specifiers that are built.
 use crate::operators::operator_argument;
 use crate::parsers::{build_kind_name, list_argument, specifier_argument};
-use pep440_rs::{ErrorKind, Operator, PatternErrorKind, Version, VersionPattern, VersionSpecifier};
+use pep440_rs::{
+    ErrorKind, Operator, PatternErrorKind, Version, VersionPattern, VersionSpecifier, cmp_releases,
+    cmp_without_local,
+};
 use std::alloc::{AllocError, Global};
 use std::cmp::Ordering;
 use testing::{CaseError, equals_copy, print_value, version_argument};
@@ -39,6 +42,15 @@ pub fn contains(alloc: Global, text: &str, version: &str) -> Result<String, Case
     yes_or_no(alloc, contained)
 }
 
+fn sign(alloc: Global, order: Ordering) -> Result<String, CaseError> {
+    let sign = match order {
+        Ordering::Less => "<",
+        Ordering::Equal => "=",
+        Ordering::Greater => ">",
+    };
+    Ok(String::from_str(alloc, sign)?)
+}
+
 /// The sign between two lists.
 pub fn compare(alloc: Global, one: &str, other: &str) -> Result<String, CaseError> {
     let one = list_argument(alloc, one)?;
@@ -47,12 +59,21 @@ pub fn compare(alloc: Global, one: &str, other: &str) -> Result<String, CaseErro
     if (one == other) != (order == Ordering::Equal) {
         return Err(CaseError::Disagreement);
     }
-    let sign = match order {
-        Ordering::Less => "<",
-        Ordering::Equal => "=",
-        Ordering::Greater => ">",
-    };
-    Ok(String::from_str(alloc, sign)?)
+    sign(alloc, order)
+}
+
+/// The sign between two versions as if neither had a local part.
+pub fn compare_without_local(alloc: Global, one: &str, other: &str) -> Result<String, CaseError> {
+    let one = version_argument(alloc, one)?;
+    let other = version_argument(alloc, other)?;
+    sign(alloc, cmp_without_local(&one, &other))
+}
+
+/// The sign between the releases of two versions.
+pub fn compare_releases(alloc: Global, one: &str, other: &str) -> Result<String, CaseError> {
+    let one = version_argument(alloc, one)?;
+    let other = version_argument(alloc, other)?;
+    sign(alloc, cmp_releases(one.release(), other.release()))
 }
 
 fn pattern(alloc: Global, text: &str) -> Result<VersionPattern, CaseError> {

@@ -138,3 +138,18 @@ pub fn members(alloc: Global, text: &str) -> Result<String, CaseError> {
     }
     Ok(text)
 }
+
+/// The list that is made of these specifiers, by the call for one where there is one.
+pub fn list_of(alloc: Global, texts: &[String]) -> Result<String, CaseError> {
+    if let [text] = texts {
+        let alone = specifier_argument(alloc, text.as_str())?;
+        let list = VersionSpecifiers::from_specifier(alloc, alone)?;
+        return Ok(print_value(alloc, &list)?);
+    }
+    let mut members = Vec::new(alloc);
+    for text in texts {
+        members.push(specifier_argument(alloc, text.as_str())?)?;
+    }
+    let list = VersionSpecifiers::from_specifiers(alloc, members)?;
+    Ok(print_value(alloc, &list)?)
+}

@@ -1,5 +1,4 @@
 //! Ranges, a line for each segment.
-use crate::bounds::bound;
 use crate::matching::{holds, unchecked_argument};
 use crate::parsers::{list_argument, specifier_argument};
 use pep440_rs::{
@@ -8,7 +7,7 @@ use pep440_rs::{
     specifiers_to_ranges,
 };
 use std::alloc::Global;
-use testing::{CaseError, print_value, version_argument};
+use testing::{CaseError, bound_argument, print_value, version_argument};
 
 // The range, or the message of the error.
 fn range_text(
@@ -123,8 +122,9 @@ pub fn cover_beside(alloc: Global, text: &str, version: &str) -> Result<String, 
 
 // The range between two bounds.
 fn between(alloc: Global, start: &str, end: &str) -> Result<Ranges<Version>, CaseError> {
-    let start = bound(alloc, start)?;
-    Ok(Ranges::from_range_bounds(alloc, start, bound(alloc, end)?)?)
+    let start = bound_argument(alloc, start)?;
+    let end = bound_argument(alloc, end)?;
+    Ok(Ranges::from_range_bounds(alloc, start, end)?)
 }
 
 /// The intersection of two ranges of one segment each.

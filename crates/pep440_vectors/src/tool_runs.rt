@@ -1,5 +1,7 @@
 //! Runs of `pep440`.
 
+use crate::stream_words::input_argument;
+use crate::tool_streams::{cut_anywhere, run_over_streams};
 use pep440_tool::{answer, run};
 use std::alloc::Global;
 use testing::{CaseError, split_words};
@@ -38,8 +40,17 @@ pub fn answer_call(alloc: Global, call: &str, arguments: &[String]) -> Result<St
         ("tool-no-words", []) => answer_words(alloc, &[], b""),
         ("tool", [words]) => split_and_answer(alloc, words.as_str(), b"never read\n"),
         ("tool-input", [words, input]) => {
-            split_and_answer(alloc, words.as_str(), input.as_bytes())
+            let input = input_argument(alloc, input.as_str())?;
+            split_and_answer(alloc, words.as_str(), input.as_slice())
         }
+        ("tool-streams", [words, input, after, manner]) => run_over_streams(
+            alloc,
+            words.as_str(),
+            input.as_str(),
+            after.as_str(),
+            manner.as_str(),
+        ),
+        ("tool-cuts", [words]) => cut_anywhere(alloc, words.as_str()),
         _ => Err(CaseError::Unreadable),
     }
 }

@@ -1,13 +1,18 @@
 //! Lists of changes.
+use crate::errors::message;
 use pep440_version::{Change, ChangeError, WithSentinels};
 use std::alloc::Global;
-use testing::{CaseError, change_argument, parse_version, print_value};
+use testing::{CaseError, change_argument, copy, has_debug, parse_version, print_value};
 
-// The changes that the words ask for, with blanks between them.
+// Copies of the changes that the words ask for, with blanks between them.
 fn changes(alloc: Global, words: &str) -> Result<Vec<Change>, CaseError> {
     let mut changes = Vec::new(alloc);
     for word in words.split_ascii_whitespace() {
-        changes.push(change_argument(alloc, word)?)?;
+        let change = change_argument(alloc, word)?;
+        if !has_debug(alloc, &change)? {
+            return Err(CaseError::Disagreement);
+        }
+        changes.push(copy(&change)?)?;
     }
     Ok(changes)
 }
@@ -20,7 +25,7 @@ fn error_text(alloc: Global, error: ChangeError) -> Result<String, CaseError> {
         ChangeError::MaxNotAllowed(_) => "MaxNotAllowed",
         ChangeError::OutOfMemory => return Err(CaseError::OutOfMemory),
     };
-    let message = print_value(alloc, &error)?;
+    let message = message(alloc, &error)?;
     Ok(format!(in alloc; "{name}: {message}")?)
 }
 

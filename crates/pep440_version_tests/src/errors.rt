@@ -1,7 +1,28 @@
 //! Errors: the kind with what it holds, and the message.
-use pep440_version::{ErrorKind, PatternErrorKind, VersionParseError, VersionPatternParseError};
-use std::alloc::Global;
-use testing::{CaseError, equals_copy, print_value};
+use pep440_version::{
+    ChangeError, ErrorKind, PatternErrorKind, VersionParseError, VersionPatternParseError,
+};
+use std::alloc::{AllocError, Global};
+use std::error::Error;
+use std::fmt::Debug;
+use testing::{CaseError, equals_copy, has_debug, print_value};
+
+/// The message of an error.
+pub fn message<E: Error + Debug>(alloc: Global, error: &E) -> Result<String, CaseError> {
+    if !has_debug(alloc, error)? {
+        return Err(CaseError::Disagreement);
+    }
+    Ok(print_value(alloc, error)?)
+}
+
+/// The messages of both errors of being out of memory.
+pub fn out_of_memory(alloc: Global) -> Result<String, CaseError> {
+    let error = VersionParseError::from(ErrorKind::from(AllocError));
+    let mut messages = message(alloc, &error)?;
+    messages.push_str(", ")?;
+    messages.push_str(message(alloc, &ChangeError::from(AllocError))?.as_str())?;
+    Ok(messages)
+}
 
 // The bytes, which are digits.
 fn digits(bytes: &[u8]) -> Result<&str, CaseError> {
@@ -36,9 +57,17 @@ fn pattern_kind_text(alloc: Global, kind: &PatternErrorKind) -> Result<String, C
     }
 }
 
-// The two with a colon between them.
-fn join(kind: String, message: &str) -> Result<String, CaseError> {
-    let mut text = kind;
+// The name of the kind, which has a debug form, and the message.
+fn join<K: Debug>(
+    alloc: Global,
+    kind: &K,
+    name: String,
+    message: &str,
+) -> Result<String, CaseError> {
+    if !has_debug(alloc, kind)? {
+        return Err(CaseError::Disagreement);
+    }
+    let mut text = name;
     text.push_str(": ")?;
     text.push_str(message)?;
     Ok(text)
@@ -50,8 +79,10 @@ pub fn error_text(alloc: Global, error: &VersionParseError) -> Result<String, Ca
         return Err(CaseError::Disagreement);
     }
     join(
+        alloc,
+        error.kind(),
         kind_text(alloc, error.kind())?,
-        print_value(alloc, error)?.as_str(),
+        message(alloc, error)?.as_str(),
     )
 }
 
@@ -64,7 +95,9 @@ pub fn pattern_error_text(
         return Err(CaseError::Disagreement);
     }
     join(
+        alloc,
+        error.kind(),
         pattern_kind_text(alloc, error.kind())?,
-        print_value(alloc, error)?.as_str(),
+        message(alloc, error)?.as_str(),
     )
 }

@@ -3,21 +3,33 @@
 
 mod edits;
 mod errors;
+mod hashing;
 mod order;
 mod parsers;
 mod parts;
-#[cfg(test)]
-mod tests;
+mod printing;
+mod recorder;
 
 use edits::edit;
+use errors::out_of_memory;
+use hashing::{hash_parts, hash_pattern, hash_version};
 use order::{are_ascending, compare, compare_patterns, sort};
 use parsers::{parse, parse_pattern};
-use parts::{fields, has, is_stable, print, word};
+use parts::{fields, from_release, has, is_stable, print, word};
+use printing::{show, show_least, show_local, show_parts};
 use std::alloc::Global;
 use std::io;
 use testing::{Calls, CaseError, run_cases};
 
 struct VersionCalls;
+
+fn of_none(alloc: Global, call: &str) -> Result<String, CaseError> {
+    match call {
+        "least" => show_least(alloc),
+        "out-of-memory" => out_of_memory(alloc),
+        _ => Err(CaseError::Unreadable),
+    }
+}
 
 fn of_one(alloc: Global, call: &str, text: &str) -> Result<String, CaseError> {
     match call {
@@ -28,6 +40,13 @@ fn of_one(alloc: Global, call: &str, text: &str) -> Result<String, CaseError> {
         "has" => has(alloc, text),
         "stable" => is_stable(alloc, text),
         "word" => word(alloc, text),
+        "new" => from_release(alloc, text),
+        "show" => show(alloc, text),
+        "local" => show_local(alloc, text),
+        "parts" => show_parts(alloc, text),
+        "hash" => hash_version(alloc, text),
+        "hash-pattern" => hash_pattern(alloc, text),
+        "hash-parts" => hash_parts(alloc, text),
         _ => Err(CaseError::Unreadable),
     }
 }
@@ -52,6 +71,7 @@ fn of_many(alloc: Global, call: &str, texts: &[String]) -> Result<String, CaseEr
 impl Calls for VersionCalls {
     fn answer(&self, alloc: Global, call: &str, arguments: &[String]) -> Result<String, CaseError> {
         match arguments {
+            [] => of_none(alloc, call),
             [text] => of_one(alloc, call, text.as_str()),
             [one, other] => of_two(alloc, call, one.as_str(), other.as_str()),
             texts => of_many(alloc, call, texts),

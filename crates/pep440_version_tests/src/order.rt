@@ -53,7 +53,8 @@ pub fn sort(alloc: Global, texts: &[String]) -> Result<String, CaseError> {
     Ok(text)
 }
 
-fn pattern(alloc: Global, text: &str) -> Result<VersionPattern, CaseError> {
+/// The pattern.
+pub fn pattern(alloc: Global, text: &str) -> Result<VersionPattern, CaseError> {
     let memory = PatternErrorKind::from(ErrorKind::OutOfMemory);
     VersionPattern::from_str(alloc, text).map_err(|error| {
         if *error.kind() == memory {

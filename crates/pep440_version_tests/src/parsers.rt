@@ -2,7 +2,7 @@
 use crate::errors::{error_text, pattern_error_text};
 use pep440_version::{Version, VersionParseError, VersionPattern, VersionPatternParseError};
 use std::alloc::Global;
-use testing::{CaseError, equals_copy, print_value};
+use testing::{CaseError, equals_copy, has_debug, print_value};
 
 // The error, which has the same message as that of a pattern.
 fn print_error(alloc: Global, error: VersionParseError) -> Result<String, CaseError> {
@@ -23,7 +23,7 @@ pub fn parse(alloc: Global, text: &str) -> Result<String, CaseError> {
 
 // The version's normalized form, and `.*` if a star follows.
 fn print_pattern(alloc: Global, pattern: &VersionPattern) -> Result<String, CaseError> {
-    if !equals_copy(pattern)? {
+    if !equals_copy(pattern)? || !has_debug(alloc, pattern)? {
         return Err(CaseError::Disagreement);
     }
     let mut text = print_value(alloc, pattern.version())?;

@@ -2,7 +2,7 @@
 use pep440_version::{LocalSegment, Version, WithSentinels, laws};
 use std::alloc::{AllocError, Global};
 use std::fmt::Display;
-use testing::{CaseError, copy, print_value, version_argument};
+use testing::{CaseError, copy, equals_copy, print_value, version_argument};
 
 /// The normalized form with the sentinels, as `1.0~min0`; also of a copy.
 pub fn print(alloc: Global, text: &str) -> Result<String, CaseError> {
@@ -13,6 +13,16 @@ pub fn print(alloc: Global, text: &str) -> Result<String, CaseError> {
         return Err(CaseError::Disagreement);
     }
     Ok(text)
+}
+
+/// The version of the release alone.
+pub fn from_release(alloc: Global, text: &str) -> Result<String, CaseError> {
+    let version = version_argument(alloc, text)?;
+    let numbers = version.release();
+    if numbers.is_empty() {
+        return Err(CaseError::Unreadable);
+    }
+    Ok(print_value(alloc, &Version::new(alloc, numbers)?)?)
 }
 
 // Appends the name and the value, `-` for none.
@@ -28,9 +38,12 @@ fn push_part<T: Display + Drop>(
 }
 
 // The segments with dots between them, those that are no numbers in quotes.
-fn local_text(alloc: Global, segments: &[LocalSegment]) -> Result<String, AllocError> {
+fn local_text(alloc: Global, segments: &[LocalSegment]) -> Result<String, CaseError> {
     let mut text = String::new(alloc);
     for (index, segment) in segments.iter().enumerate() {
+        if !equals_copy(segment)? {
+            return Err(CaseError::Disagreement);
+        }
         if index > 0 {
             text.push('.')?;
         }

@@ -4,8 +4,6 @@
 
 mod lines;
 mod reports;
-#[cfg(test)]
-mod tests;
 
 use lines::{print_kind, print_lines, print_parts};
 use reports::{

@@ -4,7 +4,7 @@ use pyver_findings::{
     Conflict, Finding, Report, SourceFile, find_problems, push_json_string, push_named_files,
 };
 use std::alloc::{AllocError, Global};
-use testing::CaseError;
+use testing::{CaseError, copy};
 
 /// What is printed of a report.
 #[derive(Clone, Copy)]
@@ -76,7 +76,8 @@ fn push_finding(printed: &mut String, finding: &Finding) -> Result<(), CaseError
         Finding::Conflicting(kind, lines) => {
             printed.push_str(kind_word(*kind))?;
             for line in lines {
-                write!(printed, " {}", line.number)?;
+                let copy = copy(line)?;
+                write!(printed, " {}", copy.number)?;
             }
             printed.push_str("\n")?;
         }

@@ -3,6 +3,7 @@ use crate::error::CaseError;
 use pep440_change_words::{ChangeWordError, parse_change};
 use pep440_version::{Change, ErrorKind, Version};
 use std::alloc::Global;
+use std::ops::Bound;
 
 /// The version, which has no changes.
 pub fn parse_version(alloc: Global, text: &str) -> Result<Version, CaseError> {
@@ -13,6 +14,16 @@ pub fn parse_version(alloc: Global, text: &str) -> Result<Version, CaseError> {
             CaseError::Unreadable
         }
     })
+}
+
+/// The bound, written `[1.0` if it is included, `(1.0` if it is excluded, and `*` if there is none.
+pub fn bound_argument(alloc: Global, text: &str) -> Result<Bound<Version>, CaseError> {
+    match text.split_at_checked(1) {
+        Some(("[", version)) => Ok(Bound::Included(parse_version(alloc, version)?)),
+        Some(("(", version)) => Ok(Bound::Excluded(parse_version(alloc, version)?)),
+        Some(("*", "")) => Ok(Bound::Unbounded),
+        _ => Err(CaseError::Unreadable),
+    }
 }
 
 /// The change that the word asks for.

@@ -11,10 +11,12 @@ mod sizes;
 mod streams;
 mod values;
 
-pub use arguments::{change_argument, parse_version, version_argument, version_arguments};
+pub use arguments::{
+    bound_argument, change_argument, parse_version, version_argument, version_arguments,
+};
 pub use command_lines::split_words;
 pub use error::CaseError;
 pub use run::{Calls, run_cases};
 pub use sizes::{repeat, sizes_up_to};
 pub use streams::{After, Manner, Sink, Trickle};
-pub use values::{copy, equals_copy, print_value};
+pub use values::{copy, equals_copy, has_debug, print_value};

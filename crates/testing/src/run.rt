@@ -1,7 +1,7 @@
 //! Runs the cases of standard input.
 use crate::case_fields::split_fields;
 use crate::error::CaseError;
-use crate::sizes::failing_size;
+use crate::sizes::{case_of_size, failing_size};
 use std::alloc::Global;
 use std::io;
 
@@ -11,17 +11,30 @@ pub trait Calls {
     fn answer(&self, alloc: Global, call: &str, arguments: &[String]) -> Result<String, CaseError>;
 }
 
-// The result of the case, if it is not the wanted one.
-fn difference<C: Calls>(alloc: Global, calls: &C, line: &str) -> Result<Option<String>, CaseError> {
-    if let Some(case) = line.strip_prefix("sizes\t") {
-        return failing_size(alloc, calls, case);
-    }
+// The result of the plain case, if it is not the wanted one.
+fn plain_difference<C: Calls>(
+    alloc: Global,
+    calls: &C,
+    line: &str,
+) -> Result<Option<String>, CaseError> {
     let fields = split_fields(alloc, line)?;
     let [call, arguments @ .., wanted] = fields.as_slice() else {
         return Err(CaseError::Unreadable);
     };
     let found = calls.answer(alloc, call.as_str(), arguments)?;
     Ok(if found == *wanted { None } else { Some(found) })
+}
+
+// The same of each kind of case.
+fn difference<C: Calls>(alloc: Global, calls: &C, line: &str) -> Result<Option<String>, CaseError> {
+    if let Some(case) = line.strip_prefix("sizes\t") {
+        return failing_size(alloc, calls, case);
+    }
+    if let Some(case) = line.strip_prefix("size\t") {
+        let case = case_of_size(alloc, case)?;
+        return plain_difference(alloc, calls, case.as_str());
+    }
+    plain_difference(alloc, calls, line)
 }
 
 // The same, again if out of memory: at most one allocation of a run fails.

@@ -22,9 +22,9 @@ pub fn sizes_up_to(alloc: Global, greatest: usize) -> Result<Vec<usize>, AllocEr
     Ok(sizes)
 }
 
-// Appends the part so often, with the number of the copy, from 0, where it has a `#`.
+// Appends the part so often, with the number of the copy, from 1, where it has a `#`.
 fn push_copies(text: &mut String, part: &str, size: usize) -> Result<(), AllocError> {
-    for number in 0..size {
+    for number in 1..=size {
         for (index, piece) in part.split('#').enumerate() {
             if index > 0 {
                 write!(text, "{number}")?;
@@ -35,7 +35,7 @@ fn push_copies(text: &mut String, part: &str, size: usize) -> Result<(), AllocEr
     Ok(())
 }
 
-/// The text with each part between `«` and `»` repeated so often; for a `#` in it stands the number of the copy, from 0.
+/// The text with each part between `«` and `»` repeated so often; for a `#` in it stands the number of the copy, from 1.
 pub fn repeat(alloc: Global, text: &str, size: usize) -> Result<String, AllocError> {
     let mut repeated = String::new(alloc);
     for piece in text.split('«') {
@@ -60,18 +60,30 @@ fn run_size<C: Calls>(alloc: Global, calls: &C, line: &str, size: usize) -> Resu
     Ok(())
 }
 
+// The number of the first field, and the others.
+fn split_size(case: &str) -> Result<(usize, &str), CaseError> {
+    let Some((size, line)) = case.split_once('\t') else {
+        return Err(CaseError::Unreadable);
+    };
+    match usize::from_str_radix(size, 10) {
+        Ok(size) => Ok((size, line)),
+        Err(_) => Err(CaseError::Unreadable),
+    }
+}
+
+/// The case of `SIZE CALL ARGUMENTS.. RESULT`, with its parts repeated so often.
+pub fn case_of_size(alloc: Global, case: &str) -> Result<String, CaseError> {
+    let (size, line) = split_size(case)?;
+    Ok(repeat(alloc, line, size)?)
+}
+
 /// Where the call of `GREATEST CALL ARGUMENTS..` is out of memory first, of the sizes up to the greatest one.
 pub fn failing_size<C: Calls>(
     alloc: Global,
     calls: &C,
     case: &str,
 ) -> Result<Option<String>, CaseError> {
-    let Some((greatest, line)) = case.split_once('\t') else {
-        return Err(CaseError::Unreadable);
-    };
-    let Ok(greatest) = usize::from_str_radix(greatest, 10) else {
-        return Err(CaseError::Unreadable);
-    };
+    let (greatest, line) = split_size(case)?;
     for size in &sizes_up_to(alloc, greatest)? {
         match run_size(alloc, calls, line, *size) {
             Ok(()) => {}

@@ -11,12 +11,13 @@ pub enum After {
     NewlinesForEver,
 }
 
-/// Reads one byte a call, and after the last one does as `after` wants. It counts the calls.
+/// Reads one byte a call, and after the last one does as `after` wants. It counts the calls, and keeps the length of the shortest buffer.
 #[derive(Drop)]
 pub struct Trickle<'a> {
     pub text: &'a [u8],
     pub after: After,
     pub calls: u32,
+    pub shortest: usize,
 }
 
 impl Trickle<'_> {
@@ -25,6 +26,7 @@ impl Trickle<'_> {
             text,
             after,
             calls: 0,
+            shortest: usize::MAX,
         }
     }
 }
@@ -32,6 +34,7 @@ impl Trickle<'_> {
 impl Read for Trickle<'_> {
     fn read(&mut self, buf: &mut [u8]) -> std::io::Result<usize> {
         self.calls = self.calls.saturating_add(1);
+        self.shortest = self.shortest.min(buf.len());
         if buf.is_empty() {
             return Ok(0);
         }
@@ -61,21 +64,21 @@ pub enum Manner {
     FlushFails,
 }
 
-/// Keeps what it takes, up to 512 bytes, without allocating, and counts its calls.
+/// Keeps what it takes, up to 4096 bytes, without allocating, and counts its calls.
 #[derive(Drop)]
 pub struct Sink {
-    kept: [u8; 512],
+    kept: [u8; 4096],
     len: usize,
     manner: Manner,
     pub writes: u32,
     pub flushes: u32,
-    ghost within: { len ≤ 512 },
+    ghost within: { len ≤ 4096 },
 }
 
 impl Sink {
     pub fn new(manner: Manner) -> Sink {
         Sink {
-            kept: [0; 512],
+            kept: [0; 4096],
             len: 0,
             manner,
             writes: 0,
@@ -92,7 +95,7 @@ impl Sink {
     {
         let mut taken = 0;
         for byte in buf {
-            if taken >= most || self.len >= 512 {
+            if taken >= most || self.len >= 4096 {
                 break;
             }
             self.kept[self.len] = *byte;
@@ -120,9 +123,9 @@ impl Write for Sink {
                 if self.writes == 1 {
                     return Err(Error::new(ErrorKind::Interrupted, "interrupted"));
                 }
-                self.keep(buf, 512)
+                self.keep(buf, 4096)
             }
-            Manner::FlushFails => self.keep(buf, 512),
+            Manner::FlushFails => self.keep(buf, 4096),
         }
     }
 

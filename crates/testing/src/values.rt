@@ -1,6 +1,6 @@
-//! `Display` output and copies of values.
+//! `Display` output, debug forms and copies of values.
 use std::alloc::{AllocError, Global};
-use std::fmt::Display;
+use std::fmt::{Debug, Display};
 
 // Plainly, and in 30 columns filled with blanks and with stars, with bars between those that differ.
 fn print_widths<T: Display>(alloc: Global, value: &T) -> Result<String, AllocError> {
@@ -32,4 +32,10 @@ pub fn copy<T: Clone>(value: &T) -> Result<T, AllocError> {
 /// Whether the value equals its copy.
 pub fn equals_copy<T: Clone + PartialEq + Drop>(value: &T) -> Result<bool, AllocError> {
     Ok(copy(value)? == *value)
+}
+
+/// Whether the value has a debug form that is not empty.
+pub fn has_debug<T: Debug>(alloc: Global, value: &T) -> Result<bool, AllocError> {
+    let form = format!(in alloc; "{value:?}")?;
+    Ok(!form.is_empty())
 }

@@ -1,6 +1,0 @@
-use Rattle.std.proofs.Common.{◌≡◌, ◌++◌}
-use Rattle.pep440_keys_tests.proofs.ranges.walk.collect_segments.Given as goal
-
--- what was found, and the segments that are left, are all segments
-abbrev pub invariant-loop-start : goal.invariant-loop-start
-invariant-loop-start l = l.found.items ++ l.start-iterator ≡ l.range

@@ -1,2 +1,0 @@
-//! Lists that are made of members.
-mod sweeps;

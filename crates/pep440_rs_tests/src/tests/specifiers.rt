@@ -1,3 +1,0 @@
-//! Operators and single specifiers.
-mod long;
-mod without_memory;
