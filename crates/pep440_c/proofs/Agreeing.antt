@@ -1,8 +1,9 @@
 -- What compiled bytes denote is what the string denotes that they were made of.
-use Rattle.std.proofs.Common.{◌≡◌, ◌∙◌, ℕ, ℤ, List, Bool, sym, ap, subst, inl, inr}
+use Rattle.std.proofs.Common.{◌≡◌, ◌∙◌, ℕ, ℤ, List, Bool, sym, ap, subst}
 use Rattle.std.specs.Prelude.{◌↔◌}
-use Rattle.pep440_compiled.proofs.Seen.{same_list}
-use Rattle.pep440_compiled.proofs.Whole.{compiled_again}
+use Rattle.std.proofs.lemmas.List.Elements.{recursion_from_All}
+use Rattle.pep440_compiled.proofs.Exact.{one_version as one_of_bytes}
+use Rattle.pep440_compiled.proofs.Listed.{one_list}
 use Rattle.pep440_compiled.specs.Lists.{DenotesList, list_bytes}
 use Rattle.pep440_compiled.specs.Version.{DenotesVersion, compiled_bytes}
 use Rattle.pep440_rs.specs.Matching.{list_matches}
@@ -12,13 +13,13 @@ use Rattle.pep440_version.specs.Record.{Record}
 use Rattle.pep440_c.proofs.Once.{one_bytes_list, one_version}
 use Rattle.pep440_c.specs.CallResults.{Contains, IsOrder, order_number}
 use Rattle.pep440_c.specs.Compiled.{CompiledContains, CompiledOrder, DenotesNoList, DenotesNoVersion, IsCompiled, IsCompiledList}
-use Rattle.pep440_c.specs.Meaning.{MeansBytes, MeansListBytes, RefusesBytes}
-use Rattle.pep440_c.specs.Statuses.{Faults, PutsBytes}
-use Rattle.pep440_c.specs.declared.texts.Fault.{Fault}
-use Rattle.pep440_c.specs.declared.texts.Fault.TheVariants as fault
+use Rattle.pep440_c.specs.Meaning.{MeansBytes, MeansListBytes}
 
 one_compiled : (bytes : List ℕ) (r q : Record) → DenotesVersion bytes r → DenotesVersion bytes q → r ≡ q
-one_compiled bytes r q d e = compiled_again r q d.stored e.stored (sym d.same ∙ e.same)
+one_compiled bytes r q d e = one_of_bytes r q d.parsed e.parsed (sym d.same ∙ e.same)
+
+pub same_list : (bytes : List ℕ) (l m : List Spec) → DenotesList bytes l → DenotesList bytes m → l ≡ m
+same_list bytes l m d e = one_list l m (recursion_from_All _ l d.members) (recursion_from_All _ m e.members) (sym d.same ∙ e.same)
 
 -- ---- one compiled form
 
@@ -26,7 +27,7 @@ pub same_compiled : (s t a b : List ℕ) (r q : Record) → IsCompiled s a → I
 same_compiled s t a b r q (v, v_means, v_denotes) (w, w_means, w_denotes) means also =
     let left : v ≡ r = one_version s v r v_means means in
     let right : w ≡ q = one_version t w q w_means also in (
-      λ p. sym left ∙ compiled_again v w v_denotes.stored w_denotes.stored (sym v_denotes.same ∙ (p ∙ w_denotes.same)) ∙ right,
+      λ p. sym left ∙ one_compiled b v w (subst (λ x. DenotesVersion x v) p v_denotes) w_denotes ∙ right,
       λ p. v_denotes.same ∙ (ap compiled_bytes (left ∙ p ∙ sym right) ∙ sym w_denotes.same),
     )
 
@@ -65,28 +66,27 @@ of_compiled_list P text compiled (l, means, denotes) = (
   λ (m, also, is). (l, denotes, subst P (one_bytes_list text m l also means) is),
 )
 
+-- the same of what is found in bytes as they lie
+pub of_found : (P : Record → Type 0) (text compiled : List ℕ) → IsCompiled text compiled → ((r : Record) → DenotesVersion compiled r → P r) ↔ ((r : Record) × MeansBytes text r × P r)
+of_found P text compiled (r, means, denotes) = (
+  λ found. (r, means, found r denotes),
+  λ (q, also, is) v first. subst P (one_version text q r also means ∙ one_compiled compiled r v denotes first) is,
+)
+
 pub of_order : (left right a b : List ℕ) (number : ℤ) → IsCompiled left a → IsCompiled right b → CompiledOrder a b number ↔ IsOrder left right number
 of_order left right a b number (r, means, denotes) (q, also, again) = (
-  λ (v, w, first, second, is). (r, q, means, also, is ∙ (λ i. order_number (record_cmp (one_compiled a v r first denotes i) (one_compiled b w q second again i)))),
-  λ (v, w, first, second, is). (r, q, denotes, again, is ∙ (λ i. order_number (record_cmp (one_version left v r first means i) (one_version right w q second also i)))),
+  λ found. (r, q, means, also, found r q denotes again),
+  λ (v, w, v_means, w_means, is) e f first second.
+      let left_same : v ≡ e = one_version left v r v_means means ∙ one_compiled a r e denotes first in
+      let right_same : w ≡ f = one_version right w q w_means also ∙ one_compiled b q f again second in
+      is ∙ (λ i. order_number (record_cmp (left_same i) (right_same i))),
 )
 
 pub of_match : (list text a b : List ℕ) (contained : Bool) → IsCompiledList list a → IsCompiled text b → CompiledContains a b contained ↔ Contains list text contained
 of_match list text a b contained (l, means, denotes) (r, also, again) = (
-  λ (m, q, first, second, is). (l, r, means, also, is ∙ (λ i. list_matches (same_list a m l first denotes i) (one_compiled b q r second again i))),
-  λ (m, q, first, second, is). (l, r, denotes, again, is ∙ (λ i. list_matches (one_bytes_list list m l first means i) (one_version text q r second also i))),
+  λ found. (l, r, means, also, found l r denotes again),
+  λ (m, q, m_means, q_means, is) k v first second.
+      let list_same : m ≡ k = one_bytes_list list m l m_means means ∙ same_list a l k denotes first in
+      let version_same : q ≡ v = one_version text q r q_means also ∙ one_compiled b r v again second in
+      is ∙ (λ i. list_matches (list_same i) (version_same i)),
 )
-
--- ---- what is put of the compiled form of a version is that of the string that denotes it
-
-only_memory : (version : Type 0) (f : Fault) → Faults ⊥ ⊥ ⊥ f → Faults version ⊥ ⊥ f
-only_memory version fault.InvalidVersion why = absurd why
-only_memory version fault.InvalidList why = why
-only_memory version fault.OutOfMemory why = why
-only_memory version fault.NumberAtMax why = why
-only_memory version fault.NotCompiled why = why
-
-pub compiled_of : (text : List ℕ) (r : Record) (old new : List ℕ) (old_written written status : ℕ) → MeansBytes text r
-    → PutsBytes ⊥ ⊥ ⊥ (λ bytes. DenotesVersion bytes r) old new old_written written status → PutsBytes (RefusesBytes text) ⊥ ⊥ (IsCompiled text) old new old_written written status
-compiled_of text r old new old_written written status means (inl (bytes, denotes, count, put)) = inl (bytes, (r, means, denotes), count, put)
-compiled_of text r old new old_written written status means (inr (same, kept, (f, why, is))) = inr (same, kept, (f, only_memory (RefusesBytes text) f why, is))

@@ -1,31 +1,20 @@
 -- The bounds of a range: those of one more segment.
-use Rattle.std.proofs.Common.{◌≡◌, ◌∙◌, ℕ, List, [], ◌∷◌, ◌++◌, length, sym, ap, subst, append_assoc, refl}
+use Rattle.std.proofs.Common.{◌≡◌, ◌∙◌, ℕ, List, [], ◌∷◌, ◌++◌, length, sym, ap, subst, append_assoc}
 use Rattle.std.proofs.lemmas.List.Concat.{flat_map-append}
-use Rattle.std.specs.List.{AllZip}
+use Rattle.std.specs.List.{flat_map}
 use Rattle.std.specs.declared.ops.Bound.{Bound}
-use Rattle.pep440_ranges.specs.RangeSegments.{Segment}
 use Rattle.pep440_rs.specs.Bounds.{Segments}
 use Rattle.pep440_version.specs.Record.{Record}
 use Rattle.pep440_c.proofs.Joining.{pushed}
-use Rattle.pep440_c.specs.RangeBounds.{DenotesBound, JoinsBounds, bounds_of}
-
--- the strings of two bounds more
-two_more : (strings : List (List ℕ)) (bounds : List (Bound Record)) (s t : List ℕ) (low high : Bound Record) → AllZip DenotesBound strings bounds → DenotesBound s low → DenotesBound t high
-    → AllZip DenotesBound (strings ++ s ∷ t ∷ []) (bounds ++ low ∷ high ∷ [])
-two_more [] [] s t low high all first second = (first, (second, tt))
-two_more [] (b ∷ bounds) s t low high all first second = absurd all
-two_more (x ∷ strings) [] s t low high all first second = absurd all
-two_more (x ∷ strings) (b ∷ bounds) s t low high all first second = (all.0, two_more strings bounds s t low high all.1 first second)
+use Rattle.pep440_c.specs.JoinedStrings.{Joins}
+use Rattle.pep440_c.specs.RangeBounds.{JoinsBounds, bound_bytes, segment_bounds}
 
 -- the first string is pushed, then the second
-pub segment_more : (range : Segments) (low high : Bound Record) (s t b m n e f g : List ℕ) → DenotesBound s low → DenotesBound t high → m ≡ b ++ s → f ≡ e ++ length m ∷ []
+pub segment_more : (range : Segments) (low high : Bound Record) (s t b m n e f g : List ℕ) → s ≡ bound_bytes low → t ≡ bound_bytes high → m ≡ b ++ s → f ≡ e ++ length m ∷ []
     → n ≡ m ++ t → g ≡ f ++ length n ∷ [] → JoinsBounds range b e → JoinsBounds (range ++ (low, high) ∷ []) n g
-segment_more range low high s t b m n e f g first second more ended again behind (strings, all, joins) =
-    let seen : bounds_of (range ++ (low, high) ∷ []) ≡ bounds_of range ++ low ∷ high ∷ [] = flat_map-append (λ (x : Segment Record). x.0 ∷ x.1 ∷ []) range ((low, high) ∷ []) in (
-      strings ++ s ∷ t ∷ [],
-      subst (λ (x : List (Bound Record)). AllZip DenotesBound (strings ++ s ∷ t ∷ []) x) (sym seen) (two_more strings (bounds_of range) s t low high all first second),
-      pushed s t strings s t b m n e f g refl refl more ended again behind joins,
-    )
+segment_more range low high s t b m n e f g first second more ended again behind joins =
+    subst (λ (strings : List (List ℕ)). Joins strings n g) (sym (flat_map-append segment_bounds range ((low, high) ∷ [])))
+    (pushed (bound_bytes low) (bound_bytes high) (flat_map segment_bounds range) s t b m n e f g first second more ended again behind joins)
 
 -- the next segment of the range is joined too
 pub segments_more : (range left rest : Segments) (low high : Bound Record) (b e n g : List ℕ) → left ≡ (low, high) ∷ rest

@@ -6,6 +6,7 @@ pub mod Words
 pub mod Keyed
 pub mod Membership
 pub mod Agreeing
+pub mod Compiling
 pub mod Combined
 pub mod Edited
 pub mod OneSpecifier

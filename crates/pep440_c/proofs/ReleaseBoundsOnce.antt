@@ -1,9 +1,9 @@
 -- Bounds of the release-only ranges of compiled lists are those of the strings.
 use Rattle.std.proofs.Common.{◌∙◌, ℕ, List, sym, ap}
 use Rattle.std.specs.Prelude.{◌↔◌}
-use Rattle.pep440_compiled.proofs.Seen.{same_list}
 use Rattle.pep440_rs.specs.Bounds.{list_range, release_range_of}
 use Rattle.pep440_rs.specs.Specifiers.{Spec}
+use Rattle.pep440_c.proofs.Agreeing.{same_list}
 use Rattle.pep440_c.proofs.Once.{one_bytes_list}
 use Rattle.pep440_c.specs.Compiled.{IsCompiledList}
 use Rattle.pep440_c.specs.ReleaseRangeBounds.{CompiledReleaseBounds, TellsReleaseBounds}

@@ -3,12 +3,12 @@ use Rattle.std.proofs.Common.{◌≡◌, ◌⊎◌, ◌∙◌, ℕ, List, Bool, 
 use Rattle.std.specs.Prelude.{◌↔◌}
 use Rattle.std.proofs.lemmas.Str.{IsUtf8-from_is_utf8}
 use Rattle.std.specs.Str.{IsUtf8, is_utf8}
-use Rattle.pep440_compiled.proofs.Seen.{same_list}
 use Rattle.pep440_rs.proofs.Reading.OneMeaning.{either_specifier, not_both_specifier, one_specifier, one_specifier_refusal}
 use Rattle.pep440_rs.specs.Bounds.{list_range, range_of}
 use Rattle.pep440_rs.specs.ErrorTexts.{specifier_refusal_text}
 use Rattle.pep440_rs.specs.SpecifierGrammar.{DerivesSpecifier, RefusesSpecifier, SpecifierRefusal}
 use Rattle.pep440_rs.specs.Specifiers.{Spec}
+use Rattle.pep440_c.proofs.Agreeing.{same_list}
 use Rattle.pep440_c.proofs.Once.{no_utf8, one_bytes_list}
 use Rattle.pep440_c.proofs.OneSpecifier.{no_specifier_text}
 use Rattle.pep440_c.specs.Compiled.{IsCompiledList}

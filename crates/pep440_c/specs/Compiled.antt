@@ -1,5 +1,5 @@
 -- What each call returns that makes compiled bytes or takes them.
-use Rattle.std.specs.Prelude.{◌≡◌, ◌⊎◌, ℕ, ℤ, List, Bool, Option, Some, None}
+use Rattle.std.specs.Prelude.{◌≡◌, ◌⊎◌, ℕ, ℤ, List, Bool, Option, Some, None, length}
 use Rattle.std.specs.List.{flat_map}
 use Rattle.pep440_compiled.specs.Lists.{DenotesList}
 use Rattle.pep440_compiled.specs.Version.{DenotesVersion}
@@ -48,27 +48,44 @@ CompiledNormal compiled bytes = (r : Record) × DenotesVersion compiled r × (by
 abbrev pub CompiledNormalList : List ℕ → List ℕ → Type 0
 CompiledNormalList compiled bytes = (list : List Spec) × DenotesList compiled list × (bytes ≡ list_print list)
 
+-- ---- compiled bytes, read as they lie: nothing is known of what is found in bytes that denote nothing
+
 -- the sort key of the version
 abbrev pub CompiledKey : List ℕ → List ℕ → Type 0
-CompiledKey compiled bytes = (r : Record) × DenotesVersion compiled r × (bytes ≡ key_bytes r)
+CompiledKey compiled bytes = (r : Record) → DenotesVersion compiled r → bytes ≡ key_bytes r
 
 -- the number is the order of the two compiled versions: -1, 0 or 1
 abbrev pub CompiledOrder : List ℕ → List ℕ → ℤ → Type 0
-CompiledOrder left right number = (r q : Record) × DenotesVersion left r × DenotesVersion right q × (number ≡ order_number (record_cmp r q))
+CompiledOrder left right number = (r q : Record) → DenotesVersion left r → DenotesVersion right q → number ≡ order_number (record_cmp r q)
 
 -- whether the list contains the version
 abbrev pub CompiledContains : List ℕ → List ℕ → Bool → Type 0
-CompiledContains compiled_list compiled contained = (list : List Spec) × (r : Record) × DenotesList compiled_list list × DenotesVersion compiled r × (contained ≡ list_matches list r)
+CompiledContains compiled_list compiled contained = (list : List Spec) (r : Record) → DenotesList compiled_list list → DenotesVersion compiled r → contained ≡ list_matches list r
 
 -- whether the version is a pre-release or a developmental release
 abbrev pub CompiledPrerelease : List ℕ → Bool → Type 0
-CompiledPrerelease compiled early = (r : Record) × DenotesVersion compiled r × (early ≡ any_prerelease r)
+CompiledPrerelease compiled early = (r : Record) → DenotesVersion compiled r → early ≡ any_prerelease r
 
--- both flags are written with status 0; otherwise both are unchanged, and the status is that of the failure
+-- a key is written at the start of the caller's buffer, or the buffer is too small; how many bytes are needed is written. Otherwise
+-- nothing is written, and the bytes are no version
+abbrev pub CompiledKeyAnswer : List ℕ → List ℕ → List ℕ → ℕ → ℕ → ℕ → Type 0
+CompiledKeyAnswer compiled old new old_written written status =
+    ((bytes : List ℕ) × CompiledKey compiled bytes × (written ≡ length bytes) × PutsFront bytes old new status)
+    ⊎ ((new ≡ old) × (written ≡ old_written) × (status ≡ 6) × DenotesNoVersion compiled)
+
+-- an order is written with status 0; otherwise it is unchanged, and the bytes are not both versions
+abbrev pub CompiledOrderAnswer : List ℕ → List ℕ → ℤ → ℤ → ℕ → Type 0
+CompiledOrderAnswer left right old order status =
+    ((status ≡ 0) × CompiledOrder left right order)
+    ⊎ ((order ≡ old) × (status ≡ 6) × ((r q : Record) → DenotesVersion left r → DenotesVersion right q → ⊥))
+
+-- both flags are written with status 0; otherwise both are unchanged, and the bytes are not a list and a version
 abbrev pub CompiledContainsAnswer : List ℕ → List ℕ → ℕ → ℕ → ℕ → ℕ → ℕ → Type 0
 CompiledContainsAnswer compiled_list compiled old contained old_prerelease prerelease status =
     ((status ≡ 0) × IsFlagOf (CompiledContains compiled_list compiled) contained × IsFlagOf (CompiledPrerelease compiled) prerelease)
-    ⊎ ((contained ≡ old) × (prerelease ≡ old_prerelease) × FailsCompiled (DenotesNoList compiled_list ⊎ DenotesNoVersion compiled) ⊥ status)
+    ⊎ ((contained ≡ old) × (prerelease ≡ old_prerelease) × (status ≡ 6) × ((list : List Spec) (r : Record) → DenotesList compiled_list list → DenotesVersion compiled r → ⊥))
+
+-- ---- the parts of a version
 
 -- the parts are written, and the release numbers where the caller's array has room for them; otherwise nothing is written
 abbrev pub CompiledPartsAnswer : List ℕ → Parts → Parts → List ℕ → List ℕ → ℕ → Type 0

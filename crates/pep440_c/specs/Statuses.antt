@@ -2,8 +2,10 @@
 -- memory, 4 too little room, 5 a bound lies above the greatest number, 6 bytes are not compiled, 7 a version is not packed, 8 it cannot be
 -- changed so.
 use Rattle.std.specs.Prelude.{◌≡◌, ◌⊎◌, ◌≤◌, ◌<◌, ℕ, Bool, List, ◌++◌, drop, length, Result, Ok, Err, if◌then◌else◌}
-use Rattle.pep440_compiled.specs.declared.version.CompiledError.{CompiledError}
-use Rattle.pep440_compiled.specs.declared.version.CompiledError.TheVariants as compiled
+use Rattle.pep440_compiled.specs.declared.error.CompileError.{CompileError}
+use Rattle.pep440_compiled.specs.declared.error.CompileError.TheVariants as compile
+use Rattle.pep440_compiled.specs.declared.error.CompiledError.{CompiledError}
+use Rattle.pep440_compiled.specs.declared.error.CompiledError.TheVariants as compiled
 use Rattle.pep440_rs.specs.declared.range.error.RangeError.{RangeError}
 use Rattle.pep440_rs.specs.declared.range.error.RangeError.TheVariants as range_error
 use Rattle.pep440_c.specs.declared.texts.Fault.{Fault}
@@ -16,6 +18,11 @@ fault_status fault.InvalidList = 2
 fault_status fault.OutOfMemory = 3
 fault_status fault.NumberAtMax = 5
 fault_status fault.NotCompiled = 6
+
+-- why there is no compiled form
+abbrev pub fault_of_compile : CompileError → Fault
+fault_of_compile compile.NotParsed = fault.NotCompiled
+fault_of_compile compile.OutOfMemory = fault.OutOfMemory
 
 -- why a call over compiled bytes gives nothing
 abbrev pub fault_of_compiled : CompiledError → Fault

@@ -1,26 +1,19 @@
 //! The calls over compiled versions and lists: bytes made once of a string, which these calls take in its place. No call but
 //! the first two parses a string.
-ghost use Rattle.std.specs.Prelude.{◌≡◌, ◌⊎◌, List, map};
-ghost use Rattle.std.specs.List.{All};
-ghost use Rattle.pep440_compiled.specs.Format.{DenotesPacked};
-ghost use Rattle.pep440_compiled.specs.Lists.{DenotesList, IsPackedMember};
-ghost use Rattle.pep440_compiled.specs.Version.{DenotesVersion};
+ghost use Rattle.std.specs.Prelude.{map};
 ghost use Rattle.pep440_rs.specs.Bounds.{range_of};
 ghost use Rattle.pep440_rs.specs.Cover.{cover_of};
-ghost use Rattle.pep440_rs.specs.Specifiers.{Spec};
-ghost use Rattle.pep440_version.specs.Record.{Record};
-ghost use Rattle.pep440_c.specs.Compiled.{CompiledContainsAnswer, CompiledIntervals, CompiledKey, CompiledLacksRange, CompiledNormal, CompiledNormalList, CompiledOrder, CompiledPartsAnswer, DenotesNoList, DenotesNoVersion, IsCompiled, IsCompiledList};
+ghost use Rattle.pep440_c.specs.Compiled.{CompiledContainsAnswer, CompiledIntervals, CompiledKeyAnswer, CompiledLacksRange, CompiledNormal, CompiledNormalList, CompiledOrderAnswer, CompiledPartsAnswer, DenotesNoList, DenotesNoVersion, IsCompiled, IsCompiledList};
 ghost use Rattle.pep440_c.specs.CompiledBatches.{CompiledFilterAnswer, CompiledSortAnswer};
 ghost use Rattle.pep440_c.specs.Meaning.{RefusesBytes, RefusesListBytes};
-ghost use Rattle.pep440_c.specs.Statuses.{PutsBytes, PutsCompiled, PutsCompiledBytes, PutsCompiledJoined};
+ghost use Rattle.pep440_c.specs.Statuses.{PutsBytes, PutsCompiledBytes, PutsCompiledJoined};
 
 use crate::batch::BatchError;
 use crate::buffer::{OK, flag, put, put_and_count, put_bytes, put_joined, put_text};
 use crate::{
-    Parts, compiled_batch, compiled_forms, compiled_intervals, order_number, texts, version_parts,
+    Parts, compiled_batch, compiled_forms, compiled_intervals, order_number, version_parts,
 };
-use pep440_compiled::{NotCompiled, compare_packed, compile_packed};
-use pep440_rs::Version;
+use pep440_compiled::{any_prerelease, compare, contains, sort_key};
 use std::alloc::Global;
 
 const OUT_OF_MEMORY: u8 = 3;
@@ -37,20 +30,7 @@ pub extern "C" fn pep440_compile(
 ) -> u8
     ensures { PutsBytes (RefusesBytes text.now) ⊥ ⊥ (IsCompiled text.now) out.old out.new written.old written.new result }
 {
-    match texts::read(alloc, text) {
-        Ok(version) => put_compiled(alloc, &version, out, written),
-        Err(fault) => fault.status(),
-    }
-}
-
-// Writes the compiled form of the version. Of a packed one that allocates nothing.
-fn put_compiled(alloc: Global, version: &Version, out: &mut [u8], written: &mut usize) -> u8
-    ensures { PutsBytes ⊥ ⊥ ⊥ (λ compiled. DenotesVersion compiled version.now) out.old out.new written.old written.new result }
-{
-    match compile_packed(version) {
-        Some(packed) => put_and_count(&packed, out, written),
-        None => put_bytes(compiled_forms::compile(alloc, version), out, written),
-    }
+    put_bytes(compiled_forms::compile(alloc, text), out, written)
 }
 
 /// Writes the compiled form of the list.
@@ -67,7 +47,7 @@ pub extern "C" fn pep440_compile_list(
 }
 
 /// Writes the normal form of the compiled version (PEP 440, "Normalization"). Status 6 where the bytes denote none; so in
-/// each call below.
+/// each call below, unless it says otherwise.
 #[unsafe(no_mangle)]
 pub extern "C" fn pep440_normalize_compiled(
     alloc: Global,
@@ -97,77 +77,57 @@ pub extern "C" fn pep440_normalize_list_compiled(
     )
 }
 
-/// Writes the sort key of the compiled version, as `pep440_keys`.
+/// Writes the sort key of the compiled version, as `pep440_keys`; of bytes that denote none status 6, or any key. Allocates nothing.
 #[unsafe(no_mangle)]
 pub extern "C" fn pep440_sort_key_compiled(
-    alloc: Global,
     compiled: &[u8],
     out: &mut [u8],
     written: &mut usize,
 ) -> u8
-    ensures { PutsCompiledBytes (DenotesNoVersion compiled.now) ⊥ (CompiledKey compiled.now) out.old out.new written.old written.new result }
+    ensures { CompiledKeyAnswer compiled.now out.old out.new written.old written.new result }
 {
-    put_bytes(compiled_forms::make_key(alloc, compiled), out, written)
-}
-
-// The same as `pep440_compare_compiled`. It stands apart, so that packed versions are compared without saving registers.
-#[inline(never)]
-fn compare_any(alloc: Global, left: &[u8], right: &[u8], order: &mut i8) -> u8
-    ensures found { PutsCompiled (DenotesNoVersion left.now ⊎ DenotesNoVersion right.now) ⊥ (CompiledOrder left.now right.now) order.old order.new result }
-    ensures memory { (r q : Record) → DenotesPacked left.now r → DenotesPacked right.now q → result ≡ 0 }
-{
-    match compiled_forms::compare(alloc, left, right) {
-        Ok(found) => {
-            *order = order_number(found);
-            OK
-        }
-        Err(fault) => fault.status(),
+    match sort_key(compiled) {
+        Ok(key) => put_and_count(key, out, written),
+        Err(_) => NOT_COMPILED,
     }
 }
 
 /// How the left compiled version compares with the right one: -1 below, 0 equal, 1 above (PEP 440, "Summary of permitted
-/// suffixes and relative ordering"). Allocates nothing where both are packed.
+/// suffixes and relative ordering"). If bytes denote none, status 6, or any of these. Allocates nothing.
 #[unsafe(no_mangle)]
-pub extern "C" fn pep440_compare_compiled(
-    alloc: Global,
-    left: &[u8],
-    right: &[u8],
-    order: &mut i8,
-) -> u8
-    ensures found { PutsCompiled (DenotesNoVersion left.now ⊎ DenotesNoVersion right.now) ⊥ (CompiledOrder left.now right.now) order.old order.new result }
-    ensures memory { (r q : Record) → DenotesPacked left.now r → DenotesPacked right.now q → result ≡ 0 }
+pub extern "C" fn pep440_compare_compiled(left: &[u8], right: &[u8], order: &mut i8) -> u8
+    ensures { CompiledOrderAnswer left.now right.now order.old order.new result }
 {
-    match compare_packed(left, right) {
+    match compare(left, right) {
         Ok(found) => {
             *order = order_number(found);
             OK
         }
-        Err(NotCompiled) => compare_any(alloc, left, right, order),
+        Err(_) => NOT_COMPILED,
     }
 }
 
 /// Whether the compiled list contains the compiled version, 1 or 0 (PEP 440, "Version specifiers"); and whether the version
-/// is a pre-release or a developmental release, 1 or 0 (PEP 440, "Handling of pre-releases"). Allocates nothing where the
-/// version and those of the list are packed and no operator is `===`.
+/// is a pre-release or a developmental release, 1 or 0 (PEP 440, "Handling of pre-releases"). If bytes denote no list or no
+/// version, status 6, or any of these. Allocates nothing.
 #[unsafe(no_mangle)]
 pub extern "C" fn pep440_contains_compiled(
-    alloc: Global,
     list: &[u8],
     compiled: &[u8],
     contained: &mut u8,
     prerelease: &mut u8,
 ) -> u8
-    ensures found { CompiledContainsAnswer list.now compiled.now contained.old contained.new prerelease.old prerelease.new result }
-    ensures memory { (l : List Spec) (r : Record) → DenotesList list.now l → DenotesPacked compiled.now r → All IsPackedMember l → result ≡ 0 }
+    ensures { CompiledContainsAnswer list.now compiled.now contained.old contained.new prerelease.old prerelease.new result }
 {
-    match compiled_forms::contains(alloc, list, compiled) {
-        Ok((found, is_early)) => {
-            *contained = flag(found);
-            *prerelease = flag(is_early);
-            OK
-        }
-        Err(fault) => fault.status(),
-    }
+    let Ok(found) = contains(list, compiled) else {
+        return NOT_COMPILED;
+    };
+    let Ok(is_early) = any_prerelease(compiled) else {
+        return NOT_COMPILED;
+    };
+    *contained = flag(found);
+    *prerelease = flag(is_early);
+    OK
 }
 
 /// Writes the parts of the compiled version, and the numbers of its release (PEP 440, "Public version identifiers").

@@ -26,7 +26,7 @@ pub extern "C" fn pep440_pattern_error(
     put_text(explain_pattern(alloc, pattern), out, written)
 }
 
-/// Writes why the operator of this number, as compiled lists have it, and the compiled version make no specifier; nothing
+/// Writes why the operator of this number, its position in `Operator`, and the compiled version make no specifier; nothing
 /// where they do (PEP 440, "Version specifiers"). `.*` follows the version unless `star` is 0. Status 6 where no operator has
 /// the number, or the bytes denote no version.
 #[unsafe(no_mangle)]

@@ -1,19 +1,19 @@
-//! The range of a list as bounds: of each segment the lower and the upper one, whose versions are compiled bytes.
-ghost use Rattle.std.specs.Prelude.{◌≡◌, ◌++◌, ◌∷◌, ℕ, List, [], IfOk, OnOk};
-ghost use Rattle.pep440_compiled.specs.Version.{DenotesVersion};
+//! The range of a list as bounds: of each segment the lower and the upper one, whose versions are written as compiled ones are.
+ghost use Rattle.std.specs.Prelude.{◌≡◌, ◌++◌, ◌∷◌, [], IfOk, OnOk};
+ghost use Rattle.pep440_compiled.specs.Version.{compiled_bytes};
 ghost use Rattle.pep440_rs.specs.Bounds.{Segments, range_of};
 ghost use Rattle.pep440_c.specs.Compiled.{CompiledLacksRange, DenotesNoList};
 ghost use Rattle.pep440_c.specs.Intervals.{LacksRange};
 ghost use Rattle.pep440_c.specs.JoinedStrings.{PutsJoined};
 ghost use Rattle.pep440_c.specs.Meaning.{RefusesListBytes};
-ghost use Rattle.pep440_c.specs.RangeBounds.{CompiledBounds, DenotesBound, JoinsBounds, TellsBounds};
+ghost use Rattle.pep440_c.specs.RangeBounds.{CompiledBounds, JoinsBounds, TellsBounds, bound_bytes};
 ghost use Rattle.pep440_c.specs.Statuses.{Gives, GivesCompiled, PutsCompiledJoined};
 
 use crate::buffer::put_joined;
 use crate::joined_strings::JoinedStrings;
 use crate::texts::Fault;
 use crate::{compiled_intervals, intervals};
-use pep440_compiled::compile_version;
+use pep440_compiled::push_compiled;
 use pep440_ranges::Ranges;
 use pep440_rs::Version;
 use std::alloc::{AllocError, Global};
@@ -24,8 +24,8 @@ const INCLUDED: u8 = 1;
 const EXCLUDED: u8 = 2;
 
 /// Writes the range of the list as bounds, two a segment, and where each of them ends: 0 alone for no bound, else 1 for an
-/// included or 2 for an excluded version and its compiled form, which has the sentinel if there is one. Reports how many bytes
-/// and how many bounds there are. Status 5 where a bound would need a number above the greatest.
+/// included or 2 for an excluded version, and its compiled form; for one with a sentinel 4 and its sort key and zeros, as of other
+/// versions. Reports how many bytes and how many bounds there are. Status 5 where a bound would need a number above the greatest.
 #[unsafe(no_mangle)]
 pub extern "C" fn pep440_range_bounds(
     alloc: Global,
@@ -61,19 +61,18 @@ pub extern "C" fn pep440_range_bounds_compiled(
     )
 }
 
-// The kind of a bound, and the compiled form of its version.
+// The kind of a bound, and its version.
 fn compile_kind(alloc: Global, kind: u8, version: &Version) -> Result<Vec<u8>, AllocError>
-    ensures { IfOk result (λ bytes. (compiled : List ℕ) × DenotesVersion compiled version.now × (bytes.items ≡ kind ∷ compiled)) }
+    ensures { IfOk result (λ bytes. bytes.items ≡ kind ∷ compiled_bytes version.now) }
 {
-    let compiled = compile_version(alloc, version)?;
     let mut bytes = Vec::new(alloc);
     bytes.push(kind)?;
-    bytes.extend_from_slice(compiled.as_slice())?;
+    push_compiled(&mut bytes, version)?;
     Ok(bytes)
 }
 
 fn compile_bound(alloc: Global, bound: &Bound<Version>) -> Result<Vec<u8>, AllocError>
-    ensures { IfOk result (λ bytes. DenotesBound bytes.items bound.now) }
+    ensures { IfOk result (λ bytes. bytes.items ≡ bound_bytes bound.now) }
 {
     match bound {
         Bound::Included(version) => compile_kind(alloc, INCLUDED, version),

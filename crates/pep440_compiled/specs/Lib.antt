@@ -1,6 +1,4 @@
-pub mod Format
+pub mod KeyParts
 pub mod Lists
-pub mod OptionalParts
-pub mod PackedWord
-pub mod PartBytes
 pub mod Version
+pub mod KeyViews

@@ -1,29 +1,28 @@
--- The bytes of any compiled version.
-use Rattle.std.specs.Prelude.{◌≡◌, ℕ, List, length, if◌then◌else◌}
-use Rattle.std.specs.List.{All}
-use Rattle.std.specs.Str.{IsUtf8}
-use Rattle.pep440_compiled.specs.Format.{packed_bytes}
-use Rattle.pep440_compiled.specs.PartBytes.{unpacked_bytes}
-use Rattle.pep440_version.specs.Record.{Fits, IsRecord, LocalSegmentValue, Number, Record, Text}
-use Rattle.pep440_version.specs.Word.{is_packed}
+-- The bytes of a compiled version: its sort key, and the one thing that the key leaves out, how many zeros end the release.
+use Rattle.std.specs.Prelude.{◌≡◌, ℕ, List, ◌∷◌, ◌++◌, drop, length, map}
+use Rattle.pep440_keys.specs.SortKeys.{key_bytes}
+use Rattle.pep440_version.specs.Record.{IsRecord, Record}
+use Rattle.pep440_version.specs.RoundTrip.{RoundTrips}
+use Rattle.pep440_version.specs.Trim.{trim}
 
--- bytes that a string can hold, or a number that fits
-abbrev pub IsStorable : LocalSegmentValue → Type 0
-IsStorable (Text t) = IsUtf8 t × Fits (length t)
-IsStorable (Number n) = Fits n
-
--- the bytes of any version: packed bytes if it is packed, else unpacked ones
-abbrev pub compiled_bytes : Record → List ℕ
-compiled_bytes r = if is_packed r then packed_bytes r else unpacked_bytes r
-
--- the records that versions hold
-pub record IsStored (r : Record) : Type 0 where
+-- the records that strings parse to
+pub record IsParsed (r : Record) : Type 0 where
   pub valid : IsRecord r
-  pub count : Fits (length r.release)
-  pub segments : Fits (length r.local)
-  pub local : All IsStorable r.local
+  pub round_trips : RoundTrips r
+
+-- a byte 1 for each zero that ends the release
+abbrev pub zero_bytes : List ℕ → List ℕ
+zero_bytes release = map (λ n. 1) (drop (length (trim release)) release)
+
+-- the sort key, and these zeros
+abbrev pub version_bytes : Record → List ℕ
+version_bytes r = key_bytes r ++ zero_bytes r.release
+
+-- after the format byte 4
+abbrev pub compiled_bytes : Record → List ℕ
+compiled_bytes r = 4 ∷ version_bytes r
 
 -- the bytes are those of this version
 pub record DenotesVersion (bytes : List ℕ) (r : Record) : Type 0 where
-  pub stored : IsStored r
+  pub parsed : IsParsed r
   pub same : bytes ≡ compiled_bytes r

@@ -1,25 +1,21 @@
 //! What holds of compiled bytes, as contracts of functions that do nothing.
-ghost use Rattle.std.specs.Prelude.{◌≡◌, ◌↔◌, ℕ, List, true};
-ghost use Rattle.pep440_compiled.specs.Format.{DenotesPacked};
+ghost use Rattle.std.specs.Prelude.{◌≡◌, ◌↔◌, ℕ, List};
 ghost use Rattle.pep440_compiled.specs.Lists.{DenotesList};
-ghost use Rattle.pep440_compiled.specs.Version.{DenotesVersion};
+ghost use Rattle.pep440_compiled.specs.Version.{DenotesVersion, IsParsed};
 ghost use Rattle.pep440_rs.specs.Specifiers.{Spec};
+ghost use Rattle.pep440_version.specs.Grammar.{Derives};
 ghost use Rattle.pep440_version.specs.Record.{Record};
-ghost use Rattle.pep440_version.specs.Word.{is_packed};
 
-/// Bytes denote at most one packed version, and a packed version has one compiled form: so two have the same bytes exactly
-/// when they are the same record.
-pub fn bytes_are_exact()
-    ensures one { (bytes : List ℕ) (r q : Record) → DenotesPacked bytes r → DenotesPacked bytes q → r ≡ q }
-    ensures same { (a b : List ℕ) (r q : Record) → DenotesPacked a r → DenotesPacked b q → (a ≡ b) ↔ (r ≡ q) }
+/// Every version that a string parses to can be compiled.
+pub fn parsed_versions_compile()
+    ensures { (text : List ℕ) (r : Record) → Derives text r → IsParsed r }
 {}
 
 /// Bytes denote at most one version, and a version has one compiled form: so two have the same bytes exactly when they are
-/// the same record. A packed version has packed bytes alone.
+/// the same record.
 pub fn versions_are_exact()
     ensures one { (bytes : List ℕ) (r q : Record) → DenotesVersion bytes r → DenotesVersion bytes q → r ≡ q }
     ensures same { (a b : List ℕ) (r q : Record) → DenotesVersion a r → DenotesVersion b q → (a ≡ b) ↔ (r ≡ q) }
-    ensures packed { (bytes : List ℕ) (r : Record) → is_packed r ≡ true → DenotesVersion bytes r → DenotesPacked bytes r }
 {}
 
 /// Bytes denote at most one list, and a list has one compiled form: so two have the same bytes exactly when their members are

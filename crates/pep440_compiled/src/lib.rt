@@ -1,30 +1,31 @@
-//! Compiled versions: bytes made once of a version and kept wherever the caller likes, in memory, in a file or in another
-//! process, from which later calls read the version without parsing a string.
+//! Compiled versions and lists: bytes made once of a string and kept wherever the caller likes, in memory, in a file or in another
+//! process. They are compared and matched as they lie, without parsing and without memory.
 //!
-//! A packed version (`pep440_version::Version`) compiles to ten bytes: 1, how many release numbers it has, and its word,
-//! greatest byte first. Any other version compiles to 2 and all its parts. Bytes denote at most one version, and two
-//! versions compile to the same bytes exactly when all their parts are the same: `1.0` and `1.0.0` are equal and compile to
-//! different bytes. `laws` says so. The first byte is the format: bytes of another format are rejected, not misread.
+//! A compiled version is the byte 4, its sort key (`pep440_keys`), and a byte 1 for each zero that ends its release, which is
+//! all that a sort key leaves out. So comparing versions is comparing their sort keys byte by byte, two versions are equal exactly
+//! if their sort keys are the same bytes, and a hash of versions is one of these bytes. Every version that a string parses to has
+//! one compiled form, and bytes denote at most one version: `1.0` and `1.0.0` are equal and compile to different bytes.
 //!
-//! A list of specifiers (`pep440_rs::VersionSpecifiers`) compiles to 3, how many members there are, and each member: its
-//! operator and its compiled version. `contains` reads one member after the other, and over packed versions allocates nothing
-//! but for `===`.
+//! A compiled list of specifiers is the byte 5 and its members: 16 and the operator's number, and then the version, without the
+//! byte 4. The first byte is the format: bytes of another format are rejected, not misread.
+//!
+//! `read_version` and `read_list` reject all bytes that denote nothing. The calls that read bytes as they lie do not test the whole of
+//! them: of bytes that denote nothing they return `NotCompiled` or any result, and never read outside them. Read bytes
+//! from outside once before they are asked.
 #![tactic(auto)]
 
-mod bytes;
-mod calls;
+mod decode;
+mod error;
+mod key_parts;
 pub mod laws;
 mod list;
-mod member_bytes;
-mod packed;
-mod parts;
-mod unpacked;
+mod matching;
+mod parsed;
 mod version;
-mod word_list;
-mod word_matching;
-mod words;
+mod views;
 
-pub use calls::{compare, normalize, sort_key};
-pub use list::{compile_list, contains, contains_version, normalize_list, read_list};
-pub use packed::{NotCompiled, compare_packed, compile_packed, read_packed};
-pub use version::{CompiledError, compile_version, read_version};
+pub use error::{CompileError, CompiledError, NotCompiled};
+pub use list::{compile_list, contains, normalize_list, read_list};
+pub use version::{
+    any_prerelease, compare, compile_version, normalize, push_compiled, read_version, sort_key,
+};

@@ -1,96 +1,152 @@
-//! Any version as bytes.
-ghost use Rattle.std.specs.Prelude.{◌≡◌, ◌++◌, ℕ, List, true, IfErr, IfNone, IfOk, IfSome, IsOk, OnOk};
-ghost use Rattle.pep440_compiled.specs.Format.{DenotesPacked};
-ghost use Rattle.pep440_compiled.specs.Version.{DenotesVersion, IsStored, compiled_bytes};
-ghost use Rattle.pep440_compiled.specs.declared.version.CompiledError.TheVariants.{NotCompiled};
+//! Compiled versions: made, read, compared.
+ghost use Rattle.std.specs.Prelude.{◌≡◌, ◌↔◌, ◌++◌, true, Ok, IfErr, IfOk, MatchResult, OnOk, string_bytes};
+ghost use Rattle.pep440_compiled.specs.Version.{DenotesVersion, IsParsed, compiled_bytes, version_bytes, zero_bytes};
+ghost use Rattle.pep440_compiled.specs.declared.error.CompileError.TheVariants.{NotParsed};
+ghost use Rattle.pep440_compiled.specs.declared.error.CompiledError.TheVariants as unread;
+ghost use Rattle.pep440_keys.specs.SortKeys.{key_bytes};
+ghost use Rattle.pep440_rs.specs.Matching.{any_prerelease};
+ghost use Rattle.pep440_version.specs.Key.{record_cmp};
+ghost use Rattle.pep440_version.specs.Print.{print};
 ghost use Rattle.pep440_version.specs.Record.{Record};
-ghost use Rattle.pep440_version.specs.Word.{is_packed};
 
-use crate::packed::{compile_packed, read_packed};
-use crate::unpacked;
+use crate::decode::decode_version;
+use crate::error::{CompileError, CompiledError, NotCompiled};
+use crate::key_parts::{split_release, split_suffix};
+use crate::parsed::is_parsed;
+use crate::views::{VERSION, view_version};
+use pep440_keys::push_sort_key;
 use pep440_version::Version;
+use pep440_version::key::trim_trailing_zeros;
 use std::alloc::{AllocError, Global};
+use std::cmp::Ordering;
 
-/// Why bytes cannot be read.
-#[derive(Clone, Copy, Debug, PartialEq, Eq, thiserror::Error)]
-pub enum CompiledError {
-    /// The bytes denote nothing.
-    #[error("not compiled")]
-    NotCompiled,
-    /// Out of memory.
-    #[error("out of memory")]
-    OutOfMemory,
+// A byte 1 for each zero that ends the release.
+fn push_zeros(bytes: &mut Vec<u8>, release: &[u64]) -> Result<(), AllocError>
+    ensures { OnOk result (bytes.new.items ≡ bytes.old.items ++ zero_bytes release.now) }
+{
+    let kept = trim_trailing_zeros(release).len();
+    for _ in kept..release.len() {
+        bytes.push(1)?;
+    }
+    Ok(())
 }
 
-// Appends the bytes of a version.
-#[tactic(auto, using(crate::proofs::Whole::when_packed, crate::proofs::Whole::when_unpacked))]
+// Appends the sort key and the zeros that it leaves out.
 pub(crate) fn push_version(bytes: &mut Vec<u8>, version: &Version) -> Result<(), AllocError>
+    ensures { OnOk result (bytes.new.items ≡ bytes.old.items ++ version_bytes version.now) }
+{
+    push_sort_key(bytes, version)?;
+    push_zeros(bytes, version.release())
+}
+
+/// Appends the byte 4, the sort key, and a byte 1 for each zero that ends the release: the compiled form, if a string parses to
+/// the version. Others, as the bounds of ranges with a sentinel, are written in the same way; their bytes denote no version.
+pub fn push_compiled(bytes: &mut Vec<u8>, version: &Version) -> Result<(), AllocError>
     ensures { OnOk result (bytes.new.items ≡ bytes.old.items ++ compiled_bytes version.now) }
 {
-    match compile_packed(version) {
-        Some(packed) => bytes.extend_from_slice(&packed),
-        None => unpacked::push_parts(bytes, version),
-    }
+    bytes.push(VERSION)?;
+    push_version(bytes, version)
 }
 
-// The leading version, and the rest; `None` if there is none.
-#[inline(always)]
-pub(crate) fn read_leading(
-    alloc: Global,
-    bytes: &[u8],
-) -> Result<Option<(Version, &[u8])>, AllocError>
-    ensures some { IfOk result (λ o. IfSome o (λ p. IsStored p.0 × (bytes.now ≡ compiled_bytes p.0 ++ p.1.now))) }
-    ensures none { IfOk result (λ o. IfNone o ((r : Record) (rest : List ℕ) → IsStored r → bytes.now ≡ compiled_bytes r ++ rest → ⊥)) }
-    ensures memory { (r : Record) (rest : List ℕ) → IsStored r → is_packed r ≡ true → bytes.now ≡ compiled_bytes r ++ rest → IsOk result }
-{
-    if let Some((version, rest)) = read_leading_packed(bytes) {
-        return Ok(Some((version, rest)));
-    }
-    let Some((version, rest)) = unpacked::read_leading(alloc, bytes)? else {
-        return Ok(None);
-    };
-    Ok(Some((version, rest)))
-}
-
-// The leading packed version, and the rest; `None` if there is none.
-#[inline(always)]
-fn read_leading_packed(bytes: &[u8]) -> Option<(Version, &[u8])>
-    ensures some { IfSome result (λ p. IsStored p.0 × (bytes.now ≡ compiled_bytes p.0 ++ p.1.now)) }
-    ensures none { IfNone result ((r : Record) (rest : List ℕ) → IsStored r → is_packed r ≡ true → bytes.now ≡ compiled_bytes r ++ rest → ⊥) }
-{
-    let (front, rest) = bytes.split_first_chunk::<10>()?;
-    let version = read_packed(front).ok()?;
-    unpacked::prove_stored(&version);
-    Some((version, rest))
-}
-
-/// The bytes of a version: ten if it is packed, else all its parts.
+/// The compiled form of a version; `NotParsed` if no string parses to the version.
 ///
-/// Allocates; the only error is out of memory.
-pub fn compile_version(alloc: Global, version: &Version) -> Result<Vec<u8>, AllocError>
-    ensures { IfOk result (λ bytes. DenotesVersion bytes.items version.now) }
+/// Allocates, once for a version that is packed.
+pub fn compile_version(alloc: Global, version: &Version) -> Result<Vec<u8>, CompileError>
+    ensures ok { IfOk result (λ bytes. DenotesVersion bytes.items version.now) }
+    ensures err { IfErr result (λ e. e ≡ NotParsed → IsParsed version.now → ⊥) }
 {
-    unpacked::prove_stored(version);
-    let mut bytes = Vec::new(alloc);
-    push_version(&mut bytes, version)?;
+    if !is_parsed(version) {
+        return Err(CompileError::NotParsed);
+    }
+    let mut bytes = Vec::with_capacity(alloc, 24)?;
+    push_compiled(&mut bytes, version)?;
     Ok(bytes)
+}
+
+// The bytes are the compiled form of this version.
+fn is_compiled_form(alloc: Global, version: &Version, bytes: &[u8]) -> Result<bool, AllocError>
+    ensures { IfOk result (λ b. (b ≡ true) ↔ DenotesVersion bytes.now version.now) }
+{
+    match compile_version(alloc, version) {
+        Ok(compiled) => Ok(compiled.as_slice() == bytes),
+        Err(CompileError::NotParsed) => Ok(false),
+        Err(CompileError::OutOfMemory) => Err(AllocError),
+    }
 }
 
 /// The version that the bytes denote; `NotCompiled` if they denote none.
 ///
-/// Allocates only if the version is not packed, and may then return `OutOfMemory`.
+/// Allocates, and may return `OutOfMemory`.
 pub fn read_version(alloc: Global, bytes: &[u8]) -> Result<Version, CompiledError>
     ensures ok { IfOk result (λ version. DenotesVersion bytes.now version) }
-    ensures err { IfErr result (λ e. e ≡ NotCompiled → (r : Record) → DenotesVersion bytes.now r → ⊥) }
-    ensures memory { (r : Record) → DenotesPacked bytes.now r → IsOk result }
+    ensures err { IfErr result (λ e. e ≡ unread.NotCompiled → (r : Record) → DenotesVersion bytes.now r → ⊥) }
 {
-    if let Ok(version) = read_packed(bytes) {
-        unpacked::prove_stored(&version);
-        return Ok(version);
+    let Some(view) = view_version(bytes) else {
+        return Err(CompiledError::NotCompiled);
+    };
+    let Some(version) = decode_version(alloc, view)? else {
+        return Err(CompiledError::NotCompiled);
+    };
+    // Bytes that no version compiles to are decoded to something, too.
+    if !is_compiled_form(alloc, &version, bytes)? {
+        return Err(CompiledError::NotCompiled);
     }
-    match unpacked::from_bytes(alloc, bytes) {
-        Ok(Some(version)) => Ok(version),
-        Ok(None) => Err(CompiledError::NotCompiled),
+    Ok(version)
+}
+
+/// The normalized form of the version that the bytes denote (PEP 440, "Normalization"); `NotCompiled` if they denote
+/// none.
+///
+/// Allocates, and may return `OutOfMemory`.
+pub fn normalize(alloc: Global, bytes: &[u8]) -> Result<String, CompiledError>
+    ensures ok { IfOk result (λ text. (r : Record) × DenotesVersion bytes.now r × (string_bytes text ≡ print r)) }
+    ensures err { IfErr result (λ e. e ≡ unread.NotCompiled → (r : Record) → DenotesVersion bytes.now r → ⊥) }
+{
+    let version = read_version(alloc, bytes)?;
+    match version.to_string(alloc) {
+        Ok(text) => Ok(text),
         Err(_) => Err(CompiledError::OutOfMemory),
     }
+}
+
+/// The sort key of the version that the bytes denote (`pep440_keys::sort_key`), as it lies in them. Of bytes that denote
+/// none, `NotCompiled` or any part of them.
+///
+/// Does not allocate.
+pub fn sort_key(bytes: &[u8]) -> Result<&[u8], NotCompiled>
+    ensures ok { (r : Record) → DenotesVersion bytes.now r → MatchResult result (λ key. key.now ≡ key_bytes r) (λ _. ⊥) }
+{
+    match view_version(bytes) {
+        Some(view) => Ok(view.key),
+        None => Err(NotCompiled),
+    }
+}
+
+/// The order of the versions that the bytes denote (PEP 440, "Summary of permitted suffixes and relative ordering"). If `a` or
+/// `b` denotes none, `NotCompiled` or any order.
+///
+/// Does not allocate.
+pub fn compare(a: &[u8], b: &[u8]) -> Result<Ordering, NotCompiled>
+    ensures { (r q : Record) → DenotesVersion a.now r → DenotesVersion b.now q → result ≡ Ok (record_cmp r q) }
+{
+    let left = sort_key(a)?;
+    let right = sort_key(b)?;
+    Ok(left.cmp(right))
+}
+
+/// Whether the version that the bytes denote is a pre-release or a developmental release (PEP 440, "Handling of
+/// pre-releases"). Of bytes that denote none, `NotCompiled` or any answer.
+///
+/// Does not allocate.
+pub fn any_prerelease(bytes: &[u8]) -> Result<bool, NotCompiled>
+    ensures { (r : Record) → DenotesVersion bytes.now r → result ≡ Ok (any_prerelease r) }
+{
+    let key = sort_key(bytes)?;
+    let Some((_, rest)) = split_release(key) else {
+        return Err(NotCompiled);
+    };
+    let Some((suffix, _)) = split_suffix(rest) else {
+        return Err(NotCompiled);
+    };
+    Ok(suffix.is_prerelease)
 }

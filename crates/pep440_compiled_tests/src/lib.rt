@@ -1,13 +1,13 @@
-//! Compiled versions and lists: test cases with their bytes, bytes that denote nothing, and failing allocations.
+//! Compiled versions and lists: test cases with their bytes, bytes that denote nothing, what lists contain, and failing allocations.
 #![tactic(auto)]
 
 #[cfg(test)]
 mod lists;
 #[cfg(test)]
-mod packed;
+mod matching;
+#[cfg(test)]
+mod rejected;
 #[cfg(test)]
 mod sizes;
 #[cfg(test)]
 mod versions;
-#[cfg(test)]
-mod words;

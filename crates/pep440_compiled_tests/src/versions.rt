@@ -1,33 +1,50 @@
-//! Test cases: versions that are not packed and their bytes, bytes that denote no version, and failing allocations.
-use pep440_compiled::{CompiledError, compare, compile_version, normalize, read_version, sort_key};
-use pep440_version::Version;
+//! Test cases: versions and their bytes, their order, and failing allocations.
+use pep440_compiled::{
+    CompileError, CompiledError, any_prerelease, compare, compile_version, normalize,
+    push_compiled, read_version, sort_key,
+};
+use pep440_version::{LocalSegment, Version};
 use std::cmp::Ordering;
 use std::test::Fail;
 
-// The format, the epoch, the release with its count, pre, post, dev, min, max, and the local part with its count.
-const EPOCH: &[u8] = &[
-    2, 0, 0, 0, 0, 0, 0, 0, 1, 0, 0, 0, 0, 0, 0, 0, 2, 0, 0, 0, 0, 0, 0, 0, 2, 0, 0, 0, 0, 0, 0, 1,
-    3, 0, 0, 0, 0, 0, 0, 0, 0, 0, 0, 0, 0, 0,
-];
-
-const LOCAL: &[u8] = &[
-    2, 0, 0, 0, 0, 0, 0, 0, 0, 0, 0, 0, 0, 0, 0, 0, 1, 0, 0, 0, 0, 0, 0, 0, 1, 0, 0, 0, 0, 0, 0, 0,
-    0, 0, 0, 0, 0, 2, 1, 0, 0, 0, 0, 0, 0, 0, 2, 97, 98, 2, 0, 0, 0, 0, 0, 0, 0, 7,
-];
-
-const SUFFIXES: &[u8] = &[
-    2, 0, 0, 0, 0, 0, 0, 0, 0, 0, 0, 0, 0, 0, 0, 0, 1, 0, 0, 0, 0, 0, 0, 0, 1, 3, 0, 0, 0, 0, 0, 0,
-    0, 2, 1, 0, 0, 0, 0, 0, 0, 0, 3, 1, 0, 0, 0, 0, 0, 0, 0, 4, 0, 0, 0, 0, 0, 0, 0, 0, 0, 0,
-];
-
-const PACKED: &[u8] = &[1, 3, 0, 1, 2, 3, 0, 0xa0, 0, 0];
-
-const COMPILED: [(&str, &[u8]); 4] = [
+// The format; the epoch; the numbers of the release and a 0; stage, post and dev; the local segments and a 0; a 1 for each zero that
+// ends the release. Before a number, or in one with a stage, stands how many bytes it needs.
+const COMPILED: [(&str, &[u8]); 18] = [
+    ("1.2.3", RELEASE),
+    ("1.0", &[4, 0, 2, 1, 0, 80, 0, 16, 0, 1]),
+    ("1.0.0", &[4, 0, 2, 1, 0, 80, 0, 16, 0, 1, 1]),
+    ("0.0", &[4, 0, 0, 80, 0, 16, 0, 1, 1]),
+    ("1.0.1", &[4, 0, 2, 1, 1, 2, 1, 0, 80, 0, 16, 0]),
     ("1!2.259", EPOCH),
-    ("1+ab.7", LOCAL),
+    (
+        "2024.10.20240101",
+        &[4, 0, 3, 7, 232, 2, 10, 5, 1, 52, 214, 229, 0, 80, 0, 16, 0],
+    ),
+    (
+        "18446744073709551615",
+        &[
+            4, 0, 9, 255, 255, 255, 255, 255, 255, 255, 255, 0, 80, 0, 16, 0,
+        ],
+    ),
+    ("1.dev0", &[4, 0, 2, 1, 0, 16, 0, 0, 0]),
+    ("1a0", &[4, 0, 2, 1, 0, 32, 0, 16, 0]),
+    ("1b300", &[4, 0, 2, 1, 0, 50, 1, 44, 0, 16, 0]),
     ("1rc2.post3.dev4", SUFFIXES),
-    ("1.2.3", PACKED),
+    ("1rc2.dev4", &[4, 0, 2, 1, 0, 65, 2, 0, 1, 4, 0]),
+    ("1.post0", &[4, 0, 2, 1, 0, 80, 16, 16, 0]),
+    ("1.post3.dev4", &[4, 0, 2, 1, 0, 80, 17, 3, 1, 4, 0]),
+    ("1+ab.7", LOCAL),
+    ("1+0", &[4, 0, 2, 1, 0, 80, 0, 16, 2, 0]),
+    ("1.0+u2", &[4, 0, 2, 1, 0, 80, 0, 16, 1, 117, 50, 0, 0, 1]),
 ];
+
+const RELEASE: &[u8] = &[4, 0, 2, 1, 2, 2, 2, 3, 0, 80, 0, 16, 0];
+
+const EPOCH: &[u8] = &[4, 1, 1, 2, 2, 3, 1, 3, 0, 80, 0, 16, 0];
+
+const LOCAL: &[u8] = &[4, 0, 2, 1, 0, 80, 0, 16, 1, 97, 98, 0, 3, 7, 0];
+
+const SUFFIXES: &[u8] = &[4, 0, 2, 1, 0, 65, 2, 17, 3, 1, 4, 0];
 
 fn version_again(rt: HostRuntime, text: &str) -> Result<Version, Fail> {
     match Version::from_str(rt.alloc(), text) {
@@ -36,16 +53,23 @@ fn version_again(rt: HostRuntime, text: &str) -> Result<Version, Fail> {
     }
 }
 
-fn compile_again(rt: HostRuntime, version: &Version) -> Result<Vec<u8>, Fail> {
+fn compile_again(rt: HostRuntime, version: &Version) -> Result<Vec<u8>, CompileError> {
     match compile_version(rt.alloc(), version) {
-        Ok(bytes) => Ok(bytes),
-        Err(_) => Ok(compile_version(rt.alloc(), version)?),
+        Err(CompileError::OutOfMemory) => compile_version(rt.alloc(), version),
+        result => result,
     }
 }
 
 fn read_again(rt: HostRuntime, bytes: &[u8]) -> Result<Version, CompiledError> {
     match read_version(rt.alloc(), bytes) {
         Err(CompiledError::OutOfMemory) => read_version(rt.alloc(), bytes),
+        result => result,
+    }
+}
+
+fn normalize_again(rt: HostRuntime, bytes: &[u8]) -> Result<String, CompiledError> {
+    match normalize(rt.alloc(), bytes) {
+        Err(CompiledError::OutOfMemory) => normalize(rt.alloc(), bytes),
         result => result,
     }
 }
@@ -70,125 +94,85 @@ fn sweep_read_version(rt: HostRuntime) -> Result<(), Fail> {
 }
 
 #[test]
-fn sweep_packed_versions_take_none(rt: HostRuntime) -> Result<(), Fail> {
-    let version = read_version(rt.alloc(), PACKED)?;
-    assert!(rt; version.release() == [1, 2, 3].as_slice());
-    assert!(rt; compare(rt.alloc(), PACKED, PACKED) == Ok(Ordering::Equal));
+fn sweep_normalize(rt: HostRuntime) -> Result<(), Fail> {
+    for (text, bytes) in COMPILED {
+        assert!(rt; normalize_again(rt, bytes)?.as_str() == text);
+    }
     Ok(())
 }
 
-// No format, `1` with its parts, no release number, a pre-release of no kind, an optional number of no tag, a segment of no
-// tag, a string that is not UTF-8, a string and a release that are longer than the bytes, a byte after the end.
-const REJECTED: [&[u8]; 9] = [
-    &[],
-    &[
-        2, 0, 0, 0, 0, 0, 0, 0, 0, 0, 0, 0, 0, 0, 0, 0, 1, 0, 0, 0, 0, 0, 0, 0, 1, 0, 0, 0, 0, 0,
-        0, 0, 0, 0, 0, 0, 0, 0,
-    ],
-    &[
-        2, 0, 0, 0, 0, 0, 0, 0, 1, 0, 0, 0, 0, 0, 0, 0, 0, 0, 0, 0, 0, 0, 0, 0, 0, 0, 0, 0, 0, 0,
-    ],
-    &[
-        2, 0, 0, 0, 0, 0, 0, 0, 1, 0, 0, 0, 0, 0, 0, 0, 1, 0, 0, 0, 0, 0, 0, 0, 1, 4, 0, 0, 0, 0,
-        0, 0, 0, 2, 0, 0, 0, 0, 0, 0, 0, 0, 0, 0, 0, 0,
-    ],
-    &[
-        2, 0, 0, 0, 0, 0, 0, 0, 1, 0, 0, 0, 0, 0, 0, 0, 1, 0, 0, 0, 0, 0, 0, 0, 1, 0, 2, 0, 0, 0,
-        0, 0, 0, 0, 0, 0, 0, 0, 0, 0, 0, 0, 0, 0, 0, 0,
-    ],
-    &[
-        2, 0, 0, 0, 0, 0, 0, 0, 1, 0, 0, 0, 0, 0, 0, 0, 1, 0, 0, 0, 0, 0, 0, 0, 1, 0, 0, 0, 0, 0,
-        0, 0, 0, 0, 0, 0, 0, 1, 3, 0, 0, 0, 0, 0, 0, 0, 1,
-    ],
-    &[
-        2, 0, 0, 0, 0, 0, 0, 0, 1, 0, 0, 0, 0, 0, 0, 0, 1, 0, 0, 0, 0, 0, 0, 0, 1, 0, 0, 0, 0, 0,
-        0, 0, 0, 0, 0, 0, 0, 1, 1, 0, 0, 0, 0, 0, 0, 0, 1, 255,
-    ],
-    &[
-        2, 0, 0, 0, 0, 0, 0, 0, 1, 0, 0, 0, 0, 0, 0, 0, 1, 0, 0, 0, 0, 0, 0, 0, 1, 0, 0, 0, 0, 0,
-        0, 0, 0, 0, 0, 0, 0, 1, 1, 255, 255, 255, 255, 255, 255, 255, 255, 97,
-    ],
-    &[
-        2, 0, 0, 0, 0, 0, 0, 0, 1, 255, 255, 255, 255, 255, 255, 255, 255, 0, 0, 0, 0, 0, 0, 0, 1,
-    ],
-];
+// `1.0` with the sentinel `max`, and `1+A`, to which no string parses; the bytes of the first.
+fn with_sentinel(rt: HostRuntime) -> Result<Version, Fail> {
+    let version = Version::new(rt.alloc(), &[1, 0])?;
+    Ok(version.with_max(rt.alloc(), Some(0))?)
+}
+
+fn with_capital(rt: HostRuntime) -> Result<Version, Fail> {
+    let segment = LocalSegment::String(String::from_str(rt.alloc(), "A")?);
+    let local = vec![in rt.alloc(); segment]?;
+    Ok(Version::new(rt.alloc(), &[1])?.with_local(rt.alloc(), local)?)
+}
+
+const SENTINEL: &[u8] = &[4, 0, 2, 1, 0, 80, 32, 16, 0, 1];
 
 #[test]
-fn sweep_rejected(rt: HostRuntime) -> Result<(), Fail> {
-    for (i, bytes) in REJECTED.iter().enumerate() {
-        let rejected = matches!(read_again(rt, bytes), Err(CompiledError::NotCompiled));
-        assert!(rt; rejected, "{i}");
+fn others_are_not_compiled(rt: HostRuntime) -> Result<(), Fail> {
+    let (sentinel, capital) = (with_sentinel(rt)?, with_capital(rt)?);
+    for version in [&sentinel, &capital] {
+        let not_parsed = matches!(
+            compile_version(rt.alloc(), version),
+            Err(CompileError::NotParsed)
+        );
+        assert!(rt; not_parsed);
     }
+    let mut bytes = Vec::new(rt.alloc());
+    push_compiled(&mut bytes, &sentinel)?;
+    assert!(rt; bytes.as_slice() == SENTINEL);
     Ok(())
-}
-
-fn compare_again(rt: HostRuntime, a: &[u8], b: &[u8]) -> Result<Ordering, CompiledError> {
-    match compare(rt.alloc(), a, b) {
-        Err(CompiledError::OutOfMemory) => compare(rt.alloc(), a, b),
-        result => result,
-    }
 }
 
 // PEP 440, "Summary of permitted suffixes and relative ordering", "Version epochs" and "Local version identifiers".
-const RISING: [&[u8]; 4] = [SUFFIXES, LOCAL, PACKED, EPOCH];
-
-#[test]
-fn sweep_compare(rt: HostRuntime) -> Result<(), Fail> {
-    for (i, low) in RISING.iter().enumerate() {
-        for high in RISING.iter().skip(i + 1) {
-            assert!(rt; compare_again(rt, low, high) == Ok(Ordering::Less), "{i}");
-            assert!(rt;
-                compare_again(rt, high, low) == Ok(Ordering::Greater),
-                "{i}"
-            );
-        }
-    }
-    Ok(())
-}
-
-fn normalize_again(rt: HostRuntime, bytes: &[u8]) -> Result<String, CompiledError> {
-    match normalize(rt.alloc(), bytes) {
-        Err(CompiledError::OutOfMemory) => normalize(rt.alloc(), bytes),
-        result => result,
-    }
-}
-
-#[test]
-fn sweep_normalize(rt: HostRuntime) -> Result<(), Fail> {
-    for (text, bytes) in COMPILED {
-        assert!(rt; normalize_again(rt, bytes)?.as_str() == text, "{text}");
-    }
-    Ok(())
-}
-
-fn sort_key_again(rt: HostRuntime, bytes: &[u8]) -> Result<Vec<u8>, CompiledError> {
-    match sort_key(rt.alloc(), bytes) {
-        Err(CompiledError::OutOfMemory) => sort_key(rt.alloc(), bytes),
-        result => result,
-    }
-}
-
-const KEYS: [(&[u8], &[u8]); 2] = [
-    (LOCAL, &[0, 2, 1, 0, 80, 0, 16, 1, 97, 98, 0, 3, 7, 0]),
-    (PACKED, &[0, 2, 1, 2, 2, 2, 3, 0, 80, 0, 16, 0]),
+const RISING: [&[u8]; 7] = [
+    &[4, 0, 2, 1, 0, 16, 0, 0, 0],
+    &[4, 0, 2, 1, 0, 32, 0, 16, 0],
+    SUFFIXES,
+    &[4, 0, 2, 1, 0, 80, 0, 16, 0, 1],
+    LOCAL,
+    RELEASE,
+    EPOCH,
 ];
 
 #[test]
-fn sweep_sort_key(rt: HostRuntime) -> Result<(), Fail> {
-    for (bytes, want) in KEYS {
-        assert!(rt; sort_key_again(rt, bytes)?.as_slice() == want);
+fn sweep_compare_takes_none(rt: HostRuntime) -> Result<(), Fail> {
+    for (i, low) in RISING.iter().enumerate() {
+        for (j, high) in RISING.iter().enumerate() {
+            assert!(rt; compare(low, high) == Ok(i.cmp(&j)), "{i} and {j}");
+        }
     }
+    let one: &[u8] = &[4, 0, 2, 1, 0, 80, 0, 16, 0];
+    assert!(rt; compare(one, RISING[3]) == Ok(Ordering::Equal));
+    Ok(())
+}
+
+// PEP 440, "Handling of pre-releases": the first three of them.
+#[test]
+fn sweep_any_prerelease_takes_none(rt: HostRuntime) -> Result<(), Fail> {
+    for (i, bytes) in RISING.iter().enumerate() {
+        assert!(rt; any_prerelease(bytes) == Ok(i < 3), "{i}");
+    }
+    let post: &[u8] = &[4, 0, 2, 1, 0, 80, 16, 16, 0];
+    let dev_of_post: &[u8] = &[4, 0, 2, 1, 0, 80, 16, 0, 0];
+    assert!(rt; any_prerelease(post) == Ok(false) && any_prerelease(dev_of_post) == Ok(true));
     Ok(())
 }
 
 #[test]
-fn calls_reject_the_rest(rt: HostRuntime) -> Result<(), Fail> {
-    for (i, bytes) in REJECTED.iter().enumerate() {
-        let first = compare(rt.alloc(), bytes, PACKED) == Err(CompiledError::NotCompiled);
-        let second = compare(rt.alloc(), PACKED, bytes) == Err(CompiledError::NotCompiled);
-        let no_text = normalize(rt.alloc(), bytes).is_err();
-        let no_key = sort_key(rt.alloc(), bytes).is_err();
-        assert!(rt; first && second && no_text && no_key, "{i}");
+fn sweep_sort_key_takes_none(rt: HostRuntime) -> Result<(), Fail> {
+    for (bytes, want) in [
+        (LOCAL, &LOCAL[1..]),
+        (RISING[3], [0, 2, 1, 0, 80, 0, 16, 0].as_slice()),
+    ] {
+        assert!(rt; sort_key(bytes) == Ok(want));
     }
     Ok(())
 }

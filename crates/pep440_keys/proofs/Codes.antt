@@ -85,7 +85,7 @@ module _ {A : Type 0} {P : A → Type 0} {cmp : A → A → Ordering} {code : A 
 
 -- ---- releases
 
-number_opens : (n : ℕ) → Opens (number_bytes 1 n)
+pub number_opens : (n : ℕ) → Opens (number_bytes 1 n)
 number_opens n = record { first = 1 + length (needed_bytes n); rest = needed_bytes n; above = omega arith; is = refl }
 
 pub release_is_code : IsCode (λ xs. All Fits (trim xs)) release_cmp release_bytes
@@ -117,7 +117,7 @@ segments (Number m) (Text t) p q u v =
     ap (λ o. ordering_then o (slice_cmp nat_cmp (needed_bytes m ++ u) ((t ++ 0 ∷ []) ++ v))) (is_above (2 + length (needed_bytes m)) 1 (omega arith))
 segments (Number m) (Number n) p q u v = (number_is_code 2).splits m n p.0 q.0 u v
 
-segment_opens : (s : LocalSegmentValue) → Opens (segment_bytes s)
+pub segment_opens : (s : LocalSegmentValue) → Opens (segment_bytes s)
 segment_opens (Text t) = record { first = 1; rest = t ++ 0 ∷ []; above = omega arith; is = refl }
 segment_opens (Number n) = record { first = 2 + length (needed_bytes n); rest = needed_bytes n; above = omega arith; is = refl }
 

@@ -30,7 +30,7 @@ use Rattle.pep440_keys.specs.SortKeys.{HasNoZero, IsKeyed, key_bytes, local_byte
 zero_fits : Fits 0
 zero_fits = lit< tt
 
-stage_fits : (min : Option ℕ) (pre : Option Prerelease) (dev post max : Option ℕ) → IfSome pre (λ p. Fits p.number) → Fits (stage_rank (stage_of min pre dev post max)).1
+pub stage_fits : (min : Option ℕ) (pre : Option Prerelease) (dev post max : Option ℕ) → IfSome pre (λ p. Fits p.number) → Fits (stage_rank (stage_of min pre dev post max)).1
 stage_fits (Some n) pre dev post max h = zero_fits
 stage_fits None (Some p) dev post max h = h
 stage_fits None None None post max h = zero_fits
@@ -38,12 +38,12 @@ stage_fits None None (Some d) None None h = zero_fits
 stage_fits None None (Some d) None (Some m) h = zero_fits
 stage_fits None None (Some d) (Some p) max h = zero_fits
 
-post_fits : (max post : Option ℕ) → IfSome max Fits → IfSome post Fits → Fits (post_rank (post_of max post)).1
+pub post_fits : (max post : Option ℕ) → IfSome max Fits → IfSome post Fits → Fits (post_rank (post_of max post)).1
 post_fits (Some m) post h k = h
 post_fits None (Some p) h k = k
 post_fits None None h k = zero_fits
 
-dev_fits : (min dev : Option ℕ) → IfSome min Fits → IfSome dev Fits → Fits (dev_rank (dev_of min dev)).1
+pub dev_fits : (min dev : Option ℕ) → IfSome min Fits → IfSome dev Fits → Fits (dev_rank (dev_of min dev)).1
 dev_fits (Some n) dev h k = h
 dev_fits None (Some d) h k = k
 dev_fits None None h k = zero_fits
@@ -71,7 +71,7 @@ six_in_turn : (a b c d e f o : Ordering)
     ≡ ordering_then (ordering_then a (ordering_then b (ordering_then c (ordering_then d (ordering_then e f))))) o
 six_in_turn a b c d e f o = sym (simp then_assoc)
 
-release_fits : (r : Record) → IsKeyed r → All Fits (trim r.release)
+pub release_fits : (r : Record) → IsKeyed r → All Fits (trim r.release)
 release_fits r h = All-from_recursion Fits (trim r.release) (trim_fits r.release (recursion_from_All Fits r.release h.valid.release))
 
 local_plain : (r : Record) → IsKeyed r → All IsPlain r.local
@@ -120,7 +120,7 @@ lower_above [] h = tt
 lower_above (zero ∷ t) h = absurd (true≢false (sym h))
 lower_above (suc b ∷ t) h = (zero-lt-suc b, lower_above t (second_so (is_lower (suc b)) (list_all is_lower t) h))
 
-no_zero : (s : LocalSegmentValue) → SegmentRereads s → HasNoZero s
+pub no_zero : (s : LocalSegmentValue) → SegmentRereads s → HasNoZero s
 no_zero (Text t) h = All-from_recursion (λ b. 0 < b) t (lower_above t h.1)
 no_zero (Number n) h = tt
 

@@ -10,35 +10,27 @@ use crate::compiled::{
 use std::alloc::Global;
 use std::test::Fail;
 
-// `1.2.3`: the format, how many numbers, the word.
-const PACKED: &[u8] = &[1, 3, 0, 1, 2, 3, 0, 0xa0, 0, 0];
+// `1.2.3`: the format; the epoch; each number of the release and what ends it; no pre-release, post-release, dev release and local part.
+const RELEASE: &[u8] = &[4, 0, 2, 1, 2, 2, 2, 3, 0, 80, 0, 16, 0];
 
-// `1rc2.post3.dev4`: the format, the epoch, the release with its count, pre, post, dev, min, max, no local segment.
-const SUFFIXES: &[u8] = &[
-    2, 0, 0, 0, 0, 0, 0, 0, 0, 0, 0, 0, 0, 0, 0, 0, 1, 0, 0, 0, 0, 0, 0, 0, 1, 3, 0, 0, 0, 0, 0, 0,
-    0, 2, 1, 0, 0, 0, 0, 0, 0, 0, 3, 1, 0, 0, 0, 0, 0, 0, 0, 4, 0, 0, 0, 0, 0, 0, 0, 0, 0, 0,
-];
+// `1rc2.post3.dev4`.
+const SUFFIXES: &[u8] = &[4, 0, 2, 1, 0, 65, 2, 17, 3, 1, 4, 0];
 
 // `1+ab.7`.
-const LOCAL: &[u8] = &[
-    2, 0, 0, 0, 0, 0, 0, 0, 0, 0, 0, 0, 0, 0, 0, 0, 1, 0, 0, 0, 0, 0, 0, 0, 1, 0, 0, 0, 0, 0, 0, 0,
-    0, 0, 0, 0, 0, 2, 1, 0, 0, 0, 0, 0, 0, 0, 2, 97, 98, 2, 0, 0, 0, 0, 0, 0, 0, 7,
-];
+const LOCAL: &[u8] = &[4, 0, 2, 1, 0, 80, 0, 16, 1, 97, 98, 0, 3, 7, 0];
 
-// `1.0` above each of its post-releases and local versions, which no string denotes.
-const SENTINEL: &[u8] = &[1, 2, 0, 1, 0, 0, 0, 0xe0, 0, 0];
+// `1!2.259.0`: a byte 1 for the zero at the end.
+const EPOCH: &[u8] = &[4, 1, 1, 2, 2, 3, 1, 3, 0, 80, 0, 16, 0, 1];
 
-// `>=1.0, !=1.5.*, <2.0`: the format, how many members, and each: its operator and its version.
+// `>=1.0, !=1.5.*, <2.0`: the format, and each member: 16 and the number of its operator, and its version.
 const THREE: &[u8] = &[
-    3, 0, 0, 0, 0, 0, 0, 0, 3, 9, 1, 2, 0, 1, 0, 0, 0, 0xa0, 0, 0, 4, 1, 2, 0, 1, 5, 0, 0, 0xa0, 0,
-    0, 6, 1, 2, 0, 2, 0, 0, 0, 0xa0, 0, 0,
+    5, 25, 0, 2, 1, 0, 80, 0, 16, 0, 1, 20, 0, 2, 1, 2, 5, 0, 80, 0, 16, 0, 22, 0, 2, 2, 0, 80, 0,
+    16, 0, 1,
 ];
 
 // `~=1.0b2, ===1+7`.
 const EXACT: &[u8] = &[
-    3, 0, 0, 0, 0, 0, 0, 0, 2, 5, 1, 2, 0, 1, 0, 0, 0, 0x60, 0, 2, 2, 2, 0, 0, 0, 0, 0, 0, 0, 0, 0,
-    0, 0, 0, 0, 0, 0, 1, 0, 0, 0, 0, 0, 0, 0, 1, 0, 0, 0, 0, 0, 0, 0, 0, 0, 0, 0, 0, 1, 2, 0, 0, 0,
-    0, 0, 0, 0, 7,
+    5, 21, 0, 2, 1, 0, 49, 2, 0, 16, 0, 1, 18, 0, 2, 1, 0, 80, 0, 16, 3, 7, 0,
 ];
 
 // The calls that write bytes.
@@ -48,7 +40,6 @@ enum Call {
     CompileList,
     Normalize,
     NormalizeList,
-    SortKey,
 }
 
 fn write(alloc: Global, call: Call, given: &[u8], out: &mut [u8], written: &mut usize) -> u8 {
@@ -57,36 +48,26 @@ fn write(alloc: Global, call: Call, given: &[u8], out: &mut [u8], written: &mut 
         Call::CompileList => pep440_compile_list(alloc, given, out, written),
         Call::Normalize => pep440_normalize_compiled(alloc, given, out, written),
         Call::NormalizeList => pep440_normalize_list_compiled(alloc, given, out, written),
-        Call::SortKey => pep440_sort_key_compiled(alloc, given, out, written),
     }
 }
 
-const WRITTEN: [(Call, &[u8], &[u8]); 14] = [
-    (Call::Compile, b" v1.2.3", PACKED),
+const WRITTEN: [(Call, &[u8], &[u8]); 12] = [
+    (Call::Compile, b" v1.2.3", RELEASE),
     (Call::Compile, b"1-RC2.post3dev4", SUFFIXES),
     (Call::Compile, b"1+AB-7", LOCAL),
+    (Call::Compile, b"1!2.259.0", EPOCH),
     (Call::CompileList, b"<2.0,>=1.0 ,!=1.5.*", THREE),
     (Call::CompileList, b"~=1.0b2, ===1+7", EXACT),
-    (Call::CompileList, b"", &[3, 0, 0, 0, 0, 0, 0, 0, 0]),
-    (Call::Normalize, PACKED, b"1.2.3"),
+    (Call::CompileList, b"", &[5]),
+    (Call::Normalize, EPOCH, b"1!2.259.0"),
     (Call::Normalize, SUFFIXES, b"1rc2.post3.dev4"),
     (Call::Normalize, LOCAL, b"1+ab.7"),
-    (Call::Normalize, SENTINEL, b"1.0"),
     (Call::NormalizeList, THREE, b">=1.0, !=1.5.*, <2.0"),
     (Call::NormalizeList, EXACT, b"~=1.0b2, ===1+7"),
-    (
-        Call::SortKey,
-        PACKED,
-        &[0, 2, 1, 2, 2, 2, 3, 0, 80, 0, 16, 0],
-    ),
-    (
-        Call::SortKey,
-        LOCAL,
-        &[0, 2, 1, 0, 80, 0, 16, 1, 97, 98, 0, 3, 7, 0],
-    ),
 ];
 
-// Strings that are no version and no list; no byte, bytes of the other kind, a byte too few and one too many.
+// Strings that are no version and no list; no byte, bytes of the other kind, of an older format, and with a sentinel, a byte too few
+// and one too many.
 const ERRORS: [(Call, &[u8], u8); 14] = [
     (Call::Compile, b"1.2.3.4.5.6x", 1),
     (Call::Compile, b"1.0\xff", 1),
@@ -94,14 +75,14 @@ const ERRORS: [(Call, &[u8], u8); 14] = [
     (Call::CompileList, b">=1.0\xff", 2),
     (Call::Normalize, b"", 6),
     (Call::Normalize, THREE, 6),
-    (Call::Normalize, &[1, 3, 0, 1, 2, 3, 0, 0xa0, 0], 6),
-    (Call::Normalize, &[1, 3, 0, 1, 2, 3, 0, 0xa0, 0, 0, 0], 6),
+    (Call::Normalize, &[1, 3, 0, 1, 2, 3, 0, 0xa0, 0, 0], 6),
+    (Call::Normalize, &[4, 0, 2, 1, 0, 80, 32, 16, 0], 6),
+    (Call::Normalize, &[4, 0, 2, 1, 0, 80, 0, 16], 6),
+    (Call::Normalize, &[4, 0, 2, 1, 0, 80, 0, 16, 0, 0], 6),
     (Call::NormalizeList, b"", 6),
-    (Call::NormalizeList, PACKED, 6),
-    (Call::NormalizeList, &[3, 0, 0, 0, 0, 0, 0, 0], 6),
-    (Call::NormalizeList, &[3, 0, 0, 0, 0, 0, 0, 0, 0, 0], 6),
-    (Call::SortKey, b"1.2.3", 6),
-    (Call::SortKey, &[4, 3, 0, 1, 2, 3, 0, 0xa0, 0, 0], 6),
+    (Call::NormalizeList, RELEASE, 6),
+    (Call::NormalizeList, &[3, 0, 0, 0, 0, 0, 0, 0, 0], 6),
+    (Call::NormalizeList, &[5, 25, 0, 2, 1, 0, 80, 0, 16], 6),
 ];
 
 // The status of the call, made for a second time where an allocation failed; what the caller passed is then as it was.
@@ -161,98 +142,74 @@ fn little_room(rt: HostRuntime) -> Result<(), Fail> {
     Ok(())
 }
 
-// PEP 440, "Summary of permitted suffixes and relative ordering" and "Local version identifiers"; a sentinel lies above what
-// has none.
-const RISING: [&[u8]; 4] = [SUFFIXES, LOCAL, SENTINEL, PACKED];
+#[test]
+fn sweep_sort_key_takes_none(rt: HostRuntime) -> Result<(), Fail> {
+    for compiled in [RELEASE, SUFFIXES, LOCAL] {
+        let (mut out, mut written) = ([7u8; 16], 99);
+        assert!(rt; pep440_sort_key_compiled(compiled, &mut out, &mut written) == 0);
+        assert!(rt; out.starts_with(&compiled[1..]) && out.get(written) == Some(&7));
+        assert!(rt; pep440_sort_key_compiled(compiled, &mut out[..2], &mut written) == 4);
+        assert!(rt; written == compiled.len() - 1);
+    }
+    Ok(())
+}
+
+// PEP 440, "Summary of permitted suffixes and relative ordering", "Local version identifiers" and "Version epochs".
+const RISING: [&[u8]; 4] = [SUFFIXES, LOCAL, RELEASE, EPOCH];
 
 #[test]
-fn sweep_compare(rt: HostRuntime) -> Result<(), Fail> {
+fn sweep_compare_takes_none(rt: HostRuntime) -> Result<(), Fail> {
     for (i, left) in RISING.iter().enumerate() {
         for (j, right) in RISING.iter().enumerate() {
             let mut order = 7;
-            let mut status = pep440_compare_compiled(rt.alloc(), left, right, &mut order);
-            if status == 3 {
-                assert!(rt; order == 7);
-                status = pep440_compare_compiled(rt.alloc(), left, right, &mut order);
-            }
-            let want = if i < j {
-                -1
-            } else if i == j {
-                0
-            } else {
-                1
-            };
-            assert!(rt; status == 0 && order == want, "{i} and {j}");
+            assert!(rt; pep440_compare_compiled(left, right, &mut order) == 0);
+            assert!(rt; order == crate::order_number(i.cmp(&j)), "{i} and {j}");
         }
     }
     Ok(())
 }
 
 // `1.5`, and `2.0.dev1`, which is a developmental release.
-const FIFTH: &[u8] = &[1, 2, 0, 1, 5, 0, 0, 0xa0, 0, 0];
+const FIFTH: &[u8] = &[4, 0, 2, 1, 2, 5, 0, 80, 0, 16, 0];
 
-const EARLY: &[u8] = &[1, 2, 0, 2, 0, 0, 0, 0x20, 0, 1];
+const EARLY: &[u8] = &[4, 0, 2, 2, 0, 16, 0, 1, 1, 0, 1];
 
 #[test]
-fn sweep_contains(rt: HostRuntime) -> Result<(), Fail> {
+fn sweep_contains_takes_none(rt: HostRuntime) -> Result<(), Fail> {
     for (i, (list, version, want, want_prerelease)) in [
-        (THREE, PACKED, 1, 0),
+        (THREE, RELEASE, 1, 0),
         (THREE, FIFTH, 0, 0),
         (THREE, EARLY, 0, 1),
         (THREE, SUFFIXES, 0, 1),
         (EXACT, LOCAL, 0, 0),
-        (&[3, 0, 0, 0, 0, 0, 0, 0, 0], EARLY, 1, 1),
+        (&[5], EARLY, 1, 1),
     ]
     .iter()
     .enumerate()
     {
-        let (mut contained, mut prerelease) = (7, 7);
-        let mut status = pep440_contains_compiled(
-            rt.alloc(),
-            list,
-            version,
-            &mut contained,
-            &mut prerelease,
+        let (mut is, mut early) = (7, 7);
+        assert!(rt;
+            pep440_contains_compiled(list, version, &mut is, &mut early) == 0,
+            "{i}"
         );
-        if status == 3 {
-            assert!(rt; contained == 7 && prerelease == 7);
-            status = pep440_contains_compiled(
-                rt.alloc(),
-                list,
-                version,
-                &mut contained,
-                &mut prerelease,
-            );
-        }
-        assert!(rt; status == 0, "{i}");
-        assert!(rt; contained == *want && prerelease == *want_prerelease, "{i}");
+        assert!(rt; is == *want && early == *want_prerelease, "{i}");
     }
-    Ok(())
-}
-
-// Over packed versions nothing is allocated.
-#[test]
-fn sweep_packed_take_none(rt: HostRuntime) -> Result<(), Fail> {
-    let mut order = 7;
-    assert!(rt; pep440_compare_compiled(rt.alloc(), PACKED, FIFTH, &mut order) == 0);
-    assert!(rt; order == -1);
-    let (mut is, mut early) = (7, 7);
-    assert!(rt; pep440_contains_compiled(rt.alloc(), THREE, PACKED, &mut is, &mut early) == 0);
-    assert!(rt; is == 1 && early == 0);
     Ok(())
 }
 
 #[test]
 fn others_are_rejected(rt: HostRuntime) -> Result<(), Fail> {
     let mut order = 7;
-    assert!(rt; pep440_compare_compiled(rt.alloc(), PACKED, b"1.2.3", &mut order) == 6);
-    assert!(rt; pep440_compare_compiled(rt.alloc(), THREE, PACKED, &mut order) == 6);
-    assert!(rt; order == 7);
+    assert!(rt; pep440_compare_compiled(RELEASE, b"1.2.3", &mut order) == 6);
+    assert!(rt; pep440_compare_compiled(THREE, RELEASE, &mut order) == 6 && order == 7);
     let (mut is, mut early) = (7, 7);
-    assert!(rt; pep440_contains_compiled(rt.alloc(), PACKED, PACKED, &mut is, &mut early) == 6);
-    assert!(rt; pep440_contains_compiled(rt.alloc(), THREE, THREE, &mut is, &mut early) == 6);
-    assert!(rt; pep440_contains_compiled(rt.alloc(), b"", b"", &mut is, &mut early) == 6);
+    assert!(rt; pep440_contains_compiled(RELEASE, RELEASE, &mut is, &mut early) == 6);
+    assert!(rt; pep440_contains_compiled(THREE, THREE, &mut is, &mut early) == 6);
+    assert!(rt; pep440_contains_compiled(b"", b"", &mut is, &mut early) == 6);
     assert!(rt; is == 7 && early == 7);
+    let (mut out, mut written) = ([7u8; 16], 99);
+    assert!(rt; pep440_sort_key_compiled(b"1.2.3", &mut out, &mut written) == 6);
+    assert!(rt; out == [7; 16] && written == 99);
     Ok(())
 }
 
@@ -275,17 +232,12 @@ fn ask_keys(alloc: Global, is_cover: bool, list: &[u8], keys: &mut Keys) -> u8 {
 }
 
 // `<=1.0`; `!=1`; `==18446744073709551615.*`, above which no bound lies.
-const BELOW: &[u8] = &[
-    3, 0, 0, 0, 0, 0, 0, 0, 1, 7, 1, 2, 0, 1, 0, 0, 0, 0xa0, 0, 0,
-];
+const BELOW: &[u8] = &[5, 23, 0, 2, 1, 0, 80, 0, 16, 0, 1];
 
-const NOT_ONE: &[u8] = &[
-    3, 0, 0, 0, 0, 0, 0, 0, 1, 3, 1, 1, 0, 1, 0, 0, 0, 0xa0, 0, 0,
-];
+const NOT_ONE: &[u8] = &[5, 19, 0, 2, 1, 0, 80, 0, 16, 0];
 
 const AT_MAX: &[u8] = &[
-    3, 0, 0, 0, 0, 0, 0, 0, 1, 1, 2, 0, 0, 0, 0, 0, 0, 0, 0, 0, 0, 0, 0, 0, 0, 0, 1, 255, 255, 255,
-    255, 255, 255, 255, 255, 0, 0, 0, 0, 0, 0, 0, 0, 0, 0, 0, 0, 0,
+    5, 17, 0, 9, 255, 255, 255, 255, 255, 255, 255, 255, 0, 80, 0, 16, 0,
 ];
 
 // The key of `1.0`, with a byte behind it, and that of `1.0.post0.dev0`.
@@ -299,7 +251,7 @@ fn sweep_interval_keys(rt: HostRuntime) -> Result<(), Fail> {
         (false, BELOW, 0, BEHIND_ONE, [0, 9, 99, 99]),
         (true, BELOW, 0, ABOVE_ONE, [0, 8, 99, 99]),
         (false, THREE, 4, b"".as_slice(), [99; 4]),
-        (true, PACKED, 6, b"", [99; 4]),
+        (true, RELEASE, 6, b"", [99; 4]),
         (false, AT_MAX, 5, b"", [99; 4]),
         (true, AT_MAX, 5, b"", [99; 4]),
     ] {
@@ -352,7 +304,7 @@ fn sweep_parts_of(rt: HostRuntime) -> Result<(), Fail> {
 fn little_room_for_parts(rt: HostRuntime) -> Result<(), Fail> {
     let mut parts = NO_PARTS;
     let mut release = [7; 2];
-    assert!(rt; pep440_parts_of_compiled(rt.alloc(), PACKED, &mut parts, &mut release) == 4);
+    assert!(rt; pep440_parts_of_compiled(rt.alloc(), RELEASE, &mut parts, &mut release) == 4);
     assert!(rt; parts.epoch == 0 && parts.release_length == 3 && release == [7; 2]);
     assert!(rt; pep440_parts_of_compiled(rt.alloc(), THREE, &mut parts, &mut release) == 6);
     Ok(())
@@ -360,7 +312,7 @@ fn little_room_for_parts(rt: HostRuntime) -> Result<(), Fail> {
 
 #[test]
 fn sweep_filter(rt: HostRuntime) -> Result<(), Fail> {
-    let forms: [&[u8]; 5] = [PACKED, FIFTH, SUFFIXES, b"1.2.3", EARLY];
+    let forms: [&[u8]; 5] = [RELEASE, FIFTH, SUFFIXES, b"1.2.3", EARLY];
     let mut marks = [7u8; 6];
     let mut status = pep440_filter_compiled(rt.alloc(), NOT_ONE, &forms, &mut marks);
     if status == 3 {
@@ -373,7 +325,7 @@ fn sweep_filter(rt: HostRuntime) -> Result<(), Fail> {
 
 #[test]
 fn sweep_sort(rt: HostRuntime) -> Result<(), Fail> {
-    let forms: [&[u8]; 5] = [EARLY, PACKED, LOCAL, SUFFIXES, LOCAL];
+    let forms: [&[u8]; 5] = [EARLY, RELEASE, LOCAL, SUFFIXES, LOCAL];
     let mut places = [7; 6];
     let mut at = 99;
     let mut status = pep440_sort_compiled(rt.alloc(), &forms, &mut places, &mut at);
@@ -387,12 +339,12 @@ fn sweep_sort(rt: HostRuntime) -> Result<(), Fail> {
 
 #[test]
 fn batches_with_others(rt: HostRuntime) -> Result<(), Fail> {
-    let forms: [&[u8]; 3] = [PACKED, b"1.2.3", b""];
+    let forms: [&[u8]; 3] = [RELEASE, b"1.2.3", b""];
     let (mut places, mut at) = ([7; 3], 99);
     assert!(rt; pep440_sort_compiled(rt.alloc(), &forms, &mut places, &mut at) == 6);
     assert!(rt; at == 1 && places == [7; 3]);
     let mut marks = [7u8; 2];
-    assert!(rt; pep440_filter_compiled(rt.alloc(), PACKED, &forms, &mut marks) == 6);
+    assert!(rt; pep440_filter_compiled(rt.alloc(), RELEASE, &forms, &mut marks) == 6);
     assert!(rt; pep440_filter_compiled(rt.alloc(), THREE, &forms, &mut marks) == 4);
     assert!(rt; marks == [7u8; 2]);
     Ok(())

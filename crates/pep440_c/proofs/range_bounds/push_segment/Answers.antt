@@ -1,11 +1,10 @@
-use Rattle.std.proofs.Common.{ℕ, List, subst, sym}
+use Rattle.std.proofs.Common.{◌∙◌}
 use Rattle.pep440_c.proofs.Bounded.{segment_more}
-use Rattle.pep440_c.specs.RangeBounds.{DenotesBound}
 use Rattle.pep440_c.proofs.range_bounds.push_segment.Goals as goal
 
 pub returns : goal.returns
 returns c = λ range joins.
     segment_more range c.args.low.now c.args.high.now c.as_slice.result.now c.as_slice-2.result.now c.args.found.now.bytes.items c.push.new.self.bytes.items c.push-2.new.self.bytes.items
-    c.args.found.now.ends.items c.push.new.self.ends.items c.push-2.new.self.ends.items (subst (λ (b : List ℕ). DenotesBound b c.args.low.now) (sym c.as_slice.ensures.value) c.in_ok-low.ensures)
-    (subst (λ (b : List ℕ). DenotesBound b c.args.high.now) (sym c.as_slice-2.ensures.value) c.in_ok-high.ensures) c.in_ok-push.ensures.bytes c.in_ok-push.ensures.ends
+    c.args.found.now.ends.items c.push.new.self.ends.items c.push-2.new.self.ends.items (c.as_slice.ensures.value ∙ c.in_ok-low.ensures)
+    (c.as_slice-2.ensures.value ∙ c.in_ok-high.ensures) c.in_ok-push.ensures.bytes c.in_ok-push.ensures.ends
     c.in_ok-push-2.ensures.bytes c.in_ok-push-2.ensures.ends joins

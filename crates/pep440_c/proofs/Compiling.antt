@@ -1,0 +1,35 @@
+-- Each version and each list that a string denotes has a compiled form.
+use Rattle.std.proofs.Common.{◌≡◌, ℕ, List, [], ◌∷◌, refl, subst, sym}
+use Rattle.std.proofs.lemmas.List.Elements.{All-weaker}
+use Rattle.std.specs.List.{All}
+use Rattle.pep440_compiled.specs.Version.{IsParsed}
+use Rattle.pep440_compiled.specs.declared.error.CompileError.{CompileError}
+use Rattle.pep440_compiled.specs.declared.error.CompileError.TheVariants.{NotParsed, OutOfMemory}
+use Rattle.pep440_rs.proofs.Agreement.Operands.{list_has_texts}
+use Rattle.pep440_rs.proofs.Covering.Lists.{is_coverable}
+use Rattle.pep440_rs.specs.SpecifierGrammar.{DerivesSpecifier, HasText}
+use Rattle.pep440_rs.specs.Specifiers.{Spec}
+use Rattle.pep440_version.proofs.RoundTrip.PrintIsRead.{derived_record, derived_rereads}
+use Rattle.pep440_version.specs.Grammar.{Derives}
+use Rattle.pep440_version.specs.Record.{Record}
+use Rattle.pep440_c.specs.Meaning.{MeansListBytes}
+use Rattle.pep440_c.specs.OneSpecifier.{MeansSpecifierBytes}
+use Rattle.pep440_c.specs.Statuses.{Faults, fault_of_compile}
+use Rattle.pep440_c.specs.declared.texts.Fault.{Fault}
+
+pub is_parsed : (text : List ℕ) (r : Record) → Derives text r → IsParsed r
+is_parsed text r d = record { valid = derived_record text r d; round_trips = derived_rereads text r d }
+
+abbrev pub IsParsedSpec : Spec → Type 0
+IsParsedSpec s = IsParsed s.version
+
+pub specifier_parsed : (s : Spec) → HasText s → IsParsedSpec s
+specifier_parsed s has = let denoted = (is_coverable s has).1 in is_parsed denoted.0 s.version denoted.1
+
+pub members_parsed : (text : List ℕ) (list : List Spec) → MeansListBytes text list → All IsParsedSpec list
+members_parsed text list (utf8, means) = All-weaker HasText IsParsedSpec specifier_parsed list (list_has_texts text list means)
+
+-- so an error is out of memory
+pub only_memory : (version list range : Type 0) (f : Fault) (e : CompileError) → f ≡ fault_of_compile e → (e ≡ NotParsed → ⊥) → Faults version list range f
+only_memory version list range f NotParsed is never = absurd (never refl)
+only_memory version list range f OutOfMemory is never = subst (Faults version list range) (sym is) tt

@@ -1,0 +1,13 @@
+use Rattle.std.proofs.Common.{ℕ, ◌≤◌, length}
+use Rattle.pep440_compiled.proofs.Loops.{Leads}
+use Rattle.pep440_compiled.proofs.key_parts.skip_numbers.Given as goal
+use Rattle.pep440_keys.specs.SortKeys.{number_bytes}
+
+abbrev pub invariant-loop-first : goal.invariant-loop-first
+invariant-loop-first l = record {
+  leads : Leads (λ (n : ℕ). Unit {0}) (number_bytes 1) l.fn.bytes l.left;
+  shorter : length l.left ≤ length l.fn.bytes;
+}
+
+abbrev pub decreases-loop-first : goal.decreases-loop-first
+decreases-loop-first l = length l.left

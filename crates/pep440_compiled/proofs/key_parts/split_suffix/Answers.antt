@@ -1,0 +1,42 @@
+use Rattle.std.proofs.Common.{◌≡◌, ◌∙◌, ◌==◌, ◌||◌, ◌++◌, ap, arith, append_assoc, sym, List, nat_lt, ℕ}
+use Rattle.std.proofs.lemmas.Bool.{le-ltb, lt-ltb}
+use Rattle.pep440_compiled.proofs.key_parts.split_suffix.Goals.{else-stage-lt5, then-stage-lt5}
+use Rattle.pep440_compiled.proofs.Suffixes.{dev_small, early_is, post_is, post_small, stage_small}
+use Rattle.pep440_compiled.proofs.key_parts.split_suffix.Goals as goal
+use Rattle.pep440_compiled.specs.KeyParts.{suffix_bytes}
+use Rattle.pep440_keys.specs.SortKeys.{rank_bytes}
+use Rattle.pep440_version.specs.Key.{dev_rank, key, post_rank, stage_rank}
+use Rattle.pep440_version.specs.Record.{Record}
+
+in_turn : (r : Record) (rest : List ℕ) → suffix_bytes r ++ rest ≡ rank_bytes (stage_rank (key r).stage) ++ (rank_bytes (post_rank (key r).post) ++ (rank_bytes (dev_rank (key r).dev) ++ rest))
+in_turn r rest =
+    append_assoc (rank_bytes (stage_rank (key r).stage)) _ rest
+    ∙ ap (λ l. rank_bytes (stage_rank (key r).stage) ++ l) (append_assoc (rank_bytes (post_rank (key r).post)) (rank_bytes (dev_rank (key r).dev)) rest)
+
+pub returns-in_err-stage-clause-found : goal.returns-in_err-stage-clause-found
+returns-in_err-stage-clause-found c r rest p e = absurd (c.in_err-stage.ensures.found _ _ _ (stage_small (key r).stage) (e ∙ in_turn r rest))
+
+pub returns-in_err-post-clause-found : goal.returns-in_err-post-clause-found
+returns-in_err-post-clause-found c r rest p e =
+    let stage = c.in_ok-stage.ensures.found _ _ _ (stage_small (key r).stage) (e ∙ in_turn r rest) in
+    absurd (c.in_err-post.ensures.found _ _ _ (post_small (key r).post) stage.1)
+
+pub returns-in_err-dev-clause-found : goal.returns-in_err-dev-clause-found
+returns-in_err-dev-clause-found c r rest p e =
+    let stage = c.in_ok-stage.ensures.found _ _ _ (stage_small (key r).stage) (e ∙ in_turn r rest) in
+    let post = c.in_ok-post.ensures.found _ _ _ (post_small (key r).post) stage.1 in
+    absurd (c.in_err-dev.ensures.found _ _ _ (dev_small (key r).dev) post.1)
+
+pub returns-clause-found : goal.returns-clause-found
+returns-clause-found c r rest p e =
+    let stage = c.in_ok-stage.ensures.found _ _ _ (stage_small (key r).stage) (e ∙ in_turn r rest) in
+    let post = c.in_ok-post.ensures.found _ _ _ (post_small (key r).post) stage.1 in
+    let dev = c.in_ok-dev.ensures.found _ _ _ (dev_small (key r).dev) post.1 in
+    let flag = early_is r p in (
+      elim c.if-stage-lt5.branch [
+        | then-stage-lt5 w ↦ w.suffix-is ∙ lt-ltb c.in_ok-stage.stage 5 (omega (arith, w.if-stage-lt5.true)) ∙ sym (ap (λ b. b || ((dev_rank (key r).dev).0 == 0)) (lt-ltb (stage_rank (key r).stage).0 5 (omega (arith, w.if-stage-lt5.true, stage.0)))) ∙ flag
+        | else-stage-lt5 w ↦ w.suffix-is ∙ ap (λ n. n == 0) dev.0 ∙ sym (ap (λ b. b || ((dev_rank (key r).dev).0 == 0)) (le-ltb (stage_rank (key r).stage).0 5 (omega (arith, w.if-stage-lt5.false, stage.0)))) ∙ flag
+      ],
+      ap (λ n. nat_lt 0 n) post.0 ∙ post_is r p,
+      dev.1,
+    )

@@ -1,0 +1,12 @@
+use Rattle.std.proofs.Common.{◌≤◌, length}
+use Rattle.pep440_compiled.proofs.Loops.{EndsZeros}
+use Rattle.pep440_compiled.proofs.key_parts.trim_zeros.Given as goal
+
+abbrev pub invariant-loop-last : goal.invariant-loop-last
+invariant-loop-last l = record {
+  ends : EndsZeros l.fn.bytes l.left;
+  shorter : length l.left ≤ length l.fn.bytes;
+}
+
+abbrev pub decreases-loop-last : goal.decreases-loop-last
+decreases-loop-last l = length l.left

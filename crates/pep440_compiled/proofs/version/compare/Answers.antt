@@ -1,0 +1,11 @@
+use Rattle.std.proofs.Common.{◌∙◌, ap}
+use Rattle.std.specs.Cmp.Lexicographic.{slice_cmp}
+use Rattle.std.specs.Ordering.{nat_cmp}
+use Rattle.std.specs.Prelude.{Ok}
+use Rattle.pep440_compiled.proofs.Fronts.{keyed}
+use Rattle.pep440_compiled.proofs.version.compare.Goals as goal
+use Rattle.pep440_keys.proofs.Order.{keys_in_order}
+
+pub returns : goal.returns
+returns c r q d e =
+    ap Ok (c.cmp.ensures ∙ (λ i. slice_cmp nat_cmp (c.in_ok-left.ensures.ok r d i) (c.in_ok-right.ensures.ok q e i)) ∙ keys_in_order r q (keyed r d.parsed) (keyed q e.parsed))

@@ -1,0 +1,24 @@
+-- What the views of compiled versions say; no public clause cites it.
+use Rattle.std.specs.Prelude.{◌≡◌, ◌++◌, ◌∷◌, [], is_some}
+use Rattle.pep440_compiled.specs.KeyParts.{ending_zeros, base_bytes, public_bytes}
+use Rattle.pep440_compiled.specs.Version.{IsParsed}
+use Rattle.pep440_compiled.specs.declared.views.PartsView.{PartsView}
+use Rattle.pep440_compiled.specs.declared.views.VersionView.{VersionView}
+use Rattle.pep440_keys.specs.SortKeys.{key_bytes}
+use Rattle.pep440_rs.specs.Matching.{any_prerelease, has_local}
+use Rattle.pep440_version.specs.Record.{Record}
+
+-- the view is of this version
+pub record IsViewOf (view : VersionView) (r : Record) : Type 0 where
+  pub parsed : IsParsed r
+  pub key : view.key.now ≡ key_bytes r
+  pub zeros : view.zeros ≡ ending_zeros r.release
+
+-- the parts are those of this version
+pub record HasParts (view : PartsView) (r : Record) : Type 0 where
+  pub version : IsViewOf view.version r
+  pub release : view.release.now ≡ base_bytes r.epoch r.release ++ 0 ∷ []
+  pub public : view.public.now ≡ public_bytes r
+  pub is_prerelease : view.suffix.is_prerelease ≡ any_prerelease r
+  pub is_post : view.suffix.is_post ≡ is_some r.post
+  pub has_local : view.has_local ≡ has_local r

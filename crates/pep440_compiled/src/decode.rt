@@ -1,0 +1,236 @@
+//! Versions made of their sort keys. What is made of other bytes is not specified.
+ghost use Rattle.std.specs.Prelude.{◌≡◌, ◌<◌, ◌≤◌, ◌++◌, ◌∷◌, [], ℕ, List, length, map, MatchOption, IfOk, replicate, IfSome, OnOk, Option, Some, None};
+ghost use Rattle.std.specs.List.{All, flat_map};
+ghost use Rattle.pep440_compiled.specs.KeyParts.{suffix_bytes};
+ghost use Rattle.pep440_compiled.specs.Version.{IsParsed};
+ghost use Rattle.pep440_compiled.specs.KeyViews.{IsViewOf};
+ghost use Rattle.pep440_keys.specs.SortKeys.{HasNoZero, local_bytes, needed_bytes, number_bytes, rank_bytes, segment_bytes};
+ghost use Rattle.pep440_version.specs.Key.{dev_of, dev_rank, post_of, post_rank, stage_of, stage_rank};
+ghost use Rattle.pep440_version.specs.Record.{Fits, LocalSegmentValue, Record, SegmentFits, from_parts};
+ghost use Rattle.pep440_version.specs.RoundTrip.{SegmentRereads};
+ghost use Rattle.pep440_version.specs.Segments.{segment};
+ghost use Rattle.pep440_version.specs.declared.prerelease.Prerelease.{Prerelease};
+
+use crate::key_parts::skip_text;
+use crate::views::VersionView;
+use pep440_version::{LocalSegment, Prerelease, PrereleaseKind, Version};
+use std::alloc::{AllocError, Global};
+
+// The number of these bytes, the greatest first.
+fn to_number(bytes: &[u8]) -> Option<u64>
+    ensures { (n : ℕ) → Fits n → bytes.now ≡ needed_bytes n → result ≡ Some n }
+{
+    let start = 8_usize.checked_sub(bytes.len())?;
+    let mut padded = [0; 8];
+    padded[start..].copy_from_slice(bytes);
+    Some(u64::from_be_bytes(padded))
+}
+
+// A number of so many bytes, and the rest.
+fn read_number(count: u8, bytes: &[u8]) -> Option<(u64, &[u8])>
+    ensures found { (n : ℕ) (rest : List ℕ) → Fits n → count ≡ length (needed_bytes n) → bytes.now ≡ needed_bytes n ++ rest → MatchOption result ⊥ (λ p. (p.0 ≡ n) × (p.1.now ≡ rest)) }
+    ensures shorter { IfSome result (λ p. length p.1.now ≤ length bytes.now) }
+{
+    let (number, rest) = bytes.split_at_checked(usize::from(count))?;
+    Some((to_number(number)?, rest))
+}
+
+// A rank and its number, as any bytes have them.
+#[derive(Clone, Copy)]
+struct ReadNumber {
+    rank: u8,
+    number: u64,
+}
+
+// A rank and its number, and the rest.
+fn read_ranked(bytes: &[u8]) -> Option<(ReadNumber, &[u8])>
+    ensures { (rank n : ℕ) (rest : List ℕ) → rank < 16 → Fits n → bytes.now ≡ rank_bytes (rank, n) ++ rest → MatchOption result ⊥ (λ p. (p.0.rank ≡ rank) × (p.0.number ≡ n) × (p.1.now ≡ rest)) }
+{
+    let (first, rest) = bytes.split_first()?;
+    let (number, rest) = read_number(*first % 16, rest)?;
+    let rank = *first / 16;
+    Some((ReadNumber { rank, number }, rest))
+}
+
+// Release numbers up to the 0 that ends them, and the rest.
+fn read_numbers(alloc: Global, bytes: &[u8]) -> Result<Option<(Vec<u64>, &[u8])>, AllocError>
+    ensures { (numbers rest : List ℕ) → All Fits numbers → bytes.now ≡ flat_map (number_bytes 1) numbers ++ 0 ∷ rest → IfOk result (λ o. MatchOption o ⊥ (λ p. (p.0.items ≡ numbers) × (p.1.now ≡ rest))) }
+{
+    let mut numbers = Vec::new(alloc);
+    let mut left = bytes;
+    while let Some((first, later)) = left.split_first() {
+        if *first == 0 {
+            return Ok(Some((numbers, later)));
+        }
+        let Some((number, rest)) = read_number(*first - 1, later) else {
+            return Ok(None);
+        };
+        numbers.push(number)?;
+        left = rest;
+    }
+    Ok(None)
+}
+
+// Up to the first 0, and what follows it.
+fn split_text(bytes: &[u8]) -> Option<(&[u8], &[u8])>
+    ensures found { (text rest : List ℕ) → All (λ b. 0 < b) text → bytes.now ≡ text ++ 0 ∷ rest → MatchOption result ⊥ (λ p. (p.0.now ≡ text) × (p.1.now ≡ rest)) }
+    ensures shorter { IfSome result (λ p. length p.1.now < length bytes.now) }
+{
+    let rest = skip_text(bytes)?;
+    Some((&bytes[..bytes.len() - rest.len() - 1], rest))
+}
+
+// A local segment, whose first byte this is, and the rest.
+fn read_segment(
+    alloc: Global,
+    first: u8,
+    bytes: &[u8],
+) -> Result<Option<(LocalSegment, &[u8])>, AllocError>
+    requires { 0 < first }
+    ensures found { (s : LocalSegmentValue) (rest : List ℕ) → SegmentFits s → SegmentRereads s → first ∷ bytes.now ≡ segment_bytes s ++ rest → IfOk result (λ o. MatchOption o ⊥ (λ p. (segment p.0 ≡ s) × (p.1.now ≡ rest))) }
+    ensures shorter { IfOk result (λ o. IfSome o (λ p. length p.1.now ≤ length bytes.now)) }
+{
+    if first > 1 {
+        let Some((number, rest)) = read_number(first - 2, bytes) else {
+            return Ok(None);
+        };
+        return Ok(Some((LocalSegment::Number(number), rest)));
+    }
+    let Some((text, rest)) = split_text(bytes) else {
+        return Ok(None);
+    };
+    let Ok(text) = str::from_utf8(text) else {
+        return Ok(None);
+    };
+    Ok(Some((LocalSegment::String(String::from_str(alloc, text)?), rest)))
+}
+
+// A local part.
+fn read_local(alloc: Global, bytes: &[u8]) -> Result<Option<Vec<LocalSegment>>, AllocError>
+    ensures { (local : List LocalSegmentValue) → All SegmentFits local → All SegmentRereads local → bytes.now ≡ local_bytes local → IfOk result (λ o. MatchOption o ⊥ (λ segments. map segment segments.items ≡ local)) }
+{
+    let mut segments = Vec::new(alloc);
+    let mut left = bytes;
+    while let Some((first, later)) = left.split_first() {
+        if *first == 0 {
+            return Ok(Some(segments));
+        }
+        let Some((part, rest)) = read_segment(alloc, *first, later)? else {
+            return Ok(None);
+        };
+        segments.push(part)?;
+        left = rest;
+    }
+    Ok(None)
+}
+
+// The pre-release of a stage.
+fn pre_of_stage(stage: ReadNumber) -> Option<Prerelease>
+    ensures { (pre : Option Prerelease) (dev post : Option ℕ) → (stage.rank, stage.number) ≡ stage_rank (stage_of None pre dev post None) → result ≡ pre }
+{
+    let kind = match stage.rank {
+        2 => PrereleaseKind::Alpha,
+        3 => PrereleaseKind::Beta,
+        4 => PrereleaseKind::Rc,
+        _ => return None,
+    };
+    let number = stage.number;
+    Some(Prerelease { kind, number })
+}
+
+fn post_number(post: ReadNumber) -> Option<u64>
+    ensures { (number : Option ℕ) → (post.rank, post.number) ≡ post_rank (post_of None number) → result ≡ number }
+{
+    if post.rank == 1 {
+        Some(post.number)
+    } else {
+        None
+    }
+}
+
+fn dev_number(dev: ReadNumber) -> Option<u64>
+    ensures { (number : Option ℕ) → (dev.rank, dev.number) ≡ dev_rank (dev_of None number) → result ≡ number }
+{
+    if dev.rank == 0 {
+        Some(dev.number)
+    } else {
+        None
+    }
+}
+
+// What stands between release and local part.
+#[derive(Clone, Copy)]
+struct SuffixParts {
+    pre: Option<Prerelease>,
+    post: Option<u64>,
+    dev: Option<u64>,
+}
+
+fn read_suffix(bytes: &[u8]) -> Option<(SuffixParts, &[u8])>
+    ensures { (r : Record) (rest : List ℕ) → IsParsed r → bytes.now ≡ suffix_bytes r ++ rest → MatchOption result ⊥ (λ p. (p.0.pre ≡ r.pre) × (p.0.post ≡ r.post) × (p.0.dev ≡ r.dev) × (p.1.now ≡ rest)) }
+{
+    let (stage, rest) = read_ranked(bytes)?;
+    let (post, rest) = read_ranked(rest)?;
+    let (dev, rest) = read_ranked(rest)?;
+    let parts = SuffixParts {
+        pre: pre_of_stage(stage),
+        post: post_number(post),
+        dev: dev_number(dev),
+    };
+    Some((parts, rest))
+}
+
+// The release, whose last zeros the key leaves out.
+fn push_zeros(numbers: &mut Vec<u64>, zeros: usize) -> Result<(), AllocError>
+    ensures { OnOk result (numbers.new.items ≡ numbers.old.items ++ replicate zeros 0) }
+{
+    for _ in 0..zeros {
+        numbers.push(0)?;
+    }
+    Ok(())
+}
+
+fn assemble(
+    alloc: Global,
+    epoch: u64,
+    release: &[u64],
+    suffix: SuffixParts,
+    local: Vec<LocalSegment>,
+) -> Result<Version, AllocError>
+    requires { 0 < length release.now }
+    ensures { IfOk result (λ v. v ≡ from_parts epoch release.now suffix.pre suffix.post suffix.dev (map segment local.items)) }
+{
+    Version::new(alloc, release)?
+        .with_pre(alloc, suffix.pre)?
+        .with_post(alloc, suffix.post)?
+        .with_dev(alloc, suffix.dev)?
+        .with_epoch(alloc, epoch)?
+        .with_local(alloc, local)
+}
+
+// The version of this sort key, with so many zeros at the end of its release.
+pub(crate) fn decode_version(
+    alloc: Global,
+    view: VersionView<'_>,
+) -> Result<Option<Version>, AllocError>
+    ensures { (r : Record) → IsViewOf view.entry r → IfOk result (λ o. o ≡ Some r) }
+{
+    let Some((epoch, rest)) = read_ranked(view.key) else {
+        return Ok(None);
+    };
+    let Some((mut release, rest)) = read_numbers(alloc, rest)? else {
+        return Ok(None);
+    };
+    push_zeros(&mut release, view.zeros)?;
+    let Some((suffix, rest)) = read_suffix(rest) else {
+        return Ok(None);
+    };
+    let Some(local) = read_local(alloc, rest)? else {
+        return Ok(None);
+    };
+    if release.is_empty() {
+        return Ok(None);
+    }
+    let version = assemble(alloc, epoch.number, &release, suffix, local)?;
+    Ok(Some(version))
+}

@@ -1,0 +1,64 @@
+//! Whether a string parses to a version.
+ghost use Rattle.std.specs.Prelude.{◌≡◌, ◌↔◌, true, map};
+ghost use Rattle.std.specs.Char.{is_ascii_digit};
+ghost use Rattle.std.specs.List.{All, list_all};
+ghost use Rattle.pep440_compiled.specs.Version.{IsParsed};
+ghost use Rattle.pep440_version.specs.Grammar.{is_numeral};
+ghost use Rattle.pep440_version.specs.RoundTrip.{SegmentRereads, is_lower};
+ghost use Rattle.pep440_version.specs.Segments.{segment};
+
+use pep440_version::{LocalSegment, Version};
+
+// Only lower-case letters and digits.
+fn is_lower(text: &str) -> bool
+    ensures { result ≡ list_all is_lower text.now }
+{
+    text.as_bytes()
+        .iter()
+        .all(|byte| byte.is_ascii_digit() || byte.is_ascii_lowercase())
+}
+
+// Only digits.
+fn is_digits(text: &str) -> bool
+    ensures { result ≡ list_all is_ascii_digit text.now }
+{
+    text.as_bytes().iter().all(|byte| byte.is_ascii_digit())
+}
+
+// Only digits, whose value is below 2^64; the value of no digits is 0.
+fn is_numeral(text: &str) -> bool
+    ensures { result ≡ is_numeral text.now }
+{
+    is_digits(text) && (text.is_empty() || text.parse::<u64>().is_ok())
+}
+
+fn is_normal(part: &LocalSegment) -> bool
+    ensures { (result ≡ true) ↔ SegmentRereads (segment part.now) }
+{
+    match part {
+        LocalSegment::String(text) => {
+            let text = text.as_str();
+            !text.is_empty() && is_lower(text) && !is_numeral(text)
+        }
+        LocalSegment::Number(_) => true,
+    }
+}
+
+fn are_normal(local: &[LocalSegment]) -> bool
+    ensures { (result ≡ true) ↔ All SegmentRereads (map segment local.now) }
+{
+    for part in local {
+        if !is_normal(part) {
+            return false;
+        }
+    }
+    true
+}
+
+// Whether some string parses to the version.
+pub(crate) fn is_parsed(version: &Version) -> bool
+    ensures { (result ≡ true) ↔ IsParsed version.now }
+{
+    let _release = version.release();
+    version.min().is_none() && version.max().is_none() && are_normal(version.local())
+}

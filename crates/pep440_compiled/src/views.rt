@@ -1,0 +1,66 @@
+//! Compiled versions as they lie: where their parts are.
+ghost use Rattle.std.specs.Prelude.{◌≡◌, ◌<◌, ◌++◌, List, ℕ, length, IfSome, MatchOption};
+ghost use Rattle.pep440_compiled.specs.KeyParts.{BeginsOtherwise};
+ghost use Rattle.pep440_compiled.specs.Version.{DenotesVersion, IsParsed, version_bytes};
+ghost use Rattle.pep440_compiled.specs.KeyViews.{HasParts, IsViewOf};
+ghost use Rattle.pep440_version.specs.Record.{Record};
+
+use crate::key_parts::{Suffix, skip_local, skip_zeros, split_release, split_suffix, trim_zeros};
+
+// The format of versions.
+pub(crate) const VERSION: u8 = 4;
+
+// A version: its sort key, and how many zeros end its release.
+#[derive(Clone, Copy)]
+pub(crate) struct VersionView<'a> {
+    pub(crate) key: &'a [u8],
+    pub(crate) zeros: usize,
+}
+
+// A version, and the parts of its sort key: epoch and release with the 0 that ends it, all but the local part, what the suffix says,
+// and whether there is a local part.
+#[derive(Clone, Copy)]
+pub(crate) struct PartsView<'a> {
+    pub(crate) version: VersionView<'a>,
+    pub(crate) release: &'a [u8],
+    pub(crate) public: &'a [u8],
+    pub(crate) suffix: Suffix,
+    pub(crate) has_local: bool,
+}
+
+// The compiled version.
+pub(crate) fn view_version(bytes: &[u8]) -> Option<VersionView<'_>>
+    ensures { (r : Record) → DenotesVersion bytes.now r → MatchOption result ⊥ (λ view. IsViewOf view r) }
+{
+    let (format, rest) = bytes.split_first()?;
+    if *format != VERSION {
+        return None;
+    }
+    let key = trim_zeros(rest);
+    Some(VersionView {
+        key,
+        zeros: rest.len() - key.len(),
+    })
+}
+
+// The leading version and its parts, and the rest.
+pub(crate) fn view_parts(bytes: &[u8]) -> Option<(PartsView<'_>, &[u8])>
+    ensures found { (r : Record) (rest : List ℕ) → IsParsed r → BeginsOtherwise 1 rest → bytes.now ≡ version_bytes r ++ rest → MatchOption result ⊥ (λ p. HasParts p.0 r × (p.1.now ≡ rest)) }
+    ensures shorter { IfSome result (λ p. length p.1.now < length bytes.now) }
+{
+    let (release, rest) = split_release(bytes)?;
+    let (suffix, local) = split_suffix(rest)?;
+    let after = skip_local(local)?;
+    let rest = skip_zeros(after);
+    let parts = PartsView {
+        version: VersionView {
+            key: &bytes[..bytes.len() - after.len()],
+            zeros: after.len() - rest.len(),
+        },
+        release,
+        public: &bytes[..bytes.len() - local.len()],
+        suffix,
+        has_local: local.len() - after.len() > 1,
+    };
+    Some((parts, rest))
+}
