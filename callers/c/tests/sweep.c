@@ -116,7 +116,7 @@ static uint8_t compile_no_list(Answer *answer) { return pep440_compile_list(TEXT
 static uint8_t normalize_compiled(Answer *answer) { return pep440_normalize_compiled(OF(longer), OUT); }
 static uint8_t normalize_not_compiled(Answer *answer) { return pep440_normalize_compiled(longer.bytes, longer.length - 1, OUT); }
 static uint8_t normalize_list_compiled(Answer *answer) { return pep440_normalize_list_compiled(OF(list), OUT); }
-static uint8_t normalize_list_not_compiled(Answer *answer) { return pep440_normalize_list_compiled(list.bytes, list.length - 1, OUT); }
+static uint8_t normalize_list_not_compiled(Answer *answer) { return pep440_normalize_list_compiled(list.bytes, list.length - 2, OUT); }
 static uint8_t sort_key_compiled(Answer *answer) { return pep440_sort_key_compiled(OF(longer), OUT); }
 static uint8_t compare_compiled(Answer *answer) { return pep440_compare_compiled(OF(longer), OF(shorter), &answer->order); }
 static uint8_t contains_compiled(Answer *answer)
