@@ -41,7 +41,7 @@ mod sentinels;
 mod setters;
 mod unpacked;
 mod version;
-pub mod word;
+mod word;
 
 pub use change::{Change, ChangeError};
 pub use error::{ErrorKind, PatternErrorKind, VersionParseError, VersionPatternParseError};
