@@ -1,9 +1,8 @@
 -- What compiled bytes denote is what the string denotes that they were made of.
 use Rattle.std.proofs.Common.{◌≡◌, ◌∙◌, ℕ, ℤ, List, Bool, sym, ap, subst}
 use Rattle.std.specs.Prelude.{◌↔◌}
-use Rattle.std.proofs.lemmas.List.Elements.{recursion_from_All}
-use Rattle.pep440_compiled.proofs.Exact.{one_version as one_of_bytes}
-use Rattle.pep440_compiled.proofs.Listed.{one_list}
+use Rattle.pep440_compiled.proofs.Exact.{one_denoted}
+use Rattle.pep440_compiled.proofs.Listed.{one_denoted_list}
 use Rattle.pep440_compiled.specs.Lists.{DenotesList, list_bytes}
 use Rattle.pep440_compiled.specs.Version.{DenotesVersion, compiled_bytes}
 use Rattle.pep440_rs.specs.Matching.{list_matches}
@@ -15,19 +14,13 @@ use Rattle.pep440_c.specs.CallResults.{Contains, IsOrder, order_number}
 use Rattle.pep440_c.specs.Compiled.{CompiledContains, CompiledOrder, DenotesNoList, DenotesNoVersion, IsCompiled, IsCompiledList}
 use Rattle.pep440_c.specs.Meaning.{MeansBytes, MeansListBytes}
 
-one_compiled : (bytes : List ℕ) (r q : Record) → DenotesVersion bytes r → DenotesVersion bytes q → r ≡ q
-one_compiled bytes r q d e = one_of_bytes r q d.parsed e.parsed (sym d.same ∙ e.same)
-
-pub same_list : (bytes : List ℕ) (l m : List Spec) → DenotesList bytes l → DenotesList bytes m → l ≡ m
-same_list bytes l m d e = one_list l m (recursion_from_All _ l d.members) (recursion_from_All _ m e.members) (sym d.same ∙ e.same)
-
 -- ---- one compiled form
 
 pub same_compiled : (s t a b : List ℕ) (r q : Record) → IsCompiled s a → IsCompiled t b → MeansBytes s r → MeansBytes t q → (a ≡ b) ↔ (r ≡ q)
 same_compiled s t a b r q (v, v_means, v_denotes) (w, w_means, w_denotes) means also =
     let left : v ≡ r = one_version s v r v_means means in
     let right : w ≡ q = one_version t w q w_means also in (
-      λ p. sym left ∙ one_compiled b v w (subst (λ x. DenotesVersion x v) p v_denotes) w_denotes ∙ right,
+      λ p. sym left ∙ one_denoted b v w (subst (λ x. DenotesVersion x v) p v_denotes) w_denotes ∙ right,
       λ p. v_denotes.same ∙ (ap compiled_bytes (left ∙ p ∙ sym right) ∙ sym w_denotes.same),
     )
 
@@ -41,7 +34,7 @@ pub same_compiled_list : (s t a b : List ℕ) (l m : List Spec) → IsCompiledLi
 same_compiled_list s t a b l m (v, v_means, v_denotes) (w, w_means, w_denotes) means also =
     let left : v ≡ l = one_bytes_list s v l v_means means in
     let right : w ≡ m = one_bytes_list t w m w_means also in (
-      λ p. sym left ∙ same_list b v w (subst (λ x. DenotesList x v) p v_denotes) w_denotes ∙ right,
+      λ p. sym left ∙ one_denoted_list b v w (subst (λ x. DenotesList x v) p v_denotes) w_denotes ∙ right,
       λ p. v_denotes.same ∙ (ap list_bytes (left ∙ p ∙ sym right) ∙ sym w_denotes.same),
     )
 
@@ -56,13 +49,13 @@ taken_list text compiled (l, means, denotes) none = none l denotes
 -- what holds of the version that the bytes denote holds of the one that the string denotes, and the other way
 pub of_version : (P : Record → Type 0) (text compiled : List ℕ) → IsCompiled text compiled → ((r : Record) × DenotesVersion compiled r × P r) ↔ ((r : Record) × MeansBytes text r × P r)
 of_version P text compiled (r, means, denotes) = (
-  λ (q, again, is). (r, means, subst P (one_compiled compiled q r again denotes) is),
+  λ (q, again, is). (r, means, subst P (one_denoted compiled q r again denotes) is),
   λ (q, also, is). (r, denotes, subst P (one_version text q r also means) is),
 )
 
 pub of_compiled_list : (P : List Spec → Type 0) (text compiled : List ℕ) → IsCompiledList text compiled → ((l : List Spec) × DenotesList compiled l × P l) ↔ ((l : List Spec) × MeansListBytes text l × P l)
 of_compiled_list P text compiled (l, means, denotes) = (
-  λ (m, again, is). (l, means, subst P (same_list compiled m l again denotes) is),
+  λ (m, again, is). (l, means, subst P (one_denoted_list compiled m l again denotes) is),
   λ (m, also, is). (l, denotes, subst P (one_bytes_list text m l also means) is),
 )
 
@@ -70,15 +63,15 @@ of_compiled_list P text compiled (l, means, denotes) = (
 pub of_found : (P : Record → Type 0) (text compiled : List ℕ) → IsCompiled text compiled → ((r : Record) → DenotesVersion compiled r → P r) ↔ ((r : Record) × MeansBytes text r × P r)
 of_found P text compiled (r, means, denotes) = (
   λ found. (r, means, found r denotes),
-  λ (q, also, is) v first. subst P (one_version text q r also means ∙ one_compiled compiled r v denotes first) is,
+  λ (q, also, is) v first. subst P (one_version text q r also means ∙ one_denoted compiled r v denotes first) is,
 )
 
 pub of_order : (left right a b : List ℕ) (number : ℤ) → IsCompiled left a → IsCompiled right b → CompiledOrder a b number ↔ IsOrder left right number
 of_order left right a b number (r, means, denotes) (q, also, again) = (
   λ found. (r, q, means, also, found r q denotes again),
   λ (v, w, v_means, w_means, is) e f first second.
-      let left_same : v ≡ e = one_version left v r v_means means ∙ one_compiled a r e denotes first in
-      let right_same : w ≡ f = one_version right w q w_means also ∙ one_compiled b q f again second in
+      let left_same : v ≡ e = one_version left v r v_means means ∙ one_denoted a r e denotes first in
+      let right_same : w ≡ f = one_version right w q w_means also ∙ one_denoted b q f again second in
       is ∙ (λ i. order_number (record_cmp (left_same i) (right_same i))),
 )
 
@@ -86,7 +79,7 @@ pub of_match : (list text a b : List ℕ) (contained : Bool) → IsCompiledList 
 of_match list text a b contained (l, means, denotes) (r, also, again) = (
   λ found. (l, r, means, also, found l r denotes again),
   λ (m, q, m_means, q_means, is) k v first second.
-      let list_same : m ≡ k = one_bytes_list list m l m_means means ∙ same_list a l k denotes first in
-      let version_same : q ≡ v = one_version text q r q_means also ∙ one_compiled b r v again second in
+      let list_same : m ≡ k = one_bytes_list list m l m_means means ∙ one_denoted_list a l k denotes first in
+      let version_same : q ≡ v = one_version text q r q_means also ∙ one_denoted b r v again second in
       is ∙ (λ i. list_matches (list_same i) (version_same i)),
 )

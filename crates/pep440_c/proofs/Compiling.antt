@@ -2,6 +2,7 @@
 use Rattle.std.proofs.Common.{◌≡◌, ℕ, List, [], ◌∷◌, refl, subst, sym}
 use Rattle.std.proofs.lemmas.List.Elements.{All-weaker}
 use Rattle.std.specs.List.{All}
+use Rattle.pep440_compiled.proofs.Exact.{parsed}
 use Rattle.pep440_compiled.specs.Version.{IsParsed}
 use Rattle.pep440_compiled.specs.declared.error.CompileError.{CompileError}
 use Rattle.pep440_compiled.specs.declared.error.CompileError.TheVariants.{NotParsed, OutOfMemory}
@@ -9,22 +10,17 @@ use Rattle.pep440_rs.proofs.Agreement.Operands.{list_has_texts}
 use Rattle.pep440_rs.proofs.Covering.Lists.{is_coverable}
 use Rattle.pep440_rs.specs.SpecifierGrammar.{DerivesSpecifier, HasText}
 use Rattle.pep440_rs.specs.Specifiers.{Spec}
-use Rattle.pep440_version.proofs.RoundTrip.PrintIsRead.{derived_record, derived_rereads}
-use Rattle.pep440_version.specs.Grammar.{Derives}
 use Rattle.pep440_version.specs.Record.{Record}
 use Rattle.pep440_c.specs.Meaning.{MeansListBytes}
 use Rattle.pep440_c.specs.OneSpecifier.{MeansSpecifierBytes}
 use Rattle.pep440_c.specs.Statuses.{Faults, fault_of_compile}
 use Rattle.pep440_c.specs.declared.texts.Fault.{Fault}
 
-pub is_parsed : (text : List ℕ) (r : Record) → Derives text r → IsParsed r
-is_parsed text r d = record { valid = derived_record text r d; round_trips = derived_rereads text r d }
-
 abbrev pub IsParsedSpec : Spec → Type 0
 IsParsedSpec s = IsParsed s.version
 
 pub specifier_parsed : (s : Spec) → HasText s → IsParsedSpec s
-specifier_parsed s has = let denoted = (is_coverable s has).1 in is_parsed denoted.0 s.version denoted.1
+specifier_parsed s has = let denoted = (is_coverable s has).1 in parsed denoted.0 s.version denoted.1
 
 pub members_parsed : (text : List ℕ) (list : List Spec) → MeansListBytes text list → All IsParsedSpec list
 members_parsed text list (utf8, means) = All-weaker HasText IsParsedSpec specifier_parsed list (list_has_texts text list means)

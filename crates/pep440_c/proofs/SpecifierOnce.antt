@@ -8,7 +8,7 @@ use Rattle.pep440_rs.specs.Bounds.{list_range, range_of}
 use Rattle.pep440_rs.specs.ErrorTexts.{specifier_refusal_text}
 use Rattle.pep440_rs.specs.SpecifierGrammar.{DerivesSpecifier, RefusesSpecifier, SpecifierRefusal}
 use Rattle.pep440_rs.specs.Specifiers.{Spec}
-use Rattle.pep440_c.proofs.Agreeing.{same_list}
+use Rattle.pep440_compiled.proofs.Listed.{one_denoted_list}
 use Rattle.pep440_c.proofs.Once.{no_utf8, one_bytes_list}
 use Rattle.pep440_c.proofs.OneSpecifier.{no_specifier_text}
 use Rattle.pep440_c.specs.Compiled.{IsCompiledList}
@@ -42,6 +42,6 @@ never_both_specifiers bytes s (utf8, means) (words, inr (again, f, why, w)) = no
 
 pub of_bounds : (text compiled bytes ends : List ℕ) → IsCompiledList text compiled → CompiledBounds compiled bytes ends ↔ TellsBounds text bytes ends
 of_bounds text compiled bytes ends (l, means, denotes) = (
-  λ (range, (m, again, is), joins). (range, (l, means, ap (λ (x : List Spec). list_range range_of x) (sym (same_list compiled m l again denotes)) ∙ is), joins),
+  λ (range, (m, again, is), joins). (range, (l, means, ap (λ (x : List Spec). list_range range_of x) (sym (one_denoted_list compiled m l again denotes)) ∙ is), joins),
   λ (range, (m, also, is), joins). (range, (l, denotes, ap (λ (x : List Spec). list_range range_of x) (sym (one_bytes_list text m l also means)) ∙ is), joins),
 )

@@ -1,8 +1,8 @@
 -- What each call returns that makes compiled bytes or takes them.
 use Rattle.std.specs.Prelude.{◌≡◌, ◌⊎◌, ℕ, ℤ, List, Bool, Option, Some, None, length}
 use Rattle.std.specs.List.{flat_map}
-use Rattle.pep440_compiled.specs.Lists.{DenotesList}
-use Rattle.pep440_compiled.specs.Version.{DenotesVersion}
+use Rattle.pep440_compiled.specs.Lists.{DenotesList, HasListFormat}
+use Rattle.pep440_compiled.specs.Version.{DenotesVersion, HasVersionFormat}
 use Rattle.pep440_keys.specs.RangeKeys.{segment_interval}
 use Rattle.pep440_rs.specs.Bounds.{Segments, list_range}
 use Rattle.pep440_rs.specs.Lists.{list_print}
@@ -48,7 +48,7 @@ CompiledNormal compiled bytes = (r : Record) × DenotesVersion compiled r × (by
 abbrev pub CompiledNormalList : List ℕ → List ℕ → Type 0
 CompiledNormalList compiled bytes = (list : List Spec) × DenotesList compiled list × (bytes ≡ list_print list)
 
--- ---- compiled bytes, read as they lie: nothing is known of what is found in bytes that denote nothing
+-- ---- compiled bytes, read as they lie: of bytes that denote nothing only the format is known
 
 -- the sort key of the version
 abbrev pub CompiledKey : List ℕ → List ℕ → Type 0
@@ -70,19 +70,19 @@ CompiledPrerelease compiled early = (r : Record) → DenotesVersion compiled r �
 -- nothing is written, and the bytes are no version
 abbrev pub CompiledKeyAnswer : List ℕ → List ℕ → List ℕ → ℕ → ℕ → ℕ → Type 0
 CompiledKeyAnswer compiled old new old_written written status =
-    ((bytes : List ℕ) × CompiledKey compiled bytes × (written ≡ length bytes) × PutsFront bytes old new status)
+    ((bytes : List ℕ) × HasVersionFormat compiled × CompiledKey compiled bytes × (written ≡ length bytes) × PutsFront bytes old new status)
     ⊎ ((new ≡ old) × (written ≡ old_written) × (status ≡ 6) × DenotesNoVersion compiled)
 
 -- an order is written with status 0; otherwise it is unchanged, and the bytes are not both versions
 abbrev pub CompiledOrderAnswer : List ℕ → List ℕ → ℤ → ℤ → ℕ → Type 0
 CompiledOrderAnswer left right old order status =
-    ((status ≡ 0) × CompiledOrder left right order)
+    ((status ≡ 0) × HasVersionFormat left × HasVersionFormat right × CompiledOrder left right order)
     ⊎ ((order ≡ old) × (status ≡ 6) × ((r q : Record) → DenotesVersion left r → DenotesVersion right q → ⊥))
 
 -- both flags are written with status 0; otherwise both are unchanged, and the bytes are not a list and a version
 abbrev pub CompiledContainsAnswer : List ℕ → List ℕ → ℕ → ℕ → ℕ → ℕ → ℕ → Type 0
 CompiledContainsAnswer compiled_list compiled old contained old_prerelease prerelease status =
-    ((status ≡ 0) × IsFlagOf (CompiledContains compiled_list compiled) contained × IsFlagOf (CompiledPrerelease compiled) prerelease)
+    ((status ≡ 0) × HasListFormat compiled_list × HasVersionFormat compiled × IsFlagOf (CompiledContains compiled_list compiled) contained × IsFlagOf (CompiledPrerelease compiled) prerelease)
     ⊎ ((contained ≡ old) × (prerelease ≡ old_prerelease) × (status ≡ 6) × ((list : List Spec) (r : Record) → DenotesList compiled_list list → DenotesVersion compiled r → ⊥))
 
 -- ---- the parts of a version

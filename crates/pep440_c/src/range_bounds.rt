@@ -13,7 +13,7 @@ use crate::buffer::put_joined;
 use crate::joined_strings::JoinedStrings;
 use crate::texts::Fault;
 use crate::{compiled_intervals, intervals};
-use pep440_compiled::push_compiled;
+use pep440_compiled::push_compiled_form;
 use pep440_ranges::Ranges;
 use pep440_rs::Version;
 use std::alloc::{AllocError, Global};
@@ -67,7 +67,7 @@ fn compile_kind(alloc: Global, kind: u8, version: &Version) -> Result<Vec<u8>, A
 {
     let mut bytes = Vec::new(alloc);
     bytes.push(kind)?;
-    push_compiled(&mut bytes, version)?;
+    push_compiled_form(&mut bytes, version)?;
     Ok(bytes)
 }
 

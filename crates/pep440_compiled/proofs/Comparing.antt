@@ -10,7 +10,7 @@ use Rattle.std.specs.Ordering.{is_eq, nat_cmp, ordering_then}
 use Rattle.std.specs.Prelude.{MatchOption, None, Option, Some, drop, if◌then◌else◌}
 use Rattle.std.specs.declared.cmp.Ordering.{Ordering}
 use Rattle.std.specs.declared.cmp.Ordering.TheVariants.{Less, Equal, Greater}
-use Rattle.pep440_compiled.proofs.Fronts.{base_in_order, begins_with_public, begins_with_release, keyed, public_cmp, public_in_order, same_bytes}
+use Rattle.pep440_compiled.proofs.Fronts.{base_in_order, begins_with_public, begins_with_release, eq_true, keyed, public_cmp, public_in_order, same_bytes}
 use Rattle.pep440_compiled.proofs.Keys.{key_public, key_split}
 use Rattle.pep440_compiled.specs.KeyParts.{base_bytes, public_bytes, suffix_bytes}
 use Rattle.pep440_compiled.specs.Version.{IsParsed}
@@ -90,11 +90,6 @@ without_local s v h =
 
 -- ---- the release
 
-eq_is : (o : Ordering) → is_eq o ≡ true → o ≡ Equal
-eq_is Less e = absurd (true≢false (sym e))
-eq_is Equal e = refl
-eq_is Greater e = absurd (true≢false (sym e))
-
 eq_then : (a b : ℕ) (o : Ordering) → is_eq (ordering_then (nat_cmp a b) o) ≡ (a == b) && is_eq o
 eq_then a b o = grind (arith, nat_tests)
 
@@ -116,11 +111,11 @@ pub after_same_release : (s v : Record) (rest : List ℕ) → IsParsed s → IsP
 after_same_release s v rest p q e f =
     let front = base_bytes s.epoch s.release ++ 0 ∷ [] in
     let other = base_bytes v.epoch v.release ++ 0 ∷ [] in
-    let tie : base_cmp v s ≡ Equal = eq_is (base_cmp v s) (eq_then v.epoch s.epoch (release_cmp v.release s.release) ∙ e) in
+    let tie : base_cmp v s ≡ Equal = eq_true (base_cmp v s) (eq_then v.epoch s.epoch (release_cmp v.release s.release) ∙ e) in
     let same : other ≡ front = sym (append-nil other) ∙ same_bytes (other ++ []) (front ++ []) (base_in_order v s q p [] [] ∙ ap (λ o. ordering_then o Equal) tie) ∙ append-nil front in
     sym (drop-append_seam front rest) ∙ ap (drop (length front)) (sym f ∙ split_release v ∙ ap (λ l. l ++ (suffix_bytes v ++ local_bytes v.local)) same) ∙ drop-append_seam front (suffix_bytes v ++ local_bytes v.local)
 
 -- either way
-pub mapped : {A : Type 0} {P P2 : Type 0} {Q Q2 : A → Type 0} (o : Option A) → (P → P2) → ((x : A) → Q x → Q2 x) → MatchOption o P Q → MatchOption o P2 Q2
-mapped None f g h = f h
-mapped (Some x) f g h = g x h
+pub weaker : {A : Type 0} {P R : Type 0} {Q S : A → Type 0} (o : Option A) → (P → R) → ((x : A) → Q x → S x) → MatchOption o P Q → MatchOption o R S
+weaker None f g h = f h
+weaker (Some x) f g h = g x h

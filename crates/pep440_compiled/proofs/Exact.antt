@@ -11,11 +11,11 @@ use Rattle.pep440_compiled.proofs.Fronts.{both_tie, itself, keyed, same_tests}
 use Rattle.pep440_compiled.proofs.Prefixes.{padded}
 use Rattle.pep440_compiled.proofs.Zeros.{trim_pad}
 use Rattle.pep440_compiled.specs.KeyParts.{BeginsOtherwise, ending_zeros}
-use Rattle.pep440_compiled.specs.Version.{IsParsed, compiled_bytes, version_bytes, zero_bytes}
+use Rattle.pep440_compiled.specs.Version.{DenotesVersion, IsParsed, version_bytes, zero_bytes}
 use Rattle.pep440_keys.proofs.Order.{followed_in_order, keys_in_order}
 use Rattle.pep440_keys.specs.SortKeys.{key_bytes}
 use Rattle.pep440_version.proofs.Reading.Agreement.{one_record}
-use Rattle.pep440_version.proofs.RoundTrip.PrintIsRead.{reread}
+use Rattle.pep440_version.proofs.RoundTrip.PrintIsRead.{derived_record, derived_rereads, reread}
 use Rattle.pep440_version.specs.Grammar.{Derives}
 use Rattle.pep440_version.specs.Key.{dev_of, dev_rank, kind_rank, post_of, post_rank, rank_cmp, record_cmp, segment_cmp, stage_of, stage_rank}
 use Rattle.pep440_version.specs.KeyLaws.{release_cmp-trim}
@@ -145,13 +145,16 @@ zeros_cmp (x ∷ xs) [] e = absurd (cc)
 zeros_cmp (x ∷ xs) (y ∷ ys) e = ap suc (zeros_cmp xs ys e)
 
 -- the same bytes, whatever zeros follow
-pub one_form : (r q : Record) → IsParsed r → IsParsed q → version_bytes r ≡ version_bytes q → r ≡ q
+one_form : (r q : Record) → IsParsed r → IsParsed q → version_bytes r ≡ version_bytes q → r ≡ q
 one_form r q p o e =
     let tie = both_tie _ _ (sym (followed_in_order r q (keyed r p) (keyed q o) (zero_bytes r.release) (zero_bytes q.release)) ∙ ap (slice_cmp nat_cmp (version_bytes r)) (sym e) ∙ itself (version_bytes r)) in
     same_version r q p o (slice_cmp-IsAntisymmetric nat_cmp-IsAntisymmetric (key_bytes r) (key_bytes q) (keys_in_order r q (keyed r p) (keyed q o) ∙ tie.0)) (zeros_cmp _ _ tie.1)
 
-pub one_version : (r q : Record) → IsParsed r → IsParsed q → compiled_bytes r ≡ compiled_bytes q → r ≡ q
-one_version r q p o e = one_form r q p o (ap (drop 1) e)
+pub one_denoted : (bytes : List ℕ) (r q : Record) → DenotesVersion bytes r → DenotesVersion bytes q → r ≡ q
+one_denoted bytes r q d e = one_form r q d.parsed e.parsed (ap (drop 1) (sym d.same ∙ e.same))
+
+pub parsed : (text : List ℕ) (r : Record) → Derives text r → IsParsed r
+parsed text r d = record { valid = derived_record text r d; round_trips = derived_rereads text r d }
 
 -- zeros, and bytes that do not begin with one
 zeros_first : (xs ys u v : List ℕ) → BeginsOtherwise 1 u → BeginsOtherwise 1 v → map (λ n. 1) xs ++ u ≡ map (λ n. 1) ys ++ v → (length xs ≡ length ys) × (u ≡ v)

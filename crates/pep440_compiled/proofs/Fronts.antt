@@ -100,7 +100,7 @@ both_tie Less b e = absurd (cc)
 both_tie Greater b e = absurd (cc)
 both_tie Equal b e = (refl, e)
 
-eq_true : (o : Ordering) → is_eq o ≡ true → o ≡ Equal
+pub eq_true : (o : Ordering) → is_eq o ≡ true → o ≡ Equal
 eq_true Less e = absurd (true≢false (sym e))
 eq_true Greater e = absurd (true≢false (sym e))
 eq_true Equal e = refl

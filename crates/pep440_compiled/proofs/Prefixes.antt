@@ -2,6 +2,7 @@
 use Rattle.std.proofs.Common.{◌≡◌, ◌∙◌, ◌==◌, ◌&&◌, ◌||◌, ℕ, zero, suc, ◌+◌, ◌<◌, refl, sym, ap, subst, arith, inl, inr, Bool, true, false, List, [], ◌∷◌, ◌++◌, length, take, append_assoc, nat_eq, lit<}
 use Rattle.std.proofs.lemmas.Bool.Decides.{nat_tests}
 use Rattle.std.proofs.lemmas.Bool.{cases_Bool, cases_eq, eq-eqb, le-leb, ne_eqb}
+use Rattle.std.proofs.lemmas.List.{nil_from_length}
 use Rattle.std.specs.Cmp.Lexicographic.{pointwise, slice_cmp}
 use Rattle.std.specs.FinMap.{nat_cmp-IsAntisymmetric}
 use Rattle.std.specs.List.{AllByRecursion, flat_map, list_all, starts_with}
@@ -31,17 +32,13 @@ no_bytes : (n : ℕ) (bytes : List ℕ) → Fits n → bytes ≡ needed_bytes n 
 no_bytes n bytes p e none =
     same_number 1 n 0 [] [] p zero_fits (ap (λ l. l ++ []) ((λ i. (1 + length (sym e i)) ∷ sym e i) ∙ ap (λ l. (1 + length l) ∷ l) none ∙ sym (zero_bytes 1 0 refl)))
 
-nil : (bytes : List ℕ) → length bytes ≡ 0 → bytes ≡ []
-nil [] e = refl
-nil (b ∷ bytes) e = absurd (omega arith)
-
 pub none_needed : needed_bytes 0 ≡ []
-none_needed = nil (needed_bytes 0) (omega (arith, ap length (zero_bytes 1 0 refl)))
+none_needed = nil_from_length (needed_bytes 0) (omega (arith, ap length (zero_bytes 1 0 refl)))
 
 pub some_needed : (n : ℕ) → Fits n → (n ≡ 0 → ⊥) → 0 < length (needed_bytes n)
 some_needed n p other =
     elim (cases_eq (length (needed_bytes n)) 0) [
-      | inl e ↦ absurd (other (no_bytes n (needed_bytes n) p refl (nil (needed_bytes n) e)))
+      | inl e ↦ absurd (other (no_bytes n (needed_bytes n) p refl (nil_from_length (needed_bytes n) e)))
       | inr more ↦ omega (arith, more)
     ]
 
@@ -87,9 +84,9 @@ zero_first x = cases_Bool (x == 0)
 none_asked : (bytes : List ℕ) → begins_with_ones 0 bytes ≡ true
 none_asked bytes = ap (λ b. b && true) (le-leb 0 (length bytes) (omega arith))
 
-behind : (ys : List ℕ) → IsTrimmed (0 ∷ ys) → 0 < length ys
-behind [] h = absurd (trimmed_last 0 h refl)
-behind (y ∷ ys) h = omega arith
+more_numbers : (ys : List ℕ) → IsTrimmed (0 ∷ ys) → 0 < length ys
+more_numbers [] h = absurd (trimmed_last 0 h refl)
+more_numbers (y ∷ ys) h = omega arith
 
 -- one number more
 zeros_step : (k x : ℕ) (xs w : List ℕ) → IsTrimmed (x ∷ xs) → Fits x → (0 < length xs → IsTrimmed xs → begins_with xs (replicate k 0) ≡ begins_with_ones k (flat_map (number_bytes 1) xs ++ w))
@@ -98,7 +95,7 @@ zeros_step k x xs w h p again =
     elim (cases_eq x 0) [
       | inl e ↦
           ap (λ b. b && begins_with xs (replicate k 0)) (eq-eqb x 0 e)
-          ∙ again (behind xs (subst (λ n. IsTrimmed (n ∷ xs)) e h)) (trimmed_tail x xs h)
+          ∙ again (more_numbers xs (subst (λ n. IsTrimmed (n ∷ xs)) e h)) (trimmed_tail x xs h)
           ∙ sym (ap (λ l. begins_with_ones (suc k) ((l ++ flat_map (number_bytes 1) xs) ++ w)) (zero_bytes 1 x e) ∙ ones_step k 1 (flat_map (number_bytes 1) xs ++ w))
       | inr other ↦
           let first : (1 + length (needed_bytes x) == 1) ≡ false = ne_eqb _ 1 (λ e. let some = some_needed x p other in omega (arith, e, some)) in

@@ -1,6 +1,6 @@
 -- The bytes of a compiled list: its members, one after the other. A sort key ends where it says, and no member begins with the
 -- byte 1 of the zeros after a key, so nothing stands between two members.
-use Rattle.std.specs.Prelude.{◌≡◌, ℕ, ◌+◌, List, ◌∷◌}
+use Rattle.std.specs.Prelude.{◌≡◌, ℕ, ◌+◌, List, ◌∷◌, Some, slice_get}
 use Rattle.std.specs.List.{All, flat_map}
 use Rattle.pep440_compiled.specs.Version.{IsParsed, version_bytes}
 use Rattle.pep440_rs.specs.Arrangement.{IsArranged}
@@ -10,6 +10,10 @@ use Rattle.pep440_rs.specs.Specifiers.{IsSpec, Spec}
 -- 16 and the position of the operator in its enum, and the version
 abbrev pub member_bytes : Spec → List ℕ
 member_bytes s = (16 + operator_rank s.operator) ∷ version_bytes s.version
+
+-- the bytes begin with the format byte 5, which those of older formats do not
+abbrev pub HasListFormat : List ℕ → Type 0
+HasListFormat bytes = slice_get bytes 0 ≡ Some 5
 
 -- the format byte 5, and the members
 abbrev pub list_bytes : List Spec → List ℕ

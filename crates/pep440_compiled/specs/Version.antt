@@ -1,5 +1,5 @@
 -- The bytes of a compiled version: its sort key, and the one thing that the key leaves out, how many zeros end the release.
-use Rattle.std.specs.Prelude.{◌≡◌, ℕ, List, ◌∷◌, ◌++◌, drop, length, map}
+use Rattle.std.specs.Prelude.{◌≡◌, ℕ, List, ◌∷◌, ◌++◌, Some, drop, length, map, slice_get}
 use Rattle.pep440_keys.specs.SortKeys.{key_bytes}
 use Rattle.pep440_version.specs.Record.{IsRecord, Record}
 use Rattle.pep440_version.specs.RoundTrip.{RoundTrips}
@@ -17,6 +17,10 @@ zero_bytes release = map (λ n. 1) (drop (length (trim release)) release)
 -- the sort key, and these zeros
 abbrev pub version_bytes : Record → List ℕ
 version_bytes r = key_bytes r ++ zero_bytes r.release
+
+-- the bytes begin with the format byte 4, which those of older formats do not
+abbrev pub HasVersionFormat : List ℕ → Type 0
+HasVersionFormat bytes = slice_get bytes 0 ≡ Some 4
 
 -- after the format byte 4
 abbrev pub compiled_bytes : Record → List ℕ

@@ -37,19 +37,19 @@ fn read_number(count: u8, bytes: &[u8]) -> Option<(u64, &[u8])>
 
 // A rank and its number, as any bytes have them.
 #[derive(Clone, Copy)]
-struct ReadNumber {
+struct RankAndNumber {
     rank: u8,
     number: u64,
 }
 
 // A rank and its number, and the rest.
-fn read_ranked(bytes: &[u8]) -> Option<(ReadNumber, &[u8])>
+fn read_ranked_number(bytes: &[u8]) -> Option<(RankAndNumber, &[u8])>
     ensures { (rank n : ℕ) (rest : List ℕ) → rank < 16 → Fits n → bytes.now ≡ rank_bytes (rank, n) ++ rest → MatchOption result ⊥ (λ p. (p.0.rank ≡ rank) × (p.0.number ≡ n) × (p.1.now ≡ rest)) }
 {
     let (first, rest) = bytes.split_first()?;
     let (number, rest) = read_number(*first % 16, rest)?;
     let rank = *first / 16;
-    Some((ReadNumber { rank, number }, rest))
+    Some((RankAndNumber { rank, number }, rest))
 }
 
 // Release numbers up to the 0 that ends them, and the rest.
@@ -125,7 +125,7 @@ fn read_local(alloc: Global, bytes: &[u8]) -> Result<Option<Vec<LocalSegment>>, 
 }
 
 // The pre-release of a stage.
-fn pre_of_stage(stage: ReadNumber) -> Option<Prerelease>
+fn pre_of_stage(stage: RankAndNumber) -> Option<Prerelease>
     ensures { (pre : Option Prerelease) (dev post : Option ℕ) → (stage.rank, stage.number) ≡ stage_rank (stage_of None pre dev post None) → result ≡ pre }
 {
     let kind = match stage.rank {
@@ -138,7 +138,7 @@ fn pre_of_stage(stage: ReadNumber) -> Option<Prerelease>
     Some(Prerelease { kind, number })
 }
 
-fn post_number(post: ReadNumber) -> Option<u64>
+fn post_number(post: RankAndNumber) -> Option<u64>
     ensures { (number : Option ℕ) → (post.rank, post.number) ≡ post_rank (post_of None number) → result ≡ number }
 {
     if post.rank == 1 {
@@ -148,7 +148,7 @@ fn post_number(post: ReadNumber) -> Option<u64>
     }
 }
 
-fn dev_number(dev: ReadNumber) -> Option<u64>
+fn dev_number(dev: RankAndNumber) -> Option<u64>
     ensures { (number : Option ℕ) → (dev.rank, dev.number) ≡ dev_rank (dev_of None number) → result ≡ number }
 {
     if dev.rank == 0 {
@@ -169,9 +169,9 @@ struct SuffixParts {
 fn read_suffix(bytes: &[u8]) -> Option<(SuffixParts, &[u8])>
     ensures { (r : Record) (rest : List ℕ) → IsParsed r → bytes.now ≡ suffix_bytes r ++ rest → MatchOption result ⊥ (λ p. (p.0.pre ≡ r.pre) × (p.0.post ≡ r.post) × (p.0.dev ≡ r.dev) × (p.1.now ≡ rest)) }
 {
-    let (stage, rest) = read_ranked(bytes)?;
-    let (post, rest) = read_ranked(rest)?;
-    let (dev, rest) = read_ranked(rest)?;
+    let (stage, rest) = read_ranked_number(bytes)?;
+    let (post, rest) = read_ranked_number(rest)?;
+    let (dev, rest) = read_ranked_number(rest)?;
     let parts = SuffixParts {
         pre: pre_of_stage(stage),
         post: post_number(post),
@@ -215,7 +215,7 @@ pub(crate) fn decode_version(
 ) -> Result<Option<Version>, AllocError>
     ensures { (r : Record) → IsViewOf view.entry r → IfOk result (λ o. o ≡ Some r) }
 {
-    let Some((epoch, rest)) = read_ranked(view.key) else {
+    let Some((epoch, rest)) = read_ranked_number(view.key) else {
         return Ok(None);
     };
     let Some((mut release, rest)) = read_numbers(alloc, rest)? else {

@@ -9,7 +9,7 @@ ghost use Rattle.pep440_version.specs.Record.{LocalSegmentValue, Record};
 
 // The rank of a ranked number, and the rest. The epoch is one of rank 0.
 #[inline(always)]
-pub(crate) fn skip_ranked(bytes: &[u8]) -> Option<(u8, &[u8])>
+pub(crate) fn skip_ranked_number(bytes: &[u8]) -> Option<(u8, &[u8])>
     ensures found { (rank n : ℕ) (rest : List ℕ) → rank < 16 → bytes.now ≡ rank_bytes (rank, n) ++ rest → MatchOption result ⊥ (λ p. (p.0 ≡ rank) × (p.1.now ≡ rest)) }
     ensures shorter { IfSome result (λ p. length p.1.now < length bytes.now) }
 {
@@ -39,7 +39,7 @@ pub(crate) fn split_release(bytes: &[u8]) -> Option<(&[u8], &[u8])>
     ensures found { (epoch : ℕ) (numbers rest : List ℕ) → bytes.now ≡ base_bytes epoch numbers ++ 0 ∷ rest → MatchOption result ⊥ (λ p. (p.0.now ≡ base_bytes epoch numbers ++ 0 ∷ []) × (p.1.now ≡ rest)) }
     ensures shorter { IfSome result (λ p. length p.1.now < length bytes.now) }
 {
-    let (_, numbers) = skip_ranked(bytes)?;
+    let (_, numbers) = skip_ranked_number(bytes)?;
     let rest = skip_numbers(numbers)?;
     Some((&bytes[..bytes.len() - rest.len()], rest))
 }
@@ -56,9 +56,9 @@ pub(crate) fn split_suffix(bytes: &[u8]) -> Option<(Suffix, &[u8])>
     ensures found { (r : Record) (rest : List ℕ) → IsParsed r → bytes.now ≡ suffix_bytes r ++ rest → MatchOption result ⊥ (λ p. (p.0.is_prerelease ≡ any_prerelease r) × (p.0.is_post ≡ is_some r.post) × (p.1.now ≡ rest)) }
     ensures shorter { IfSome result (λ p. length p.1.now < length bytes.now) }
 {
-    let (stage, rest) = skip_ranked(bytes)?;
-    let (post, rest) = skip_ranked(rest)?;
-    let (dev, rest) = skip_ranked(rest)?;
+    let (stage, rest) = skip_ranked_number(bytes)?;
+    let (post, rest) = skip_ranked_number(rest)?;
+    let (dev, rest) = skip_ranked_number(rest)?;
     let suffix = Suffix {
         is_prerelease: stage < 5 || dev == 0,
         is_post: post > 0,

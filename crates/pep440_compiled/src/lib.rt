@@ -27,5 +27,5 @@ mod views;
 pub use error::{CompileError, CompiledError, NotCompiled};
 pub use list::{compile_list, contains, normalize_list, read_list};
 pub use version::{
-    any_prerelease, compare, compile_version, normalize, push_compiled, read_version, sort_key,
+    any_prerelease, compare, compile_version, normalize, push_compiled_form, read_version, sort_key,
 };

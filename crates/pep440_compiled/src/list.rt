@@ -2,8 +2,8 @@
 ghost use Rattle.std.specs.Prelude.{◌≡◌, ◌↔◌, ◌++◌, ◌<◌, ℕ, List, true, length, Ok, Some, IfErr, IfOk, IfSome, MatchOption, OnOk, string_bytes};
 ghost use Rattle.std.specs.List.{All, flat_map};
 ghost use Rattle.pep440_compiled.specs.KeyParts.{BeginsOtherwise};
-ghost use Rattle.pep440_compiled.specs.Lists.{DenotesList, IsParsedMember, member_bytes};
-ghost use Rattle.pep440_compiled.specs.Version.{DenotesVersion, IsParsed};
+ghost use Rattle.pep440_compiled.specs.Lists.{DenotesList, HasListFormat, IsParsedMember, member_bytes};
+ghost use Rattle.pep440_compiled.specs.Version.{DenotesVersion, HasVersionFormat, IsParsed};
 ghost use Rattle.pep440_compiled.specs.KeyViews.{HasParts};
 ghost use Rattle.pep440_compiled.specs.declared.error.CompileError.TheVariants.{NotParsed};
 ghost use Rattle.pep440_compiled.specs.declared.error.CompiledError.TheVariants as unread;
@@ -29,7 +29,7 @@ const LIST: u8 = 5;
 const OPERATOR: u8 = 16;
 
 // All versions are such that strings parse to them.
-fn are_parsed(members: &[VersionSpecifier]) -> bool
+fn has_parsed_versions(members: &[VersionSpecifier]) -> bool
     ensures members { result ≡ true → All IsParsedMember members.now }
     ensures versions { All (λ (s : Spec). IsParsed s.version) members.now → result ≡ true }
 {
@@ -56,7 +56,7 @@ pub fn compile_list(alloc: Global, list: &VersionSpecifiers) -> Result<Vec<u8>, 
     ensures err { IfErr result (λ e. e ≡ NotParsed → All (λ (s : Spec). IsParsed s.version) list.now → ⊥) }
 {
     let members = list.as_slice();
-    if !are_parsed(members) {
+    if !has_parsed_versions(members) {
         return Err(CompileError::NotParsed);
     }
     let mut bytes = Vec::new(alloc);
@@ -87,7 +87,8 @@ fn view_member(bytes: &[u8]) -> Option<(MemberView<'_>, &[u8])>
 
 // What follows the format of lists.
 fn view_members(bytes: &[u8]) -> Option<&[u8]>
-    ensures { (list : List Spec) → DenotesList bytes.now list → MatchOption result ⊥ (λ rest. rest.now ≡ flat_map member_bytes list) }
+    ensures found { (list : List Spec) → DenotesList bytes.now list → MatchOption result ⊥ (λ rest. rest.now ≡ flat_map member_bytes list) }
+    ensures format { IfSome result (λ _. HasListFormat bytes.now) }
 {
     match bytes.split_first() {
         Some((&LIST, rest)) => Some(rest),
@@ -96,11 +97,13 @@ fn view_members(bytes: &[u8]) -> Option<&[u8]>
 }
 
 /// Whether the list that the one bytes denote contains the version that the others denote, as `VersionSpecifiers::contains`
-/// (PEP 440, "Version specifiers"). If `list` denotes no list or `version` no version, `NotCompiled` or any answer.
+/// (PEP 440, "Version specifiers"). If one is of another format, `NotCompiled`; if `list` denotes no list
+/// or `version` no version, `NotCompiled` or either result.
 ///
 /// Does not allocate.
 pub fn contains(list: &[u8], version: &[u8]) -> Result<bool, NotCompiled>
-    ensures { (l : List Spec) (r : Record) → DenotesList list.now l → DenotesVersion version.now r → result ≡ Ok (list_matches l r) }
+    ensures found { (l : List Spec) (r : Record) → DenotesList list.now l → DenotesVersion version.now r → result ≡ Ok (list_matches l r) }
+    ensures format { IfOk result (λ _. HasListFormat list.now × HasVersionFormat version.now) }
 {
     let Some(version) = view_version(version) else {
         return Err(NotCompiled);

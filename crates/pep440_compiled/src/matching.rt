@@ -10,7 +10,7 @@ ghost use Rattle.pep440_version.specs.Key.{record_cmp};
 ghost use Rattle.pep440_version.specs.Record.{Fits, Record};
 ghost use Rattle.std.specs.List.{All, starts_with};
 
-use crate::key_parts::{skip_ranked, split_suffix};
+use crate::key_parts::{skip_ranked_number, split_suffix};
 use crate::views::{PartsView, VersionView};
 use pep440_rs::Operator;
 use std::cmp::Ordering;
@@ -122,7 +122,7 @@ fn has_release(specifier: &PartsView<'_>, version: &[u8]) -> bool
 fn without_last(base: &[u8]) -> Option<(&[u8], usize)>
     ensures { (epoch : ℕ) (numbers : List ℕ) → 0 < length numbers → All Fits numbers → ending_zeros numbers ≡ 0 → base.now ≡ base_bytes epoch numbers → MatchOption result ⊥ (λ p. (p.0.now ≡ base_bytes epoch (without_last numbers)) × (p.1 ≡ ending_zeros (without_last numbers))) }
 {
-    let (_, numbers) = skip_ranked(base)?;
+    let (_, numbers) = skip_ranked_number(base)?;
     let mut left = numbers;
     let mut length = base.len() - numbers.len();
     let mut zeros = 0;

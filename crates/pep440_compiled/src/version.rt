@@ -1,6 +1,6 @@
 //! Compiled versions: made, read, compared.
 ghost use Rattle.std.specs.Prelude.{◌≡◌, ◌↔◌, ◌++◌, true, Ok, IfErr, IfOk, MatchResult, OnOk, string_bytes};
-ghost use Rattle.pep440_compiled.specs.Version.{DenotesVersion, IsParsed, compiled_bytes, version_bytes, zero_bytes};
+ghost use Rattle.pep440_compiled.specs.Version.{DenotesVersion, HasVersionFormat, IsParsed, compiled_bytes, version_bytes, zero_bytes};
 ghost use Rattle.pep440_compiled.specs.declared.error.CompileError.TheVariants.{NotParsed};
 ghost use Rattle.pep440_compiled.specs.declared.error.CompiledError.TheVariants as unread;
 ghost use Rattle.pep440_keys.specs.SortKeys.{key_bytes};
@@ -41,7 +41,7 @@ pub(crate) fn push_version(bytes: &mut Vec<u8>, version: &Version) -> Result<(),
 
 /// Appends the byte 4, the sort key, and a byte 1 for each zero that ends the release: the compiled form, if a string parses to
 /// the version. Others, as the bounds of ranges with a sentinel, are written in the same way; their bytes denote no version.
-pub fn push_compiled(bytes: &mut Vec<u8>, version: &Version) -> Result<(), AllocError>
+pub fn push_compiled_form(bytes: &mut Vec<u8>, version: &Version) -> Result<(), AllocError>
     ensures { OnOk result (bytes.new.items ≡ bytes.old.items ++ compiled_bytes version.now) }
 {
     bytes.push(VERSION)?;
@@ -59,7 +59,7 @@ pub fn compile_version(alloc: Global, version: &Version) -> Result<Vec<u8>, Comp
         return Err(CompileError::NotParsed);
     }
     let mut bytes = Vec::with_capacity(alloc, 24)?;
-    push_compiled(&mut bytes, version)?;
+    push_compiled_form(&mut bytes, version)?;
     Ok(bytes)
 }
 
@@ -109,12 +109,13 @@ pub fn normalize(alloc: Global, bytes: &[u8]) -> Result<String, CompiledError>
     }
 }
 
-/// The sort key of the version that the bytes denote (`pep440_keys::sort_key`), as it lies in them. Of bytes that denote
-/// none, `NotCompiled` or any part of them.
+/// The sort key of the version that the bytes denote (`pep440_keys::sort_key`), as it lies in them. Bytes of another format
+/// are `NotCompiled`; of others that denote no version, `NotCompiled` or any part of them.
 ///
 /// Does not allocate.
 pub fn sort_key(bytes: &[u8]) -> Result<&[u8], NotCompiled>
-    ensures ok { (r : Record) → DenotesVersion bytes.now r → MatchResult result (λ key. key.now ≡ key_bytes r) (λ _. ⊥) }
+    ensures found { (r : Record) → DenotesVersion bytes.now r → MatchResult result (λ key. key.now ≡ key_bytes r) (λ _. ⊥) }
+    ensures format { IfOk result (λ _. HasVersionFormat bytes.now) }
 {
     match view_version(bytes) {
         Some(view) => Ok(view.key),
@@ -123,11 +124,12 @@ pub fn sort_key(bytes: &[u8]) -> Result<&[u8], NotCompiled>
 }
 
 /// The order of the versions that the bytes denote (PEP 440, "Summary of permitted suffixes and relative ordering"). If `a` or
-/// `b` denotes none, `NotCompiled` or any order.
+/// `b` is of another format, `NotCompiled`; if one denotes no version, `NotCompiled` or any order.
 ///
 /// Does not allocate.
 pub fn compare(a: &[u8], b: &[u8]) -> Result<Ordering, NotCompiled>
-    ensures { (r q : Record) → DenotesVersion a.now r → DenotesVersion b.now q → result ≡ Ok (record_cmp r q) }
+    ensures found { (r q : Record) → DenotesVersion a.now r → DenotesVersion b.now q → result ≡ Ok (record_cmp r q) }
+    ensures format { IfOk result (λ _. HasVersionFormat a.now × HasVersionFormat b.now) }
 {
     let left = sort_key(a)?;
     let right = sort_key(b)?;
@@ -135,11 +137,12 @@ pub fn compare(a: &[u8], b: &[u8]) -> Result<Ordering, NotCompiled>
 }
 
 /// Whether the version that the bytes denote is a pre-release or a developmental release (PEP 440, "Handling of
-/// pre-releases"). Of bytes that denote none, `NotCompiled` or any answer.
+/// pre-releases"). Bytes of another format are `NotCompiled`; of others that denote no version, `NotCompiled` or either result.
 ///
 /// Does not allocate.
 pub fn any_prerelease(bytes: &[u8]) -> Result<bool, NotCompiled>
-    ensures { (r : Record) → DenotesVersion bytes.now r → result ≡ Ok (any_prerelease r) }
+    ensures found { (r : Record) → DenotesVersion bytes.now r → result ≡ Ok (any_prerelease r) }
+    ensures format { IfOk result (λ _. HasVersionFormat bytes.now) }
 {
     let key = sort_key(bytes)?;
     let Some((_, rest)) = split_release(key) else {

@@ -1,7 +1,7 @@
 //! Compiled versions as they lie: where their parts are.
 ghost use Rattle.std.specs.Prelude.{◌≡◌, ◌<◌, ◌++◌, List, ℕ, length, IfSome, MatchOption};
 ghost use Rattle.pep440_compiled.specs.KeyParts.{BeginsOtherwise};
-ghost use Rattle.pep440_compiled.specs.Version.{DenotesVersion, IsParsed, version_bytes};
+ghost use Rattle.pep440_compiled.specs.Version.{DenotesVersion, HasVersionFormat, IsParsed, version_bytes};
 ghost use Rattle.pep440_compiled.specs.KeyViews.{HasParts, IsViewOf};
 ghost use Rattle.pep440_version.specs.Record.{Record};
 
@@ -30,7 +30,8 @@ pub(crate) struct PartsView<'a> {
 
 // The compiled version.
 pub(crate) fn view_version(bytes: &[u8]) -> Option<VersionView<'_>>
-    ensures { (r : Record) → DenotesVersion bytes.now r → MatchOption result ⊥ (λ view. IsViewOf view r) }
+    ensures found { (r : Record) → DenotesVersion bytes.now r → MatchOption result ⊥ (λ view. IsViewOf view r) }
+    ensures format { IfSome result (λ _. HasVersionFormat bytes.now) }
 {
     let (format, rest) = bytes.split_first()?;
     if *format != VERSION {

@@ -1,7 +1,7 @@
 //! Test cases: versions and their bytes, their order, and failing allocations.
 use pep440_compiled::{
     CompileError, CompiledError, any_prerelease, compare, compile_version, normalize,
-    push_compiled, read_version, sort_key,
+    push_compiled_form, read_version, sort_key,
 };
 use pep440_version::{LocalSegment, Version};
 use std::cmp::Ordering;
@@ -126,7 +126,7 @@ fn others_are_not_compiled(rt: HostRuntime) -> Result<(), Fail> {
         assert!(rt; not_parsed);
     }
     let mut bytes = Vec::new(rt.alloc());
-    push_compiled(&mut bytes, &sentinel)?;
+    push_compiled_form(&mut bytes, &sentinel)?;
     assert!(rt; bytes.as_slice() == SENTINEL);
     Ok(())
 }

@@ -6,6 +6,6 @@ use Rattle.pep440_compiled.proofs.Fronts.{keyed}
 use Rattle.pep440_compiled.proofs.version.compare.Goals as goal
 use Rattle.pep440_keys.proofs.Order.{keys_in_order}
 
-pub returns : goal.returns
-returns c r q d e =
-    ap Ok (c.cmp.ensures ∙ (λ i. slice_cmp nat_cmp (c.in_ok-left.ensures.ok r d i) (c.in_ok-right.ensures.ok q e i)) ∙ keys_in_order r q (keyed r d.parsed) (keyed q e.parsed))
+pub returns-clause-found : goal.returns-clause-found
+returns-clause-found c r q d e =
+    ap Ok (c.cmp.ensures ∙ (λ i. slice_cmp nat_cmp (c.in_ok-left.ensures.found r d i) (c.in_ok-right.ensures.found q e i)) ∙ keys_in_order r q (keyed r d.parsed) (keyed q e.parsed))

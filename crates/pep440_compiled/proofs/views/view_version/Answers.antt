@@ -9,8 +9,8 @@ use Rattle.pep440_compiled.specs.Version.{zero_bytes}
 use Rattle.pep440_keys.specs.SortKeys.{key_bytes, segment_bytes}
 use Rattle.pep440_version.specs.Trim.{trim}
 
-pub returns : goal.returns
-returns c r d =
+pub returns-clause-found : goal.returns-clause-found
+returns-clause-found c r d =
     let rest : c.in_ok-format.rest.now ≡ key_bytes r ++ zero_bytes r.release = ap (drop 1) (sym c.in_ok-format.ensures.cases.0 ∙ d.same) in
     let found = c.trim_zeros-key.ensures.found (public_bytes r ++ flat_map segment_bytes r.local) (drop (length (trim r.release)) r.release) (rest ∙ ap (λ l. l ++ zero_bytes r.release) (key_ends r)) in
     record {

@@ -1,5 +1,5 @@
 use Rattle.pep440_compiled.proofs.Numbers.{ranked_parts}
-use Rattle.pep440_compiled.proofs.decode.read_ranked.Goals as goal
+use Rattle.pep440_compiled.proofs.decode.read_ranked_number.Goals as goal
 
 pub returns-in_err-number : goal.returns-in_err-number
 returns-in_err-number c rank n rest below f e =

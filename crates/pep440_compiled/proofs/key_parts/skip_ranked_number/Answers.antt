@@ -1,7 +1,7 @@
 use Rattle.std.proofs.Common.{◌≡◌, ◌∙◌, ◌+◌, ◌*◌, ◌++◌, ap, arith, get_or, sym, length}
 use Rattle.std.specs.Prelude.{drop}
 use Rattle.pep440_compiled.proofs.Loops.{behind}
-use Rattle.pep440_compiled.proofs.key_parts.skip_ranked.Goals as goal
+use Rattle.pep440_compiled.proofs.key_parts.skip_ranked_number.Goals as goal
 use Rattle.pep440_keys.proofs.Bytes.{needed_le}
 use Rattle.pep440_keys.specs.SortKeys.{needed_bytes}
 
