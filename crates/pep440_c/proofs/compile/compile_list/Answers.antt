@@ -1,6 +1,6 @@
 use Rattle.std.proofs.lemmas.Result.{err_from_is_err_and}
 use Rattle.pep440_c.proofs.Compiling.{members_parsed, only_memory}
-use Rattle.pep440_c.proofs.compiled_forms.compile_list.Goals as goal
+use Rattle.pep440_c.proofs.compile.compile_list.Goals as goal
 
 pub returns-in_err-compile_list : goal.returns-in_err-compile_list
 returns-in_err-compile_list c =
