@@ -24,11 +24,11 @@ pub specifier_parsed : (s : Spec) → HasText s → IsParsedSpec s
 specifier_parsed s has = let denoted = (is_coverable s has).1 in parsed denoted.0 s.version denoted.1
 
 pub means_parsed : (bytes : List ℕ) (r : Record) → MeansBytes bytes r → IsParsed r
-means_parsed bytes r (inl (no, (utf8, d))) = parsed bytes r d
+means_parsed bytes r (inl (plain, (utf8, d))) = parsed bytes r d
 means_parsed bytes r (inr d) = d.parsed
 
 pub members_parsed : (bytes : List ℕ) (list : List Spec) → MeansListBytes bytes list → All IsParsedSpec list
-members_parsed bytes list (inl (no, (utf8, means))) = All-weaker HasText IsParsedSpec specifier_parsed list (list_has_texts bytes list means)
+members_parsed bytes list (inl (plain, (utf8, means))) = All-weaker HasText IsParsedSpec specifier_parsed list (list_has_texts bytes list means)
 members_parsed bytes list (inr d) = All-weaker IsParsedMember IsParsedSpec (λ s p. p.version) list d.members
 
 -- so an error is out of memory

@@ -27,12 +27,12 @@ pub no_compiled : (bytes : List ℕ) → HasVersionFormat bytes → DenotesNoVer
 no_compiled bytes format none = (codes "not a compiled version", inr (format, none, refl))
 
 pub string_read : (bytes : List ℕ) → (¬ HasVersionFormat bytes) → (result : Result Record Fault) → Gives (RefusesString bytes) ⊥ ⊥ (MeansString bytes) result → Gives (RefusesBytes bytes) ⊥ ⊥ (MeansBytes bytes) result
-string_read bytes no (Ok r) means = inl (no, means)
-string_read bytes no (Err fault.InvalidVersion) why = (why.0, inl (no, why.1))
-string_read bytes no (Err fault.InvalidList) h = h
-string_read bytes no (Err fault.OutOfMemory) h = h
-string_read bytes no (Err fault.NumberAtMax) h = h
-string_read bytes no (Err fault.InvalidRight) h = h
+string_read bytes plain (Ok r) means = inl (plain, means)
+string_read bytes plain (Err fault.InvalidVersion) why = (why.0, inl (plain, why.1))
+string_read bytes plain (Err fault.InvalidList) h = h
+string_read bytes plain (Err fault.OutOfMemory) h = h
+string_read bytes plain (Err fault.NumberAtMax) h = h
+string_read bytes plain (Err fault.InvalidRight) h = h
 
 pub compiled_read : (bytes : List ℕ) → HasVersionFormat bytes → (result : Result Record Fault) → Gives (DenotesNoVersion bytes) ⊥ ⊥ (DenotesVersion bytes) result → Gives (RefusesBytes bytes) ⊥ ⊥ (MeansBytes bytes) result
 compiled_read bytes format (Ok r) d = inr d
@@ -44,7 +44,7 @@ compiled_read bytes format (Err fault.InvalidRight) h = h
 
 -- compiled bytes denote what they denote as a compiled form
 pub as_compiled : (bytes : List ℕ) (r : Record) → HasVersionFormat bytes → MeansBytes bytes r → DenotesVersion bytes r
-as_compiled bytes r format (inl (no, means)) = absurd (no format)
+as_compiled bytes r format (inl (plain, means)) = absurd (plain format)
 as_compiled bytes r format (inr d) = d
 
 -- ---- lists
@@ -53,12 +53,12 @@ pub no_compiled_list : (bytes : List ℕ) → HasListFormat bytes → DenotesNoL
 no_compiled_list bytes format none = (codes "not a compiled list", inr (format, none, refl))
 
 pub list_string_read : (bytes : List ℕ) → (¬ HasListFormat bytes) → (result : Result (List Spec) Fault) → Gives ⊥ (RefusesListString bytes) ⊥ (MeansListString bytes) result → Gives ⊥ (RefusesListBytes bytes) ⊥ (MeansListBytes bytes) result
-list_string_read bytes no (Ok l) means = inl (no, means)
-list_string_read bytes no (Err fault.InvalidVersion) h = h
-list_string_read bytes no (Err fault.InvalidList) why = (why.0, inl (no, why.1))
-list_string_read bytes no (Err fault.OutOfMemory) h = h
-list_string_read bytes no (Err fault.NumberAtMax) h = h
-list_string_read bytes no (Err fault.InvalidRight) h = h
+list_string_read bytes plain (Ok l) means = inl (plain, means)
+list_string_read bytes plain (Err fault.InvalidVersion) h = h
+list_string_read bytes plain (Err fault.InvalidList) why = (why.0, inl (plain, why.1))
+list_string_read bytes plain (Err fault.OutOfMemory) h = h
+list_string_read bytes plain (Err fault.NumberAtMax) h = h
+list_string_read bytes plain (Err fault.InvalidRight) h = h
 
 pub compiled_list_read : (bytes : List ℕ) → HasListFormat bytes → (result : Result (List Spec) Fault) → Gives ⊥ (DenotesNoList bytes) ⊥ (DenotesList bytes) result → Gives ⊥ (RefusesListBytes bytes) ⊥ (MeansListBytes bytes) result
 compiled_list_read bytes format (Ok l) d = inr d
@@ -69,7 +69,7 @@ compiled_list_read bytes format (Err fault.NumberAtMax) h = h
 compiled_list_read bytes format (Err fault.InvalidRight) h = h
 
 pub as_compiled_list : (bytes : List ℕ) (l : List Spec) → HasListFormat bytes → MeansListBytes bytes l → DenotesList bytes l
-as_compiled_list bytes l format (inl (no, means)) = absurd (no format)
+as_compiled_list bytes l format (inl (plain, means)) = absurd (plain format)
 as_compiled_list bytes l format (inr d) = d
 
 -- ---- what calls find

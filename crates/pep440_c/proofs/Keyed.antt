@@ -269,7 +269,7 @@ module _ (conversion : Operator → Record → Option Segments) (keyed : (op : O
 -- the members of a list that bytes denote
 members_keyed : (text : List ℕ) (list : List Spec) → MeansListBytes text list → All KeyedMember list
 members_keyed text list (inr d) = All-weaker IsParsedMember KeyedMember (λ m p. keyed m.version p.version) list d.members
-members_keyed text list (inl (no, (utf8, means))) = All-weaker HasText KeyedMember (λ m has. version_keyed m (is_coverable m has)) list (list_has_texts text list means)
+members_keyed text list (inl (plain, (utf8, means))) = All-weaker HasText KeyedMember (λ m has. version_keyed m (is_coverable m has)) list (list_has_texts text list means)
   where
     version_keyed : (m : Spec) → IsCoverable m → IsKeyed m.version
     version_keyed m (operand, (found, derives)) = derived_keyed found m.version derives

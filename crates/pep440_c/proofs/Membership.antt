@@ -27,7 +27,7 @@ any_map key (s ∷ range) = ap (λ (b : Bool). is_within (segment_interval s) ke
 
 -- some string denotes the version
 denoted : (bytes : List ℕ) (r : Record) → MeansBytes bytes r → IsDenoted r
-denoted bytes r (inl (no, (utf8, d))) = (bytes, d)
+denoted bytes r (inl (plain, (utf8, d))) = (bytes, d)
 denoted bytes r (inr d) = (print r, reread r d.parsed.valid d.parsed.round_trips)
 
 tells : (range : Segments) (text : List ℕ) (r : Record) → HasKeys range → MeansBytes text r → list_any (λ s. is_within (segment_interval s) (key_bytes r)) range ≡ contains record_cmp range r
@@ -38,6 +38,6 @@ in_range list text range r has means = tells range text r (range_has_keys list r
 
 pub in_cover : (list text : List ℕ) (members : List Spec) (cover : Segments) (r : Record) → (¬ HasListFormat list) → MeansListString list members → list_range cover_of members ≡ Some cover → MeansBytes text r → list_matches members r ≡ true
     → list_any (λ s. is_within (segment_interval s) (key_bytes r)) cover ≡ true
-in_cover list text members cover r no (utf8, means) is also matches =
-    tells cover text r (cover_has_keys list cover (members, inl (no, (utf8, means)), is)) also
+in_cover list text members cover r plain (utf8, means) is also matches =
+    tells cover text r (cover_has_keys list cover (members, inl (plain, (utf8, means)), is)) also
     ∙ list_text_covers members cover is (list_has_texts list members means) r (denoted text r also) matches
