@@ -53,12 +53,12 @@ use pep440_compiled::has_version_format;
 use std::alloc::Global;
 use std::cmp::Ordering;
 
-const VERSION_OF_LIBRARY: u32 = 0x00_02_00;
+const VERSION_OF_LIBRARY: u32 = 0x00_03_00;
 
 /// The version of the library, a byte for each of its three numbers. Allocates nothing.
 #[unsafe(no_mangle)]
 pub extern "C" fn pep440_version_of_library() -> u32
-    ensures { result ≡ 0x00_02_00 }
+    ensures { result ≡ 0x00_03_00 }
 {
     VERSION_OF_LIBRARY
 }
