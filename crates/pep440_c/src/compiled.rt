@@ -170,7 +170,7 @@ pub extern "C" fn pep440_range_keys_compiled(
     )
 }
 
-/// The same of the cover of the compiled list.
+/// Writes the cover of the compiled list as sort keys, as `pep440_cover_keys`.
 #[unsafe(no_mangle)]
 pub extern "C" fn pep440_cover_keys_compiled(
     alloc: Global,

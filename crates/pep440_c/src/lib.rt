@@ -3,7 +3,11 @@
 //! A string is bytes and how many there are. No call keeps a pointer, and none has a condition beyond its types. Each returns a status: 0
 //! ok, 1 a version is invalid, 2 a list is invalid, 3 out of memory, 4 too little room, 5 a bound of a range lies above the greatest number,
 //! 6 bytes that are passed as compiled are not, 7 a version is not packed, 8 a version cannot be changed so.
-//! The header is `callers/c/pep440.h`.
+//! The header `callers/c/pep440.h` says what each call writes.
+//!
+//! With 0 the result is at the start of the buffer, whose rest is unchanged. With 4 everything is valid, but the result does not fit: the
+//! buffer is unchanged, and what the header names is written. 3 may take the place of any other status. With any other
+//! nothing is written, except `index` by a batch that stops.
 //!
 //! A call may allocate from `malloc`, and frees what it allocated before it returns. Where `malloc` fails it returns 3, and may be made
 //! again.
@@ -370,7 +374,7 @@ pub extern "C" fn pep440_range_keys(
     )
 }
 
-/// The same of the cover of the list, a range that has each version that the list contains.
+/// Writes the cover of the list as sort keys, as `pep440_range_keys`; a cover has each version that the list contains.
 #[unsafe(no_mangle)]
 pub extern "C" fn pep440_cover_keys(
     alloc: Global,

@@ -32,7 +32,7 @@ pub extern "C" fn pep440_release_range_bounds(
     put_joined(to_bounds(alloc, list), out, ends, written, count)
 }
 
-/// The same of a compiled list. Status 6 where the bytes denote none.
+/// Writes the bounds of the compiled list, as `pep440_release_range_bounds`. Status 6 where the bytes denote none.
 #[unsafe(no_mangle)]
 pub extern "C" fn pep440_release_range_bounds_compiled(
     alloc: Global,

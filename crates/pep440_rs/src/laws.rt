@@ -64,7 +64,7 @@ pub fn range_agrees()
     ensures around { (s : Spec) (range : Segments) → range_of s.operator s.version ≡ Some range → HasOperand s → HoldsAllMatches s range }
 {}
 
-/// The same of what strings denote, alone or as members of any list, in one step.
+/// What `range_agrees` and `list_agrees` state, of specifiers that strings denote, alone or as members of any list, in one step.
 pub fn range_of_text_agrees()
     ensures single { (s : Spec) (range : Segments) → range_of s.operator s.version ≡ Some range → HasText s → Agrees IsCandidate s range }
     ensures list { (members : List Spec) (range : Segments) → list_range range_of members ≡ Some range → All HasText members → ListAgrees IsCandidate members range }
@@ -77,7 +77,7 @@ pub fn release_range_agrees()
     ensures { (s : Spec) (range : Segments) → release_range_of s.operator s.version ≡ Some range → Agrees IsReleaseComparable s range }
 {}
 
-/// The same of lists, by either conversion.
+/// The range of a list, by either conversion, holds exactly what the list contains, as far as the two can be compared.
 pub fn list_agrees()
     ensures whole { (members : List Spec) (range : Segments) → list_range range_of members ≡ Some range → All HasOperand members → ListAgrees IsCandidate members range }
     ensures release { (members : List Spec) (range : Segments) → list_range release_range_of members ≡ Some range → ListAgrees IsReleaseComparable members range }

@@ -221,7 +221,7 @@ impl VersionSpecifiers {
         self.members.is_empty()
     }
 
-    /// The members in order.
+    /// The members in order: their versions never fall.
     pub fn as_slice(&self) -> &[VersionSpecifier]
         ensures value { result.now ≡ self.now }
         // Versions never fall.

@@ -14,7 +14,7 @@ use crate::print_range::print_range;
 use crate::show_version::show_version;
 use std::alloc::{AllocError, Global};
 
-// What words ask for.
+/// What words ask for.
 #[derive(Clone, Copy, Debug)]
 pub enum Command<'a> {
     Show(&'a str),

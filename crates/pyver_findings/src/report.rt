@@ -68,7 +68,10 @@ fn parse_lines(alloc: Global, lines: &[FileLine]) -> Result<Readings, AllocError
 /// order; then for each name, in the order in which names are first mentioned, the lines that no version satisfies, those
 /// of which one names a version that the other excludes, and those that no version satisfies together. What one line or two
 /// explain is not reported again. Lines with different markers do not count together, and lines without a marker count with
-/// those of each.
+/// those of each; if those have no version in common, the lines of a marker are not reported together with them.
+///
+/// A line names a version if a member of its list is `==` without a star, or `===`. A list stands for its cover, or for all versions if
+/// a number in it cannot be raised. Each name is compared with all: n requirements take n² steps, and m·n² where m markers have findings.
 ///
 /// Allocates.
 pub fn find_problems(alloc: Global, files: &[SourceFile]) -> Result<Report, AllocError>

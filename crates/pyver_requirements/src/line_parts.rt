@@ -71,7 +71,7 @@ fn trim_part(part: Option<&[u8]>) -> Option<&[u8]>
     }
 }
 
-/// The parts of the line.
+/// The name with extras and list, the URL and the marker of a requirement line, without its options.
 ///
 /// Allocates nothing.
 pub fn split_requirement(text: &[u8]) -> LineParts<'_>

@@ -15,7 +15,7 @@ pub fn checks_once()
 {}
 
 /// A version that `bump` makes is greater, and differs only in the stated parts; a number of the release can be
-/// raised unless it is the greatest.
+/// raised unless it is the greatest. The epoch stays, and so does each part that no word changes; the local part goes.
 pub fn bumps()
     ensures greater { BumpsAreGreater }
     ensures parts { BumpsChangeOnly }

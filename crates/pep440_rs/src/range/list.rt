@@ -64,7 +64,8 @@ fn convert_members(
 }
 
 /// The range of a list: all versions, intersected with each member's range in the list's order (PEP 440, "Version
-/// specifiers": a version must match each of them).
+/// specifiers": a version must match each of them). It has at most one segment more than the list has members with `!=`, with or
+/// without a star.
 ///
 /// Allocates. Returns `NumberAtMax` where the conversion of some member does, also where the members before it leave
 /// no version, and `OutOfMemory` where an allocation fails.
