@@ -71,7 +71,7 @@ fn parse_lines(alloc: Global, lines: &[FileLine]) -> Result<Readings, AllocError
 /// those of each; if those have no version in common, the lines of a marker are not reported together with them.
 ///
 /// A line names a version if a member of its list is `==` without a star, or `===`. A list stands for its cover, or for all versions if
-/// a number in it cannot be raised. Each name is compared with all: n requirements take n² steps, and m·n² where m markers have findings.
+/// a number in it cannot be raised. Each name is compared with all: n requirements take n² steps, and m·n² if m markers have findings.
 ///
 /// Allocates.
 pub fn find_problems(alloc: Global, files: &[SourceFile]) -> Result<Report, AllocError>
