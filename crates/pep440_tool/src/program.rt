@@ -39,7 +39,7 @@ pub fn run<R: Read, W: Write>(alloc: Global, words: &[String], reader: &mut R, w
     }
 }
 
-/// Writes `error: out of memory`, without allocating, and returns the status of the process: 3, or 4 where the writer
+/// Writes `error: out of memory`, without allocating, and returns the status of the process: 3, or 4 if the writer
 /// failed or took no byte.
 pub fn refuse<W: Write>(writer: &mut W) -> u8
     ensures status { (result ≡ 3) ⊎ (result ≡ 4) }
