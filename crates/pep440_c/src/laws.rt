@@ -29,7 +29,7 @@ pub fn versions_once()
     ensures never_both { (bytes : List ℕ) (r : Record) → MeansBytes bytes r → RefusesBytes bytes → ⊥ }
 {}
 
-/// The same of lists.
+/// Bytes denote one list, or are invalid with one error, and never both.
 pub fn lists_once()
     ensures one { (bytes : List ℕ) (l m : List Spec) → MeansListBytes bytes l → MeansListBytes bytes m → l ≡ m }
     ensures why { (bytes words others : List ℕ) → TellsWhyNoList bytes words → TellsWhyNoList bytes others → words ≡ others }
@@ -37,7 +37,7 @@ pub fn lists_once()
     ensures never_both { (bytes : List ℕ) (l : List Spec) → MeansListBytes bytes l → RefusesListBytes bytes → ⊥ }
 {}
 
-/// The same of one specifier.
+/// Bytes denote one specifier, or are invalid with one error, and never both.
 pub fn one_specifier_once()
     ensures one { (bytes : List ℕ) (s t : Spec) → MeansSpecifierBytes bytes s → MeansSpecifierBytes bytes t → s ≡ t }
     ensures why { (bytes words others : List ℕ) → TellsWhyNoSpecifier bytes words → TellsWhyNoSpecifier bytes others → words ≡ others }

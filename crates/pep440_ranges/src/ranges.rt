@@ -147,7 +147,8 @@ impl<V: Ord + Clone> Ranges<V> {
     /// overlap has the greater start and the lesser end; at equal values an excluded bound wins, and of two equal
     /// bounds that of self is cloned. n and m segments have at most n + m - 1 overlaps, and none if n or m is 0.
     ///
-    /// One pass over both lists. Allocates; returns `AllocError` if that fails.
+    /// One pass over both lists: n + m steps of at most three comparisons, and a clone for each bound that is kept. Allocates; returns
+    /// `AllocError` if that fails.
     pub fn intersection(&self, alloc: Global, other: &Self) -> Result<Self, AllocError>
         requires here { ClonesBoundValues V.is_clone self.now }
         requires there { ClonesBoundValues V.is_clone other.now }

@@ -263,6 +263,7 @@ fn write_quoted<W: fmt::Write>(f: &mut fmt::Formatter<W>, v: &Version) -> fmt::R
 impl fmt::Debug for Version {
     ghost debug_output = { λ v. Some (quoted v) };
 
+    /// Writes the normalized form in double quotes, whatever the options.
     fn fmt<W: fmt::Write>(&self, f: &mut fmt::Formatter<W>) -> fmt::Result
         ensures writes { DisplaysOnOk W.write_str_gives f.old result (Some (quoted self.now)) f.new }
         ensures styled { WritesStyledOnOk W.write_str_gives f.old result (quoted self.now) f.new }
