@@ -46,8 +46,8 @@ pub extern "C" fn pep440_compile_list(
     put_bytes(compiled_forms::compile_list(alloc, list), out, written)
 }
 
-/// Writes the normal form of the compiled version (PEP 440, "Normalization"). Status 6 where the bytes denote none; so in
-/// each call below, unless it says otherwise.
+/// Writes the normal form of the compiled version (PEP 440, "Normalization"). Status 6 if the bytes denote none; the
+/// calls below do the same, unless they say otherwise.
 #[unsafe(no_mangle)]
 pub extern "C" fn pep440_normalize_compiled(
     alloc: Global,
@@ -191,7 +191,7 @@ pub extern "C" fn pep440_cover_keys_compiled(
     )
 }
 
-/// Writes a mark for each compiled version, as `pep440_filter`: 2 where the bytes denote none.
+/// Writes a mark for each compiled version, as `pep440_filter`: 2 if the bytes denote none.
 #[unsafe(no_mangle)]
 pub extern "C" fn pep440_filter_compiled(
     alloc: Global,

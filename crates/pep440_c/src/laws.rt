@@ -44,7 +44,7 @@ pub fn one_specifier_once()
     ensures never_both { (bytes : List ℕ) (s : Spec) → MeansSpecifierBytes bytes s → RefusesSpecifierBytes bytes → ⊥ }
 {}
 
-/// The bounds of a compiled list are those of the string that was compiled.
+/// A compiled list has the bounds of the string that was compiled.
 pub fn bounds_agree()
     ensures { (text compiled bytes ends : List ℕ) → IsCompiledList text compiled → CompiledBounds compiled bytes ends ↔ TellsBounds text bytes ends }
 {}
@@ -69,8 +69,8 @@ pub fn words_are_ordered()
     ensures ordered { (a b : List ℕ) (m n : ℕ) (r q : Record) → TellsWord a (Some m) → TellsWord b (Some n) → MeansBytes a r → MeansBytes b q → nat_cmp m n ≡ record_cmp r q }
 {}
 
-/// The sort key of a version lies in one of the intervals of a list's range exactly where the range has the version; and
-/// in one of those of its cover where the list contains the version.
+/// The sort key of a version lies in one of the intervals of a list's range exactly if the range has the version; and
+/// in one of its cover's intervals if the list contains the version.
 pub fn keys_tell_membership()
     ensures range { (list text : List ℕ) (range : Segments) (r : Record) → HasRange range_of list range → MeansBytes text r → list_any (λ s. is_within (segment_interval s) (key_bytes r)) range ≡ contains record_cmp range r }
     ensures cover { (list text : List ℕ) (cover : Segments) (r : Record) → HasRange cover_of list cover → MeansBytes text r → Contains list text true → list_any (λ s. is_within (segment_interval s) (key_bytes r)) cover ≡ true }
@@ -92,7 +92,7 @@ pub fn specifiers_once()
     ensures one_error { (operator version : List ℕ) → RefusesOperator operator version → RefusesOperand operator version → ⊥ }
 {}
 
-/// A string has one compiled form, which is never rejected; two strings have the same exactly where they denote the same
+/// A string has one compiled form, which is never rejected; two strings have the same exactly if they denote the same
 /// version, all its parts, or the same list.
 pub fn compiled_once()
     ensures one { (text a b : List ℕ) → IsCompiled text a → IsCompiled text b → a ≡ b }

@@ -5,7 +5,7 @@
 //! 6 bytes that are passed as compiled are not, 7 a version is not packed, 8 a version cannot be changed so.
 //! The header is `callers/c/pep440.h`.
 //!
-//! A call may allocate from `malloc`, and frees what it allocated before it returns. Where `malloc` fails it returns 3, and may be made
+//! A call may allocate from `malloc`, and frees what it allocated before it returns. If `malloc` fails it returns 3, and may be made
 //! again.
 #![tactic(auto)]
 
@@ -85,8 +85,8 @@ pub extern "C" fn pep440_normalize_list(
     put_text(texts::normalize_list(alloc, list), out, written)
 }
 
-/// Writes operator and version of each member of the list, as its normal form has them, in their order, and where each
-/// of these ends. Reports how many bytes and how many strings there are.
+/// Writes operator and version of each member of the list, as its normal form has them, in their order, and the end of
+/// each. Reports how many bytes and how many strings there are.
 #[unsafe(no_mangle)]
 pub extern "C" fn pep440_specifiers_of(
     alloc: Global,
@@ -108,8 +108,8 @@ pub extern "C" fn pep440_specifiers_of(
 }
 
 /// Writes the specifier of an operator and a version, as its list prints it; the version may end with `.*` for `==` and
-/// `!=` (PEP 440, "Version specifiers"). The operator is parsed first. Status 2 where it is none, or does not go with the
-/// version: `.*` or a local part where it allows none, or `~=` before a single release number.
+/// `!=` (PEP 440, "Version specifiers"). The operator is parsed first. Status 2 if it is none, or does not go with the
+/// version: `.*` or a local part that it does not allow, or `~=` before a single release number.
 #[unsafe(no_mangle)]
 pub extern "C" fn pep440_specifier(
     alloc: Global,
@@ -148,7 +148,7 @@ pub extern "C" fn pep440_pattern(
 }
 
 /// Writes the version after the changes, one after the other, with its sentinels; the program's command `edit` takes the same
-/// words. The version is parsed first, then all words. Status 8 where one is no change word, or a change cannot be made.
+/// words. The version is parsed first, then all words. Status 8 if one is no change word, or a change cannot be made.
 #[unsafe(no_mangle)]
 pub extern "C" fn pep440_edit(
     alloc: Global,
@@ -165,7 +165,7 @@ pub extern "C" fn pep440_edit(
     }
 }
 
-/// Writes why the version cannot be changed so, or why the string is none; nothing where it can.
+/// Writes why the version cannot be changed so, or why the string is none; nothing if it can.
 #[unsafe(no_mangle)]
 pub extern "C" fn pep440_edit_error(
     alloc: Global,
@@ -179,7 +179,7 @@ pub extern "C" fn pep440_edit_error(
     put_text(edits::explain_edit(alloc, text, changes), out, written)
 }
 
-/// Writes why the string is no version; nothing where it is one.
+/// Writes why the string is no version; nothing if it is one.
 #[unsafe(no_mangle)]
 pub extern "C" fn pep440_version_error(
     alloc: Global,
@@ -192,7 +192,7 @@ pub extern "C" fn pep440_version_error(
     put_text(texts::explain_version(alloc, text), out, written)
 }
 
-/// Writes why the string is no list of specifiers; nothing where it is one.
+/// Writes why the string is no list of specifiers; nothing if it is one.
 #[unsafe(no_mangle)]
 pub extern "C" fn pep440_list_error(
     alloc: Global,
@@ -267,7 +267,7 @@ pub extern "C" fn pep440_any_prerelease(alloc: Global, list: &[u8], any: &mut u8
     }
 }
 
-/// The numbers of a version, 0 where it has no such part.
+/// The numbers of a version, 0 if it has no such part.
 #[repr(C)]
 #[derive(Clone, Copy, Debug)]
 pub struct Parts {
@@ -319,7 +319,7 @@ pub extern "C" fn pep440_sort_key(
 }
 
 /// Writes the word of the version: words are numbers in the order of their versions (PEP 440, "Summary of permitted
-/// suffixes and relative ordering"). Status 7 where the version is not packed: then it has no word.
+/// suffixes and relative ordering"). Status 7 if the version is not packed: then it has no word.
 #[unsafe(no_mangle)]
 pub extern "C" fn pep440_word(alloc: Global, text: &[u8], word: &mut u64) -> u8
     ensures { WordAnswer text.now word.old word.new result }
@@ -334,7 +334,7 @@ pub extern "C" fn pep440_word(alloc: Global, text: &[u8], word: &mut u64) -> u8
     }
 }
 
-/// Writes the range of the list, a segment a line. Status 5 where a bound of it would need a number above the greatest.
+/// Writes the range of the list, a segment a line. Status 5 if a bound of it would need a number above the greatest.
 #[unsafe(no_mangle)]
 pub extern "C" fn pep440_ranges(
     alloc: Global,
@@ -347,8 +347,8 @@ pub extern "C" fn pep440_ranges(
     put_text(texts::to_range_lines(alloc, list), out, written)
 }
 
-/// Writes the range of the list as sort keys, two a segment, and where each of them ends: a version is in the range
-/// where its key is at least the first of a segment and below the second. No bytes stand for no bound. Reports how many
+/// Writes the range of the list as sort keys, two a segment, and the end of each: a version is in the range
+/// if its key is at least the first of a segment and below the second. No bytes stand for no bound. Reports how many
 /// bytes and how many keys there are. Status 5 as above.
 #[unsafe(no_mangle)]
 pub extern "C" fn pep440_range_keys(
@@ -420,7 +420,7 @@ pub extern "C" fn pep440_sort(
     }
 }
 
-/// Writes the sort keys of the strings, one after the other, and where each of them ends. `at` as above.
+/// Writes the sort keys of the strings, one after the other, and the end of each. `at` as above.
 #[unsafe(no_mangle)]
 pub extern "C" fn pep440_sort_keys(
     alloc: Global,

@@ -13,7 +13,7 @@ use std::alloc::Global;
 
 const NOT_UTF8: &str = "not UTF-8";
 
-/// Writes why the string is no version pattern (PEP 440, "Version matching"); nothing where it is one.
+/// Writes why the string is no version pattern (PEP 440, "Version matching"); nothing if it is one.
 #[unsafe(no_mangle)]
 pub extern "C" fn pep440_pattern_error(
     alloc: Global,
@@ -27,7 +27,7 @@ pub extern "C" fn pep440_pattern_error(
 }
 
 /// Writes why the operator of this number, its position in `Operator`, and the compiled version make no specifier; nothing
-/// where they do (PEP 440, "Version specifiers"). `.*` follows the version unless `star` is 0. Status 6 where no operator has
+/// if they do (PEP 440, "Version specifiers"). `.*` follows the version unless `star` is 0. Status 6 if no operator has
 /// the number, or the bytes denote no version.
 #[unsafe(no_mangle)]
 pub extern "C" fn pep440_build_error(

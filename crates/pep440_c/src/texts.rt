@@ -120,7 +120,7 @@ pub(crate) fn read_list(alloc: Global, bytes: &[u8]) -> Result<VersionSpecifiers
     }
 }
 
-/// Why the bytes are no version; empty where they are one.
+/// Why the bytes are no version; empty if they are one.
 pub(crate) fn explain_version(alloc: Global, bytes: &[u8]) -> Result<String, Fault>
     ensures { Gives ⊥ ⊥ ⊥ (λ words. IsVersionError bytes.now (string_bytes words)) result }
 {
@@ -138,7 +138,7 @@ pub(crate) fn explain_version(alloc: Global, bytes: &[u8]) -> Result<String, Fau
     }
 }
 
-/// Why the bytes are no list; empty where they are one.
+/// Why the bytes are no list; empty if they are one.
 pub(crate) fn explain_list(alloc: Global, bytes: &[u8]) -> Result<String, Fault>
     ensures { Gives ⊥ ⊥ ⊥ (λ words. IsListError bytes.now (string_bytes words)) result }
 {

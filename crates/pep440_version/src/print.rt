@@ -164,7 +164,7 @@ fn write_segments<W: fmt::Write>(
 /// Writes local segments with dots between them, as the normalized form has them after its `+`; no segments write
 /// nothing. Width and fill of `f` are ignored (PEP 440, "Local version identifiers").
 ///
-/// The only error is that of the writer.
+/// The only error is the writer's.
 pub fn write_local_segments<W: fmt::Write>(
     f: &mut fmt::Formatter<W>,
     local: &[LocalSegment],

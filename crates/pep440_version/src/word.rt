@@ -9,19 +9,19 @@ ghost use Rattle.pep440_version.specs.Word.{class_in, is_packed, is_suffix, is_w
 use crate::packed::Packed;
 use crate::version::Version;
 
-/// Where the first release number begins, which goes on to the highest bit.
+/// The lowest bit of the first release number, which goes on to the highest bit.
 pub const FIRST_SHIFT: u32 = 48;
 
-/// Where the second release number begins.
+/// The lowest bit of the second release number.
 pub const SECOND_SHIFT: u32 = 40;
 
-/// Where the third release number begins.
+/// The lowest bit of the third release number.
 pub const THIRD_SHIFT: u32 = 32;
 
-/// Where the fourth release number begins, and what precedes it ends.
+/// The lowest bit of the fourth release number.
 pub const FOURTH_SHIFT: u32 = 24;
 
-/// Where the class of the suffix begins.
+/// The lowest bit of the suffix's class.
 pub const CLASS_SHIFT: u32 = 21;
 
 /// The greatest first release number.

@@ -34,7 +34,7 @@ fn push_escaped_byte(text: &mut Vec<u8>, byte: u8) -> Result<(), AllocError>
 
 /// The bytes at the end, each that is not printable escaped.
 ///
-/// Allocates where `text` grows; returns `AllocError` if that fails.
+/// Allocates if `text` grows; returns `AllocError` if that fails.
 pub fn push_escaped(text: &mut Vec<u8>, bytes: &[u8]) -> Result<(), AllocError>
     ensures { IfOk result (λ _. text.new.items ≡ text.old.items ++ escaped bytes.now) }
 {
@@ -56,7 +56,7 @@ fn push_escaped_line_byte(text: &mut Vec<u8>, byte: u8) -> Result<(), AllocError
 
 /// The bytes at the end, each that is neither printable nor ends a line escaped.
 ///
-/// Allocates where `text` grows; returns `AllocError` if that fails.
+/// Allocates if `text` grows; returns `AllocError` if that fails.
 pub fn push_escaped_lines(text: &mut Vec<u8>, bytes: &[u8]) -> Result<(), AllocError>
     ensures { IfOk result (λ _. text.new.items ≡ text.old.items ++ escaped_lines bytes.now) }
 {

@@ -64,11 +64,11 @@ fn parse_lines(alloc: Global, lines: &[FileLine]) -> Result<Readings, AllocError
     Ok(readings)
 }
 
-/// What is wrong in these files, of which each is read once, in this order: first the lines that are no requirements, in
-/// order; then for each name, in the order in which names are first mentioned, the lines that no version satisfies, those
-/// of which one names a version that the other excludes, and those that no version satisfies together. What one line or two
-/// explain is not reported again. Lines with different markers do not count together, and lines without a marker count with
-/// those of each.
+/// What is wrong in these files, each read once, in this order: the lines that are no requirements, in order; then for each
+/// name, in the order in which names are first mentioned, the lines that no version satisfies, pairs in which one names a
+/// version that the other excludes, and the lines that no version satisfies together. What one line or two explain is not
+/// reported again. Lines with different markers do not count together, and lines without a marker count with every marker's
+/// lines.
 ///
 /// Allocates.
 pub fn find_problems(alloc: Global, files: &[SourceFile]) -> Result<Report, AllocError>

@@ -81,8 +81,8 @@ impl LineJoiner {
     }
 }
 
-/// The logical lines of a requirements file: lines that end with `\` are joined with the next one, comments are left out, and so
-/// are blanks at both ends, a byte order mark at the start and lines of which nothing is left.
+/// The logical lines of a requirements file: lines that end with `\` are joined with the next one; comments, blanks at both
+/// ends, a byte order mark at the start and lines with nothing left are left out.
 ///
 /// Allocates.
 pub fn logical_lines(alloc: Global, text: &[u8]) -> Result<Vec<LogicalLine>, AllocError>

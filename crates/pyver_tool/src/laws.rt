@@ -22,7 +22,7 @@ pub fn bumps()
     ensures release { ReleasesAreBumped }
 {}
 
-/// Where `range` says that there is no version, none is contained in all lists; and a version lies in the intersection of
+/// If `range` says that there is no version, none is contained in all lists; and a version lies in the intersection of
 /// ranges exactly if it lies in each of them.
 pub fn common_ranges()
     ensures none { NoVersionIsCommon }

@@ -1,4 +1,4 @@
-//! The calls over compiled bytes, each where it returns a value and where it rejects bytes, with too little room, and with
+//! The calls over compiled bytes, each with a value and with bytes that it rejects, with too little room, and with
 //! each allocation failing in turn.
 use crate::Parts;
 use crate::compiled::{
