@@ -312,7 +312,7 @@ uint8_t pep440_sort_keys(const pep440_string *strings, size_t count, uint8_t *ou
 uint8_t pep440_filter_compiled(const uint8_t *list, size_t list_length, const pep440_string *versions, size_t count, uint8_t *marks,
                                size_t size);
 
-/* As pep440_sort, of compiled versions: with PEP440_NOT_COMPILED `index` is the position of the first that denotes none. */
+/* As pep440_sort, of compiled versions: with PEP440_NOT_COMPILED `index` names the first that denotes none. */
 uint8_t pep440_sort_compiled(const pep440_string *versions, size_t count, size_t *indices, size_t size, size_t *index);
 
 #ifdef __cplusplus

@@ -47,7 +47,7 @@ use std::hash::{Hash, Hasher};
 use std::marker::Model;
 use std::ops::Bound;
 
-/// An operator and a version, as `>=1.2.3` (PEP 440, "Version specifiers"). Before the version of a `~=` stand
+/// An operator and a version, as `>=1.2.3` (PEP 440, "Version specifiers"). The version of a `~=` has
 /// two release numbers or more.
 ///
 /// Specifiers are ordered by operator, then by version; so `==1.0` equals `==1.0.0`, though the two may print
