@@ -93,8 +93,8 @@ pub extern "C" fn pep440_normalize_list(
     put_text(texts::normalize_list(alloc, list), out, written)
 }
 
-/// Writes operator and version of each member of the list, as its normal form has them, in their order, and where each
-/// of these ends. Reports how many bytes and how many strings there are.
+/// Writes operator and version of each member of the list, as its normal form has them, in their order, and the end of
+/// each. Reports how many bytes and how many strings there are.
 #[unsafe(no_mangle)]
 pub extern "C" fn pep440_specifiers_of(
     alloc: Global,
@@ -435,7 +435,7 @@ pub extern "C" fn pep440_sort(
     }
 }
 
-/// Writes the sort keys of the strings, one after the other, and where each of them ends. `at` as above.
+/// Writes the sort keys of the strings, one after the other, and the end of each. `at` as above.
 #[unsafe(no_mangle)]
 pub extern "C" fn pep440_sort_keys(
     alloc: Global,
