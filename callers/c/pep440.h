@@ -208,7 +208,7 @@ uint8_t pep440_release_range_bounds(const uint8_t *list, size_t length, uint8_t 
    Compiled bytes are plain bytes: keep them in memory, in a file or in a column, copy them, share them among threads, give them to another
    process or machine. There is no handle, and nothing to free. Their first byte is a format, with which no string of a version or a list
    begins, and the bytes of a format never change between releases: what one release wrote each later one takes. Bytes of a format that a
-   library does not know are an invalid version or list, as those of the formats 1, 2 and 3, which earlier libraries wrote.
+   library does not know are an invalid version or list, as are formats 1, 2 and 3, which earlier libraries wrote.
 
    A compiled version is the byte 4, the sort key of the version, and a byte 1 for each zero that ends its release, which is all that a sort key
    leaves out. A sort key ends with a byte 0. So versions are ordered as the sort keys in their bytes are, two versions are equal
