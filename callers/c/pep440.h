@@ -2,7 +2,8 @@
 
    A version or a list is passed as bytes and a length, with no zero at the end; for `const char *` see the calls at the end of this header. The
    bytes are a string, or a compiled form, made once of a string (below): bytes that begin with 4 or 5 are taken as one. Every call takes
-   either. Bytes that are neither are an invalid version or list. Each call returns a status. No call keeps a pointer, and none ends the process. Programs to begin with are in the folder examples of the release
+   either, but for pep440_specifier, pep440_pattern, pep440_pattern_error, pep440_compile_specifier and pep440_specifier_error, which take
+   strings. Bytes that are neither are an invalid version or list. Each call returns a status. No call keeps a pointer, and none ends the process. Programs to begin with are in the folder examples of the release
    archive, and in callers/c/examples of the repository.
 
    What the caller must keep, for nothing checks it:
@@ -11,7 +12,7 @@
    - Each pointer is aligned as its type: a pep440_string, a pep440_parts, a size_t and a uint64_t to 8 bytes.
    - What a call writes to overlaps nothing else that is passed to it. Strings that it only reads may overlap each other.
    - While a call runs, nothing else writes to what it reads, or reads or writes what it writes.
-   - malloc, realloc and free come from one allocator, and align a block to each power of two up to 16 that divides its size.
+   - malloc, realloc and free belong together, and align as usual: blocks of 16, 32, .. bytes to 16, those of 8, 24, .. to 8.
    - No call is made from a signal handler, or from the forked child of a process with threads.
 
    What a call writes to may be uninitialized before. Several threads may call at once, each with memory of its own to write to: the
@@ -123,11 +124,12 @@ uint8_t pep440_compare(const uint8_t *left, size_t left_length, const uint8_t *r
 /* Writes to `contained` whether the list contains the version, 1 or 0: whether each of its specifiers does; and to `prerelease` whether the
    version is a pre-release or a developmental release, 1 or 0, contained or not. Pre-releases are versions like others here: `>=1.0` contains
    `2.0rc1`. So a caller that leaves them out (PEP 440, "Handling of pre-releases") looks at both, and finds by pep440_any_prerelease whether the
-   list names one. */
+   list names one. If both are invalid PEP440_INVALID_LIST is returned; of two compiled forms, either. */
 uint8_t pep440_contains(const uint8_t *list, size_t list_length, const uint8_t *version, size_t length, uint8_t *contained,
                         uint8_t *prerelease);
 
-/* Writes to `any` whether the version of some specifier of the list is a pre-release or a developmental release, 1 or 0. */
+/* Writes to `any` whether the version of some specifier of the list is a pre-release or a developmental release, 1 or 0: of any operator,
+   also `!=`, which `packaging` does not count. */
 uint8_t pep440_any_prerelease(const uint8_t *list, size_t length, uint8_t *any);
 
 /* The kind of a pre-release. */
@@ -183,7 +185,7 @@ uint8_t pep440_ranges(const uint8_t *list, size_t length, uint8_t *out, size_t s
 uint8_t pep440_range_keys(const uint8_t *list, size_t length, uint8_t *out, size_t size, size_t *ends, size_t ends_size, size_t *written,
                           size_t *count);
 
-/* The same of the cover of the list: a range that has each version that the list contains, local versions too, and maybe others; what is found
+/* The same of the cover of the list: a range that has each version that the list contains, local versions too, if a string denotes the list, and maybe others; what is found
    by it is then asked of pep440_contains or pep440_filter. The range of pep440_range_keys may leave out versions that the list contains. */
 uint8_t pep440_cover_keys(const uint8_t *list, size_t length, uint8_t *out, size_t size, size_t *ends, size_t ends_size, size_t *written,
                           size_t *count);
@@ -204,11 +206,11 @@ uint8_t pep440_range_bounds(const uint8_t *list, size_t length, uint8_t *out, si
 uint8_t pep440_release_range_bounds(const uint8_t *list, size_t length, uint8_t *out, size_t size, size_t *ends, size_t ends_size,
                                     size_t *written, size_t *count);
 
-/* ---- compiled versions and lists: bytes made once of a string, which every call takes in place of it
+/* ---- compiled versions and lists: bytes made once of a string, which the calls on versions and lists take in place of it
 
    Compiled bytes are plain bytes: keep them in memory, in a file or in a column, copy them, share them among threads, give them to another
    process or machine. There is no handle, and nothing to free. Their first byte is a format, with which no string of a version or a list
-   begins, and the bytes of a format never change between releases: what one release wrote each later one takes. Bytes of a format that a
+   begins, and the bytes of a format never change between releases: what 0.3.0 or a later release wrote, each later one takes. Bytes of a format that a
    library does not know are an invalid version or list, as are formats 1, 2 and 3, which earlier libraries wrote.
 
    A compiled version is the byte 4, the sort key of the version, and a byte 1 for each zero that ends its release, which is all that a sort key
@@ -226,7 +228,7 @@ uint8_t pep440_release_range_bounds(const uint8_t *list, size_t length, uint8_t 
    a compiled form and are none they write any result, or return the status of an invalid one. All other calls reject such bytes. So give
    bytes of unknown origin to pep440_normalize or pep440_normalize_list once. */
 
-/* How many bytes suffice for the compiled form of a version or a list, and so for a sort key, by the length of its string. */
+/* How many bytes suffice for the compiled form of a version or a list, or for a sort key, by the length of its string. */
 #define PEP440_COMPILED_BOUND(length) (10 + 3 * (size_t)(length))
 
 /* Writes the compiled form of a version; `out` and `written` as for pep440_normalize. */
@@ -281,7 +283,8 @@ uint8_t pep440_sort_keys(const pep440_string *strings, size_t count, uint8_t *ou
 
 /* ---- strings with a zero at their end
 
-   The calls that programs make most, over `const char *`: these are part of the header, and no calls of the library. */
+   The calls that programs make most, over `const char *`: these are part of the header, and no calls of the library. A compiled form has
+   zero bytes, so they do not take one. */
 
 #if defined(__cplusplus) || (defined(__STDC_VERSION__) && __STDC_VERSION__ >= 199901L)
 #define PEP440_INLINE static inline
@@ -300,7 +303,7 @@ PEP440_INLINE const char *pep440_status_text(uint8_t status)
     case PEP440_INVALID_VERSION:
         return "not a version";
     case PEP440_INVALID_LIST:
-        return "not a list of specifiers";
+        return "not a list of specifiers, or not a specifier";
     case PEP440_OUT_OF_MEMORY:
         return "out of memory";
     case PEP440_NO_ROOM:
@@ -349,7 +352,7 @@ PEP440_INLINE uint8_t pep440_normalize_string(const char *version, char *out, si
     return status;
 }
 
-PEP440_INLINE uint8_t pep440_sort_key_of(const char *version, uint8_t *out, size_t size, size_t *written)
+PEP440_INLINE uint8_t pep440_sort_key_string(const char *version, uint8_t *out, size_t size, size_t *written)
 {
     return pep440_sort_key((const uint8_t *)version, strlen(version), out, size, written);
 }

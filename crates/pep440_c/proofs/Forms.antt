@@ -16,14 +16,14 @@ use Rattle.pep440_version.specs.Key.{record_cmp}
 use Rattle.pep440_version.specs.Record.{Record}
 use Rattle.pep440_c.proofs.Once.{one_bytes_list, one_version}
 use Rattle.pep440_c.specs.CallResults.{Contains, IsOrder, IsPrerelease, order_number}
-use Rattle.pep440_c.specs.Meaning.{DenotesNoList, DenotesNoVersion, MeansBytes, MeansListBytes, MeansListString, MeansString, RefusesBytes, RefusesListBytes, RefusesListString, RefusesString, TellsWhy, TellsWhyNoList, TellsWhyNoListString, TellsWhyNoString}
+use Rattle.pep440_c.specs.Meaning.{IsNoCompiledList, IsNoCompiledVersion, MeansBytes, MeansListBytes, MeansListString, MeansString, RefusesBytes, RefusesListBytes, RefusesListString, RefusesString, TellsWhy, TellsWhyNoList, TellsWhyNoListString, TellsWhyNoString}
 use Rattle.pep440_c.specs.Statuses.{Gives}
 use Rattle.pep440_c.specs.declared.texts.Fault.{Fault}
 use Rattle.pep440_c.specs.declared.texts.Fault.TheVariants as fault
 
 -- ---- versions
 
-pub no_compiled : (bytes : List ℕ) → HasVersionFormat bytes → DenotesNoVersion bytes → RefusesBytes bytes
+pub no_compiled : (bytes : List ℕ) → HasVersionFormat bytes → IsNoCompiledVersion bytes → RefusesBytes bytes
 no_compiled bytes format none = (codes "not a compiled version", inr (format, none, refl))
 
 pub string_read : (bytes : List ℕ) → (¬ HasVersionFormat bytes) → (result : Result Record Fault) → Gives (RefusesString bytes) ⊥ ⊥ (MeansString bytes) result → Gives (RefusesBytes bytes) ⊥ ⊥ (MeansBytes bytes) result
@@ -34,7 +34,7 @@ string_read bytes plain (Err fault.OutOfMemory) h = h
 string_read bytes plain (Err fault.NumberAtMax) h = h
 string_read bytes plain (Err fault.InvalidRight) h = h
 
-pub compiled_read : (bytes : List ℕ) → HasVersionFormat bytes → (result : Result Record Fault) → Gives (DenotesNoVersion bytes) ⊥ ⊥ (DenotesVersion bytes) result → Gives (RefusesBytes bytes) ⊥ ⊥ (MeansBytes bytes) result
+pub compiled_read : (bytes : List ℕ) → HasVersionFormat bytes → (result : Result Record Fault) → Gives (IsNoCompiledVersion bytes) ⊥ ⊥ (DenotesVersion bytes) result → Gives (RefusesBytes bytes) ⊥ ⊥ (MeansBytes bytes) result
 compiled_read bytes format (Ok r) d = inr d
 compiled_read bytes format (Err fault.InvalidVersion) none = no_compiled bytes format none
 compiled_read bytes format (Err fault.InvalidList) h = h
@@ -49,7 +49,7 @@ as_compiled bytes r format (inr d) = d
 
 -- ---- lists
 
-pub no_compiled_list : (bytes : List ℕ) → HasListFormat bytes → DenotesNoList bytes → RefusesListBytes bytes
+pub no_compiled_list : (bytes : List ℕ) → HasListFormat bytes → IsNoCompiledList bytes → RefusesListBytes bytes
 no_compiled_list bytes format none = (codes "not a compiled list", inr (format, none, refl))
 
 pub list_string_read : (bytes : List ℕ) → (¬ HasListFormat bytes) → (result : Result (List Spec) Fault) → Gives ⊥ (RefusesListString bytes) ⊥ (MeansListString bytes) result → Gives ⊥ (RefusesListBytes bytes) ⊥ (MeansListBytes bytes) result
@@ -60,7 +60,7 @@ list_string_read bytes plain (Err fault.OutOfMemory) h = h
 list_string_read bytes plain (Err fault.NumberAtMax) h = h
 list_string_read bytes plain (Err fault.InvalidRight) h = h
 
-pub compiled_list_read : (bytes : List ℕ) → HasListFormat bytes → (result : Result (List Spec) Fault) → Gives ⊥ (DenotesNoList bytes) ⊥ (DenotesList bytes) result → Gives ⊥ (RefusesListBytes bytes) ⊥ (MeansListBytes bytes) result
+pub compiled_list_read : (bytes : List ℕ) → HasListFormat bytes → (result : Result (List Spec) Fault) → Gives ⊥ (IsNoCompiledList bytes) ⊥ (DenotesList bytes) result → Gives ⊥ (RefusesListBytes bytes) ⊥ (MeansListBytes bytes) result
 compiled_list_read bytes format (Ok l) d = inr d
 compiled_list_read bytes format (Err fault.InvalidVersion) h = h
 compiled_list_read bytes format (Err fault.InvalidList) none = no_compiled_list bytes format none
@@ -77,8 +77,7 @@ as_compiled_list bytes l format (inr d) = d
 -- the order of versions that were read
 pub order_read : (left right : List ℕ) (r q : Record) (o : Ordering) → MeansBytes left r → MeansBytes right q → o ≡ record_cmp r q → IsOrder left right (order_number o)
 order_read left right r q o means also is = (
-  inr (r, means),
-  inr (q, also),
+  inr ((r, means), (q, also)),
   λ x y first second. ap order_number (is ∙ (λ i. record_cmp (one_version left r x means first i) (one_version right q y also second i))),
 )
 
@@ -86,8 +85,7 @@ order_read left right r q o means also is = (
 pub order_found : (left right a b : List ℕ) (o : Ordering) → HasVersionFormat left → HasVersionFormat right → ((r : Record) → DenotesVersion left r → a ≡ key_bytes r) → ((r : Record) → DenotesVersion right r → b ≡ key_bytes r)
     → o ≡ slice_cmp nat_cmp a b → IsOrder left right (order_number o)
 order_found left right a b o format also first second is = (
-  inl format,
-  inl also,
+  inl (format, also),
   λ r q means other.
       let d = as_compiled left r format means in
       let e = as_compiled right q also other in
@@ -97,8 +95,7 @@ order_found left right a b o format also first second is = (
 -- matching of a list and a version that were read
 pub contains_read : (list text : List ℕ) (l : List Spec) (r : Record) (contained : Bool) → MeansListBytes list l → MeansBytes text r → contained ≡ list_matches l r → Contains list text contained
 contains_read list text l r contained means also is = (
-  inr (l, means),
-  inr (r, also),
+  inr ((l, means), (r, also)),
   λ m q first second. is ∙ (λ i. list_matches (one_bytes_list list l m means first i) (one_version text r q also second i)),
 )
 

@@ -1,7 +1,7 @@
 -- Bytes mean one version, list or range, or are refused for one reason, and never both.
-use Rattle.std.proofs.Common.{◌≡◌, ◌⊎◌, ◌∙◌, ℕ, List, [], Bool, true, false, Option, Some, None, refl, sym, ap, inl, inr}
+use Rattle.std.proofs.Common.{◌≡◌, ◌⊎◌, ◌∙◌, ◌∷◌, ℕ, List, [], Bool, true, false, Option, Some, None, refl, sym, ap, inl, inr, subst, unwrap_or}
 use Rattle.std.proofs.lemmas.Str.{IsUtf8-from_is_utf8, is_utf8-from_IsUtf8}
-use Rattle.std.specs.Prelude.{slice_get}
+use Rattle.std.specs.Prelude.{Ok, slice_get}
 use Rattle.std.specs.Str.{IsUtf8, is_utf8}
 use Rattle.pep440_compiled.proofs.Exact.{one_denoted}
 use Rattle.pep440_compiled.proofs.Listed.{one_denoted_list}
@@ -13,12 +13,13 @@ use Rattle.pep440_rs.specs.ListErrorTexts.{list_refusal_text}
 use Rattle.pep440_rs.specs.ListGrammar.{DerivesList, PieceRefusal, RefusesList}
 use Rattle.pep440_rs.specs.RangeLines.{range_lines}
 use Rattle.pep440_rs.specs.Specifiers.{Spec}
-use Rattle.pep440_version.proofs.Reading.Agreement.{one_record}
+use Rattle.pep440_version.proofs.Reading.Agreement.{one_record, only}
 use Rattle.pep440_version.proofs.Refusals.ExactlyOne.{not_both, one_or_other, one_refusal}
 use Rattle.pep440_version.specs.ErrorTexts.{refusal_text}
 use Rattle.pep440_version.specs.Grammar.{Derives}
 use Rattle.pep440_version.specs.Record.{Record}
 use Rattle.pep440_version.specs.Refusals.{Refusal, Refuses}
+use Rattle.pep440_version.specs.Whole.{parse_epoch_and_release, read_version}
 use Rattle.pep440_c.proofs.Refused.{no_list_text, no_text}
 use Rattle.pep440_c.specs.CallResults.{HasNoRange, IsRangeText}
 use Rattle.pep440_c.specs.Meaning.{MeansBytes, MeansListBytes, MeansListString, MeansString, RefusesBytes, RefusesListBytes, TellsWhy, TellsWhyNoList, TellsWhyNoListString, TellsWhyNoString}
@@ -33,6 +34,17 @@ one_string bytes r q (u, means) (v, other) = one_record bytes r q means other
 
 pub version_format : (bytes : List ℕ) (r : Record) → DenotesVersion bytes r → HasVersionFormat bytes
 version_format bytes r d = ap (λ l. slice_get l 0) d.same
+
+no_digit : (bytes : List ℕ) (r : Record) → read_version (4 ∷ bytes) ≡ Ok r → ⊥
+unfolding parse_epoch_and_release
+no_digit bytes r is = cc is
+
+-- no string of a version begins with the format byte
+pub no_format : (bytes : List ℕ) (r : Record) → Derives bytes r → HasVersionFormat bytes → ⊥
+no_format [] r d format = cc format
+no_format (b ∷ bytes) r d format =
+    let first : b ≡ 4 = ap (λ o. unwrap_or o 0) format in
+    no_digit bytes r (only (4 ∷ bytes) r (subst (λ n. Derives (n ∷ bytes) r) first d))
 
 pub one_version : (bytes : List ℕ) (r q : Record) → MeansBytes bytes r → MeansBytes bytes q → r ≡ q
 one_version bytes r q (inl (other, means)) (inl (again, also)) = one_string bytes r q means also

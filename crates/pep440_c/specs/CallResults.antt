@@ -4,6 +4,8 @@ use Rattle.std.specs.List.{flat_map, list_any}
 use Rattle.std.specs.Option.{option_map_or}
 use Rattle.std.specs.declared.cmp.Ordering.{Ordering}
 use Rattle.std.specs.declared.cmp.Ordering.TheVariants.{Less, Equal, Greater}
+use Rattle.pep440_compiled.specs.Lists.{HasListFormat}
+use Rattle.pep440_compiled.specs.Version.{HasVersionFormat}
 use Rattle.pep440_rs.specs.Bounds.{Segments, list_range, range_of}
 use Rattle.pep440_rs.specs.Lists.{list_print}
 use Rattle.pep440_rs.specs.Matching.{any_prerelease, has_local, list_matches}
@@ -19,7 +21,7 @@ use Rattle.pep440_version.specs.declared.prerelease.Prerelease.{Prerelease}
 use Rattle.pep440_version.specs.declared.prerelease.PrereleaseKind.{PrereleaseKind}
 use Rattle.pep440_version.specs.declared.prerelease.PrereleaseKind.TheVariants.{Alpha, Beta, Rc}
 use Rattle.pep440_c.specs.JoinedStrings.{Joins}
-use Rattle.pep440_c.specs.Meaning.{MeansBytes, MeansListBytes, RefusesBytes, RefusesListBytes, SeemsList, SeemsVersion, TellsWhy, TellsWhyNoList}
+use Rattle.pep440_c.specs.Meaning.{MeansBytes, MeansListBytes, RefusesBytes, RefusesListBytes, TellsWhy, TellsWhyNoList}
 use Rattle.pep440_c.specs.Statuses.{Fails, IsFlagOf, PutsFront, fault_status, flag}
 use Rattle.pep440_c.specs.declared.texts.Fault.{Fault}
 use Rattle.pep440_c.specs.declared.texts.Fault.TheVariants as fault
@@ -89,9 +91,13 @@ order_number Less = negsuc 0
 order_number Equal = pos 0
 order_number Greater = pos 1
 
--- the number is the order of the two versions: -1, 0 or 1
+-- both begin as compiled versions, which are compared as they lie; or both denote a version
+abbrev pub AreComparable : List ℕ → List ℕ → Type 0
+AreComparable left right = (HasVersionFormat left × HasVersionFormat right) ⊎ (((r : Record) × MeansBytes left r) × ((q : Record) × MeansBytes right q))
+
+-- the number is the order of the two versions, if the bytes denote versions: -1, 0 or 1
 abbrev pub IsOrder : List ℕ → List ℕ → ℤ → Type 0
-IsOrder left right number = SeemsVersion left × SeemsVersion right × ((r q : Record) → MeansBytes left r → MeansBytes right q → number ≡ order_number (record_cmp r q))
+IsOrder left right number = AreComparable left right × ((r q : Record) → MeansBytes left r → MeansBytes right q → number ≡ order_number (record_cmp r q))
 
 module _ (left right : List ℕ) where
   -- why there is no order: the left version is invalid, or the right one
@@ -100,7 +106,7 @@ module _ (left right : List ℕ) where
   OrderFaults fault.InvalidList = ⊥
   OrderFaults fault.OutOfMemory = Unit {0}
   OrderFaults fault.NumberAtMax = ⊥
-  OrderFaults fault.InvalidRight = SeemsVersion left × RefusesBytes right
+  OrderFaults fault.InvalidRight = ((HasVersionFormat left × HasVersionFormat right) ⊎ ((r : Record) × MeansBytes left r)) × RefusesBytes right
 
   -- the order, or why there is none
   abbrev pub GivesOrder : Result Ordering Fault → Type 0
@@ -109,19 +115,23 @@ module _ (left right : List ℕ) where
 
   -- the order is written with status 0; otherwise the caller's number is unchanged, and the status is that of the failure
   abbrev pub OrderAnswer : ℤ → ℤ → ℕ → Type 0
-  OrderAnswer old new status = ((status ≡ 0) × IsOrder left right new) ⊎ ((new ≡ old) × (f : Fault) × OrderFaults f × (status ≡ fault_status f))
+  OrderAnswer old new status = ((order : Ordering) × (status ≡ 0) × (new ≡ order_number order) × IsOrder left right new) ⊎ ((new ≡ old) × (f : Fault) × OrderFaults f × (status ≡ fault_status f))
 
--- whether the list contains the version
+-- both begin as compiled forms, which are matched as they lie; or both denote something
+abbrev pub AreMatchable : List ℕ → List ℕ → Type 0
+AreMatchable list_text text = (HasListFormat list_text × HasVersionFormat text) ⊎ (((list : List Spec) × MeansListBytes list_text list) × ((r : Record) × MeansBytes text r))
+
+-- whether the list contains the version, if the bytes denote them
 abbrev pub Contains : List ℕ → List ℕ → Bool → Type 0
-Contains list_text text contained = SeemsList list_text × SeemsVersion text × ((list : List Spec) (r : Record) → MeansListBytes list_text list → MeansBytes text r → contained ≡ list_matches list r)
+Contains list_text text contained = AreMatchable list_text text × ((list : List Spec) (r : Record) → MeansListBytes list_text list → MeansBytes text r → contained ≡ list_matches list r)
 
 -- whether the version is a pre-release or a developmental release
 abbrev pub IsPrerelease : List ℕ → Bool → Type 0
 IsPrerelease text early = (r : Record) → MeansBytes text r → early ≡ any_prerelease r
 
--- the list is valid and the version is not: the list is parsed first
+-- the version is invalid, and the list is not, or both begin as compiled forms: else the list is read first
 abbrev pub RefusesSecond : List ℕ → List ℕ → Type 0
-RefusesSecond list_text text = SeemsList list_text × RefusesBytes text
+RefusesSecond list_text text = ((HasListFormat list_text × HasVersionFormat text) ⊎ ((list : List Spec) × MeansListBytes list_text list)) × RefusesBytes text
 
 -- both flags are written with status 0; otherwise both are unchanged, and the status is that of the failure
 abbrev pub ContainsAnswer : List ℕ → List ℕ → ℕ → ℕ → ℕ → ℕ → ℕ → Type 0

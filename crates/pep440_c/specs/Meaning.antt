@@ -31,22 +31,18 @@ abbrev pub RefusesString : List ℕ → Type 0
 RefusesString bytes = (words : List ℕ) × TellsWhyNoString bytes words
 
 -- the bytes are no compiled version
-abbrev pub DenotesNoVersion : List ℕ → Type 0
-DenotesNoVersion bytes = (r : Record) → DenotesVersion bytes r → ⊥
+abbrev pub IsNoCompiledVersion : List ℕ → Type 0
+IsNoCompiledVersion bytes = (r : Record) → DenotesVersion bytes r → ⊥
 
 -- the message says why the bytes are no version
 abbrev pub TellsWhy : List ℕ → List ℕ → Type 0
 TellsWhy bytes words =
     ((¬ HasVersionFormat bytes) × TellsWhyNoString bytes words)
-    ⊎ (HasVersionFormat bytes × DenotesNoVersion bytes × (words ≡ codes "not a compiled version"))
+    ⊎ (HasVersionFormat bytes × IsNoCompiledVersion bytes × (words ≡ codes "not a compiled version"))
 
 -- the bytes are no version
 abbrev pub RefusesBytes : List ℕ → Type 0
 RefusesBytes bytes = (words : List ℕ) × TellsWhy bytes words
-
--- the bytes denote a version; or they begin as a compiled one, of which calls that read it as it lies test no more
-abbrev pub SeemsVersion : List ℕ → Type 0
-SeemsVersion bytes = HasVersionFormat bytes ⊎ ((r : Record) × MeansBytes bytes r)
 
 -- ---- lists
 
@@ -67,19 +63,15 @@ abbrev pub RefusesListString : List ℕ → Type 0
 RefusesListString bytes = (words : List ℕ) × TellsWhyNoListString bytes words
 
 -- the bytes are no compiled list
-abbrev pub DenotesNoList : List ℕ → Type 0
-DenotesNoList bytes = (list : List Spec) → DenotesList bytes list → ⊥
+abbrev pub IsNoCompiledList : List ℕ → Type 0
+IsNoCompiledList bytes = (list : List Spec) → DenotesList bytes list → ⊥
 
 -- the message says why the bytes are no list
 abbrev pub TellsWhyNoList : List ℕ → List ℕ → Type 0
 TellsWhyNoList bytes words =
     ((¬ HasListFormat bytes) × TellsWhyNoListString bytes words)
-    ⊎ (HasListFormat bytes × DenotesNoList bytes × (words ≡ codes "not a compiled list"))
+    ⊎ (HasListFormat bytes × IsNoCompiledList bytes × (words ≡ codes "not a compiled list"))
 
 -- the bytes are no list
 abbrev pub RefusesListBytes : List ℕ → Type 0
 RefusesListBytes bytes = (words : List ℕ) × TellsWhyNoList bytes words
-
--- the bytes denote a list; or they begin as a compiled one
-abbrev pub SeemsList : List ℕ → Type 0
-SeemsList bytes = HasListFormat bytes ⊎ ((list : List Spec) × MeansListBytes bytes list)

@@ -1,4 +1,4 @@
-//! The compiled forms of versions and lists, which every call takes in place of the string.
+//! The compiled forms of versions and lists, which calls take in place of the string.
 ghost use Rattle.pep440_c.specs.Compiled.{IsCompiled, IsCompiledList};
 ghost use Rattle.pep440_c.specs.Meaning.{RefusesBytes, RefusesListBytes};
 ghost use Rattle.pep440_c.specs.Statuses.{Gives, PutsBytes, fault_of_compile};

@@ -10,6 +10,7 @@ ghost use Rattle.pep440_rs.specs.Matching.{list_matches};
 ghost use Rattle.pep440_rs.specs.Cover.{cover_of};
 ghost use Rattle.pep440_keys.specs.SortKeys.{key_bytes};
 ghost use Rattle.pep440_rs.specs.Specifiers.{Spec};
+ghost use Rattle.pep440_version.specs.Grammar.{Derives};
 ghost use Rattle.pep440_version.specs.Record.{Record};
 ghost use Rattle.pep440_version.specs.Key.{record_cmp};
 ghost use Rattle.std.specs.Ordering.{nat_cmp};
@@ -21,15 +22,17 @@ ghost use Rattle.pep440_c.specs.OneSpecifier.{MeansSpecifierBytes, RefusesSpecif
 ghost use Rattle.pep440_c.specs.PatternCalls.{IsSpecifier, MeansPattern, RefusesOperand, RefusesOperator, RefusesPatternBytes};
 ghost use Rattle.pep440_c.specs.Meaning.{MeansBytes, MeansListBytes, MeansListString, RefusesBytes, RefusesListBytes, TellsWhy, TellsWhyNoList};
 
-/// Bytes denote one version, or are invalid with one error, and never both; a string does one of these.
+/// Bytes denote one version, or are invalid with one error, and never both; a string does one of
+/// these. No string of a version begins as a compiled one.
 pub fn versions_once()
     ensures one { (bytes : List ℕ) (r q : Record) → MeansBytes bytes r → MeansBytes bytes q → r ≡ q }
     ensures why { (bytes words others : List ℕ) → TellsWhy bytes words → TellsWhy bytes others → words ≡ others }
     ensures either { (bytes : List ℕ) → (¬ HasVersionFormat bytes) → ((r : Record) × MeansBytes bytes r) ⊎ RefusesBytes bytes }
     ensures never_both { (bytes : List ℕ) (r : Record) → MeansBytes bytes r → RefusesBytes bytes → ⊥ }
+    ensures format { (bytes : List ℕ) (r : Record) → Derives bytes r → HasVersionFormat bytes → ⊥ }
 {}
 
-/// Bytes denote one list, or are invalid with one error, and never both.
+/// Bytes denote one list, or are invalid with one error, and never both; a string does one of these.
 pub fn lists_once()
     ensures one { (bytes : List ℕ) (l m : List Spec) → MeansListBytes bytes l → MeansListBytes bytes m → l ≡ m }
     ensures why { (bytes words others : List ℕ) → TellsWhyNoList bytes words → TellsWhyNoList bytes others → words ≡ others }
@@ -45,7 +48,8 @@ pub fn one_specifier_once()
     ensures never_both { (bytes : List ℕ) (s : Spec) → MeansSpecifierBytes bytes s → RefusesSpecifierBytes bytes → ⊥ }
 {}
 
-/// Bytes have one range, or are no list, or are a list without a range, and never two of these: so of the statuses 0, 2 and 5 a call has one.
+/// Bytes have one range, or are no list, or are a list without a range, and never two of these: so of the statuses 0, 2
+/// and 5 a call on a string has one.
 pub fn ranges_once()
     ensures one { (bytes words others : List ℕ) → IsRangeText bytes words → IsRangeText bytes others → words ≡ others }
     ensures either { (bytes : List ℕ) → (¬ HasListFormat bytes) → ((words : List ℕ) × IsRangeText bytes words) ⊎ (RefusesListBytes bytes ⊎ HasNoRange bytes) }

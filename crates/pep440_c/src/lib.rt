@@ -1,18 +1,19 @@
-//! PEP 440 for C: versions and lists of specifiers, as strings in the caller's memory.
+//! PEP 440 for C: versions and lists of specifiers, as bytes in the caller's memory.
 //!
 //! A version or a list is bytes and how many there are: a string, or its compiled form, which begins with a byte that no string begins
-//! with. Each call takes either. No call keeps a pointer, and none has a condition beyond its types. Each returns a status: 0 ok, 1 a
-//! version is invalid, 2 a list is invalid, 3 out of memory, 4 too little room, 5 a bound of a range lies above the greatest number, 6 the
-//! right one of two versions is invalid, 7 a version is not packed, 8 a version cannot be changed so.
+//! with. Each call takes either, but for the five that take an operator, a pattern or one specifier as a string. No call keeps a
+//! pointer, and none has a condition beyond its types. Each returns a status: 0 ok, 1 a version is invalid, 2 a list is invalid, or an
+//! operator or a specifier, 3 out of memory, 4 too little room, 5 a bound of a range lies above the greatest number, 6 the right one of
+//! two versions is invalid, 7 a version is not packed, 8 a version cannot be changed so.
 //!
 //! `pep440_compare` of two compiled versions and `pep440_contains` of a compiled list and a compiled version read them as they lie, without
 //! allocating. They do not test the whole of them: of bytes that begin as a compiled form and are none they return an error or any
 //! result, and never read outside them.
 //! The header `callers/c/pep440.h` says what each call writes.
 //!
-//! With 0 the result is at the start of the buffer, whose rest is unchanged. With 4 everything is valid, but the result does not fit: the
+//! With 0 the result is at the start of the buffer, whose rest is unchanged. With 4 all is valid, but the result does not fit: the
 //! buffer is unchanged, and what the header names is written. 3 may take the place of any other status. With any other
-//! nothing is written, except `index` by a batch that stops.
+//! nothing is written, except `at` by a batch that stops.
 //!
 //! A call may allocate from `malloc`, and frees what it allocated before it returns. If `malloc` fails it returns 3, and may be made
 //! again.
@@ -186,7 +187,7 @@ pub extern "C" fn pep440_edit_error(
     put_text(edits::explain_edit(alloc, text, changes), out, written)
 }
 
-/// Writes why the string is no version; nothing if it is one.
+/// Writes why the bytes are no version; nothing if they are one.
 #[unsafe(no_mangle)]
 pub extern "C" fn pep440_version_error(
     alloc: Global,
@@ -199,7 +200,7 @@ pub extern "C" fn pep440_version_error(
     put_text(messages::explain_version(alloc, text), out, written)
 }
 
-/// Writes why the string is no list of specifiers; nothing if it is one.
+/// Writes why the bytes are no list of specifiers; nothing if they are one.
 #[unsafe(no_mangle)]
 pub extern "C" fn pep440_list_error(
     alloc: Global,
@@ -239,8 +240,8 @@ pub extern "C" fn pep440_compare(alloc: Global, left: &[u8], right: &[u8], order
 }
 
 /// Whether the list contains the version, 1 or 0 (PEP 440, "Version specifiers"); and whether the version is a pre-release or
-/// a developmental release, 1 or 0 (PEP 440, "Handling of pre-releases"). The list is read first. Allocates nothing if both are
-/// compiled.
+/// a developmental release, 1 or 0 (PEP 440, "Handling of pre-releases"). The list is read first, unless both
+/// are compiled: then nothing is allocated.
 #[unsafe(no_mangle)]
 pub extern "C" fn pep440_contains(
     alloc: Global,

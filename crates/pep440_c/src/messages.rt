@@ -5,7 +5,7 @@ ghost use Rattle.pep440_compiled.specs.Version.{DenotesVersion};
 ghost use Rattle.pep440_rs.specs.Specifiers.{Spec};
 ghost use Rattle.pep440_version.specs.Record.{Record};
 ghost use Rattle.pep440_c.specs.CallResults.{IsListError, IsVersionError};
-ghost use Rattle.pep440_c.specs.Meaning.{DenotesNoList, DenotesNoVersion, MeansListString, MeansString, TellsWhyNoListString, TellsWhyNoString};
+ghost use Rattle.pep440_c.specs.Meaning.{IsNoCompiledList, IsNoCompiledVersion, MeansListString, MeansString, TellsWhyNoListString, TellsWhyNoString};
 ghost use Rattle.pep440_c.specs.Statuses.{Gives};
 
 use crate::texts::{Fault, is_out_of_memory};
@@ -39,7 +39,7 @@ fn explain_string(alloc: Global, bytes: &[u8]) -> Result<String, Fault>
 }
 
 fn explain_compiled(alloc: Global, bytes: &[u8]) -> Result<String, Fault>
-    ensures { Gives ⊥ ⊥ ⊥ (λ words. ((r : Record) × DenotesVersion bytes.now r × (string_bytes words ≡ [])) ⊎ (DenotesNoVersion bytes.now × (string_bytes words ≡ codes "not a compiled version"))) result }
+    ensures { Gives ⊥ ⊥ ⊥ (λ words. ((r : Record) × DenotesVersion bytes.now r × (string_bytes words ≡ [])) ⊎ (IsNoCompiledVersion bytes.now × (string_bytes words ≡ codes "not a compiled version"))) result }
 {
     match read_version(alloc, bytes) {
         Ok(_) => Ok(String::new(alloc)),
@@ -76,7 +76,7 @@ fn explain_list_string(alloc: Global, bytes: &[u8]) -> Result<String, Fault>
 }
 
 fn explain_compiled_list(alloc: Global, bytes: &[u8]) -> Result<String, Fault>
-    ensures { Gives ⊥ ⊥ ⊥ (λ words. ((list : List Spec) × DenotesList bytes.now list × (string_bytes words ≡ [])) ⊎ (DenotesNoList bytes.now × (string_bytes words ≡ codes "not a compiled list"))) result }
+    ensures { Gives ⊥ ⊥ ⊥ (λ words. ((list : List Spec) × DenotesList bytes.now list × (string_bytes words ≡ [])) ⊎ (IsNoCompiledList bytes.now × (string_bytes words ≡ codes "not a compiled list"))) result }
 {
     match read_list(alloc, bytes) {
         Ok(_) => Ok(String::new(alloc)),

@@ -6,7 +6,7 @@ ghost use Rattle.pep440_compiled.specs.Version.{DenotesVersion, HasVersionFormat
 ghost use Rattle.pep440_rs.specs.Matching.{any_prerelease};
 ghost use Rattle.pep440_rs.specs.Specifiers.{Spec};
 ghost use Rattle.pep440_c.specs.CallResults.{Contains, GivesOrder, HasNoRange, IsKey, IsNormal, IsNormalList, IsPrerelease, IsRangeText, NamesPrerelease, RefusesSecond, TellsWord};
-ghost use Rattle.pep440_c.specs.Meaning.{DenotesNoList, DenotesNoVersion, MeansBytes, MeansListBytes, MeansListString, MeansString, RefusesBytes, RefusesListBytes, RefusesListString, RefusesString};
+ghost use Rattle.pep440_c.specs.Meaning.{IsNoCompiledList, IsNoCompiledVersion, MeansBytes, MeansListBytes, MeansListString, MeansString, RefusesBytes, RefusesListBytes, RefusesListString, RefusesString};
 ghost use Rattle.pep440_c.specs.Statuses.{Gives, fault_of_range, fault_status};
 ghost use Rattle.pep440_c.specs.declared.texts.Fault.TheVariants.{OutOfMemory};
 ghost use Rattle.pep440_version.specs.Errors.{refusal_of};
@@ -105,7 +105,7 @@ fn read_string(alloc: Global, bytes: &[u8]) -> Result<Version, Fault>
 
 // The version of the compiled form.
 fn read_compiled(alloc: Global, bytes: &[u8]) -> Result<Version, Fault>
-    ensures { Gives (DenotesNoVersion bytes.now) ⊥ ⊥ (DenotesVersion bytes.now) result }
+    ensures { Gives (IsNoCompiledVersion bytes.now) ⊥ ⊥ (DenotesVersion bytes.now) result }
 {
     match read_version(alloc, bytes) {
         Ok(version) => Ok(version),
@@ -144,7 +144,7 @@ fn read_list_string(alloc: Global, bytes: &[u8]) -> Result<VersionSpecifiers, Fa
 
 // The list of the compiled form.
 fn read_compiled_list(alloc: Global, bytes: &[u8]) -> Result<VersionSpecifiers, Fault>
-    ensures { Gives ⊥ (DenotesNoList bytes.now) ⊥ (DenotesList bytes.now) result }
+    ensures { Gives ⊥ (IsNoCompiledList bytes.now) ⊥ (DenotesList bytes.now) result }
 {
     match pep440_compiled::read_list(alloc, bytes) {
         Ok(list) => Ok(list),

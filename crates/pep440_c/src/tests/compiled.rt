@@ -250,6 +250,9 @@ fn others_are_rejected(rt: HostRuntime) -> Result<(), Fail> {
         (THREE, THREE, 1),
         (b"1.0prev".as_slice(), b"1.0", 1),
         (b"1.0", b"1.0prev", 6),
+        (&[4, 9, 9], b"1.0", 1),
+        (b"1.0", &[4, 9, 9], 6),
+        (&[4, 9, 9], b"1.0prev", 1),
     ] {
         let status = pep440_compare(rt.alloc(), left, right, &mut order);
         assert!(rt; status == want && order == 7);
@@ -261,6 +264,9 @@ fn others_are_rejected(rt: HostRuntime) -> Result<(), Fail> {
         (&[5, 9], RELEASE, 2),
         (b"".as_slice(), b"", 1),
         (b"=1", b"", 2),
+        (b">=1", &[4, 9, 9], 1),
+        (&[5, 9], b"1.0", 2),
+        (&[5, 9], b"1.0prev", 2),
     ] {
         let status = pep440_contains(rt.alloc(), list, version, &mut is, &mut early);
         assert!(rt; status == want && is == 7 && early == 7);
