@@ -150,7 +150,7 @@ typedef struct {
 uint8_t pep440_parts_of(const uint8_t *version, size_t length, pep440_parts *parts, uint64_t *release, size_t size);
 
 /* Writes the sort key of a version; `out` and `written` as for pep440_normalize. Keys compared byte by byte (memcmp, then the shorter one
-   first) have the order of their versions, and are equal exactly where the versions are. No key is a prefix of another one, so a key may be
+   first) have the order of their versions, and are equal exactly if the versions are. No key is a prefix of another one, so a key may be
    followed by other bytes in an index, and these count only between equal versions. A key may be stored and compared by whatever compares
    bytes: the key of a version is the same in each release. It cannot be parsed back, so store the version beside it. */
 uint8_t pep440_sort_key(const uint8_t *version, size_t length, uint8_t *out, size_t size, size_t *written);
@@ -197,7 +197,7 @@ enum { PEP440_NO_BOUND = 0, PEP440_INCLUDED = 1, PEP440_EXCLUDED = 2 };
 uint8_t pep440_range_bounds(const uint8_t *list, size_t length, uint8_t *out, size_t size, size_t *ends, size_t ends_size, size_t *written,
                             size_t *count);
 
-/* The same of the release-only range of the list, which is meant for versions that are just a release, as those of Python itself. Of each
+/* The same of the release-only range of the list, which is meant for versions that are just a release, as Python's own. Of each
    specifier only the operator and the release count, so no bound has an epoch, a suffix or a sentinel: the bounds of `>1!1.0rc1` are
    PEP440_EXCLUDED and the compiled form of `1.0`, and PEP440_NO_BOUND. */
 uint8_t pep440_release_range_bounds(const uint8_t *list, size_t length, uint8_t *out, size_t size, size_t *ends, size_t ends_size,
@@ -208,10 +208,10 @@ uint8_t pep440_release_range_bounds(const uint8_t *list, size_t length, uint8_t 
    Compiled bytes are plain bytes: keep them in memory, in a file or in a column, copy them, share them among threads, give them to another
    process or machine. There is no handle, and nothing to free. Their first byte is a format, with which no string of a version or a list
    begins, and the bytes of a format never change between releases: what one release wrote each later one takes. Bytes of a format that a
-   library does not know are an invalid version or list, as those of the formats 1, 2 and 3, which earlier libraries wrote.
+   library does not know are an invalid version or list, as are formats 1, 2 and 3, which earlier libraries wrote.
 
    A compiled version is the byte 4, the sort key of the version, and a byte 1 for each zero that ends its release, which is all that a sort key
-   leaves out. A sort key ends with a byte 0. So the order of versions is that of their sort keys as they lie in the bytes, two versions are equal
+   leaves out. A sort key ends with a byte 0. So versions are ordered as the sort keys in their bytes are, two versions are equal
    exactly if their sort keys are, and a hash of a sort key is one of the version. A compiled list is the byte 5, and of each specifier 16 and the
    number of its operator (below), and then its version without the byte 4. `1.0` takes 10 bytes, `2024.10.20240101` 17; no version and no
    list takes more than PEP440_COMPILED_BOUND of the length of its string.
@@ -238,7 +238,7 @@ uint8_t pep440_compile_list(const uint8_t *list, size_t length, uint8_t *out, si
    string is no specifier, as the empty string and `>=1.16,<2.0`. */
 uint8_t pep440_compile_specifier(const uint8_t *specifier, size_t length, uint8_t *out, size_t size, size_t *written);
 
-/* The operators in compiled lists, where 16 is added to their numbers. The star forms are `==` and `!=` with a version and `.*`. */
+/* The operators; in compiled lists 16 is added to their numbers. The star forms are `==` and `!=` with a version and `.*`. */
 enum {
     PEP440_EQUAL = 0,
     PEP440_EQUAL_STAR = 1,
@@ -268,7 +268,7 @@ enum { PEP440_NO_MATCH = 0, PEP440_MATCH = 1, PEP440_NOT_A_VERSION = 2, PEP440_P
 uint8_t pep440_filter(const uint8_t *list, size_t list_length, const pep440_string *strings, size_t count, uint8_t *marks, size_t size);
 
 /* Writes the indices of the strings, from 0, in the order of their versions; equal ones in the order given. With PEP440_INVALID_VERSION
-   `index` is that of the first string that is no version, and nothing else is written. PEP440_NO_ROOM if all are versions and `size` is less than
+   only `index` is written, the index of the first string that is no version. PEP440_NO_ROOM if all are versions and `size` is less than
    `count`; then nothing is written. */
 uint8_t pep440_sort(const pep440_string *strings, size_t count, size_t *indices, size_t size, size_t *index);
 

@@ -22,7 +22,7 @@ fn collect_contained(
     Ok(versions)
 }
 
-/// The newest version of the page that the list contains; none where it contains none. Of equal ones, as `1.0` and
+/// The newest version of the page that the list contains; none if it contains none. Of equal ones, as `1.0` and
 /// `1.0.0`, the last.
 ///
 /// Allocates; the error is out of memory.

@@ -22,7 +22,7 @@ pub fn keep(range: &Ranges<Version>, versions: &mut Vec<Version>)
 
 /// Keeps the versions that lie in the range of the list.
 ///
-/// Allocates. Returns `NumberAtMax` where a number that has to be raised is the greatest there is. After an error the
+/// Allocates. Returns `NumberAtMax` if a number that has to be raised is the greatest there is. After an error the
 /// versions are what they were.
 pub fn keep_wanted(
     alloc: Global,

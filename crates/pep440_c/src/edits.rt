@@ -126,7 +126,7 @@ fn explain_no_change(alloc: Global, number: usize) -> Result<String, AllocError>
     format!(in alloc; "change {number}: not a change")
 }
 
-/// Why there is no such version; empty where there is one.
+/// Why there is no such version; empty if there is one.
 pub(crate) fn explain_edit(alloc: Global, bytes: &[u8], words: &[&[u8]]) -> Result<String, Fault>
     ensures { Gives ⊥ ⊥ ⊥ (λ text. IsEditError bytes.now (map (λ t. t.now) words.now) (string_bytes text)) result }
 {

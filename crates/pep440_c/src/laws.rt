@@ -29,7 +29,7 @@ pub fn versions_once()
     ensures never_both { (bytes : List ℕ) (r : Record) → MeansBytes bytes r → RefusesBytes bytes → ⊥ }
 {}
 
-/// The same of lists.
+/// Bytes denote one list, or are invalid with one error, and never both.
 pub fn lists_once()
     ensures one { (bytes : List ℕ) (l m : List Spec) → MeansListBytes bytes l → MeansListBytes bytes m → l ≡ m }
     ensures why { (bytes words others : List ℕ) → TellsWhyNoList bytes words → TellsWhyNoList bytes others → words ≡ others }
@@ -37,7 +37,7 @@ pub fn lists_once()
     ensures never_both { (bytes : List ℕ) (l : List Spec) → MeansListBytes bytes l → RefusesListBytes bytes → ⊥ }
 {}
 
-/// The same of one specifier.
+/// Bytes denote one specifier, or are invalid with one error, and never both.
 pub fn one_specifier_once()
     ensures one { (bytes : List ℕ) (s t : Spec) → MeansSpecifierBytes bytes s → MeansSpecifierBytes bytes t → s ≡ t }
     ensures why { (bytes words others : List ℕ) → TellsWhyNoSpecifier bytes words → TellsWhyNoSpecifier bytes others → words ≡ others }
@@ -61,7 +61,7 @@ pub fn words_are_ordered()
 {}
 
 /// The sort key of a version lies in one of the intervals of a list's range exactly where the range has the version; and
-/// in one of those of its cover if the list, as a string denotes it, contains the version.
+/// in an interval of its cover if the list, as a string denotes it, contains the version.
 pub fn keys_tell_membership()
     ensures range { (list text : List ℕ) (range : Segments) (r : Record) → HasRange range_of list range → MeansBytes text r → list_any (λ s. is_within (segment_interval s) (key_bytes r)) range ≡ contains record_cmp range r }
     ensures cover { (list text : List ℕ) (members : List Spec) (cover : Segments) (r : Record) → (¬ HasListFormat list) → MeansListString list members → list_range cover_of members ≡ Some cover → MeansBytes text r → list_matches members r ≡ true → list_any (λ s. is_within (segment_interval s) (key_bytes r)) cover ≡ true }

@@ -7,9 +7,13 @@
 //!
 //! `pep440_compare`, `pep440_contains` and `pep440_sort_key` read compiled bytes as they lie, without allocating. They do not test the whole
 //! of them: of bytes that begin as a compiled form and are none they return an error or any result, and never read outside them.
-//! The header is `callers/c/pep440.h`.
+//! The header `callers/c/pep440.h` says what each call writes.
 //!
-//! A call may allocate from `malloc`, and frees what it allocated before it returns. Where `malloc` fails it returns 3, and may be made
+//! With 0 the result is at the start of the buffer, whose rest is unchanged. With 4 everything is valid, but the result does not fit: the
+//! buffer is unchanged, and what the header names is written. 3 may take the place of any other status. With any other
+//! nothing is written, except `index` by a batch that stops.
+//!
+//! A call may allocate from `malloc`, and frees what it allocated before it returns. If `malloc` fails it returns 3, and may be made
 //! again.
 #![tactic(auto)]
 
@@ -89,8 +93,8 @@ pub extern "C" fn pep440_normalize_list(
     put_text(texts::normalize_list(alloc, list), out, written)
 }
 
-/// Writes operator and version of each member of the list, as its normal form has them, in their order, and where each
-/// of these ends. Reports how many bytes and how many strings there are.
+/// Writes operator and version of each member of the list, as its normal form has them, in their order, and the end of
+/// each. Reports how many bytes and how many strings there are.
 #[unsafe(no_mangle)]
 pub extern "C" fn pep440_specifiers_of(
     alloc: Global,
@@ -112,8 +116,8 @@ pub extern "C" fn pep440_specifiers_of(
 }
 
 /// Writes the specifier of an operator and a version, as its list prints it; the version may end with `.*` for `==` and
-/// `!=` (PEP 440, "Version specifiers"). The operator is parsed first. Status 2 where it is none, or does not go with the
-/// version: `.*` or a local part where it allows none, or `~=` before a single release number.
+/// `!=` (PEP 440, "Version specifiers"). The operator is parsed first. Status 2 if it is none, or does not go with the
+/// version: `.*` or a local part if it allows none, or `~=` before a single release number.
 #[unsafe(no_mangle)]
 pub extern "C" fn pep440_specifier(
     alloc: Global,
@@ -152,7 +156,7 @@ pub extern "C" fn pep440_pattern(
 }
 
 /// Writes the version after the changes, one after the other, with its sentinels; the program's command `edit` takes the same
-/// words. The version is parsed first, then all words. Status 8 where one is no change word, or a change cannot be made.
+/// words. The version is parsed first, then all words. Status 8 if one is no change word, or a change cannot be made.
 #[unsafe(no_mangle)]
 pub extern "C" fn pep440_edit(
     alloc: Global,
@@ -169,7 +173,7 @@ pub extern "C" fn pep440_edit(
     }
 }
 
-/// Writes why the version cannot be changed so, or why the string is none; nothing where it can.
+/// Writes why the version cannot be changed so, or why the string is none; nothing if it can.
 #[unsafe(no_mangle)]
 pub extern "C" fn pep440_edit_error(
     alloc: Global,
@@ -183,7 +187,7 @@ pub extern "C" fn pep440_edit_error(
     put_text(edits::explain_edit(alloc, text, changes), out, written)
 }
 
-/// Writes why the string is no version; nothing where it is one.
+/// Writes why the string is no version; nothing if it is one.
 #[unsafe(no_mangle)]
 pub extern "C" fn pep440_version_error(
     alloc: Global,
@@ -196,7 +200,7 @@ pub extern "C" fn pep440_version_error(
     put_text(messages::explain_version(alloc, text), out, written)
 }
 
-/// Writes why the string is no list of specifiers; nothing where it is one.
+/// Writes why the string is no list of specifiers; nothing if it is one.
 #[unsafe(no_mangle)]
 pub extern "C" fn pep440_list_error(
     alloc: Global,
@@ -272,7 +276,7 @@ pub extern "C" fn pep440_any_prerelease(alloc: Global, list: &[u8], any: &mut u8
     }
 }
 
-/// The numbers of a version, 0 where it has no such part.
+/// The numbers of a version, 0 if it has no such part.
 #[repr(C)]
 #[derive(Clone, Copy, Debug)]
 pub struct Parts {
@@ -330,7 +334,7 @@ pub extern "C" fn pep440_sort_key(
 }
 
 /// Writes the word of the version: words are numbers in the order of their versions (PEP 440, "Summary of permitted
-/// suffixes and relative ordering"). Status 7 where the version is not packed: then it has no word.
+/// suffixes and relative ordering"). Status 7 if the version is not packed: then it has no word.
 #[unsafe(no_mangle)]
 pub extern "C" fn pep440_word(alloc: Global, text: &[u8], word: &mut u64) -> u8
     ensures { WordAnswer text.now word.old word.new result }
@@ -345,7 +349,7 @@ pub extern "C" fn pep440_word(alloc: Global, text: &[u8], word: &mut u64) -> u8
     }
 }
 
-/// Writes the range of the list, a segment a line. Status 5 where a bound of it would need a number above the greatest.
+/// Writes the range of the list, a segment a line. Status 5 if a bound of it would need a number above the greatest.
 #[unsafe(no_mangle)]
 pub extern "C" fn pep440_ranges(
     alloc: Global,
@@ -359,7 +363,7 @@ pub extern "C" fn pep440_ranges(
 }
 
 /// Writes the range of the list as sort keys, two a segment, and where each of them ends: a version is in the range
-/// where its key is at least the first of a segment and below the second. No bytes stand for no bound. Reports how many
+/// if its key is at least the first of a segment and below the second. No bytes stand for no bound. Reports how many
 /// bytes and how many keys there are. Status 5 as above.
 #[unsafe(no_mangle)]
 pub extern "C" fn pep440_range_keys(
@@ -381,7 +385,7 @@ pub extern "C" fn pep440_range_keys(
     )
 }
 
-/// The same of the cover of the list, a range that has each version that the list contains.
+/// Writes the cover of the list as sort keys, as `pep440_range_keys`; a cover has each version that the list contains.
 #[unsafe(no_mangle)]
 pub extern "C" fn pep440_cover_keys(
     alloc: Global,
@@ -431,7 +435,7 @@ pub extern "C" fn pep440_sort(
     }
 }
 
-/// Writes the sort keys of the strings, one after the other, and where each of them ends. `at` as above.
+/// Writes the sort keys of the strings, one after the other, and the end of each. `at` as above.
 #[unsafe(no_mangle)]
 pub extern "C" fn pep440_sort_keys(
     alloc: Global,

@@ -11,7 +11,7 @@ use std::alloc::Global;
 const NOT_UTF8: &str = "not UTF-8";
 
 /// Writes the compiled form of the list of the one specifier that the string denotes (PEP 440, "Version specifiers"). Status 2
-/// where it denotes none, as the empty string and a string with a comma.
+/// if it denotes none, as the empty string and a string with a comma.
 #[unsafe(no_mangle)]
 pub extern "C" fn pep440_compile_specifier(
     alloc: Global,
@@ -24,7 +24,7 @@ pub extern "C" fn pep440_compile_specifier(
     put_bytes(compile(alloc, specifier), out, written)
 }
 
-/// Writes why the string is no specifier; nothing where it is one.
+/// Writes why the string is no specifier; nothing if it is one.
 #[unsafe(no_mangle)]
 pub extern "C" fn pep440_specifier_error(
     alloc: Global,

@@ -11,7 +11,7 @@ use std::alloc::Global;
 
 const NOT_UTF8: &str = "not UTF-8";
 
-/// Writes why the string is no version pattern (PEP 440, "Version matching"); nothing where it is one.
+/// Writes why the string is no version pattern (PEP 440, "Version matching"); nothing if it is one.
 #[unsafe(no_mangle)]
 pub extern "C" fn pep440_pattern_error(
     alloc: Global,

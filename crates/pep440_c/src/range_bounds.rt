@@ -22,9 +22,9 @@ const INCLUDED: u8 = 1;
 
 const EXCLUDED: u8 = 2;
 
-/// Writes the range of the list as bounds, two a segment, and where each of them ends: 0 alone for no bound, else 1 for an
+/// Writes the range of the list as bounds, two a segment, and where each of them ends: only 0 for no bound, else 1 for an
 /// included or 2 for an excluded version, and its compiled form; for one with a sentinel 4 and its sort key and zeros, as of other
-/// versions. Reports how many bytes and how many bounds there are. Status 5 where a bound would need a number above the greatest.
+/// versions. Reports how many bytes and how many bounds there are. Status 5 if a bound would need a number above the greatest.
 #[unsafe(no_mangle)]
 pub extern "C" fn pep440_range_bounds(
     alloc: Global,

@@ -15,8 +15,7 @@ use pep440_ranges::Ranges;
 use pep440_rs::{Version, release_specifiers_to_ranges};
 use std::alloc::Global;
 
-/// Writes the range of the list by releases alone (PEP 440, "Final releases"), as `pep440_range_bounds` writes that by the whole
-/// order. Status 5 where a bound would need a number above the greatest.
+/// Writes the release-only range of the list (PEP 440, "Final releases"), in the form of `pep440_range_bounds`. Status 5 if a bound would need a number above the greatest.
 #[unsafe(no_mangle)]
 pub extern "C" fn pep440_release_range_bounds(
     alloc: Global,

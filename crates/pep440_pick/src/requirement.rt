@@ -31,7 +31,8 @@ impl Requirement {
     /// may stand before, between and after the parts.
     ///
     /// Allocates. Every string that is no requirement is rejected with the first kind of `RequirementError` that holds, in the
-    /// order of the enum; only if an allocation failed the kind may be `OutOfMemory` instead.
+    /// order of the enum; only if an allocation failed the kind may be `OutOfMemory` instead. The message of an invalid list quotes
+    /// the list without the blanks and parentheses around it.
     pub fn from_str(alloc: Global, text: &str) -> Result<Requirement, RequirementError>
         // What is returned is what the string denotes.
         ensures found { IfOk result (λ r. DerivesRequirement text.now (needed r)) }

@@ -79,7 +79,7 @@ pub fn version_to_json(alloc: Global, version: &Version) -> Result<Value, AllocE
 /// The version that a JSON string denotes, as by `Version::from_str`.
 ///
 /// Allocates. Every other value is rejected as `NotAString`, and a string that is no version as `Text` of the error
-/// of `Version::from_str`; only where an allocation failed the error of a string may be `OutOfMemory` instead.
+/// of `Version::from_str`; only if an allocation failed the error of a string may be `OutOfMemory` instead.
 pub fn version_from_json(
     alloc: Global,
     value: &Value,

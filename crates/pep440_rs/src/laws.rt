@@ -55,16 +55,16 @@ pub fn texts_give_operands()
     ensures list { (text : List ℕ) (list : List Spec) → DerivesList text list → All HasOperand list }
 {}
 
-/// Where the version is one that a string can have beside the operator, the range holds exactly what the specifier
+/// If the version is one that a string can have beside the operator, the range holds exactly what the specifier
 /// contains, as far as the two can be compared; whatever the suffixes, the range of `<` holds only what matches, and
-/// that of `>` all that matches. Each specifier that some string denotes is of this kind (`texts_give_operands`).
+/// the range of `>` all that matches. Each specifier that some string denotes is of this kind (`texts_give_operands`).
 pub fn range_agrees()
     ensures agrees { (s : Spec) (range : Segments) → range_of s.operator s.version ≡ Some range → HasOperand s → Agrees IsCandidate s range }
     ensures within { (s : Spec) (range : Segments) → range_of s.operator s.version ≡ Some range → HasOperand s → HoldsOnlyMatches s range }
     ensures around { (s : Spec) (range : Segments) → range_of s.operator s.version ≡ Some range → HasOperand s → HoldsAllMatches s range }
 {}
 
-/// The same of what strings denote, alone or as members of any list, in one step.
+/// What `range_agrees` and `list_agrees` state, of specifiers that strings denote, alone or as members of any list, in one step.
 pub fn range_of_text_agrees()
     ensures single { (s : Spec) (range : Segments) → range_of s.operator s.version ≡ Some range → HasText s → Agrees IsCandidate s range }
     ensures list { (members : List Spec) (range : Segments) → list_range range_of members ≡ Some range → All HasText members → ListAgrees IsCandidate members range }
@@ -77,13 +77,13 @@ pub fn release_range_agrees()
     ensures { (s : Spec) (range : Segments) → release_range_of s.operator s.version ≡ Some range → Agrees IsReleaseComparable s range }
 {}
 
-/// The same of lists, by either conversion.
+/// The range of a list, by either conversion, holds exactly what the list contains, as far as the two can be compared.
 pub fn list_agrees()
     ensures whole { (members : List Spec) (range : Segments) → list_range range_of members ≡ Some range → All HasOperand members → ListAgrees IsCandidate members range }
     ensures release { (members : List Spec) (range : Segments) → list_range release_range_of members ≡ Some range → ListAgrees IsReleaseComparable members range }
 {}
 
-/// The range of a list is the intersection of its members' ranges, and there is none exactly where one of them has
+/// The range of a list is the intersection of its members' ranges, and there is none exactly if one of them has
 /// none.
 pub fn list_is_intersection()
     ensures whole { (members : List Spec) (range : Segments) → list_range range_of members ≡ Some range → HoldsInEach range_of members range }
@@ -110,15 +110,15 @@ pub fn cover_holds()
     ensures apart { GivesRanges cover_of }
 {}
 
-/// A conversion is rejected exactly where a number to be raised is the greatest there is.
+/// A conversion is rejected exactly if a number to be raised is the greatest there is.
 pub fn refused_at_max()
     ensures whole { RefusedAtMax range_of raised_number }
     ensures cover { RefusedAtMax cover_of raised_number }
     ensures release { RefusedAtMax release_range_of raised_release_number }
 {}
 
-/// The members made of bounds contain the releases within the bounds: those of one pair exactly these, those of
-/// a list of pairs all of these, and no other where each gap is known.
+/// The members made of bounds contain the releases within the bounds: one pair gives exactly these,
+/// a list of pairs all of these, and no other if each gap is known.
 pub fn bounds_agree()
     ensures pair { (p : Segment Record) → IsReleasePair p → MatchesWithin p (pair_members p.0 p.1) }
     // Of a list of pairs, however its members are arranged.

@@ -42,7 +42,7 @@ use std::marker::Model;
 use std::ops::Bound;
 use std::{fmt, vec};
 
-/// A list of specifiers, as `>=1.0, <2.0` (PEP 440, "Version specifiers"). The list contains a version where each
+/// A list of specifiers, as `>=1.0, <2.0` (PEP 440, "Version specifiers"). The list contains a version if each
 /// member does; so the empty list contains every version.
 ///
 /// The members stand by version, and members with equal versions in the order in which they were given.
@@ -97,7 +97,7 @@ impl VersionSpecifiers {
 
     /// The list of these members: by version, and members with equal versions in the order given.
     ///
-    /// Allocates only where they are not in this order already.
+    /// Allocates only if they are not in this order already.
     pub fn from_specifiers(
         alloc: Global,
         specifiers: Vec<VersionSpecifier>,
@@ -137,10 +137,10 @@ impl VersionSpecifiers {
     }
 
     /// The list of pairs of bounds: for each gap between an upper bound and the next lower one `!=` of the one
-    /// version that is left out, or `!=a.b.*` from `a.b` on to below `a.c`, where c is b plus 1, and nothing for
+    /// version that is left out, or `!=a.b.*` from `a.b` on to below `a.c`, c being b plus 1, and nothing for
     /// every other gap; then the specifiers of the first lower and the last upper bound, as by
     /// `VersionSpecifier::from_release_only_bounds`; by version, and those with equal versions in this order. No
-    /// pair gives the empty list (PEP 440, "Version specifiers"). Each version must be a release alone;
+    /// pair gives the empty list (PEP 440, "Version specifiers"). Each version must be only a release;
     /// `Version::is_release_only` is its test.
     ///
     /// Allocates.
@@ -176,7 +176,7 @@ impl VersionSpecifiers {
     /// versions in the order of the string; the empty string is the empty list (PEP 440, "Version specifiers").
     ///
     /// Allocates. Every string that is no list is rejected with its first piece that is no specifier, and where in
-    /// the string that piece lies; only where an allocation failed the kind may be `OutOfMemory` instead.
+    /// the string that piece lies; only if an allocation failed the kind may be `OutOfMemory` instead.
     pub fn from_str(
         alloc: Global,
         text: &str,
@@ -221,7 +221,7 @@ impl VersionSpecifiers {
         self.members.is_empty()
     }
 
-    /// The members in order.
+    /// The members in order: their versions never fall.
     pub fn as_slice(&self) -> &[VersionSpecifier]
         ensures value { result.now ≡ self.now }
         // Versions never fall.
@@ -241,7 +241,7 @@ impl VersionSpecifiers {
     /// does not, or whose allocation fails, decides (PEP 440, "Version specifiers").
     ///
     /// Allocates only for members with `===`, and for none after the first member that does not contain the version;
-    /// where no `===` is reached it always succeeds.
+    /// if no `===` is reached it always succeeds.
     #[tactic(auto, using(crate::proofs::Arranging::InOrder::told_step, crate::proofs::Arranging::InOrder::told_open))]
     pub fn contains(&self, alloc: Global, version: &Version) -> Result<bool, AllocError>
         ensures value { IfOk result (λ b. b ≡ list_matches self.now version.now) }
@@ -269,7 +269,7 @@ impl VersionSpecifiers {
     /// The list that a JSON string denotes, as by `VersionSpecifiers::from_str`.
     ///
     /// Allocates. Every other value is rejected as `NotAString`, and a string that is no list as `Text` of the error
-    /// of `VersionSpecifiers::from_str`; only where an allocation failed the error of a string may be `OutOfMemory`
+    /// of `VersionSpecifiers::from_str`; only if an allocation failed the error of a string may be `OutOfMemory`
     /// instead.
     pub fn from_json(
         alloc: Global,

@@ -47,7 +47,7 @@ use std::hash::{Hash, Hasher};
 use std::marker::Model;
 use std::ops::Bound;
 
-/// An operator and a version, as `>=1.2.3` (PEP 440, "Version specifiers"). Before the version of a `~=` stand
+/// An operator and a version, as `>=1.2.3` (PEP 440, "Version specifiers"). The version of a `~=` has
 /// two release numbers or more.
 ///
 /// Specifiers are ordered by operator, then by version; so `==1.0` equals `==1.0.0`, though the two may print
@@ -191,11 +191,11 @@ impl VersionSpecifier {
         VersionSpecifier::from_parts(Operator::LessThan, version)
     }
 
-    /// The specifier of a lower bound: `>=` of an included version, `>` of an excluded one, none where there is no
+    /// The specifier of a lower bound: `>=` of an included version, `>` of an excluded one, none if there is no
     /// bound. A version with a local part is rejected as `Build` of `OperatorLocalCombo` with that operator (PEP 440,
     /// "Inclusive ordered comparison" and "Exclusive ordered comparison").
     ///
-    /// Allocates; returns `OutOfMemory` where that fails.
+    /// Allocates; returns `OutOfMemory` if that fails.
     pub fn from_lower_bound(
         alloc: Global,
         bound: &Bound<Version>,
@@ -205,11 +205,11 @@ impl VersionSpecifier {
         reject_local(convert_lower(bound)?)
     }
 
-    /// The specifier of an upper bound: `<=` of an included version, `<` of an excluded one, none where there is no
+    /// The specifier of an upper bound: `<=` of an included version, `<` of an excluded one, none if there is no
     /// bound. A version with a local part is rejected as `Build` of `OperatorLocalCombo` with that operator (PEP 440,
     /// "Inclusive ordered comparison" and "Exclusive ordered comparison").
     ///
-    /// Allocates; returns `OutOfMemory` where that fails.
+    /// Allocates; returns `OutOfMemory` if that fails.
     pub fn from_upper_bound(
         alloc: Global,
         bound: &Bound<Version>,
@@ -220,9 +220,9 @@ impl VersionSpecifier {
     }
 
     /// The specifiers that together contain exactly the releases from the lower bound to the upper: `==` of the
-    /// lower version where both are included and equal; `==a.b.*` from `a.b` on to below `a.c`, where c is b plus
-    /// 1; else that of the lower bound, then that of the upper, where there are such (PEP 440, "Version
-    /// specifiers"). Each version must be a release alone; `Version::is_release_only` is its test.
+    /// lower version if both are included and equal; `==a.b.*` from `a.b` on to below `a.c`, where c is b plus
+    /// 1; else the specifier of the lower bound, then of the upper, if there are such (PEP 440, "Version
+    /// specifiers"). Each version must be only a release; `Version::is_release_only` is its test.
     ///
     /// Allocates.
     pub fn from_release_only_bounds(
@@ -290,9 +290,9 @@ impl VersionSpecifier {
     }
 
     /// The specifier that the string denotes: white space, an operator, white space, a version pattern, white space
-    /// and the end, where white space is what `char::is_whitespace` accepts (PEP 440, "Version specifiers").
+    /// and the end; white space is what `char::is_whitespace` accepts (PEP 440, "Version specifiers").
     ///
-    /// Allocates. Every string that is no specifier is rejected with its one `ParseErrorKind`; only where an
+    /// Allocates. Every string that is no specifier is rejected with its one `ParseErrorKind`; only if an
     /// allocation failed the kind may be `OutOfMemory` instead.
     pub fn from_str(
         alloc: Global,
@@ -319,7 +319,7 @@ impl VersionSpecifier {
     }
 
     /// Whether the specifier contains the version (PEP 440, "Version specifiers"). A specifier whose version has no
-    /// local part ignores that of the candidate.
+    /// local part ignores the candidate's.
     ///
     /// Allocates only for `===`, which compares normalized forms; with any other operator it always succeeds.
     pub fn contains(&self, alloc: Global, version: &Version) -> Result<bool, AllocError>
@@ -363,7 +363,7 @@ impl VersionSpecifier {
     /// The specifier that a JSON string denotes, as by `VersionSpecifier::from_str`.
     ///
     /// Allocates. Every other value is rejected as `NotAString`, and a string that is no specifier as `Text` of the
-    /// error of `VersionSpecifier::from_str`; only where an allocation failed the error of a string may be
+    /// error of `VersionSpecifier::from_str`; only if an allocation failed the error of a string may be
     /// `OutOfMemory` instead.
     pub fn from_json(
         alloc: Global,

@@ -14,7 +14,7 @@ use crate::print_range::print_range;
 use crate::show_version::show_version;
 use std::alloc::{AllocError, Global};
 
-// What words ask for.
+/// What words ask for.
 #[derive(Clone, Copy, Debug)]
 pub enum Command<'a> {
     Show(&'a str),
@@ -114,9 +114,9 @@ impl<'a> Command<'a> {
 }
 
 /// What the program prints for its words and its input: what is written, and the status 0 (a result), 1 (an error) or
-/// 2 (no such command, or a wrong number of words). `filter` and `pick` alone look at the input.
+/// 2 (no such command, or a wrong number of words). Only `filter` and `pick` look at the input.
 ///
-/// Allocates; `AllocError` only where that fails.
+/// Allocates; `AllocError` only if that fails.
 pub fn answer(alloc: Global, words: &[String], input: &[u8]) -> Result<Answer, AllocError>
     ensures answer { IfOk result (λ a. IsAnswer (asked (map string_bytes words.now)) input.now (answer_value a)) }
     ensures known { IfOk result (λ a. a.status ≤ 2) }

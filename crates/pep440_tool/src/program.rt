@@ -11,7 +11,12 @@ use std::io::{Read, Write};
 
 const MEMORY: &str = "error: out of memory\n";
 
-/// Runs the command of the words, with the input where it reads one, and returns the status of the process.
+/// Runs the command of the words and returns the status of the process: 0, 1 or 2 as `answer`, 3 out of memory, 4 a read or a write
+/// failed.
+///
+/// With 0, 1 or 2 the output of `answer` was written and nothing else, and `filter` and `pick` have read all input. With 3 the message was
+/// written and nothing else. With 4 a prefix was written, of the output, after the input that it needs was read, or of that
+/// message. Only `filter` and `pick`, with a right number of words, read the input.
 pub fn run<R: Read, W: Write>(alloc: Global, words: &[String], reader: &mut R, writer: &mut W) -> u8
     ensures { RunEnds R.remaining W.contents (map string_bytes words.now) reader.old reader.new writer.old writer.new result }
 {
@@ -34,7 +39,7 @@ pub fn run<R: Read, W: Write>(alloc: Global, words: &[String], reader: &mut R, w
     }
 }
 
-/// Writes `error: out of memory`, without allocating, and returns the status of the process: 3, or 4 where the writer
+/// Writes `error: out of memory`, without allocating, and returns the status of the process: 3, or 4 if the writer
 /// failed or took no byte.
 pub fn refuse<W: Write>(writer: &mut W) -> u8
     ensures status { (result ≡ 3) ⊎ (result ≡ 4) }

@@ -11,14 +11,14 @@ pub const MOST_READS: u32 = 1048576;
 
 pub const READ_SIZE: usize = 8192;
 
-// Why the input was not read to its end.
+/// Why the input was not read to its end.
 #[derive(Clone, Copy, Debug)]
 pub enum ReadFailure {
     Io,
     OutOfMemory,
 }
 
-// Reads to the end, by at most `MOST_READS` calls, none of which is made again where it fails.
+/// Reads to the end, by at most `MOST_READS` calls, none of which is made again if it fails.
 pub fn read_whole<R: Read>(alloc: Global, reader: &mut R) -> Result<Vec<u8>, ReadFailure>
     ensures read { IfOk result (λ input. Consumes (R.remaining reader.old) (R.remaining reader.new) input.items) }
     ensures end { OnOk result (IsAtEnd (R.remaining reader.new)) }
@@ -39,7 +39,7 @@ pub fn read_whole<R: Read>(alloc: Global, reader: &mut R) -> Result<Vec<u8>, Rea
     Err(ReadFailure::Io)
 }
 
-// Writes all of it and flushes. `false` where a call failed or took no byte: then a beginning went out.
+/// Writes all of it and flushes. `false` if a call failed or took no byte: then a beginning went out.
 pub fn write_whole<W: Write>(writer: &mut W, bytes: &[u8]) -> bool
     ensures whole { OnTrue result (Appends (W.contents writer.old) (W.contents writer.new) bytes.now) }
     ensures prefix { WroteFront (W.contents writer.old) (W.contents writer.new) bytes.now }

@@ -77,7 +77,7 @@ pub struct VersionParseError {
 }
 
 impl VersionParseError {
-    /// Why.
+    /// Why: the kind of the error, with what it holds.
     pub fn kind(&self) -> &ErrorKind
         ensures { result.now ≡ kind_of self.now }
     {
@@ -146,7 +146,7 @@ pub struct VersionPatternParseError {
 }
 
 impl VersionPatternParseError {
-    /// Why.
+    /// Why: the kind of the error, with what it holds.
     pub fn kind(&self) -> &PatternErrorKind
         ensures { result.now ≡ pattern_kind_of self.now }
     {

@@ -16,7 +16,8 @@ use crate::version::{Version, prove_segments_fit};
 use std::alloc::{AllocError, Global};
 
 impl Version {
-    /// The version with this release. The release must not be empty; `is_empty` is its test.
+    /// The version with this release. The release must not be empty; `is_empty` is its test. Zeros at its end make no difference to
+    /// order, equality and hash.
     ///
     /// Allocates only if the result is not packed.
     pub fn with_release(self, alloc: Global, release: &[u64]) -> Result<Version, AllocError>

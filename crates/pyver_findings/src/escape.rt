@@ -32,9 +32,9 @@ fn push_escaped_byte(text: &mut Vec<u8>, byte: u8) -> Result<(), AllocError>
     text.extend_from_slice(&[92, 120, hex_digit(byte / 16), hex_digit(byte % 16)])
 }
 
-/// The bytes at the end, each that is not printable escaped.
+/// Appends the bytes, each that is not printable ASCII as `\x` and two digits.
 ///
-/// Allocates where `text` grows; returns `AllocError` if that fails.
+/// Allocates if `text` grows; returns `AllocError` if that fails.
 pub fn push_escaped(text: &mut Vec<u8>, bytes: &[u8]) -> Result<(), AllocError>
     ensures { IfOk result (λ _. text.new.items ≡ text.old.items ++ escaped bytes.now) }
 {
@@ -54,9 +54,9 @@ fn push_escaped_line_byte(text: &mut Vec<u8>, byte: u8) -> Result<(), AllocError
     push_escaped_byte(text, byte)
 }
 
-/// The bytes at the end, each that is neither printable nor ends a line escaped.
+/// Appends the bytes as `push_escaped`, but newlines as they are.
 ///
-/// Allocates where `text` grows; returns `AllocError` if that fails.
+/// Allocates if `text` grows; returns `AllocError` if that fails.
 pub fn push_escaped_lines(text: &mut Vec<u8>, bytes: &[u8]) -> Result<(), AllocError>
     ensures { IfOk result (λ _. text.new.items ≡ text.old.items ++ escaped_lines bytes.now) }
 {

@@ -25,7 +25,7 @@ fn push_json_characters(text: &mut Vec<u8>, characters: &[u8]) -> Result<(), All
     Ok(())
 }
 
-/// The bytes at the end as a JSON string: escaped as by `push_escaped`, and then each quote and backslash once more.
+/// Appends the bytes as a JSON string: escaped as by `push_escaped`, and then each quote and backslash once more.
 ///
 /// Allocates; returns `AllocError` if that fails.
 pub fn push_json_string(alloc: Global, text: &mut Vec<u8>, bytes: &[u8]) -> Result<(), AllocError>

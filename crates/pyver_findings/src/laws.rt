@@ -3,7 +3,7 @@ ghost use Rattle.pyver_findings.specs.FindingLaws.{ConflictsHaveFindings, Findin
 
 /// A line that is reported by itself is a line of the files and no requirement, for the reason and at the column that are
 /// reported. Lines that are reported together are lines of the files, ask for one name and have no two markers; no
-/// version is allowed by all; and one or two of them name a version where that is reported.
+/// version is allowed by all; and one or two of them name a version if that is reported.
 pub fn findings_hold()
     ensures { FindingsHold }
 {}
@@ -13,7 +13,7 @@ pub fn invalid_lines_have_findings()
     ensures { InvalidLinesHaveFindings }
 {}
 
-/// Where the covers of the lines of a name that count under a marker have nothing in common, some of these lines are
+/// If the covers of the lines of a name that count under a marker have nothing in common, some of these lines are
 /// reported together.
 pub fn conflicts_have_findings()
     ensures { ConflictsHaveFindings }

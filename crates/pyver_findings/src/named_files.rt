@@ -87,7 +87,8 @@ fn push_of_lines(
 
 /// Pushes the names of the files that the lines of the file name, in order, after `-r`, `--requirement`, `-c` and
 /// `--constraint`. A path is relative to the folder of the file, unless it begins with `/`. A path with a variable and a URL
-/// name none. Fails where memory runs out; then some of them may have been pushed.
+/// name none. `-` is the standard input only if the file has no folder: in `sub/a.txt` it is `sub/-`, and `./-` is a file anywhere. Fails
+/// if memory runs out; then some of them may have been pushed.
 ///
 /// Allocates.
 pub fn push_named_files(

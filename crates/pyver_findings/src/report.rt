@@ -64,11 +64,14 @@ fn parse_lines(alloc: Global, lines: &[FileLine]) -> Result<Readings, AllocError
     Ok(readings)
 }
 
-/// What is wrong in these files, of which each is read once, in this order: first the lines that are no requirements, in
-/// order; then for each name, in the order in which names are first mentioned, the lines that no version satisfies, those
-/// of which one names a version that the other excludes, and those that no version satisfies together. What one line or two
-/// explain is not reported again. Lines with different markers do not count together, and lines without a marker count with
-/// those of each.
+/// What is wrong in these files, each of which is read once, in this order: first the lines that are no requirements, in
+/// order; then for each name, in the order in which names are first mentioned, the lines that no version satisfies, the pairs in which one
+/// line names a version that the other excludes, and the lines that no version satisfies together. What one line or two
+/// explain is not reported again. Lines with different markers do not count together, and lines without a marker count with the lines of
+/// each; if the lines without a marker have no version in common, they are reported together, and no line with a marker with them.
+///
+/// A line names a version if a member of its list is `==` without a star, or `===`. A list stands for its cover, or for all versions if
+/// a number in it cannot be raised. Each name is compared with all: n requirements take n² steps, and m·n² if m markers have findings.
 ///
 /// Allocates.
 pub fn find_problems(alloc: Global, files: &[SourceFile]) -> Result<Report, AllocError>

@@ -212,6 +212,9 @@ fn is_location(word: &[u8]) -> bool
 
 /// What the logical line is: the first that holds of an option, a line with a variable, a location and a requirement.
 ///
+/// Options have their full names, and the path of `-r` and `-c` is the rest of the line, with its quotes. The first word, up to a blank,
+/// `;` or `@`, makes a location if it has a `/`, begins with `.` or ends as an archive: so a later URL makes none. Files are not looked for.
+///
 /// Allocates nothing.
 pub fn classify(text: &[u8]) -> LineKind<'_>
     ensures { line_kind_of result ≡ line_kind text.now }

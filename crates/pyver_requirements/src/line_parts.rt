@@ -71,7 +71,9 @@ fn trim_part(part: Option<&[u8]>) -> Option<&[u8]>
     }
 }
 
-/// The parts of the line.
+/// The name with extras and list, the URL and the marker of a requirement line, without its options.
+///
+/// A `;` begins the marker, also after a URL and without a blank before it. Options are long ones and `-C`.
 ///
 /// Allocates nothing.
 pub fn split_requirement(text: &[u8]) -> LineParts<'_>

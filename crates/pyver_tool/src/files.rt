@@ -16,7 +16,7 @@ pub trait Files {
     /// What is known of the path of a file with a name.
     ghost path: { Self → List ℕ → Option (List ℕ) } = { λ _ _. None };
 
-    /// The file with the name, from its first byte on. Fails with `OutOfMemory` where an allocation failed, and otherwise with why
+    /// The file with the name, from its first byte on. Fails with `OutOfMemory` if an allocation failed, and otherwise with why
     /// the file is not opened.
     fn open(&mut self, alloc: Global, name: &str) -> Result<Self::File, OpenFailure>
         ensures opened { IfOk result (λ file. MayOpen (known self.old name.now) (Self.File.remaining file)) }
@@ -24,7 +24,7 @@ pub trait Files {
         ensures kept { known self.new ≡ known self.old }
         ensures kept_paths { path self.new ≡ path self.old };
 
-    /// The path that all names of the file have in common, or the name where there is none.
+    /// The path that all names of the file have in common, or the name if there is none.
     fn canonical_path(&mut self, alloc: Global, name: &str) -> Result<String, AllocError>
         ensures path { IfOk result (λ found. IsKnownPath (path self.old name.now) (string_bytes found)) }
         ensures kept { known self.new ≡ known self.old }

@@ -15,14 +15,14 @@ pub fn checks_once()
 {}
 
 /// A version that `bump` makes is greater, and differs only in the stated parts; a number of the release can be
-/// raised unless it is the greatest.
+/// raised unless it is the greatest. The epoch stays, and so does each part that no word changes; the local part goes.
 pub fn bumps()
     ensures greater { BumpsAreGreater }
     ensures parts { BumpsChangeOnly }
     ensures release { ReleasesAreBumped }
 {}
 
-/// Where `range` says that there is no version, none is contained in all lists; and a version lies in the intersection of
+/// If `range` says that there is no version, none is contained in all lists; and a version lies in the intersection of
 /// ranges exactly if it lies in each of them.
 pub fn common_ranges()
     ensures none { NoVersionIsCommon }

@@ -77,9 +77,15 @@ fn report_run_failure<E: Write>(failure: RunFailure, err: &mut E) -> u8
     }
 }
 
-/// Runs the command of the words and returns the status of the process: answers go to `out` and faults to `err`. Only
-/// `sort` and `check`, and `filter` and `newest` with a valid list, read `input` and open files, and `bump` without a
-/// version reads `input`.
+/// Runs the command of the words and returns the status of the process: 0, 1 or 2 as its outcome, 3 out of memory, 4 a read or a
+/// write failed, 141 nobody reads the output. Answers go to `out` and faults to `err`. Only `sort` and `check`, and `filter` and `newest`
+/// with a valid list, read `input` and open files, and `bump` without a version reads `input`.
+///
+/// With 0, 1 or 2 both outputs are those of the outcome, and a command that reads has read all, or all before a file that is
+/// not opened. If such a command ends with 3, 4 or 141, `out` got a prefix of the outcome of the first lines read, and `err` a
+/// prefix of its errors and of the last message, which names the source if a read failed; `sort`, `newest` and `bump` wrote a prefix of the
+/// outcome of all input, or nothing; `check` a prefix of its report, or only of a message. A command that reads nothing wrote with 3 a prefix
+/// of the message; with 4 or 141 a prefix of its output and, with 4, of a message, or all output and a prefix of its errors.
 pub fn run<F: Files, R: Read, W: Write, E: Write>(
     alloc: Global,
     words: &[String],

@@ -15,7 +15,7 @@ pub enum JsonError<E> {
     NotAString,
     /// The string is rejected, and not because an allocation failed.
     Text(E),
-    /// Out of memory, which says nothing about the value.
+    /// Out of memory, which says nothing about the value. It is never inside a `Text`.
     OutOfMemory,
 }
 

@@ -74,7 +74,7 @@ pub struct VersionSpecifiersParseError {
 impl VersionSpecifiersParseError {
     ghost use Rattle.pep440_rs.specs.ListAnswers.{line_for, line_of, list_kind_of};
 
-    /// Why.
+    /// Why: the kind of the error, with what it holds.
     pub fn kind(&self) -> &SpecifiersErrorKind
         ensures { result.now ≡ list_kind_of self.now }
     {

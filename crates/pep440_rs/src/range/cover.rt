@@ -123,7 +123,7 @@ fn convert_to_cover(
 /// So it may hold versions that the specifier does not contain: of `!=1.0` the local versions of 1.0, of `<1.0.post2` the
 /// developmental releases of 1.0.post1.
 ///
-/// Allocates. Returns `NumberAtMax` exactly where `specifier_to_range` does, and `OutOfMemory` if an allocation fails.
+/// Allocates. Returns `NumberAtMax` exactly if `specifier_to_range` does, and `OutOfMemory` if an allocation fails.
 pub fn specifier_to_cover(
     alloc: Global,
     specifier: VersionSpecifier,

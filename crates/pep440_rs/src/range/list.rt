@@ -64,10 +64,11 @@ fn convert_members(
 }
 
 /// The range of a list: all versions, intersected with each member's range in the list's order (PEP 440, "Version
-/// specifiers": a version must match each of them).
+/// specifiers": a version must match each of them). It has at most one segment more than the list has members with `!=`, with or
+/// without a star.
 ///
-/// Allocates. Returns `NumberAtMax` where the conversion of some member does, also where the members before it leave
-/// no version, and `OutOfMemory` where an allocation fails.
+/// Allocates. Returns `NumberAtMax` if the conversion of some member does, also if the members before it leave
+/// no version, and `OutOfMemory` if an allocation fails.
 pub fn specifiers_to_ranges(
     alloc: Global,
     specifiers: VersionSpecifiers,
@@ -91,8 +92,8 @@ pub fn specifiers_to_ranges(
 /// The release-only range of a list: all versions, intersected with each member's in the list's order (PEP 440,
 /// "Version specifiers" and "Final releases").
 ///
-/// Allocates. Returns `NumberAtMax` where the conversion of some member does, also where the members before it leave
-/// no version, and `OutOfMemory` where an allocation fails.
+/// Allocates. Returns `NumberAtMax` if the conversion of some member does, also if the members before it leave
+/// no version, and `OutOfMemory` if an allocation fails.
 pub fn release_specifiers_to_ranges(
     alloc: Global,
     specifiers: VersionSpecifiers,
@@ -115,7 +116,7 @@ pub fn release_specifiers_to_ranges(
 /// The cover of a list: all versions, intersected with each member's cover in the list's order. It holds every version that
 /// the list contains, local versions too (PEP 440, "Version specifiers"), and maybe more, as of `specifier_to_cover`.
 ///
-/// Allocates. Returns `NumberAtMax` exactly where `specifiers_to_ranges` does, and `OutOfMemory` if an allocation fails.
+/// Allocates. Returns `NumberAtMax` exactly if `specifiers_to_ranges` does, and `OutOfMemory` if an allocation fails.
 pub fn specifiers_to_cover(
     alloc: Global,
     specifiers: VersionSpecifiers,

@@ -1,4 +1,4 @@
-//! The range of a specifier, by releases alone.
+//! The range of a specifier, by releases only.
 ghost use Rattle.std.specs.Prelude.{◌≡◌, ◌≤◌, ◌<◌, length, IfOk, IsErrOf, Some, None};
 ghost use Rattle.pep440_rs.specs.Agreement.{Agrees, IsReleaseComparable};
 ghost use Rattle.pep440_rs.specs.Bounds.{release_range_of, release_up_to};
@@ -76,11 +76,11 @@ fn convert_release(
     }
 }
 
-/// The release-only range of a specifier: that of its release, whatever its other parts (PEP 440, "Version
+/// The release-only range of a specifier: the range of its release, whatever its other parts (PEP 440, "Version
 /// specifiers" and "Final releases").
 ///
-/// Allocates. Returns `NumberAtMax` where a number that has to be raised is 18446744073709551615, and `OutOfMemory`
-/// where an allocation fails.
+/// Allocates. Returns `NumberAtMax` if a number that has to be raised is 18446744073709551615, and `OutOfMemory`
+/// if an allocation fails.
 pub fn release_specifier_to_range(
     alloc: Global,
     specifier: VersionSpecifier,

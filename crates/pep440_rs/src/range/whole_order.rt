@@ -130,8 +130,8 @@ pub(crate) fn convert(
 /// The range of a specifier, by the whole order of versions (PEP 440, "Version specifiers" and "Summary of permitted
 /// suffixes and relative ordering").
 ///
-/// Allocates. Returns `NumberAtMax` where a number that has to be raised is 18446744073709551615, and `OutOfMemory`
-/// where an allocation fails.
+/// Allocates. Returns `NumberAtMax` if a number that has to be raised is 18446744073709551615, and `OutOfMemory`
+/// if an allocation fails.
 pub fn specifier_to_range(
     alloc: Global,
     specifier: VersionSpecifier,

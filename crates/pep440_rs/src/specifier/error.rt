@@ -52,7 +52,7 @@ pub struct OperatorParseError {
 }
 
 impl OperatorParseError {
-    /// Why.
+    /// Why: the kind of the error, with what it holds.
     pub fn kind(&self) -> &OperatorErrorKind
         ensures { result.now ≡ operator_kind_of self.now }
     {
@@ -174,7 +174,7 @@ pub struct VersionSpecifierBuildError {
 }
 
 impl VersionSpecifierBuildError {
-    /// Why.
+    /// Why: the kind of the error, with what it holds.
     pub fn kind(&self) -> &BuildErrorKind
         ensures { result.now ≡ build_kind_of self.now }
     {
@@ -367,7 +367,7 @@ pub struct VersionSpecifierParseError {
 }
 
 impl VersionSpecifierParseError {
-    /// Why.
+    /// Why: the kind of the error, with what it holds.
     pub fn kind(&self) -> &ParseErrorKind
         ensures { result.now ≡ parse_kind_of self.now }
     {

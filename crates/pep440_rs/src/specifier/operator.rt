@@ -16,7 +16,7 @@ use std::hash::{Hash, Hasher};
 /// A comparison operator (PEP 440, "Version specifiers"). They are ordered as they stand here.
 #[derive(Clone, Copy, Debug)]
 pub enum Operator {
-    /// `==1.2`: this version; `1.2.0` too, and `1.2+local` too, since a local part counts only where the specifier has one
+    /// `==1.2`: this version; `1.2.0` too, and `1.2+local` too, since a local part counts only if the specifier has one
     /// ("Version matching").
     Equal,
     /// `==1.2.*`: every version of this epoch whose release begins with these numbers, pre-releases too ("Version matching").
