@@ -5,8 +5,8 @@
    archive, and in callers/c/examples of the repository.
 
    What the caller must keep, for nothing checks it:
-   - No pointer is null, not even if its length is 0 (docs/DECISIONS.md says why), and each points to as many items as its length says. For
-     an empty string pass any other pointer, as "".
+   - Each pointer points to as many items as its length says. Only beside a length of 0 it may be null, as `bytes` of a pep440_string may: that
+     is an empty string, batch or buffer.
    - Each pointer is aligned as its type: a pep440_string, a pep440_parts, a size_t and a uint64_t to 8 bytes.
    - What a call writes to overlaps nothing else that is passed to it. Strings that it only reads may overlap each other.
    - While a call runs, nothing else writes to what it reads, or reads or writes what it writes.

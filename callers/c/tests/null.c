@@ -1,5 +1,5 @@
-/* What the calls do with null and length 0: as with an empty string or an empty batch. The header forbids null, since the
-   proof holds of pointers that point to something (docs/DECISIONS.md); this shows what a build of the library does with it nonetheless. */
+/* Null beside a length of 0 is an empty string, batch or buffer in each call, as the header says. The proof holds of pointers that point to
+   something (docs/DECISIONS.md), so this is tested of each build of the library. */
 #include <stdio.h>
 #include <stdlib.h>
 
