@@ -1,9 +1,10 @@
 /* PEP 440 for C: version numbers of Python packages, parsed, normalized, compared and matched by
    the proved library.
 
-   A version or a list is its bytes and their length: a string, which needs no zero at its end, or a
-   compiled form, bytes made once of a string (below). Every call takes either, but those of a
-   pattern or a single specifier (pep440_pattern, pep440_pattern_error, pep440_specifier,
+   A version or a list is passed as bytes and a length, with no zero at the end; for `const char *`
+   see the calls at the end of this header. The bytes are a string, or a compiled form, made once of
+   a string (below): bytes that begin with 4 or 5 are taken as one. Every call takes either, but
+   those of a pattern or a single specifier (pep440_pattern, pep440_pattern_error, pep440_specifier,
    pep440_specifier_error and pep440_compile_specifier), which take strings. Bytes that are neither
    are an invalid version or list. Each call returns a status. No call keeps a pointer, and none
    ends the process. Programs to begin with are in the folder examples of the release archive, and
@@ -282,11 +283,11 @@ uint8_t pep440_release_range_bounds(const uint8_t *list, size_t length, uint8_t 
    list that no string denotes, as `>=1.0+a`, but each version in them is one of a string.
 
    Bytes are never read beyond their length, whether they are compiled, cut, changed or chosen by an
-   attacker. pep440_compare of two compiled versions, pep440_contains of a compiled list and a
-   compiled version, and pep440_sort_key of a compiled version read them as they lie, and allocate
-   nothing: of bytes that begin as a compiled form and are none they write any result, or return the
-   status of an invalid one. All other calls reject such bytes. So give bytes of unknown origin to
-   pep440_normalize or pep440_normalize_list once. */
+   attacker. pep440_compare of two compiled versions and pep440_contains of a compiled list and a
+   compiled version read them as they lie, and allocate nothing: of bytes that begin as a compiled
+   form and are none they write any result, or return the status of an invalid one. All other calls
+   reject such bytes. So give bytes of unknown origin to pep440_normalize or pep440_normalize_list
+   once. */
 
 /* How many bytes suffice for the compiled form of a version or a list, and so for a sort key, by
    the length of its string. */

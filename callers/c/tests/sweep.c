@@ -90,6 +90,7 @@ static uint8_t version_error(Answer *answer) { return pep440_version_error(FIRST
 static uint8_t version_error_cut(Answer *answer) { return pep440_version_error(FIRST(cut), OUT); }
 static uint8_t parts_of(Answer *answer) { return pep440_parts_of(FIRST(longer), &answer->parts, answer->release, 8); }
 static uint8_t sort_key(Answer *answer) { return pep440_sort_key(FIRST(longer), OUT); }
+static uint8_t sort_key_cut(Answer *answer) { return pep440_sort_key(FIRST(cut), OUT); }
 static uint8_t word(Answer *answer) { return pep440_word(FIRST(packed), &answer->word); }
 static uint8_t word_not_packed(Answer *answer) { return pep440_word(FIRST(longer), &answer->word); }
 static uint8_t compile(Answer *answer) { return pep440_compile(FIRST(longer), OUT); }
@@ -228,10 +229,11 @@ static const Call GUESSING[] = {
     CALL(edit_error_max, PEP440_OK, 1)};
 
 /* Of compiled bytes alone, which are cut. */
-static const Call CUT[] = {CALL(normalize_cut, PEP440_INVALID_VERSION, 1), CALL(version_error_cut, PEP440_OK, 1), CALL(normalize_cut_list, PEP440_INVALID_LIST, 1), CALL(list_error_cut, PEP440_OK, 1)};
+static const Call CUT[] = {CALL(normalize_cut, PEP440_INVALID_VERSION, 1), CALL(version_error_cut, PEP440_OK, 1), CALL(sort_key_cut, PEP440_INVALID_VERSION, 1),
+                           CALL(normalize_cut_list, PEP440_INVALID_LIST, 1), CALL(list_error_cut, PEP440_OK, 1)};
 
 /* Calls of compiled forms alone that allocate nothing. */
-static const Call WITHOUT[] = {CALL(sort_key, PEP440_OK, 2), CALL(compare, PEP440_OK, 2), CALL(contains, PEP440_OK, 2), CALL(contains_not, PEP440_OK, 2)};
+static const Call WITHOUT[] = {CALL(compare, PEP440_OK, 2), CALL(contains, PEP440_OK, 2), CALL(contains_not, PEP440_OK, 2)};
 
 /* Wrong results of this call; `failed` counts the allocations that failed. */
 static int sweep(uint8_t (*call)(Answer *), uint8_t wanted, int may_guess, int *failed)
