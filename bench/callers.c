@@ -45,16 +45,18 @@ static Compiled compiled, next, list, one, dated, dated_next, dated_one, local, 
 static uint8_t compile(void) { return pep440_compile(TEXT("1.2.3"), out, sizeof out, &written); }
 static uint8_t compile_longer(void) { return pep440_compile(TEXT(LONGER), out, sizeof out, &written); }
 static uint8_t compile_list(void) { return pep440_compile_list(TEXT(LIST), out, sizeof out, &written); }
-static uint8_t normalize_compiled(void) { return pep440_normalize_compiled(OF(compiled), out, sizeof out, &written); }
-static uint8_t sort_key_compiled(void) { return pep440_sort_key_compiled(OF(compiled), out, sizeof out, &written); }
-static uint8_t compare_compiled(void) { return pep440_compare_compiled(OF(compiled), OF(next), &order); }
-static uint8_t contains_compiled(void) { return pep440_contains_compiled(OF(list), OF(compiled), &is, &early); }
-static uint8_t contains_compiled_one(void) { return pep440_contains_compiled(OF(one), OF(compiled), &is, &early); }
+static uint8_t normalize_compiled(void) { return pep440_normalize(OF(compiled), out, sizeof out, &written); }
+static uint8_t sort_key_compiled(void) { return pep440_sort_key(OF(compiled), out, sizeof out, &written); }
+static uint8_t compare_compiled(void) { return pep440_compare(OF(compiled), OF(next), &order); }
+static uint8_t contains_compiled(void) { return pep440_contains(OF(list), OF(compiled), &is, &early); }
+static uint8_t compare_mixed(void) { return pep440_compare(OF(compiled), TEXT("1.2.4"), &order); }
+static uint8_t contains_mixed(void) { return pep440_contains(OF(list), TEXT("1.2.3"), &is, &early); }
+static uint8_t contains_compiled_one(void) { return pep440_contains(OF(one), OF(compiled), &is, &early); }
 static uint8_t compile_dated(void) { return pep440_compile(TEXT("2024.10.20240101"), out, sizeof out, &written); }
 static uint8_t compile_local(void) { return pep440_compile(TEXT("1.0+cu118"), out, sizeof out, &written); }
-static uint8_t compare_compiled_dated(void) { return pep440_compare_compiled(OF(dated), OF(dated_next), &order); }
-static uint8_t contains_compiled_dated(void) { return pep440_contains_compiled(OF(dated_one), OF(dated), &is, &early); }
-static uint8_t contains_compiled_local(void) { return pep440_contains_compiled(OF(local_one), OF(local), &is, &early); }
+static uint8_t compare_compiled_dated(void) { return pep440_compare(OF(dated), OF(dated_next), &order); }
+static uint8_t contains_compiled_dated(void) { return pep440_contains(OF(dated_one), OF(dated), &is, &early); }
+static uint8_t contains_compiled_local(void) { return pep440_contains(OF(local_one), OF(local), &is, &early); }
 
 static void compile_all(void)
 {
@@ -88,6 +90,8 @@ static const struct {
              {"sort_key_compiled", sort_key_compiled, PEP440_OK},
              {"compare_compiled", compare_compiled, PEP440_OK},
              {"contains_compiled", contains_compiled, PEP440_OK},
+             {"compare_mixed", compare_mixed, PEP440_OK},
+             {"contains_mixed", contains_mixed, PEP440_OK},
              {"contains_compiled_one", contains_compiled_one, PEP440_OK},
              {"compile_dated", compile_dated, PEP440_OK},
              {"compile_local", compile_local, PEP440_OK},

@@ -1,27 +1,37 @@
-/* PEP 440 for C: version numbers of Python packages, parsed, normalized, compared and matched by the proved library.
+/* PEP 440 for C: version numbers of Python packages, parsed, normalized, compared and matched by
+   the proved library.
 
-   A version or a list is passed as bytes and a length, with no zero at the end; for `const char *` see the calls at the end of this header. The
-   bytes are a string, or a compiled form, made once of a string (below): bytes that begin with 4 or 5 are taken as one. Every call takes
-   either, but for pep440_specifier, pep440_pattern, pep440_pattern_error, pep440_compile_specifier and pep440_specifier_error, which take
-   strings. Bytes that are neither are an invalid version or list. Each call returns a status. No call keeps a pointer, and none ends the process. Programs to begin with are in the folder examples of the release
-   archive, and in callers/c/examples of the repository.
+   A version or a list is passed as bytes and a length, with no zero at the end; for `const char *`
+   see the calls at the end of this header. The bytes are a string, or a compiled form, made once of
+   a string (below): bytes that begin with 4 or 5 are taken as one. Every call takes either, but
+   those of a pattern or a single specifier (pep440_pattern, pep440_pattern_error, pep440_specifier,
+   pep440_specifier_error and pep440_compile_specifier), which take strings. Bytes that are neither
+   are an invalid version or list. Each call returns a status. No call keeps a pointer, and none
+   ends the process. Programs to begin with are in the folder examples of the release archive, and
+   in callers/c/examples of the repository.
 
    What the caller must keep, for nothing checks it:
-   - No pointer is null, not even if its length is 0 (docs/DECISIONS.md says why), and each points to as many items as its length says. For
-     an empty string pass any other pointer, as "".
-   - Each pointer is aligned as its type: a pep440_string, a pep440_parts, a size_t and a uint64_t to 8 bytes.
-   - What a call writes to overlaps nothing else that is passed to it. Strings that it only reads may overlap each other.
+   - Each pointer points to as many items as its length says. Only beside a length of 0 it may be
+     null, as `bytes` of a pep440_string may: that is an empty string, batch or buffer.
+   - Each pointer is aligned as its type: a pep440_string, a pep440_parts, a size_t and a uint64_t
+     to 8 bytes.
+   - What a call writes to overlaps nothing else that is passed to it. Strings that it only reads
+     may overlap each other.
    - While a call runs, nothing else writes to what it reads, or reads or writes what it writes.
-   - malloc, realloc and free belong together, and align as usual: blocks of 16, 32, .. bytes to 16, those of 8, 24, .. to 8.
+   - malloc, realloc and free belong together, and align as usual: blocks of 16, 32, .. bytes to
+     16, those of 8, 24, .. to 8.
    - No call is made from a signal handler, or from the forked child of a process with threads.
 
-   What a call writes to may be uninitialized before. Several threads may call at once, each with memory of its own to write to: the
-   library has no state. A call takes at most 16 KiB of stack, whatever the length of what it reads (tested: callers/c/tests/stack.c). The code is
-   for processors of the level x86-64-v2 and above.
+   What a call writes to may be uninitialized before. Several threads may call at once, each with
+   memory of its own to write to: the library has no state. A call takes at most 16 KiB of stack,
+   whatever the length of what it reads (tested: callers/c/tests/stack.c). The code is for
+   processors of the level x86-64-v2 and above.
 
-   PEP440_NO_ROOM: there is a result, and it needs more than the buffer has. It is not written; each call below says what is.
-   PEP440_OUT_OF_MEMORY: malloc or realloc failed; the same call may be made again. With any status but PEP440_OK and PEP440_NO_ROOM nothing
-   is written, except `index` of the batches with PEP440_INVALID_VERSION. */
+   PEP440_NO_ROOM: there is a result, and it needs more than the buffer has. It is not written; each
+   call below says what is.
+   PEP440_OUT_OF_MEMORY: malloc or realloc failed; the same call may be made again.
+   With any status but PEP440_OK and PEP440_NO_ROOM nothing is written, except `index` of the
+   batches with PEP440_INVALID_VERSION. */
 #ifndef PEP440_H
 #define PEP440_H
 
@@ -37,16 +47,20 @@ extern "C" {
 #define PEP440_VERSION 0x000300
 #define PEP440_VERSION_TEXT "0.3.0"
 
-/* The version of the library, as PEP440_VERSION. With the library of another soname nothing is promised. */
+/* The version of the library, as PEP440_VERSION. With the library of another soname nothing is
+   promised. */
 uint32_t pep440_version_of_library(void);
 
+/* PEP440_INVALID_LIST: bytes are no list of specifiers, or no single one, or an operator and a
+   version make none. PEP440_NUMBER_AT_MAX is only of a range or a cover: a bound would need a
+   number above 18446744073709551615. */
 enum {
     PEP440_OK = 0,
     PEP440_INVALID_VERSION = 1, /* bytes are no version; of pep440_compare the left ones */
-    PEP440_INVALID_LIST = 2,    /* bytes are no list of specifiers, or no single one; or an operator and a version make none */
+    PEP440_INVALID_LIST = 2,
     PEP440_OUT_OF_MEMORY = 3,
     PEP440_NO_ROOM = 4,
-    PEP440_NUMBER_AT_MAX = 5, /* only of a range or a cover: a bound would need a number above 18446744073709551615 */
+    PEP440_NUMBER_AT_MAX = 5,
     PEP440_INVALID_RIGHT = 6, /* only of pep440_compare: the right bytes are no version */
     PEP440_NOT_PACKED = 7,    /* only of pep440_word: the version has no word */
     PEP440_INVALID_CHANGE = 8 /* only of pep440_edit: a change is none, or cannot be made */
@@ -58,78 +72,100 @@ typedef struct {
     size_t length;
 } pep440_string;
 
-/* Writes the normalized form of a version, as `1.0a2` of ` V1.0-Alpha.2`, at the start of `out`, which has `size` bytes, and its length to
-   `written`. With PEP440_NO_ROOM `written` is the length that `out` must have, and `out` is unchanged: so a first call with a buffer of one
-   byte and size 0 asks for the length. */
-uint8_t pep440_normalize(const uint8_t *version, size_t length, uint8_t *out, size_t size, size_t *written);
-
-/* The same of a list of specifiers, as `>=1.16, <2.0` of `<2.0,>=1.16`: sorted by version, equal versions in the order given. The empty
-   string is a list, too, which contains each version. */
-uint8_t pep440_normalize_list(const uint8_t *list, size_t length, uint8_t *out, size_t size, size_t *written);
-
-/* Writes operator and version of each specifier of a list, as pep440_normalize_list prints them and in that order, as `>=`, `1.16`, `!=`, `1.5.*`, one
-   string after the other, at the start of `out`, and to `ends` where each of them ends, counted from the start of `out`; to `written` how many
-   bytes they are, and to `count` how many strings, two for each specifier. With PEP440_NO_ROOM (`size` is less than the bytes, or `ends_size` less
-   than the strings) `written` and `count` are written, and `out` and `ends` are unchanged. */
-uint8_t pep440_specifiers_of(const uint8_t *list, size_t length, uint8_t *out, size_t size, size_t *ends, size_t ends_size, size_t *written,
-                             size_t *count);
-
-/* Writes the specifier of an operator and a version, as `>=1.16`, as pep440_normalize_list prints it; `out` and `written` as for
-   pep440_normalize. For `==` and `!=` the version may end with `.*`. The operator is parsed first, and no blank stands beside it.
-   PEP440_INVALID_LIST if it is none of `==`, `!=`, `<=`, `>=`, `<`, `>`, `~=` and `===`, or does not go with the version: `.*` with another
-   operator, a local part with another one than `==`, `!=` and `===`, `~=` with a single release number. PEP440_INVALID_VERSION if `version`
-   is no version, with `.*` or without. */
-uint8_t pep440_specifier(const uint8_t *operator_string, size_t operator_length, const uint8_t *version, size_t length, uint8_t *out, size_t size,
+/* Writes the normalized form of a version, as `1.0a2` of ` V1.0-Alpha.2`, at the start of `out`,
+   which has `size` bytes, and its length to `written`. With PEP440_NO_ROOM `written` is the length
+   that `out` must have, and `out` is unchanged: so a first call with null and a size of 0 asks for
+   the length. */
+uint8_t pep440_normalize(const uint8_t *version, size_t length, uint8_t *out, size_t size,
                          size_t *written);
 
-/* Writes the normalized form of the version of a pattern, as `1.5` of `1.5.*` and of `1.5`, and to `star` whether `.*` follows it, 1 or 0; `out`
-   and `written` as for pep440_normalize. With PEP440_NO_ROOM `star` is written too. PEP440_INVALID_VERSION if it is no version, or `.*`
-   follows more than epoch and release, as in `1.0a1.*`. */
-uint8_t pep440_pattern(const uint8_t *pattern, size_t length, uint8_t *out, size_t size, size_t *written, uint8_t *star);
+/* The same of a list of specifiers, as `>=1.16, <2.0` of `<2.0,>=1.16`: sorted by version, equal
+   versions in the order given. The empty string is a list, too, which contains each version. */
+uint8_t pep440_normalize_list(const uint8_t *list, size_t length, uint8_t *out, size_t size,
+                              size_t *written);
 
-/* Writes the version that the changes make of a version, applied in order, as `1.0a1.post2` of `1.0a1` and `post=2`; `out` and `written` as for
-   pep440_normalize. A change is `release=` and numbers with dots between them; `epoch=` and a number; `pre=` and `a`, `b` or `rc` with a number;
-   `post=`, `dev=`, `min=` or `max=` and a number; `local=` and segments with dots between them; `only-release`; or `without-local`. After `=`
-   nothing stands for none, but for the epoch. `min` and `max` are the sentinels that pep440_ranges names; they are written after the version,
-   `~min0` and then `~max0`. With no changes the version is written.
+/* Writes operator and version of each specifier of a list, as pep440_normalize_list prints them and
+   in that order, as `>=`, `1.16`, `!=`, `1.5.*`, one string after the other, at the start of `out`,
+   and to `ends` where each of them ends, counted from the start of `out`; to `written` how many
+   bytes they are, and to `count` how many strings, two for each specifier. With PEP440_NO_ROOM
+   (`size` is less than the bytes, or `ends_size` less than the strings) `written` and `count` are
+   written, and `out` and `ends` are unchanged. */
+uint8_t pep440_specifiers_of(const uint8_t *list, size_t length, uint8_t *out, size_t size,
+                             size_t *ends, size_t ends_size, size_t *written, size_t *count);
 
-   The version is parsed first, then all changes, and then they are applied. PEP440_INVALID_CHANGE if one is none of these, or cannot be
-   applied to the version that those before it made: a release needs a number, `min` goes with neither a pre-release nor a developmental part,
-   `max` with neither a post-release nor a developmental part. pep440_edit_error writes which one. */
-uint8_t pep440_edit(const uint8_t *version, size_t length, const pep440_string *changes, size_t count, uint8_t *out, size_t size,
-                    size_t *written);
+/* Writes the specifier of an operator and a version, as `>=1.16`, as pep440_normalize_list prints
+   it; `out` and `written` as for pep440_normalize. For `==` and `!=` the version may end with `.*`.
+   The operator is parsed first, and no blank stands beside it. PEP440_INVALID_LIST if it is none of
+   `==`, `!=`, `<=`, `>=`, `<`, `>`, `~=` and `===`, or does not go with the version: `.*` with
+   another operator, a local part with another one than `==`, `!=` and `===`, `~=` with a single
+   release number. PEP440_INVALID_VERSION if `version` is no version, with `.*` or without. */
+uint8_t pep440_specifier(const uint8_t *operator_string, size_t operator_length,
+                         const uint8_t *version, size_t length, uint8_t *out, size_t size,
+                         size_t *written);
 
-/* Writes why pep440_edit of the same version and changes writes nothing, in words, and 0 bytes if it writes a version: why the string is no
-   version, as pep440_version_error, or the number of the change, the first one being 1, and why, as `change 2: not a change`; `out` and
-   `written` as for pep440_normalize. */
-uint8_t pep440_edit_error(const uint8_t *version, size_t length, const pep440_string *changes, size_t count, uint8_t *out, size_t size,
-                          size_t *written);
+/* Writes the normalized form of the version of a pattern, as `1.5` of `1.5.*` and of `1.5`, and to
+   `star` whether `.*` follows it, 1 or 0; `out` and `written` as for pep440_normalize. With
+   PEP440_NO_ROOM `star` is written too. PEP440_INVALID_VERSION if it is no version, or `.*` follows
+   more than epoch and release, as in `1.0a1.*`. */
+uint8_t pep440_pattern(const uint8_t *pattern, size_t length, uint8_t *out, size_t size,
+                       size_t *written, uint8_t *star);
 
-/* Writes why bytes are no version, in words, and 0 bytes if they are one; `out` and `written` as for pep440_normalize. */
-uint8_t pep440_version_error(const uint8_t *version, size_t length, uint8_t *out, size_t size, size_t *written);
+/* Writes the version that the changes make of a version, applied in order, as `1.0a1.post2` of
+   `1.0a1` and `post=2`; `out` and `written` as for pep440_normalize. A change is `release=` and
+   numbers with dots between them; `epoch=` and a number; `pre=` and `a`, `b` or `rc` with a number;
+   `post=`, `dev=`, `min=` or `max=` and a number; `local=` and segments with dots between them;
+   `only-release`; or `without-local`. After `=` nothing stands for none, but for the epoch. `min`
+   and `max` are the sentinels that pep440_ranges names; they are written after the version, `~min0`
+   and then `~max0`. With no changes the version is written.
+
+   The version is parsed first, then all changes, and then they are applied. PEP440_INVALID_CHANGE
+   if one is none of these, or cannot be applied to the version that those before it made: a release
+   needs a number, `min` goes with neither a pre-release nor a developmental part, `max` with
+   neither a post-release nor a developmental part. pep440_edit_error writes which one. */
+uint8_t pep440_edit(const uint8_t *version, size_t length, const pep440_string *changes,
+                    size_t count, uint8_t *out, size_t size, size_t *written);
+
+/* Writes why pep440_edit of the same version and changes writes nothing, in words, and 0 bytes if
+   it writes a version: why the string is no version, as pep440_version_error, or the number of the
+   change, the first one being 1, and why, as `change 2: not a change`; `out` and `written` as for
+   pep440_normalize. */
+uint8_t pep440_edit_error(const uint8_t *version, size_t length, const pep440_string *changes,
+                          size_t count, uint8_t *out, size_t size, size_t *written);
+
+/* Writes why bytes are no version, in words, and 0 bytes if they are one; `out` and `written` as
+   for pep440_normalize. */
+uint8_t pep440_version_error(const uint8_t *version, size_t length, uint8_t *out, size_t size,
+                             size_t *written);
 
 /* The same of a pattern, as `1.5.*` or `1.5`. */
-uint8_t pep440_pattern_error(const uint8_t *pattern, size_t length, uint8_t *out, size_t size, size_t *written);
+uint8_t pep440_pattern_error(const uint8_t *pattern, size_t length, uint8_t *out, size_t size,
+                             size_t *written);
 
 /* The same of one specifier, as `>=1.16`. */
-uint8_t pep440_specifier_error(const uint8_t *specifier, size_t length, uint8_t *out, size_t size, size_t *written);
+uint8_t pep440_specifier_error(const uint8_t *specifier, size_t length, uint8_t *out, size_t size,
+                               size_t *written);
 
-/* Writes why bytes are no list of specifiers, in lines, and 0 bytes if they are one; `out` and `written` as for pep440_normalize. */
-uint8_t pep440_list_error(const uint8_t *list, size_t length, uint8_t *out, size_t size, size_t *written);
+/* Writes why bytes are no list of specifiers, in lines, and 0 bytes if they are one; `out` and
+   `written` as for pep440_normalize. */
+uint8_t pep440_list_error(const uint8_t *list, size_t length, uint8_t *out, size_t size,
+                          size_t *written);
 
-/* Writes to `order` whether the left version is below the right one (-1), equal to it (0) or above it (1). PEP440_INVALID_RIGHT if only the
-   right one is invalid. */
-uint8_t pep440_compare(const uint8_t *left, size_t left_length, const uint8_t *right, size_t right_length, int8_t *order);
+/* Writes to `order` whether the left version is below the right one (-1), equal to it (0) or above
+   it (1). PEP440_INVALID_RIGHT if only the right one is invalid. */
+uint8_t pep440_compare(const uint8_t *left, size_t left_length, const uint8_t *right,
+                       size_t right_length, int8_t *order);
 
-/* Writes to `contained` whether the list contains the version, 1 or 0: whether each of its specifiers does; and to `prerelease` whether the
-   version is a pre-release or a developmental release, 1 or 0, contained or not. Pre-releases are versions like others here: `>=1.0` contains
-   `2.0rc1`. So a caller that leaves them out (PEP 440, "Handling of pre-releases") looks at both, and finds by pep440_any_prerelease whether the
-   list names one. If both are invalid PEP440_INVALID_LIST is returned; of two compiled forms, either. */
-uint8_t pep440_contains(const uint8_t *list, size_t list_length, const uint8_t *version, size_t length, uint8_t *contained,
-                        uint8_t *prerelease);
+/* Writes to `contained` whether the list contains the version, 1 or 0: whether each of its
+   specifiers does; and to `prerelease` whether the version is a pre-release or a developmental
+   release, 1 or 0, contained or not. Pre-releases are versions like others here: `>=1.0` contains
+   `2.0rc1`. So a caller that leaves them out (PEP 440, "Handling of pre-releases") looks at both,
+   and finds by pep440_any_prerelease whether the list names one.
+   If both are invalid PEP440_INVALID_LIST is returned; of two compiled forms, either. */
+uint8_t pep440_contains(const uint8_t *list, size_t list_length, const uint8_t *version,
+                        size_t length, uint8_t *contained, uint8_t *prerelease);
 
-/* Writes to `any` whether the version of some specifier of the list is a pre-release or a developmental release, 1 or 0: of any operator,
-   also `!=`, which `packaging` does not count. */
+/* Writes to `any` whether the version of some specifier of the list is a pre-release or a
+   developmental release, 1 or 0: of any operator, also `!=`, which `packaging` does not count. */
 uint8_t pep440_any_prerelease(const uint8_t *list, size_t length, uint8_t *any);
 
 /* The kind of a pre-release. */
@@ -148,100 +184,134 @@ typedef struct {
     uint8_t has_local;
 } pep440_parts;
 
-/* Writes the parts of a version, and the numbers of its release at the start of `release`, which has room for `size` numbers. With
-   PEP440_NO_ROOM `parts` is written, with the `release_length` that is needed, and `release` is unchanged. */
-uint8_t pep440_parts_of(const uint8_t *version, size_t length, pep440_parts *parts, uint64_t *release, size_t size);
+/* Writes the parts of a version, and the numbers of its release at the start of `release`, which
+   has room for `size` numbers. With PEP440_NO_ROOM `parts` is written, with the `release_length`
+   that is needed, and `release` is unchanged. */
+uint8_t pep440_parts_of(const uint8_t *version, size_t length, pep440_parts *parts,
+                        uint64_t *release, size_t size);
 
-/* Writes the sort key of a version; `out` and `written` as for pep440_normalize. Keys compared byte by byte (memcmp, then the shorter one
-   first) have the order of their versions, and are equal exactly if the versions are. No key is a prefix of another one, so a key may be
-   followed by other bytes in an index, and these count only between equal versions. A key may be stored and compared by whatever compares
-   bytes: the key of a version is the same in each release. It cannot be parsed back, so store the version beside it. */
-uint8_t pep440_sort_key(const uint8_t *version, size_t length, uint8_t *out, size_t size, size_t *written);
+/* Writes the sort key of a version; `out` and `written` as for pep440_normalize. Keys compared byte
+   by byte (memcmp, then the shorter one first) have the order of their versions, and are equal
+   exactly if the versions are. No key is a prefix of another one, so a key may be followed by other
+   bytes in an index, and these count only between equal versions. A key may be stored and compared
+   by whatever compares bytes: the key of a version is the same in each release. It cannot be parsed
+   back, so store the version beside it. */
+uint8_t pep440_sort_key(const uint8_t *version, size_t length, uint8_t *out, size_t size,
+                        size_t *written);
 
-/* Writes the word of a version: as numbers words have the order of their versions, and are equal exactly if the versions are.
-   PEP440_NOT_PACKED if the version has none. It has one if its epoch is 0, it has no local part, its release has at most four numbers, the
-   first at most 65535 and the others at most 255, and it has at most one of a pre-release, a post-release and a developmental part, whose number
-   is at most 2097151. A word may be stored, as a sort key may; words and sort keys are not compared with each other. */
+/* Writes the word of a version: as numbers words have the order of their versions, and are equal
+   exactly if the versions are. PEP440_NOT_PACKED if the version has none. It has one if its epoch
+   is 0, it has no local part, its release has at most four numbers, the first at most 65535 and the
+   others at most 255, and it has at most one of a pre-release, a post-release and a developmental
+   part, whose number is at most 2097151. A word may be stored, as a sort key may; words and sort
+   keys are not compared with each other. */
 uint8_t pep440_word(const uint8_t *version, size_t length, uint64_t *word);
 
-/* Writes the range of the list: its segments in ascending order, a line each, each line with a newline at its end; the one line `empty` if
-   there are none. `out` and `written` as for pep440_normalize. A line is `[1.0, 1.5)`: two bounds, each beside a square bracket if it is in
-   the segment, or a round one if it is not. `*` is no bound, as in `(*, 2.0]`. A bound may have a sentinel after its version, which
-   no string of a version has: `2.0~min0` lies below each version of release 2.0, `2.0.dev0` too, as in `[1.0, 2.0~min0)` of `>=1.0,<2.0`;
-   `1.0~max0` lies above each post-release and local version of `1.0`, and below `1.0.1`, as in `(1.0~max0, *)` of `>1.0`.
+/* Writes the range of the list: its segments in ascending order, a line each, each line with a
+   newline at its end; the one line `empty` if there are none. `out` and `written` as for
+   pep440_normalize. A line is `[1.0, 1.5)`: two bounds, each beside a square bracket if it is in
+   the segment, or a round one if it is not. `*` is no bound, as in `(*, 2.0]`. A bound may have a
+   sentinel after its version, which no string of a version has: `2.0~min0` lies below each version
+   of release 2.0, `2.0.dev0` too, as in `[1.0, 2.0~min0)` of `>=1.0,<2.0`; `1.0~max0` lies above
+   each post-release and local version of `1.0`, and below `1.0.1`, as in `(1.0~max0, *)` of `>1.0`.
 
-   A range goes by the order of versions, so it is not always what pep440_contains matches: `<=1.0` contains `1.0+cu1`, which its range ends
-   below, and `===1.0` does not contain `1.0.0`, which its range has. docs/PROMISES.md, "Conversions into ranges", says when both agree.
+   A range goes by the order of versions, so it is not always what pep440_contains matches: `<=1.0`
+   contains `1.0+cu1`, which its range ends below, and `===1.0` does not contain `1.0.0`, which its
+   range has. docs/PROMISES.md, "Conversions into ranges", says when both agree.
 
-   PEP440_NUMBER_AT_MAX if a bound would need a number above 18446744073709551615, as the end of `==18446744073709551615.*`. */
-uint8_t pep440_ranges(const uint8_t *list, size_t length, uint8_t *out, size_t size, size_t *written);
+   PEP440_NUMBER_AT_MAX if a bound would need a number above 18446744073709551615, as the end of
+   `==18446744073709551615.*`. */
+uint8_t pep440_ranges(const uint8_t *list, size_t length, uint8_t *out, size_t size,
+                      size_t *written);
 
-/* Writes the range of the list as sort keys, two for each segment in ascending order, one after the other, at the start of `out`, and to `ends`
-   where each of them ends, counted from the start of `out`; to `written` how many bytes they are, and to `count` how many keys. A version is in
-   a segment exactly if its sort key is at least the first of the two and below the second, compared as pep440_sort_key says: so an index over
-   stored keys finds the versions of a range. A key of no bytes is no bound: of the first each key is at least that, of the second leave out the
-   comparison. Keys of bounds are not always sort keys of versions. With PEP440_NO_ROOM (`size` is less than the bytes, or `ends_size` less than
-   the keys) `written` and `count` are written, and `out` and `ends` are unchanged. PEP440_NUMBER_AT_MAX as for pep440_ranges. */
-uint8_t pep440_range_keys(const uint8_t *list, size_t length, uint8_t *out, size_t size, size_t *ends, size_t ends_size, size_t *written,
-                          size_t *count);
+/* Writes the range of the list as sort keys, two for each segment in ascending order, one after the
+   other, at the start of `out`, and to `ends` where each of them ends, counted from the start of
+   `out`; to `written` how many bytes they are, and to `count` how many keys. A version is in a
+   segment exactly if its sort key is at least the first of the two and below the second, compared
+   as pep440_sort_key says: so an index over stored keys finds the versions of a range. A key of no
+   bytes is no bound: of the first each key is at least that, of the second leave out the
+   comparison. Keys of bounds are not always sort keys of versions. With PEP440_NO_ROOM (`size` is
+   less than the bytes, or `ends_size` less than the keys) `written` and `count` are written, and
+   `out` and `ends` are unchanged. PEP440_NUMBER_AT_MAX as for pep440_ranges. */
+uint8_t pep440_range_keys(const uint8_t *list, size_t length, uint8_t *out, size_t size,
+                          size_t *ends, size_t ends_size, size_t *written, size_t *count);
 
-/* The same of the cover of the list: a range that has each version that the list contains, local versions too, if a string denotes the list, and maybe others; what is found
-   by it is then asked of pep440_contains or pep440_filter. The range of pep440_range_keys may leave out versions that the list contains. */
-uint8_t pep440_cover_keys(const uint8_t *list, size_t length, uint8_t *out, size_t size, size_t *ends, size_t ends_size, size_t *written,
-                          size_t *count);
+/* The same of the cover of the list: a range that has each version that the list contains, local
+   versions too, if a string denotes the list, and maybe others; what is found by it is then asked
+   of pep440_contains or
+   pep440_filter. The range of pep440_range_keys may leave out versions that the list contains. */
+uint8_t pep440_cover_keys(const uint8_t *list, size_t length, uint8_t *out, size_t size,
+                          size_t *ends, size_t ends_size, size_t *written, size_t *count);
 
 /* The first byte of a bound: there is none; or its version is in the segment, or is not. */
 enum { PEP440_NO_BOUND = 0, PEP440_INCLUDED = 1, PEP440_EXCLUDED = 2 };
 
-/* Writes the range of the list as bounds, two for each segment in ascending order, as pep440_range_keys writes keys; to `count` how many bounds
-   there are. A bound is just PEP440_NO_BOUND, or PEP440_INCLUDED or PEP440_EXCLUDED and then bytes of its version as in compiled form (below), its
-   sentinel among them. So the bounds of `>=1.0,<2.0` are PEP440_INCLUDED and the compiled form of `1.0`, and PEP440_EXCLUDED and the bytes of
-   `2.0~min0`. Such bytes with a sentinel are no compiled version, though they are ordered as those are. */
-uint8_t pep440_range_bounds(const uint8_t *list, size_t length, uint8_t *out, size_t size, size_t *ends, size_t ends_size, size_t *written,
-                            size_t *count);
+/* Writes the range of the list as bounds, two for each segment in ascending order, as
+   pep440_range_keys writes keys; to `count` how many bounds there are. A bound is just
+   PEP440_NO_BOUND, or PEP440_INCLUDED or PEP440_EXCLUDED and then bytes of its version as in
+   compiled form (below), its sentinel among them. So the bounds of `>=1.0,<2.0` are PEP440_INCLUDED
+   and the compiled form of `1.0`, and PEP440_EXCLUDED and the bytes of `2.0~min0`. Such bytes with
+   a sentinel are no compiled version, though they are ordered as those are. */
+uint8_t pep440_range_bounds(const uint8_t *list, size_t length, uint8_t *out, size_t size,
+                            size_t *ends, size_t ends_size, size_t *written, size_t *count);
 
-/* The same of the release-only range of the list, which is meant for versions that are just a release, as Python's own. Of each
-   specifier only the operator and the release count, so no bound has an epoch, a suffix or a sentinel: the bounds of `>1!1.0rc1` are
-   PEP440_EXCLUDED and the compiled form of `1.0`, and PEP440_NO_BOUND. */
-uint8_t pep440_release_range_bounds(const uint8_t *list, size_t length, uint8_t *out, size_t size, size_t *ends, size_t ends_size,
-                                    size_t *written, size_t *count);
+/* The same of the release-only range of the list, which is meant for versions that are just a
+   release, as Python's own. Of each specifier only the operator and the release count, so no bound
+   has an epoch, a suffix or a sentinel: the bounds of `>1!1.0rc1` are PEP440_EXCLUDED and the
+   compiled form of `1.0`, and PEP440_NO_BOUND. */
+uint8_t pep440_release_range_bounds(const uint8_t *list, size_t length, uint8_t *out, size_t size,
+                                    size_t *ends, size_t ends_size, size_t *written, size_t *count);
 
-/* ---- compiled versions and lists: bytes made once of a string, which the calls on versions and lists take in place of it
+/* ---- compiled versions and lists: bytes made once of a string, which calls take in place of it
 
-   Compiled bytes are plain bytes: keep them in memory, in a file or in a column, copy them, share them among threads, give them to another
-   process or machine. There is no handle, and nothing to free. Their first byte is a format, with which no string of a version or a list
-   begins, and the bytes of a format never change between releases: what 0.3.0 or a later release wrote, each later one takes. Bytes of a format that a
-   library does not know are an invalid version or list, as are formats 1, 2 and 3, which earlier libraries wrote.
+   Compiled bytes are plain bytes: keep them in memory, in a file or in a column, copy them, share
+   them among threads, give them to another process or machine. There is no handle, and nothing to
+   free. Their first byte is a format, with which no string of a version or a list begins, and the
+   bytes of a format never change between releases: what 0.3.0 or a later
+   release wrote, each later one takes.
+   Bytes of a format that a library does not know are an invalid version or list, as are formats 1,
+   2 and 3, which earlier libraries wrote.
 
-   A compiled version is the byte 4, the sort key of the version, and a byte 1 for each zero that ends its release, which is all that a sort key
-   leaves out. A sort key ends with a byte 0. So versions are ordered as the sort keys in their bytes are, two versions are equal
-   exactly if their sort keys are, and a hash of a sort key is one of the version. A compiled list is the byte 5, and of each specifier 16 and the
-   number of its operator (below), and then its version without the byte 4. `1.0` takes 10 bytes, `2024.10.20240101` 17; no version and no
-   list takes more than PEP440_COMPILED_BOUND of the length of its string.
+   A compiled version is the byte 4, the sort key of the version, and a byte 1 for each zero that
+   ends its release, which is all that a sort key leaves out. A sort key ends with a byte 0. So
+   versions are ordered as the sort keys in their bytes are, two versions are equal exactly if their
+   sort keys are, and a hash of a sort key is one of the version. A compiled list is the byte 5, and
+   of each specifier 16 and the number of its operator (below), and then its version without the
+   byte 4. `1.0` takes 10 bytes, `2024.10.20240101` 17; no version and no list takes more than
+   PEP440_COMPILED_BOUND of the length of its string.
 
-   Bytes denote at most one version or one list, and two strings have the same compiled bytes exactly if they have the same normal form: `1.0` and
-   ` v1.0` have the same bytes, and `1.0.0` has others, though the versions are equal. Bytes that pep440_compile_list did not write may denote a
+   Bytes denote at most one version or one list, and two strings have the same compiled bytes
+   exactly if they have the same normal form: `1.0` and ` v1.0` have the same bytes, and `1.0.0` has
+   others, though the versions are equal. Bytes that pep440_compile_list did not write may denote a
    list that no string denotes, as `>=1.0+a`, but each version in them is one of a string.
 
-   Bytes are never read beyond their length, whether they are compiled, cut, changed or chosen by an attacker. pep440_compare of two compiled
-   versions and pep440_contains of a compiled list and a compiled version read them as they lie, and allocate nothing: of bytes that begin as
-   a compiled form and are none they write any result, or return the status of an invalid one. All other calls reject such bytes. So give
-   bytes of unknown origin to pep440_normalize or pep440_normalize_list once. */
+   Bytes are never read beyond their length, whether they are compiled, cut, changed or chosen by an
+   attacker. pep440_compare of two compiled versions and pep440_contains of a compiled list and a
+   compiled version read them as they lie, and allocate nothing: of bytes that begin as a compiled
+   form and are none they write any result, or return the status of an invalid one. All other calls
+   reject such bytes. So give bytes of unknown origin to pep440_normalize or pep440_normalize_list
+   once. */
 
-/* How many bytes suffice for the compiled form of a version or a list, or for a sort key, by the length of its string. */
+/* How many bytes suffice for the compiled form of a version or a list, and so for a sort key, by
+   the length of its string. */
 #define PEP440_COMPILED_BOUND(length) (10 + 3 * (size_t)(length))
 
 /* Writes the compiled form of a version; `out` and `written` as for pep440_normalize. */
-uint8_t pep440_compile(const uint8_t *version, size_t length, uint8_t *out, size_t size, size_t *written);
+uint8_t pep440_compile(const uint8_t *version, size_t length, uint8_t *out, size_t size,
+                       size_t *written);
 
 /* Writes the compiled form of a list of specifiers; `out` and `written` as for pep440_normalize. */
-uint8_t pep440_compile_list(const uint8_t *list, size_t length, uint8_t *out, size_t size, size_t *written);
+uint8_t pep440_compile_list(const uint8_t *list, size_t length, uint8_t *out, size_t size,
+                            size_t *written);
 
-/* Writes the compiled form of the list of one specifier, as `>=1.16`; `out` and `written` as for pep440_normalize. PEP440_INVALID_LIST if the
-   string is no specifier, as the empty string and `>=1.16,<2.0`. */
-uint8_t pep440_compile_specifier(const uint8_t *specifier, size_t length, uint8_t *out, size_t size, size_t *written);
+/* Writes the compiled form of the list of one specifier, as `>=1.16`; `out` and `written` as for
+   pep440_normalize. PEP440_INVALID_LIST if the string is no specifier, as the empty string and
+   `>=1.16,<2.0`. */
+uint8_t pep440_compile_specifier(const uint8_t *specifier, size_t length, uint8_t *out, size_t size,
+                                 size_t *written);
 
-/* The operators; in compiled lists 16 is added to their numbers. The star forms are `==` and `!=` with a version and `.*`. */
+/* The operators; in compiled lists 16 is added to their numbers. The star forms are `==` and `!=`
+   with a version and `.*`. */
 enum {
     PEP440_EQUAL = 0,
     PEP440_EQUAL_STAR = 1,
@@ -255,36 +325,48 @@ enum {
     PEP440_GREATER_EQUAL = 9
 };
 
-/* Writes why an operator of these and a version make no specifier, in words, and 0 bytes if they do; `out` and `written` as for
-   pep440_normalize. Unless `star` is 0, `.*` follows the version, which goes only with PEP440_EQUAL and PEP440_NOT_EQUAL. PEP440_INVALID_LIST
-   if the number is no operator's. */
-uint8_t pep440_build_error(uint8_t operator_number, const uint8_t *version, size_t length, uint8_t star, uint8_t *out, size_t size,
-                           size_t *written);
+/* Writes why an operator of these and a version make no specifier, in words, and 0 bytes if they
+   do; `out` and `written` as for pep440_normalize. Unless `star` is 0, `.*` follows the version,
+   which goes only with PEP440_EQUAL and PEP440_NOT_EQUAL. PEP440_INVALID_LIST if the number is no
+   operator's. */
+uint8_t pep440_build_error(uint8_t operator_number, const uint8_t *version, size_t length,
+                           uint8_t star, uint8_t *out, size_t size, size_t *written);
 
 /* ---- batches: many strings in one call */
 
-/* The mark of a string of a filter; the last is a match that is a pre-release or a developmental release. */
-enum { PEP440_NO_MATCH = 0, PEP440_MATCH = 1, PEP440_NOT_A_VERSION = 2, PEP440_PRERELEASE_MATCH = 3 };
+/* The mark of a string of a filter; the last is a match that is a pre-release or a developmental
+   release. */
+enum {
+    PEP440_NO_MATCH = 0,
+    PEP440_MATCH = 1,
+    PEP440_NOT_A_VERSION = 2,
+    PEP440_PRERELEASE_MATCH = 3
+};
 
-/* Writes a mark for each string, in order: whether the list contains its version, and whether this is then a pre-release or a developmental
-   release, or that it is no version. PEP440_NO_ROOM if `size` is less than `count`; then nothing is written. */
-uint8_t pep440_filter(const uint8_t *list, size_t list_length, const pep440_string *strings, size_t count, uint8_t *marks, size_t size);
+/* Writes a mark for each string, in order: whether the list contains its version, and whether this
+   is then a pre-release or a developmental release, or that it is no version. PEP440_NO_ROOM if
+   `size` is less than `count`; then nothing is written. */
+uint8_t pep440_filter(const uint8_t *list, size_t list_length, const pep440_string *strings,
+                      size_t count, uint8_t *marks, size_t size);
 
-/* Writes the indices of the strings, from 0, in the order of their versions; equal ones in the order given. With PEP440_INVALID_VERSION
-   only `index` is written, the index of the first string that is no version. PEP440_NO_ROOM if all are versions and `size` is less than
-   `count`; then nothing is written. */
-uint8_t pep440_sort(const pep440_string *strings, size_t count, size_t *indices, size_t size, size_t *index);
+/* Writes the indices of the strings, from 0, in the order of their versions; equal ones in the
+   order given. With PEP440_INVALID_VERSION only `index` is written, the index of the first string
+   that is no version. PEP440_NO_ROOM if all are versions and `size` is less than `count`; then
+   nothing is written. */
+uint8_t pep440_sort(const pep440_string *strings, size_t count, size_t *indices, size_t size,
+                    size_t *index);
 
-/* Writes the sort keys of the strings, one after the other, at the start of `out`, and to `ends` where each of them ends, counted from the
-   start of `out`; to `written` how many bytes they are. `index` as for pep440_sort. With PEP440_NO_ROOM (`size` is less than that, or
-   `ends_size` less than `count`) `written` is written, and `out` and `ends` are unchanged. */
-uint8_t pep440_sort_keys(const pep440_string *strings, size_t count, uint8_t *out, size_t size, size_t *ends, size_t ends_size,
-                         size_t *written, size_t *index);
+/* Writes the sort keys of the strings, one after the other, at the start of `out`, and to `ends`
+   where each of them ends, counted from the start of `out`; to `written` how many bytes they are.
+   `index` as for pep440_sort. With PEP440_NO_ROOM (`size` is less than that, or `ends_size` less
+   than `count`) `written` is written, and `out` and `ends` are unchanged. */
+uint8_t pep440_sort_keys(const pep440_string *strings, size_t count, uint8_t *out, size_t size,
+                         size_t *ends, size_t ends_size, size_t *written, size_t *index);
 
 /* ---- strings with a zero at their end
 
-   The calls that programs make most, over `const char *`: these are part of the header, and no calls of the library. A compiled form has
-   zero bytes, so they do not take one. */
+   The calls that programs make most, over `const char *`: these are part of the header,
+   and no calls of the library. A compiled form has zero bytes, so they do not take one. */
 
 #if defined(__cplusplus) || (defined(__STDC_VERSION__) && __STDC_VERSION__ >= 199901L)
 #define PEP440_INLINE static inline
@@ -332,37 +414,42 @@ PEP440_INLINE pep440_string pep440_string_of(const char *text)
 
 PEP440_INLINE uint8_t pep440_compare_strings(const char *left, const char *right, int8_t *order)
 {
-    return pep440_compare((const uint8_t *)left, strlen(left), (const uint8_t *)right, strlen(right), order);
+    return pep440_compare((const uint8_t *)left, strlen(left), (const uint8_t *)right,
+                          strlen(right), order);
 }
 
-PEP440_INLINE uint8_t pep440_contains_string(const char *list, const char *version, uint8_t *contained, uint8_t *prerelease)
+PEP440_INLINE uint8_t pep440_contains_string(const char *list, const char *version,
+                                             uint8_t *contained, uint8_t *prerelease)
 {
-    return pep440_contains((const uint8_t *)list, strlen(list), (const uint8_t *)version, strlen(version), contained, prerelease);
+    return pep440_contains((const uint8_t *)list, strlen(list), (const uint8_t *)version,
+                           strlen(version), contained, prerelease);
 }
 
 /* Writes a zero after the normalized form, and not its length. */
 PEP440_INLINE uint8_t pep440_normalize_string(const char *version, char *out, size_t size)
 {
     size_t written;
-    uint8_t status = pep440_normalize((const uint8_t *)version, strlen(version), (uint8_t *)out, size ? size - 1 : 0, &written);
-    if (status == PEP440_OK && !size)
-        return PEP440_NO_ROOM;
+    uint8_t status = pep440_normalize((const uint8_t *)version, strlen(version), (uint8_t *)out,
+                                      size ? size - 1 : 0, &written);
     if (status == PEP440_OK)
         out[written] = 0;
     return status;
 }
 
-PEP440_INLINE uint8_t pep440_sort_key_string(const char *version, uint8_t *out, size_t size, size_t *written)
+PEP440_INLINE uint8_t pep440_sort_key_string(const char *version, uint8_t *out, size_t size,
+                                         size_t *written)
 {
     return pep440_sort_key((const uint8_t *)version, strlen(version), out, size, written);
 }
 
-PEP440_INLINE uint8_t pep440_compile_string(const char *version, uint8_t *out, size_t size, size_t *written)
+PEP440_INLINE uint8_t pep440_compile_string(const char *version, uint8_t *out, size_t size,
+                                            size_t *written)
 {
     return pep440_compile((const uint8_t *)version, strlen(version), out, size, written);
 }
 
-PEP440_INLINE uint8_t pep440_compile_list_string(const char *list, uint8_t *out, size_t size, size_t *written)
+PEP440_INLINE uint8_t pep440_compile_list_string(const char *list, uint8_t *out, size_t size,
+                                                 size_t *written)
 {
     return pep440_compile_list((const uint8_t *)list, strlen(list), out, size, written);
 }

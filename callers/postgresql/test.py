@@ -298,7 +298,7 @@ def test_encodings(server):
 
 
 def library():
-    found = ctypes.CDLL(f"{PREFIX}/lib/libpep440.so.0")
+    found = ctypes.CDLL(f"{PREFIX}/lib/libpep440.so")
     room, written = ctypes.create_string_buffer(100_000), ctypes.c_size_t()
 
     def normal(call, text):

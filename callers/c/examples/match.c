@@ -1,37 +1,36 @@
 /* Prints which versions a list of specifiers contains.
 
-   $ ./match '>=1.16, <2.0' 1.15 1.16.0 1.20rc1 2.0 latest
+   $ ./match '>=1.16, <2.0' 1.15 1.16.0 1.20rc1 latest
    1.15: no
    1.16.0: yes
    1.20rc1: yes, a pre-release
-   2.0: no
    latest: not a version
    $ ./match '>=1.16; <2.0' 1.19
-   match: not a list of specifiers: >=1.16; <2.0 */
+   match: >=1.16; <2.0: not a list of specifiers */
 #include <err.h>
 #include <stdio.h>
 #include <stdlib.h>
-#include <string.h>
 
 #include "pep440.h"
 
 int main(int count, char **words)
 {
     static const char *const answers[] = {"no", "yes", "not a version", "yes, a pre-release"}; /* by mark */
+    const pep440_string list = pep440_string_of(count < 3 ? "" : words[1]);
+    pep440_string *versions = calloc((size_t)count, sizeof *versions);
+    uint8_t *marks = calloc((size_t)count, 1), status = PEP440_OUT_OF_MEMORY;
+    int each;
     if (count < 3)
         errx(EXIT_FAILURE, "usage: match LIST VERSION..");
-    size_t many = (size_t)count - 2;
-    pep440_string *versions = calloc(many, sizeof *versions);
-    uint8_t *marks = malloc(many);
-    if (!versions || !marks)
-        errx(EXIT_FAILURE, "out of memory");
-    for (size_t each = 0; each < many; each++)
-        versions[each] = (pep440_string){(const uint8_t *)words[each + 2], strlen(words[each + 2])};
-    uint8_t status = pep440_filter((const uint8_t *)words[1], strlen(words[1]), versions, many, marks, many);
+    for (each = 2; versions && each < count; each++)
+        versions[each] = pep440_string_of(words[each]);
+    if (versions && marks)
+        status = pep440_filter(list.bytes, list.length, versions + 2, (size_t)count - 2, marks + 2, (size_t)count - 2);
     if (status != PEP440_OK)
-        errx(EXIT_FAILURE, "%s: %s", status == PEP440_INVALID_LIST ? "not a list of specifiers" : "out of memory", words[1]);
-    for (size_t each = 0; each < many; each++)
-        printf("%s: %s\n", words[each + 2], answers[marks[each]]);
+        errx(EXIT_FAILURE, "%s: %s", words[1], pep440_status_text(status));
+    for (each = 2; each < count; each++)
+        printf("%s: %s\n", words[each], answers[marks[each]]);
     free(versions);
     free(marks);
+    return EXIT_SUCCESS;
 }

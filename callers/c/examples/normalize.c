@@ -8,25 +8,22 @@
 #include <err.h>
 #include <stdio.h>
 #include <stdlib.h>
-#include <string.h>
 
 #include "pep440.h"
 
 int main(int count, char **words)
 {
-    uint8_t out[1024];
-    for (int each = 1; each < count; each++) {
-        const uint8_t *version = (const uint8_t *)words[each];
-        size_t length = strlen(words[each]), written;
-        uint8_t status = pep440_normalize(version, length, out, sizeof out, &written);
-        int is_version = status != PEP440_INVALID_VERSION;
-        if (!is_version)
-            status = pep440_version_error(version, length, out, sizeof out, &written);
+    char out[1024];
+    size_t written;
+    int each;
+    for (each = 1; each < count; each++) {
+        const pep440_string version = pep440_string_of(words[each]);
+        uint8_t status = pep440_normalize_string(words[each], out, sizeof out);
+        if (status == PEP440_INVALID_VERSION && !pep440_version_error(version.bytes, version.length, (uint8_t *)out, sizeof out, &written))
+            errx(EXIT_FAILURE, "%s: %.*s", words[each], (int)written, out);
         if (status != PEP440_OK)
-            errx(EXIT_FAILURE, "%s: %s", words[each], status == PEP440_NO_ROOM ? "too long" : "out of memory");
-        if (!is_version)
-            errx(EXIT_FAILURE, "%s: %.*s", words[each], (int)written, (const char *)out);
-        printf("%.*s\n", (int)written, (const char *)out);
+            errx(EXIT_FAILURE, "%s: %s", words[each], pep440_status_text(status));
+        puts(out);
     }
     return EXIT_SUCCESS;
 }

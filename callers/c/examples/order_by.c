@@ -8,28 +8,27 @@
 #include <err.h>
 #include <stdio.h>
 #include <stdlib.h>
-#include <string.h>
 
 #include "pep440.h"
 
 int main(void)
 {
-    char line[4096];
-    uint8_t text[4096], key[8192];
-    size_t written = 0, key_length = 0;
-    printf("CREATE TABLE releases (version TEXT, key BLOB);\nCREATE INDEX by_key ON releases (key);\nBEGIN;\n");
+    char line[4096], version[4096];
+    uint8_t key[PEP440_COMPILED_BOUND(4096)];
+    size_t length, each;
+    puts("CREATE TABLE releases (version TEXT, key BLOB);\nCREATE INDEX by_key ON releases (key);\nBEGIN;");
     while (fgets(line, sizeof line, stdin)) {
-        size_t length = strcspn(line, "\n");
-        uint8_t status = pep440_sort_key((const uint8_t *)line, length, key, sizeof key, &key_length);
+        uint8_t status = pep440_normalize_string(line, version, sizeof version);
         if (status == PEP440_OK)
-            status = pep440_normalize((const uint8_t *)line, length, text, sizeof text, &written);
+            status = pep440_sort_key_string(line, key, sizeof key, &length);
         if (status != PEP440_OK)
-            errx(EXIT_FAILURE, "%.*s: %s", (int)length, line, status == PEP440_INVALID_VERSION ? "not a version" : "too long, or out of memory");
+            errx(EXIT_FAILURE, "%.*s: %s", (int)strcspn(line, "\n"), line, pep440_status_text(status));
         /* No normal form holds a quote. */
-        printf("INSERT INTO releases VALUES ('%.*s', x'", (int)written, (const char *)text);
-        for (size_t place = 0; place < key_length; place++)
-            printf("%02x", key[place]);
-        printf("');\n");
+        printf("INSERT INTO releases VALUES ('%s', x'", version);
+        for (each = 0; each < length; each++)
+            printf("%02x", key[each]);
+        puts("');");
     }
-    printf("COMMIT;\nSELECT version FROM releases ORDER BY key, rowid;\n");
+    puts("COMMIT;\nSELECT version FROM releases ORDER BY key, rowid;");
+    return EXIT_SUCCESS;
 }

@@ -1,37 +1,37 @@
-/* Prints versions in order, each as it was given.
+/* Prints the lines of standard input, a million at most, in the order of their versions, and no empty lines.
 
-   $ ./sort 1.10 1.9 v1.10-RC1 1.0.dev1
+   $ printf '1.10\n1.9\nv1.10-RC1\n1.0.dev1\n' | ./sort
    1.0.dev1
    1.9
    v1.10-RC1
    1.10
-   $ ./sort 1.10 latest
+   $ printf '1.10\nlatest\n' | ./sort
    sort: latest: not a version */
 #include <err.h>
 #include <stdio.h>
 #include <stdlib.h>
-#include <string.h>
 
 #include "pep440.h"
 
-int main(int count, char **words)
+enum { MOST = 1000000, BYTES = 1 << 26 };
+
+int main(void)
 {
-    if (count < 2)
-        errx(EXIT_FAILURE, "usage: sort VERSION..");
-    size_t many = (size_t)count - 1, wrong;
-    pep440_string *versions = calloc(many, sizeof *versions);
-    size_t *indices = calloc(many, sizeof *indices);
-    if (!versions || !indices)
-        errx(EXIT_FAILURE, "out of memory");
-    for (size_t each = 0; each < many; each++)
-        versions[each] = (pep440_string){(const uint8_t *)words[each + 1], strlen(words[each + 1])};
-    uint8_t status = pep440_sort(versions, many, indices, many, &wrong);
+    static char text[BYTES + 1], *line;
+    static pep440_string versions[MOST];
+    static size_t indices[MOST], count, each, invalid;
+    size_t length = fread(text, 1, BYTES, stdin);
+    uint8_t status;
+    if (strlen(text) < length || length == BYTES)
+        errx(EXIT_FAILURE, "a zero byte, or too many bytes");
+    for (line = strtok(text, "\n"); line && count < MOST; line = strtok(NULL, "\n"))
+        versions[count++] = pep440_string_of(line);
+    status = line ? PEP440_NO_ROOM : pep440_sort(versions, count, indices, count, &invalid);
     if (status == PEP440_INVALID_VERSION)
-        errx(EXIT_FAILURE, "%s: not a version", words[wrong + 1]);
+        errx(EXIT_FAILURE, "%s: %s", (const char *)versions[invalid].bytes, pep440_status_text(status));
     if (status != PEP440_OK)
-        errx(EXIT_FAILURE, "out of memory");
-    for (size_t each = 0; each < many; each++)
-        printf("%s\n", words[indices[each] + 1]);
-    free(versions);
-    free(indices);
+        errx(EXIT_FAILURE, "%s", pep440_status_text(status));
+    for (each = 0; each < count; each++)
+        puts((const char *)versions[indices[each]].bytes);
+    return EXIT_SUCCESS;
 }

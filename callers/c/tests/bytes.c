@@ -1,7 +1,7 @@
 /* Compiled bytes that no call wrote, and those of another process.
 
    bytes         literal bytes, made by hand of their definition; 200,000 random byte strings, and every change of one byte of 1,000 compiled
-                 versions and lists: each is rejected, or is what its normalized form is compiled to, if a string denotes it
+                 versions and lists: each is rejected, or is a string, or is what its normalized form is compiled to, if a string denotes it
    bytes write   prints the 1,000 compiled forms, each behind its length
    bytes read    holds what another process wrote so against its own */
 #include <stdio.h>
@@ -22,7 +22,7 @@ typedef struct {
 #define TO(bytes_of) (bytes_of)->bytes, ROOM, &(bytes_of)->length
 
 static int wrong;
-static size_t rejected, printed, of_no_string;
+static size_t rejected, printed, of_no_string, strings;
 
 static void hold(int is_right, const char *what)
 {
@@ -98,68 +98,100 @@ static int have_same_parts(const Bytes *form, const Bytes *text)
 {
     pep440_parts parts, of_text;
     uint64_t release[64], release_of_text[64];
-    if (pep440_parts_of_compiled(OF(form), &parts, release, 64) != PEP440_OK || pep440_parts_of(OF(text), &of_text, release_of_text, 64) != PEP440_OK)
+    if (pep440_parts_of(OF(form), &parts, release, 64) != PEP440_OK || pep440_parts_of(OF(text), &of_text, release_of_text, 64) != PEP440_OK)
         return 0;
     return parts.epoch == of_text.epoch && parts.pre_kind == of_text.pre_kind && parts.pre == of_text.pre && parts.has_post == of_text.has_post &&
            parts.post == of_text.post && parts.has_dev == of_text.has_dev && parts.dev == of_text.dev && parts.has_local == of_text.has_local &&
            parts.release_length == of_text.release_length && memcmp(release, release_of_text, parts.release_length * sizeof *release) == 0;
 }
 
-/* Calls that read bytes as they lie: of any bytes they say that these denote nothing, or write some result. */
+static const uint8_t list[] = {5, 25, 0, 2, 1, 0, 80, 0, 16, 0}, version[] = {4, 0, 2, 1, 0, 80, 0, 16, 0};
+
+/* Calls that read compiled bytes as they lie: of any bytes they say that these are invalid, or write some result. */
 static void ask_in_place(const Bytes *form)
 {
-    static const uint8_t list[] = {5, 25, 0, 2, 1, 0, 80, 0, 16, 0}, version[] = {4, 0, 2, 1, 0, 80, 0, 16, 0};
-    Bytes key;
     int8_t order = 0;
-    uint8_t is = 0, early = 0, status = pep440_sort_key_compiled(OF(form), TO(&key));
-    hold(status == PEP440_NOT_COMPILED || (status == PEP440_OK && key.length < form->length), "sort_key_compiled");
-    status = pep440_compare_compiled(OF(form), version, sizeof version, &order);
-    hold(status == PEP440_NOT_COMPILED || (status == PEP440_OK && order >= -1 && order <= 1), "compare_compiled");
-    status = pep440_contains_compiled(list, sizeof list, OF(form), &is, &early);
-    hold(status == PEP440_NOT_COMPILED || (status == PEP440_OK && is <= 1 && early <= 1), "contains_compiled, a version");
-    status = pep440_contains_compiled(OF(form), version, sizeof version, &is, &early);
-    hold(status == PEP440_NOT_COMPILED || (status == PEP440_OK && is <= 1 && early <= 1), "contains_compiled, a list");
+    uint8_t is = 0, early = 0, status = pep440_compare(OF(form), version, sizeof version, &order);
+    hold(status == PEP440_INVALID_VERSION || (status == PEP440_OK && order >= -1 && order <= 1), "compare, left");
+    status = pep440_compare(version, sizeof version, OF(form), &order);
+    hold(status == PEP440_INVALID_RIGHT || (status == PEP440_OK && order >= -1 && order <= 1), "compare, right");
+    status = pep440_contains(list, sizeof list, OF(form), &is, &early);
+    hold(status == PEP440_INVALID_VERSION || (status == PEP440_OK && is <= 1 && early <= 1), "contains, a version");
+    status = pep440_contains(OF(form), version, sizeof version, &is, &early);
+    hold(status == PEP440_INVALID_LIST || (status == PEP440_OK && is <= 1 && early <= 1), "contains, a list");
 }
 
-/* Bytes that denote a version are those that its normalized form is compiled to. */
-static void hold_version(const Bytes *form)
+/* Of bytes that are no version a string beside them does not matter: with it they are tested as a whole. */
+static void hold_no_version(const Bytes *form)
 {
-    Bytes text, key, key_of_text, again;
-    int8_t order = 1;
+    Bytes found;
+    int8_t order = 7;
+    uint8_t is = 7, early = 7, mark = 7;
     pep440_parts parts;
     uint64_t release[64];
-    uint8_t status = pep440_normalize_compiled(OF(form), TO(&text));
-    if (status == PEP440_NOT_COMPILED) {
+    size_t index = 7;
+    const pep440_string one = {OF(form)};
+    hold(pep440_parts_of(OF(form), &parts, release, 64) == PEP440_INVALID_VERSION, "parts_of");
+    hold(pep440_compile(OF(form), TO(&found)) == PEP440_INVALID_VERSION, "compile");
+    hold(pep440_sort_key(OF(form), TO(&found)) == PEP440_INVALID_VERSION, "sort_key");
+    hold(pep440_compare(OF(form), (const uint8_t *)"1", 1, &order) == PEP440_INVALID_VERSION && order == 7, "compare with a string");
+    hold(pep440_compare((const uint8_t *)"1", 1, OF(form), &order) == PEP440_INVALID_RIGHT && order == 7, "compare a string with it");
+    hold(pep440_contains((const uint8_t *)">=1", 3, OF(form), &is, &early) == PEP440_INVALID_VERSION && is == 7, "contains, a list that is a string");
+    hold(pep440_filter(list, sizeof list, &one, 1, &mark, 1) == PEP440_OK && mark == PEP440_NOT_A_VERSION, "filter");
+    hold(pep440_sort(&one, 1, &index, 1, &index) == PEP440_INVALID_VERSION && index == 0, "sort");
+}
+
+/* Bytes that denote a version are a string, or those that its normalized form is compiled to. */
+static void hold_version(const Bytes *form)
+{
+    Bytes text, key, key_of_text, again, own;
+    int8_t order = 1;
+    uint8_t status = pep440_normalize(OF(form), TO(&text)), told = pep440_version_error(OF(form), TO(&key));
+    hold(told == PEP440_OK && (key.length == 0) == (status == PEP440_OK), "version_error");
+    if (status == PEP440_INVALID_VERSION) {
         rejected++;
-        hold(pep440_parts_of_compiled(OF(form), &parts, release, 64) == PEP440_NOT_COMPILED, "parts_of_compiled of what is rejected");
+        hold_no_version(form);
+        return;
+    }
+    hold(status == PEP440_OK, "normalize");
+    hold(pep440_compile(OF(&text), TO(&again)) == PEP440_OK && pep440_compile(OF(form), TO(&own)) == PEP440_OK && are_same(&own, &again),
+         "the compiled form is that of the printed version");
+    hold(have_same_parts(form, &text), "the parts are those of the printed version");
+    hold(pep440_compare(OF(form), OF(&again), &order) == PEP440_OK && order == 0, "a version is equal to its compiled form");
+    hold(pep440_compare(OF(&text), OF(form), &order) == PEP440_OK && order == 0, "a string is equal to it");
+    hold(pep440_sort_key(OF(form), TO(&key)) == PEP440_OK && pep440_sort_key(OF(&text), TO(&key_of_text)) == PEP440_OK &&
+             are_same(&key, &key_of_text) && memcmp(again.bytes + 1, key.bytes, key.length) == 0,
+         "the key is that of the printed version, and lies after the first byte of its compiled form");
+    if (form->bytes[0] != 4) {
+        strings++;
         return;
     }
     printed++;
-    hold(status == PEP440_OK, "normalize_compiled");
-    hold(pep440_compile(OF(&text), TO(&again)) == PEP440_OK && are_same(form, &again), "the bytes are those of the printed version");
-    hold(have_same_parts(form, &text), "the parts are those of the printed version");
-    hold(pep440_compare_compiled(OF(form), OF(&again), &order) == PEP440_OK && order == 0, "a version is equal to itself");
-    hold(pep440_sort_key_compiled(OF(form), TO(&key)) == PEP440_OK && pep440_sort_key(OF(&text), TO(&key_of_text)) == PEP440_OK &&
-             are_same(&key, &key_of_text) && memcmp(form->bytes + 1, key.bytes, key.length) == 0,
-         "the key is that of the printed version, and lies after the first byte");
+    hold(are_same(form, &again), "the bytes are those of the printed version");
 }
 
 /* The same of lists, if a string denotes them: none denotes that of `>=1.0+a`. */
 static void hold_list(const Bytes *form)
 {
-    Bytes text, again;
-    uint8_t status = pep440_normalize_list_compiled(OF(form), TO(&text));
-    if (status == PEP440_NOT_COMPILED) {
+    Bytes text, again, own;
+    uint8_t any = 7, early = 7, status = pep440_normalize_list(OF(form), TO(&text)), told = pep440_list_error(OF(form), TO(&again));
+    int is_compiled = form->length > 0 && form->bytes[0] == 5;
+    hold(told == PEP440_OK && (again.length == 0) == (status == PEP440_OK), "list_error");
+    if (status == PEP440_INVALID_LIST) {
         rejected++;
+        hold(pep440_any_prerelease(OF(form), &any) == PEP440_INVALID_LIST && any == 7, "any_prerelease");
+        hold(pep440_compile_list(OF(form), TO(&again)) == PEP440_INVALID_LIST, "compile_list");
+        hold(pep440_contains(OF(form), (const uint8_t *)"1", 1, &any, &early) == PEP440_INVALID_LIST && any == 7, "contains a string");
         return;
     }
-    hold(status == PEP440_OK, "normalize_list_compiled");
-    if (pep440_compile_list(OF(&text), TO(&again)) == PEP440_INVALID_LIST) {
+    hold(status == PEP440_OK, "normalize_list");
+    hold(pep440_compile_list(OF(form), TO(&own)) == PEP440_OK && (!is_compiled || are_same(form, &own)), "a compiled list is its own compiled form");
+    if (is_compiled && pep440_compile_list(OF(&text), TO(&again)) == PEP440_INVALID_LIST) {
         of_no_string++;
         return;
     }
-    printed++;
-    hold(are_same(form, &again), "the bytes are those of the printed list");
+    is_compiled ? printed++ : strings++;
+    hold(pep440_compile_list(OF(&text), TO(&again)) == PEP440_OK && are_same(&own, &again), "the compiled form is that of the printed list");
 }
 
 static void hold_bytes(const Bytes *form)
@@ -248,9 +280,9 @@ static void hold_literals(void)
         hold_bytes(&LIST_FORMS[place].bytes);
     }
     for EACH (place, NOTHING) {
-        ask_in_place(&NOTHING[place]);
-        hold(pep440_normalize_compiled(OF(&NOTHING[place]), TO(&found)) == PEP440_NOT_COMPILED, "bytes that denote no version");
-        hold(pep440_normalize_list_compiled(OF(&NOTHING[place]), TO(&found)) == PEP440_NOT_COMPILED, "bytes that denote no list");
+        hold(pep440_normalize(OF(&NOTHING[place]), TO(&found)) == PEP440_INVALID_VERSION, "bytes that denote no version");
+        hold(pep440_normalize_list(OF(&NOTHING[place]), TO(&found)) == PEP440_INVALID_LIST, "bytes that denote no list");
+        hold_bytes(&NOTHING[place]);
     }
 }
 
@@ -307,9 +339,9 @@ static int read_forms(void)
         some_form(number, &own);
         hold(are_same(&form, &own), "the bytes of another process");
         if (number < VERSIONS)
-            hold(pep440_normalize_compiled(OF(&form), TO(&text)) == PEP440_OK && pep440_normalize_compiled(OF(&own), TO(&own_text)) == PEP440_OK, "read");
+            hold(pep440_normalize(OF(&form), TO(&text)) == PEP440_OK && pep440_normalize(OF(&own), TO(&own_text)) == PEP440_OK, "read");
         else
-            hold(pep440_normalize_list_compiled(OF(&form), TO(&text)) == PEP440_OK && pep440_normalize_list_compiled(OF(&own), TO(&own_text)) == PEP440_OK, "read");
+            hold(pep440_normalize_list(OF(&form), TO(&text)) == PEP440_OK && pep440_normalize_list(OF(&own), TO(&own_text)) == PEP440_OK, "read");
         hold(are_same(&text, &own_text), "what they denote");
     }
     printf("%d compiled forms of another process are read\n", VERSIONS + LISTS);
@@ -331,8 +363,8 @@ int main(int count, char **words)
         some_bytes(&form);
         hold_bytes(&form);
     }
-    hold(rejected > RANDOM && printed > VERSIONS + LISTS && of_no_string > 0, "each result is met");
-    printf("%zu results: %zu rejected, %zu are what they are printed as, %zu lists no string denotes; %d wrong\n", rejected + printed + of_no_string,
-           rejected, printed, of_no_string, wrong);
+    hold(rejected > RANDOM && printed > VERSIONS + LISTS && of_no_string > 0 && strings > 0, "each result is met");
+    printf("%zu results: %zu rejected, %zu are what they are printed as, %zu lists no string denotes, %zu strings; %d wrong\n",
+           rejected + printed + of_no_string + strings, rejected, printed, of_no_string, strings, wrong);
     return wrong ? EXIT_FAILURE : EXIT_SUCCESS;
 }

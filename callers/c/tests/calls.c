@@ -1,4 +1,4 @@
-/* Compares results of the calls that take strings with what PEP 440 and the header say.
+/* Compares results of the calls with what PEP 440 and the header say: of strings, of compiled forms, and of both side by side.
    What a call writes to is uninitialized before, which the header allows: valgrind finds no use of such bytes. */
 #include <stdio.h>
 #include <stdlib.h>
@@ -8,6 +8,11 @@
 
 /* A string that ends in a zero, as the bytes and the length that a call takes. */
 #define TEXT(text) (const uint8_t *)(text), strlen(text)
+
+/* A version, a list, and what stands to the right of a version: the string, or in some turns its compiled form. */
+#define VERSION(text) given(text, 'v')->bytes, given(text, 'v')->length
+#define LIST(text) given(text, 'l')->bytes, given(text, 'l')->length
+#define RIGHT(text) given(text, 'r')->bytes, given(text, 'r')->length
 
 static int wrong;
 
@@ -24,25 +29,78 @@ static void hold_text(const uint8_t *out, size_t written, const char *wanted)
     hold(written == strlen(wanted) && memcmp(out, wanted, written) == 0, wanted);
 }
 
-static void normalize_and_explain(void)
+/* What a turn passes as a compiled form: versions, lists and what stands to the right, or all. */
+enum { STRINGS, VERSIONS, OTHERS, ALL };
+
+static int turn;
+
+/* What was passed before, each in memory of its own length. */
+static struct {
+    const char *text;
+    char kind;
+    int turn;
+    pep440_string bytes;
+} kept[256];
+static size_t how_many;
+
+/* The compiled form; of a string that has none that of the other kind, which is as invalid. */
+static size_t compile(const char *text, char kind, uint8_t *out, size_t size)
 {
-    uint8_t out[256], star;
+    size_t length = 1;
+    if ((kind == 'l' ? pep440_compile_list : pep440_compile)(TEXT(text), out, size, &length) != PEP440_OK)
+        out[0] = kind == 'l' ? 4 : 5;
+    return length;
+}
+
+static const pep440_string *given(const char *text, char kind)
+{
+    uint8_t bytes[256], *copy;
+    size_t length = strlen(text), at = 0;
+    while (at < how_many && (strcmp(kept[at].text, text) != 0 || kept[at].kind != kind || kept[at].turn != turn))
+        at++;
+    if (at == how_many) {
+        memcpy(bytes, text, length);
+        if (turn == ALL || turn == (kind == 'v' ? VERSIONS : OTHERS))
+            length = compile(text, kind, bytes, sizeof bytes);
+        copy = how_many++ < sizeof kept / sizeof *kept ? malloc(length + !length) : NULL;
+        if (!copy)
+            exit(EXIT_FAILURE);
+        memcpy(copy, bytes, length);
+        kept[at].text = text, kept[at].kind = kind, kept[at].turn = turn;
+        kept[at].bytes = (pep440_string){copy, length};
+    }
+    return &kept[at].bytes;
+}
+
+static void normalize(void)
+{
+    uint8_t out[256];
     size_t written, count, ends[4];
-    hold(pep440_normalize(TEXT(" V1!1.0-Alpha.2-3.DEV+Ubuntu-01 "), out, sizeof out, &written) == PEP440_OK, "normalize");
+    hold(pep440_normalize(VERSION(" V1!1.0-Alpha.2-3.DEV+Ubuntu-01 "), out, sizeof out, &written) == PEP440_OK, "normalize");
     hold_text(out, written, "1!1.0a2.post3.dev0+ubuntu.1");
 
     /* With too little room the call writes the length that is needed. */
-    hold(pep440_normalize(TEXT("1.0.post1"), out, 3, &written) == PEP440_NO_ROOM && written == 9, "room");
+    hold(pep440_normalize(VERSION("1.0.post1"), out, 3, &written) == PEP440_NO_ROOM && written == 9, "room");
 
-    hold(pep440_normalize(TEXT("1.0prev"), out, sizeof out, &written) == PEP440_INVALID_VERSION, "invalid");
-    hold(pep440_version_error(TEXT("1.0prev"), out, sizeof out, &written) == PEP440_OK && written > 0, "why");
-    hold(pep440_version_error(TEXT("1.0"), out, sizeof out, &written) == PEP440_OK && written == 0, "nothing is wrong");
+    hold(pep440_normalize(VERSION("1.0prev"), out, sizeof out, &written) == PEP440_INVALID_VERSION, "invalid");
+    hold(pep440_version_error(VERSION("1.0prev"), out, sizeof out, &written) == PEP440_OK && written > 0, "why");
+    hold(pep440_version_error(VERSION("1.0"), out, sizeof out, &written) == PEP440_OK && written == 0, "nothing is wrong");
 
-    hold(pep440_normalize_list(TEXT(">=1.16 ,<2.0"), out, sizeof out, &written) == PEP440_OK, "normalize_list");
+    hold(pep440_normalize_list(LIST(">=1.16 ,<2.0"), out, sizeof out, &written) == PEP440_OK, "normalize_list");
     hold_text(out, written, ">=1.16, <2.0");
-    hold(pep440_specifiers_of(TEXT("!=1.5.* ,>=1.16"), out, sizeof out, ends, 4, &written, &count) == PEP440_OK && count == 4, "specifiers_of");
+    hold(pep440_normalize_list(LIST(">=1.16; <2.0"), out, sizeof out, &written) == PEP440_INVALID_LIST, "no list to normalize");
+    hold(pep440_specifiers_of(LIST("!=1.5.* ,>=1.16"), out, sizeof out, ends, 4, &written, &count) == PEP440_OK && count == 4, "specifiers_of");
     hold_text(out, written, "!=1.5.*>=1.16");
     hold(ends[0] == 2 && ends[1] == 7 && ends[2] == 9 && ends[3] == 13, "operator, version, operator, version");
+    hold(pep440_list_error(LIST(">=1.16; <2.0"), out, sizeof out, &written) == PEP440_OK && written > 0, "why no list");
+    hold(pep440_list_error(LIST(">=1.16, <2.0"), out, sizeof out, &written) == PEP440_OK && written == 0, "nothing is wrong with the list");
+}
+
+/* The calls of patterns, and of one specifier, take strings alone. */
+static void take_strings(void)
+{
+    uint8_t out[256], form[64], star;
+    size_t written, length;
     hold(pep440_specifier(TEXT("!="), TEXT("01.5.*"), out, sizeof out, &written) == PEP440_OK, "specifier");
     hold_text(out, written, "!=1.5.*");
     hold(pep440_specifier(TEXT(">="), TEXT("1.5.*"), out, sizeof out, &written) == PEP440_INVALID_LIST, "no star after >=");
@@ -51,7 +109,31 @@ static void normalize_and_explain(void)
     hold_text(out, written, "1.5.0");
     hold(pep440_pattern(TEXT("v1.5"), out, sizeof out, &written, &star) == PEP440_OK && star == 0, "a pattern without a star");
     hold(pep440_pattern(TEXT("1.5a1.*"), out, sizeof out, &written, &star) == PEP440_INVALID_VERSION, "no star after a pre-release");
-    hold(pep440_list_error(TEXT(">=1.16; <2.0"), out, sizeof out, &written) == PEP440_OK && written > 0, "why no list");
+    hold(pep440_pattern_error(TEXT("1.5a1.*"), out, sizeof out, &written) == PEP440_OK && written > 0, "why no pattern");
+    hold(pep440_specifier_error(TEXT(">=1.16"), out, sizeof out, &written) == PEP440_OK && written == 0, "a specifier");
+
+    hold(pep440_compile(TEXT("1.5"), form, sizeof form, &length) == PEP440_OK, "compile");
+    hold(pep440_pattern(form, length, out, sizeof out, &written, &star) == PEP440_INVALID_VERSION, "no compiled pattern");
+    hold(pep440_pattern_error(form, length, out, sizeof out, &written) == PEP440_OK && written > 0, "why no compiled pattern");
+    hold(pep440_specifier(TEXT(">="), form, length, out, sizeof out, &written) == PEP440_INVALID_VERSION, "no compiled version in a specifier");
+    hold(pep440_compile_specifier(TEXT(">=1.16"), form, sizeof form, &length) == PEP440_OK, "compile_specifier");
+    hold(pep440_compile_specifier(form, length, out, sizeof out, &written) == PEP440_INVALID_LIST, "no compiled specifier");
+    hold(pep440_specifier_error(form, length, out, sizeof out, &written) == PEP440_OK && written > 0, "why no compiled specifier");
+    hold(pep440_normalize_list(form, length, out, sizeof out, &written) == PEP440_OK, "but a list of one");
+    hold_text(out, written, ">=1.16");
+}
+
+static void build(void)
+{
+    uint8_t out[256];
+    size_t written;
+    hold(pep440_build_error(PEP440_COMPATIBLE, VERSION("1.5"), 0, out, sizeof out, &written) == PEP440_OK && written == 0, "~=1.5");
+    hold(pep440_build_error(PEP440_COMPATIBLE, VERSION("1"), 0, out, sizeof out, &written) == PEP440_OK && written > 0, "no ~=1");
+    hold(pep440_build_error(PEP440_EQUAL, VERSION("1.5"), 1, out, sizeof out, &written) == PEP440_OK && written == 0, "==1.5.*");
+    hold(pep440_build_error(PEP440_LESS, VERSION("1.5"), 1, out, sizeof out, &written) == PEP440_OK && written > 0, "no <1.5.*");
+    hold(pep440_build_error(PEP440_LESS, VERSION("1.5+a"), 0, out, sizeof out, &written) == PEP440_OK && written > 0, "no <1.5+a");
+    hold(pep440_build_error(PEP440_LESS, VERSION("latest"), 0, out, sizeof out, &written) == PEP440_INVALID_VERSION, "no version to build");
+    hold(pep440_build_error(PEP440_GREATER_EQUAL + 1, VERSION("latest"), 0, out, sizeof out, &written) == PEP440_INVALID_LIST, "no operator's number");
 }
 
 static void edit(void)
@@ -59,28 +141,31 @@ static void edit(void)
     const pep440_string changes[] = {{TEXT("release=1.2.3")}, {TEXT("pre=")}, {TEXT("post=2")}}, wrong[] = {{TEXT("post=2")}, {TEXT("post=two")}};
     uint8_t out[256];
     size_t written;
-    hold(pep440_edit(TEXT("v1.0a1+local"), changes, 3, out, sizeof out, &written) == PEP440_OK, "edit");
+    hold(pep440_edit(VERSION("v1.0a1+local"), changes, 3, out, sizeof out, &written) == PEP440_OK, "edit");
     hold_text(out, written, "1.2.3.post2+local");
-    hold(pep440_edit(TEXT("1.0"), wrong, 2, out, sizeof out, &written) == PEP440_INVALID_CHANGE, "no change");
-    hold(pep440_edit_error(TEXT("1.0"), wrong, 2, out, sizeof out, &written) == PEP440_OK, "why it is none");
+    hold(pep440_edit(VERSION("1.0"), wrong, 2, out, sizeof out, &written) == PEP440_INVALID_CHANGE, "no change");
+    hold(pep440_edit_error(VERSION("1.0"), wrong, 2, out, sizeof out, &written) == PEP440_OK, "why it is none");
     hold_text(out, written, "change 2: not a change");
-    hold(pep440_edit_error(TEXT("1.0"), wrong, 1, out, sizeof out, &written) == PEP440_OK && written == 0, "nothing is wrong with the first");
+    hold(pep440_edit_error(VERSION("1.0"), wrong, 1, out, sizeof out, &written) == PEP440_OK && written == 0, "nothing is wrong with the first");
 }
 
 static void compare_and_match(void)
 {
     int8_t order;
     uint8_t is, early;
-    hold(pep440_compare(TEXT("1.0rc1"), TEXT("1.0"), &order) == PEP440_OK && order == -1, "1.0rc1 < 1.0");
-    hold(pep440_compare(TEXT("1.0"), TEXT("1.0.0"), &order) == PEP440_OK && order == 0, "1.0 == 1.0.0");
-    hold(pep440_compare(TEXT("1.10"), TEXT("1.9"), &order) == PEP440_OK && order == 1, "1.10 > 1.9");
-    hold(pep440_contains(TEXT(">=1.16, <2.0"), TEXT("1.19"), &is, &early) == PEP440_OK && is == 1, "contains 1.19");
-    hold(pep440_contains(TEXT(">=1.16, <2.0"), TEXT("2.0a1"), &is, &early) == PEP440_OK && is == 0, "does not contain 2.0a1");
-    hold(pep440_contains(TEXT(">=1.0"), TEXT("2.0rc1"), &is, &early) == PEP440_OK && is == 1 && early == 1, "a pre-release is a version like others");
-    hold(pep440_contains(TEXT(">=1.16; <2.0"), TEXT("1.19"), &is, &early) == PEP440_INVALID_LIST, "no list");
-    hold(pep440_contains(TEXT(">=1.16"), TEXT("latest"), &is, &early) == PEP440_INVALID_VERSION, "no version");
-    hold(pep440_any_prerelease(TEXT(">=1.0, <2.0rc1"), &is) == PEP440_OK && is == 1, "a pre-release among them");
-    hold(pep440_any_prerelease(TEXT(">=1.0, <2.0"), &is) == PEP440_OK && is == 0, "none among them");
+    hold(pep440_compare(VERSION("1.0rc1"), RIGHT("1.0"), &order) == PEP440_OK && order == -1, "1.0rc1 < 1.0");
+    hold(pep440_compare(VERSION("1.0"), RIGHT("1.0.0"), &order) == PEP440_OK && order == 0, "1.0 == 1.0.0");
+    hold(pep440_compare(VERSION("1.10"), RIGHT("1.9"), &order) == PEP440_OK && order == 1, "1.10 > 1.9");
+    hold(pep440_compare(VERSION("1.0prev"), RIGHT("latest"), &order) == PEP440_INVALID_VERSION, "the left one is invalid");
+    hold(pep440_compare(VERSION("1.0"), RIGHT("latest"), &order) == PEP440_INVALID_RIGHT, "the right one is invalid");
+    hold(pep440_contains(LIST(">=1.16, <2.0"), VERSION("1.19"), &is, &early) == PEP440_OK && is == 1, "contains 1.19");
+    hold(pep440_contains(LIST(">=1.16, <2.0"), VERSION("2.0a1"), &is, &early) == PEP440_OK && is == 0, "does not contain 2.0a1");
+    hold(pep440_contains(LIST(">=1.0"), VERSION("2.0rc1"), &is, &early) == PEP440_OK && is == 1 && early == 1, "a pre-release is a version like others");
+    hold(pep440_contains(LIST(">=1.16; <2.0"), VERSION("1.19"), &is, &early) == PEP440_INVALID_LIST, "no list");
+    hold(pep440_contains(LIST(">=1.16"), VERSION("latest"), &is, &early) == PEP440_INVALID_VERSION, "no version");
+    hold(pep440_contains(LIST(">=1.16; <2.0"), VERSION("latest"), &is, &early) == PEP440_INVALID_LIST, "neither");
+    hold(pep440_any_prerelease(LIST(">=1.0, <2.0rc1"), &is) == PEP440_OK && is == 1, "a pre-release among them");
+    hold(pep440_any_prerelease(LIST(">=1.0, <2.0"), &is) == PEP440_OK && is == 0, "none among them");
 }
 
 static void take_apart(void)
@@ -90,27 +175,27 @@ static void take_apart(void)
     uint8_t out[256], is, early;
     int8_t order;
     size_t written;
-    hold(pep440_parts_of(TEXT("2!1.2.3rc4.post5+ubuntu.1"), &parts, release, 4) == PEP440_OK, "parts");
+    hold(pep440_parts_of(VERSION("2!1.2.3rc4.post5+ubuntu.1"), &parts, release, 4) == PEP440_OK, "parts");
     hold(parts.epoch == 2 && parts.release_length == 3 && release[0] == 1 && release[1] == 2 && release[2] == 3, "epoch and release");
     hold(parts.pre_kind == PEP440_RC && parts.pre == 4 && parts.has_post == 1 && parts.post == 5, "suffixes");
     hold(parts.has_dev == 0 && parts.dev == 0 && parts.has_local == 1, "dev and local");
-    hold(pep440_parts_of(TEXT("1.2.3.4.5"), &parts, release, 4) == PEP440_NO_ROOM && parts.release_length == 5, "no room, and how much is needed");
+    hold(pep440_parts_of(VERSION("1.2.3.4.5"), &parts, release, 4) == PEP440_NO_ROOM && parts.release_length == 5, "no room, and how much is needed");
 
     /* The end of this range would have a number that is too big. */
-    hold(pep440_ranges(TEXT("==18446744073709551615.*"), out, sizeof out, &written) == PEP440_NUMBER_AT_MAX, "no range");
-    hold(pep440_ranges(TEXT("=1.0"), out, sizeof out, &written) == PEP440_INVALID_LIST, "no list, so no range");
-    hold(pep440_ranges(TEXT(">1.0,<1.0"), out, sizeof out, &written) == PEP440_OK, "no version");
+    hold(pep440_ranges(LIST("==18446744073709551615.*"), out, sizeof out, &written) == PEP440_NUMBER_AT_MAX, "no range");
+    hold(pep440_ranges(LIST("=1.0"), out, sizeof out, &written) == PEP440_INVALID_LIST, "no list, so no range");
+    hold(pep440_ranges(LIST(">1.0,<1.0"), out, sizeof out, &written) == PEP440_OK, "no version");
     hold_text(out, written, "empty\n");
-    hold(pep440_ranges(TEXT(">=1.0,<2.0,!=1.5"), out, sizeof out, &written) == PEP440_OK, "ranges");
+    hold(pep440_ranges(LIST(">=1.0,<2.0,!=1.5"), out, sizeof out, &written) == PEP440_OK, "ranges");
     hold_text(out, written, "[1.0, 1.5)\n(1.5, 2.0~min0)\n");
-    hold(pep440_ranges(TEXT(">1.0"), out, sizeof out, &written) == PEP440_OK, "a range without an end");
+    hold(pep440_ranges(LIST(">1.0"), out, sizeof out, &written) == PEP440_OK, "a range without an end");
     hold_text(out, written, "(1.0~max0, *)\n");
 
     /* The range of a list goes by the order alone, so it ends below a local version that the list contains. */
-    hold(pep440_ranges(TEXT("<=1.0"), out, sizeof out, &written) == PEP440_OK, "a range that ends at 1.0");
+    hold(pep440_ranges(LIST("<=1.0"), out, sizeof out, &written) == PEP440_OK, "a range that ends at 1.0");
     hold_text(out, written, "(*, 1.0]\n");
-    hold(pep440_contains(TEXT("<=1.0"), TEXT("1.0+cu1"), &is, &early) == PEP440_OK && is == 1, "a local version of 1.0");
-    hold(pep440_compare(TEXT("1.0+cu1"), TEXT("1.0"), &order) == PEP440_OK && order == 1, "which is above 1.0");
+    hold(pep440_contains(LIST("<=1.0"), VERSION("1.0+cu1"), &is, &early) == PEP440_OK && is == 1, "a local version of 1.0");
+    hold(pep440_compare(VERSION("1.0+cu1"), RIGHT("1.0"), &order) == PEP440_OK && order == 1, "which is above 1.0");
 }
 
 static int as_bytes(const uint8_t *left, size_t left_length, const uint8_t *right, size_t right_length)
@@ -124,15 +209,15 @@ static void keep_keys(void)
     uint8_t left[64], right[64];
     size_t left_length, right_length;
     uint64_t word, other;
-    hold(pep440_sort_key(TEXT("1.9"), left, sizeof left, &left_length) == PEP440_OK, "a key");
-    hold(pep440_sort_key(TEXT("1.10rc1"), right, sizeof right, &right_length) == PEP440_OK, "another key");
+    hold(pep440_sort_key(VERSION("1.9"), left, sizeof left, &left_length) == PEP440_OK, "a key");
+    hold(pep440_sort_key(VERSION("1.10rc1"), right, sizeof right, &right_length) == PEP440_OK, "another key");
     hold(as_bytes(left, left_length, right, right_length) < 0, "keys have the order of the versions");
-    hold(pep440_sort_key(TEXT("1.9.0"), right, sizeof right, &right_length) == PEP440_OK, "a third key");
+    hold(pep440_sort_key(VERSION("1.9.0"), right, sizeof right, &right_length) == PEP440_OK, "a third key");
     hold(as_bytes(left, left_length, right, right_length) == 0, "equal versions have one key");
 
     /* Of most versions a number does as well. */
-    hold(pep440_word(TEXT("1.10rc1"), &word) == PEP440_OK && pep440_word(TEXT("1.10"), &other) == PEP440_OK && word < other, "words are in order");
-    hold(pep440_word(TEXT("1.10+local"), &word) == PEP440_NOT_PACKED, "a version without a word");
+    hold(pep440_word(VERSION("1.10rc1"), &word) == PEP440_OK && pep440_word(VERSION("1.10"), &other) == PEP440_OK && word < other, "words are in order");
+    hold(pep440_word(VERSION("1.10+local"), &word) == PEP440_NOT_PACKED, "a version without a word");
 }
 
 /* Whether the key lies between some two of these. */
@@ -152,48 +237,97 @@ static void ask_keys(void)
 {
     uint8_t range[128], cover[128], key[64];
     size_t range_ends[4], cover_ends[4], range_count, cover_count, length, written;
-    hold(pep440_range_keys(TEXT(">=1.0,<2.0,!=1.5"), range, sizeof range, range_ends, 4, &written, &range_count) == PEP440_OK, "range_keys");
+    hold(pep440_range_keys(LIST(">=1.0,<2.0,!=1.5"), range, sizeof range, range_ends, 4, &written, &range_count) == PEP440_OK, "range_keys");
     hold(range_count == 4 && range_ends[3] == written, "two segments");
-    hold(pep440_sort_key(TEXT("1.4.post1"), key, sizeof key, &length) == PEP440_OK, "key");
+    hold(pep440_sort_key(VERSION("1.4.post1"), key, sizeof key, &length) == PEP440_OK, "key");
     hold(is_within(key, length, range, range_ends, range_count), "1.4.post1 is in the range");
-    hold(pep440_sort_key(TEXT("1.5.0"), key, sizeof key, &length) == PEP440_OK, "key");
+    hold(pep440_sort_key(VERSION("1.5.0"), key, sizeof key, &length) == PEP440_OK, "key");
     hold(!is_within(key, length, range, range_ends, range_count), "1.5.0 is not");
-    hold(pep440_range_keys(TEXT("<=1.0"), range, sizeof range, range_ends, 4, &written, &range_count) == PEP440_OK, "range_keys");
-    hold(pep440_cover_keys(TEXT("<=1.0"), cover, sizeof cover, cover_ends, 4, &written, &cover_count) == PEP440_OK, "cover_keys");
+    hold(pep440_range_keys(LIST("<=1.0"), range, sizeof range, range_ends, 4, &written, &range_count) == PEP440_OK, "range_keys");
+    hold(pep440_cover_keys(LIST("<=1.0"), cover, sizeof cover, cover_ends, 4, &written, &cover_count) == PEP440_OK, "cover_keys");
     hold(range_count == 2 && range_ends[0] == 0 && cover_count == 2 && cover_ends[0] == 0, "no lower bound");
-    hold(pep440_sort_key(TEXT("1.0+cu1"), key, sizeof key, &length) == PEP440_OK, "key");
+    hold(pep440_sort_key(VERSION("1.0+cu1"), key, sizeof key, &length) == PEP440_OK, "key");
     hold(!is_within(key, length, range, range_ends, 2) && is_within(key, length, cover, cover_ends, 2), "1.0+cu1 is in the cover alone");
-    hold(pep440_range_keys(TEXT(">=1.0,<2.0,!=1.5"), range, 1, range_ends, 4, &written, &range_count) == PEP440_NO_ROOM && range_count == 4, "room");
+    hold(pep440_range_keys(LIST(">=1.0,<2.0,!=1.5"), range, 1, range_ends, 4, &written, &range_count) == PEP440_NO_ROOM && range_count == 4, "room");
+}
+
+/* The bounds that the header names. */
+static void ask_bounds(void)
+{
+    uint8_t out[128], form[64];
+    size_t ends[4], written, count, length;
+    hold(pep440_compile(TEXT("1.0"), form, sizeof form, &length) == PEP440_OK, "compile");
+    hold(pep440_range_bounds(LIST(">=1.0,<2.0"), out, sizeof out, ends, 4, &written, &count) == PEP440_OK && count == 2, "range_bounds");
+    hold(ends[0] == 1 + length && out[0] == PEP440_INCLUDED && memcmp(out + 1, form, length) == 0, "1.0 and what follows");
+    hold(ends[1] == written && out[ends[0]] == PEP440_EXCLUDED, "up to 2.0~min0");
+    hold(pep440_release_range_bounds(LIST(">1!1.0rc1"), out, sizeof out, ends, 4, &written, &count) == PEP440_OK && count == 2, "release_range_bounds");
+    hold(ends[0] == 1 + length && out[0] == PEP440_EXCLUDED && memcmp(out + 1, form, length) == 0, "what follows 1.0");
+    hold(ends[1] == written && written == ends[0] + 1 && out[ends[0]] == PEP440_NO_BOUND, "without an end");
 }
 
 static void many_at_once(void)
 {
-    static const char *const given[] = {"1.10", "1.9", "latest", "1.10rc1", "2.0"};
+    static const char *const names[] = {"1.10", "1.9", "latest", "1.10rc1", "2.0"};
     enum { COUNT = 5 };
     pep440_string texts[COUNT];
-    uint8_t marks[COUNT];
-    size_t indices[COUNT], index;
+    uint8_t marks[COUNT], out[128], key[64];
+    size_t indices[COUNT], index, written, length;
     static const uint8_t wanted_marks[] = {PEP440_MATCH, PEP440_NO_MATCH, PEP440_NOT_A_VERSION, PEP440_PRERELEASE_MATCH, PEP440_NO_MATCH};
     for (size_t at = 0; at < COUNT; at++)
-        texts[at] = (pep440_string){(const uint8_t *)given[at], strlen(given[at])};
-    hold(pep440_filter(TEXT(">1.9,<2.0"), texts, COUNT, marks, COUNT) == PEP440_OK, "filter");
+        texts[at] = *given(names[at], at % 2 ? 'v' : 'r');
+    hold(pep440_filter(LIST(">1.9,<2.0"), texts, COUNT, marks, COUNT) == PEP440_OK, "filter");
     hold(memcmp(marks, wanted_marks, COUNT) == 0, "marks");
     hold(pep440_sort(texts, COUNT, indices, COUNT, &index) == PEP440_INVALID_VERSION && index == 2, "the first that is no version");
+    hold(pep440_sort_keys(texts, COUNT, out, sizeof out, indices, COUNT, &written, &index) == PEP440_INVALID_VERSION && index == 2, "no keys");
     texts[2] = texts[4];
     hold(pep440_sort(texts, COUNT, indices, COUNT, &index) == PEP440_OK, "sort");
     hold(indices[0] == 1 && indices[1] == 3 && indices[2] == 0 && indices[3] == 2 && indices[4] == 4, "indices");
+    hold(pep440_sort_keys(texts, COUNT, out, sizeof out, indices, COUNT, &written, &index) == PEP440_OK && indices[4] == written, "sort_keys");
+    hold(pep440_sort_key(TEXT("1.9"), key, sizeof key, &length) == PEP440_OK && as_bytes(out + indices[0], indices[1] - indices[0], key, length) == 0,
+         "the second key is that of 1.9");
+}
+
+/* What the header has for strings with a zero at their end. */
+static void with_a_zero(void)
+{
+    char text[10];
+    uint8_t key[64], bytes[64], is, early;
+    size_t length, count;
+    int8_t order;
+    hold(pep440_compare_strings("1.10", "1.9", &order) == PEP440_OK && order == 1, "compare_strings");
+    hold(pep440_contains_string(">=1.16, <2.0", "1.19", &is, &early) == PEP440_OK && is == 1 && early == 0, "contains_string");
+    hold(pep440_normalize_string("1.0-1", text, 10) == PEP440_OK && strcmp(text, "1.0.post1") == 0, "normalize_string");
+    memset(text, 'x', sizeof text);
+    hold(pep440_normalize_string("1.0-1", text, 9) == PEP440_NO_ROOM && text[0] == 'x', "no room for the zero");
+    hold(pep440_normalize_string("1", text, 0) == PEP440_NO_ROOM && text[0] == 'x', "no room at all");
+    hold(pep440_normalize_string("latest", text, 10) == PEP440_INVALID_VERSION && text[0] == 'x', "no version to write");
+    hold(pep440_sort_key_string("1.0", key, sizeof key, &length) == PEP440_OK, "sort_key_string");
+    hold(pep440_compile_string("1.0", bytes, sizeof bytes, &count) == PEP440_OK && count == length + 2 && memcmp(bytes + 1, key, length) == 0,
+         "compile_string: the key between 4 and a 1");
+    hold(pep440_compile_list_string("==1", bytes, sizeof bytes, &length) == PEP440_OK && bytes[0] == 5, "compile_list_string");
+    hold(pep440_string_of("1.0").length == 3 && memcmp(pep440_string_of("1.0").bytes, "1.0", 3) == 0, "string_of");
+    for (uint8_t status = 0; status <= PEP440_INVALID_CHANGE; status++)
+        hold(strcmp(pep440_status_text(status), pep440_status_text(255)) != 0, "status_text");
 }
 
 int main(void)
 {
     hold(pep440_version_of_library() == PEP440_VERSION, "the library is of the header's version");
-    normalize_and_explain();
-    edit();
-    compare_and_match();
-    take_apart();
-    keep_keys();
-    ask_keys();
-    many_at_once();
+    take_strings();
+    with_a_zero();
+    for (turn = STRINGS; turn <= ALL; turn++) {
+        normalize();
+        build();
+        edit();
+        compare_and_match();
+        take_apart();
+        keep_keys();
+        ask_keys();
+        ask_bounds();
+        many_at_once();
+    }
+    for (size_t at = 0; at < how_many; at++)
+        free((void *)kept[at].bytes.bytes);
     printf("%d wrong\n", wrong);
     return wrong ? EXIT_FAILURE : EXIT_SUCCESS;
 }

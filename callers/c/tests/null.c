@@ -1,11 +1,14 @@
-/* What the calls do with null and length 0: as with an empty string or an empty batch. The header forbids null, since the
-   proof holds of pointers that point to something (docs/DECISIONS.md); this shows what a build of the library does with it nonetheless. */
+/* Null beside a length of 0 is an empty string, batch or buffer in each call, as the header says. The proof holds of pointers that point to
+   something (docs/DECISIONS.md), so this is tested of each build of the library. */
 #include <stdio.h>
 #include <stdlib.h>
 
 #include "pep440.h"
 
-#define NONE NULL, 0
+/* Null, and then an address that nobody may read: neither is read if the length is 0. */
+static void *none;
+
+#define NONE none, 0
 #define EMPTY (const uint8_t *)"", 0
 
 static int wrong;
@@ -38,7 +41,7 @@ static void strings(void)
     hold(pep440_pattern_error(NONE, out, sizeof out, &written) == PEP440_OK && written > 0, "pattern_error");
     hold(pep440_specifier_error(NONE, out, sizeof out, &written) == PEP440_OK && written > 0, "specifier_error");
     hold(pep440_compare(NONE, (const uint8_t *)"1", 1, &order) == PEP440_INVALID_VERSION, "compare, left");
-    hold(pep440_compare((const uint8_t *)"1", 1, NONE, &order) == PEP440_INVALID_VERSION, "compare, right");
+    hold(pep440_compare((const uint8_t *)"1", 1, NONE, &order) == PEP440_INVALID_RIGHT, "compare, right");
     /* An empty list is one without a specifier, and contains each version. */
     hold(pep440_normalize_list(NONE, out, sizeof out, &written) == PEP440_OK && written == 0, "normalize_list");
     hold(pep440_list_error(NONE, out, sizeof out, &written) == PEP440_OK && written == 0, "list_error");
@@ -55,25 +58,18 @@ static void strings(void)
 
 static void compiled(void)
 {
+    static const uint8_t version[] = {4, 0, 2, 1, 0, 80, 0, 16, 0}, list[] = {5};
     uint8_t out[128], is, early;
     int8_t order;
-    size_t written, count;
-    uint64_t release[4];
-    pep440_parts parts;
+    size_t written;
     hold(pep440_compile(NONE, out, sizeof out, &written) == PEP440_INVALID_VERSION, "compile");
     hold(pep440_compile_specifier(NONE, out, sizeof out, &written) == PEP440_INVALID_LIST, "compile_specifier");
-    hold(pep440_compile_list(NONE, out, sizeof out, &written) == PEP440_OK && written == 1, "compile_list");
-    hold(pep440_normalize_compiled(NONE, out, sizeof out, &written) == PEP440_NOT_COMPILED, "normalize_compiled");
-    hold(pep440_normalize_list_compiled(NONE, out, sizeof out, &written) == PEP440_NOT_COMPILED, "normalize_list_compiled");
-    hold(pep440_sort_key_compiled(NONE, out, sizeof out, &written) == PEP440_NOT_COMPILED, "sort_key_compiled");
-    hold(pep440_compare_compiled(NONE, NONE, &order) == PEP440_NOT_COMPILED, "compare_compiled");
-    hold(pep440_contains_compiled(NONE, NONE, &is, &early) == PEP440_NOT_COMPILED, "contains_compiled");
-    hold(pep440_parts_of_compiled(NONE, &parts, release, 4) == PEP440_NOT_COMPILED, "parts_of_compiled");
-    hold(pep440_range_bounds_compiled(NONE, NONE, NONE, &written, &count) == PEP440_NOT_COMPILED, "range_bounds_compiled");
-    hold(pep440_release_range_bounds_compiled(NONE, NONE, NONE, &written, &count) == PEP440_NOT_COMPILED, "release_range_bounds_compiled");
-    hold(pep440_build_error(PEP440_EQUAL, NONE, 0, out, sizeof out, &written) == PEP440_NOT_COMPILED, "build_error");
-    hold(pep440_range_keys_compiled(NONE, NONE, NONE, &written, &count) == PEP440_NOT_COMPILED, "range_keys_compiled");
-    hold(pep440_cover_keys_compiled(NONE, NONE, NONE, &written, &count) == PEP440_NOT_COMPILED, "cover_keys_compiled");
+    hold(pep440_compile_list(NONE, out, sizeof out, &written) == PEP440_OK && written == 1 && out[0] == 5, "compile_list");
+    hold(pep440_build_error(PEP440_EQUAL, NONE, 0, out, sizeof out, &written) == PEP440_INVALID_VERSION, "build_error");
+    hold(pep440_compare(NONE, version, sizeof version, &order) == PEP440_INVALID_VERSION, "compare with a compiled one");
+    hold(pep440_compare(version, sizeof version, NONE, &order) == PEP440_INVALID_RIGHT, "compare a compiled one");
+    hold(pep440_contains(NONE, version, sizeof version, &is, &early) == PEP440_OK && is == 1 && early == 0, "contains a compiled one");
+    hold(pep440_contains(list, sizeof list, NONE, &is, &early) == PEP440_INVALID_VERSION, "contains, a compiled list");
 }
 
 static void buffers(void)
@@ -88,16 +84,17 @@ static void buffers(void)
 
 static void batches(void)
 {
-    const pep440_string one[] = {{NULL, 0}};
-    uint8_t marks[1], out[8];
+    const pep440_string one[] = {{NONE}}, two[] = {{NONE}, {(const uint8_t *)"1", 1}};
+    uint8_t marks[2], out[8];
     size_t indices[1], ends[1], written, index;
     hold(pep440_edit((const uint8_t *)"1", 1, NONE, out, 8, &written) == PEP440_OK && written == 1, "edit by none");
     hold(pep440_edit((const uint8_t *)"1", 1, one, 1, out, 8, &written) == PEP440_INVALID_CHANGE, "edit by null");
     hold(pep440_filter(EMPTY, NONE, NONE) == PEP440_OK, "filter of none");
     hold(pep440_sort(NONE, NONE, &index) == PEP440_OK, "sort of none");
-    hold(pep440_sort_compiled(NONE, NONE, &index) == PEP440_OK, "sort_compiled of none");
-    hold(pep440_sort_compiled(one, 1, indices, 1, &index) == PEP440_NOT_COMPILED && index == 0, "sort_compiled of null");
-    hold(pep440_filter_compiled(NONE, NONE, NONE) == PEP440_NOT_COMPILED, "filter_compiled, list");
+    hold(pep440_filter(NONE, two, 2, marks, 2) == PEP440_OK && marks[0] == PEP440_NOT_A_VERSION && marks[1] == PEP440_MATCH, "filter, list");
+    hold(pep440_sort(two + 1, 1, NONE, &index) == PEP440_NO_ROOM, "sort, no indices");
+    hold(pep440_sort_keys(two + 1, 1, NONE, NONE, &written, &index) == PEP440_NO_ROOM && written == 8, "sort_keys, no buffers");
+    hold(pep440_edit_error((const uint8_t *)"1", 1, one, 1, out, 8, &written) == PEP440_NO_ROOM && written > 8, "edit_error by null");
     hold(pep440_sort_keys(NONE, NONE, NONE, &written, &index) == PEP440_OK && written == 0, "sort_keys of none");
     hold(pep440_filter(EMPTY, one, 1, marks, 1) == PEP440_OK && marks[0] == PEP440_NOT_A_VERSION, "filter of null");
     hold(pep440_sort(one, 1, indices, 1, &index) == PEP440_INVALID_VERSION && index == 0, "sort of null");
@@ -106,10 +103,13 @@ static void batches(void)
 
 int main(void)
 {
-    strings();
-    compiled();
-    buffers();
-    batches();
+    for (uintptr_t address = 0; address <= 8; address += 8) {
+        none = (void *)address;
+        strings();
+        compiled();
+        buffers();
+        batches();
+    }
     printf("null with length 0 is as empty in each place, %d wrong\n", wrong);
     return wrong ? EXIT_FAILURE : EXIT_SUCCESS;
 }

@@ -1,4 +1,5 @@
-/* Each call with strings, lists and batches of many sizes, and buffers that are big enough: with memory there it must return PEP440_OK. */
+/* Each call with strings, compiled forms, lists and batches of many sizes, and buffers that are big enough: with memory there it must return
+   PEP440_OK. No compiled form and no sort key is longer than PEP440_COMPILED_BOUND. */
 #include <stdio.h>
 #include <stdlib.h>
 #include <string.h>
@@ -17,7 +18,7 @@ static uint64_t release[GREATEST + 2], word;
 static pep440_parts parts;
 static int8_t order;
 static uint8_t is, early;
-static pep440_string batch[GREATEST], forms[GREATEST];
+static pep440_string batch[GREATEST], forms[GREATEST], mixed[GREATEST];
 
 static size_t calls, failed;
 
@@ -52,89 +53,119 @@ static pep440_string keep(void)
 
 static void drop(pep440_string string) { free((void *)string.bytes); }
 
+/* The compiled form, which is no longer than the header says. */
+static pep440_string compile(uint8_t (*compiles)(const uint8_t *, size_t, uint8_t *, size_t, size_t *), pep440_string string, const char *part, size_t size)
+{
+    check(compiles(PARSED(string), OUT), "compile", part, size);
+    check(written > PEP440_COMPILED_BOUND(string.length), "PEP440_COMPILED_BOUND", part, size);
+    return keep();
+}
+
+/* A version, as a string or as its compiled form. */
+static void of_either(pep440_string version, const char *part, size_t size)
+{
+    static const pep440_string change = {TEXT("post=2")};
+    CHECK(pep440_normalize(PARSED(version), OUT));
+    CHECK(pep440_version_error(PARSED(version), OUT));
+    CHECK(pep440_parts_of(PARSED(version), &parts, release, GREATEST + 2));
+    CHECK(pep440_sort_key(PARSED(version), OUT));
+    CHECK(pep440_build_error(PEP440_LESS, PARSED(version), 0, OUT));
+    CHECK(pep440_edit(PARSED(version), &change, 1, OUT));
+    CHECK(pep440_compile(PARSED(version), OUT));
+    uint8_t status = pep440_word(PARSED(version), &word);
+    check(status == PEP440_NOT_PACKED ? PEP440_OK : status, "pep440_word", part, size);
+}
+
+/* Both of a version, beside both. */
+static void of_pair(pep440_string version, pep440_string other, pep440_string specifier, pep440_string few, const char *part, size_t size)
+{
+    CHECK(pep440_compare(PARSED(version), PARSED(other), &order));
+    CHECK(pep440_contains(PARSED(specifier), PARSED(version), &is, &early));
+    CHECK(pep440_contains(PARSED(few), PARSED(version), &is, &early));
+}
+
 /* Of a version: release numbers, digits, local segments, bytes of one. */
 static void of_versions(const char *before, const char *part, size_t size)
 {
-    pep440_string version = repeat(before, part, "", size), invalid = repeat(before, part, "!", size);
+    pep440_string version = repeat(before, part, "", size), invalid = repeat(before, part, "!", size), few = {TEXT(">=0,!=0.5")};
     pep440_string specifier = repeat("===", (const char *)version.bytes, "", 1);
-    CHECK(pep440_normalize(PARSED(version), OUT));
+    pep440_string compiled = compile(pep440_compile, version, part, size), only = compile(pep440_compile_specifier, specifier, part, size);
+    pep440_string compiled_few = compile(pep440_compile_list, few, part, size);
     CHECK(pep440_version_error(PARSED(invalid), OUT));
     CHECK(pep440_pattern(PARSED(version), OUT, &is));
     CHECK(pep440_pattern_error(PARSED(invalid), OUT));
-    CHECK(pep440_compare(PARSED(version), PARSED(version), &order));
-    CHECK(pep440_contains(PARSED(specifier), PARSED(version), &is, &early));
-    CHECK(pep440_parts_of(PARSED(version), &parts, release, GREATEST + 2));
-    CHECK(pep440_sort_key(PARSED(version), OUT));
     CHECK(pep440_specifier(TEXT("==="), PARSED(version), OUT));
     CHECK(pep440_specifier_error(PARSED(invalid), OUT));
-    CHECK(pep440_edit(PARSED(version), &(pep440_string){TEXT("post=2")}, 1, OUT));
     CHECK(pep440_compile_specifier(PARSED(specifier), OUT));
-    CHECK(pep440_compile(PARSED(version), OUT));
-    pep440_string compiled = keep();
-    CHECK(pep440_normalize_compiled(PARSED(compiled), OUT));
-    CHECK(pep440_compare_compiled(PARSED(compiled), PARSED(compiled), &order));
-    CHECK(pep440_parts_of_compiled(PARSED(compiled), &parts, release, GREATEST + 2));
-    CHECK(pep440_sort_key_compiled(PARSED(compiled), OUT));
-    CHECK(pep440_build_error(PEP440_LESS, PARSED(compiled), 0, OUT));
-    CHECK(pep440_compile_list(TEXT(">=0,!=0.5"), OUT));
-    CHECK(pep440_contains_compiled(out, written, PARSED(compiled), &is, &early));
-    uint8_t status = pep440_word(PARSED(version), &word);
-    check(status == PEP440_NOT_PACKED ? PEP440_OK : status, "pep440_word", part, size);
-    drop(version), drop(invalid), drop(specifier), drop(compiled);
+    of_either(version, part, size);
+    of_either(compiled, part, size);
+    of_pair(version, version, specifier, few, part, size);
+    of_pair(version, compiled, only, compiled_few, part, size);
+    of_pair(compiled, version, specifier, few, part, size);
+    of_pair(compiled, compiled, only, compiled_few, part, size);
+    drop(version), drop(invalid), drop(specifier), drop(compiled), drop(only), drop(compiled_few);
 }
 
-/* Of a list: asked of a version without a local part, and of one with. */
+/* A list, as a string or as its compiled form: asked of a version without a local part, and of one with. */
+static void of_either_list(pep440_string list, const char *part, size_t size)
+{
+    static const pep440_string versions[] = {{TEXT("0.5")}, {TEXT("0.5+a")}};
+    CHECK(pep440_normalize_list(PARSED(list), OUT));
+    CHECK(pep440_any_prerelease(PARSED(list), &is));
+    CHECK(pep440_specifiers_of(PARSED(list), KEYS));
+    CHECK(pep440_compile_list(PARSED(list), OUT));
+    for (int number = 0; number < 2; number++) {
+        pep440_string compiled = compile(pep440_compile, versions[number], part, size);
+        CHECK(pep440_contains(PARSED(list), PARSED(versions[number]), &is, &early));
+        CHECK(pep440_contains(PARSED(list), PARSED(compiled), &is, &early));
+        CHECK(pep440_filter(PARSED(list), &versions[number], 1, marks, 1));
+        CHECK(pep440_filter(PARSED(list), &compiled, 1, marks, 1));
+        drop(compiled);
+    }
+}
+
 static void of_lists(const char *before, const char *part, size_t size)
 {
     pep440_string list = repeat(before, part, "", size), invalid = repeat(before, part, ",=", size);
-    CHECK(pep440_normalize_list(PARSED(list), OUT));
+    pep440_string compiled = compile(pep440_compile_list, list, part, size);
     CHECK(pep440_list_error(PARSED(invalid), OUT));
-    CHECK(pep440_any_prerelease(PARSED(list), &is));
-    CHECK(pep440_contains(PARSED(list), TEXT("0.5"), &is, &early));
-    CHECK(pep440_filter(PARSED(list), &(pep440_string){TEXT("0.5")}, 1, marks, 1));
-    CHECK(pep440_specifiers_of(PARSED(list), KEYS));
-    CHECK(pep440_compile(TEXT("0.5"), OUT));
-    pep440_string public = keep();
-    CHECK(pep440_compile(TEXT("0.5+a"), OUT));
-    pep440_string local = keep();
-    CHECK(pep440_compile_list(PARSED(list), OUT));
-    pep440_string compiled = keep();
-    CHECK(pep440_normalize_list_compiled(PARSED(compiled), OUT));
-    CHECK(pep440_contains_compiled(PARSED(compiled), PARSED(public), &is, &early));
-    CHECK(pep440_contains_compiled(PARSED(compiled), PARSED(local), &is, &early));
-    CHECK(pep440_filter_compiled(PARSED(compiled), &local, 1, marks, 1));
-    drop(list), drop(invalid), drop(public), drop(local), drop(compiled);
+    of_either_list(list, part, size);
+    of_either_list(compiled, part, size);
+    drop(list), drop(invalid), drop(compiled);
 }
 
-/* Of a list whose range has a segment for each member. */
-static void of_ranges(const char *before, const char *part, size_t size)
+static void of_either_range(pep440_string list, const char *part, size_t size)
 {
-    pep440_string list = repeat(before, part, "", size);
     CHECK(pep440_ranges(PARSED(list), OUT));
     CHECK(pep440_range_keys(PARSED(list), KEYS));
     CHECK(pep440_cover_keys(PARSED(list), KEYS));
     CHECK(pep440_range_bounds(PARSED(list), KEYS));
     CHECK(pep440_release_range_bounds(PARSED(list), KEYS));
-    CHECK(pep440_compile_list(PARSED(list), OUT));
-    pep440_string compiled = keep();
-    CHECK(pep440_range_keys_compiled(PARSED(compiled), KEYS));
-    CHECK(pep440_cover_keys_compiled(PARSED(compiled), KEYS));
-    CHECK(pep440_range_bounds_compiled(PARSED(compiled), KEYS));
-    CHECK(pep440_release_range_bounds_compiled(PARSED(compiled), KEYS));
+}
+
+/* Of a list whose range has a segment for each member. */
+static void of_ranges(const char *before, const char *part, size_t size)
+{
+    pep440_string list = repeat(before, part, "", size), compiled = compile(pep440_compile_list, list, part, size);
+    of_either_range(list, part, size);
+    of_either_range(compiled, part, size);
     drop(list), drop(compiled);
 }
 
-/* Of a batch, and of changes. */
-static void of_batches(const char *list, const char *part, size_t size)
+/* Of a batch: of strings, of compiled forms, and of both in turn. */
+static void of_batches(const char *text, const char *part, size_t size)
 {
-    CHECK(pep440_filter(TEXT(">=0"), batch, size, marks, GREATEST));
-    CHECK(pep440_sort(batch, size, ends, GREATEST, &at));
-    CHECK(pep440_sort_keys(batch, size, out, sizeof out, ends, GREATEST, &written, &at));
-    CHECK(pep440_compile_list((const uint8_t *)list, strlen(list), OUT));
-    CHECK(pep440_filter_compiled(out, written, forms, size, marks, GREATEST));
-    CHECK(pep440_sort_compiled(forms, size, ends, GREATEST, &at));
+    pep440_string list = repeat(text, "", "", 0), compiled = compile(pep440_compile_list, list, part, size), *const batches[] = {batch, forms, mixed};
+    for (int number = 0; number < 3; number++) {
+        CHECK(pep440_filter(PARSED(list), batches[number], size, marks, GREATEST));
+        CHECK(pep440_filter(PARSED(compiled), batches[number], size, marks, GREATEST));
+        CHECK(pep440_sort(batches[number], size, ends, GREATEST, &at));
+        CHECK(pep440_sort_keys(batches[number], size, out, sizeof out, ends, GREATEST, &written, &at));
+    }
+    drop(list), drop(compiled);
 }
 
+/* Of changes. */
 static void of_changes(const char *version, const char *part, size_t size)
 {
     static pep440_string changes[GREATEST];
@@ -152,6 +183,7 @@ static void of_size(size_t size)
     of_versions("1+a", "b", size);
     of_lists(">=0", ",!=1.%zu", size);
     of_lists(">=0", ",<2.1.1.1.%zu", size);
+    of_lists("<1", ",<1", size);
     if (size <= 513)
         of_ranges(">=0", ",!=1.%zu", size);
     if (size <= 16385)
@@ -164,8 +196,8 @@ int main(void)
     for (size_t number = 0; number < GREATEST; number++) {
         char *text = malloc(16);
         batch[number] = (pep440_string){(uint8_t *)text, sprintf(text, number % 2 ? "1.%zu" : "1.%zu+a", number * 7919 % GREATEST)};
-        pep440_compile(PARSED(batch[number]), OUT);
-        forms[number] = keep();
+        forms[number] = compile(pep440_compile, batch[number], "1.%zu", number);
+        mixed[number] = number % 3 ? forms[number] : batch[number];
     }
     for (size_t size = 0; size <= 66; size++)
         of_size(size);

@@ -1,5 +1,6 @@
 /* How much stack a call takes: each runs in a thread whose stack was filled with one byte before, and the deepest byte that changed counts.
-   Strings are short, long, hostile to a reader, and very many. The header's bound must hold of all. */
+   Strings are short, long, hostile to a reader, and very many; each call takes them, their compiled forms, and one beside the other. The
+   header's bound must hold of all. */
 #define _GNU_SOURCE
 #include <pthread.h>
 #include <stdio.h>
@@ -11,10 +12,10 @@
 
 enum { BOUND = 16 * 1024, STACK = 1 << 20, LONG = 1 << 16, MANY = 100000, FILL = 0xA5 };
 
-static pep440_string given, list;
-/* Their compiled forms; no bytes where there is none. */
-static pep440_string compiled, compiled_list;
-static pep440_string *strings, *forms;
+/* A version, one to its right, and a list, as a string or as its compiled form; no bytes where there is none. */
+static pep440_string given, right, list;
+/* Very many versions, and changes. */
+static pep440_string *batch, *strings, *forms;
 static uint8_t *out;
 static size_t *indices, *ends, written, at;
 static uint64_t *release, packed;
@@ -23,16 +24,15 @@ static uint8_t flag, early;
 static int8_t order;
 
 #define GIVEN given.bytes, given.length
+#define RIGHT right.bytes, right.length
 #define LIST list.bytes, list.length
-#define COMPILED compiled.bytes, compiled.length
-#define COMPILED_LIST compiled_list.bytes, compiled_list.length
 #define OUT out, (size_t)LONG * 4, &written
 
 static void *normalize(void *unused) { pep440_normalize(GIVEN, OUT); return unused; }
 static void *normalize_list(void *unused) { pep440_normalize_list(LIST, OUT); return unused; }
 static void *version_error(void *unused) { pep440_version_error(GIVEN, OUT); return unused; }
 static void *list_error(void *unused) { pep440_list_error(LIST, OUT); return unused; }
-static void *compare(void *unused) { pep440_compare(GIVEN, GIVEN, &order); return unused; }
+static void *compare(void *unused) { pep440_compare(GIVEN, RIGHT, &order); return unused; }
 static void *contains(void *unused) { pep440_contains(LIST, GIVEN, &flag, &early); return unused; }
 static void *any_prerelease(void *unused) { pep440_any_prerelease(LIST, &flag); return unused; }
 static void *parts_of(void *unused) { pep440_parts_of(GIVEN, &parts, release, LONG); return unused; }
@@ -80,40 +80,12 @@ static void *cover_keys(void *unused)
 static void *compile(void *unused) { pep440_compile(GIVEN, OUT); return unused; }
 static void *compile_specifier(void *unused) { pep440_compile_specifier(LIST, OUT); return unused; }
 static void *compile_list(void *unused) { pep440_compile_list(LIST, OUT); return unused; }
-static void *normalize_compiled(void *unused) { pep440_normalize_compiled(COMPILED, OUT); return unused; }
-static void *normalize_list_compiled(void *unused) { pep440_normalize_list_compiled(COMPILED_LIST, OUT); return unused; }
-static void *sort_key_compiled(void *unused) { pep440_sort_key_compiled(COMPILED, OUT); return unused; }
-static void *compare_compiled(void *unused) { pep440_compare_compiled(COMPILED, COMPILED, &order); return unused; }
-static void *contains_compiled(void *unused) { pep440_contains_compiled(COMPILED_LIST, COMPILED, &flag, &early); return unused; }
-static void *parts_of_compiled(void *unused) { pep440_parts_of_compiled(COMPILED, &parts, release, LONG); return unused; }
-static void *range_keys_compiled(void *unused)
-{
-    pep440_range_keys_compiled(COMPILED_LIST, out, (size_t)LONG * 64, ends, MANY, &written, &at);
-    return unused;
-}
-static void *range_bounds_compiled(void *unused)
-{
-    pep440_range_bounds_compiled(COMPILED_LIST, out, (size_t)LONG * 64, ends, MANY, &written, &at);
-    return unused;
-}
-static void *release_range_bounds_compiled(void *unused)
-{
-    pep440_release_range_bounds_compiled(COMPILED_LIST, out, (size_t)LONG * 64, ends, MANY, &written, &at);
-    return unused;
-}
-static void *build_error(void *unused) { pep440_build_error(PEP440_LESS, COMPILED, 0, OUT); return unused; }
-static void *cover_keys_compiled(void *unused)
-{
-    pep440_cover_keys_compiled(COMPILED_LIST, out, (size_t)LONG * 64, ends, MANY, &written, &at);
-    return unused;
-}
-static void *filter_compiled(void *unused) { pep440_filter_compiled(COMPILED_LIST, forms, MANY, out, MANY); return unused; }
-static void *sort_compiled(void *unused) { pep440_sort_compiled(forms, MANY, indices, MANY, &at); return unused; }
-static void *filter(void *unused) { pep440_filter(LIST, strings, MANY, out, MANY); return unused; }
-static void *sort(void *unused) { pep440_sort(strings, MANY, indices, MANY, &at); return unused; }
+static void *build_error(void *unused) { pep440_build_error(PEP440_LESS, GIVEN, 0, OUT); return unused; }
+static void *filter(void *unused) { pep440_filter(LIST, batch, MANY, out, MANY); return unused; }
+static void *sort(void *unused) { pep440_sort(batch, MANY, indices, MANY, &at); return unused; }
 static void *sort_keys(void *unused)
 {
-    pep440_sort_keys(strings, MANY, out, (size_t)LONG * 64, ends, MANY, &written, &at);
+    pep440_sort_keys(batch, MANY, out, (size_t)LONG * 64, ends, MANY, &written, &at);
     return unused;
 }
 
@@ -146,19 +118,7 @@ static const struct {
              {"compile", compile},
              {"compile_specifier", compile_specifier},
              {"compile_list", compile_list},
-             {"normalize_compiled", normalize_compiled},
-             {"normalize_list_compiled", normalize_list_compiled},
-             {"sort_key_compiled", sort_key_compiled},
-             {"compare_compiled", compare_compiled},
-             {"contains_compiled", contains_compiled},
-             {"parts_of_compiled", parts_of_compiled},
-             {"range_keys_compiled", range_keys_compiled},
-             {"range_bounds_compiled", range_bounds_compiled},
-             {"release_range_bounds_compiled", release_range_bounds_compiled},
              {"build_error", build_error},
-             {"cover_keys_compiled", cover_keys_compiled},
-             {"filter_compiled", filter_compiled},
-             {"sort_compiled", sort_compiled},
              {"filter", filter},
              {"sort", sort},
              {"sort_keys", sort_keys}};
@@ -241,32 +201,36 @@ int main(void)
     const pep440_string lists[] = {of(">=1.0"), of(">=1!2.3.4.5.6rc7.post8.dev9, !=1.5.*, ~=1!2.0"), repeated(">=1", ",>=1", LONG),
                                    repeated(">=1", ",!=1.*", LONG), repeated("===1", ".1", LONG), repeated(">=1", ",x", LONG),
                                    of("==18446744073709551615.*")};
-    pep440_string compiled_versions[sizeof versions / sizeof *versions], compiled_lists[sizeof lists / sizeof *lists];
+    /* The string, and its compiled form. */
+    pep440_string of_version[2][sizeof versions / sizeof *versions], of_list[2][sizeof lists / sizeof *lists];
     size_t most = 0;
     out = malloc((size_t)LONG * 64);
     release = calloc(LONG, sizeof *release);
     indices = calloc(MANY, sizeof *indices);
     ends = calloc(MANY, sizeof *ends);
     make_strings();
-    for (size_t v = 0; v < sizeof versions / sizeof *versions; v++)
-        compiled_versions[v] = compiled_of(pep440_compile, versions[v]);
-    for (size_t l = 0; l < sizeof lists / sizeof *lists; l++)
-        compiled_lists[l] = compiled_of(pep440_compile_list, lists[l]);
+    for (size_t v = 0; v < sizeof versions / sizeof *versions; v++) {
+        of_version[0][v] = versions[v];
+        of_version[1][v] = compiled_of(pep440_compile, versions[v]);
+    }
+    for (size_t l = 0; l < sizeof lists / sizeof *lists; l++) {
+        of_list[0][l] = lists[l];
+        of_list[1][l] = compiled_of(pep440_compile_list, lists[l]);
+    }
     for (size_t turn = 0; turn < sizeof CALLS / sizeof *CALLS; turn++) {
         size_t of_call = 0;
-        int is_batch = turn + 5 >= sizeof CALLS / sizeof *CALLS;
+        int is_batch = turn + 3 >= sizeof CALLS / sizeof *CALLS;
         for (size_t v = 0; v < sizeof versions / sizeof *versions; v++)
-            for (size_t l = 0; l < sizeof lists / sizeof *lists; l++) {
-                size_t bytes;
-                if (is_batch && (v > 0 || l > 1))
-                    continue;
-                given = versions[v];
-                list = lists[l];
-                compiled = compiled_versions[v];
-                compiled_list = compiled_lists[l];
-                bytes = stack_of(CALLS[turn].call);
-                of_call = bytes > of_call ? bytes : of_call;
-            }
+            for (size_t l = 0; l < sizeof lists / sizeof *lists; l++)
+                for (int kinds = 0; kinds < 4 && !(is_batch && (v > 0 || l > 1)); kinds++) {
+                    size_t bytes;
+                    given = of_version[kinds % 2][v];
+                    right = of_version[kinds / 2][v];
+                    list = of_list[kinds / 2][l];
+                    batch = kinds % 2 ? forms : strings;
+                    bytes = stack_of(CALLS[turn].call);
+                    of_call = bytes > of_call ? bytes : of_call;
+                }
         printf("%-24s %6zu bytes of stack\n", CALLS[turn].name, of_call);
         most = of_call > most ? of_call : most;
     }
