@@ -4,7 +4,8 @@ use std::collections::BTreeSet;
 use std::fs;
 
 const README: &str = include_str!("../../pep440_rattle/README.md");
-const CALLS: &str = concat!(include_str!("../src/views.rs"), include_str!("../src/main.rs"));
+const CALLS: &str =
+    concat!(include_str!("../src/views.rs"), include_str!("../src/main.rs"), include_str!("../src/departures.rs"));
 
 /// A name of the ported crate, and the type that has it; none of a function or static of the crate itself.
 type Item = (String, String);

@@ -7,6 +7,7 @@
 
 use alloc::alloc::handle_alloc_error;
 use alloc::boxed::Box;
+use alloc::vec;
 use alloc::vec::Vec;
 use core::alloc::Layout;
 
@@ -108,22 +109,25 @@ fn needed<T>() {
     const { panic!("{}", env!("PEP440_NEEDED")) }
 }
 
-/// What compiled versions and lists begin with, which each call takes in place of strings. No string that is valid begins so.
-const FORMATS: [char; 2] = ['\u{4}', '\u{5}'];
-
-/// The bytes of a string that is no compiled form.
+/// The bytes of a string. Compiled versions and lists begin with 4 and 5, and each call takes them in place of strings; no valid string
+/// begins so.
 #[inline]
 fn bytes_of(string: &str) -> Result<&[u8], Refusal> {
-    if string.starts_with(FORMATS) { Err(Refusal::Invalid) } else { Ok(string.as_bytes()) }
+    match string.as_bytes() {
+        [4 | 5, ..] => Err(Refusal::Invalid),
+        bytes => Ok(bytes),
+    }
 }
 
 /// As many bytes are written here before a vector is.
 const STACK: usize = 128;
+/// As many bytes of a compiled version.
+const STACK_OF_VERSION: usize = 64;
 
 /// Calls `read` with what `call` writes of `input`.
 #[inline]
 fn written<T>(call: Writer, input: &[u8], read: impl FnOnce(&[u8]) -> T) -> Result<T, Refusal> {
-    written_to_room(writer(call, input), |room, length| read(&room[..length]))
+    written_to_room::<STACK, _>(writer(call, input), |room, length| read(&room[..length]))
 }
 
 #[inline]
@@ -135,19 +139,30 @@ fn writer(call: Writer, input: &[u8]) -> impl FnMut(&mut [u8], &mut usize) -> u8
 /// Calls `read` with room, and how many bytes `call` has written at its start; zero bytes follow. The call is given room for some bytes, and
 /// writes how many it has written or needs.
 #[inline]
-fn written_to_room<T>(
+fn written_to_room<const STACK: usize, T>(
     mut call: impl FnMut(&mut [u8], &mut usize) -> u8,
     read: impl FnOnce(&[u8], usize) -> T,
 ) -> Result<T, Refusal> {
-    let (mut stack, mut heap, mut length) = ([0; STACK], Vec::new(), 0);
-    let mut room = stack.as_mut_slice();
-    let mut status = call(room, &mut length);
-    if status == NO_ROOM {
-        heap.resize(length.max(STACK), 0);
-        room = &mut heap;
-        status = call(room, &mut length);
+    let (mut room, mut length) = ([0; STACK], 0);
+    match call(&mut room, &mut length) {
+        OK => Ok(read(&room, length)),
+        NO_ROOM => written_to_heap(call, length.max(STACK), read),
+        other => Err(refusal(other)),
     }
-    if status == OK { Ok(read(room, length)) } else { Err(refusal(status)) }
+}
+
+#[cold]
+#[inline(never)]
+fn written_to_heap<T>(
+    mut call: impl FnMut(&mut [u8], &mut usize) -> u8,
+    size: usize,
+    read: impl FnOnce(&[u8], usize) -> T,
+) -> Result<T, Refusal> {
+    let (mut room, mut length) = (vec![0; size], 0);
+    match call(&mut room, &mut length) {
+        OK => Ok(read(&room, length)),
+        other => Err(refusal(other)),
+    }
 }
 
 fn as_text(bytes: &[u8]) -> &str {
@@ -157,7 +172,7 @@ fn as_text(bytes: &[u8]) -> &str {
 /// Calls `read` with room that compiled bytes of a version begin, and how many they are; zero bytes follow.
 #[inline]
 pub(crate) fn compile<T>(version: &str, read: impl FnOnce(&[u8], usize) -> T) -> Result<T, Refusal> {
-    written_to_room(writer(pep440_compile, bytes_of(version)?), read)
+    written_to_room::<STACK_OF_VERSION, _>(writer(pep440_compile, bytes_of(version)?), read)
 }
 
 /// Calls `read` with the normalized form of the version of a pattern, and with whether `.*` follows it.
@@ -167,7 +182,7 @@ pub(crate) fn pattern<T>(pattern: &str, read: impl FnOnce(&str, bool) -> T) -> R
         // SAFETY: as the module says.
         unsafe { pep440_pattern(bytes.as_ptr(), bytes.len(), out.as_mut_ptr(), out.len(), length, &raw mut star) }
     };
-    let text = written_to_room(call, |room, length| Box::from(as_text(&room[..length])))?;
+    let text = written_to_room::<STACK, _>(call, |room, length| Box::from(as_text(&room[..length])))?;
     Ok(read(&text, star == 1))
 }
 
@@ -178,7 +193,7 @@ pub(crate) fn specifier<T>(operator: &str, version: &str, read: impl FnOnce(&str
         // SAFETY: as the module says.
         unsafe { pep440_specifier(operator.as_ptr(), operator.len(), version.as_ptr(), version.len(), out, size, length) }
     };
-    written_to_room(call, |room, length| read(as_text(&room[..length])))
+    written_to_room::<STACK, _>(call, |room, length| read(as_text(&room[..length])))
 }
 
 /// Calls `read` with the compiled bytes of a list.
@@ -194,10 +209,10 @@ pub(crate) fn compile_specifier<T>(specifier: &str, read: impl FnOnce(&[u8]) -> 
 /// The words that `call` writes of a string, which has some with each string.
 fn words(call: Writer, string: &str) -> Box<str> {
     let said = |string: &[u8]| written(call, string, |bytes| as_text(bytes).into()).expect("any string has an answer");
-    match string.strip_prefix(FORMATS) {
-        None => said(string.as_bytes()),
+    match bytes_of(string) {
+        Ok(bytes) => said(bytes),
         // Another character that no valid string begins with, and that is written alike.
-        Some(rest) => said(["\u{6}", rest].concat().as_bytes()).replacen('\u{6}', &string[..1], 1).into(),
+        Err(_) => said(["\u{6}", &string[1..]].concat().as_bytes()).replacen('\u{6}', &string[..1], 1).into(),
     }
 }
 
@@ -222,7 +237,8 @@ pub(crate) fn build_error(operator: u8, version: &[u8], star: bool) -> Box<str> 
         // SAFETY: as the module says.
         unsafe { pep440_build_error(operator, version.as_ptr(), version.len(), star.into(), out.as_mut_ptr(), out.len(), length) }
     };
-    written_to_room(call, |room, length| as_text(&room[..length]).into()).expect("an operator and compiled bytes have an answer")
+    written_to_room::<STACK, _>(call, |room, length| as_text(&room[..length]).into())
+        .expect("an operator and compiled bytes have an answer")
 }
 
 /// Why the string is no list; empty where it is one.
@@ -273,9 +289,12 @@ pub(crate) fn contains(list: &[u8], version: &[u8]) -> bool {
     let status = unsafe {
         pep440_contains(list.as_ptr(), list.len(), version.as_ptr(), version.len(), &raw mut contained, &raw mut prerelease)
     };
-    match status {
-        OK => contained == 1,
-        INVALID_VERSION | INVALID_LIST => false,
-        other => panic!("a compiled list has no answer: {:?}", refusal(other)),
-    }
+    if status == OK { contained == 1 } else { is_refused(status) }
+}
+
+/// No version is contained where compiled bytes denote no version or no list.
+#[cold]
+fn is_refused(status: u8) -> bool {
+    assert_eq!(refusal(status), Refusal::Invalid, "a compiled list has an answer");
+    false
 }

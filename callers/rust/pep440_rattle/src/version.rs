@@ -108,22 +108,16 @@ impl Version {
 
     /// The version of these bytes, and its parts where they are known; they must be where no string parses to it.
     pub(crate) fn from_bytes(bytes: &[u8], parts: Option<Parts>) -> Version {
-        let mut first = [0; ROOM];
-        first.iter_mut().zip(bytes).for_each(|(place, byte)| *place = *byte);
-        Version::from_first(bytes, first, parts)
-    }
-
-    /// The same with the first of the bytes, filled up with zero bytes.
-    #[inline]
-    fn from_first(bytes: &[u8], first: [u8; ROOM], parts: Option<Parts>) -> Version {
-        let zeros = count_zeros(bytes);
-        let key = Key::new(first, bytes.len() - zeros, zeros);
-        if key.is_whole() && parts.is_none() {
-            return Version { key, rest: Lazy::new() };
+        let mut room = [0; ROOM];
+        room.iter_mut().zip(bytes).for_each(|(place, byte)| *place = *byte);
+        match (Key::from_room(room, bytes.len()), parts) {
+            (Some(key), None) => Version { key, rest: Lazy::new() },
+            (Some(key), Some(parts)) => Version { key, rest: Lazy::from(Rest { bytes: Box::default(), parts }) },
+            (None, parts) => {
+                let parts = parts.unwrap_or_else(|| bytes::read_parts(bytes));
+                Version { key: Key::from_bytes(bytes), rest: Lazy::from(Rest { bytes: bytes.into(), parts }) }
+            }
         }
-        let parts = parts.unwrap_or_else(|| bytes::read_parts(bytes));
-        let bytes = if key.is_whole() { Box::default() } else { bytes.into() };
-        Version { key, rest: Lazy::from(Rest { bytes, parts }) }
     }
 
     /// The version of the string; the error does not say why there is none.
@@ -131,7 +125,10 @@ impl Version {
     pub(crate) fn parse(version: &str) -> Result<Version, Refusal> {
         calls::compile(version, |room, length| {
             let first = *room[1..].first_chunk().expect("room for the first bytes");
-            Version::from_first(&room[1..length], first, None)
+            match Key::from_room(first, length - 1) {
+                Some(key) => Version { key, rest: Lazy::new() },
+                None => Version::from_bytes(&room[1..length], None),
+            }
         })
     }
 
@@ -167,7 +164,13 @@ impl Version {
     /// Calls `read` with `start` and then the bytes of the version.
     #[inline]
     pub(crate) fn with_start<T>(&self, start: [u8; 2], read: impl FnOnce(&[u8]) -> T) -> T {
-        if self.key.is_whole() { self.key.with_bytes(start, read) } else { read(&[&start, &*self.rest().bytes].concat()) }
+        if self.key.is_told() { self.key.with_bytes(start, read) } else { self.with_long_bytes(start, read) }
+    }
+
+    #[cold]
+    #[inline(never)]
+    fn with_long_bytes<T>(&self, start: [u8; 2], read: impl FnOnce(&[u8]) -> T) -> T {
+        read(&[&start, &*self.rest().bytes].concat())
     }
 
     /// Calls `read` with the bytes of the version: its key, and a byte 1 for each zero that ends its release.
@@ -179,6 +182,14 @@ impl Version {
     #[inline]
     pub(crate) fn with_compiled<T>(&self, read: impl FnOnce(&[u8]) -> T) -> T {
         self.with_start([0, bytes::VERSION], |bytes| read(&bytes[1..]))
+    }
+
+    /// The order of versions whose keys begin with the same word.
+    #[inline]
+    fn cmp_equal_starts(&self, other: &Version) -> Ordering {
+        let ((_, second, third), (_, other_second, other_third)) = (self.key.words(), other.key.words());
+        let order = (second, third).cmp(&(other_second, other_third));
+        if order.is_ne() || self.key.is_short() { order } else { self.long_key().cmp(other.long_key()) }
     }
 
     /// All bytes of a key that is not short.
@@ -561,8 +572,8 @@ impl PartialOrd for Version {
 impl Ord for Version {
     #[inline]
     fn cmp(&self, other: &Version) -> Ordering {
-        let order = self.key.words().cmp(&other.key.words());
-        if order.is_ne() || self.key.is_short() { order } else { self.long_key().cmp(other.long_key()) }
+        let ((left, ..), (right, ..)) = (self.key.words(), other.key.words());
+        if left == right { self.cmp_equal_starts(other) } else { left.cmp(&right) }
     }
 }
 

@@ -18,6 +18,8 @@ unsafe extern "C" {
 
 const OK: u8 = 0;
 const INVALID_VERSION: u8 = 1;
+/// What a compiled version begins with.
+const VERSION: u8 = 4;
 
 /// What the call writes of the bytes, or its status.
 fn write(call: Writer, bytes: &[u8]) -> Result<Vec<u8>, u8> {
@@ -108,7 +110,9 @@ fn read_bytes(chance: &mut Chance, count: u64) -> u64 {
         let bytes = some_bytes(chance);
         match write(pep440_normalize, &bytes) {
             Ok(print) => {
-                assert_eq!(write(pep440_compile, &print).as_ref(), Ok(&bytes), "{}", String::from_utf8_lossy(&print));
+                // Bytes of another format are a string.
+                let compiled = if bytes[0] == VERSION { Ok(bytes) } else { write(pep440_compile, &bytes) };
+                assert_eq!(write(pep440_compile, &print), compiled, "{}", String::from_utf8_lossy(&print));
                 printed += 1;
             }
             Err(status) => assert_eq!(status, INVALID_VERSION, "{bytes:?}"),
