@@ -3,7 +3,7 @@ complete -c pyver -f
 complete -c pyver -l help -d 'print the help'
 complete -c pyver -n __fish_use_subcommand -l version -d 'print the version of the program'
 
-complete -c pyver -n __fish_use_subcommand -a compare -d 'whether A stands so to B, by the exit status'
+complete -c pyver -n __fish_use_subcommand -a compare -d 'compare two versions (exit status 0 or 1)'
 complete -c pyver -n '__fish_seen_subcommand_from compare; and test (count (commandline -opc)) -eq 3' -a 'lt le eq ne ge gt'
 
 complete -c pyver -n __fish_use_subcommand -a match -d 'which of the versions the specifiers allow'

@@ -1,7 +1,8 @@
 /* PEP 440 for C: version numbers of Python packages, parsed, normalized, compared and matched by the proved library.
 
-   A version or a list is its bytes and their length: a string, which needs no zero at its end, or a compiled form, bytes made once of a
-   string (below). Every call takes either. Bytes that are neither are an invalid version or list. Each call returns a status. No call keeps a pointer, and none ends the process. Programs to begin with are in the folder examples of the release
+   A version or a list is passed as bytes and a length, with no zero at the end; for `const char *` see the calls at the end of this header. The
+   bytes are a string, or a compiled form, made once of a string (below): bytes that begin with 4 or 5 are taken as one. Every call takes
+   either. Bytes that are neither are an invalid version or list. Each call returns a status. No call keeps a pointer, and none ends the process. Programs to begin with are in the folder examples of the release
    archive, and in callers/c/examples of the repository.
 
    What the caller must keep, for nothing checks it:
@@ -150,7 +151,7 @@ typedef struct {
 uint8_t pep440_parts_of(const uint8_t *version, size_t length, pep440_parts *parts, uint64_t *release, size_t size);
 
 /* Writes the sort key of a version; `out` and `written` as for pep440_normalize. Keys compared byte by byte (memcmp, then the shorter one
-   first) have the order of their versions, and are equal exactly where the versions are. No key is a prefix of another one, so a key may be
+   first) have the order of their versions, and are equal exactly if the versions are. No key is a prefix of another one, so a key may be
    followed by other bytes in an index, and these count only between equal versions. A key may be stored and compared by whatever compares
    bytes: the key of a version is the same in each release. It cannot be parsed back, so store the version beside it. */
 uint8_t pep440_sort_key(const uint8_t *version, size_t length, uint8_t *out, size_t size, size_t *written);
@@ -197,7 +198,7 @@ enum { PEP440_NO_BOUND = 0, PEP440_INCLUDED = 1, PEP440_EXCLUDED = 2 };
 uint8_t pep440_range_bounds(const uint8_t *list, size_t length, uint8_t *out, size_t size, size_t *ends, size_t ends_size, size_t *written,
                             size_t *count);
 
-/* The same of the release-only range of the list, which is meant for versions that are just a release, as those of Python itself. Of each
+/* The same of the release-only range of the list, which is meant for versions that are just a release, as Python's own. Of each
    specifier only the operator and the release count, so no bound has an epoch, a suffix or a sentinel: the bounds of `>1!1.0rc1` are
    PEP440_EXCLUDED and the compiled form of `1.0`, and PEP440_NO_BOUND. */
 uint8_t pep440_release_range_bounds(const uint8_t *list, size_t length, uint8_t *out, size_t size, size_t *ends, size_t ends_size,
@@ -208,10 +209,10 @@ uint8_t pep440_release_range_bounds(const uint8_t *list, size_t length, uint8_t 
    Compiled bytes are plain bytes: keep them in memory, in a file or in a column, copy them, share them among threads, give them to another
    process or machine. There is no handle, and nothing to free. Their first byte is a format, with which no string of a version or a list
    begins, and the bytes of a format never change between releases: what one release wrote each later one takes. Bytes of a format that a
-   library does not know are an invalid version or list, as those of the formats 1, 2 and 3, which earlier libraries wrote.
+   library does not know are an invalid version or list, as are formats 1, 2 and 3, which earlier libraries wrote.
 
    A compiled version is the byte 4, the sort key of the version, and a byte 1 for each zero that ends its release, which is all that a sort key
-   leaves out. A sort key ends with a byte 0. So the order of versions is that of their sort keys as they lie in the bytes, two versions are equal
+   leaves out. A sort key ends with a byte 0. So versions are ordered as the sort keys in their bytes are, two versions are equal
    exactly if their sort keys are, and a hash of a sort key is one of the version. A compiled list is the byte 5, and of each specifier 16 and the
    number of its operator (below), and then its version without the byte 4. `1.0` takes 10 bytes, `2024.10.20240101` 17; no version and no
    list takes more than PEP440_COMPILED_BOUND of the length of its string.
@@ -221,9 +222,9 @@ uint8_t pep440_release_range_bounds(const uint8_t *list, size_t length, uint8_t 
    list that no string denotes, as `>=1.0+a`, but each version in them is one of a string.
 
    Bytes are never read beyond their length, whether they are compiled, cut, changed or chosen by an attacker. pep440_compare of two compiled
-   versions, pep440_contains of a compiled list and a compiled version, and pep440_sort_key of a compiled version read them as they lie, and
-   allocate nothing: of bytes that begin as a compiled form and are none they write any result, or return the status of an invalid one. All
-   other calls reject such bytes. So give bytes of unknown origin to pep440_normalize or pep440_normalize_list once. */
+   versions and pep440_contains of a compiled list and a compiled version read them as they lie, and allocate nothing: of bytes that begin as
+   a compiled form and are none they write any result, or return the status of an invalid one. All other calls reject such bytes. So give
+   bytes of unknown origin to pep440_normalize or pep440_normalize_list once. */
 
 /* How many bytes suffice for the compiled form of a version or a list, and so for a sort key, by the length of its string. */
 #define PEP440_COMPILED_BOUND(length) (10 + 3 * (size_t)(length))
@@ -238,7 +239,7 @@ uint8_t pep440_compile_list(const uint8_t *list, size_t length, uint8_t *out, si
    string is no specifier, as the empty string and `>=1.16,<2.0`. */
 uint8_t pep440_compile_specifier(const uint8_t *specifier, size_t length, uint8_t *out, size_t size, size_t *written);
 
-/* The operators in compiled lists, where 16 is added to their numbers. The star forms are `==` and `!=` with a version and `.*`. */
+/* The operators; in compiled lists 16 is added to their numbers. The star forms are `==` and `!=` with a version and `.*`. */
 enum {
     PEP440_EQUAL = 0,
     PEP440_EQUAL_STAR = 1,
@@ -268,7 +269,7 @@ enum { PEP440_NO_MATCH = 0, PEP440_MATCH = 1, PEP440_NOT_A_VERSION = 2, PEP440_P
 uint8_t pep440_filter(const uint8_t *list, size_t list_length, const pep440_string *strings, size_t count, uint8_t *marks, size_t size);
 
 /* Writes the indices of the strings, from 0, in the order of their versions; equal ones in the order given. With PEP440_INVALID_VERSION
-   `index` is that of the first string that is no version, and nothing else is written. PEP440_NO_ROOM if all are versions and `size` is less than
+   only `index` is written, the index of the first string that is no version. PEP440_NO_ROOM if all are versions and `size` is less than
    `count`; then nothing is written. */
 uint8_t pep440_sort(const pep440_string *strings, size_t count, size_t *indices, size_t size, size_t *index);
 

@@ -129,7 +129,7 @@ def test_page(server):
             assert not wanted or found == wanted, (query, found)
             count += bool(wanted)
     db.close()
-    assert count == 11, count
+    assert count == 8, count
     return f"{count} queries"
 
 

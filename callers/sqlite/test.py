@@ -148,8 +148,8 @@ def test_page():
         found = ["|".join(map(str, row)) for row in rows(db, re.sub(r"^--.*$", "", block, flags=re.M))]
         assert found == wanted, (block, found)
         count += 1
-    assert count == 10, count
-    return "10 queries"
+    assert count == 7, count
+    return "7 queries"
 
 
 def plan_of(db, query, *values):

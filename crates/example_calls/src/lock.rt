@@ -78,7 +78,7 @@ fn split_parts(line: &str) -> Option<(&str, &str, &str)>
 impl LockEntry {
     /// The entry of a line: a name, a list and a version, with semicolons between them.
     ///
-    /// Allocates. The error names the first fault: `Parts`, else that of the list, else that of the version. `OutOfMemory`
+    /// Allocates. The error names the first fault: `Parts`, then the list's, then the version's. `OutOfMemory`
     /// says nothing about the line.
     pub fn from_line(alloc: Global, line: &str) -> Result<LockEntry, LockError>
         ensures name { IfOk result (λ l. string_bytes l.name ≡ name_part line.now) }

@@ -1,4 +1,4 @@
-//! What no line of test cases can ask: how often calls allocate, and what callers can prove of equality, of values behind bounds and of
+//! What no line of test cases can ask: how often calls allocate, and what callers can prove of equality, of values under trait bounds and of
 //! loops over segments; and the examples of `example_calls`.
 #![tactic(auto)]
 

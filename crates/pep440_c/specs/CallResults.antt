@@ -45,7 +45,7 @@ IsListError text bytes = ((list : List Spec) × MeansListBytes text list × (byt
 
 -- the sort key of the version
 abbrev pub IsKey : List ℕ → List ℕ → Type 0
-IsKey text bytes = SeemsVersion text × ((r : Record) → MeansBytes text r → bytes ≡ key_bytes r)
+IsKey text bytes = (r : Record) × MeansBytes text r × (bytes ≡ key_bytes r)
 
 -- the word of a version, if it is packed
 abbrev pub TellsWord : List ℕ → Option ℕ → Type 0

@@ -1,4 +1,4 @@
-//! Strings one after the other, and where each of them ends.
+//! Strings one after the other, and the end of each.
 ghost use Rattle.std.specs.Prelude.{◌≡◌, ◌++◌, ◌∷◌, [], length, IfOk};
 ghost use Rattle.pep440_c.specs.JoinedStrings.{Joins};
 ghost use Rattle.pep440_keys.specs.SortKeys.{key_bytes};
@@ -7,7 +7,7 @@ use pep440_keys::push_sort_key;
 use pep440_rs::Version;
 use std::alloc::{AllocError, Global};
 
-/// Strings one after the other, and where each of them ends.
+/// Strings one after the other, and the end of each.
 #[derive(Drop)]
 pub(crate) struct JoinedStrings {
     pub(crate) bytes: Vec<u8>,

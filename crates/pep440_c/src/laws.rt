@@ -61,7 +61,7 @@ pub fn words_are_ordered()
 {}
 
 /// The sort key of a version lies in one of the intervals of a list's range exactly where the range has the version; and
-/// in one of those of its cover if the list, as a string denotes it, contains the version.
+/// in an interval of its cover if the list, as a string denotes it, contains the version.
 pub fn keys_tell_membership()
     ensures range { (list text : List ℕ) (range : Segments) (r : Record) → HasRange range_of list range → MeansBytes text r → list_any (λ s. is_within (segment_interval s) (key_bytes r)) range ≡ contains record_cmp range r }
     ensures cover { (list text : List ℕ) (members : List Spec) (cover : Segments) (r : Record) → (¬ HasListFormat list) → MeansListString list members → list_range cover_of members ≡ Some cover → MeansBytes text r → list_matches members r ≡ true → list_any (λ s. is_within (segment_interval s) (key_bytes r)) cover ≡ true }

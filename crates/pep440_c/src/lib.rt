@@ -5,8 +5,9 @@
 //! version is invalid, 2 a list is invalid, 3 out of memory, 4 too little room, 5 a bound of a range lies above the greatest number, 6 the
 //! right one of two versions is invalid, 7 a version is not packed, 8 a version cannot be changed so.
 //!
-//! `pep440_compare`, `pep440_contains` and `pep440_sort_key` read compiled bytes as they lie, without allocating. They do not test the whole
-//! of them: of bytes that begin as a compiled form and are none they return an error or any result, and never read outside them.
+//! `pep440_compare` of two compiled versions and `pep440_contains` of a compiled list and a compiled version read them as they lie, without
+//! allocating. They do not test the whole of them: of bytes that begin as a compiled form and are none they return an error or any
+//! result, and never read outside them.
 //! The header `callers/c/pep440.h` says what each call writes.
 //!
 //! With 0 the result is at the start of the buffer, whose rest is unchanged. With 4 everything is valid, but the result does not fit: the
@@ -52,8 +53,6 @@ use crate::batch::BatchError;
 use crate::buffer::{
     NOT_PACKED, OK, flag, put, put_and_count, put_both, put_bytes, put_joined, put_text,
 };
-use crate::texts::Fault;
-use pep440_compiled::has_version_format;
 use std::alloc::Global;
 use std::cmp::Ordering;
 
@@ -93,8 +92,8 @@ pub extern "C" fn pep440_normalize_list(
     put_text(texts::normalize_list(alloc, list), out, written)
 }
 
-/// Writes operator and version of each member of the list, as its normal form has them, in their order, and where each
-/// of these ends. Reports how many bytes and how many strings there are.
+/// Writes operator and version of each member of the list, as its normal form has them, in their order, and the end of
+/// each. Reports how many bytes and how many strings there are.
 #[unsafe(no_mangle)]
 pub extern "C" fn pep440_specifiers_of(
     alloc: Global,
@@ -314,7 +313,7 @@ pub extern "C" fn pep440_parts_of(
 }
 
 /// Writes the sort key of the version: `memcmp` orders keys as their versions (PEP 440, "Summary of permitted
-/// suffixes and relative ordering"). Allocates nothing for a compiled version, in which its key lies.
+/// suffixes and relative ordering").
 #[unsafe(no_mangle)]
 pub extern "C" fn pep440_sort_key(
     alloc: Global,
@@ -324,12 +323,6 @@ pub extern "C" fn pep440_sort_key(
 ) -> u8
     ensures { PutsBytes (RefusesBytes text.now) ⊥ ⊥ (IsKey text.now) out.old out.new written.old written.new result }
 {
-    if has_version_format(text) {
-        return match pep440_compiled::sort_key(text) {
-            Ok(key) => put_and_count(key, out, written),
-            Err(_) => Fault::InvalidVersion.status(),
-        };
-    }
     put_bytes(texts::make_key(alloc, text), out, written)
 }
 
@@ -435,7 +428,7 @@ pub extern "C" fn pep440_sort(
     }
 }
 
-/// Writes the sort keys of the strings, one after the other, and where each of them ends. `at` as above.
+/// Writes the sort keys of the strings, one after the other, and the end of each. `at` as above.
 #[unsafe(no_mangle)]
 pub extern "C" fn pep440_sort_keys(
     alloc: Global,

@@ -1,4 +1,4 @@
-//! Each call once where it returns a value and where it returns an error, with too little room, and with each allocation failing in turn.
+//! Each call once with a value and once with an error, with too little room, and with each allocation failing in turn.
 mod compiled;
 mod edits;
 mod one_specifier;

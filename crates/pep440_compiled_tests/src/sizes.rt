@@ -1,4 +1,4 @@
-//! Each call with versions and lists of many sizes, which needs memory alone.
+//! Each call with versions and lists of many sizes, which needs only memory.
 use pep440_compiled::{
     CompiledError, compile_list, compile_version, normalize, normalize_list, read_list,
     read_version,

@@ -28,8 +28,8 @@ pub fn texts_are_ordered()
     ensures ordered { (s t : List ℕ) (r q : Record) → Derives s r → Derives t q → slice_cmp nat_cmp (key_bytes r) (key_bytes q) ≡ record_cmp r q }
 {}
 
-/// A version lies in a segment exactly if its sort key lies in the segment's interval; and so it is of a list of segments. The local
-/// segments of the versions must have no zero byte, as those of every parsed version (`texts_are_ordered`).
+/// A version lies in a segment exactly if its sort key lies in the segment's interval; the same holds for a list of segments. The
+/// local segments of the versions must have no zero byte, and no parsed version has one (`texts_are_ordered`).
 pub fn keys_tell_membership()
     ensures segment { (s : Segment Record) (v : Record) → IsKeyedSegment s → IsKeyed v → is_within (segment_interval s) (key_bytes v) ≡ lies_in record_cmp s v }
     ensures range { (range : List (Segment Record)) → HasKeys range → HoldsKeys range (map segment_interval range) }

@@ -46,7 +46,7 @@ fn is_in_one(intervals: &[KeyInterval], key: &[u8]) -> bool {
     intervals.iter().any(|interval| interval.contains(key))
 }
 
-/// Whether the version lies outside these bounds; so does its key.
+/// Whether the version, and its key, lie outside these bounds.
 pub fn is_outside(alloc: Global, start: &str, end: &str, text: &str) -> Result<String, CaseError> {
     let start = bound_argument(alloc, start)?;
     let end = bound_argument(alloc, end)?;

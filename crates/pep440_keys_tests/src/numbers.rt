@@ -57,7 +57,7 @@ pub fn between(alloc: Global, start: &str, end: &str) -> Result<String, CaseErro
     Ok(text)
 }
 
-/// How many segments the range has, and those of its copy.
+/// How many segments the range and its copy have.
 pub fn segments(alloc: Global, text: &str) -> Result<String, CaseError> {
     let range = range(alloc, text)?;
     let copy = print_segments(alloc, &range.clone(alloc)?)?;

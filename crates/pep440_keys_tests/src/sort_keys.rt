@@ -13,7 +13,7 @@ pub fn print_bytes(alloc: Global, bytes: &[u8]) -> Result<String, AllocError> {
     Ok(text)
 }
 
-/// The sort key, also where it is appended.
+/// The sort key, also appended.
 pub fn key(alloc: Global, text: &str) -> Result<String, CaseError> {
     let version = parse_version(alloc, text)?;
     let key = sort_key(alloc, &version)?;

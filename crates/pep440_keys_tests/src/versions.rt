@@ -1,4 +1,4 @@
-//! Ranges of versions, whose copies allocate where they are not packed.
+//! Ranges of versions, whose copies allocate if they are not packed.
 use crate::kinds::{of_kind, print_segments};
 use pep440_keys::range_keys;
 use pep440_ranges::Ranges;

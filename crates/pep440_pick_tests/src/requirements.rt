@@ -48,7 +48,7 @@ pub fn requirement(alloc: Global, text: &str) -> Result<String, CaseError> {
     Ok(text)
 }
 
-/// The list of the requirement, where it is of this name.
+/// The list of the requirement, if it is of this name.
 pub fn specifiers_for(alloc: Global, name: &str, text: &str) -> Result<String, CaseError> {
     match Requirement::specifiers_for(alloc, name, text) {
         Ok(Some(list)) => Ok(print_value(alloc, &list)?),

@@ -57,7 +57,7 @@ impl<V: Ord + Clone> Ranges<V> {
         Self::from_range_bounds(alloc, Bound::Unbounded, Bound::Unbounded)
     }
 
-    /// The range of this value alone: the segment from it to it, both included. The value is cloned.
+    /// The range of just this value: the segment from it to it, both included. The value is cloned.
     ///
     /// Allocates; returns `AllocError` if that fails.
     pub fn singleton(alloc: Global, value: V) -> Result<Self, AllocError>
@@ -145,7 +145,7 @@ impl<V: Ord + Clone> Ranges<V> {
 
     /// The values that both ranges contain: the valid overlaps of a segment of self with one of other, ascending. An
     /// overlap has the greater start and the lesser end; at equal values an excluded bound wins, and of two equal
-    /// bounds that of self is cloned. n and m segments have at most n + m - 1 overlaps, and none if n or m is 0.
+    /// bounds, self's is cloned. n and m segments have at most n + m - 1 overlaps, and none if n or m is 0.
     ///
     /// One pass over both lists: n + m steps of at most three comparisons, and a clone for each bound that is kept. Allocates; returns
     /// `AllocError` if that fails.

@@ -117,7 +117,7 @@ pub fn refused_at_max()
     ensures release { RefusedAtMax release_range_of raised_release_number }
 {}
 
-/// The members made of bounds contain the releases within the bounds: those of one pair exactly these, those of
+/// The members made of bounds contain the releases within the bounds: one pair gives exactly these,
 /// a list of pairs all of these, and no other if each gap is known.
 pub fn bounds_agree()
     ensures pair { (p : Segment Record) → IsReleasePair p → MatchesWithin p (pair_members p.0 p.1) }

@@ -137,7 +137,7 @@ impl VersionSpecifiers {
     }
 
     /// The list of pairs of bounds: for each gap between an upper bound and the next lower one `!=` of the one
-    /// version that is left out, or `!=a.b.*` from `a.b` on to below `a.c`, where c is b plus 1, and nothing for
+    /// version that is left out, or `!=a.b.*` from `a.b` on to below `a.c`, c being b plus 1, and nothing for
     /// every other gap; then the specifiers of the first lower and the last upper bound, as by
     /// `VersionSpecifier::from_release_only_bounds`; by version, and those with equal versions in this order. No
     /// pair gives the empty list (PEP 440, "Version specifiers"). Each version must be only a release;

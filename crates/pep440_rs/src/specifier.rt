@@ -47,7 +47,7 @@ use std::hash::{Hash, Hasher};
 use std::marker::Model;
 use std::ops::Bound;
 
-/// An operator and a version, as `>=1.2.3` (PEP 440, "Version specifiers"). Before the version of a `~=` stand
+/// An operator and a version, as `>=1.2.3` (PEP 440, "Version specifiers"). The version of a `~=` has
 /// two release numbers or more.
 ///
 /// Specifiers are ordered by operator, then by version; so `==1.0` equals `==1.0.0`, though the two may print
@@ -290,7 +290,7 @@ impl VersionSpecifier {
     }
 
     /// The specifier that the string denotes: white space, an operator, white space, a version pattern, white space
-    /// and the end, where white space is what `char::is_whitespace` accepts (PEP 440, "Version specifiers").
+    /// and the end; white space is what `char::is_whitespace` accepts (PEP 440, "Version specifiers").
     ///
     /// Allocates. Every string that is no specifier is rejected with its one `ParseErrorKind`; only if an
     /// allocation failed the kind may be `OutOfMemory` instead.
@@ -319,7 +319,7 @@ impl VersionSpecifier {
     }
 
     /// Whether the specifier contains the version (PEP 440, "Version specifiers"). A specifier whose version has no
-    /// local part ignores that of the candidate.
+    /// local part ignores the candidate's.
     ///
     /// Allocates only for `===`, which compares normalized forms; with any other operator it always succeeds.
     pub fn contains(&self, alloc: Global, version: &Version) -> Result<bool, AllocError>

@@ -127,7 +127,7 @@ fn list_of_one(alloc: Global, start: &str, end: &str) -> Result<String, CaseErro
     Ok(text)
 }
 
-/// The list of these pairs of bounds on releases, at most two; behind that of one pair, its specifiers.
+/// The list of these pairs of bounds on releases, at most two; after the list of one pair, its specifiers.
 pub fn pairs(alloc: Global, sides: &[String]) -> Result<String, CaseError> {
     match sides {
         [] => list_of_pairs(alloc, &[]),

@@ -139,7 +139,7 @@ pub fn members(alloc: Global, text: &str) -> Result<String, CaseError> {
     Ok(text)
 }
 
-/// The list that is made of these specifiers, by the call for one where there is one.
+/// The list that is made of these specifiers, by the call for one if there is one.
 pub fn list_of(alloc: Global, texts: &[String]) -> Result<String, CaseError> {
     if let [text] = texts {
         let alone = specifier_argument(alloc, text.as_str())?;

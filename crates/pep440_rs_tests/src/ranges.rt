@@ -35,7 +35,7 @@ pub fn range(alloc: Global, text: &str) -> Result<String, CaseError> {
     Ok(found)
 }
 
-/// The range of the list by releases alone.
+/// The release-only range of the list.
 pub fn release_range(alloc: Global, text: &str) -> Result<String, CaseError> {
     let list = list_argument(alloc, text)?;
     let is_one = list.as_slice().len() == 1;
@@ -63,7 +63,7 @@ pub fn cover(alloc: Global, text: &str) -> Result<String, CaseError> {
     Ok(found)
 }
 
-/// The range of a specifier that no string gives, behind how it prints.
+/// The range of a specifier that no string gives, after how it prints.
 pub fn unchecked_range(alloc: Global, operator: &str, text: &str) -> Result<String, CaseError> {
     let specifier = unchecked_argument(alloc, operator, text)?;
     let mut print = print_value(alloc, &specifier)?;

@@ -4,8 +4,8 @@ ghost use Rattle.std.specs.Bool.{OnTrue};
 ghost use Rattle.std.specs.Io.KnownBytes.{Consumes, Appends, IsAtEnd};
 ghost use Rattle.pep440_tool.specs.Runs.{WroteFront};
 
-use std::alloc::Global;
-use std::io::{Read, Write};
+use std::alloc::{AllocError, Global};
+use std::io::{Error, Read, Write};
 
 pub const MOST_READS: u32 = 1048576;
 
@@ -18,6 +18,18 @@ pub enum ReadFailure {
     OutOfMemory,
 }
 
+impl From<Error> for ReadFailure {
+    fn from(_: Error) -> ReadFailure {
+        ReadFailure::Io
+    }
+}
+
+impl From<AllocError> for ReadFailure {
+    fn from(_: AllocError) -> ReadFailure {
+        ReadFailure::OutOfMemory
+    }
+}
+
 /// Reads to the end, by at most `MOST_READS` calls, none of which is made again if it fails.
 pub fn read_whole<R: Read>(alloc: Global, reader: &mut R) -> Result<Vec<u8>, ReadFailure>
     ensures read { IfOk result (λ input. Consumes (R.remaining reader.old) (R.remaining reader.new) input.items) }
@@ -26,15 +38,11 @@ pub fn read_whole<R: Read>(alloc: Global, reader: &mut R) -> Result<Vec<u8>, Rea
     let mut input = Vec::new(alloc);
     let mut buffer = [0u8; READ_SIZE];
     for _ in 0..MOST_READS {
-        let Ok(count) = reader.read(&mut buffer) else {
-            return Err(ReadFailure::Io);
-        };
+        let count = reader.read(&mut buffer)?;
         if count == 0 {
             return Ok(input);
         }
-        if input.extend_from_slice(&buffer[..count]).is_err() {
-            return Err(ReadFailure::OutOfMemory);
-        }
+        input.extend_from_slice(&buffer[..count])?;
     }
     Err(ReadFailure::Io)
 }

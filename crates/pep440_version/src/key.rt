@@ -7,7 +7,7 @@ ghost use Rattle.pep440_version.specs.Trim.{trim};
 use crate::prerelease::PrereleaseKind;
 use crate::version::Version;
 
-/// Where a part stands among those of other versions: by rank, and then by number (PEP 440, "Summary of permitted suffixes
+/// The position of a part among other versions' parts: by rank, and then by number (PEP 440, "Summary of permitted suffixes
 /// and relative ordering").
 #[derive(Clone, Copy, PartialEq, Eq, PartialOrd, Ord)]
 pub struct RankedNumber {

@@ -8,7 +8,7 @@ ghost use Rattle.pep440_version.specs.Segments.{segment};
 use crate::prerelease::{Prerelease, PrereleaseKind};
 use crate::segment::LocalSegment;
 use crate::version::Version;
-use std::fmt;
+use std::fmt::{self, Write as _};
 
 // A number in decimal, whatever the options of `f`. By std's `Display`, over a writer that ignores them, a version of
 // small numbers took 3 to 5 in a hundred more instructions (`bench/versions`).
@@ -18,8 +18,22 @@ pub(crate) fn write_number<W: fmt::Write>(f: &mut fmt::Formatter<W>, n: u64) -> 
     if n < 10 {
         return write_digit(f, n);
     }
+    if n >= 1_000_000 {
+        return write_long_number(f, n);
+    }
     write_number(f, n / 10)?;
     write_digit(f, n % 10)
+}
+
+// The same through a buffer, which any number fits in: from seven digits on that is faster than a write for each digit. Not
+// inlined, so that short numbers do not pay for the buffer.
+#[inline(never)]
+fn write_long_number<W: fmt::Write>(f: &mut fmt::Formatter<W>, n: u64) -> fmt::Result
+    ensures { WritesStyledOnOk W.write_str_gives f.old result (decimal n) f.new }
+{
+    let mut text = fmt::InlineText::<20>::new();
+    write!(text, "{n}")?;
+    f.write_str(text.as_str())
 }
 
 fn write_digit<W: fmt::Write>(f: &mut fmt::Formatter<W>, n: u64) -> fmt::Result
@@ -164,7 +178,7 @@ fn write_segments<W: fmt::Write>(
 /// Writes local segments with dots between them, as the normalized form has them after its `+`; no segments write
 /// nothing. Width and fill of `f` are ignored (PEP 440, "Local version identifiers").
 ///
-/// The only error is that of the writer.
+/// The only error is the writer's.
 pub fn write_local_segments<W: fmt::Write>(
     f: &mut fmt::Formatter<W>,
     local: &[LocalSegment],

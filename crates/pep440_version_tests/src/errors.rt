@@ -73,7 +73,7 @@ fn join<K: Debug>(
     Ok(text)
 }
 
-/// The error, which equals its copy, and so does its kind.
+/// The error, which equals its copy, as its kind does.
 pub fn error_text(alloc: Global, error: &VersionParseError) -> Result<String, CaseError> {
     if !equals_copy(error)? || !equals_copy(error.kind())? {
         return Err(CaseError::Disagreement);

@@ -15,7 +15,7 @@ pub fn print(alloc: Global, text: &str) -> Result<String, CaseError> {
     Ok(text)
 }
 
-/// The version of the release alone.
+/// The version with only the release.
 pub fn from_release(alloc: Global, text: &str) -> Result<String, CaseError> {
     let version = version_argument(alloc, text)?;
     let numbers = version.release();
@@ -74,7 +74,7 @@ pub fn fields(alloc: Global, text: &str) -> Result<String, CaseError> {
     Ok(text)
 }
 
-/// The names of the parts that the version has besides the release, or that it is a release alone.
+/// The names of the parts that the version has besides the release, or that it is just a release.
 pub fn has(alloc: Global, text: &str) -> Result<String, CaseError> {
     let version = version_argument(alloc, text)?;
     let parts = [

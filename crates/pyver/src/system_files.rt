@@ -17,7 +17,7 @@ impl<'a, R: rt::Files> SystemFiles<'a, R> {
     }
 }
 
-fn failure(error: &Error) -> OpenFailure {
+fn failure(error: Error) -> OpenFailure {
     match error.kind() {
         ErrorKind::NotFound => OpenFailure::NotFound,
         ErrorKind::NotADirectory => OpenFailure::NotFound,
@@ -33,15 +33,11 @@ impl<R: rt::Files> Files for SystemFiles<'_, R> {
 
     // The system opens a directory, too, and fails only where it is read.
     fn open(&mut self, _alloc: Global, name: &str) -> Result<R::File, OpenFailure> {
-        let file = match fs::open(self.runtime, name) {
-            Ok(file) => file,
-            Err(error) => return Err(failure(&error)),
-        };
-        match file.metadata() {
-            Ok(metadata) if metadata.is_dir() => Err(OpenFailure::IsDirectory),
-            Ok(_) => Ok(file),
-            Err(error) => Err(failure(&error)),
+        let file = fs::open(self.runtime, name).map_err(failure)?;
+        if file.metadata().map_err(failure)?.is_dir() {
+            return Err(OpenFailure::IsDirectory);
         }
+        Ok(file)
     }
 
     // Of a pipe and of what is missing there is none.

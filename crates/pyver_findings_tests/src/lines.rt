@@ -4,7 +4,7 @@ use std::alloc::Global;
 use std::str;
 use testing::CaseError;
 
-/// The bytes, which are UTF-8 where they are from a case.
+/// The bytes, which are UTF-8 if they are from a case.
 pub fn text(bytes: &[u8]) -> Result<&str, CaseError> {
     str::from_utf8(bytes).map_err(|_| CaseError::Unreadable)
 }
@@ -47,7 +47,7 @@ fn or_none(part: Option<&[u8]>) -> Result<&str, CaseError> {
     }
 }
 
-/// The requirement, the URL and the marker with bars between them, where `-` stands for none.
+/// The requirement, the URL and the marker with bars between them; `-` stands for none.
 pub fn print_parts(alloc: Global, line: &str) -> Result<String, CaseError> {
     let parts = split_requirement(line.as_bytes());
     let requirement = text(parts.requirement)?;

@@ -56,26 +56,13 @@ pub(crate) fn filter_input<R: Read, W: Write, E: Write>(
             return Err(fail_reading(alloc, origin.name));
         };
         if count == 0 {
-            let Ok(()) = state.push_line(alloc, rule, origin, line.as_slice()) else {
-                return Err(RunFailure::OutOfMemory);
-            };
-            if let Err(stop) = write_both(
-                out,
-                err,
-                state.output.as_slice(),
-                state.errors.as_slice(),
-            ) {
-                return Err(stop);
-            }
+            state.push_line(alloc, rule, origin, line.as_slice())?;
+            write_both(out, err, state.output.as_slice(), state.errors.as_slice())?;
             state.clear();
             return Ok(());
         }
-        let Ok(()) = state.push_bytes(alloc, rule, origin, &mut line, &buffer[..count]) else {
-            return Err(RunFailure::OutOfMemory);
-        };
-        if let Err(stop) = write_both(out, err, state.output.as_slice(), state.errors.as_slice()) {
-            return Err(stop);
-        }
+        state.push_bytes(alloc, rule, origin, &mut line, &buffer[..count])?;
+        write_both(out, err, state.output.as_slice(), state.errors.as_slice())?;
         state.clear();
     }
     Err(fail_reading(alloc, origin.name))

@@ -66,10 +66,9 @@ fn filter_all<'a, F: Files, R: Read, W: Write, E: Write>(
     for name in names {
         let name = name.as_str();
         let origin = Origin { is_first, name };
-        match open_and_filter(alloc, rule, origin, state, files, input, out, err) {
-            Ok(None) => is_first = false,
-            Ok(Some(failure)) => return Ok(Some(UnopenedSource { name, failure })),
-            Err(stop) => return Err(stop),
+        match open_and_filter(alloc, rule, origin, state, files, input, out, err)? {
+            None => is_first = false,
+            Some(failure) => return Ok(Some(UnopenedSource { name, failure })),
         }
     }
     Ok(None)

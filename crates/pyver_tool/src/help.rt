@@ -47,19 +47,19 @@ const PROGRAM_HELP: &str = "usage: pyver COMMAND [WORD]..
 Python versions and version specifiers (PEP 440) for people and for shell scripts.
 
 commands:
-  compare A OP B     whether A stands so to B, by the exit status
-  match SPECS V..    which of the versions the specifiers allow
-  filter SPECS       the lines of files whose version the specifiers allow
-  sort               the lines of files in the order of their versions
-  newest SPECS       the line of the newest version that the specifiers allow
-  show V..           versions in normal form, or their parts
-  bump PART.. [V]    the version with parts of it raised
-  range SPECS..      the range of versions that all specifiers allow
-  check              what is wrong in requirements files
+  compare A OP B     compare two versions (exit status 0 or 1)
+  match SPECS V..    test versions against specifiers
+  filter SPECS       print the lines whose version the specifiers allow
+  sort               sort lines by version
+  newest SPECS       print the line with the newest version allowed
+  show V..           print versions in normal form, or their parts
+  bump PART.. [V]    raise parts of a version
+  range SPECS..      print the range that all specifiers allow
+  check              check requirements files
 
-'pyver COMMAND --help' tells more of a command. '--version' prints the program's version.
+'pyver COMMAND --help' explains a command. '--version' prints the program's version.
 The exit status is 0 for yes or done, 1 for no, 2 for a wrong use or an invalid version,
-3 where memory ran out and 4 where a read or a write failed.
+3 if out of memory and 4 if a read or a write failed.
 
 examples:
   pyver compare 1.9 lt 1.10 && echo older
@@ -75,7 +75,7 @@ examples:
 
 const COMPARE_HELP: &str = "usage: pyver compare A OP B
 
-Nothing is printed: the exit status is 0 where A stands so to B, and 1 where it does not.
+Prints nothing: the exit status is 0 if the comparison holds, and 1 if it does not.
 OP is lt, le, eq, ne, ge or gt, or <, <=, ==, !=, >= or > in quotes. Local parts count.
 
 examples:
@@ -85,15 +85,15 @@ examples:
 
 const MATCH_HELP: &str = "usage: pyver match [-q] [--pre | --no-pre] SPECS V..
 
-Prints 'yes' or 'no', a tab and the version, a line for each. The exit status is 0 where all
-are allowed, 1 where one is not, and 2 where one is no version. '' allows any version.
+Prints 'yes' or 'no', a tab and the version, a line for each. The exit status is 0 if all are
+allowed, 1 if one is not, and 2 if one is not a version. '' allows any version.
 Pre-releases and dev releases are left out, unless a specifier other than != has such a version.
 
 options:
   -q, --quiet  print nothing
   --pre        allow pre-releases and dev releases too
   --no-pre     allow none of them
-  --           all words after it are no options
+  --           end of options
 
 examples:
   pyver match '>=1.16,<2.0' 1.19 2.0
@@ -104,15 +104,15 @@ const FILTER_HELP: &str =
     "usage: pyver filter [-v] [--pre | --no-pre] [-k N] [-d C] [--header] [--invalid HOW] SPECS [FILE..]
 
 Prints the lines of the files whose version the specifiers allow, as they were written and as they
-come. '-' and no file mean standard input. '' allows any version. Blank lines are dropped, and so
-are a byte order mark before the first line and a carriage return at the end of a line.
-Each invalid line is named on standard error by file and number, the first 20 and then how many more
-there are, and the exit status is 2 at the end: HOW is error. With skip it is only said at the end
-how many were left out, and with keep nothing; neither counts for the status. HOW is error, skip or
-keep. At a file that cannot be opened it stops, and the exit status is 2.
+come. '-' and no file mean standard input. '' allows any version. Blank lines, a byte
+order mark before the first line and carriage returns at line ends are dropped.
+HOW is error, skip or keep. With error, the default, standard error names each invalid line by file
+and number, the first 20 and then how many more there are, and the exit status is 2 at the end. skip
+only counts them at the end, and keep says nothing; neither changes the status. filter stops at a
+file that cannot be opened, and the exit status is 2.
 Pre-releases and dev releases are left out, unless a specifier other than != has such a version.
-They are left out too where nothing else is allowed: that is not known before the last line.
-Fields stand between bytes C, also where they are quoted: quotes are not read.
+They are left out too if nothing else is allowed: that is not known before the last line.
+Every byte C ends a field: quotes have no meaning.
 
 options:
   -v, --invert-match  print the other lines, but no invalid ones
@@ -120,9 +120,9 @@ options:
   --no-pre            allow none of them
   -k, --field N       the version is field N, counted from 1, and not the whole line
   -d, --delimiter C   the byte between fields, an ASCII character; without -d a tab
-  --header            the first line of a file is no version; that of the first file is printed
-  --invalid HOW       what is done with invalid lines
-  --                  all words after it are no options
+  --header            the first line of a file is a header; print only the first one
+  --invalid HOW       what to do with invalid lines
+  --                  end of options
 
 examples:
   pyver filter '>=1.0,<2.0,!=1.5.*' versions.txt more.txt
@@ -134,25 +134,24 @@ const SORT_HELP: &str =
     "usage: pyver sort [-r] [-u] [-n K] [-k N] [-d C] [--header] [--invalid HOW] [FILE..]
 
 Prints the lines of the files in the order of their versions, as they were written; lines of equal
-versions, as 1.0 and v1.0.0, stay as they stood, with -r too. '-' and no file mean standard input.
-Nothing is printed before all files end. Blank lines are dropped, and so are a byte order mark
-before the first line and a carriage return at the end of a line. Where a line is invalid nothing is
-printed: each such line is named on standard error by file and number, the first 20 and then how
-many more there are, and the exit status is 2: HOW is error. With skip it is only said how many were
-left out. With keep nothing is said, and they stand behind all others, with -r too, in the order in
-which they stood; -n counts them, and -u keeps them all. HOW is error, skip or keep. Where a file
-cannot be opened nothing but that is said, and the exit status is 2.
-Fields stand between bytes C, also where they are quoted: quotes are not read.
+versions, as 1.0 and v1.0.0, keep their order, with -r too. '-' and no file mean standard input.
+Nothing is printed until all files end. Blank lines, a byte order mark before the first line and
+carriage returns at line ends are dropped. HOW is error, skip or keep. With error, the default, an
+invalid line stops all output: standard error names each one by file and number, the first 20 and
+then how many more there are, and the exit status is 2. skip only says how many were left out. keep
+prints them last, with -r too, in the order given; -n counts them, and -u keeps them all. If a file
+cannot be opened, only that is reported, and the exit status is 2.
+Every byte C ends a field: quotes have no meaning.
 
 options:
   -r, --reverse      the newest first
-  -u, --unique       of lines of equal versions the first alone
-  -n, --last K       the last K of the lines that would be printed behind the header
+  -u, --unique       print only the first of lines with equal versions
+  -n, --last K       print only the last K lines, after the header
   -k, --field N      the version is field N, counted from 1, and not the whole line
   -d, --delimiter C  the byte between fields, an ASCII character; without -d a tab
-  --header           the first line of a file is no version; print that of the first file first
-  --invalid HOW      what is done with invalid lines
-  --                 all words after it are no options
+  --header           the first line of a file is a header; print only the first one
+  --invalid HOW      what to do with invalid lines
+  --                 end of options
 
 examples:
   pyver sort -r versions.txt more.txt
@@ -163,26 +162,26 @@ examples:
 const NEWEST_HELP: &str =
     "usage: pyver newest [--pre | --no-pre] [-k N] [-d C] [--header] [--invalid HOW] SPECS [FILE..]
 
-Prints the line of the newest version in the files that the specifiers allow, as it was written; of
-lines of equal versions the first. '-' and no file mean standard input. '' allows any version. Where
-none is allowed nothing is printed, and the exit status is 1. Blank lines are dropped, and so are a
-byte order mark before the first line and a carriage return at the end of a line. Where a line is
-invalid nothing is printed: each such line is named on standard error by file and number, the first
-20 and then how many more there are, and the exit status is 2: HOW is error. With skip it is only
-said how many were left out, and with keep nothing. HOW is error, skip or keep. Where a file cannot
-be opened nothing but that is said, and the exit status is 2.
+Prints the line with the newest version that the specifiers allow, as it was written, and the first
+of lines with equal versions. '-' and no file mean standard input. '' allows any version. If none is
+allowed, nothing is printed, and the exit status is 1. Blank lines, a byte order mark before the
+first line and carriage returns at line ends are dropped. HOW is error, skip or keep. With error,
+the default, an invalid line stops all output: standard error names each one by file and number, the
+first 20 and then how many more there are, and the exit status is 2. skip only says how many were
+left out, and keep says nothing. If a file cannot be opened, only that is reported, and the exit
+status is 2.
 Pre-releases and dev releases are left out, unless a specifier other than != has such a version, or
 nothing else is allowed.
-Fields stand between bytes C, also where they are quoted: quotes are not read.
+Every byte C ends a field: quotes have no meaning.
 
 options:
-  --pre              allow pre-releases and dev releases as all others
+  --pre              allow pre-releases and dev releases too
   --no-pre           allow none of them
   -k, --field N      the version is field N, counted from 1, and not the whole line
   -d, --delimiter C  the byte between fields, an ASCII character; without -d a tab
-  --header           leave out the first line of a file, which is no version
-  --invalid HOW      what is done with invalid lines
-  --                 all words after it are no options
+  --header           leave out the first line of each file
+  --invalid HOW      what to do with invalid lines
+  --                 end of options
 
 examples:
   pyver newest '<2.0' versions.txt more.txt
@@ -193,15 +192,15 @@ examples:
 const SHOW_HELP: &str = "usage: pyver show [--part PART | --json] V..
 
 Prints the normal form of each version, or what the option asks for, a line for each. The exit
-status is 0, or 2 where one is no version: that is reported, and the others are printed.
+status is 0, or 2 if one is not a version: it is reported, and the others are printed.
 PART is epoch, release, major, minor, micro, pre, post, dev, local, public or base. public is
 all but the local part, base is epoch and release. The line of an absent pre, post, dev or
 local is empty; an epoch, a minor or a micro that is not written is 0.
 
 options:
-  --part PART  print a part alone
+  --part PART  print only this part
   --json       print all parts as a JSON object, numbers above 2^53 as strings
-  --           all words after it are no options
+  --           end of options
 
 examples:
   pyver show v1.0-RC.1
@@ -211,19 +210,19 @@ examples:
 
 const BUMP_HELP: &str = "usage: pyver bump [--to N] PART.. [V]
 
-Prints the version with its parts raised, one after another. Without V, standard input has to have
-one line that is not blank, and that is the version. The result has to be greater: otherwise the
-reason is reported and the exit status is 2. The local part always goes.
+Prints the version with its parts raised, one after another. Without V, the version is the one line
+of standard input that is not blank. The result must be greater: otherwise the reason is reported
+and the exit status is 2. The local part is always dropped.
 PART is major, minor, patch, stable, alpha, beta, rc, post or dev.
-  major, minor, patch  raise a number of the release; those behind it become 0, and the rest goes
-  stable               what a pre-release or a dev release leads to: 1.0rc2 to 1.0
-  alpha, beta, rc      the next pre-release of the kind; of a version that is neither a pre-release
-                       nor a dev release behind a part that names the next release alone
-  post, dev            the next post-release; the next dev release, where alpha may stand
+  major, minor, patch  raise a number of the release; those after it become 0, and the rest is dropped
+  stable               the release that a pre-release or a dev release leads to: 1.0rc2 to 1.0
+  alpha, beta, rc      the next pre-release of the kind; a version that is neither a pre-release nor
+                       a dev release needs a part that names the next release before it
+  post, dev            the next post-release; the next dev release, in the places of alpha
 
 options:
   --to N  set the number of the last part
-  --      all words after it are no options
+  --      end of options
 
 examples:
   pyver bump minor 1.2.3
@@ -234,21 +233,21 @@ examples:
 
 const RANGE_HELP: &str = "usage: pyver range [--cover] [--json] SPECS..
 
-Prints the range of versions that all of the lists allow, a line for each segment: [ and ] for a
-bound that is in it, ( and ) for one that is not, and * for none. 2~min0 is below all versions of
+Prints the range of versions that all lists allow, a line for each segment: [ and ] mark a bound
+that is in it, ( and ) one that is not, and * no bound. 2~min0 is below all versions of
 the release 2, and 2~max0 above them. The range of '' is (*, *). Pre-releases are not left out.
-The exit status is 0, 1 where no version is in all lists, and 2 where one is no list.
+The exit status is 0, 1 if no version is in all lists, and 2 if one is not a list.
 
 A range says nothing of local versions and little of suffixes: 2.1.0+cu118 is in both ==2.1.0+cu118
 and <=2.1.0, but their ranges have nothing in common. So the cover decides, which holds all versions
-that a list contains, and maybe more. Where it is empty, 'no version' is printed, and the exit
-status is 1. Where the range alone is empty, 'perhaps, by local versions or suffixes alone' is
-printed, and the exit status is 0.
+that a list contains, and maybe more. If it is empty, 'no version' is printed, and the exit status
+is 1. If only the range is empty, 'perhaps, by local versions or suffixes alone' is printed, and the
+exit status is 0.
 
 options:
-  --cover  print the cover in place of the range
-  --json   print an array of segments; no version and perhaps are [], apart by the exit status
-  --       all words after it are no options
+  --cover  print the cover instead of the range
+  --json   print an array of segments; no version and perhaps are [], told apart by the exit status
+  --       end of options
 
 examples:
   pyver range '>=1,<2' '>=1.5'
@@ -259,15 +258,15 @@ const CHECK_HELP: &str = "usage: pyver check [--json] [FILE..]
 
 Prints what is wrong in requirements files: lines that are no requirements, lines that no version
 satisfies together, and versions that one line names and another excludes. '-' and no file mean
-standard input. Files that lines name behind -r and -c are read too, each once; their paths are
+standard input. Files that lines name after -r and -c are read too, each once; their paths are
 relative to the file that names them. Lines with different markers do not count together.
-How much was read is said on standard error, and how much was left out: options of pip, editables,
-paths, archives, URLs, and lines with a variable. The exit status is 0 where nothing is wrong, and 1
-where something is. Where a file cannot be opened nothing but that is said, and the exit status is 2.
+Standard error says how much was read, and how much was left out: options of pip, editables, paths,
+archives, URLs, and lines with a variable. The exit status is 0 if nothing is wrong, and 1 if
+something is. If a file cannot be opened, only that is reported, and the exit status is 2.
 
 options:
   --json  print an array of what is wrong
-  --      all words after it are no options
+  --      end of options
 
 examples:
   pyver check requirements.txt

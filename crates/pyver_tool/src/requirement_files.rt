@@ -224,13 +224,10 @@ impl RequirementFiles {
         let mut index = 0;
         let mut count = self.names.len();
         while index < count {
-            let Ok(name) = Vec::from_slice(alloc, self.names[index].as_slice()) else {
-                return Err(RunFailure::OutOfMemory);
-            };
-            match self.read_next(alloc, name.as_slice(), files, input) {
-                Ok(None) => index += 1,
-                Ok(Some(failure)) => return Ok(Some(UnopenedFile { name, failure })),
-                Err(stop) => return Err(stop),
+            let name = Vec::from_slice(alloc, self.names[index].as_slice())?;
+            match self.read_next(alloc, name.as_slice(), files, input)? {
+                None => index += 1,
+                Some(failure) => return Ok(Some(UnopenedFile { name, failure })),
             }
             count = self.names.len();
         }

@@ -122,10 +122,9 @@ fn read_all<'a, F: Files, R: Read>(
     for name in names {
         let name = name.as_str();
         let origin = Origin { is_first, name };
-        match open_and_read(alloc, origin, state, files, input) {
-            Ok(None) => is_first = false,
-            Ok(Some(failure)) => return Ok(Some(UnopenedSource { name, failure })),
-            Err(stop) => return Err(stop),
+        match open_and_read(alloc, origin, state, files, input)? {
+            None => is_first = false,
+            Some(failure) => return Ok(Some(UnopenedSource { name, failure })),
         }
     }
     Ok(None)

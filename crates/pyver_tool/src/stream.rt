@@ -1,12 +1,12 @@
 // Writing whole, with no call made twice.
 ghost use Rattle.std.specs.Prelude.{◌≡◌, IfErr, List, OnOk, Option, ℕ};
-ghost use Rattle.std.specs.Io.KnownBytes.{Appends, Keeps};
+ghost use Rattle.std.specs.Io.KnownBytes.{Appends};
 ghost use Rattle.pyver_tool.specs.Runs.{WroteBeginning};
 ghost use Rattle.pyver_tool.specs.SourceViews.{IsRunFailureOf};
 ghost use Rattle.pyver_tool.specs.declared.stream.RunFailure.TheVariants.{OutOfMemory};
 
 use std::alloc::{AllocError, AllocFailed};
-use std::io::{ErrorKind, Write};
+use std::io::{Error, ErrorKind, Write};
 
 // Why not all was written.
 #[derive(Clone, Copy)]
@@ -16,6 +16,15 @@ pub(crate) enum WriteFailure {
     Other,
 }
 
+impl From<Error> for WriteFailure {
+    fn from(error: Error) -> WriteFailure {
+        match error.kind() {
+            ErrorKind::BrokenPipe => WriteFailure::BrokenPipe,
+            _ => WriteFailure::Other,
+        }
+    }
+}
+
 // Writes all of it and flushes. Where a call failed or took no byte, a beginning was written.
 pub(crate) fn write_whole<W: Write>(writer: &mut W, bytes: &[u8]) -> Result<(), WriteFailure>
     ensures whole { OnOk result (Appends (W.contents writer.old) (W.contents writer.new) bytes.now) }
@@ -23,29 +32,12 @@ pub(crate) fn write_whole<W: Write>(writer: &mut W, bytes: &[u8]) -> Result<(), 
 {
     let mut at = 0;
     while at < bytes.len() {
-        match writer.write(&bytes[at..]) {
-            Ok(0) => return Err(WriteFailure::Other),
-            Ok(count) => at += count,
-            Err(error) => return Err(failure(error.kind())),
+        match writer.write(&bytes[at..])? {
+            0 => return Err(WriteFailure::Other),
+            count => at += count,
         }
     }
-    flush(writer)
-}
-
-fn flush<W: Write>(writer: &mut W) -> Result<(), WriteFailure>
-    ensures { Keeps (W.contents writer.old) (W.contents writer.new) }
-{
-    match writer.flush() {
-        Ok(()) => Ok(()),
-        Err(error) => Err(failure(error.kind())),
-    }
-}
-
-fn failure(kind: ErrorKind) -> WriteFailure {
-    match kind {
-        ErrorKind::BrokenPipe => WriteFailure::BrokenPipe,
-        _ => WriteFailure::Other,
-    }
+    Ok(writer.flush()?)
 }
 
 // Why a run stopped before its end.

@@ -111,15 +111,8 @@ pub(crate) fn answer_input<F: Files, R: Read, W: Write, E: Write>(
         texts: Vec::new(alloc),
         read_count: 0,
     };
-    let unopened = match read_sources(alloc, names, &mut state, files, input) {
-        Ok(unopened) => unopened,
-        Err(stop) => return Err(stop),
-    };
-    let Ok(answer) = answer_sources(alloc, question, state.texts.as_slice(), unopened) else {
-        return Err(RunFailure::OutOfMemory);
-    };
-    if let Err(stop) = write_both(out, err, answer.output.as_slice(), answer.errors.as_slice()) {
-        return Err(stop);
-    }
+    let unopened = read_sources(alloc, names, &mut state, files, input)?;
+    let answer = answer_sources(alloc, question, state.texts.as_slice(), unopened)?;
+    write_both(out, err, answer.output.as_slice(), answer.errors.as_slice())?;
     Ok(answer.status)
 }

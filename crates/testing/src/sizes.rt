@@ -77,7 +77,7 @@ pub fn case_of_size(alloc: Global, case: &str) -> Result<String, CaseError> {
     Ok(repeat(alloc, line, size)?)
 }
 
-/// Where the call of `GREATEST CALL ARGUMENTS..` is out of memory first, of the sizes up to the greatest one.
+/// The first size up to the greatest one at which the call of `GREATEST CALL ARGUMENTS..` is out of memory.
 pub fn failing_size<C: Calls>(
     alloc: Global,
     calls: &C,

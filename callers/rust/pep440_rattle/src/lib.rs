@@ -2,7 +2,8 @@
 //!
 //! The names and the behaviour are those of the crate `pep440_rs` 0.7.3, but for the departures that the README lists.
 //! Parsing, normalized forms, matching and ranges are calls of the library `pep440`, whose functions are proved to do what
-//! PEP 440 says, and its sort keys to have the order of versions. This crate is tested, not proved.
+//! PEP 440 says, and its sort keys to have the order of versions. This crate is tested, not proved. It writes operators, what
+//! stands between the specifiers of a list, and single segments itself; its tests compare these with what the library writes.
 //!
 //! ```
 //! use pep440_rattle::{Version, VersionSpecifiers};

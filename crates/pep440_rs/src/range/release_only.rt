@@ -1,4 +1,4 @@
-//! The range of a specifier, by releases alone.
+//! The range of a specifier, by releases only.
 ghost use Rattle.std.specs.Prelude.{◌≡◌, ◌≤◌, ◌<◌, length, IfOk, IsErrOf, Some, None};
 ghost use Rattle.pep440_rs.specs.Agreement.{Agrees, IsReleaseComparable};
 ghost use Rattle.pep440_rs.specs.Bounds.{release_range_of, release_up_to};

@@ -1,13 +1,16 @@
 -- What a formatter has written, in parts.
 use mathlib.Core.Bool.{true≢false}
+use mathlib.Core.List.{append-nil, append_assoc}
 use Rattle.std.proofs.Common.{◌≡◌, ◌<◌, ◌+◌, ◌++◌, ◌∙◌, ap, sym, ℕ, List, [], ◌∷◌, refl, length, take, get_or, drop, ◌-◌, ◌≤◌, arith, codes, map, false, ◌==◌}
 use Rattle.std.proofs.lemmas.List.{take_all}
-use Rattle.std.specs.List.{flat_map}
+use Rattle.std.specs.List.{FoldsTo, concat, flat_map}
 use Rattle.std.proofs.lemmas.List.{flat_map_more, take_more}
 use Rattle.std.proofs.lemmas.List.Folds.{flat_map-map}
 use Rattle.std.specs.Fmt.{decimal}
 use Rattle.std.specs.declared.fmt.Formatter.{Formatter}
-use Rattle.std.specs.Fmt.{HasWrittenStyled, IsFlush}
+use Rattle.std.specs.declared.fmt.InlineText.{InlineText}
+use Rattle.std.specs.Fmt.{HasWrittenStyled, IsFlush, WritesInCalls}
+use Rattle.std.specs.Fmt.InlineText.{inline_text, IsIntact, AppendsIfIntact}
 use Rattle.std.proofs.Output.{has_written_styled_append}
 use Rattle.pep440_version.specs.declared.segment.LocalSegment.{LocalSegment}
 use Rattle.pep440_version.specs.Print.{dotted, segment_print, local_text}
@@ -48,3 +51,13 @@ with_plus (x ∷ xs) some = refl
 
 pub two_writes : {W : Type 0} {took : W → List ℕ → W → Type 0} {f g h : Formatter W} {a b : List ℕ} → HasWrittenStyled took f a g → (IsFlush g → HasWrittenStyled took g b h) → HasWrittenStyled took f (a ++ b) h
 two_writes {W} {took} {f} {g} {h} {a} {b} p q = has_written_styled_append took f a g b h p (q p.flush)
+
+-- a buffer has what was written into it, one write after another
+buffer_after : {n : ℕ} (s : InlineText n) (parts : List (List ℕ)) (t : InlineText n) → IsIntact s → FoldsTo AppendsIfIntact s parts t → inline_text t ≡ inline_text s ++ concat parts
+buffer_after s [] t intact same = ap inline_text (sym same) ∙ sym (append-nil (inline_text s))
+buffer_after s (x ∷ parts) t intact (u, first, others) =
+    let now = first intact in
+    buffer_after u parts t now.0 others ∙ ap (λ l. l ++ concat parts) now.1 ∙ append_assoc (inline_text s) x (concat parts)
+
+pub buffer_has : {n : ℕ} (s : InlineText n) (bs : List ℕ) (t : InlineText n) → inline_text s ≡ [] → IsIntact s → WritesInCalls AppendsIfIntact s bs t → inline_text t ≡ bs
+buffer_has s bs t empty intact wrote = buffer_after s wrote.parts t intact wrote.calls ∙ rw (empty, wrote.whole) refl
