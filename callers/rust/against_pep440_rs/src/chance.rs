@@ -1,6 +1,5 @@
 //! Strings and numbers by chance (xorshift), the same ones for the same seed.
 use crate::views::Change;
-use std::fmt::Write;
 
 pub struct Chance(u64);
 
@@ -202,25 +201,5 @@ impl Chance {
 
     pub fn changes(&mut self) -> Vec<Change> {
         (0..self.below(5)).map(|_| self.change()).collect()
-    }
-
-    /// A version as on an index of packages: most are a release of three numbers, one in seven has a pre-release or a
-    /// developmental part.
-    pub fn usual_version(&mut self) -> String {
-        let mut text = self.below(20).to_string();
-        let more = if self.one_in(40) { 4 } else { 2 };
-        for _ in 0..more {
-            write!(text, ".{}", self.below(30)).unwrap();
-        }
-        match self.below(100) {
-            0..=6 => write!(text, "{}{}", self.one_of(&["a", "b", "rc"]), self.below(9)).unwrap(),
-            7..=10 => write!(text, ".dev{}", self.below(300)).unwrap(),
-            11..=13 => write!(text, ".dev{}", 20_200_000 + self.below(60_000)).unwrap(),
-            14 => write!(text, ".post{}", self.below(9)).unwrap(),
-            15 => write!(text, "rc{}.dev{}", self.below(9), self.below(9)).unwrap(),
-            16 => write!(text, "+cu{}", self.below(200)).unwrap(),
-            _ => {}
-        }
-        text
     }
 }

@@ -143,7 +143,7 @@ fn unchecked(chance: &mut Chance) -> Option<Case> {
     let range = show_range(mine.ranges());
     let is_confused = is_parsed && departures::is_confused(other.version());
     let wanted = if is_confused { range.clone() } else { there(departures::range(&other)) };
-    let of_releases = show_range(ours::release_specifier_to_range(mine.clone()));
+    let of_releases = show_range(mine.release_ranges());
     let wanted_of_releases = there(departures::release_range(&other));
     let found = mine.contains(&candidate);
     let is_specified = is_parsed && departures::is_parsed(&candidate_theirs);
@@ -214,9 +214,9 @@ fn release_only(chance: &mut Chance) -> Option<Case> {
     let (list, theirs) = (text.parse::<ours::VersionSpecifiers>().ok()?, text.parse::<theirs::VersionSpecifiers>().ok()?);
     let is_raised = theirs.iter().all(|member| departures::release_range(member).is_some());
     let wanted = is_raised.then(|| theirs::release_specifiers_to_ranges(theirs.clone()));
-    let each: Vec<_> = list.iter().map(|member| show_range(ours::release_specifier_to_range(member.clone()))).collect();
+    let each: Vec<_> = list.iter().map(|member| show_range(member.release_ranges())).collect();
     let each_theirs: Vec<_> = theirs.iter().map(|member| show_range_there(departures::release_range(member))).collect();
-    let whole = show_range(ours::release_specifiers_to_ranges(list));
+    let whole = show_range(list.release_ranges());
     case("release-only ranges", text, (whole, each), (show_range_there(wanted), each_theirs))
 }
 

@@ -1,9 +1,11 @@
-//! The README's table names each public function, trait, field and variant of the ported crate, and the cases call each function that is offered.
+//! The README's table names each public function, trait, field and variant of the ported crate as the same, or as departed with a reason, and the
+//! cases call each function.
 use std::collections::BTreeSet;
 use std::fs;
 
 const README: &str = include_str!("../../pep440_rattle/README.md");
-const CALLS: &str = concat!(include_str!("../src/views.rs"), include_str!("../src/main.rs"));
+const CALLS: &str =
+    concat!(include_str!("../src/views.rs"), include_str!("../src/main.rs"), include_str!("../src/departures.rs"));
 
 /// A name of the ported crate, and the type that has it; none of a function or static of the crate itself.
 type Item = (String, String);
@@ -76,23 +78,30 @@ fn rows() -> Vec<(BTreeSet<&'static str>, &'static str)> {
     cells.map(|(first, second)| (names(first), second)).collect()
 }
 
+/// Whether the names of a row have the item; one that names `Eq` has `PartialEq`.
+fn has(names: &BTreeSet<&str>, (of, name): &Item) -> bool {
+    let stronger = ["PartialEq", "PartialOrd"].contains(&name.as_str()).then(|| &name[7..]);
+    (of.is_empty() || names.contains(of.as_str()))
+        && (names.contains(name.as_str()) || stronger.is_some_and(|it| names.contains(it)))
+}
+
 #[test]
 fn table_names_each_item() {
     let (rows, surface) = (rows(), surface());
-    let has = |names: &BTreeSet<&str>, (of, name): &Item| {
-        let stronger = ["PartialEq", "PartialOrd"].contains(&name.as_str()).then(|| &name[7..]);
-        (of.is_empty() || names.contains(of.as_str()))
-            && (names.contains(name.as_str()) || stronger.is_some_and(|it| names.contains(it)))
-    };
-    let missing: Vec<&Item> = surface.iter().filter(|item| !rows.iter().any(|(names, _)| has(names, item))).collect();
-    assert!(missing.is_empty(), "in no row: {missing:?}");
-    let is_called = |(of, name): &Item| {
-        let is_offered =
-            rows.iter().any(|(names, said)| has(names, &(of.clone(), name.clone())) && !said.starts_with("not offered"));
-        !is_offered || !name.starts_with(char::is_lowercase) || words(CALLS).any(|word| word == name)
-    };
-    let uncalled: Vec<&Item> = surface.iter().filter(|item| !is_called(item)).collect();
-    assert!(uncalled.is_empty(), "in no case: {uncalled:?}");
-    println!("{} names of the ported crate in {} rows", surface.len(), rows.len());
+    let row_of = |item: &Item| rows.iter().find(|(names, _)| has(names, item)).map(|(_, said)| *said);
+    let missing: Vec<&Item> = surface.iter().filter(|item| row_of(item).is_none_or(|said| said.starts_with("missing"))).collect();
+    assert!(missing.is_empty(), "in no row, or missing: {missing:?}");
+    let departed = surface.iter().filter(|item| row_of(item).is_some_and(|said| said.starts_with("departed: "))).count();
+    for (names, said) in &rows {
+        assert!(["same", "departed: ", "missing: "].iter().any(|word| said.starts_with(word)), "{names:?}: {said}");
+    }
+    println!("{} names of the ported crate: {} same, {departed} departed, 0 missing", surface.len(), surface.len() - departed);
     assert!(surface.len() > 100, "the sources are not read: {surface:?}");
+}
+
+#[test]
+fn cases_call_each_function() {
+    let is_called = |name: &str| !name.starts_with(char::is_lowercase) || words(CALLS).any(|word| word == name);
+    let uncalled: Vec<Item> = surface().into_iter().filter(|(_, name)| !is_called(name)).collect();
+    assert!(uncalled.is_empty(), "in no case: {uncalled:?}");
 }

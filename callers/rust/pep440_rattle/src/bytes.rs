@@ -6,17 +6,24 @@
 //!
 //! A version that no string parses to has a key, too, with a sentinel in place of its stage or its post-release, and with 255 after
 //! each zero byte of a local string. The library rejects such bytes wherever it reads the whole of them.
-use crate::compiled::Compiled;
+use crate::key::ROOM;
 use crate::parts::Parts;
 use crate::{LocalSegment, Operator, Prerelease, PrereleaseKind, Version, VersionSpecifier};
+use alloc::borrow::ToOwned;
+use alloc::vec;
+use alloc::vec::Vec;
 
 pub(crate) const VERSION: u8 = 4;
 const LIST: u8 = 5;
 const OPERATOR: u8 = 16;
+/// The rank of a sentinel `min`, which stands for the stage.
+const MIN: u8 = 0;
+/// The rank of a sentinel `max`, which stands for the post-release.
+const MAX: u8 = 2;
 
 /// The key of a version of these parts, and the zeros that end its release.
 pub(crate) fn version(parts: &Parts) -> Vec<u8> {
-    let mut bytes = Vec::new();
+    let mut bytes = Vec::with_capacity(ROOM);
     let kept = parts.release.iter().rposition(|number| *number != 0).map_or(0, |last| last + 1);
     push_number(&mut bytes, 0, parts.epoch);
     for number in &parts.release[..kept] {
@@ -35,7 +42,7 @@ pub(crate) fn version(parts: &Parts) -> Vec<u8> {
 }
 
 /// What comes before the version in a list of it alone.
-pub(crate) fn list_head(operator: Operator) -> [u8; 2] {
+pub(crate) fn list_start(operator: Operator) -> [u8; 2] {
     [LIST, OPERATOR + operator as u8]
 }
 
@@ -44,16 +51,23 @@ pub(crate) fn list(members: &[VersionSpecifier]) -> Vec<u8> {
     let mut bytes = vec![LIST];
     for member in members {
         bytes.push(OPERATOR + *member.operator() as u8);
-        member.version().with_bytes(&[], |version| bytes.extend_from_slice(version));
+        member.version().with_bytes(|version| bytes.extend_from_slice(version));
     }
     bytes
 }
 
-/// The version that the bytes denote, or that with a sentinel.
-pub(crate) fn read_version(bytes: &[u8]) -> Version {
+/// The version that the compiled bytes denote, or that with a sentinel.
+pub(crate) fn read_version(compiled: &[u8]) -> Version {
+    let [VERSION, bytes @ ..] = compiled else { panic!("{WRITTEN}") };
+    Version::from_bytes(bytes, has_sentinel(bytes).then(|| read_parts(bytes)))
+}
+
+/// Whether the stage or the post-release is a sentinel's.
+fn has_sentinel(bytes: &[u8]) -> bool {
     let mut rest = Rest(bytes);
-    assert_eq!(rest.byte(), VERSION, "{WRITTEN}");
-    rest.version()
+    rest.skip_release();
+    let [(stage, _), (post, _), _] = rest.ranks();
+    stage == MIN || post == MAX
 }
 
 /// The parts of the version of this key, with the zeros after it.
@@ -67,16 +81,24 @@ pub(crate) fn read_list(bytes: &[u8]) -> Vec<VersionSpecifier> {
     assert_eq!(rest.byte(), LIST, "{WRITTEN}");
     let mut members = Vec::new();
     while !rest.0.is_empty() {
-        let operator = rest.byte().checked_sub(OPERATOR).and_then(Operator::from_number).expect(WRITTEN);
-        members.push(VersionSpecifier::unchecked(operator, rest.version()));
+        let operator = rest.operator();
+        members.push(VersionSpecifier::unchecked(operator, Version::from_bytes(rest.version(), None)));
     }
     members
 }
 
+/// The one member of the list that the bytes denote.
+pub(crate) fn read_member(bytes: &[u8]) -> VersionSpecifier {
+    let mut rest = Rest(bytes);
+    assert_eq!(rest.byte(), LIST, "{WRITTEN}");
+    let operator = rest.operator();
+    VersionSpecifier::unchecked(operator, Version::from_bytes(rest.0, None))
+}
+
 fn push_number(bytes: &mut Vec<u8>, base: u8, number: u64) {
-    let skipped = number.leading_zeros() as usize / 8;
-    bytes.push(base + (8 - skipped) as u8);
-    bytes.extend_from_slice(&number.to_be_bytes()[skipped..]);
+    let length = 8 - number.leading_zeros() / 8;
+    bytes.push(base + length.to_le_bytes()[0]);
+    bytes.extend_from_slice(&number.to_be_bytes()[8 - length as usize..]);
 }
 
 fn push_segment(bytes: &mut Vec<u8>, segment: &LocalSegment) {
@@ -97,12 +119,12 @@ fn push_segment(bytes: &mut Vec<u8>, segment: &LocalSegment) {
 fn ranks(parts: &Parts) -> [(u8, u64); 3] {
     let Parts { pre, post, dev, min, max, .. } = *parts;
     let stage = match (min, pre, dev, post.or(max)) {
-        (Some(_), ..) => (0, 0),
+        (Some(_), ..) => (MIN, 0),
         (None, Some(pre), ..) => (2 + pre.kind as u8, pre.number),
         (None, None, Some(_), None) => (1, 0),
         _ => (5, 0),
     };
-    let post = max.map(|number| (2, number)).or(post.map(|number| (1, number))).unwrap_or((0, 0));
+    let post = max.map(|number| (MAX, number)).or(post.map(|number| (1, number))).unwrap_or((0, 0));
     [stage, post, min.or(dev).map_or((1, 0), |number| (0, number))]
 }
 
@@ -122,6 +144,10 @@ impl<'a> Rest<'a> {
         self.take(1)[0]
     }
 
+    fn operator(&mut self) -> Operator {
+        self.byte().checked_sub(OPERATOR).and_then(Operator::from_number).expect(WRITTEN)
+    }
+
     fn number(&mut self, count: u8) -> u64 {
         self.take(count.into()).iter().fold(0, |number, byte| number << 8 | u64::from(*byte))
     }
@@ -131,9 +157,9 @@ impl<'a> Rest<'a> {
         (first / 16, self.number(first % 16))
     }
 
-    fn text(&mut self) -> String {
+    fn text(&mut self) -> &'a str {
         let end = self.0.iter().position(|byte| *byte == 0).expect(WRITTEN);
-        let text = std::str::from_utf8(self.take(end)).expect(WRITTEN).to_owned();
+        let text = core::str::from_utf8(self.take(end)).expect(WRITTEN);
         self.byte();
         text
     }
@@ -149,33 +175,58 @@ impl<'a> Rest<'a> {
         }
     }
 
+    /// Rank and number of stage, post-release and developmental part.
+    fn ranks(&mut self) -> [(u8, u64); 3] {
+        [(); 3].map(|()| self.ranked())
+    }
+
+    fn skip_release(&mut self) {
+        self.ranked();
+        self.until_zero(|rest, first| {
+            rest.take((first - 1).into());
+        });
+    }
+
+    /// How many bytes 1 begin the rest, which are left out.
+    fn zeros(&mut self) -> usize {
+        let count = self.0.iter().take_while(|byte| **byte == 1).count();
+        self.take(count).len()
+    }
+
+    /// The bytes of the version that begins the rest.
+    fn version(&mut self) -> &'a [u8] {
+        let start = self.0;
+        self.skip_release();
+        self.ranks();
+        self.until_zero(|rest, first| {
+            if first == 1 {
+                rest.text().len()
+            } else {
+                rest.take((first - 2).into()).len()
+            };
+        });
+        self.zeros();
+        &start[..start.len() - self.0.len()]
+    }
+
     fn parts(&mut self) -> Parts {
         let (_, epoch) = self.ranked();
         let mut release = self.until_zero(|rest, first| rest.number(first - 1));
-        let [(stage, pre), (post_rank, post), (dev_rank, dev)] = [(); 3].map(|()| self.ranked());
+        let [(stage, pre), (post_rank, post), (dev_rank, dev)] = self.ranks();
         let local = self.until_zero(|rest, first| match first {
-            1 => LocalSegment::String(rest.text()),
+            1 => LocalSegment::String(rest.text().to_owned()),
             _ => LocalSegment::Number(rest.number(first - 2)),
         });
-        while let [1, rest @ ..] = self.0 {
-            self.0 = rest;
-            release.push(0);
-        }
+        release.resize(release.len() + self.zeros(), 0);
         Parts {
             epoch,
             release,
             pre: PrereleaseKind::from_rank(stage).map(|kind| Prerelease { kind, number: pre }),
             post: (post_rank == 1).then_some(post),
-            dev: (dev_rank == 0 && stage != 0).then_some(dev),
-            min: (stage == 0).then_some(dev),
-            max: (post_rank == 2).then_some(post),
+            dev: (dev_rank == 0 && stage != MIN).then_some(dev),
+            min: (stage == MIN).then_some(dev),
+            max: (post_rank == MAX).then_some(post),
             local,
         }
-    }
-
-    fn version(&mut self) -> Version {
-        let start = self.0;
-        let parts = self.parts();
-        Version::from_compiled(Compiled::from_bytes(&start[..start.len() - self.0.len()]), parts)
     }
 }

@@ -5,10 +5,11 @@
 //! its alignment. The library has no state and keeps no pointer, so any thread may call.
 #![allow(unsafe_code)]
 
-use std::alloc::{handle_alloc_error, Layout};
-use std::cell::Cell;
-use std::mem::MaybeUninit;
-use std::slice;
+use alloc::alloc::handle_alloc_error;
+use alloc::boxed::Box;
+use alloc::vec;
+use alloc::vec::Vec;
+use core::alloc::Layout;
 
 type Writer = unsafe extern "C" fn(*const u8, usize, *mut u8, usize, *mut usize) -> u8;
 
@@ -41,8 +42,8 @@ unsafe extern "C" {
         size: usize,
         written: *mut usize,
     ) -> u8;
-    fn pep440_normalize_compiled(compiled: *const u8, length: usize, out: *mut u8, size: usize, written: *mut usize) -> u8;
-    fn pep440_range_bounds_compiled(
+    fn pep440_normalize(compiled: *const u8, length: usize, out: *mut u8, size: usize, written: *mut usize) -> u8;
+    fn pep440_range_bounds(
         list: *const u8,
         length: usize,
         out: *mut u8,
@@ -52,7 +53,7 @@ unsafe extern "C" {
         written: *mut usize,
         count: *mut usize,
     ) -> u8;
-    fn pep440_release_range_bounds_compiled(
+    fn pep440_release_range_bounds(
         list: *const u8,
         length: usize,
         out: *mut u8,
@@ -62,7 +63,7 @@ unsafe extern "C" {
         written: *mut usize,
         count: *mut usize,
     ) -> u8;
-    fn pep440_contains_compiled(
+    fn pep440_contains(
         list: *const u8,
         list_length: usize,
         version: *const u8,
@@ -78,118 +79,141 @@ const INVALID_LIST: u8 = 2;
 const OUT_OF_MEMORY: u8 = 3;
 const NO_ROOM: u8 = 4;
 const NUMBER_AT_MAX: u8 = 5;
-const NOT_COMPILED: u8 = 6;
 
 /// Why a call has no result.
 #[derive(Clone, Copy, Debug, PartialEq, Eq)]
 pub(crate) enum Refusal {
-    /// The string is no version, or no list.
+    /// The string or the compiled bytes are no version, or no list.
     Invalid,
     /// A bound would lie above `u64::MAX`.
     NumberAtMax,
-    /// The bytes denote no version, or no list: no string parses to a version.
-    NotCompiled,
 }
 
 /// What a status other than `OK` and `NO_ROOM` means. Out of memory ends the process, as in the standard library.
 #[cold]
 fn refusal(status: u8) -> Refusal {
+    #[cfg(without_library)]
+    needed::<()>();
     match status {
         INVALID_VERSION | INVALID_LIST => Refusal::Invalid,
         NUMBER_AT_MAX => Refusal::NumberAtMax,
         OUT_OF_MEMORY => handle_alloc_error(Layout::new::<u8>()),
-        NOT_COMPILED => Refusal::NotCompiled,
         _ => panic!("the library returns a status that its header does not name: {status}"),
+    }
+}
+
+/// An error of the compiler as soon as code is made, which `cargo check` and `cargo doc` do not do.
+#[cfg(without_library)]
+#[expect(clippy::extra_unused_type_parameters, reason = "a constant of a generic function has its value when code is made of it")]
+fn needed<T>() {
+    const { panic!("{}", env!("PEP440_NEEDED")) }
+}
+
+/// The bytes of a string. Compiled versions and lists begin with 4 and 5, and each call takes them in place of strings; no valid string
+/// begins so.
+#[inline]
+fn bytes_of(string: &str) -> Result<&[u8], Refusal> {
+    match string.as_bytes() {
+        [4 | 5, ..] => Err(Refusal::Invalid),
+        bytes => Ok(bytes),
     }
 }
 
 /// As many bytes are written here before a vector is.
 const STACK: usize = 128;
+/// As many bytes of a compiled version.
+const STACK_OF_VERSION: usize = 64;
 
 /// Calls `read` with what `call` writes of `input`.
 #[inline]
 fn written<T>(call: Writer, input: &[u8], read: impl FnOnce(&[u8]) -> T) -> Result<T, Refusal> {
-    // SAFETY: as the module says; `out` has room for `size` bytes.
-    written_by(|out, size, length| unsafe { call(input.as_ptr(), input.len(), out, size, length) }, read)
+    written_to_room::<STACK, _>(writer(call, input), |room, length| read(&room[..length]))
 }
 
-/// Calls `read` with what `call` writes, which is given room for some bytes and writes how many it has written or needs.
 #[inline]
-fn written_by<T>(mut call: impl FnMut(*mut u8, usize, &mut usize) -> u8, read: impl FnOnce(&[u8]) -> T) -> Result<T, Refusal> {
-    let mut room = MaybeUninit::<[u8; STACK]>::uninit();
-    let mut length = 0;
-    match call(room.as_mut_ptr().cast(), STACK, &mut length) {
-        OK => {
-            assert!(length <= STACK, "the library writes more than there is room for");
-            // SAFETY: with OK the call has written `length` bytes, at most STACK, to the start of `room`.
-            Ok(read(unsafe { slice::from_raw_parts(room.as_ptr().cast(), length) }))
-        }
-        NO_ROOM => Ok(read(&written_to_heap(&mut call, length)?)),
+fn writer(call: Writer, input: &[u8]) -> impl FnMut(&mut [u8], &mut usize) -> u8 {
+    // SAFETY: as the module says.
+    move |out, length| unsafe { call(input.as_ptr(), input.len(), out.as_mut_ptr(), out.len(), length) }
+}
+
+/// Calls `read` with room, and how many bytes `call` has written at its start; zero bytes follow. The call is given room for some bytes, and
+/// writes how many it has written or needs.
+#[inline]
+fn written_to_room<const STACK: usize, T>(
+    mut call: impl FnMut(&mut [u8], &mut usize) -> u8,
+    read: impl FnOnce(&[u8], usize) -> T,
+) -> Result<T, Refusal> {
+    let (mut room, mut length) = ([0; STACK], 0);
+    match call(&mut room, &mut length) {
+        OK => Ok(read(&room, length)),
+        NO_ROOM => written_to_heap(call, length.max(STACK), read),
         other => Err(refusal(other)),
     }
 }
 
-/// What `call` writes, which needs `length` bytes.
 #[cold]
-fn written_to_heap(call: &mut dyn FnMut(*mut u8, usize, &mut usize) -> u8, length: usize) -> Result<Vec<u8>, Refusal> {
-    let mut room = Vec::<u8>::with_capacity(length);
-    let mut again = 0;
-    match call(room.as_mut_ptr(), length, &mut again) {
-        OK => {
-            assert!(again <= length, "the library writes more than there is room for");
-            // SAFETY: with OK the call has written the first `again` bytes of the vector's room.
-            unsafe { room.set_len(again) };
-            Ok(room)
-        }
-        NO_ROOM => panic!("the library needs more room for the same input"),
+#[inline(never)]
+fn written_to_heap<T>(
+    mut call: impl FnMut(&mut [u8], &mut usize) -> u8,
+    size: usize,
+    read: impl FnOnce(&[u8], usize) -> T,
+) -> Result<T, Refusal> {
+    let (mut room, mut length) = (vec![0; size], 0);
+    match call(&mut room, &mut length) {
+        OK => Ok(read(&room, length)),
         other => Err(refusal(other)),
     }
 }
 
 fn as_text(bytes: &[u8]) -> &str {
-    std::str::from_utf8(bytes).expect("the library writes UTF-8")
+    core::str::from_utf8(bytes).expect("the library writes UTF-8")
 }
 
-/// Calls `read` with the compiled bytes of a version.
+/// Calls `read` with room that compiled bytes of a version begin, and how many they are; zero bytes follow.
 #[inline]
-pub(crate) fn compile<T>(version: &str, read: impl FnOnce(&[u8]) -> T) -> Result<T, Refusal> {
-    written(pep440_compile, version.as_bytes(), read)
+pub(crate) fn compile<T>(version: &str, read: impl FnOnce(&[u8], usize) -> T) -> Result<T, Refusal> {
+    written_to_room::<STACK_OF_VERSION, _>(writer(pep440_compile, bytes_of(version)?), read)
 }
 
 /// Calls `read` with the normalized form of the version of a pattern, and with whether `.*` follows it.
 pub(crate) fn pattern<T>(pattern: &str, read: impl FnOnce(&str, bool) -> T) -> Result<T, Refusal> {
-    let star = Cell::new(0);
-    written_by(
-        // SAFETY: as the module says; `out` has room for `size` bytes.
-        |out, size, length| unsafe { pep440_pattern(pattern.as_ptr(), pattern.len(), out, size, length, star.as_ptr()) },
-        |bytes| read(as_text(bytes), star.get() == 1),
-    )
+    let (bytes, mut star) = (bytes_of(pattern)?, 0);
+    let call = |out: &mut [u8], length: &mut usize| {
+        // SAFETY: as the module says.
+        unsafe { pep440_pattern(bytes.as_ptr(), bytes.len(), out.as_mut_ptr(), out.len(), length, &raw mut star) }
+    };
+    let text = written_to_room::<STACK, _>(call, |room, length| Box::from(as_text(&room[..length])))?;
+    Ok(read(&text, star == 1))
 }
 
 /// Calls `read` with the specifier of an operator and a version, as `>=1.16`.
 pub(crate) fn specifier<T>(operator: &str, version: &str, read: impl FnOnce(&str) -> T) -> Result<T, Refusal> {
-    written_by(
-        // SAFETY: as the module says; `out` has room for `size` bytes.
-        |out, size, length| unsafe {
-            pep440_specifier(operator.as_ptr(), operator.len(), version.as_ptr(), version.len(), out, size, length)
-        },
-        |bytes| read(as_text(bytes)),
-    )
+    let call = |out: &mut [u8], length: &mut usize| {
+        let (size, out) = (out.len(), out.as_mut_ptr());
+        // SAFETY: as the module says.
+        unsafe { pep440_specifier(operator.as_ptr(), operator.len(), version.as_ptr(), version.len(), out, size, length) }
+    };
+    written_to_room::<STACK, _>(call, |room, length| read(as_text(&room[..length])))
 }
 
 /// Calls `read` with the compiled bytes of a list.
 pub(crate) fn compile_list<T>(list: &str, read: impl FnOnce(&[u8]) -> T) -> Result<T, Refusal> {
-    written(pep440_compile_list, list.as_bytes(), read)
+    written(pep440_compile_list, bytes_of(list)?, read)
 }
 
 /// Calls `read` with the compiled bytes of the list of one specifier.
 pub(crate) fn compile_specifier<T>(specifier: &str, read: impl FnOnce(&[u8]) -> T) -> Result<T, Refusal> {
-    written(pep440_compile_specifier, specifier.as_bytes(), read)
+    written(pep440_compile_specifier, bytes_of(specifier)?, read)
 }
 
 /// The words that `call` writes of a string, which has some with each string.
 fn words(call: Writer, string: &str) -> Box<str> {
-    written(call, string.as_bytes(), |bytes| as_text(bytes).into()).expect("any string has an answer")
+    let said = |string: &[u8]| written(call, string, |bytes| as_text(bytes).into()).expect("any string has an answer");
+    match bytes_of(string) {
+        Ok(bytes) => said(bytes),
+        // Another character that no valid string begins with, and that is written alike.
+        Err(_) => said(["\u{6}", &string[1..]].concat().as_bytes()).replacen('\u{6}', &string[..1], 1).into(),
+    }
 }
 
 /// Why the string is no version; empty where it is one.
@@ -209,14 +233,12 @@ pub(crate) fn specifier_error(specifier: &str) -> Box<str> {
 
 /// Why the operator of this number and the compiled version make no specifier, `.*` behind the version or not; empty where they do.
 pub(crate) fn build_error(operator: u8, version: &[u8], star: bool) -> Box<str> {
-    written_by(
-        // SAFETY: as the module says; `out` has room for `size` bytes.
-        |out, size, length| unsafe {
-            pep440_build_error(operator, version.as_ptr(), version.len(), star.into(), out, size, length)
-        },
-        |bytes| as_text(bytes).into(),
-    )
-    .expect("an operator and compiled bytes have an answer")
+    let call = |out: &mut [u8], length: &mut usize| {
+        // SAFETY: as the module says.
+        unsafe { pep440_build_error(operator, version.as_ptr(), version.len(), star.into(), out.as_mut_ptr(), out.len(), length) }
+    };
+    written_to_room::<STACK, _>(call, |room, length| as_text(&room[..length]).into())
+        .expect("an operator and compiled bytes have an answer")
 }
 
 /// Why the string is no list; empty where it is one.
@@ -226,38 +248,37 @@ pub(crate) fn list_error(list: &str) -> Box<str> {
 
 /// Calls `read` with the normalized form of a compiled version.
 pub(crate) fn normalize<T>(version: &[u8], read: impl FnOnce(&str) -> T) -> T {
-    written(pep440_normalize_compiled, version, |bytes| read(as_text(bytes))).expect("compiled bytes have a normalized form")
+    written(pep440_normalize, version, |bytes| read(as_text(bytes))).expect("compiled bytes have a normalized form")
 }
 
 /// Calls `read` with the bounds of the range of a compiled list, one after the other, and with where each of them ends.
 pub(crate) fn range_bounds<T>(list: &[u8], read: impl FnOnce(&[u8], &[usize]) -> T) -> Result<T, Refusal> {
-    written_with_ends(pep440_range_bounds_compiled, list, read)
+    written_with_ends(pep440_range_bounds, list, read)
 }
 
 /// The same of its release-only range.
 pub(crate) fn release_range_bounds<T>(list: &[u8], read: impl FnOnce(&[u8], &[usize]) -> T) -> Result<T, Refusal> {
-    written_with_ends(pep440_release_range_bounds_compiled, list, read)
+    written_with_ends(pep440_release_range_bounds, list, read)
 }
 
 /// Calls `read` with the pieces that `call` writes of `input`, one after the other, and with where each of them ends.
 fn written_with_ends<T>(call: WriterWithEnds, input: &[u8], read: impl FnOnce(&[u8], &[usize]) -> T) -> Result<T, Refusal> {
-    let (mut out, mut ends) = (vec![0; STACK], vec![0; 8]);
-    loop {
-        let (mut length, mut count) = (0, 0);
+    let (mut stack, mut heap, mut length) = ([0; STACK], Vec::new(), 0);
+    let (mut stack_of_ends, mut heap_of_ends, mut count) = ([0; 8], Vec::new(), 0);
+    let call = |out: &mut [u8], ends: &mut [usize], length: &mut usize, count: &mut usize| {
         let (size, ends_size) = (out.len(), ends.len());
-        let (bytes, places) = (out.as_mut_ptr(), ends.as_mut_ptr());
-        // SAFETY: as the module says; `out` and `ends` have room for as many bytes and ends as is said.
-        let status = unsafe { call(input.as_ptr(), input.len(), bytes, size, places, ends_size, &mut length, &mut count) };
-        match status {
-            OK => return Ok(read(&out[..length], &ends[..count])),
-            NO_ROOM if out.len() < length || ends.len() < count => {
-                out.resize(out.len().max(length), 0);
-                ends.resize(ends.len().max(count), 0);
-            }
-            NO_ROOM => panic!("the library needs more room than it says"),
-            other => return Err(refusal(other)),
-        }
+        // SAFETY: as the module says.
+        unsafe { call(input.as_ptr(), input.len(), out.as_mut_ptr(), size, ends.as_mut_ptr(), ends_size, length, count) }
+    };
+    let (mut room, mut ends) = (stack.as_mut_slice(), stack_of_ends.as_mut_slice());
+    let mut status = call(room, ends, &mut length, &mut count);
+    if status == NO_ROOM {
+        heap.resize(length, 0);
+        heap_of_ends.resize(count, 0);
+        (room, ends) = (&mut heap, &mut heap_of_ends);
+        status = call(room, ends, &mut length, &mut count);
     }
+    if status == OK { Ok(read(&room[..length], &ends[..count])) } else { Err(refusal(status)) }
 }
 
 /// Whether a compiled list contains a compiled version. Not specified where no string parses to a version of either.
@@ -266,11 +287,14 @@ pub(crate) fn contains(list: &[u8], version: &[u8]) -> bool {
     let (mut contained, mut prerelease) = (0, 0);
     // SAFETY: as the module says.
     let status = unsafe {
-        pep440_contains_compiled(list.as_ptr(), list.len(), version.as_ptr(), version.len(), &mut contained, &mut prerelease)
+        pep440_contains(list.as_ptr(), list.len(), version.as_ptr(), version.len(), &raw mut contained, &raw mut prerelease)
     };
-    match status {
-        OK => contained == 1,
-        NOT_COMPILED => false,
-        other => panic!("a compiled list has no answer: {:?}", refusal(other)),
-    }
+    if status == OK { contained == 1 } else { is_refused(status) }
+}
+
+/// No version is contained where compiled bytes denote no version or no list.
+#[cold]
+fn is_refused(status: u8) -> bool {
+    assert_eq!(refusal(status), Refusal::Invalid, "a compiled list has an answer");
+    false
 }

@@ -1,6 +1,9 @@
 //! Errors. What the library finds wrong with a string it says in words, which these hold.
-use std::error::Error;
-use std::fmt;
+use alloc::borrow::ToOwned;
+use alloc::boxed::Box;
+use alloc::string::String;
+use core::error::Error;
+use core::fmt;
 
 macro_rules! text_errors {
     ($($(#[$doc:meta])* $name:ident)*) => {$(
@@ -28,12 +31,40 @@ macro_rules! text_errors {
 
 text_errors! {
     /// Why a string is no version.
+    ///
+    /// ```
+    /// use pep440_rattle::Version;
+    ///
+    /// let error = "1.0x".parse::<Version>().unwrap_err();
+    /// assert_eq!(error.to_string(), "after parsing `1.0`, found `x`, which is not part of a valid version");
+    /// ```
     VersionParseError
     /// Why a string is neither a version nor a version with `.*` behind it.
+    ///
+    /// ```
+    /// use pep440_rattle::VersionPattern;
+    ///
+    /// let error = "1.*.2".parse::<VersionPattern>().unwrap_err();
+    /// assert_eq!(error.to_string(), "wildcards in versions must be at the end");
+    /// ```
     VersionPatternParseError
     /// Why a string is no specifier.
+    ///
+    /// ```
+    /// use pep440_rattle::VersionSpecifier;
+    ///
+    /// let error = "1.0".parse::<VersionSpecifier>().unwrap_err();
+    /// assert_eq!(error.to_string(), "Unexpected end of version specifier, expected operator");
+    /// ```
     VersionSpecifierParseError
     /// Why an operator and a version make no specifier.
+    ///
+    /// ```
+    /// use pep440_rattle::{Operator, Version, VersionSpecifier};
+    ///
+    /// let error = VersionSpecifier::from_version(Operator::TildeEqual, Version::new([1])).unwrap_err();
+    /// assert_eq!(error.to_string(), "The ~= operator requires at least two segments in the release version");
+    /// ```
     VersionSpecifierBuildError
 }
 
@@ -44,6 +75,13 @@ impl From<VersionParseError> for VersionPatternParseError {
 }
 
 /// Why a string is no list of specifiers.
+///
+/// ```
+/// use pep440_rattle::VersionSpecifiers;
+///
+/// let error = ">=1.0, ~=2".parse::<VersionSpecifiers>().unwrap_err();
+/// assert!(error.to_string().contains("The ~= operator requires at least two segments in the release version"));
+/// ```
 #[derive(Clone, Debug, PartialEq, Eq)]
 pub struct VersionSpecifiersParseError {
     text: Box<str>,
@@ -56,6 +94,13 @@ impl VersionSpecifiersParseError {
     }
 
     /// The string that is no list.
+    ///
+    /// ```
+    /// use pep440_rattle::VersionSpecifiers;
+    ///
+    /// assert_eq!(">>1".parse::<VersionSpecifiers>().unwrap_err().line(), ">>1");
+    /// ```
+    #[must_use]
     pub fn line(&self) -> &String {
         &self.line
     }
@@ -70,6 +115,13 @@ impl fmt::Display for VersionSpecifiersParseError {
 }
 
 /// A string that is no operator.
+///
+/// ```
+/// use pep440_rattle::Operator;
+///
+/// let error = "=".parse::<Operator>().unwrap_err();
+/// assert_eq!(error.to_string(), "no such comparison operator \"=\", must be one of ~= == != <= >= < > ===");
+/// ```
 #[derive(Clone, Debug, PartialEq, Eq)]
 pub struct OperatorParseError {
     got: String,
@@ -90,6 +142,13 @@ impl fmt::Display for OperatorParseError {
 }
 
 /// Why a list has no range.
+///
+/// ```
+/// use pep440_rattle::{RangeError, VersionSpecifier};
+///
+/// let highest: VersionSpecifier = "==18446744073709551615.*".parse().unwrap();
+/// assert_eq!(highest.ranges(), Err(RangeError::NumberAtMax));
+/// ```
 #[derive(Clone, Copy, Debug, PartialEq, Eq)]
 #[non_exhaustive]
 pub enum RangeError {

@@ -18,23 +18,41 @@
 //! );
 //! ```
 //!
-//! Out of memory ends in [`std::alloc::handle_alloc_error`], as in the standard library.
-#![deny(unsafe_code)]
+//! # Features
+//!
+//! - `serde`: versions, specifiers and lists are serialized as strings.
+//! - `version-ranges`: specifiers and lists convert into the `Ranges<Version>` of that crate.
+//! - `tracing`: warnings, as of `===`, which is discouraged.
+//!
+//! Out of memory ends in [`handle_alloc_error`](alloc::alloc::handle_alloc_error), as in the standard library.
+#![no_std]
+#![deny(missing_docs, unsafe_code)]
+
+extern crate alloc;
+#[cfg(test)]
+extern crate std;
 
 mod bytes;
 mod calls;
-mod compiled;
 mod error;
+mod key;
+mod lazy;
+#[cfg(feature = "tracing")]
+mod logged;
 mod operator;
 mod parts;
 mod pattern;
 mod range;
 mod segment;
+#[cfg(feature = "serde")]
+mod serde;
 mod specifier;
 mod specifiers;
 #[cfg(test)]
 mod tests;
 mod version;
+#[cfg(feature = "version-ranges")]
+mod version_ranges;
 
 pub use error::{
     OperatorParseError, RangeError, VersionParseError, VersionPatternParseError, VersionSpecifierBuildError,
@@ -42,8 +60,10 @@ pub use error::{
 };
 pub use operator::Operator;
 pub use pattern::VersionPattern;
-pub use range::{release_specifier_to_range, release_specifiers_to_ranges, Segment};
+pub use range::Segment;
 pub use segment::{LocalSegment, Prerelease, PrereleaseKind};
 pub use specifier::VersionSpecifier;
 pub use specifiers::VersionSpecifiers;
-pub use version::{Version, MIN_VERSION};
+pub use version::{MIN_VERSION, MinVersion, Version};
+#[cfg(feature = "version-ranges")]
+pub use version_ranges::{release_specifier_to_range, release_specifiers_to_ranges};

@@ -1,10 +1,16 @@
 //! The operators of specifiers.
 use crate::calls;
 use crate::{OperatorParseError, VersionSpecifier};
-use std::fmt;
-use std::str::FromStr;
+use core::fmt;
+use core::str::FromStr;
 
 /// An operator of a specifier (PEP 440, "Version specifiers"). A star form goes with a version and `.*`.
+///
+/// ```
+/// use pep440_rattle::Operator;
+///
+/// assert_eq!("~=".parse(), Ok(Operator::TildeEqual));
+/// ```
 #[derive(Clone, Copy, Debug, PartialEq, Eq, PartialOrd, Ord, Hash)]
 pub enum Operator {
     /// `==`, as in `==1.2.3`
@@ -29,7 +35,9 @@ pub enum Operator {
     GreaterThanEqual,
 }
 
-use Operator::*;
+use Operator::{
+    Equal, EqualStar, ExactEqual, GreaterThan, GreaterThanEqual, LessThan, LessThanEqual, NotEqual, NotEqualStar, TildeEqual,
+};
 
 /// In the order of the enum, which is that of their numbers in compiled lists.
 const ALL: [Operator; 10] =
@@ -37,6 +45,13 @@ const ALL: [Operator; 10] =
 
 impl Operator {
     /// The operator of the opposite meaning; None of `~=`, which has none. `===` gives `!=`, and that gives `==`.
+    ///
+    /// ```
+    /// use pep440_rattle::Operator;
+    ///
+    /// assert_eq!(Operator::LessThan.negate(), Some(Operator::GreaterThanEqual));
+    /// ```
+    #[must_use]
     pub fn negate(self) -> Option<Operator> {
         Some(match self {
             Equal | ExactEqual => NotEqual,
@@ -52,6 +67,13 @@ impl Operator {
     }
 
     /// Whether the operator is a star form.
+    ///
+    /// ```
+    /// use pep440_rattle::Operator;
+    ///
+    /// assert!(Operator::EqualStar.is_star());
+    /// ```
+    #[must_use]
     pub fn is_star(self) -> bool {
         self.symbol_of().is_some()
     }

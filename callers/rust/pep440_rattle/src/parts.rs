@@ -1,5 +1,7 @@
 //! The parts of a version.
 use crate::{LocalSegment, Prerelease};
+use alloc::vec;
+use alloc::vec::Vec;
 
 /// All parts of a version.
 #[derive(Clone)]

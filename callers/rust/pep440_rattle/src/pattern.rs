@@ -1,8 +1,15 @@
 //! Versions that may have `.*` behind them.
-use crate::{calls, Version, VersionPatternParseError};
-use std::str::FromStr;
+use crate::{Version, VersionPatternParseError, calls};
+use core::str::FromStr;
 
 /// What stands behind an operator: a version, as `1.2.3`, or one with a wildcard, as `1.2.*`.
+///
+/// ```
+/// use pep440_rattle::VersionPattern;
+///
+/// let pattern: VersionPattern = "1.2.*".parse().unwrap();
+/// assert!(pattern.is_wildcard());
+/// ```
 #[derive(Clone, Debug, PartialEq, Eq, Hash)]
 pub struct VersionPattern {
     version: Version,
@@ -11,26 +18,56 @@ pub struct VersionPattern {
 
 impl VersionPattern {
     /// The version alone.
+    ///
+    /// ```
+    /// use pep440_rattle::{Version, VersionPattern};
+    ///
+    /// assert_eq!("1.2".parse(), Ok(VersionPattern::verbatim(Version::new([1, 2]))));
+    /// ```
     pub fn verbatim(version: Version) -> VersionPattern {
         VersionPattern { version, wildcard: false }
     }
 
     /// The version with `.*`.
+    ///
+    /// ```
+    /// use pep440_rattle::{Version, VersionPattern};
+    ///
+    /// assert_eq!("1.2.*".parse(), Ok(VersionPattern::wildcard(Version::new([1, 2]))));
+    /// ```
     pub fn wildcard(version: Version) -> VersionPattern {
         VersionPattern { version, wildcard: true }
     }
 
     /// The version, without its wildcard.
+    ///
+    /// ```
+    /// use pep440_rattle::{Version, VersionPattern};
+    ///
+    /// assert_eq!(*"1.2.*".parse::<VersionPattern>().unwrap().version(), Version::new([1, 2]));
+    /// ```
     pub fn version(&self) -> &Version {
         &self.version
     }
 
     /// The version, without its wildcard.
+    ///
+    /// ```
+    /// use pep440_rattle::{Version, VersionPattern};
+    ///
+    /// assert_eq!("1.2.*".parse::<VersionPattern>().unwrap().into_version(), Version::new([1, 2]));
+    /// ```
     pub fn into_version(self) -> Version {
         self.version
     }
 
     /// Whether there is a wildcard.
+    ///
+    /// ```
+    /// use pep440_rattle::VersionPattern;
+    ///
+    /// assert!(!"1.2".parse::<VersionPattern>().unwrap().is_wildcard());
+    /// ```
     pub fn is_wildcard(&self) -> bool {
         self.wildcard
     }

@@ -1,50 +1,35 @@
 //! Ranges as the library gives them: two bounds for each segment, each a kind and the bytes of a version, a sentinel or not.
 use crate::bytes;
 use crate::calls::{self, Refusal};
-use crate::{RangeError, Version, VersionSpecifier, VersionSpecifiers};
-use std::ops::Bound;
+use crate::{RangeError, Version};
+use alloc::vec::Vec;
+use core::ops::Bound;
 
 /// A segment of a range: its lower and its upper bound.
-pub type Segment = (Bound<Version>, Bound<Version>);
-
-/// The range of a list by releases alone, meant for versions that are a release and nothing else, as those of Python itself:
-/// of each specifier only the operator and the release count.
 ///
 /// ```
-/// use pep440_rattle::{release_specifiers_to_ranges, Version, VersionSpecifiers};
+/// use pep440_rattle::{Segment, Version, VersionSpecifier};
 /// use std::ops::Bound;
 ///
-/// let list: VersionSpecifiers = ">3.13rc1".parse().unwrap();
-/// assert_eq!(release_specifiers_to_ranges(list).unwrap(), [(Bound::Excluded(Version::new([3, 13])), Bound::Unbounded)]);
+/// let above: Segment = (Bound::Included(Version::new([1])), Bound::Unbounded);
+/// assert_eq!(">=1".parse::<VersionSpecifier>().unwrap().ranges(), Ok(vec![above]));
 /// ```
-///
-/// # Errors
-///
-/// [`RangeError::NumberAtMax`] where a bound would need a number above `u64::MAX`; [`RangeError::NotParsed`] where no string parses
-/// to the version of a specifier.
-pub fn release_specifiers_to_ranges(specifiers: VersionSpecifiers) -> Result<Vec<Segment>, RangeError> {
-    segments_of(calls::release_range_bounds(specifiers.compiled(), read_segments))
-}
-
-/// The range of a specifier by releases alone; see [`release_specifiers_to_ranges`].
-///
-/// # Errors
-///
-/// As [`release_specifiers_to_ranges`].
-pub fn release_specifier_to_range(specifier: VersionSpecifier) -> Result<Vec<Segment>, RangeError> {
-    specifier.with_list(|list| segments_of(calls::release_range_bounds(list, read_segments)))
-}
+pub type Segment = (Bound<Version>, Bound<Version>);
 
 /// The range of a compiled list.
 pub(crate) fn of_list(list: &[u8]) -> Result<Vec<Segment>, RangeError> {
     segments_of(calls::range_bounds(list, read_segments))
 }
 
+/// Its range by releases alone.
+pub(crate) fn of_releases(list: &[u8]) -> Result<Vec<Segment>, RangeError> {
+    segments_of(calls::release_range_bounds(list, read_segments))
+}
+
 fn segments_of(found: Result<Vec<Segment>, Refusal>) -> Result<Vec<Segment>, RangeError> {
     found.map_err(|refusal| match refusal {
         Refusal::NumberAtMax => RangeError::NumberAtMax,
-        Refusal::NotCompiled => RangeError::NotParsed,
-        Refusal::Invalid => panic!("a compiled list is no string"),
+        Refusal::Invalid => RangeError::NotParsed,
     })
 }
 

@@ -1,8 +1,15 @@
 //! Pre-releases, and the segments of local versions.
-use std::cmp::Ordering;
-use std::fmt;
+use alloc::string::String;
+use core::cmp::Ordering;
+use core::fmt;
 
 /// A pre-release: its kind and its number, as `rc2`.
+///
+/// ```
+/// use pep440_rattle::{Prerelease, PrereleaseKind};
+///
+/// assert_eq!(Prerelease { kind: PrereleaseKind::Rc, number: 2 }.to_string(), "rc2");
+/// ```
 #[derive(Clone, Copy, Debug, PartialEq, Eq, PartialOrd, Ord, Hash)]
 pub struct Prerelease {
     /// Alpha, beta or release candidate.
@@ -12,6 +19,12 @@ pub struct Prerelease {
 }
 
 /// The kind of a pre-release (PEP 440, "Pre-releases").
+///
+/// ```
+/// use pep440_rattle::PrereleaseKind::{Alpha, Beta, Rc};
+///
+/// assert!(Alpha < Beta && Beta < Rc);
+/// ```
 #[derive(Clone, Copy, Debug, PartialEq, Eq, PartialOrd, Ord, Hash)]
 pub enum PrereleaseKind {
     /// `a`
@@ -51,6 +64,12 @@ impl fmt::Display for Prerelease {
 }
 
 /// A segment of a local version (PEP 440, "Local version identifiers"): each number is above each string.
+///
+/// ```
+/// use pep440_rattle::LocalSegment;
+///
+/// assert!(LocalSegment::String("z".to_owned()) < LocalSegment::Number(0));
+/// ```
 #[derive(Clone, Debug, PartialEq, Eq, Hash)]
 pub enum LocalSegment {
     /// A segment with a letter, or of digits beyond `u64::MAX`.

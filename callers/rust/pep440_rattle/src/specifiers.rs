@@ -1,14 +1,19 @@
 //! Lists of specifiers.
 use crate::bytes;
 use crate::calls;
+use crate::lazy::Lazy;
 use crate::range;
 use crate::specifier::is_next_minor;
 use crate::{RangeError, Segment, Version, VersionSpecifier, VersionSpecifiersParseError};
-use std::cmp::Ordering;
-use std::fmt;
-use std::hash::{Hash, Hasher};
-use std::ops::{Bound, Deref};
-use std::str::FromStr;
+use alloc::boxed::Box;
+use alloc::sync::Arc;
+use alloc::vec;
+use alloc::vec::Vec;
+use core::cmp::Ordering;
+use core::fmt;
+use core::hash::{Hash, Hasher};
+use core::ops::{Bound, Deref};
+use core::str::FromStr;
 
 /// A list of specifiers, as `>=2.1, <3`, in the order of their versions. It contains what each of them does.
 ///
@@ -21,20 +26,27 @@ use std::str::FromStr;
 /// ```
 #[derive(Clone)]
 pub struct VersionSpecifiers {
-    members: Vec<VersionSpecifier>,
     compiled: Box<[u8]>,
+    /// Kept from the beginning but of a list that was parsed.
+    members: Lazy<Vec<VersionSpecifier>>,
 }
 
 impl VersionSpecifiers {
     /// The list without a specifier, which contains each version.
+    ///
+    /// ```
+    /// use pep440_rattle::{Version, VersionSpecifiers};
+    ///
+    /// assert!(VersionSpecifiers::empty().contains(&Version::new([1])));
+    /// ```
+    #[must_use]
     pub fn empty() -> VersionSpecifiers {
         VersionSpecifiers::from_arranged(Vec::new())
     }
 
     /// The list of members, of which none has a version below that of the one before it.
     fn from_arranged(members: Vec<VersionSpecifier>) -> VersionSpecifiers {
-        let compiled = bytes::list(&members).into();
-        VersionSpecifiers { members, compiled }
+        VersionSpecifiers { compiled: bytes::list(&members).into(), members: Lazy::from(members) }
     }
 
     fn from_unsorted(mut members: Vec<VersionSpecifier>) -> VersionSpecifiers {
@@ -42,20 +54,30 @@ impl VersionSpecifiers {
         VersionSpecifiers::from_arranged(members)
     }
 
-    /// The compiled bytes.
-    pub(crate) fn compiled(&self) -> &[u8] {
-        &self.compiled
-    }
-
     /// Whether each specifier contains the version.
+    ///
+    /// ```
+    /// use pep440_rattle::{Version, VersionSpecifiers};
+    ///
+    /// let list: VersionSpecifiers = ">=1.16, <2.0".parse().unwrap();
+    /// assert!(list.contains(&Version::new([1, 19])) && !list.contains(&Version::new([2])));
+    /// ```
     #[inline]
     pub fn contains(&self, version: &Version) -> bool {
+        #[cfg(feature = "tracing")]
+        crate::logged::exact_equality(self);
         version.is_in(&self.compiled)
     }
 
     /// Whether there is no specifier.
+    ///
+    /// ```
+    /// use pep440_rattle::VersionSpecifiers;
+    ///
+    /// assert!("".parse::<VersionSpecifiers>().unwrap().is_empty());
+    /// ```
     pub fn is_empty(&self) -> bool {
-        self.members.is_empty()
+        self.compiled.len() == 1
     }
 
     /// The range of the list: its segments in ascending order, none of which touches the next one. A bound may have a sentinel
@@ -63,6 +85,15 @@ impl VersionSpecifiers {
     ///
     /// A range goes by the order of versions, so it is not always what [`VersionSpecifiers::contains`] matches: `<=1.0`
     /// contains `1.0+local`, which is above the end of its range.
+    ///
+    /// ```
+    /// use pep440_rattle::{Version, VersionSpecifiers};
+    /// use std::ops::Bound;
+    ///
+    /// let list: VersionSpecifiers = ">=1, <2".parse().unwrap();
+    /// let end = Version::new([2]).with_min(Some(0));
+    /// assert_eq!(list.ranges().unwrap(), [(Bound::Included(Version::new([1])), Bound::Excluded(end))]);
+    /// ```
     ///
     /// # Errors
     ///
@@ -72,8 +103,35 @@ impl VersionSpecifiers {
         range::of_list(&self.compiled)
     }
 
+    /// The range of the list by releases alone, meant for versions that are a release and nothing else, as those of Python itself:
+    /// of each specifier only the operator and the release count.
+    ///
+    /// ```
+    /// use pep440_rattle::{Version, VersionSpecifiers};
+    /// use std::ops::Bound;
+    ///
+    /// let list: VersionSpecifiers = ">3.13rc1".parse().unwrap();
+    /// assert_eq!(list.release_ranges().unwrap(), [(Bound::Excluded(Version::new([3, 13])), Bound::Unbounded)]);
+    /// ```
+    ///
+    /// # Errors
+    ///
+    /// As [`VersionSpecifiers::ranges`].
+    pub fn release_ranges(&self) -> Result<Vec<Segment>, RangeError> {
+        range::of_releases(&self.compiled)
+    }
+
     /// The list that a sorted sequence of ranges of releases is: the outer bounds, and a specifier `!=` for a gap of one
     /// version or of a release `1.2`. Other gaps are left out. It is meant for bounds that are releases alone.
+    ///
+    /// ```
+    /// use pep440_rattle::{Version, VersionSpecifiers};
+    /// use std::ops::Bound::{Excluded, Included, Unbounded};
+    ///
+    /// let segments = [(Included(Version::new([3, 7])), Excluded(Version::new([3, 8]))), (Included(Version::new([3, 9])), Unbounded)];
+    /// let list = VersionSpecifiers::from_release_only_bounds(segments.iter().map(|(low, high)| (low, high)));
+    /// assert_eq!(list.to_string(), ">=3.7, !=3.8.*");
+    /// ```
     pub fn from_release_only_bounds<'a>(
         mut bounds: impl Iterator<Item = (&'a Bound<Version>, &'a Bound<Version>)>,
     ) -> VersionSpecifiers {
@@ -82,7 +140,12 @@ impl VersionSpecifiers {
         };
         let mut members = Vec::new();
         for (lower, upper) in bounds {
-            members.extend(from_gap(end, lower));
+            let gap = from_gap(end, lower);
+            #[cfg(feature = "tracing")]
+            if gap.is_none() {
+                crate::logged::unsupported_gap(end, lower);
+            }
+            members.extend(gap);
             end = upper;
         }
         members.extend(VersionSpecifier::from_release_only_bounds((first, end)));
@@ -106,15 +169,19 @@ impl FromStr for VersionSpecifiers {
 
     /// Parses specifiers with commas between them; the empty string is the empty list.
     fn from_str(list: &str) -> Result<VersionSpecifiers, VersionSpecifiersParseError> {
-        let read = |compiled: &[u8]| VersionSpecifiers { members: bytes::read_list(compiled), compiled: compiled.into() };
-        calls::compile_list(list, read).map_err(|_| VersionSpecifiersParseError::new(calls::list_error(list), list))
+        let compiled = calls::compile_list(list, |compiled| Box::<[u8]>::from(compiled));
+        let compiled = compiled.map_err(|_| VersionSpecifiersParseError::new(calls::list_error(list), list))?;
+        let list = VersionSpecifiers { compiled, members: Lazy::new() };
+        #[cfg(feature = "tracing")]
+        crate::logged::exact_equality(&list);
+        Ok(list)
     }
 }
 
 impl fmt::Display for VersionSpecifiers {
     /// Writes the specifiers with a comma and a space between them.
     fn fmt(&self, f: &mut fmt::Formatter<'_>) -> fmt::Result {
-        for (place, member) in self.members.iter().enumerate() {
+        for (place, member) in self.iter().enumerate() {
             write!(f, "{}{member}", if place == 0 { "" } else { ", " })?;
         }
         Ok(())
@@ -123,7 +190,7 @@ impl fmt::Display for VersionSpecifiers {
 
 impl fmt::Debug for VersionSpecifiers {
     fn fmt(&self, f: &mut fmt::Formatter<'_>) -> fmt::Result {
-        f.debug_tuple("VersionSpecifiers").field(&self.members).finish()
+        f.debug_tuple("VersionSpecifiers").field(&&**self).finish()
     }
 }
 
@@ -131,7 +198,7 @@ impl Deref for VersionSpecifiers {
     type Target = [VersionSpecifier];
 
     fn deref(&self) -> &[VersionSpecifier] {
-        &self.members
+        self.members.get_or_init(|| bytes::read_list(&self.compiled))
     }
 }
 
@@ -143,10 +210,10 @@ impl FromIterator<VersionSpecifier> for VersionSpecifiers {
 
 impl IntoIterator for VersionSpecifiers {
     type Item = VersionSpecifier;
-    type IntoIter = std::vec::IntoIter<VersionSpecifier>;
+    type IntoIter = vec::IntoIter<VersionSpecifier>;
 
-    fn into_iter(self) -> Self::IntoIter {
-        self.members.into_iter()
+    fn into_iter(mut self) -> Self::IntoIter {
+        self.members.take().map_or_else(|| bytes::read_list(&self.compiled), Arc::unwrap_or_clone).into_iter()
     }
 }
 
@@ -166,7 +233,7 @@ impl Default for VersionSpecifiers {
 
 impl PartialEq for VersionSpecifiers {
     fn eq(&self, other: &VersionSpecifiers) -> bool {
-        self.members == other.members
+        **self == **other
     }
 }
 
@@ -180,12 +247,12 @@ impl PartialOrd for VersionSpecifiers {
 
 impl Ord for VersionSpecifiers {
     fn cmp(&self, other: &VersionSpecifiers) -> Ordering {
-        self.members.cmp(&other.members)
+        (**self).cmp(&**other)
     }
 }
 
 impl Hash for VersionSpecifiers {
     fn hash<H: Hasher>(&self, state: &mut H) {
-        self.members.hash(state);
+        (**self).hash(state);
     }
 }

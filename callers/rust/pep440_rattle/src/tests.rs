@@ -1,13 +1,16 @@
 //! Tests that call nothing of the library: compiled bytes as `crates/pep440_compiled/specs` defines them.
 use crate::bytes;
-use crate::{LocalSegment, Operator, Prerelease, PrereleaseKind, Version, VersionSpecifier, VersionSpecifiers};
+use crate::{LocalSegment, MIN_VERSION, Operator, Prerelease, PrereleaseKind, Version, VersionSpecifier, VersionSpecifiers};
+use alloc::borrow::ToOwned;
+use alloc::vec;
+use alloc::vec::Vec;
 
 fn compiled(version: &Version) -> Vec<u8> {
     version.with_compiled(<[u8]>::to_vec)
 }
 
-fn pre(kind: PrereleaseKind, number: u64) -> Option<Prerelease> {
-    Some(Prerelease { kind, number })
+fn pre(kind: PrereleaseKind, number: u64) -> Prerelease {
+    Prerelease { kind, number }
 }
 
 fn string(text: &str) -> LocalSegment {
@@ -34,9 +37,12 @@ fn version_bytes() {
         ),
         (release.clone().with_epoch(1), &[4, 1, 1, 2, 1, 2, 2, 2, 3, 0, 80, 0, 16, 0]),
         (release.clone().with_dev(Some(0)), &[4, 0, 2, 1, 2, 2, 2, 3, 0, 16, 0, 0, 0]),
-        (release.clone().with_pre(pre(PrereleaseKind::Alpha, 0)), &[4, 0, 2, 1, 2, 2, 2, 3, 0, 32, 0, 16, 0]),
-        (release.clone().with_pre(pre(PrereleaseKind::Beta, 1)), &[4, 0, 2, 1, 2, 2, 2, 3, 0, 49, 1, 0, 16, 0]),
-        (release.clone().with_pre(pre(PrereleaseKind::Rc, 2)).with_dev(Some(3)), &[4, 0, 2, 1, 2, 2, 2, 3, 0, 65, 2, 0, 1, 3, 0]),
+        (release.clone().with_pre(Some(pre(PrereleaseKind::Alpha, 0))), &[4, 0, 2, 1, 2, 2, 2, 3, 0, 32, 0, 16, 0]),
+        (release.clone().with_pre(Some(pre(PrereleaseKind::Beta, 1))), &[4, 0, 2, 1, 2, 2, 2, 3, 0, 49, 1, 0, 16, 0]),
+        (
+            release.clone().with_pre(Some(pre(PrereleaseKind::Rc, 2))).with_dev(Some(3)),
+            &[4, 0, 2, 1, 2, 2, 2, 3, 0, 65, 2, 0, 1, 3, 0],
+        ),
         (release.clone().with_post(Some(0)), &[4, 0, 2, 1, 2, 2, 2, 3, 0, 80, 16, 16, 0]),
         (release.clone().with_post(Some(4)).with_dev(Some(5)), &[4, 0, 2, 1, 2, 2, 2, 3, 0, 80, 17, 4, 1, 5, 0]),
         (
@@ -56,17 +62,20 @@ fn version_bytes() {
     }
 }
 
+#[test]
+fn constants() {
+    assert_eq!(compiled(&MIN_VERSION), [4, 0, 0, 32, 0, 0, 0, 1]);
+}
+
 /// More bytes than are held without a heap, and as many.
 #[test]
 fn long_versions() {
     for count in 1..100 {
         let release: Vec<u64> = (0..count).map(|number| number % 3 + 1).collect();
         let zeros: Vec<u64> = std::iter::once(1).chain((0..count).map(|_| 0)).collect();
-        for version in [
-            Version::new(&release),
-            Version::new(&zeros),
-            Version::new([1]).with_local(vec![string(&"a".repeat(count as usize))]),
-        ] {
+        for version in
+            [Version::new(&release), Version::new(&zeros), Version::new([1]).with_local(vec![string(&"a".repeat(zeros.len()))])]
+        {
             let bytes = compiled(&version);
             assert_eq!(bytes[1..], bytes::version(&version.clone().into_parts()));
             assert_eq!(parts(&bytes::read_version(&bytes)), parts(&version));
@@ -103,4 +112,18 @@ fn order_without_a_call() {
             && Version::new([1, 0, 0, 2]) > versions[2]
     );
     assert!(Version::new([0]).with_epoch(1) > Version::new([65_535]));
+}
+
+/// Parts are made once, whichever thread asks first, and given back with the last version that has them.
+#[test]
+fn threads_share_parts() {
+    for _ in 0..100 {
+        let version = bytes::read_version(&[4, 0, 2, 1, 0, 80, 0, 16, 0, 1]);
+        std::thread::scope(|scope| {
+            for _ in 0..4 {
+                scope.spawn(|| assert_eq!((version.release(), version.clone().release()), (&[1, 0][..], &[1, 0][..])));
+            }
+        });
+        assert_eq!(version.clone().into_parts().release, [1, 0]);
+    }
 }

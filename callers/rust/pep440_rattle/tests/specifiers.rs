@@ -1,7 +1,6 @@
 //! Specifiers and lists: PEP 440, "Version specifiers", and what this crate says of its calls.
 use pep440_rattle::{
-    release_specifier_to_range, release_specifiers_to_ranges, LocalSegment, Operator, RangeError, Version, VersionPattern,
-    VersionPatternParseError, VersionSpecifier, VersionSpecifiers,
+    LocalSegment, Operator, RangeError, Version, VersionPattern, VersionPatternParseError, VersionSpecifier, VersionSpecifiers,
 };
 use std::ops::Bound;
 
@@ -123,7 +122,7 @@ fn checked_and_unchecked() {
     for odd in [version("1.0").with_min(Some(0)), version("1.0").with_max(Some(0))] {
         let odd = VersionSpecifier::greater_than_equal_version(odd);
         assert_eq!((odd.to_string(), odd.ranges()), (">=1.0".to_owned(), Err(RangeError::NotParsed)));
-        assert_eq!(release_specifier_to_range(odd.clone()), Err(RangeError::NotParsed));
+        assert_eq!(odd.release_ranges(), Err(RangeError::NotParsed));
         assert_eq!(VersionSpecifiers::from(odd).ranges(), Err(RangeError::NotParsed));
     }
     let upper = version("1.0").with_local(vec![LocalSegment::String("A".to_owned())]);
@@ -154,6 +153,7 @@ fn operators() {
 /// Each string of one to three operator characters is an operator, or none with the same error, as in front of a version.
 #[test]
 fn operators_are_those_of_specifiers() {
+    use Operator::{Equal, ExactEqual, GreaterThan, GreaterThanEqual, LessThan, LessThanEqual, NotEqual, TildeEqual};
     let more = |strings: &[String]| -> Vec<String> {
         strings.iter().flat_map(|string| ["<", ">", "=", "!", "~"].map(|letter| format!("{string}{letter}"))).collect()
     };
@@ -171,7 +171,6 @@ fn operators_are_those_of_specifiers() {
         }
     }
     found.sort();
-    use Operator::*;
     assert_eq!(found, [Equal, ExactEqual, NotEqual, TildeEqual, LessThan, LessThanEqual, GreaterThan, GreaterThanEqual]);
     for (operator, wildcard) in found.into_iter().map(|each| (each, "")).chain([(Equal, ".*"), (NotEqual, ".*")]) {
         let text = format!("{operator}1.0{wildcard}");
@@ -190,7 +189,7 @@ fn ranges() {
         (Bound::Excluded(version("1.5")), Bound::Excluded(end)),
     ];
     assert_eq!(found, wanted);
-    assert_eq!(found[1].1.as_ref().map(|end| end.min()), Bound::Excluded(Some(0)));
+    assert_eq!(found[1].1.as_ref().map(Version::min), Bound::Excluded(Some(0)));
     assert_eq!(specifier(">1!2.0").ranges().unwrap(), [(Bound::Excluded(version("1!2.0").with_max(Some(0))), Bound::Unbounded)]);
     assert_eq!(list("").ranges().unwrap(), [(Bound::Unbounded, Bound::Unbounded)]);
     assert_eq!(list(">1,<1").ranges().unwrap(), []);
@@ -199,8 +198,7 @@ fn ranges() {
 
 #[test]
 fn release_only_ranges() {
-    let of =
-        |text: &str| (release_specifiers_to_ranges(list(text)).unwrap(), release_specifier_to_range(specifier(text)).unwrap());
+    let of = |text: &str| (list(text).release_ranges().unwrap(), specifier(text).release_ranges().unwrap());
     let above = vec![(Bound::Excluded(version("1.0")), Bound::Unbounded)];
     assert_eq!(of(">1!1.0rc1.post2.dev3"), (above.clone(), above));
     let compatible = vec![(Bound::Included(version("1.4.5")), Bound::Excluded(version("1.5")))];
@@ -212,25 +210,25 @@ fn release_only_ranges() {
         (Bound::Included(version("1.2.3.4.6")), Bound::Unbounded),
     ];
     assert_eq!(of("!=1.2.3.4.5.*"), (outside.clone(), outside));
-    assert_eq!(release_specifiers_to_ranges(list("")), Ok(vec![(Bound::Unbounded, Bound::Unbounded)]));
-    assert_eq!(release_specifiers_to_ranges(list(">1,<1")), Ok(vec![]));
+    assert_eq!(list("").release_ranges(), Ok(vec![(Bound::Unbounded, Bound::Unbounded)]));
+    assert_eq!(list(">1,<1").release_ranges(), Ok(vec![]));
     let two = vec![
         (Bound::Included(version("3.7")), Bound::Excluded(version("3.8"))),
         (Bound::Included(version("3.9")), Bound::Excluded(version("4"))),
     ];
-    assert_eq!(release_specifiers_to_ranges(list(">=3.7a1, !=3.8.*, <4")), Ok(two));
+    assert_eq!(list(">=3.7a1, !=3.8.*, <4").release_ranges(), Ok(two));
     let above_all = "~=18446744073709551615.0";
-    assert_eq!(release_specifiers_to_ranges(list(above_all)), Err(RangeError::NumberAtMax));
-    assert_eq!(release_specifier_to_range(specifier(above_all)), Err(RangeError::NumberAtMax));
+    assert_eq!(list(above_all).release_ranges(), Err(RangeError::NumberAtMax));
+    assert_eq!(specifier(above_all).release_ranges(), Err(RangeError::NumberAtMax));
 }
 
 #[test]
 fn from_bounds() {
+    use Bound::{Excluded, Included, Unbounded};
     let from = |low: Bound<&str>, high: Bound<&str>| (low.map(version), high.map(version));
     let shown = |pairs: &[(Bound<Version>, Bound<Version>)]| {
         VersionSpecifiers::from_release_only_bounds(pairs.iter().map(|(low, high)| (low, high))).to_string()
     };
-    use Bound::{Excluded, Included, Unbounded};
     assert_eq!(shown(&[]), "");
     assert_eq!(shown(&[from(Included("3.7"), Excluded("3.8"))]), "==3.7.*");
     assert_eq!(shown(&[from(Included("3.7"), Included("3.7"))]), "==3.7");

@@ -262,7 +262,7 @@ fn size_and_threads() {
         is_shared::<VersionSpecifiersParseError>,
         is_shared::<RangeError>,
     ];
-    assert_eq!((size_of::<Version>(), size_of::<Option<Version>>()), (48, 48));
+    assert_eq!(size_of::<Version>(), 32);
     let shared = version("1!2.0+local");
     let tasks: Vec<_> = (0..4)
         .map(|_| {
@@ -273,4 +273,18 @@ fn size_and_threads() {
     for task in tasks {
         assert_eq!(task.join().unwrap(), (hash(&shared), "1!2.0+local".to_owned(), true));
     }
+}
+
+/// Compiled bytes are no strings, though the library takes them in place of strings.
+#[test]
+fn compiled_bytes_are_no_strings() {
+    let (compiled, list) = ("\u{4}\0\u{2}\u{1}\0P\0\u{10}\0", "\u{5}\u{19}\0\u{2}\u{1}\0P\0\u{10}\0");
+    let wanted = "expected version to start with a number, but no leading ASCII digits were found";
+    assert_eq!(compiled.parse::<Version>().unwrap_err().to_string(), wanted);
+    assert_eq!(compiled.parse::<VersionPattern>().unwrap_err().to_string(), wanted);
+    let wanted = "Unexpected end of version specifier, expected operator";
+    assert_eq!(list.parse::<VersionSpecifier>().unwrap_err().to_string(), wanted);
+    let error = list.parse::<VersionSpecifiers>().unwrap_err();
+    assert!(error.to_string().starts_with(&format!("Failed to parse version: {wanted}:\n{list}\n")), "{error}");
+    assert!(">=\u{4}\0\u{2}\u{1}\0P\0\u{10}\0".parse::<VersionSpecifier>().is_err());
 }
