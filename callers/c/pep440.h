@@ -4,7 +4,7 @@
    A version or a list is passed as bytes and a length, with no zero at the end; for `const char *`
    see the calls at the end of this header. The bytes are a string, or a compiled form, made once of
    a string (below): bytes that begin with 4 or 5 are taken as one. Every call takes either, but
-   those of a pattern or a single specifier (pep440_pattern, pep440_pattern_error, pep440_specifier,
+   the five of a pattern or a single specifier (pep440_pattern, pep440_pattern_error, pep440_specifier,
    pep440_specifier_error and pep440_compile_specifier), which take strings. Bytes that are neither
    are an invalid version or list. Each call returns a status. No call keeps a pointer, and none
    ends the process. Programs to begin with are in the folder examples of the release archive, and
@@ -19,7 +19,7 @@
      may overlap each other.
    - While a call runs, nothing else writes to what it reads, or reads or writes what it writes.
    - malloc, realloc and free belong together, and align as usual: blocks of 16, 32, .. bytes to
-     16, those of 8, 24, .. to 8.
+     16, blocks of 8, 24, .. to 8.
    - No call is made from a signal handler, or from the forked child of a process with threads.
 
    What a call writes to may be uninitialized before. Several threads may call at once, each with
