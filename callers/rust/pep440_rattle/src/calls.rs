@@ -1,4 +1,4 @@
-//! The calls of the C library, each behind a safe function. This is the one module with `unsafe`.
+//! The calls of the C library, each behind a safe function. Beside `lazy` this is the one module with `unsafe`.
 //!
 //! What the header asks of a caller holds of every call here: a slice's pointer is never null and has as many bytes as it
 //! says, what is written to is a local variable or a vector of this module, so it overlaps nothing else, and its type gives
