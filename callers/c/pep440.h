@@ -1,7 +1,7 @@
 /* PEP 440 for C: version numbers of Python packages, parsed, normalized, compared and matched by the proved library.
 
-   A string is its bytes and its length; it needs no zero at its end, and bytes that are not UTF-8 are an invalid version or list. Each call
-   returns a status. No call keeps a pointer, and none ends the process. Programs to begin with are in the folder examples of the release
+   A version or a list is its bytes and their length: a string, which needs no zero at its end, or a compiled form, bytes made once of a
+   string (below). Every call takes either. Bytes that are neither are an invalid version or list. Each call returns a status. No call keeps a pointer, and none ends the process. Programs to begin with are in the folder examples of the release
    archive, and in callers/c/examples of the repository.
 
    What the caller must keep, for nothing checks it:
@@ -19,19 +19,20 @@
 
    PEP440_NO_ROOM: there is a result, and it needs more than the buffer has. It is not written; each call below says what is.
    PEP440_OUT_OF_MEMORY: malloc or realloc failed; the same call may be made again. With any status but PEP440_OK and PEP440_NO_ROOM nothing
-   is written, except `index` of the batches with PEP440_INVALID_VERSION or PEP440_NOT_COMPILED. */
+   is written, except `index` of the batches with PEP440_INVALID_VERSION. */
 #ifndef PEP440_H
 #define PEP440_H
 
 #include <stddef.h>
 #include <stdint.h>
+#include <string.h>
 
 #ifdef __cplusplus
 extern "C" {
 #endif
 
 /* The version of this header, a byte for each number. */
-#define PEP440_VERSION 0x000200
+#define PEP440_VERSION 0x000300
 #define PEP440_VERSION_TEXT "0.3.0"
 
 /* The version of the library, as PEP440_VERSION. With the library of another soname nothing is promised. */
@@ -39,17 +40,17 @@ uint32_t pep440_version_of_library(void);
 
 enum {
     PEP440_OK = 0,
-    PEP440_INVALID_VERSION = 1, /* a string is no version */
-    PEP440_INVALID_LIST = 2,    /* a string is no list of specifiers, or no single one; or an operator and a version make none */
+    PEP440_INVALID_VERSION = 1, /* bytes are no version; of pep440_compare the left ones */
+    PEP440_INVALID_LIST = 2,    /* bytes are no list of specifiers, or no single one; or an operator and a version make none */
     PEP440_OUT_OF_MEMORY = 3,
     PEP440_NO_ROOM = 4,
     PEP440_NUMBER_AT_MAX = 5, /* only of a range or a cover: a bound would need a number above 18446744073709551615 */
-    PEP440_NOT_COMPILED = 6,  /* bytes that are passed as compiled denote no version, or no list; or a number is no operator's */
+    PEP440_INVALID_RIGHT = 6, /* only of pep440_compare: the right bytes are no version */
     PEP440_NOT_PACKED = 7,    /* only of pep440_word: the version has no word */
     PEP440_INVALID_CHANGE = 8 /* only of pep440_edit: a change is none, or cannot be made */
 };
 
-/* A string of a batch, or a compiled version of one; a change of pep440_edit. */
+/* A version of a batch, or a change of pep440_edit. */
 typedef struct {
     const uint8_t *bytes;
     size_t length;
@@ -102,7 +103,7 @@ uint8_t pep440_edit(const uint8_t *version, size_t length, const pep440_string *
 uint8_t pep440_edit_error(const uint8_t *version, size_t length, const pep440_string *changes, size_t count, uint8_t *out, size_t size,
                           size_t *written);
 
-/* Writes why a string is no version, in words, and 0 bytes if it is one; `out` and `written` as for pep440_normalize. */
+/* Writes why bytes are no version, in words, and 0 bytes if they are one; `out` and `written` as for pep440_normalize. */
 uint8_t pep440_version_error(const uint8_t *version, size_t length, uint8_t *out, size_t size, size_t *written);
 
 /* The same of a pattern, as `1.5.*` or `1.5`. */
@@ -111,10 +112,11 @@ uint8_t pep440_pattern_error(const uint8_t *pattern, size_t length, uint8_t *out
 /* The same of one specifier, as `>=1.16`. */
 uint8_t pep440_specifier_error(const uint8_t *specifier, size_t length, uint8_t *out, size_t size, size_t *written);
 
-/* Writes why a string is no list of specifiers, in lines, and 0 bytes if it is one; `out` and `written` as for pep440_normalize. */
+/* Writes why bytes are no list of specifiers, in lines, and 0 bytes if they are one; `out` and `written` as for pep440_normalize. */
 uint8_t pep440_list_error(const uint8_t *list, size_t length, uint8_t *out, size_t size, size_t *written);
 
-/* Writes to `order` whether the left version is below the right one (-1), equal to it (0) or above it (1). */
+/* Writes to `order` whether the left version is below the right one (-1), equal to it (0) or above it (1). PEP440_INVALID_RIGHT if only the
+   right one is invalid. */
 uint8_t pep440_compare(const uint8_t *left, size_t left_length, const uint8_t *right, size_t right_length, int8_t *order);
 
 /* Writes to `contained` whether the list contains the version, 1 or 0: whether each of its specifiers does; and to `prerelease` whether the
@@ -201,27 +203,30 @@ uint8_t pep440_range_bounds(const uint8_t *list, size_t length, uint8_t *out, si
 uint8_t pep440_release_range_bounds(const uint8_t *list, size_t length, uint8_t *out, size_t size, size_t *ends, size_t ends_size,
                                     size_t *written, size_t *count);
 
-/* ---- compiled versions and lists: bytes made once of a string, which later calls take in place of it
+/* ---- compiled versions and lists: bytes made once of a string, which every call takes in place of it
 
    Compiled bytes are plain bytes: keep them in memory, in a file or in a column, copy them, share them among threads, give them to another
-   process or machine. There is no handle, and nothing to free. Their first byte is a format, and the bytes of a format never change between
-   releases: what one release wrote each later one takes, and a format that a library does not know gets PEP440_NOT_COMPILED, as 1, 2
-   and 3 do, which earlier libraries wrote.
+   process or machine. There is no handle, and nothing to free. Their first byte is a format, with which no string of a version or a list
+   begins, and the bytes of a format never change between releases: what one release wrote each later one takes. Bytes of a format that a
+   library does not know are an invalid version or list, as those of the formats 1, 2 and 3, which earlier libraries wrote.
 
    A compiled version is the byte 4, the sort key of the version, and a byte 1 for each zero that ends its release, which is all that a sort key
    leaves out. A sort key ends with a byte 0. So the order of versions is that of their sort keys as they lie in the bytes, two versions are equal
    exactly if their sort keys are, and a hash of a sort key is one of the version. A compiled list is the byte 5, and of each specifier 16 and the
    number of its operator (below), and then its version without the byte 4. `1.0` takes 10 bytes, `2024.10.20240101` 17; no version and no
-   list takes more than 10 bytes and 3 for each byte of its string.
+   list takes more than PEP440_COMPILED_BOUND of the length of its string.
 
    Bytes denote at most one version or one list, and two strings have the same compiled bytes exactly if they have the same normal form: `1.0` and
    ` v1.0` have the same bytes, and `1.0.0` has others, though the versions are equal. Bytes that pep440_compile_list did not write may denote a
-   list that no string denotes, as `>=1.0+a`, but each version in them is one of a string. Only the first three calls of this section parse a string.
+   list that no string denotes, as `>=1.0+a`, but each version in them is one of a string.
 
-   Bytes are never read beyond their length, whether they are compiled, cut, changed or chosen by an attacker.
-   pep440_compare_compiled, pep440_contains_compiled and pep440_sort_key_compiled read them as they lie, and allocate nothing: for bytes that denote
-   nothing they return PEP440_NOT_COMPILED, or write any result. All other calls return PEP440_NOT_COMPILED for these. So give bytes of
-   unknown origin to pep440_normalize_compiled or pep440_normalize_list_compiled once. */
+   Bytes are never read beyond their length, whether they are compiled, cut, changed or chosen by an attacker. pep440_compare of two compiled
+   versions, pep440_contains of a compiled list and a compiled version, and pep440_sort_key of a compiled version read them as they lie, and
+   allocate nothing: of bytes that begin as a compiled form and are none they write any result, or return the status of an invalid one. All
+   other calls reject such bytes. So give bytes of unknown origin to pep440_normalize or pep440_normalize_list once. */
+
+/* How many bytes suffice for the compiled form of a version or a list, and so for a sort key, by the length of its string. */
+#define PEP440_COMPILED_BOUND(length) (10 + 3 * (size_t)(length))
 
 /* Writes the compiled form of a version; `out` and `written` as for pep440_normalize. */
 uint8_t pep440_compile(const uint8_t *version, size_t length, uint8_t *out, size_t size, size_t *written);
@@ -232,37 +237,6 @@ uint8_t pep440_compile_list(const uint8_t *list, size_t length, uint8_t *out, si
 /* Writes the compiled form of the list of one specifier, as `>=1.16`; `out` and `written` as for pep440_normalize. PEP440_INVALID_LIST if the
    string is no specifier, as the empty string and `>=1.16,<2.0`. */
 uint8_t pep440_compile_specifier(const uint8_t *specifier, size_t length, uint8_t *out, size_t size, size_t *written);
-
-/* As pep440_normalize, of a compiled version. PEP440_NOT_COMPILED if the bytes denote none. */
-uint8_t pep440_normalize_compiled(const uint8_t *compiled, size_t length, uint8_t *out, size_t size, size_t *written);
-
-/* As pep440_normalize_list, of a compiled list. */
-uint8_t pep440_normalize_list_compiled(const uint8_t *compiled, size_t length, uint8_t *out, size_t size, size_t *written);
-
-/* As pep440_sort_key, of a compiled version: copies the key. */
-uint8_t pep440_sort_key_compiled(const uint8_t *compiled, size_t length, uint8_t *out, size_t size, size_t *written);
-
-/* As pep440_compare, of two compiled versions. */
-uint8_t pep440_compare_compiled(const uint8_t *left, size_t left_length, const uint8_t *right, size_t right_length, int8_t *order);
-
-/* As pep440_contains, of a compiled list and a compiled version. */
-uint8_t pep440_contains_compiled(const uint8_t *list, size_t list_length, const uint8_t *version, size_t length, uint8_t *contained,
-                                 uint8_t *prerelease);
-
-/* As pep440_parts_of, of a compiled version. */
-uint8_t pep440_parts_of_compiled(const uint8_t *compiled, size_t length, pep440_parts *parts, uint64_t *release, size_t size);
-
-/* As pep440_range_keys, of a compiled list. */
-uint8_t pep440_range_keys_compiled(const uint8_t *list, size_t length, uint8_t *out, size_t size, size_t *ends, size_t ends_size, size_t *written,
-                                   size_t *count);
-
-/* As pep440_range_bounds, of a compiled list. */
-uint8_t pep440_range_bounds_compiled(const uint8_t *list, size_t length, uint8_t *out, size_t size, size_t *ends, size_t ends_size,
-                                     size_t *written, size_t *count);
-
-/* As pep440_release_range_bounds, of a compiled list. */
-uint8_t pep440_release_range_bounds_compiled(const uint8_t *list, size_t length, uint8_t *out, size_t size, size_t *ends, size_t ends_size,
-                                             size_t *written, size_t *count);
 
 /* The operators in compiled lists, where 16 is added to their numbers. The star forms are `==` and `!=` with a version and `.*`. */
 enum {
@@ -278,15 +252,11 @@ enum {
     PEP440_GREATER_EQUAL = 9
 };
 
-/* Writes why an operator of these and a compiled version make no specifier, in words, and 0 bytes if they do; `out` and `written` as for
-   pep440_normalize. Unless `star` is 0, `.*` follows the version, which goes only with PEP440_EQUAL and PEP440_NOT_EQUAL. PEP440_NOT_COMPILED
-   if the number is no operator's, or the bytes denote no version. */
+/* Writes why an operator of these and a version make no specifier, in words, and 0 bytes if they do; `out` and `written` as for
+   pep440_normalize. Unless `star` is 0, `.*` follows the version, which goes only with PEP440_EQUAL and PEP440_NOT_EQUAL. PEP440_INVALID_LIST
+   if the number is no operator's. */
 uint8_t pep440_build_error(uint8_t operator_number, const uint8_t *version, size_t length, uint8_t star, uint8_t *out, size_t size,
                            size_t *written);
-
-/* As pep440_cover_keys, of a compiled list. */
-uint8_t pep440_cover_keys_compiled(const uint8_t *list, size_t length, uint8_t *out, size_t size, size_t *ends, size_t ends_size, size_t *written,
-                                   size_t *count);
 
 /* ---- batches: many strings in one call */
 
@@ -308,12 +278,90 @@ uint8_t pep440_sort(const pep440_string *strings, size_t count, size_t *indices,
 uint8_t pep440_sort_keys(const pep440_string *strings, size_t count, uint8_t *out, size_t size, size_t *ends, size_t ends_size,
                          size_t *written, size_t *index);
 
-/* As pep440_filter, of a compiled list and compiled versions: PEP440_NOT_A_VERSION is the mark of bytes that denote none. */
-uint8_t pep440_filter_compiled(const uint8_t *list, size_t list_length, const pep440_string *versions, size_t count, uint8_t *marks,
-                               size_t size);
+/* ---- strings with a zero at their end
 
-/* As pep440_sort, of compiled versions: with PEP440_NOT_COMPILED `index` is that of the first that denotes none. */
-uint8_t pep440_sort_compiled(const pep440_string *versions, size_t count, size_t *indices, size_t size, size_t *index);
+   The calls that programs make most, over `const char *`: these are part of the header, and no calls of the library. */
+
+#if defined(__cplusplus) || (defined(__STDC_VERSION__) && __STDC_VERSION__ >= 199901L)
+#define PEP440_INLINE static inline
+#elif defined(__GNUC__)
+#define PEP440_INLINE static __inline__
+#else
+#define PEP440_INLINE static
+#endif
+
+/* What a status says, in words. */
+PEP440_INLINE const char *pep440_status_text(uint8_t status)
+{
+    switch (status) {
+    case PEP440_OK:
+        return "ok";
+    case PEP440_INVALID_VERSION:
+        return "not a version";
+    case PEP440_INVALID_LIST:
+        return "not a list of specifiers";
+    case PEP440_OUT_OF_MEMORY:
+        return "out of memory";
+    case PEP440_NO_ROOM:
+        return "the buffer is too small";
+    case PEP440_NUMBER_AT_MAX:
+        return "a bound needs a number above 18446744073709551615";
+    case PEP440_INVALID_RIGHT:
+        return "the right one is not a version";
+    case PEP440_NOT_PACKED:
+        return "the version has no word";
+    case PEP440_INVALID_CHANGE:
+        return "a change cannot be made";
+    default:
+        return "unknown status";
+    }
+}
+
+/* A version of a batch, or a change. */
+PEP440_INLINE pep440_string pep440_string_of(const char *text)
+{
+    pep440_string string;
+    string.bytes = (const uint8_t *)text;
+    string.length = strlen(text);
+    return string;
+}
+
+PEP440_INLINE uint8_t pep440_compare_strings(const char *left, const char *right, int8_t *order)
+{
+    return pep440_compare((const uint8_t *)left, strlen(left), (const uint8_t *)right, strlen(right), order);
+}
+
+PEP440_INLINE uint8_t pep440_contains_string(const char *list, const char *version, uint8_t *contained, uint8_t *prerelease)
+{
+    return pep440_contains((const uint8_t *)list, strlen(list), (const uint8_t *)version, strlen(version), contained, prerelease);
+}
+
+/* Writes a zero after the normalized form, and not its length. */
+PEP440_INLINE uint8_t pep440_normalize_string(const char *version, char *out, size_t size)
+{
+    size_t written;
+    uint8_t status = pep440_normalize((const uint8_t *)version, strlen(version), (uint8_t *)out, size ? size - 1 : 0, &written);
+    if (status == PEP440_OK && !size)
+        return PEP440_NO_ROOM;
+    if (status == PEP440_OK)
+        out[written] = 0;
+    return status;
+}
+
+PEP440_INLINE uint8_t pep440_sort_key_of(const char *version, uint8_t *out, size_t size, size_t *written)
+{
+    return pep440_sort_key((const uint8_t *)version, strlen(version), out, size, written);
+}
+
+PEP440_INLINE uint8_t pep440_compile_string(const char *version, uint8_t *out, size_t size, size_t *written)
+{
+    return pep440_compile((const uint8_t *)version, strlen(version), out, size, written);
+}
+
+PEP440_INLINE uint8_t pep440_compile_list_string(const char *list, uint8_t *out, size_t size, size_t *written)
+{
+    return pep440_compile_list((const uint8_t *)list, strlen(list), out, size, written);
+}
 
 #ifdef __cplusplus
 }

@@ -1,11 +1,13 @@
 -- The bounds of the range and of the cover of a list that bytes denote have sort keys that tell them apart.
-use Rattle.std.proofs.Common.{◌≡◌, ◌<◌, ◌+◌, ◌==◌, ℕ, Bool, true, false, List, [], ◌∷◌, ◌++◌, length, Option, Some, None, IfSome, option_map, option_and_then, if◌then◌else◌, refl, subst, arith, lit<}
+use Rattle.std.proofs.Common.{◌≡◌, ◌<◌, ◌+◌, ◌==◌, ℕ, Bool, true, false, List, [], ◌∷◌, ◌++◌, length, Option, Some, None, IfSome, option_map, option_and_then, if◌then◌else◌, refl, subst, arith, lit<, inl, inr}
 use Rattle.std.proofs.lemmas.Bool.{eqb-false}
 use Rattle.std.proofs.lemmas.List.Elements.{All-from_recursion, recursion_from_All, All-weaker}
 use Rattle.std.specs.List.{All, AllByRecursion}
 use Rattle.std.specs.Option.{option_map_or}
 use Rattle.std.specs.declared.ops.Bound.{Bound}
 use Rattle.std.specs.declared.ops.Bound.TheVariants.{Included, Excluded, Unbounded}
+use Rattle.pep440_compiled.proofs.Fronts.{keyed}
+use Rattle.pep440_compiled.specs.Lists.{IsParsedMember}
 use Rattle.pep440_keys.specs.RangeKeys.{HasKeys, IsKeyedBound, IsKeyedSegment}
 use Rattle.pep440_ranges.specs.BoundOrder.{is_valid, starts_before, ends_before, flipped_bound}
 use Rattle.pep440_ranges.specs.Complement.{gap_after, gap_before, gaps, gaps_after}
@@ -266,7 +268,8 @@ module _ (conversion : Operator → Record → Option Segments) (keyed : (op : O
 
 -- the members of a list that bytes denote
 members_keyed : (text : List ℕ) (list : List Spec) → MeansListBytes text list → All KeyedMember list
-members_keyed text list (utf8, means) = All-weaker HasText KeyedMember (λ m has. version_keyed m (is_coverable m has)) list (list_has_texts text list means)
+members_keyed text list (inr d) = All-weaker IsParsedMember KeyedMember (λ m p. keyed m.version p.version) list d.members
+members_keyed text list (inl (plain, (utf8, means))) = All-weaker HasText KeyedMember (λ m has. version_keyed m (is_coverable m has)) list (list_has_texts text list means)
   where
     version_keyed : (m : Spec) → IsCoverable m → IsKeyed m.version
     version_keyed m (operand, (found, derives)) = derived_keyed found m.version derives

@@ -2,6 +2,7 @@ pub mod Refused
 pub mod Joining
 pub mod Placed
 pub mod Once
+pub mod Forms
 pub mod Words
 pub mod Keyed
 pub mod Membership
@@ -12,4 +13,3 @@ pub mod Edited
 pub mod OneSpecifier
 pub mod Bounded
 pub mod SpecifierOnce
-pub mod ReleaseBoundsOnce

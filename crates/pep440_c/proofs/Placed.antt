@@ -13,7 +13,7 @@ use Rattle.pep440_c.specs.Batches.{ArrangesPlaces, MeansKeys, MeansPlaced, Sorts
 use Rattle.pep440_c.specs.JoinedStrings.{Joins}
 use Rattle.pep440_c.specs.Statuses.{Faults}
 use Rattle.pep440_c.specs.declared.texts.Fault.{Fault}
-use Rattle.pep440_c.specs.declared.texts.Fault.TheVariants.{InvalidVersion, InvalidList, NotCompiled, NumberAtMax, OutOfMemory}
+use Rattle.pep440_c.specs.declared.texts.Fault.TheVariants.{InvalidVersion, InvalidList, InvalidRight, NumberAtMax, OutOfMemory}
 use Rattle.pep440_c.specs.declared.batch.BatchError.{BatchError}
 use Rattle.pep440_c.specs.Meaning.{MeansBytes, RefusesBytes}
 
@@ -95,7 +95,7 @@ stops_at texts i x InvalidVersion s versions inside is why all = subst (λ (t : 
     (let both = refused_first MeansBytes RefusesBytes texts i x versions inside why all in record { refused = both.0; before = both.1 })
 stops_at texts i x InvalidList s versions inside is why all = absurd why
 stops_at texts i x NumberAtMax s versions inside is why all = absurd why
-stops_at texts i x NotCompiled s versions inside is why all = absurd why
+stops_at texts i x InvalidRight s versions inside is why all = absurd why
 stops_at texts i x OutOfMemory s versions inside is why all = subst (λ (t : BatchError). StopsAll (map (λ (y : Bor (List ℕ)). y.now) texts) t) (sym is) tt
 
 -- one more mark

@@ -12,21 +12,21 @@ use Rattle.pep440_rs.specs.SpecifierGrammar.{is_operator_char}
 use Rattle.pep440_rs.specs.declared.specifier.operator.Operator.{Operator}
 use Rattle.pep440_version.specs.ErrorTexts.{refusal_text}
 use Rattle.pep440_version.specs.Refusals.{PatternRefusal, Refusal, Refuses, RefusesPattern}
-use Rattle.pep440_c.specs.Meaning.{RefusesBytes, RefusesListBytes, TellsWhy, TellsWhyNoList}
+use Rattle.pep440_c.specs.Meaning.{RefusesString, RefusesListString, TellsWhyNoString, TellsWhyNoListString}
 use Rattle.pep440_c.specs.PatternCalls.{IsOperator, RefusesPatternBytes}
 
-pub no_text : (bytes : List ℕ) → (¬ IsUtf8 bytes) → RefusesBytes bytes
+pub no_text : (bytes : List ℕ) → (¬ IsUtf8 bytes) → RefusesString bytes
 no_text bytes not_utf8 = (codes "not UTF-8", inl (not_utf8, refl))
 
-pub no_list_text : (bytes : List ℕ) → (¬ IsUtf8 bytes) → RefusesListBytes bytes
+pub no_list_text : (bytes : List ℕ) → (¬ IsUtf8 bytes) → RefusesListString bytes
 no_list_text bytes not_utf8 = (codes "not UTF-8", inl (not_utf8, refl))
 
 -- an error that isn't 'out of memory' tells why its text is refused
-pub refuses : (bytes text : List ℕ) (o : Option Refusal) → text ≡ bytes → IsUtf8 bytes → is_none o ≡ false → IfSome o (Refuses text) → RefusesBytes bytes
+pub refuses : (bytes text : List ℕ) (o : Option Refusal) → text ≡ bytes → IsUtf8 bytes → is_none o ≡ false → IfSome o (Refuses text) → RefusesString bytes
 refuses bytes text None same utf8 some why = cc some
 refuses bytes text (Some f) same utf8 some why = (refusal_text f, inr (utf8, f, rw same at why, refl))
 
-pub refuses_list : (bytes text : List ℕ) (o : Option PieceRefusal) → text ≡ bytes → IsUtf8 bytes → o ≢ None → IfSome o (RefusesList text) → RefusesListBytes bytes
+pub refuses_list : (bytes text : List ℕ) (o : Option PieceRefusal) → text ≡ bytes → IsUtf8 bytes → o ≢ None → IfSome o (RefusesList text) → RefusesListString bytes
 refuses_list bytes text None same utf8 some why = absurd (some refl)
 refuses_list bytes text (Some f) same utf8 some why = (list_refusal_text f bytes, inr (utf8, f, rw same at why, refl))
 
@@ -42,12 +42,12 @@ no_operator bytes not_utf8 (o, spells) = not_utf8 (subst IsUtf8 (sym spells.0) (
 
 -- and its text is the refusal's
 pub tells : (bytes text words : List ℕ) (o : Option Refusal) (m : Option (List ℕ)) → text ≡ bytes → IsUtf8 bytes → is_none o ≡ false → IfSome o (Refuses text)
-    → IfSome o (λ f. m ≡ Some (refusal_text f)) → IfSome m (λ bs. words ≡ bs) → TellsWhy bytes words
+    → IfSome o (λ f. m ≡ Some (refusal_text f)) → IfSome m (λ bs. words ≡ bs) → TellsWhyNoString bytes words
 tells bytes text words None m same utf8 some why told shown = cc some
 tells bytes text words (Some f) m same utf8 some why told shown = inr (utf8, f, rw same at why, rw told at shown)
 
 pub tells_list : (bytes text words : List ℕ) (o : Option PieceRefusal) (m : Option (List ℕ)) → text ≡ bytes → IsUtf8 bytes → o ≢ None → IfSome o (RefusesList text)
-    → IfSome o (λ f. m ≡ Some (list_refusal_text f text)) → IfSome m (λ bs. words ≡ bs) → TellsWhyNoList bytes words
+    → IfSome o (λ f. m ≡ Some (list_refusal_text f text)) → IfSome m (λ bs. words ≡ bs) → TellsWhyNoListString bytes words
 tells_list bytes text words None m same utf8 some why told shown = absurd (some refl)
 tells_list bytes text words (Some f) m same utf8 some why told shown =
     let is : words ≡ list_refusal_text f text = rw told at shown in inr (utf8, f, rw same at why, rw same at is)

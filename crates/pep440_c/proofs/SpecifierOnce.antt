@@ -1,19 +1,14 @@
--- Bytes denote one specifier, or are rejected for one reason, and never both; bounds of compiled lists are those of the strings.
+-- Bytes denote one specifier, or are rejected for one reason, and never both.
 use Rattle.std.proofs.Common.{◌≡◌, ◌⊎◌, ◌∙◌, ℕ, List, Bool, true, false, refl, sym, ap, inl, inr}
-use Rattle.std.specs.Prelude.{◌↔◌}
 use Rattle.std.proofs.lemmas.Str.{IsUtf8-from_is_utf8}
 use Rattle.std.specs.Str.{IsUtf8, is_utf8}
 use Rattle.pep440_rs.proofs.Reading.OneMeaning.{either_specifier, not_both_specifier, one_specifier, one_specifier_refusal}
-use Rattle.pep440_rs.specs.Bounds.{list_range, range_of}
 use Rattle.pep440_rs.specs.ErrorTexts.{specifier_refusal_text}
 use Rattle.pep440_rs.specs.SpecifierGrammar.{DerivesSpecifier, RefusesSpecifier, SpecifierRefusal}
 use Rattle.pep440_rs.specs.Specifiers.{Spec}
-use Rattle.pep440_compiled.proofs.Listed.{one_denoted_list}
-use Rattle.pep440_c.proofs.Once.{no_utf8, one_bytes_list}
+use Rattle.pep440_c.proofs.Once.{no_utf8}
 use Rattle.pep440_c.proofs.OneSpecifier.{no_specifier_text}
-use Rattle.pep440_c.specs.Compiled.{IsCompiledList}
 use Rattle.pep440_c.specs.OneSpecifier.{MeansSpecifierBytes, RefusesSpecifierBytes, TellsWhyNoSpecifier}
-use Rattle.pep440_c.specs.RangeBounds.{CompiledBounds, TellsBounds}
 
 pub one_bytes_specifier : (bytes : List ℕ) (s t : Spec) → MeansSpecifierBytes bytes s → MeansSpecifierBytes bytes t → s ≡ t
 one_bytes_specifier bytes s t (u, means) (v, other) = one_specifier bytes s t means other
@@ -39,9 +34,3 @@ either_bytes_specifier bytes = either_specifier_by bytes (is_utf8 bytes) refl
 pub never_both_specifiers : (bytes : List ℕ) (s : Spec) → MeansSpecifierBytes bytes s → RefusesSpecifierBytes bytes → ⊥
 never_both_specifiers bytes s (utf8, means) (words, inl (stray, w)) = stray utf8
 never_both_specifiers bytes s (utf8, means) (words, inr (again, f, why, w)) = not_both_specifier bytes s f means why
-
-pub of_bounds : (text compiled bytes ends : List ℕ) → IsCompiledList text compiled → CompiledBounds compiled bytes ends ↔ TellsBounds text bytes ends
-of_bounds text compiled bytes ends (l, means, denotes) = (
-  λ (range, (m, again, is), joins). (range, (l, means, ap (λ (x : List Spec). list_range range_of x) (sym (one_denoted_list compiled m l again denotes)) ∙ is), joins),
-  λ (range, (m, also, is), joins). (range, (l, denotes, ap (λ (x : List Spec). list_range range_of x) (sym (one_bytes_list text m l also means)) ∙ is), joins),
-)

@@ -84,7 +84,7 @@ abbrev pub stop_at : ℕ → Fault → BatchError
 stop_at position fault.InvalidVersion = stop.InvalidAt position
 stop_at position fault.InvalidList = stop.InvalidAt position
 stop_at position fault.NumberAtMax = stop.InvalidAt position
-stop_at position fault.NotCompiled = stop.InvalidAt position
+stop_at position fault.InvalidRight = stop.InvalidAt position
 stop_at position fault.OutOfMemory = stop.OutOfMemory
 
 -- the versions that the strings denote, with their positions

@@ -1,5 +1,5 @@
 -- What each call on one string returns.
-use Rattle.std.specs.Prelude.{◌≡◌, ◌⊎◌, ℕ, ℤ, pos, negsuc, List, [], ◌∷◌, ◌++◌, codes, Bool, Option, Some, None, length, is_some, if◌then◌else◌}
+use Rattle.std.specs.Prelude.{◌≡◌, ◌⊎◌, ℕ, ℤ, pos, negsuc, List, [], ◌∷◌, ◌++◌, codes, Bool, Option, Some, None, length, is_some, if◌then◌else◌, Result, Ok, Err}
 use Rattle.std.specs.List.{flat_map, list_any}
 use Rattle.std.specs.Option.{option_map_or}
 use Rattle.std.specs.declared.cmp.Ordering.{Ordering}
@@ -19,8 +19,10 @@ use Rattle.pep440_version.specs.declared.prerelease.Prerelease.{Prerelease}
 use Rattle.pep440_version.specs.declared.prerelease.PrereleaseKind.{PrereleaseKind}
 use Rattle.pep440_version.specs.declared.prerelease.PrereleaseKind.TheVariants.{Alpha, Beta, Rc}
 use Rattle.pep440_c.specs.JoinedStrings.{Joins}
-use Rattle.pep440_c.specs.Meaning.{MeansBytes, MeansListBytes, RefusesBytes, RefusesListBytes, TellsWhy, TellsWhyNoList}
-use Rattle.pep440_c.specs.Statuses.{Fails, IsFlagOf, PutsFront, flag}
+use Rattle.pep440_c.specs.Meaning.{MeansBytes, MeansListBytes, RefusesBytes, RefusesListBytes, SeemsList, SeemsVersion, TellsWhy, TellsWhyNoList}
+use Rattle.pep440_c.specs.Statuses.{Fails, IsFlagOf, PutsFront, fault_status, flag}
+use Rattle.pep440_c.specs.declared.texts.Fault.{Fault}
+use Rattle.pep440_c.specs.declared.texts.Fault.TheVariants as fault
 use Rattle.pep440_c.specs.declared.Parts.{Parts}
 
 -- ---- texts
@@ -41,9 +43,9 @@ IsVersionError text bytes = ((r : Record) × MeansBytes text r × (bytes ≡ [])
 abbrev pub IsListError : List ℕ → List ℕ → Type 0
 IsListError text bytes = ((list : List Spec) × MeansListBytes text list × (bytes ≡ [])) ⊎ TellsWhyNoList text bytes
 
--- the sort key of a version
+-- the sort key of the version
 abbrev pub IsKey : List ℕ → List ℕ → Type 0
-IsKey text bytes = (r : Record) × MeansBytes text r × (bytes ≡ key_bytes r)
+IsKey text bytes = SeemsVersion text × ((r : Record) → MeansBytes text r → bytes ≡ key_bytes r)
 
 -- the word of a version, if it is packed
 abbrev pub TellsWord : List ℕ → Option ℕ → Type 0
@@ -89,19 +91,37 @@ order_number Greater = pos 1
 
 -- the number is the order of the two versions: -1, 0 or 1
 abbrev pub IsOrder : List ℕ → List ℕ → ℤ → Type 0
-IsOrder left right number = (r q : Record) × MeansBytes left r × MeansBytes right q × (number ≡ order_number (record_cmp r q))
+IsOrder left right number = SeemsVersion left × SeemsVersion right × ((r q : Record) → MeansBytes left r → MeansBytes right q → number ≡ order_number (record_cmp r q))
+
+module _ (left right : List ℕ) where
+  -- why there is no order: the left version is invalid, or the right one
+  abbrev pub OrderFaults : Fault → Type 0
+  OrderFaults fault.InvalidVersion = RefusesBytes left
+  OrderFaults fault.InvalidList = ⊥
+  OrderFaults fault.OutOfMemory = Unit {0}
+  OrderFaults fault.NumberAtMax = ⊥
+  OrderFaults fault.InvalidRight = SeemsVersion left × RefusesBytes right
+
+  -- the order, or why there is none
+  abbrev pub GivesOrder : Result Ordering Fault → Type 0
+  GivesOrder (Ok order) = IsOrder left right (order_number order)
+  GivesOrder (Err f) = OrderFaults f
+
+  -- the order is written with status 0; otherwise the caller's number is unchanged, and the status is that of the failure
+  abbrev pub OrderAnswer : ℤ → ℤ → ℕ → Type 0
+  OrderAnswer old new status = ((status ≡ 0) × IsOrder left right new) ⊎ ((new ≡ old) × (f : Fault) × OrderFaults f × (status ≡ fault_status f))
 
 -- whether the list contains the version
 abbrev pub Contains : List ℕ → List ℕ → Bool → Type 0
-Contains list_text text contained = (list : List Spec) × (r : Record) × MeansListBytes list_text list × MeansBytes text r × (contained ≡ list_matches list r)
+Contains list_text text contained = SeemsList list_text × SeemsVersion text × ((list : List Spec) (r : Record) → MeansListBytes list_text list → MeansBytes text r → contained ≡ list_matches list r)
 
 -- whether the version is a pre-release or a developmental release
 abbrev pub IsPrerelease : List ℕ → Bool → Type 0
-IsPrerelease text early = (r : Record) × MeansBytes text r × (early ≡ any_prerelease r)
+IsPrerelease text early = (r : Record) → MeansBytes text r → early ≡ any_prerelease r
 
 -- the list is valid and the version is not: the list is parsed first
 abbrev pub RefusesSecond : List ℕ → List ℕ → Type 0
-RefusesSecond list_text text = (list : List Spec) × MeansListBytes list_text list × RefusesBytes text
+RefusesSecond list_text text = SeemsList list_text × RefusesBytes text
 
 -- both flags are written with status 0; otherwise both are unchanged, and the status is that of the failure
 abbrev pub ContainsAnswer : List ℕ → List ℕ → ℕ → ℕ → ℕ → ℕ → ℕ → Type 0

@@ -6,7 +6,6 @@ pub mod Intervals
 pub mod Batches
 pub mod Compiled
 pub mod Buffers
-pub mod CompiledBatches
 pub mod PatternCalls
 pub mod Edits
 pub mod OneSpecifier

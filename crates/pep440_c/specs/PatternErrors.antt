@@ -1,7 +1,6 @@
 -- Why a string is no version pattern, and why an operator and a version make no specifier.
 use Rattle.std.specs.Prelude.{◌≡◌, ◌⊎◌, ℕ, List, [], Bool, codes, Result, Ok, Err}
 use Rattle.std.specs.Str.{IsUtf8}
-use Rattle.pep440_compiled.specs.Version.{DenotesVersion}
 use Rattle.pep440_rs.specs.Build.{BuildRefusal, built_pattern}
 use Rattle.pep440_rs.specs.ErrorTexts.{build_text}
 use Rattle.pep440_rs.specs.Operators.{operator_rank}
@@ -10,6 +9,7 @@ use Rattle.pep440_rs.specs.declared.specifier.operator.Operator.{Operator}
 use Rattle.pep440_version.specs.ErrorTexts.{pattern_refusal_text}
 use Rattle.pep440_version.specs.Record.{Record}
 use Rattle.pep440_version.specs.Refusals.{PatternRefusal, RefusesPattern}
+use Rattle.pep440_c.specs.Meaning.{MeansBytes, RefusesBytes}
 use Rattle.pep440_c.specs.PatternCalls.{MeansPattern}
 
 -- ---- patterns
@@ -28,12 +28,16 @@ IsPatternError text bytes = ((r : Record) × (star : Bool) × MeansPattern text 
 abbrev pub IsNoOperator : ℕ → Type 0
 IsNoOperator number = (o : Operator) → operator_rank o ≡ number → ⊥
 
--- what the rules of specifiers give for the operator of this number and the compiled version, with `.*` behind it or without
-abbrev pub CombinesCompiled : ℕ → List ℕ → Bool → Result Spec BuildRefusal → Type 0
-CombinesCompiled number compiled star combined = (o : Operator) × (r : Record) × (operator_rank o ≡ number) × DenotesVersion compiled r × (combined ≡ built_pattern o r star)
+-- what the rules of specifiers give for the operator of this number and the version, with `.*` after it or without
+abbrev pub CombinesNumbered : ℕ → List ℕ → Bool → Result Spec BuildRefusal → Type 0
+CombinesNumbered number text star combined = (o : Operator) × (r : Record) × (operator_rank o ≡ number) × MeansBytes text r × (combined ≡ built_pattern o r star)
+
+-- an operator has the number and the version is invalid: the number is tested first
+abbrev pub RefusesNumbered : ℕ → List ℕ → Type 0
+RefusesNumbered number text = ((o : Operator) × (operator_rank o ≡ number)) × RefusesBytes text
 
 -- why they are no specifier; nothing where they are one
 abbrev pub IsBuildError : ℕ → List ℕ → Bool → List ℕ → Type 0
-IsBuildError number compiled star bytes =
-    ((s : Spec) × CombinesCompiled number compiled star (Ok s) × (bytes ≡ []))
-    ⊎ ((why : BuildRefusal) × CombinesCompiled number compiled star (Err why) × (bytes ≡ build_text why))
+IsBuildError number text star bytes =
+    ((s : Spec) × CombinesNumbered number text star (Ok s) × (bytes ≡ []))
+    ⊎ ((why : BuildRefusal) × CombinesNumbered number text star (Err why) × (bytes ≡ build_text why))

@@ -7,7 +7,6 @@ use Rattle.pep440_compiled.specs.Version.{compiled_bytes}
 use Rattle.pep440_ranges.specs.RangeSegments.{Segment}
 use Rattle.pep440_rs.specs.Bounds.{Segments, range_of}
 use Rattle.pep440_version.specs.Record.{Record}
-use Rattle.pep440_c.specs.Compiled.{CompiledRange}
 use Rattle.pep440_c.specs.Intervals.{HasRange}
 use Rattle.pep440_c.specs.JoinedStrings.{Joins}
 
@@ -25,10 +24,6 @@ segment_bounds s = bound_bytes s.0 ∷ bound_bytes s.1 ∷ []
 abbrev pub JoinsBounds : Segments → List ℕ → List ℕ → Type 0
 JoinsBounds range bytes ends = Joins (flat_map segment_bounds range) bytes ends
 
--- those of the range of the list that the string denotes
+-- those of the range of the list
 abbrev pub TellsBounds : List ℕ → List ℕ → List ℕ → Type 0
 TellsBounds text bytes ends = (range : Segments) × HasRange range_of text range × JoinsBounds range bytes ends
-
--- those of the range of a compiled list
-abbrev pub CompiledBounds : List ℕ → List ℕ → List ℕ → Type 0
-CompiledBounds compiled bytes ends = (range : Segments) × CompiledRange range_of compiled range × JoinsBounds range bytes ends

@@ -1,14 +1,9 @@
 -- The bounds of the release-only range of a list.
 use Rattle.std.specs.Prelude.{ℕ, List}
 use Rattle.pep440_rs.specs.Bounds.{Segments, release_range_of}
-use Rattle.pep440_c.specs.Compiled.{CompiledRange}
 use Rattle.pep440_c.specs.Intervals.{HasRange}
 use Rattle.pep440_c.specs.RangeBounds.{JoinsBounds}
 
--- the bounds of the release-only range of the list that the string denotes
+-- the bounds of the release-only range of the list
 abbrev pub TellsReleaseBounds : List ℕ → List ℕ → List ℕ → Type 0
 TellsReleaseBounds text bytes ends = (range : Segments) × HasRange release_range_of text range × JoinsBounds range bytes ends
-
--- those of the release-only range of a compiled list
-abbrev pub CompiledReleaseBounds : List ℕ → List ℕ → List ℕ → Type 0
-CompiledReleaseBounds compiled bytes ends = (range : Segments) × CompiledRange release_range_of compiled range × JoinsBounds range bytes ends

@@ -1,11 +1,9 @@
 -- How a call ends: its status, and what it leaves in the caller's memory. 0 ok, 1 a version is invalid, 2 a list is invalid, 3 out of
--- memory, 4 too little room, 5 a bound lies above the greatest number, 6 bytes are not compiled, 7 a version is not packed, 8 it cannot be
--- changed so.
+-- memory, 4 too little room, 5 a bound lies above the greatest number, 6 the right one of two versions is invalid, 7 a version is not
+-- packed, 8 it cannot be changed so.
 use Rattle.std.specs.Prelude.{◌≡◌, ◌⊎◌, ◌≤◌, ◌<◌, ℕ, Bool, List, ◌++◌, drop, length, Result, Ok, Err, if◌then◌else◌}
 use Rattle.pep440_compiled.specs.declared.error.CompileError.{CompileError}
 use Rattle.pep440_compiled.specs.declared.error.CompileError.TheVariants as compile
-use Rattle.pep440_compiled.specs.declared.error.CompiledError.{CompiledError}
-use Rattle.pep440_compiled.specs.declared.error.CompiledError.TheVariants as compiled
 use Rattle.pep440_rs.specs.declared.range.error.RangeError.{RangeError}
 use Rattle.pep440_rs.specs.declared.range.error.RangeError.TheVariants as range_error
 use Rattle.pep440_c.specs.declared.texts.Fault.{Fault}
@@ -17,17 +15,12 @@ fault_status fault.InvalidVersion = 1
 fault_status fault.InvalidList = 2
 fault_status fault.OutOfMemory = 3
 fault_status fault.NumberAtMax = 5
-fault_status fault.NotCompiled = 6
+fault_status fault.InvalidRight = 6
 
 -- why there is no compiled form
 abbrev pub fault_of_compile : CompileError → Fault
-fault_of_compile compile.NotParsed = fault.NotCompiled
+fault_of_compile compile.NotParsed = fault.InvalidVersion
 fault_of_compile compile.OutOfMemory = fault.OutOfMemory
-
--- why a call over compiled bytes gives nothing
-abbrev pub fault_of_compiled : CompiledError → Fault
-fault_of_compiled compiled.NotCompiled = fault.NotCompiled
-fault_of_compiled compiled.OutOfMemory = fault.OutOfMemory
 
 -- why there is no range
 abbrev pub fault_of_range : RangeError → Fault
@@ -49,7 +42,7 @@ module _ (version list range : Type 0) where
   Faults fault.InvalidList = list
   Faults fault.OutOfMemory = Unit {0}
   Faults fault.NumberAtMax = range
-  Faults fault.NotCompiled = ⊥
+  Faults fault.InvalidRight = ⊥
 
   -- what holds of what is given, or why nothing is
   abbrev pub Gives : {X : Type 0} → (X → Type 0) → Result X Fault → Type 0
@@ -63,28 +56,6 @@ module _ (version list range : Type 0) where
   -- a value of which this holds is written; or the call fails and the caller's value is unchanged
   abbrev pub Puts : {X : Type 0} → (X → Type 0) → X → X → ℕ → Type 0
   Puts P old new status = ((status ≡ 0) × P new) ⊎ ((new ≡ old) × Fails status)
-
-module _ (unread range : Type 0) where
-  -- the cause of a failure other than memory: bytes that denote no version or no list, or a list without a range
-  abbrev pub CompiledFaults : Fault → Type 0
-  CompiledFaults fault.InvalidVersion = ⊥
-  CompiledFaults fault.InvalidList = ⊥
-  CompiledFaults fault.OutOfMemory = Unit {0}
-  CompiledFaults fault.NumberAtMax = range
-  CompiledFaults fault.NotCompiled = unread
-
-  -- what holds of what is given, or why nothing is
-  abbrev pub GivesCompiled : {X : Type 0} → (X → Type 0) → Result X Fault → Type 0
-  GivesCompiled P (Ok x) = P x
-  GivesCompiled P (Err f) = CompiledFaults f
-
-  -- the status names the cause of the failure, which may be memory
-  abbrev pub FailsCompiled : ℕ → Type 0
-  FailsCompiled status = (f : Fault) × CompiledFaults f × (status ≡ fault_status f)
-
-  -- a value of which this holds is written; or the call fails and the caller's value is unchanged
-  abbrev pub PutsCompiled : {X : Type 0} → (X → Type 0) → X → X → ℕ → Type 0
-  PutsCompiled P old new status = ((status ≡ 0) × P new) ⊎ ((new ≡ old) × FailsCompiled status)
 
 -- the items are written at the start of the caller's buffer, whose rest is unchanged; or it is too small, and unchanged
 abbrev pub PutsFront : {X : Type 0} → List X → List X → List X → ℕ → Type 0
@@ -104,15 +75,3 @@ abbrev pub PutsBytes : Type 0 → Type 0 → Type 0 → (List ℕ → Type 0) �
 PutsBytes version list range P old new old_written written status =
     ((bytes : List ℕ) × P bytes × (written ≡ length bytes) × PutsFront bytes old new status)
     ⊎ ((new ≡ old) × (written ≡ old_written) × Fails version list range status)
-
--- the same of a call on compiled bytes
-abbrev pub PutsCompiledBytes : Type 0 → Type 0 → (List ℕ → Type 0) → List ℕ → List ℕ → ℕ → ℕ → ℕ → Type 0
-PutsCompiledBytes unread range P old new old_written written status =
-    ((bytes : List ℕ) × P bytes × (written ≡ length bytes) × PutsFront bytes old new status)
-    ⊎ ((new ≡ old) × (written ≡ old_written) × FailsCompiled unread range status)
-
--- the same of joined strings, by a call on compiled bytes
-abbrev pub PutsCompiledJoined : Type 0 → Type 0 → (List ℕ → List ℕ → Type 0) → List ℕ → List ℕ → List ℕ → List ℕ → ℕ → ℕ → ℕ → ℕ → ℕ → Type 0
-PutsCompiledJoined unread range P old new old_ends ends old_written written old_count count status =
-    ((bytes : List ℕ) × (places : List ℕ) × P bytes places × (written ≡ length bytes) × (count ≡ length places) × PutsBoth bytes places old new old_ends ends status)
-    ⊎ ((new ≡ old) × (ends ≡ old_ends) × (written ≡ old_written) × (count ≡ old_count) × FailsCompiled unread range status)

@@ -13,13 +13,13 @@ use pep440_rs::{Version, VersionSpecifiers};
 use std::alloc::{AllocError, AllocFailed, Global};
 use std::cmp::Ordering;
 
-pub(crate) const NO_MATCH: u8 = 0;
+const NO_MATCH: u8 = 0;
 
-pub(crate) const MATCH: u8 = 1;
+const MATCH: u8 = 1;
 
-pub(crate) const NOT_A_VERSION: u8 = 2;
+const NOT_A_VERSION: u8 = 2;
 
-pub(crate) const PRERELEASE_MATCH: u8 = 3;
+const PRERELEASE_MATCH: u8 = 3;
 
 /// Why a batch is rejected.
 #[derive(Clone, Copy, Debug)]
@@ -52,7 +52,7 @@ impl BatchError {
         ensures { result ≡ stop_at position fault }
     {
         match fault {
-            Fault::InvalidVersion | Fault::InvalidList | Fault::NumberAtMax | Fault::NotCompiled =>
+            Fault::InvalidVersion | Fault::InvalidList | Fault::NumberAtMax | Fault::InvalidRight =>
                 BatchError::InvalidAt(position),
             Fault::OutOfMemory => BatchError::OutOfMemory,
         }
@@ -130,11 +130,8 @@ fn collect_positions(alloc: Global, pairs: &[(usize, Version)]) -> Result<Vec<us
     Ok(found)
 }
 
-/// The positions of the versions in order, equal ones in the order given.
-pub(crate) fn sort_pairs(
-    alloc: Global,
-    pairs: Vec<(usize, Version)>,
-) -> Result<Vec<usize>, AllocError>
+// The positions of the versions in order, equal ones in the order given.
+fn sort_pairs(alloc: Global, pairs: Vec<(usize, Version)>) -> Result<Vec<usize>, AllocError>
     ensures { IfOk result (λ found. ArrangesPlaces pairs.items found.items) }
 {
     let mut sorted = pairs;

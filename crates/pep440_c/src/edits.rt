@@ -10,7 +10,8 @@ ghost use Rattle.pep440_c.specs.Meaning.{RefusesBytes};
 ghost use Rattle.pep440_c.specs.Statuses.{Gives};
 ghost use Rattle.pep440_c.specs.declared.edits.EditError.TheVariants.{OutOfMemory};
 
-use crate::texts::{Fault, explain_version, read};
+use crate::messages::explain_version;
+use crate::texts::{Fault, read};
 use pep440_change_words::{ChangeWordError, parse_change};
 use pep440_rs::{Change, ChangeError, Version, WithSentinels};
 use std::alloc::{AllocError, AllocFailed, Global};

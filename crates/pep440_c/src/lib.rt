@@ -1,18 +1,22 @@
 //! PEP 440 for C: versions and lists of specifiers, as strings in the caller's memory.
 //!
-//! A string is bytes and how many there are. No call keeps a pointer, and none has a condition beyond its types. Each returns a status: 0
-//! ok, 1 a version is invalid, 2 a list is invalid, 3 out of memory, 4 too little room, 5 a bound of a range lies above the greatest number,
-//! 6 bytes that are passed as compiled are not, 7 a version is not packed, 8 a version cannot be changed so.
+//! A version or a list is bytes and how many there are: a string, or its compiled form, which begins with a byte that no string begins
+//! with. Each call takes either. No call keeps a pointer, and none has a condition beyond its types. Each returns a status: 0 ok, 1 a
+//! version is invalid, 2 a list is invalid, 3 out of memory, 4 too little room, 5 a bound of a range lies above the greatest number, 6 the
+//! right one of two versions is invalid, 7 a version is not packed, 8 a version cannot be changed so.
+//!
+//! `pep440_compare`, `pep440_contains` and `pep440_sort_key` read compiled bytes as they lie, without allocating. They do not test the whole
+//! of them: of bytes that begin as a compiled form and are none they return an error or any result, and never read outside them.
 //! The header is `callers/c/pep440.h`.
 //!
 //! A call may allocate from `malloc`, and frees what it allocated before it returns. Where `malloc` fails it returns 3, and may be made
 //! again.
 #![tactic(auto)]
 
-ghost use Rattle.std.specs.Prelude.{◌≡◌, ◌⊎◌, map};
+ghost use Rattle.std.specs.Prelude.{◌≡◌, map};
 ghost use Rattle.pep440_rs.specs.Bounds.{range_of};
 ghost use Rattle.pep440_rs.specs.Cover.{cover_of};
-ghost use Rattle.pep440_c.specs.CallResults.{ContainsAnswer, HasNoRange, IsKey, IsListError, IsNormal, IsNormalList, IsOrder, IsRangeText, IsVersionError, NamesPrerelease, PartsAnswer, TellsMembers, WordAnswer, order_number};
+ghost use Rattle.pep440_c.specs.CallResults.{ContainsAnswer, HasNoRange, IsKey, IsListError, IsNormal, IsNormalList, IsRangeText, IsVersionError, NamesPrerelease, OrderAnswer, PartsAnswer, TellsMembers, WordAnswer, order_number};
 ghost use Rattle.pep440_c.specs.Batches.{FilterMarks, KeysAnswer, SortAnswer};
 ghost use Rattle.pep440_c.specs.Edits.{PutsEdited, IsEditError};
 ghost use Rattle.pep440_c.specs.Intervals.{LacksRange, TellsIntervals};
@@ -23,15 +27,13 @@ ghost use Rattle.pep440_c.specs.Statuses.{IsFlagOf, Puts, PutsBytes};
 
 mod batch;
 mod buffer;
-mod compiled;
-mod compiled_batch;
-mod compiled_forms;
-mod compiled_intervals;
+mod compile;
 mod edits;
 mod intervals;
 mod joined_strings;
 pub mod laws;
 mod list_members;
+mod messages;
 mod one_specifier;
 mod pattern_errors;
 mod patterns;
@@ -46,15 +48,17 @@ use crate::batch::BatchError;
 use crate::buffer::{
     NOT_PACKED, OK, flag, put, put_and_count, put_both, put_bytes, put_joined, put_text,
 };
+use crate::texts::Fault;
+use pep440_compiled::has_version_format;
 use std::alloc::Global;
 use std::cmp::Ordering;
 
-const VERSION_OF_LIBRARY: u32 = 0x00_02_00;
+const VERSION_OF_LIBRARY: u32 = 0x00_03_00;
 
 /// The version of the library, a byte for each of its three numbers. Allocates nothing.
 #[unsafe(no_mangle)]
 pub extern "C" fn pep440_version_of_library() -> u32
-    ensures { result ≡ 0x00_02_00 }
+    ensures { result ≡ 0x00_03_00 }
 {
     VERSION_OF_LIBRARY
 }
@@ -189,7 +193,7 @@ pub extern "C" fn pep440_version_error(
 ) -> u8
     ensures { PutsBytes ⊥ ⊥ ⊥ (IsVersionError text.now) out.old out.new written.old written.new result }
 {
-    put_text(texts::explain_version(alloc, text), out, written)
+    put_text(messages::explain_version(alloc, text), out, written)
 }
 
 /// Writes why the string is no list of specifiers; nothing where it is one.
@@ -202,7 +206,7 @@ pub extern "C" fn pep440_list_error(
 ) -> u8
     ensures { PutsBytes ⊥ ⊥ ⊥ (IsListError list.now) out.old out.new written.old written.new result }
 {
-    put_text(texts::explain_list(alloc, list), out, written)
+    put_text(messages::explain_list(alloc, list), out, written)
 }
 
 /// The number that stands for an order.
@@ -217,10 +221,10 @@ pub(crate) fn order_number(order: Ordering) -> i8
 }
 
 /// How the left version compares with the right one: -1 below, 0 equal, 1 above (PEP 440, "Summary of permitted
-/// suffixes and relative ordering").
+/// suffixes and relative ordering"). Status 6 if only the right one is invalid. Allocates nothing for two compiled versions.
 #[unsafe(no_mangle)]
 pub extern "C" fn pep440_compare(alloc: Global, left: &[u8], right: &[u8], order: &mut i8) -> u8
-    ensures { Puts (RefusesBytes left.now ⊎ RefusesBytes right.now) ⊥ ⊥ (IsOrder left.now right.now) order.old order.new result }
+    ensures { OrderAnswer left.now right.now order.old order.new result }
 {
     match texts::compare(alloc, left, right) {
         Ok(found) => {
@@ -232,7 +236,8 @@ pub extern "C" fn pep440_compare(alloc: Global, left: &[u8], right: &[u8], order
 }
 
 /// Whether the list contains the version, 1 or 0 (PEP 440, "Version specifiers"); and whether the version is a pre-release or
-/// a developmental release, 1 or 0 (PEP 440, "Handling of pre-releases").
+/// a developmental release, 1 or 0 (PEP 440, "Handling of pre-releases"). The list is read first. Allocates nothing if both are
+/// compiled.
 #[unsafe(no_mangle)]
 pub extern "C" fn pep440_contains(
     alloc: Global,
@@ -305,7 +310,7 @@ pub extern "C" fn pep440_parts_of(
 }
 
 /// Writes the sort key of the version: `memcmp` orders keys as their versions (PEP 440, "Summary of permitted
-/// suffixes and relative ordering").
+/// suffixes and relative ordering"). Allocates nothing for a compiled version, in which its key lies.
 #[unsafe(no_mangle)]
 pub extern "C" fn pep440_sort_key(
     alloc: Global,
@@ -315,6 +320,12 @@ pub extern "C" fn pep440_sort_key(
 ) -> u8
     ensures { PutsBytes (RefusesBytes text.now) ⊥ ⊥ (IsKey text.now) out.old out.new written.old written.new result }
 {
+    if has_version_format(text) {
+        return match pep440_compiled::sort_key(text) {
+            Ok(key) => put_and_count(key, out, written),
+            Err(_) => Fault::InvalidVersion.status(),
+        };
+    }
     put_bytes(texts::make_key(alloc, text), out, written)
 }
 

@@ -1,13 +1,11 @@
 //! Why a string is no version pattern, and why an operator and a version make no specifier.
-ghost use Rattle.std.specs.Prelude.{◌≡◌, ◌==◌, ◌⊎◌, not, string_bytes, OnOk};
-ghost use Rattle.pep440_c.specs.Compiled.{DenotesNoVersion};
-ghost use Rattle.pep440_c.specs.PatternErrors.{IsBuildError, IsNoOperator, IsPatternError};
-ghost use Rattle.pep440_c.specs.Statuses.{Gives, GivesCompiled, PutsBytes, PutsCompiledBytes};
+ghost use Rattle.std.specs.Prelude.{◌≡◌, ◌==◌, not, string_bytes, OnOk};
+ghost use Rattle.pep440_c.specs.PatternErrors.{IsBuildError, IsNoOperator, IsPatternError, RefusesNumbered};
+ghost use Rattle.pep440_c.specs.Statuses.{Gives, PutsBytes};
 
 use crate::buffer::put_text;
 use crate::patterns::is_out_of_memory;
-use crate::texts::Fault;
-use pep440_compiled::read_version;
+use crate::texts::{Fault, read};
 use pep440_rs::{Operator, VersionPattern, VersionSpecifier};
 use std::alloc::Global;
 
@@ -26,22 +24,21 @@ pub extern "C" fn pep440_pattern_error(
     put_text(explain_pattern(alloc, pattern), out, written)
 }
 
-/// Writes why the operator of this number, its position in `Operator`, and the compiled version make no specifier; nothing
-/// where they do (PEP 440, "Version specifiers"). `.*` follows the version unless `star` is 0. Status 6 where no operator has
-/// the number, or the bytes denote no version.
+/// Writes why the operator of this number, its position in `Operator`, and the version make no specifier; nothing if they do
+/// (PEP 440, "Version specifiers"). `.*` follows the version unless `star` is 0. Status 2 if no operator has the number.
 #[unsafe(no_mangle)]
 pub extern "C" fn pep440_build_error(
     alloc: Global,
     operator: u8,
-    compiled: &[u8],
+    text: &[u8],
     star: u8,
     out: &mut [u8],
     written: &mut usize,
 ) -> u8
-    ensures { PutsCompiledBytes (IsNoOperator operator ⊎ DenotesNoVersion compiled.now) ⊥ (IsBuildError operator compiled.now (not (star == 0))) out.old out.new written.old written.new result }
+    ensures { PutsBytes (RefusesNumbered operator text.now) (IsNoOperator operator) ⊥ (IsBuildError operator text.now (not (star == 0))) out.old out.new written.old written.new result }
 {
     put_text(
-        explain_build(alloc, operator, compiled, star != 0),
+        explain_build(alloc, operator, text, star != 0),
         out,
         written,
     )
@@ -65,19 +62,19 @@ fn explain_pattern(alloc: Global, bytes: &[u8]) -> Result<String, Fault>
     }
 }
 
-// Why the operator and the version make no specifier; empty where they do.
+// Why the operator and the version make no specifier; empty if they do.
 fn explain_build(
     alloc: Global,
     operator: u8,
-    compiled: &[u8],
+    text: &[u8],
     is_wildcard: bool,
 ) -> Result<String, Fault>
-    ensures { GivesCompiled (IsNoOperator operator ⊎ DenotesNoVersion compiled.now) ⊥ (λ words. IsBuildError operator compiled.now is_wildcard (string_bytes words)) result }
+    ensures { Gives (RefusesNumbered operator text.now) (IsNoOperator operator) ⊥ (λ words. IsBuildError operator text.now is_wildcard (string_bytes words)) result }
 {
     let Some(operator) = Operator::from_number(operator) else {
-        return Err(Fault::NotCompiled);
+        return Err(Fault::InvalidList);
     };
-    let version = read_version(alloc, compiled)?;
+    let version = read(alloc, text)?;
     let pattern = if is_wildcard {
         VersionPattern::wildcard(version)
     } else {

@@ -2,17 +2,16 @@
 ghost use Rattle.std.specs.Prelude.{◌≡◌, ◌++◌, ◌∷◌, [], IfOk, OnOk};
 ghost use Rattle.pep440_compiled.specs.Version.{compiled_bytes};
 ghost use Rattle.pep440_rs.specs.Bounds.{Segments, range_of};
-ghost use Rattle.pep440_c.specs.Compiled.{CompiledLacksRange, DenotesNoList};
 ghost use Rattle.pep440_c.specs.Intervals.{LacksRange};
 ghost use Rattle.pep440_c.specs.JoinedStrings.{PutsJoined};
 ghost use Rattle.pep440_c.specs.Meaning.{RefusesListBytes};
-ghost use Rattle.pep440_c.specs.RangeBounds.{CompiledBounds, JoinsBounds, TellsBounds, bound_bytes};
-ghost use Rattle.pep440_c.specs.Statuses.{Gives, GivesCompiled, PutsCompiledJoined};
+ghost use Rattle.pep440_c.specs.RangeBounds.{JoinsBounds, TellsBounds, bound_bytes};
+ghost use Rattle.pep440_c.specs.Statuses.{Gives};
 
 use crate::buffer::put_joined;
+use crate::intervals;
 use crate::joined_strings::JoinedStrings;
 use crate::texts::Fault;
-use crate::{compiled_intervals, intervals};
 use pep440_compiled::push_compiled_form;
 use pep440_ranges::Ranges;
 use pep440_rs::Version;
@@ -38,27 +37,6 @@ pub extern "C" fn pep440_range_bounds(
     ensures { PutsJoined ⊥ (RefusesListBytes list.now) (LacksRange range_of list.now) (TellsBounds list.now) out.old out.new ends.old ends.new written.old written.new count.old count.new result }
 {
     put_joined(to_bounds(alloc, list), out, ends, written, count)
-}
-
-/// The same of a compiled list. Status 6 where the bytes denote none.
-#[unsafe(no_mangle)]
-pub extern "C" fn pep440_range_bounds_compiled(
-    alloc: Global,
-    list: &[u8],
-    out: &mut [u8],
-    ends: &mut [usize],
-    written: &mut usize,
-    count: &mut usize,
-) -> u8
-    ensures { PutsCompiledJoined (DenotesNoList list.now) (CompiledLacksRange range_of list.now) (CompiledBounds list.now) out.old out.new ends.old ends.new written.old written.new count.old count.new result }
-{
-    put_joined(
-        to_bounds_of_compiled(alloc, list),
-        out,
-        ends,
-        written,
-        count,
-    )
 }
 
 // The kind of a bound, and its version.
@@ -118,12 +96,5 @@ fn to_bounds(alloc: Global, list: &[u8]) -> Result<JoinedStrings, Fault>
     ensures { Gives ⊥ (RefusesListBytes list.now) (LacksRange range_of list.now) (λ found. TellsBounds list.now found.bytes.items found.ends.items) result }
 {
     let range = intervals::to_range(alloc, list)?;
-    Ok(join_bounds(alloc, &range)?)
-}
-
-fn to_bounds_of_compiled(alloc: Global, list: &[u8]) -> Result<JoinedStrings, Fault>
-    ensures { GivesCompiled (DenotesNoList list.now) (CompiledLacksRange range_of list.now) (λ found. CompiledBounds list.now found.bytes.items found.ends.items) result }
-{
-    let range = compiled_intervals::to_range(alloc, list)?;
     Ok(join_bounds(alloc, &range)?)
 }

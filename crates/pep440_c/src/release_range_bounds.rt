@@ -1,11 +1,10 @@
 //! The release-only range of a list as bounds.
 ghost use Rattle.pep440_rs.specs.Bounds.{release_range_of};
-ghost use Rattle.pep440_c.specs.Compiled.{CompiledLacksRange, CompiledRange, DenotesNoList};
 ghost use Rattle.pep440_c.specs.Intervals.{HasRange, LacksRange};
 ghost use Rattle.pep440_c.specs.JoinedStrings.{PutsJoined};
 ghost use Rattle.pep440_c.specs.Meaning.{RefusesListBytes};
-ghost use Rattle.pep440_c.specs.ReleaseRangeBounds.{CompiledReleaseBounds, TellsReleaseBounds};
-ghost use Rattle.pep440_c.specs.Statuses.{Gives, GivesCompiled, PutsCompiledJoined};
+ghost use Rattle.pep440_c.specs.ReleaseRangeBounds.{TellsReleaseBounds};
+ghost use Rattle.pep440_c.specs.Statuses.{Gives};
 
 use crate::buffer::put_joined;
 use crate::joined_strings::JoinedStrings;
@@ -32,27 +31,6 @@ pub extern "C" fn pep440_release_range_bounds(
     put_joined(to_bounds(alloc, list), out, ends, written, count)
 }
 
-/// The same of a compiled list. Status 6 where the bytes denote none.
-#[unsafe(no_mangle)]
-pub extern "C" fn pep440_release_range_bounds_compiled(
-    alloc: Global,
-    list: &[u8],
-    out: &mut [u8],
-    ends: &mut [usize],
-    written: &mut usize,
-    count: &mut usize,
-) -> u8
-    ensures { PutsCompiledJoined (DenotesNoList list.now) (CompiledLacksRange release_range_of list.now) (CompiledReleaseBounds list.now) out.old out.new ends.old ends.new written.old written.new count.old count.new result }
-{
-    put_joined(
-        to_bounds_of_compiled(alloc, list),
-        out,
-        ends,
-        written,
-        count,
-    )
-}
-
 fn to_range(alloc: Global, list: &[u8]) -> Result<Ranges<Version>, Fault>
     ensures { Gives ⊥ (RefusesListBytes list.now) (LacksRange release_range_of list.now) (HasRange release_range_of list.now) result }
 {
@@ -60,23 +38,9 @@ fn to_range(alloc: Global, list: &[u8]) -> Result<Ranges<Version>, Fault>
     Ok(release_specifiers_to_ranges(alloc, specifiers)?)
 }
 
-fn to_range_of_compiled(alloc: Global, list: &[u8]) -> Result<Ranges<Version>, Fault>
-    ensures { GivesCompiled (DenotesNoList list.now) (CompiledLacksRange release_range_of list.now) (CompiledRange release_range_of list.now) result }
-{
-    let members = pep440_compiled::read_list(alloc, list)?;
-    Ok(release_specifiers_to_ranges(alloc, members)?)
-}
-
 fn to_bounds(alloc: Global, list: &[u8]) -> Result<JoinedStrings, Fault>
     ensures { Gives ⊥ (RefusesListBytes list.now) (LacksRange release_range_of list.now) (λ found. TellsReleaseBounds list.now found.bytes.items found.ends.items) result }
 {
     let range = to_range(alloc, list)?;
-    Ok(join_bounds(alloc, &range)?)
-}
-
-fn to_bounds_of_compiled(alloc: Global, list: &[u8]) -> Result<JoinedStrings, Fault>
-    ensures { GivesCompiled (DenotesNoList list.now) (CompiledLacksRange release_range_of list.now) (λ found. CompiledReleaseBounds list.now found.bytes.items found.ends.items) result }
-{
-    let range = to_range_of_compiled(alloc, list)?;
     Ok(join_bounds(alloc, &range)?)
 }

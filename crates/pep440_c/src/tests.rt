@@ -410,7 +410,7 @@ fn sweep_specifiers_of(rt: HostRuntime) -> Result<(), Fail> {
 #[test]
 fn errors(rt: HostRuntime) -> Result<(), Fail> {
     let mut order = 7;
-    assert!(rt; pep440_compare(rt.alloc(), b"1", b"x", &mut order) == 1 && order == 7);
+    assert!(rt; pep440_compare(rt.alloc(), b"1", b"x", &mut order) == 6 && order == 7);
     let (mut contained, mut early) = (7, 7);
     assert!(rt; pep440_contains(rt.alloc(), b"1", b"x", &mut contained, &mut early) == 2);
     assert!(rt; pep440_contains(rt.alloc(), b"<1", b"x", &mut contained, &mut early) == 1);

@@ -1,14 +1,17 @@
-// Bytes parsed as versions and as lists, and why they are none.
-ghost use Rattle.std.specs.Prelude.{◌≡◌, ◌⊎◌, is_none, string_bytes};
+//! Versions and lists of bytes, which are a string or a compiled form, and what is made of them.
+ghost use Rattle.std.specs.Prelude.{◌≡◌, is_none, string_bytes};
 ghost use Rattle.std.specs.List.{list_any};
+ghost use Rattle.pep440_compiled.specs.Lists.{DenotesList, HasListFormat};
+ghost use Rattle.pep440_compiled.specs.Version.{DenotesVersion, HasVersionFormat};
 ghost use Rattle.pep440_rs.specs.Matching.{any_prerelease};
 ghost use Rattle.pep440_rs.specs.Specifiers.{Spec};
-ghost use Rattle.pep440_c.specs.CallResults.{Contains, HasNoRange, IsKey, IsListError, IsNormal, IsNormalList, IsOrder, IsPrerelease, IsRangeText, IsVersionError, NamesPrerelease, RefusesSecond, TellsWord, order_number};
-ghost use Rattle.pep440_c.specs.Meaning.{MeansBytes, MeansListBytes, RefusesBytes, RefusesListBytes};
+ghost use Rattle.pep440_c.specs.CallResults.{Contains, GivesOrder, HasNoRange, IsKey, IsNormal, IsNormalList, IsPrerelease, IsRangeText, NamesPrerelease, RefusesSecond, TellsWord};
+ghost use Rattle.pep440_c.specs.Meaning.{DenotesNoList, DenotesNoVersion, MeansBytes, MeansListBytes, MeansListString, MeansString, RefusesBytes, RefusesListBytes, RefusesListString, RefusesString};
 ghost use Rattle.pep440_c.specs.Statuses.{Gives, fault_of_range, fault_status};
 ghost use Rattle.pep440_c.specs.declared.texts.Fault.TheVariants.{OutOfMemory};
 ghost use Rattle.pep440_version.specs.Errors.{refusal_of};
 
+use pep440_compiled::{CompiledError, has_list_format, has_version_format, read_version};
 use pep440_keys::sort_key;
 use pep440_rs::{
     ErrorKind, RangeError, RangeLines, SpecifiersErrorKind, Version, VersionSpecifiers,
@@ -17,8 +20,6 @@ use pep440_rs::{
 use pep440_version::laws::word;
 use std::alloc::{AllocError, AllocFailed, Global};
 use std::cmp::Ordering;
-
-const NOT_UTF8: &str = "not UTF-8";
 
 /// Why a call gives nothing.
 #[derive(Clone, Copy, Debug)]
@@ -31,8 +32,8 @@ pub(crate) enum Fault {
     OutOfMemory,
     /// A bound of a range would need a number above the greatest.
     NumberAtMax,
-    /// Bytes denote no version or no list.
-    NotCompiled,
+    /// The right one of two versions is none.
+    InvalidRight,
 }
 
 impl Fault {
@@ -45,7 +46,7 @@ impl Fault {
             Fault::InvalidList => 2,
             Fault::OutOfMemory => 3,
             Fault::NumberAtMax => 5,
-            Fault::NotCompiled => 6,
+            Fault::InvalidRight => 6,
         }
     }
 }
@@ -77,16 +78,16 @@ impl From<RangeError> for Fault {
     }
 }
 
-// Whether the error is out of memory.
-fn is_out_of_memory(kind: &ErrorKind) -> bool
+/// Whether the error is out of memory.
+pub(crate) fn is_out_of_memory(kind: &ErrorKind) -> bool
     ensures { result ≡ is_none (refusal_of kind.now) }
 {
     matches!(kind, ErrorKind::OutOfMemory)
 }
 
-/// The version that the bytes denote.
-pub(crate) fn read(alloc: Global, bytes: &[u8]) -> Result<Version, Fault>
-    ensures { Gives (RefusesBytes bytes.now) ⊥ ⊥ (MeansBytes bytes.now) result }
+// The version that the string denotes.
+fn read_string(alloc: Global, bytes: &[u8]) -> Result<Version, Fault>
+    ensures { Gives (RefusesString bytes.now) ⊥ ⊥ (MeansString bytes.now) result }
 {
     let Ok(text) = std::str::from_utf8(bytes) else {
         return Err(Fault::InvalidVersion);
@@ -102,9 +103,30 @@ pub(crate) fn read(alloc: Global, bytes: &[u8]) -> Result<Version, Fault>
     }
 }
 
-/// The list that the bytes denote.
-pub(crate) fn read_list(alloc: Global, bytes: &[u8]) -> Result<VersionSpecifiers, Fault>
-    ensures { Gives ⊥ (RefusesListBytes bytes.now) ⊥ (MeansListBytes bytes.now) result }
+// The version of the compiled form.
+fn read_compiled(alloc: Global, bytes: &[u8]) -> Result<Version, Fault>
+    ensures { Gives (DenotesNoVersion bytes.now) ⊥ ⊥ (DenotesVersion bytes.now) result }
+{
+    match read_version(alloc, bytes) {
+        Ok(version) => Ok(version),
+        Err(CompiledError::NotCompiled) => Err(Fault::InvalidVersion),
+        Err(CompiledError::OutOfMemory) => Err(Fault::OutOfMemory),
+    }
+}
+
+/// The version that the bytes denote.
+pub(crate) fn read(alloc: Global, bytes: &[u8]) -> Result<Version, Fault>
+    ensures { Gives (RefusesBytes bytes.now) ⊥ ⊥ (MeansBytes bytes.now) result }
+{
+    if has_version_format(bytes) {
+        return read_compiled(alloc, bytes);
+    }
+    read_string(alloc, bytes)
+}
+
+// The list that the string denotes.
+fn read_list_string(alloc: Global, bytes: &[u8]) -> Result<VersionSpecifiers, Fault>
+    ensures { Gives ⊥ (RefusesListString bytes.now) ⊥ (MeansListString bytes.now) result }
 {
     let Ok(text) = std::str::from_utf8(bytes) else {
         return Err(Fault::InvalidList);
@@ -120,40 +142,25 @@ pub(crate) fn read_list(alloc: Global, bytes: &[u8]) -> Result<VersionSpecifiers
     }
 }
 
-/// Why the bytes are no version; empty where they are one.
-pub(crate) fn explain_version(alloc: Global, bytes: &[u8]) -> Result<String, Fault>
-    ensures { Gives ⊥ ⊥ ⊥ (λ words. IsVersionError bytes.now (string_bytes words)) result }
+// The list of the compiled form.
+fn read_compiled_list(alloc: Global, bytes: &[u8]) -> Result<VersionSpecifiers, Fault>
+    ensures { Gives ⊥ (DenotesNoList bytes.now) ⊥ (DenotesList bytes.now) result }
 {
-    let Ok(text) = std::str::from_utf8(bytes) else {
-        return Ok(String::from_str(alloc, NOT_UTF8)?);
-    };
-    match Version::from_str(alloc, text) {
-        Ok(_) => Ok(String::new(alloc)),
-        Err(error) => {
-            if is_out_of_memory(error.kind()) {
-                return Err(Fault::OutOfMemory);
-            }
-            Ok(error.to_string(alloc)?)
-        }
+    match pep440_compiled::read_list(alloc, bytes) {
+        Ok(list) => Ok(list),
+        Err(CompiledError::NotCompiled) => Err(Fault::InvalidList),
+        Err(CompiledError::OutOfMemory) => Err(Fault::OutOfMemory),
     }
 }
 
-/// Why the bytes are no list; empty where they are one.
-pub(crate) fn explain_list(alloc: Global, bytes: &[u8]) -> Result<String, Fault>
-    ensures { Gives ⊥ ⊥ ⊥ (λ words. IsListError bytes.now (string_bytes words)) result }
+/// The list that the bytes denote.
+pub(crate) fn read_list(alloc: Global, bytes: &[u8]) -> Result<VersionSpecifiers, Fault>
+    ensures { Gives ⊥ (RefusesListBytes bytes.now) ⊥ (MeansListBytes bytes.now) result }
 {
-    let Ok(text) = std::str::from_utf8(bytes) else {
-        return Ok(String::from_str(alloc, NOT_UTF8)?);
-    };
-    match VersionSpecifiers::from_str(alloc, text) {
-        Ok(_) => Ok(String::new(alloc)),
-        Err(error) => {
-            if let SpecifiersErrorKind::OutOfMemory = error.kind() {
-                return Err(Fault::OutOfMemory);
-            }
-            Ok(error.to_string(alloc)?)
-        }
+    if has_list_format(bytes) {
+        return read_compiled_list(alloc, bytes);
     }
+    read_list_string(alloc, bytes)
 }
 
 /// The normal form of a version.
@@ -172,19 +179,58 @@ pub(crate) fn normalize_list(alloc: Global, bytes: &[u8]) -> Result<String, Faul
     Ok(list.to_string(alloc)?)
 }
 
+// How two compiled versions compare, by their sort keys.
+fn compare_keys(left: &[u8], right: &[u8]) -> Result<Ordering, Fault>
+    requires left { HasVersionFormat left.now }
+    requires right { HasVersionFormat right.now }
+    ensures { GivesOrder left.now right.now result }
+{
+    let Ok(first) = pep440_compiled::sort_key(left) else {
+        return Err(Fault::InvalidVersion);
+    };
+    let Ok(second) = pep440_compiled::sort_key(right) else {
+        return Err(Fault::InvalidRight);
+    };
+    Ok(first.cmp(second))
+}
+
 /// How the left version compares with the right one.
 pub(crate) fn compare(alloc: Global, left: &[u8], right: &[u8]) -> Result<Ordering, Fault>
-    ensures { Gives (RefusesBytes left.now ⊎ RefusesBytes right.now) ⊥ ⊥ (λ order. IsOrder left.now right.now (order_number order)) result }
+    ensures { GivesOrder left.now right.now result }
 {
+    if has_version_format(left) && has_version_format(right) {
+        return compare_keys(left, right);
+    }
     let first = read(alloc, left)?;
-    let second = read(alloc, right)?;
-    Ok(first.cmp(&second))
+    match read(alloc, right) {
+        Ok(second) => Ok(first.cmp(&second)),
+        Err(Fault::OutOfMemory) => Err(Fault::OutOfMemory),
+        Err(_) => Err(Fault::InvalidRight),
+    }
+}
+
+// Whether a compiled list contains a compiled version, and whether this is a pre-release or a developmental release.
+fn contains_compiled(list: &[u8], version: &[u8]) -> Result<(bool, bool), Fault>
+    requires list { HasListFormat list.now }
+    requires version { HasVersionFormat version.now }
+    ensures { Gives (RefusesSecond list.now version.now) (RefusesListBytes list.now) ⊥ (λ found. Contains list.now version.now found.0 × IsPrerelease version.now found.1) result }
+{
+    let Ok(is_early) = pep440_compiled::any_prerelease(version) else {
+        return Err(Fault::InvalidVersion);
+    };
+    let Ok(contained) = pep440_compiled::contains(list, version) else {
+        return Err(Fault::InvalidList);
+    };
+    Ok((contained, is_early))
 }
 
 /// Whether the list contains the version, and whether this is a pre-release or a developmental release.
 pub(crate) fn contains(alloc: Global, list: &[u8], bytes: &[u8]) -> Result<(bool, bool), Fault>
     ensures { Gives (RefusesSecond list.now bytes.now) (RefusesListBytes list.now) ⊥ (λ found. Contains list.now bytes.now found.0 × IsPrerelease bytes.now found.1) result }
 {
+    if has_list_format(list) && has_version_format(bytes) {
+        return contains_compiled(list, bytes);
+    }
     let specifiers = read_list(alloc, list)?;
     let version = read(alloc, bytes)?;
     let contained = specifiers.contains(alloc, &version)?;

@@ -1,5 +1,5 @@
 //! Compiled lists of specifiers: made, read, asked.
-ghost use Rattle.std.specs.Prelude.{◌≡◌, ◌↔◌, ◌++◌, ◌<◌, ℕ, List, true, length, Ok, Some, IfErr, IfOk, IfSome, MatchOption, OnOk, string_bytes};
+ghost use Rattle.std.specs.Prelude.{◌≡◌, ◌↔◌, ◌++◌, ◌<◌, ℕ, List, true, length, Ok, Some, IfErr, IfOk, IfSome, IsOk, MatchOption, OnOk, string_bytes};
 ghost use Rattle.std.specs.List.{All, flat_map};
 ghost use Rattle.pep440_compiled.specs.KeyParts.{BeginsOtherwise};
 ghost use Rattle.pep440_compiled.specs.Lists.{DenotesList, HasListFormat, IsParsedMember, member_bytes};
@@ -27,6 +27,13 @@ const LIST: u8 = 5;
 
 // Added to the number of an operator, so that no member begins as the zeros after a key do.
 const OPERATOR: u8 = 16;
+
+/// Whether the bytes begin with the format byte of compiled lists, which no string of a list begins with.
+pub fn has_list_format(bytes: &[u8]) -> bool
+    ensures { (result ≡ true) ↔ HasListFormat bytes.now }
+{
+    bytes.first() == Some(&LIST)
+}
 
 // All versions are such that strings parse to them.
 fn has_parsed_versions(members: &[VersionSpecifier]) -> bool
@@ -104,6 +111,7 @@ fn view_members(bytes: &[u8]) -> Option<&[u8]>
 pub fn contains(list: &[u8], version: &[u8]) -> Result<bool, NotCompiled>
     ensures found { (l : List Spec) (r : Record) → DenotesList list.now l → DenotesVersion version.now r → result ≡ Ok (list_matches l r) }
     ensures format { IfOk result (λ _. HasListFormat list.now × HasVersionFormat version.now) }
+    ensures list { (l : List Spec) → DenotesList list.now l → HasVersionFormat version.now → IsOk result }
 {
     let Some(version) = view_version(version) else {
         return Err(NotCompiled);

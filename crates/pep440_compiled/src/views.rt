@@ -1,5 +1,5 @@
 //! Compiled versions as they lie: where their parts are.
-ghost use Rattle.std.specs.Prelude.{◌≡◌, ◌<◌, ◌++◌, List, ℕ, length, IfSome, MatchOption};
+ghost use Rattle.std.specs.Prelude.{◌≡◌, ◌↔◌, ◌<◌, ◌++◌, List, ℕ, true, length, IfSome, MatchOption};
 ghost use Rattle.pep440_compiled.specs.KeyParts.{BeginsOtherwise};
 ghost use Rattle.pep440_compiled.specs.Version.{DenotesVersion, HasVersionFormat, IsParsed, version_bytes};
 ghost use Rattle.pep440_compiled.specs.KeyViews.{HasParts, IsViewOf};
@@ -28,10 +28,17 @@ pub(crate) struct PartsView<'a> {
     pub(crate) has_local: bool,
 }
 
+/// Whether the bytes begin with the format byte of compiled versions, which no string of a version begins with.
+pub fn has_version_format(bytes: &[u8]) -> bool
+    ensures { (result ≡ true) ↔ HasVersionFormat bytes.now }
+{
+    bytes.first() == Some(&VERSION)
+}
+
 // The compiled version.
 pub(crate) fn view_version(bytes: &[u8]) -> Option<VersionView<'_>>
     ensures found { (r : Record) → DenotesVersion bytes.now r → MatchOption result ⊥ (λ view. IsViewOf view r) }
-    ensures format { IfSome result (λ _. HasVersionFormat bytes.now) }
+    ensures format { MatchOption result (¬ HasVersionFormat bytes.now) (λ _. HasVersionFormat bytes.now) }
 {
     let (format, rest) = bytes.split_first()?;
     if *format != VERSION {

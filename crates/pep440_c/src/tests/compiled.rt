@@ -1,11 +1,10 @@
-//! The calls over compiled bytes, each where it returns a value and where it rejects bytes, with too little room, and with
-//! each allocation failing in turn.
-use crate::Parts;
-use crate::compiled::{
-    pep440_compare_compiled, pep440_compile, pep440_compile_list, pep440_contains_compiled,
-    pep440_cover_keys_compiled, pep440_filter_compiled, pep440_normalize_compiled,
-    pep440_normalize_list_compiled, pep440_parts_of_compiled, pep440_range_keys_compiled,
-    pep440_sort_compiled, pep440_sort_key_compiled,
+//! The calls over compiled bytes, each with a value and with bytes that are none, with too little room, and with each allocation
+//! failing in turn.
+use crate::compile::{pep440_compile, pep440_compile_list};
+use crate::{
+    Parts, pep440_compare, pep440_contains, pep440_cover_keys, pep440_filter, pep440_list_error,
+    pep440_normalize, pep440_normalize_list, pep440_parts_of, pep440_range_keys, pep440_sort,
+    pep440_sort_key, pep440_version_error,
 };
 use std::alloc::Global;
 use std::test::Fail;
@@ -40,18 +39,22 @@ enum Call {
     CompileList,
     Normalize,
     NormalizeList,
+    VersionError,
+    ListError,
 }
 
 fn write(alloc: Global, call: Call, given: &[u8], out: &mut [u8], written: &mut usize) -> u8 {
     match call {
         Call::Compile => pep440_compile(alloc, given, out, written),
         Call::CompileList => pep440_compile_list(alloc, given, out, written),
-        Call::Normalize => pep440_normalize_compiled(alloc, given, out, written),
-        Call::NormalizeList => pep440_normalize_list_compiled(alloc, given, out, written),
+        Call::Normalize => pep440_normalize(alloc, given, out, written),
+        Call::NormalizeList => pep440_normalize_list(alloc, given, out, written),
+        Call::VersionError => pep440_version_error(alloc, given, out, written),
+        Call::ListError => pep440_list_error(alloc, given, out, written),
     }
 }
 
-const WRITTEN: [(Call, &[u8], &[u8]); 12] = [
+const WRITTEN: [(Call, &[u8], &[u8]); 18] = [
     (Call::Compile, b" v1.2.3", RELEASE),
     (Call::Compile, b"1-RC2.post3dev4", SUFFIXES),
     (Call::Compile, b"1+AB-7", LOCAL),
@@ -64,25 +67,31 @@ const WRITTEN: [(Call, &[u8], &[u8]); 12] = [
     (Call::Normalize, LOCAL, b"1+ab.7"),
     (Call::NormalizeList, THREE, b">=1.0, !=1.5.*, <2.0"),
     (Call::NormalizeList, EXACT, b"~=1.0b2, ===1+7"),
+    (Call::Compile, EPOCH, EPOCH),
+    (Call::CompileList, THREE, THREE),
+    (Call::VersionError, RELEASE, b""),
+    (Call::VersionError, &[4, 0, 2, 1], b"not a compiled version"),
+    (Call::ListError, THREE, b""),
+    (Call::ListError, &[5, 25], b"not a compiled list"),
 ];
 
-// Strings that are no version and no list; no byte, bytes of the other kind, of an older format, and with a sentinel, a byte too few
-// and one too many.
+// Strings that are no version and no list; bytes of the other kind, of an older format, and with a sentinel, a byte too few and one
+// too many.
 const ERRORS: [(Call, &[u8], u8); 14] = [
     (Call::Compile, b"1.2.3.4.5.6x", 1),
     (Call::Compile, b"1.0\xff", 1),
     (Call::CompileList, b">=1.16; <2.0", 2),
     (Call::CompileList, b">=1.0\xff", 2),
-    (Call::Normalize, b"", 6),
-    (Call::Normalize, THREE, 6),
-    (Call::Normalize, &[1, 3, 0, 1, 2, 3, 0, 0xa0, 0, 0], 6),
-    (Call::Normalize, &[4, 0, 2, 1, 0, 80, 32, 16, 0], 6),
-    (Call::Normalize, &[4, 0, 2, 1, 0, 80, 0, 16], 6),
-    (Call::Normalize, &[4, 0, 2, 1, 0, 80, 0, 16, 0, 0], 6),
-    (Call::NormalizeList, b"", 6),
-    (Call::NormalizeList, RELEASE, 6),
-    (Call::NormalizeList, &[3, 0, 0, 0, 0, 0, 0, 0, 0], 6),
-    (Call::NormalizeList, &[5, 25, 0, 2, 1, 0, 80, 0, 16], 6),
+    (Call::Normalize, b"", 1),
+    (Call::Normalize, THREE, 1),
+    (Call::Normalize, &[1, 3, 0, 1, 2, 3, 0, 0xa0, 0, 0], 1),
+    (Call::Normalize, &[4, 0, 2, 1, 0, 80, 32, 16, 0], 1),
+    (Call::Normalize, &[4, 0, 2, 1, 0, 80, 0, 16], 1),
+    (Call::Normalize, &[4, 0, 2, 1, 0, 80, 0, 16, 0, 0], 1),
+    (Call::NormalizeList, &[4], 2),
+    (Call::NormalizeList, RELEASE, 2),
+    (Call::NormalizeList, &[3, 0, 0, 0, 0, 0, 0, 0, 0], 2),
+    (Call::NormalizeList, &[5, 25, 0, 2, 1, 0, 80, 0, 16], 2),
 ];
 
 // The status of the call, made for a second time where an allocation failed; what the caller passed is then as it was.
@@ -132,7 +141,9 @@ fn little_room(rt: HostRuntime) -> Result<(), Fail> {
     for (call, given, want) in WRITTEN {
         let mut out = [7u8; 96];
         let mut written = 99;
-        let room = want.len() - 1;
+        let Some(room) = want.len().checked_sub(1) else {
+            continue;
+        };
         let status = write(rt.alloc(), call, given, &mut out[..room], &mut written);
         assert!(rt;
             status == 4 && written == want.len() && out == [7u8; 96],
@@ -146,9 +157,9 @@ fn little_room(rt: HostRuntime) -> Result<(), Fail> {
 fn sweep_sort_key_takes_none(rt: HostRuntime) -> Result<(), Fail> {
     for compiled in [RELEASE, SUFFIXES, LOCAL] {
         let (mut out, mut written) = ([7u8; 16], 99);
-        assert!(rt; pep440_sort_key_compiled(compiled, &mut out, &mut written) == 0);
+        assert!(rt; pep440_sort_key(rt.alloc(), compiled, &mut out, &mut written) == 0);
         assert!(rt; out.starts_with(&compiled[1..]) && out.get(written) == Some(&7));
-        assert!(rt; pep440_sort_key_compiled(compiled, &mut out[..2], &mut written) == 4);
+        assert!(rt; pep440_sort_key(rt.alloc(), compiled, &mut out[..2], &mut written) == 4);
         assert!(rt; written == compiled.len() - 1);
     }
     Ok(())
@@ -162,7 +173,7 @@ fn sweep_compare_takes_none(rt: HostRuntime) -> Result<(), Fail> {
     for (i, left) in RISING.iter().enumerate() {
         for (j, right) in RISING.iter().enumerate() {
             let mut order = 7;
-            assert!(rt; pep440_compare_compiled(left, right, &mut order) == 0);
+            assert!(rt; pep440_compare(rt.alloc(), left, right, &mut order) == 0);
             assert!(rt; order == crate::order_number(i.cmp(&j)), "{i} and {j}");
         }
     }
@@ -189,7 +200,7 @@ fn sweep_contains_takes_none(rt: HostRuntime) -> Result<(), Fail> {
     {
         let (mut is, mut early) = (7, 7);
         assert!(rt;
-            pep440_contains_compiled(list, version, &mut is, &mut early) == 0,
+            pep440_contains(rt.alloc(), list, version, &mut is, &mut early) == 0,
             "{i}"
         );
         assert!(rt; is == *want && early == *want_prerelease, "{i}");
@@ -197,18 +208,63 @@ fn sweep_contains_takes_none(rt: HostRuntime) -> Result<(), Fail> {
     Ok(())
 }
 
+// A string beside a compiled form, either way.
+#[test]
+fn sweep_mixed(rt: HostRuntime) -> Result<(), Fail> {
+    let mut order = 7;
+    for (left, right, want) in [
+        (RELEASE, b"1.2.3".as_slice(), 0),
+        (RELEASE, b"1.2.4", -1),
+        (b"1.2.4", RELEASE, 1),
+    ] {
+        let mut status = pep440_compare(rt.alloc(), left, right, &mut order);
+        if status == 3 {
+            status = pep440_compare(rt.alloc(), left, right, &mut order);
+        }
+        assert!(rt; status == 0 && order == want);
+    }
+    for (list, version, want) in [
+        (THREE, b"1.2.3".as_slice(), 1),
+        (b">=1.2.4", RELEASE, 0),
+        (b">=1.2", RELEASE, 1),
+    ] {
+        let (mut is, mut early) = (7, 7);
+        let mut status = pep440_contains(rt.alloc(), list, version, &mut is, &mut early);
+        if status == 3 {
+            status = pep440_contains(rt.alloc(), list, version, &mut is, &mut early);
+        }
+        assert!(rt; status == 0 && is == want && early == 0);
+    }
+    Ok(())
+}
+
+// Which of two is invalid: of compiled bytes as of strings.
 #[test]
 fn others_are_rejected(rt: HostRuntime) -> Result<(), Fail> {
     let mut order = 7;
-    assert!(rt; pep440_compare_compiled(RELEASE, b"1.2.3", &mut order) == 6);
-    assert!(rt; pep440_compare_compiled(THREE, RELEASE, &mut order) == 6 && order == 7);
+    for (left, right, want) in [
+        (THREE, RELEASE, 1),
+        (RELEASE, THREE, 6),
+        (THREE, THREE, 1),
+        (b"1.0prev".as_slice(), b"1.0", 1),
+        (b"1.0", b"1.0prev", 6),
+    ] {
+        let status = pep440_compare(rt.alloc(), left, right, &mut order);
+        assert!(rt; status == want && order == 7);
+    }
     let (mut is, mut early) = (7, 7);
-    assert!(rt; pep440_contains_compiled(RELEASE, RELEASE, &mut is, &mut early) == 6);
-    assert!(rt; pep440_contains_compiled(THREE, THREE, &mut is, &mut early) == 6);
-    assert!(rt; pep440_contains_compiled(b"", b"", &mut is, &mut early) == 6);
-    assert!(rt; is == 7 && early == 7);
+    for (list, version, want) in [
+        (RELEASE, RELEASE, 2),
+        (THREE, THREE, 1),
+        (&[5, 9], RELEASE, 2),
+        (b"".as_slice(), b"", 1),
+        (b"=1", b"", 2),
+    ] {
+        let status = pep440_contains(rt.alloc(), list, version, &mut is, &mut early);
+        assert!(rt; status == want && is == 7 && early == 7);
+    }
     let (mut out, mut written) = ([7u8; 16], 99);
-    assert!(rt; pep440_sort_key_compiled(b"1.2.3", &mut out, &mut written) == 6);
+    assert!(rt; pep440_sort_key(rt.alloc(), THREE, &mut out, &mut written) == 1);
     assert!(rt; out == [7; 16] && written == 99);
     Ok(())
 }
@@ -225,9 +281,9 @@ struct Keys {
 fn ask_keys(alloc: Global, is_cover: bool, list: &[u8], keys: &mut Keys) -> u8 {
     let (out, ends) = (&mut keys.out, &mut keys.ends);
     if is_cover {
-        pep440_cover_keys_compiled(alloc, list, out, ends, &mut keys.written, &mut keys.count)
+        pep440_cover_keys(alloc, list, out, ends, &mut keys.written, &mut keys.count)
     } else {
-        pep440_range_keys_compiled(alloc, list, out, ends, &mut keys.written, &mut keys.count)
+        pep440_range_keys(alloc, list, out, ends, &mut keys.written, &mut keys.count)
     }
 }
 
@@ -251,7 +307,7 @@ fn sweep_interval_keys(rt: HostRuntime) -> Result<(), Fail> {
         (false, BELOW, 0, BEHIND_ONE, [0, 9, 99, 99]),
         (true, BELOW, 0, ABOVE_ONE, [0, 8, 99, 99]),
         (false, THREE, 4, b"".as_slice(), [99; 4]),
-        (true, RELEASE, 6, b"", [99; 4]),
+        (true, RELEASE, 2, b"", [99; 4]),
         (false, AT_MAX, 5, b"", [99; 4]),
         (true, AT_MAX, 5, b"", [99; 4]),
     ] {
@@ -288,10 +344,10 @@ const NO_PARTS: Parts = Parts {
 fn sweep_parts_of(rt: HostRuntime) -> Result<(), Fail> {
     let mut parts = NO_PARTS;
     let mut release = [7; 2];
-    let mut status = pep440_parts_of_compiled(rt.alloc(), SUFFIXES, &mut parts, &mut release);
+    let mut status = pep440_parts_of(rt.alloc(), SUFFIXES, &mut parts, &mut release);
     if status == 3 {
         assert!(rt; parts.epoch == 9 && release == [7; 2]);
-        status = pep440_parts_of_compiled(rt.alloc(), SUFFIXES, &mut parts, &mut release);
+        status = pep440_parts_of(rt.alloc(), SUFFIXES, &mut parts, &mut release);
     }
     assert!(rt; status == 0 && release == [1, 7]);
     assert!(rt; parts.epoch == 0 && parts.release_length == 1 && parts.pre_kind == 3);
@@ -304,20 +360,20 @@ fn sweep_parts_of(rt: HostRuntime) -> Result<(), Fail> {
 fn little_room_for_parts(rt: HostRuntime) -> Result<(), Fail> {
     let mut parts = NO_PARTS;
     let mut release = [7; 2];
-    assert!(rt; pep440_parts_of_compiled(rt.alloc(), RELEASE, &mut parts, &mut release) == 4);
+    assert!(rt; pep440_parts_of(rt.alloc(), RELEASE, &mut parts, &mut release) == 4);
     assert!(rt; parts.epoch == 0 && parts.release_length == 3 && release == [7; 2]);
-    assert!(rt; pep440_parts_of_compiled(rt.alloc(), THREE, &mut parts, &mut release) == 6);
+    assert!(rt; pep440_parts_of(rt.alloc(), THREE, &mut parts, &mut release) == 1);
     Ok(())
 }
 
 #[test]
 fn sweep_filter(rt: HostRuntime) -> Result<(), Fail> {
-    let forms: [&[u8]; 5] = [RELEASE, FIFTH, SUFFIXES, b"1.2.3", EARLY];
+    let forms: [&[u8]; 5] = [RELEASE, FIFTH, SUFFIXES, THREE, EARLY];
     let mut marks = [7u8; 6];
-    let mut status = pep440_filter_compiled(rt.alloc(), NOT_ONE, &forms, &mut marks);
+    let mut status = pep440_filter(rt.alloc(), NOT_ONE, &forms, &mut marks);
     if status == 3 {
         assert!(rt; marks == [7u8; 6]);
-        status = pep440_filter_compiled(rt.alloc(), NOT_ONE, &forms, &mut marks);
+        status = pep440_filter(rt.alloc(), NOT_ONE, &forms, &mut marks);
     }
     assert!(rt; status == 0 && marks == [1, 1, 3, 2, 3, 7]);
     Ok(())
@@ -328,10 +384,10 @@ fn sweep_sort(rt: HostRuntime) -> Result<(), Fail> {
     let forms: [&[u8]; 5] = [EARLY, RELEASE, LOCAL, SUFFIXES, LOCAL];
     let mut places = [7; 6];
     let mut at = 99;
-    let mut status = pep440_sort_compiled(rt.alloc(), &forms, &mut places, &mut at);
+    let mut status = pep440_sort(rt.alloc(), &forms, &mut places, &mut at);
     if status == 3 {
         assert!(rt; places == [7; 6] && at == 99);
-        status = pep440_sort_compiled(rt.alloc(), &forms, &mut places, &mut at);
+        status = pep440_sort(rt.alloc(), &forms, &mut places, &mut at);
     }
     assert!(rt; status == 0 && places == [3, 2, 4, 1, 0, 7] && at == 99);
     Ok(())
@@ -339,13 +395,13 @@ fn sweep_sort(rt: HostRuntime) -> Result<(), Fail> {
 
 #[test]
 fn batches_with_others(rt: HostRuntime) -> Result<(), Fail> {
-    let forms: [&[u8]; 3] = [RELEASE, b"1.2.3", b""];
+    let forms: [&[u8]; 3] = [RELEASE, THREE, b""];
     let (mut places, mut at) = ([7; 3], 99);
-    assert!(rt; pep440_sort_compiled(rt.alloc(), &forms, &mut places, &mut at) == 6);
+    assert!(rt; pep440_sort(rt.alloc(), &forms, &mut places, &mut at) == 1);
     assert!(rt; at == 1 && places == [7; 3]);
     let mut marks = [7u8; 2];
-    assert!(rt; pep440_filter_compiled(rt.alloc(), RELEASE, &forms, &mut marks) == 6);
-    assert!(rt; pep440_filter_compiled(rt.alloc(), THREE, &forms, &mut marks) == 4);
+    assert!(rt; pep440_filter(rt.alloc(), RELEASE, &forms, &mut marks) == 2);
+    assert!(rt; pep440_filter(rt.alloc(), THREE, &forms, &mut marks) == 4);
     assert!(rt; marks == [7u8; 2]);
     Ok(())
 }

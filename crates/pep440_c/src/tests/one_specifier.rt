@@ -132,9 +132,9 @@ const TWO_NUMBERS: &[u8] = &[4, 0, 2, 1, 0, 80, 0, 16, 0, 1];
 
 const LOCAL: &[u8] = &[4, 0, 2, 1, 0, 80, 0, 16, 3, 7, 0];
 
-// The number of an operator, a compiled version, whether `.*` follows, the status, and why there is no such specifier. The
+// The number of an operator, a version, whether `.*` follows, the status, and why there is no such specifier. The
 // operators: 0 `==`, 1 `==` with a star, 2 `===`, 5 `~=`, 6 `<`, 8 `>`, 9 `>=`.
-const BUILDS: [(u8, &[u8], u8, u8, &[u8]); 12] = [
+const BUILDS: [(u8, &[u8], u8, u8, &[u8]); 13] = [
     (0, LOCAL, 0, 0, b""),
     (0, ONE, 1, 0, b""),
     (2, LOCAL, 0, 0, b""),
@@ -174,9 +174,10 @@ const BUILDS: [(u8, &[u8], u8, u8, &[u8]); 12] = [
         0,
         b"Operator == is incompatible with versions containing non-empty local segments (`+7`)",
     ),
-    (10, ONE, 0, 6, b""),
-    (255, b"", 1, 6, b""),
-    (8, b"1.0", 0, 6, b""),
+    (8, b"1.0", 0, 0, b""),
+    (10, ONE, 0, 2, b""),
+    (255, b"", 1, 2, b""),
+    (8, b"", 0, 1, b""),
 ];
 
 #[test]

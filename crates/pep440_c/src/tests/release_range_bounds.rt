@@ -1,7 +1,5 @@
 //! The bounds of a release-only range, of a string and of a compiled list: each kind, each status, and each allocation failing in turn.
-use crate::release_range_bounds::{
-    pep440_release_range_bounds, pep440_release_range_bounds_compiled,
-};
+use crate::release_range_bounds::pep440_release_range_bounds;
 use std::alloc::Global;
 use std::test::Fail;
 
@@ -49,38 +47,33 @@ struct Bounds {
     count: usize,
 }
 
-fn ask_bounds(alloc: Global, is_compiled: bool, list: &[u8], bounds: &mut Bounds) -> u8 {
+fn ask_bounds(alloc: Global, list: &[u8], bounds: &mut Bounds) -> u8 {
     let (out, ends) = (&mut bounds.out, &mut bounds.ends);
     let (written, count) = (&mut bounds.written, &mut bounds.count);
-    if is_compiled {
-        pep440_release_range_bounds_compiled(alloc, list, out, ends, written, count)
-    } else {
-        pep440_release_range_bounds(alloc, list, out, ends, written, count)
-    }
+    pep440_release_range_bounds(alloc, list, out, ends, written, count)
 }
 
 #[test]
 fn sweep_release_range_bounds(rt: HostRuntime) -> Result<(), Fail> {
-    for (is_compiled, list, want_status, want, want_ends) in [
+    for (list, want_status, want, want_ends) in [
         (
-            false,
             b">=1.0,<2.0".as_slice(),
             0,
             HALF_OPEN_BOUNDS,
             [11, 22, 99, 99],
         ),
-        (true, HALF_OPEN, 0, HALF_OPEN_BOUNDS, [11, 22, 99, 99]),
-        (false, b">1.0rc1", 0, ABOVE_BOUNDS, [11, 12, 99, 99]),
-        (true, ABOVE, 0, ABOVE_BOUNDS, [11, 12, 99, 99]),
-        (true, EXACT, 0, EXACT_BOUNDS, [10, 20, 99, 99]),
-        (false, b"~=1.4.5a4", 0, COMPATIBLE_BOUNDS, [14, 26, 99, 99]),
-        (false, b"", 0, &[0, 0], [1, 2, 99, 99]),
-        (true, NOTHING, 0, b"", [99; 4]),
-        (false, b"!=1,!=3", 4, b"", [99; 4]),
-        (false, b"=1.0", 2, b"", [99; 4]),
-        (true, b">1.0", 6, b"", [99; 4]),
-        (false, b"==18446744073709551615.*", 5, b"", [99; 4]),
-        (true, AT_MAX, 5, b"", [99; 4]),
+        (HALF_OPEN, 0, HALF_OPEN_BOUNDS, [11, 22, 99, 99]),
+        (b">1.0rc1", 0, ABOVE_BOUNDS, [11, 12, 99, 99]),
+        (ABOVE, 0, ABOVE_BOUNDS, [11, 12, 99, 99]),
+        (EXACT, 0, EXACT_BOUNDS, [10, 20, 99, 99]),
+        (b"~=1.4.5a4", 0, COMPATIBLE_BOUNDS, [14, 26, 99, 99]),
+        (b"", 0, &[0, 0], [1, 2, 99, 99]),
+        (NOTHING, 0, b"", [99; 4]),
+        (b"!=1,!=3", 4, b"", [99; 4]),
+        (b"=1.0", 2, b"", [99; 4]),
+        (&[4], 2, b"", [99; 4]),
+        (b"==18446744073709551615.*", 5, b"", [99; 4]),
+        (AT_MAX, 5, b"", [99; 4]),
     ] {
         let mut bounds = Bounds {
             out: [9; 48],
@@ -88,10 +81,10 @@ fn sweep_release_range_bounds(rt: HostRuntime) -> Result<(), Fail> {
             written: 98,
             count: 97,
         };
-        let mut status = ask_bounds(rt.alloc(), is_compiled, list, &mut bounds);
+        let mut status = ask_bounds(rt.alloc(), list, &mut bounds);
         if status == 3 {
             assert!(rt; bounds.out == [9; 48] && bounds.ends == [99; 4] && bounds.written == 98);
-            status = ask_bounds(rt.alloc(), is_compiled, list, &mut bounds);
+            status = ask_bounds(rt.alloc(), list, &mut bounds);
         }
         assert!(rt; status == want_status && &bounds.out[..want.len()] == want);
         assert!(rt; bounds.out[want.len()] == 9 && bounds.ends == want_ends);

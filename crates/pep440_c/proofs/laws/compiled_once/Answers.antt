@@ -1,4 +1,4 @@
-use Rattle.pep440_c.proofs.Agreeing.{one_form, one_list_form, same_compiled, same_compiled_list, taken, taken_list}
+use Rattle.pep440_c.proofs.Agreeing.{one_form, one_list_form, same_compiled, same_compiled_list, same_list, same_version}
 use Rattle.pep440_c.proofs.laws.compiled_once.Goals as goal
 
 pub returns-clause-one : goal.returns-clause-one
@@ -7,8 +7,8 @@ returns-clause-one c = one_form
 pub returns-clause-same : goal.returns-clause-same
 returns-clause-same c = same_compiled
 
-pub returns-clause-taken : goal.returns-clause-taken
-returns-clause-taken c = taken
+pub returns-clause-version : goal.returns-clause-version
+returns-clause-version c = same_version
 
 pub returns-clause-one_list : goal.returns-clause-one_list
 returns-clause-one_list c = one_list_form
@@ -16,5 +16,5 @@ returns-clause-one_list c = one_list_form
 pub returns-clause-same_list : goal.returns-clause-same_list
 returns-clause-same_list c = same_compiled_list
 
-pub returns-clause-taken_list : goal.returns-clause-taken_list
-returns-clause-taken_list c = taken_list
+pub returns-clause-list : goal.returns-clause-list
+returns-clause-list c = same_list

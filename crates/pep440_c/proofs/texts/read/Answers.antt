@@ -1,11 +1,9 @@
-use Rattle.std.proofs.Common.{◌∙◌, sym}
-use Rattle.pep440_version.specs.Errors.{kind_of, refusal_of}
-use Rattle.pep440_c.proofs.Refused.{no_text, refuses}
+use Rattle.std.proofs.Common.{◌∙◌, sym, true≢false}
+use Rattle.pep440_c.proofs.Forms.{compiled_read, string_read}
 use Rattle.pep440_c.proofs.texts.read.Goals as goal
 
-pub returns-in_default : goal.returns-in_default
-returns-in_default c = no_text c.args.bytes.now c.in_default.ensures.cases.0
+pub returns-then-has_version_format : goal.returns-then-has_version_format
+returns-then-has_version_format c = compiled_read c.args.bytes.now (c.has_version_format.ensures.0 c.if-has_version_format.true) c.read_compiled.result c.read_compiled.ensures
 
-pub returns-else-is_out_of_memory : goal.returns-else-is_out_of_memory
-returns-else-is_out_of_memory c = refuses c.args.bytes.now c.in-Ok.text.now (refusal_of (kind_of c.in-Err.error)) c.in-Ok.ensures.cases.0 c.in-Ok.ensures.cases.1
-    (rw c.kind.ensures at (sym c.is_out_of_memory.ensures ∙ c.if-is_out_of_memory.false)) c.in-Err.ensures.refused
+pub returns : goal.returns
+returns c = string_read c.args.bytes.now (λ format. true≢false (sym (c.has_version_format.ensures.1 format) ∙ c.if-has_version_format.false)) c.read_string.result c.read_string.ensures

@@ -1,12 +1,9 @@
-use Rattle.std.proofs.Common.{◌∙◌}
-use Rattle.pep440_rs.specs.ListAnswers.{list_kind_of}
-use Rattle.pep440_rs.specs.ListErrors.{list_refusal_of}
-use Rattle.pep440_c.proofs.Refused.{no_list_text, refuses_list}
+use Rattle.std.proofs.Common.{◌∙◌, sym, true≢false}
+use Rattle.pep440_c.proofs.Forms.{compiled_list_read, list_string_read}
 use Rattle.pep440_c.proofs.texts.read_list.Goals as goal
 
-pub returns-in_default : goal.returns-in_default
-returns-in_default c = no_list_text c.args.bytes.now c.in_default.ensures.cases.0
+pub returns-then-has_list_format : goal.returns-then-has_list_format
+returns-then-has_list_format c = compiled_list_read c.args.bytes.now (c.has_list_format.ensures.0 c.if-has_list_format.true) c.read_compiled_list.result c.read_compiled_list.ensures
 
-pub returns-in_default-kind : goal.returns-in_default-kind
-returns-in_default-kind c = refuses_list c.args.bytes.now c.in-Ok.text.now (list_refusal_of (list_kind_of c.in-Err.error)) c.in-Ok.ensures.cases.0 c.in-Ok.ensures.cases.1
-    (λ none. c.in_default-kind.not-OutOfMemory (c.kind.ensures ∙ c.in-Err.ensures.lifted none)) c.in-Err.ensures.refused
+pub returns : goal.returns
+returns c = list_string_read c.args.bytes.now (λ format. true≢false (sym (c.has_list_format.ensures.1 format) ∙ c.if-has_list_format.false)) c.read_list_string.result c.read_list_string.ensures

@@ -1,5 +1,0 @@
-use Rattle.pep440_c.proofs.SpecifierOnce.{of_bounds}
-use Rattle.pep440_c.proofs.laws.bounds_agree.Goals as goal
-
-pub returns : goal.returns
-returns c = of_bounds
