@@ -99,12 +99,11 @@ static int gather(PyObject *given, int may_be_compiled, Batch *batch)
 /* The marks of pep440_filter; of what is contained, a pre-release is left out unless it is asked for. */
 static uint8_t mark(const Batch *batch, const pep440_string *list, int prereleases, uint8_t *marks)
 {
-    uint8_t (*filter)(const uint8_t *, size_t, const pep440_string *, size_t, uint8_t *, size_t) = batch->copies ? pep440_filter_compiled : pep440_filter;
     PyThreadState *state = PyEval_SaveThread();
     uint8_t status = PEP440_OK;
     for (size_t start = 0; status == PEP440_OK && start < batch->count; start += CHUNK) {
         size_t count = batch->count - start < CHUNK ? batch->count - start : CHUNK;
-        status = filter(list->bytes, list->length, batch->texts + start, count, marks + start, count);
+        status = pep440_filter(list->bytes, list->length, batch->texts + start, count, marks + start, count);
         if (status == PEP440_OK && look_between(&state) < 0)
             status = PEP440_OUT_OF_MEMORY;
     }
@@ -129,40 +128,15 @@ static PyObject *marked(const Batch *batch, const uint8_t *marks, int skip)
     return kept;
 }
 
-/* The list's string, for batches of strings: what the members print. */
-static PyObject *list_text(Specifiers *self)
+/* Copies the compiled list for a batch. To be freed. */
+static uint8_t *copy_list(const Specifiers *self, pep440_string *list)
 {
-    PyObject *comma, *texts, *each;
-    Py_ssize_t count;
-    if (self->text)
-        return self->text;
-    comma = PyUnicode_FromString(",");
-    texts = PySequence_List(self->members);
-    count = texts ? PyList_Size(texts) : 0;
-    for (Py_ssize_t place = 0; place < count; place++) {
-        each = Py_NewRef(((Specifiers *)PyList_GetItem(texts, place))->text);
-        PyList_SetItem(texts, place, each);
-    }
-    each = comma && texts ? kept_in(&self->text, PyUnicode_Join(comma, texts)) : NULL;
-    Py_XDECREF(comma);
-    Py_XDECREF(texts);
-    return each;
-}
-
-/* Copies the list for a batch: its bytes for versions, else its string. To be freed. */
-static uint8_t *copy_list(Specifiers *self, int is_compiled, pep440_string *list)
-{
-    uint8_t *copy;
-    if (is_compiled)
-        list->bytes = self->compiled, list->length = self->length;
-    else if (!list_text(self) || view_str(self->text, list) < 0)
-        return NULL;
-    copy = PyMem_Malloc(list->length + 1);
+    uint8_t *copy = PyMem_Malloc(self->length);
     if (!copy)
         PyErr_NoMemory();
     else
-        memcpy(copy, list->bytes, list->length);
-    list->bytes = copy;
+        memcpy(copy, self->compiled, self->length);
+    *list = (pep440_string){copy, self->length};
     return copy;
 }
 
@@ -177,7 +151,7 @@ static PyObject *keep_contained(PyObject *self, PyObject *const *args, Py_ssize_
     if (!has_count("_kept", count, 3) || !is_compiled((Specifiers *)self) || (prereleases = PyObject_IsTrue(args[1])) < 0 ||
         (skip = PyObject_IsTrue(args[2])) < 0 || gather(args[0], 1, &batch) < 0)
         return NULL;
-    copy = copy_list((Specifiers *)self, batch.copies != NULL, &list);
+    copy = copy_list((Specifiers *)self, &list);
     if (copy && (marks = PyMem_Calloc(batch.count + 1, 1)))
         status = mark(&batch, &list, prereleases, marks);
     kept = status == PEP440_OK ? marked(&batch, marks, skip) : raise_by(status, NULL, NULL);

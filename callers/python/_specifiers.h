@@ -266,7 +266,7 @@ static PyObject *key_or_text(Specifiers *self, PyObject *text)
     PyObject *key;
     if (status != PEP440_OK)
         return status == PEP440_INVALID_VERSION ? Py_NewRef(text) : raise_by(status, NULL, NULL);
-    key = made_of(pep440_sort_key_compiled, compiled.bytes, compiled.length, PyBytes_FromStringAndSize);
+    key = made_of(pep440_sort_key, compiled.bytes, compiled.length, PyBytes_FromStringAndSize);
     drop_compiled(&compiled);
     return key;
 }
@@ -633,24 +633,19 @@ static PyObject *get_is_by_python(Specifiers *self, void *unused)
 static int contains(Specifiers *self, PyObject *item, PyObject *prereleases)
 {
     const Held *version = (Held *)item;
-    PyObject *text;
+    PyObject *text = NULL;
     pep440_string string;
-    Compiled compiled;
-    uint8_t contained, early, status = PEP440_OUT_OF_MEMORY;
+    uint8_t contained, early, status;
     if (PyObject_TypeCheck(item, HeldType)) {
         if (!is_initialised(version))
             return -1;
-        status = pep440_contains_compiled(self->compiled, self->length, version->compiled, version->length, &contained, &early);
-    } else {
-        text = text_of(item);
-        if (text && view_str(text, &string) == 0)
-            status = compile(pep440_compile, string, 0, &compiled);
-        if (status == PEP440_OK) {
-            status = pep440_contains_compiled(self->compiled, self->length, compiled.bytes, compiled.length, &contained, &early);
-            drop_compiled(&compiled);
-        }
+        string = (pep440_string){version->compiled, version->length};
+    } else if (!(text = text_of(item)) || view_str(text, &string) < 0) {
         Py_XDECREF(text);
+        return -1;
     }
+    status = pep440_contains(self->compiled, self->length, string.bytes, string.length, &contained, &early);
+    Py_XDECREF(text);
     if (status != PEP440_OK) {
         raise_by(status, item, NULL);
         return -1;

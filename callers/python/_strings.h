@@ -17,9 +17,14 @@ typedef struct {
     char has_own_key;  /* a key was set */
 } Held;
 
+/* The forms (docs/PROMISES.md, "Compiled versions"): a version is a byte, its sort key, and a byte 1 for each zero that ends its release; a list is a
+   byte, and for each member its operator, and key and zeros of its version. */
+enum { VERSION = 4, LIST = 5, LIST_HEAD = 1, OPERATOR = 16, MEMBER_HEAD = 2 };
+
 /* ---- texts in, answers out */
 
-/* What stands for a str with a lone surrogate, which has no UTF-8: no version and no list has this character. */
+/* What stands for a str with a lone surrogate, which has no UTF-8, or with one of the bytes in front that compiled forms begin with, which the library
+   would take for one: no version and no list has this character. */
 static const uint8_t NO_TEXT[] = "\xEF\xBF\xBD";
 
 static PyObject *str_of(PyObject *given)
@@ -44,6 +49,8 @@ static int view_str(PyObject *given, pep440_string *text)
         if (!PyErr_ExceptionMatches(PyExc_UnicodeEncodeError))
             return -1;
         PyErr_Clear();
+    }
+    if (!bytes || *bytes == VERSION || *bytes == LIST) {
         bytes = (const char *)NO_TEXT;
         length = sizeof NO_TEXT - 1;
     }
@@ -136,7 +143,7 @@ static PyObject *raise_invalid(PyObject *error, const char *form, PyObject *quot
     PyObject *reason;
     if (view(given, &text) < 0)
         return NULL;
-    reason = text.bytes == NO_TEXT ? PyUnicode_FromString("it has a lone surrogate")
+    reason = text.bytes == NO_TEXT ? PyUnicode_FromString("it has a character that none has")
                                    : written_by(why, text, lines_of, &status);
     if (reason)
         PyErr_Format(error, form, str_of(quoted), reason);
@@ -163,10 +170,6 @@ static PyObject *raise_by(uint8_t status, PyObject *version, PyObject *list)
 }
 
 /* ---- compiled forms */
-
-/* The forms (docs/PROMISES.md, "Compiled versions"): a version is a byte, its sort key, and a byte 1 for each zero that ends its release; a list is a
-   byte, and for each member its operator, and key and zeros of its version. */
-enum { LIST = 5, LIST_HEAD = 1, OPERATOR = 16, MEMBER_HEAD = 2 };
 
 static const uint8_t EMPTY_LIST[LIST_HEAD] = {LIST};
 

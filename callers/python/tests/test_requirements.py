@@ -70,11 +70,12 @@ def some_file():
 
 
 def shown(call, *given):
-    """What a call returns, or its error with its text and its cause."""
+    """What a call returns, or its error with its text and its cause; our texts of versions and specifiers go on with the reason."""
     try:
         return call(*given)
     except Exception as error:
-        return type(error).__name__, str(error), type(error.__cause__).__name__
+        name = type(error).__name__
+        return name, name not in ("InvalidVersion", "InvalidSpecifier") and str(error), type(error.__cause__).__name__
 
 
 class Library:
