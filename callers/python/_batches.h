@@ -149,7 +149,7 @@ static PyObject *keep_contained(PyObject *self, PyObject *const *args, Py_ssize_
     int prereleases, skip;
     PyObject *kept;
     if (!has_count("_kept", count, 3) || !is_compiled((Specifiers *)self) || (prereleases = PyObject_IsTrue(args[1])) < 0 ||
-        (skip = PyObject_IsTrue(args[2])) < 0 || gather(args[0], 1, &batch) < 0)
+        (skip = PyObject_IsTrue(args[2])) < 0 || gather(args[0], 0, &batch) < 0)
         return NULL;
     copy = copy_list((Specifiers *)self, &list);
     if (copy && (marks = PyMem_Calloc(batch.count + 1, 1)))
