@@ -96,7 +96,7 @@ class Made(unittest.TestCase):
     @unittest.skipUnless(importlib.util.find_spec("pip") and shutil.which("echo"), "no pip, or no programs to stand in")
     def test_commands(self):
         name, _ = self.built("build_wheel", PEP440_PROGRAMS=f"{shutil.which('true')}:{shutil.which('echo')}")
-        words = ["-m", "pip", "install", "-q", "--no-index", "--no-deps", "--target", self.work / "target", self.work / name]
+        words = ["-m", "pip", "install", "-q", "--no-index", "--no-deps", "--root-user-action=ignore", "--target", self.work / "target", self.work / name]
         subprocess.run([sys.executable, *words], check=True)
         self.assertEqual({it.name for it in (self.work / "target/bin").iterdir()}, {"pep440", "pyver"})
         environment = dict(os.environ, PYTHONPATH=str(self.work / "target"))

@@ -15,11 +15,18 @@ from .specifiers import Specifier
 
 _BLANKS = r"[ \t]*"
 _IDENTIFIER = r"\b[a-zA-Z0-9][a-zA-Z0-9._-]*\b"
-_VARIABLE = r"""\b(?:
-    python_version | python_full_version | os[._]name | sys[._]platform | platform_(?:release|system)
-    | platform[._](?:version|machine|python_implementation) | python_implementation | implementation_(?:name|version)
-    | extras? | dependency_groups
-)\b"""
+# The variables of markers; of two names of one, the older one stands for the other.
+_VARIABLES = {
+    name: name
+    for name in """
+        python_version python_full_version os_name sys_platform platform_release platform_system platform_version platform_machine
+        platform_python_implementation implementation_name implementation_version extra extras dependency_groups
+    """.split()
+}
+_VARIABLES |= {name: name.replace(".", "_") for name in "os.name sys.platform platform.version platform.machine platform.python_implementation".split()}
+_VARIABLES["python_implementation"] = "platform_python_implementation"
+_VARIABLES_OR_NONE = {*_VARIABLES, None}
+_VARIABLE = rf"\b(?:{'|'.join(sorted(map(re.escape, _VARIABLES), reverse=True))})\b"
 _QUOTED = r""" '[^']*' | "[^"]*" """
 _OPERATOR = r"===|==|~=|!=|<=|>=|<|>"
 # What stands behind an operator may yet be no version. Behind `===` commas belong to the string, so it is left to the tokens.
@@ -35,11 +42,13 @@ _PLAIN_REQUIREMENT = re.compile(
     """,
     re.VERBOSE,
 )
+# A word may be no variable.
+_WORD = r"\b [a-z] [a-z_.]* \b"
 _ITEM = re.compile(
     rf"""
-    {_BLANKS} (?: ( {_VARIABLE} ) | ( {_QUOTED} ) )
+    {_BLANKS} (?: ( {_WORD} ) | ( {_QUOTED} ) )
     {_BLANKS} ( {_OPERATOR} | \b in \b | \b not \b [ \t]+ \b in \b )
-    {_BLANKS} (?: ( {_VARIABLE} ) | ( {_QUOTED} ) )
+    {_BLANKS} (?: ( {_WORD} ) | ( {_QUOTED} ) )
     {_BLANKS}
     """,
     re.VERBOSE,
@@ -303,15 +312,9 @@ def _parse_marker(cursor: _Cursor) -> MarkerList:
 
 
 def _parse_atom(cursor: _Cursor) -> MarkerItem | MarkerList:
-    found = _ITEM.match(cursor.source, cursor.position)
-    if found:
-        cursor.position = found.end()
-        left, left_value, operator, right, right_value = found.groups()
-        return (
-            _make_variable(left) if left else _make_value(left_value),
-            Op(operator if operator[0] != "n" else "not in"),
-            _make_variable(right) if right else _make_value(right_value),
-        )
+    item = _take_plain_item(cursor)
+    if item:
+        return item
     cursor.take(_BLANK)
     opened = cursor.position
     atom: MarkerItem | MarkerList
@@ -322,6 +325,21 @@ def _parse_atom(cursor: _Cursor) -> MarkerItem | MarkerList:
         atom = _parse_item(cursor)
     cursor.take(_BLANK)
     return atom
+
+
+def _take_plain_item(cursor: _Cursor) -> MarkerItem | None:
+    found = _ITEM.match(cursor.source, cursor.position)
+    if not found:
+        return None
+    left, left_value, operator, right, right_value = found.groups()
+    if left not in _VARIABLES_OR_NONE or right not in _VARIABLES_OR_NONE:
+        return None
+    cursor.position = found.end()
+    return (
+        Variable(_VARIABLES[left]) if left else _make_value(left_value),
+        Op(operator if operator[0] != "n" else "not in"),
+        Variable(_VARIABLES[right]) if right else _make_value(right_value),
+    )
 
 
 def _parse_item(cursor: _Cursor) -> MarkerItem:
@@ -335,7 +353,7 @@ def _parse_item(cursor: _Cursor) -> MarkerItem:
 def _parse_operand(cursor: _Cursor) -> MarkerVar:
     variable = cursor.take(_MARKER_VARIABLE)
     if variable is not None:
-        return _make_variable(variable)
+        return Variable(_VARIABLES[variable])
     value = cursor.take(_MARKER_VALUE)
     if value is None:
         cursor.fail("Expected a marker variable or quoted string")
@@ -353,12 +371,6 @@ def _parse_operator(cursor: _Cursor) -> Op:
     if comparison is None:
         cursor.fail("Expected marker operator, one of <=, <, !=, ==, >=, >, ~=, ===, in, not in")
     return Op(comparison)
-
-
-def _make_variable(name: str) -> Variable:
-    """The variable of this name, or of the older one."""
-    name = name.replace(".", "_")
-    return Variable("platform_python_implementation" if name == "python_implementation" else name)
 
 
 def _make_value(quoted: str) -> Value:
