@@ -205,7 +205,7 @@ static uint8_t read_keys(const Batch *batch, size_t start, size_t end, Keyed *ke
     size_t room = 0, length;
     uint8_t *bytes, status = PEP440_OK;
     for (size_t place = start; place < end; place++)
-        room += 10 + 3 * batch->texts[place].length; /* by the header */
+        room += PEP440_COMPILED_BOUND(batch->texts[place].length);
     *block = bytes = malloc(room);
     for (*at = start; bytes && *at < end; ++*at) {
         status = pep440_compile(batch->texts[*at].bytes, batch->texts[*at].length, bytes, room, &length);
@@ -284,41 +284,39 @@ static PyObject *sort(PyObject *module, PyObject *given)
     return sorted;
 }
 
-/* Adds the key of each string of a chunk to the list. */
-static int add_keys(PyObject *list, const Keyed *keyed, size_t count)
+/* Adds the keys of some strings to the list; `keyed` has room for them. */
+static int add_keys(PyObject *list, const Batch *batch, size_t start, size_t end, Keyed *keyed)
 {
-    int done = PyErr_CheckSignals();
-    for (size_t place = 0; done == 0 && place < count; place++) {
+    uint8_t *block = NULL, status;
+    size_t at = start;
+    int done;
+    Py_BEGIN_ALLOW_THREADS
+    status = read_keys(batch, start, end, keyed, &block, &at);
+    Py_END_ALLOW_THREADS
+    if (status != PEP440_OK)
+        raise_by(status, status == PEP440_INVALID_VERSION ? item(batch, at) : NULL, NULL);
+    done = status == PEP440_OK ? PyErr_CheckSignals() : -1;
+    for (size_t place = 0; done == 0 && place < end - start; place++) {
         PyObject *key = PyBytes_FromStringAndSize((const char *)keyed[place].key, (Py_ssize_t)keyed[place].length);
         done = key ? PyList_Append(list, key) : -1;
         Py_XDECREF(key);
     }
+    free(block);
     return done;
 }
 
 static PyObject *sort_keys(PyObject *module, PyObject *given)
 {
     Batch batch;
-    Keyed *keyed = PyMem_Calloc(CHUNK, sizeof *keyed);
-    size_t at = 0;
-    PyObject *list = keyed ? PyList_New(0) : PyErr_NoMemory();
-    if (!list || gather(given, 0, &batch) < 0) {
-        PyMem_Free(keyed);
-        Py_XDECREF(list);
+    Keyed *keyed;
+    PyObject *list;
+    if (gather(given, 0, &batch) < 0)
         return NULL;
-    }
-    for (size_t start = 0; list && start < batch.count; start += CHUNK) {
-        size_t count = batch.count - start < CHUNK ? batch.count - start : CHUNK;
-        uint8_t *block = NULL, status;
-        Py_BEGIN_ALLOW_THREADS
-        status = read_keys(&batch, start, start + count, keyed, &block, &at);
-        Py_END_ALLOW_THREADS
-        if (status != PEP440_OK)
-            raise_by(status, status == PEP440_INVALID_VERSION ? item(&batch, at) : NULL, NULL);
-        if (status != PEP440_OK || add_keys(list, keyed, count) < 0)
+    keyed = PyMem_Calloc(CHUNK, sizeof *keyed);
+    list = keyed ? PyList_New(0) : PyErr_NoMemory();
+    for (size_t start = 0; list && start < batch.count; start += CHUNK)
+        if (add_keys(list, &batch, start, batch.count - start < CHUNK ? batch.count : start + CHUNK, keyed) < 0)
             Py_CLEAR(list);
-        free(block);
-    }
     PyMem_Free(keyed);
     drop(&batch);
     return list;

@@ -694,13 +694,7 @@ static PyObject *get_is_by_python(Specifiers *self, void *unused)
     return changed < 0 ? NULL : PyBool_FromLong(changed);
 }
 
-/* Asks the library, of a compiled version: in place, which takes a quarter of what a string takes. */
-static uint8_t contains_compiled(const Specifiers *self, const uint8_t *compiled, size_t length, uint8_t *contained, uint8_t *early)
-{
-    return pep440_contains(self->compiled, self->length, compiled, length, contained, early);
-}
-
-/* The same of what has the string of a version. */
+/* Whether the version of a string, or of what has one, is contained: it is compiled first, since of two compiled forms the library answers in place. */
 static uint8_t contains_text(const Specifiers *self, PyObject *item, uint8_t *contained, uint8_t *early)
 {
     PyObject *text = text_of(item);
@@ -710,7 +704,7 @@ static uint8_t contains_text(const Specifiers *self, PyObject *item, uint8_t *co
     if (text && view_str(text, &string) == 0)
         status = compile(pep440_compile, string, 0, &compiled);
     if (status == PEP440_OK) {
-        status = contains_compiled(self, compiled.bytes, compiled.length, contained, early);
+        status = pep440_contains(self->compiled, self->length, compiled.bytes, compiled.length, contained, early);
         drop_compiled(&compiled);
     }
     Py_XDECREF(text);
@@ -725,7 +719,7 @@ static int contains(Specifiers *self, PyObject *item, PyObject *prereleases)
     if (!PyObject_TypeCheck(item, HeldType))
         status = contains_text(self, item, &contained, &early);
     else if (is_initialised(version))
-        status = contains_compiled(self, version->compiled, version->length, &contained, &early);
+        status = pep440_contains(self->compiled, self->length, version->compiled, version->length, &contained, &early);
     if (status != PEP440_OK) {
         raise_by(status, item, NULL);
         return -1;

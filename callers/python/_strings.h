@@ -215,16 +215,15 @@ static void drop_compiled(Compiled *compiled)
         free(compiled->bytes);
 }
 
-/* Compiles a string in one call, and leaves room in front: by the header a version or a specifier takes at most 10 bytes and 3 for each byte of
-   its string. To be dropped where the status is PEP440_OK. */
+/* Compiles a string in one call, and leaves room in front. To be dropped where the status is PEP440_OK. */
 static uint8_t compile(Writer call, pep440_string text, size_t front, Compiled *compiled)
 {
-    size_t room = sizeof compiled->few, most = (SIZE_MAX - 10 - MEMBER_HEAD) / 3;
+    size_t room = sizeof compiled->few;
     uint8_t status;
     compiled->bytes = compiled->few;
-    if (text.length > (room - 10 - MEMBER_HEAD) / 3) {
-        room = 10 + MEMBER_HEAD + 3 * text.length;
-        compiled->bytes = text.length <= most ? malloc(room) : NULL;
+    if (text.length > (room - PEP440_COMPILED_BOUND(0) - MEMBER_HEAD) / 3) {
+        room = MEMBER_HEAD + PEP440_COMPILED_BOUND(text.length);
+        compiled->bytes = text.length <= SIZE_MAX / 4 ? malloc(room) : NULL;
         if (!compiled->bytes)
             return PEP440_OUT_OF_MEMORY;
     }

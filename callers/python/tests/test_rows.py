@@ -87,6 +87,17 @@ class Versions(unittest.TestCase):
         self.assertIn("1.0pre", reason)
         self.assertIsInstance(caught.exception, ValueError)
 
+    def test_compiled_bytes_are_no_strings(self):
+        """The library takes compiled forms in place of strings; a str with their bytes is neither a version nor a list."""
+        version = (b"\4" + Version("1.0").sort_key + b"\1").decode()
+        several = _core.compile_list(">=1.0").decode()
+        calls = [lambda: Version(version), lambda: "1.0" in SpecifierSet(several), lambda: version in SpecifierSet(">=1.0"), lambda: Specifier(several)]
+        calls += [lambda: sort_texts([version]), lambda: sort_keys([version]), lambda: filter_texts(">=1.0", [version])]
+        for call in calls:
+            with self.assertRaises((InvalidVersion, InvalidSpecifier)):
+                call()
+        self.assertEqual(filter_texts(">=1.0", [version, "1.0"], skip_invalid=True), ["1.0"])
+
     def test_subclass(self):
         class Written(Version):
             def __init__(self, version):
