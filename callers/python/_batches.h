@@ -1,4 +1,21 @@
-/* Batches: what they read is held by objects of their own, so that other threads may run meanwhile, and change what was given. */
+/* Batches: what they read is held by objects of their own, so that other threads may run meanwhile, and change what was given. Now and then they
+   look whether the process was sent a signal, as by Ctrl-C, whose handler may raise an exception. */
+
+enum { CHUNK = 1 << 12 };
+
+/* Looks for signals at some of the items; -1 with an exception. */
+static int look_at(size_t place) { return place % CHUNK ? 0 : PyErr_CheckSignals(); }
+
+/* The same while other threads run. */
+static int look_between(void *state)
+{
+    PyThreadState **saved = state;
+    int found;
+    PyEval_RestoreThread(*saved);
+    found = PyErr_CheckSignals();
+    *saved = PyEval_SaveThread();
+    return found;
+}
 
 typedef struct {
     PyObject *items;
@@ -26,7 +43,7 @@ static int copy_compiled(Batch *batch)
     size_t length = 1;
     uint8_t *end;
     for (size_t place = 0; place < batch->count; place++) {
-        if (!is_initialised((Held *)item(batch, place)))
+        if (look_at(place) < 0 || !is_initialised((Held *)item(batch, place)))
             return -1;
         length += ((Held *)item(batch, place))->length;
     }
@@ -49,7 +66,7 @@ static int hold_texts(Batch *batch)
     batch->held = PyList_New(0);
     for (size_t place = 0; batch->held && place < batch->count; place++) {
         PyObject *text = text_of(item(batch, place));
-        int done = text ? view_str(text, &batch->texts[place]) : -1;
+        int done = text && look_at(place) == 0 ? view_str(text, &batch->texts[place]) : -1;
         if (done == 0 && text != item(batch, place))
             done = PyList_Append(batch->held, text);
         Py_XDECREF(text);
@@ -82,8 +99,15 @@ static int gather(PyObject *given, int may_be_compiled, Batch *batch)
 /* The marks of pep440_filter; of what is contained, a pre-release is left out unless it is asked for. */
 static uint8_t mark(const Batch *batch, const pep440_string *list, int prereleases, uint8_t *marks)
 {
-    uint8_t status = batch->copies ? pep440_filter_compiled(list->bytes, list->length, batch->texts, batch->count, marks, batch->count)
-                                   : pep440_filter(list->bytes, list->length, batch->texts, batch->count, marks, batch->count);
+    PyThreadState *state = PyEval_SaveThread();
+    uint8_t status = PEP440_OK;
+    for (size_t start = 0; status == PEP440_OK && start < batch->count; start += CHUNK) {
+        size_t count = batch->count - start < CHUNK ? batch->count - start : CHUNK;
+        status = pep440_filter(list->bytes, list->length, batch->texts + start, count, marks + start, count);
+        if (status == PEP440_OK && look_between(&state) < 0)
+            status = PEP440_OUT_OF_MEMORY;
+    }
+    PyEval_RestoreThread(state);
     for (size_t place = 0; status == PEP440_OK && !prereleases && place < batch->count; place++)
         if (marks[place] == PEP440_PRERELEASE_MATCH)
             marks[place] = PEP440_NO_MATCH;
@@ -96,47 +120,23 @@ static PyObject *marked(const Batch *batch, const uint8_t *marks, int skip)
     for (size_t place = 0; kept && place < batch->count; place++) {
         if (marks[place] == PEP440_NOT_A_VERSION && !skip)
             raise_by(PEP440_INVALID_VERSION, item(batch, place), NULL);
-        else if (marks[place] == PEP440_NO_MATCH || marks[place] == PEP440_NOT_A_VERSION || PyList_Append(kept, item(batch, place)) == 0)
+        else if (look_at(place) == 0 &&
+                 (marks[place] == PEP440_NO_MATCH || marks[place] == PEP440_NOT_A_VERSION || PyList_Append(kept, item(batch, place)) == 0))
             continue;
         Py_CLEAR(kept);
     }
     return kept;
 }
 
-/* The list's string, for batches of strings: what the members print. */
-static PyObject *list_text(Specifiers *self)
+/* Copies the compiled list for a batch. To be freed. */
+static uint8_t *copy_list(const Specifiers *self, pep440_string *list)
 {
-    PyObject *comma, *texts, *each;
-    Py_ssize_t count;
-    if (self->text)
-        return self->text;
-    comma = PyUnicode_FromString(",");
-    texts = PySequence_List(self->members);
-    count = texts ? PyList_Size(texts) : 0;
-    for (Py_ssize_t place = 0; place < count; place++) {
-        each = Py_NewRef(((Specifiers *)PyList_GetItem(texts, place))->text);
-        PyList_SetItem(texts, place, each);
-    }
-    each = comma && texts ? kept_in(&self->text, PyUnicode_Join(comma, texts)) : NULL;
-    Py_XDECREF(comma);
-    Py_XDECREF(texts);
-    return each;
-}
-
-/* Copies the list for a batch: its bytes for versions, else its string. To be freed. */
-static uint8_t *copy_list(Specifiers *self, int is_compiled, pep440_string *list)
-{
-    uint8_t *copy;
-    if (is_compiled)
-        list->bytes = self->compiled, list->length = self->length;
-    else if (!list_text(self) || view_str(self->text, list) < 0)
-        return NULL;
-    copy = PyMem_Malloc(list->length + 1);
+    uint8_t *copy = PyMem_Malloc(self->length);
     if (!copy)
         PyErr_NoMemory();
     else
-        memcpy(copy, list->bytes, list->length);
-    list->bytes = copy;
+        memcpy(copy, self->compiled, self->length);
+    *list = (pep440_string){copy, self->length};
     return copy;
 }
 
@@ -149,14 +149,11 @@ static PyObject *keep_contained(PyObject *self, PyObject *const *args, Py_ssize_
     int prereleases, skip;
     PyObject *kept;
     if (!has_count("_kept", count, 3) || !is_compiled((Specifiers *)self) || (prereleases = PyObject_IsTrue(args[1])) < 0 ||
-        (skip = PyObject_IsTrue(args[2])) < 0 || gather(args[0], 1, &batch) < 0)
+        (skip = PyObject_IsTrue(args[2])) < 0 || gather(args[0], 0, &batch) < 0)
         return NULL;
-    copy = copy_list((Specifiers *)self, batch.copies != NULL, &list);
-    if (copy && (marks = PyMem_Calloc(batch.count + 1, 1))) {
-        Py_BEGIN_ALLOW_THREADS
+    copy = copy_list((Specifiers *)self, &list);
+    if (copy && (marks = PyMem_Calloc(batch.count + 1, 1)))
         status = mark(&batch, &list, prereleases, marks);
-        Py_END_ALLOW_THREADS
-    }
     kept = status == PEP440_OK ? marked(&batch, marks, skip) : raise_by(status, NULL, NULL);
     PyMem_Free(marks);
     PyMem_Free(copy);
@@ -164,11 +161,108 @@ static PyObject *keep_contained(PyObject *self, PyObject *const *args, Py_ssize_
     return kept;
 }
 
-static PyObject *in_places(const Batch *batch, const size_t *places)
+/* The items of a batch by their keys, and the blocks in which the keys of strings are. */
+typedef struct {
+    Keyed *keyed;
+    Keyed *spare;
+    uint8_t **blocks;
+} Keys;
+
+static void drop_keys(Keys *keys, size_t count)
+{
+    for (size_t chunk = 0; keys->blocks && chunk <= count / CHUNK; chunk++)
+        free(keys->blocks[chunk]);
+    free(keys->blocks);
+    free(keys->keyed);
+    free(keys->spare);
+}
+
+/* Takes the key in compiled bytes: behind the first one, and without those that stand for zeros at the end of the release. */
+static void take_key(Keyed *keyed, const uint8_t *compiled, size_t length)
+{
+    while (compiled[length - 1] == 1)
+        length--;
+    keyed->key = compiled + 1;
+    keyed->length = length - 1;
+}
+
+/* Sets the words of some strings, which are in the order of their versions. PEP440_NOT_PACKED where one has none. */
+static uint8_t read_words(const Batch *batch, size_t start, size_t end, Keyed *keyed, size_t *at)
+{
+    uint8_t status = PEP440_OK;
+    for (*at = start; *at < end; ++*at) {
+        status = pep440_word(batch->texts[*at].bytes, batch->texts[*at].length, &keyed[*at].part);
+        if (status != PEP440_OK)
+            return status;
+        keyed[*at].length = 0;
+    }
+    return status;
+}
+
+/* Makes the keys of some strings, in a block of their own; the first one is that of `start`. */
+static uint8_t read_keys(const Batch *batch, size_t start, size_t end, Keyed *keyed, uint8_t **block, size_t *at)
+{
+    size_t room = 0, length;
+    uint8_t *bytes, status = PEP440_OK;
+    for (size_t place = start; place < end; place++)
+        room += PEP440_COMPILED_BOUND(batch->texts[place].length);
+    *block = bytes = malloc(room);
+    for (*at = start; bytes && *at < end; ++*at) {
+        status = pep440_compile(batch->texts[*at].bytes, batch->texts[*at].length, bytes, room, &length);
+        if (status != PEP440_OK)
+            return status;
+        take_key(&keyed[*at - start], bytes, length);
+        bytes += length;
+        room -= length;
+    }
+    return bytes ? status : PEP440_OUT_OF_MEMORY;
+}
+
+/* Reads the keys of all items, or where each string has a word the words of all: reading these takes half as long. */
+static uint8_t read_all(const Batch *batch, Keys *keys, int by_word, size_t *at, PyThreadState **state)
+{
+    uint8_t status = PEP440_OK;
+    for (size_t start = 0; status == PEP440_OK && start < batch->count; start += CHUNK) {
+        size_t end = batch->count - start < CHUNK ? batch->count : start + CHUNK;
+        if (batch->copies)
+            for (size_t place = start; place < end; place++)
+                take_key(&keys->keyed[place], batch->texts[place].bytes, batch->texts[place].length);
+        else if (by_word)
+            status = read_words(batch, start, end, keys->keyed, at);
+        else
+            status = read_keys(batch, start, end, keys->keyed + start, &keys->blocks[start / CHUNK], at);
+        if (status == PEP440_OK && look_between(state) < 0)
+            status = PEP440_OUT_OF_MEMORY;
+    }
+    return status;
+}
+
+/* Sorts the items; `at` is that of the first string that is no version, with PEP440_INVALID_VERSION. */
+static uint8_t sort_batch(const Batch *batch, Keys *keys, size_t *at)
+{
+    PyThreadState *state = PyEval_SaveThread();
+    uint8_t status = PEP440_OUT_OF_MEMORY;
+    keys->keyed = malloc((batch->count + 1) * sizeof *keys->keyed);
+    keys->spare = malloc((batch->count + 1) * sizeof *keys->spare);
+    keys->blocks = calloc(batch->count / CHUNK + 1, sizeof *keys->blocks);
+    if (keys->keyed && keys->spare && keys->blocks) {
+        status = read_all(batch, keys, 1, at, &state);
+        if (status == PEP440_NOT_PACKED)
+            status = read_all(batch, keys, 0, at, &state);
+    }
+    for (size_t place = 0; status == PEP440_OK && place < batch->count; place++)
+        keys->keyed[place].index = place;
+    if (status == PEP440_OK)
+        status = sort_keyed(keys->keyed, keys->spare, batch->count, look_between, &state);
+    PyEval_RestoreThread(state);
+    return status;
+}
+
+static PyObject *in_order(const Batch *batch, const Keyed *keyed)
 {
     PyObject *list = PyList_New((Py_ssize_t)batch->count);
     for (size_t turn = 0; list && turn < batch->count; turn++)
-        if (PyList_SetItem(list, (Py_ssize_t)turn, Py_NewRef(item(batch, places[turn]))) < 0)
+        if (look_at(turn) < 0 || PyList_SetItem(list, (Py_ssize_t)turn, Py_NewRef(item(batch, keyed[turn].index))) < 0)
             Py_CLEAR(list);
     return list;
 }
@@ -176,63 +270,54 @@ static PyObject *in_places(const Batch *batch, const size_t *places)
 static PyObject *sort(PyObject *module, PyObject *given)
 {
     Batch batch;
-    size_t *places, at = 0;
-    uint8_t status = PEP440_OUT_OF_MEMORY;
+    Keys keys;
+    size_t at = 0;
+    uint8_t status;
     PyObject *sorted;
     if (gather(given, 1, &batch) < 0)
         return NULL;
-    places = PyMem_Calloc(batch.count + 1, sizeof *places);
-    if (places) {
-        Py_BEGIN_ALLOW_THREADS
-        status = batch.copies ? pep440_sort_compiled(batch.texts, batch.count, places, batch.count, &at)
-                              : pep440_sort(batch.texts, batch.count, places, batch.count, &at);
-        Py_END_ALLOW_THREADS
-    }
-    sorted = status == PEP440_OK ? in_places(&batch, places)
+    status = sort_batch(&batch, &keys, &at);
+    sorted = status == PEP440_OK ? in_order(&batch, keys.keyed)
                                  : raise_by(status, status == PEP440_INVALID_VERSION ? item(&batch, at) : NULL, NULL);
-    PyMem_Free(places);
+    drop_keys(&keys, batch.count);
     drop(&batch);
     return sorted;
 }
 
-static PyObject *in_pieces(const uint8_t *keys, const size_t *ends, size_t count)
+/* Adds the keys of some strings to the list; `keyed` has room for them. */
+static int add_keys(PyObject *list, const Batch *batch, size_t start, size_t end, Keyed *keyed)
 {
-    PyObject *list = PyList_New((Py_ssize_t)count);
-    for (size_t place = 0; list && place < count; place++) {
-        size_t start = place ? ends[place - 1] : 0;
-        PyObject *key = PyBytes_FromStringAndSize((const char *)keys + start, (Py_ssize_t)(ends[place] - start));
-        if (!key || PyList_SetItem(list, (Py_ssize_t)place, key) < 0)
-            Py_CLEAR(list);
+    uint8_t *block = NULL, status;
+    size_t at = start;
+    int done;
+    Py_BEGIN_ALLOW_THREADS
+    status = read_keys(batch, start, end, keyed, &block, &at);
+    Py_END_ALLOW_THREADS
+    if (status != PEP440_OK)
+        raise_by(status, status == PEP440_INVALID_VERSION ? item(batch, at) : NULL, NULL);
+    done = status == PEP440_OK ? PyErr_CheckSignals() : -1;
+    for (size_t place = 0; done == 0 && place < end - start; place++) {
+        PyObject *key = PyBytes_FromStringAndSize((const char *)keyed[place].key, (Py_ssize_t)keyed[place].length);
+        done = key ? PyList_Append(list, key) : -1;
+        Py_XDECREF(key);
     }
-    return list;
+    free(block);
+    return done;
 }
 
 static PyObject *sort_keys(PyObject *module, PyObject *given)
 {
     Batch batch;
-    uint8_t *keys = NULL, status = PEP440_NO_ROOM;
-    size_t *ends, at = 0, room = 0, written = 0;
+    Keyed *keyed;
     PyObject *list;
     if (gather(given, 0, &batch) < 0)
         return NULL;
-    ends = PyMem_Calloc(batch.count + 1, sizeof *ends);
-    written = 24 * batch.count + 1; /* most keys are shorter; the first call tells where they are not */
-    while (status == PEP440_NO_ROOM && room < written) {
-        room = written;
-        PyMem_Free(keys);
-        keys = PyMem_Malloc(room);
-        status = PEP440_OUT_OF_MEMORY;
-        if (keys && ends) {
-            Py_BEGIN_ALLOW_THREADS
-            status = pep440_sort_keys(batch.texts, batch.count, keys, room, ends, batch.count, &written, &at);
-            Py_END_ALLOW_THREADS
-        }
-    }
-    list = status == PEP440_OK ? in_pieces(keys, ends, batch.count)
-                               : raise_by(status, status == PEP440_INVALID_VERSION ? item(&batch, at) : NULL, NULL);
-    PyMem_Free(keys);
-    PyMem_Free(ends);
+    keyed = PyMem_Calloc(CHUNK, sizeof *keyed);
+    list = keyed ? PyList_New(0) : PyErr_NoMemory();
+    for (size_t start = 0; list && start < batch.count; start += CHUNK)
+        if (add_keys(list, &batch, start, batch.count - start < CHUNK ? batch.count : start + CHUNK, keyed) < 0)
+            Py_CLEAR(list);
+    PyMem_Free(keyed);
     drop(&batch);
     return list;
 }
-

@@ -18,6 +18,7 @@
 #include "_strings.h"
 #include "_versions.h"
 #include "_specifiers.h"
+#include "_sorting.h"
 #include "_batches.h"
 
 /* ---- the types of specifiers, and the module */
@@ -47,6 +48,12 @@ static PyObject *compile_list(PyObject *module, PyObject *list)
 static PyObject *make_members_of(PyObject *module, PyObject *class)
 {
     kept_in(&member_class, Py_NewRef(class));
+    Py_RETURN_NONE;
+}
+
+static PyObject *make_sets_of(PyObject *module, PyObject *class)
+{
+    kept_in(&set_class, Py_NewRef(class));
     Py_RETURN_NONE;
 }
 
@@ -113,6 +120,7 @@ static PyType_Slot set_slots[] = {{Py_tp_init, set_init},
                                   {Py_tp_hash, set_hash},
                                   {Py_tp_richcompare, set_compare},
                                   {Py_tp_iter, set_iterator},
+                                  {Py_nb_and, set_and},
                                   {Py_sq_length, set_length},
                                   {Py_sq_contains, has},
                                   {Py_tp_methods, set_calls},
@@ -130,6 +138,7 @@ static PyMethodDef calls[] = {
     {"ranges", ranges, METH_O, "The range of a list, a segment a line."},
     {"compile_list", compile_list, METH_O, "The compiled list, of the string at once."},
     {"make_members_of", make_members_of, METH_O, "From now on the members of sets are of this class."},
+    {"make_sets_of", make_sets_of, METH_O, "From now on what is made of two sets is of this class."},
     {"read_others_by", read_others_by, METH_O, "From now on this gives the strings of other libraries' versions."},
     {"sort", sort, METH_O, "The items in the order of their versions."},
     {"sort_keys", sort_keys, METH_O, "The sort key of each item."},

@@ -1,7 +1,7 @@
 /* The types of specifiers and of sets of them: what they hold, and what they contain. */
 
-/* The class of the members that a set makes of its string: `Specifier`, once its module has named it. */
-static PyObject *member_class;
+/* The class of the members that a set makes of its string, `Specifier`, and that of the sets that are made of two, once their module has named them. */
+static PyObject *member_class, *set_class;
 
 /* A specifier, or a set of them: its compiled list, which is NULL until `__init__` has read a string, and what was said of pre-releases. */
 typedef struct {
@@ -88,25 +88,39 @@ static void specifiers_free(Specifiers *self)
     Py_DECREF(type);
 }
 
-/* How many characters the operator in front has; of one to three, all but `<` and `>` have a `=` at their ends. */
-static Py_ssize_t operator_width(PyObject *text)
+/* The first bytes of a str, of which the view is given, with zeros behind its end. Of one that has no UTF-8 those of its first characters. */
+static void read_head(PyObject *text, pep440_string view, uint8_t head[3])
 {
-    Py_ssize_t length = PyUnicode_GetLength(text);
-    if (length < 2 || PyUnicode_ReadChar(text, 1) != '=')
-        return length > 0;
-    return length > 2 && PyUnicode_ReadChar(text, 0) == '=' && PyUnicode_ReadChar(text, 2) == '=' ? ARBITRARY : 2;
+    for (size_t at = 0; at < 3; at++)
+        head[at] = at < view.length ? view.bytes[at] : 0;
+    if (view.bytes == NO_TEXT)
+        for (Py_ssize_t at = 0; at < 3; at++)
+            head[at] = at < PyUnicode_GetLength(text) && PyUnicode_ReadChar(text, at) < 128 ? (uint8_t)PyUnicode_ReadChar(text, at) : 0;
+}
+
+/* How many characters the operator in front has; of one to three, all but `<` and `>` have a `=` at their ends. */
+static size_t operator_width(PyObject *text, pep440_string view)
+{
+    uint8_t head[3];
+    read_head(text, view, head);
+    if (head[1] != '=')
+        return view.length > 0;
+    return head[0] == '=' && head[2] == '=' ? ARBITRARY : 2;
 }
 
 /* The specifier as it prints: without white space behind its operator. It stays where this is no operator, which a `=` behind the space makes longer. */
 static PyObject *joined(PyObject *text)
 {
-    Py_ssize_t width = operator_width(text);
-    Py_UCS4 next = width < PyUnicode_GetLength(text) ? PyUnicode_ReadChar(text, width) : '=';
+    pep440_string string;
+    size_t width;
     PyObject *operator, *rest, *version, *made = NULL;
-    if (next > ' ' && next < 127)
+    if (view_str(text, &string) < 0)
+        return NULL;
+    width = operator_width(text, string);
+    if (width == (size_t)PyUnicode_GetLength(text) || (string.bytes != NO_TEXT && string.bytes[width] > ' ' && string.bytes[width] < 127))
         return Py_NewRef(text);
-    operator = PyUnicode_Substring(text, 0, width);
-    rest = PyUnicode_Substring(text, width, PY_SSIZE_T_MAX);
+    operator = PyUnicode_Substring(text, 0, (Py_ssize_t)width);
+    rest = PyUnicode_Substring(text, (Py_ssize_t)width, PY_SSIZE_T_MAX);
     version = rest ? stripped(rest) : NULL;
     if (operator && version)
         made = width < ARBITRARY && PyUnicode_ReadChar(version, 0) == '=' ? Py_NewRef(text) : PyUnicode_Concat(operator, version);
@@ -159,7 +173,7 @@ static int is_any_text(PyObject *print)
    is none. Both make the same bytes (tested by tests/test_rows.py). */
 static uint8_t compile_specifier(PyObject *print, pep440_string text, Compiled *compiled)
 {
-    size_t width = (size_t)operator_width(print), place = 0;
+    size_t width = operator_width(print, text), place = 0;
     pep440_string version = {text.bytes + width, text.length - width};
     int is_any = width == ARBITRARY ? is_any_text(print) : 0;
     uint8_t status;
@@ -195,20 +209,14 @@ static void raise_invalid_specifier(PyObject *given, PyObject *text)
         raise_invalid(InvalidSpecifier, INVALID_SPECIFIER, given, text, pep440_list_error);
 }
 
-static int specifier_init(Specifiers *self, PyObject *args, PyObject *named)
+/* Reads a string, which may be NULL in place of an empty one. */
+static int read_specifier(Specifiers *self, PyObject *given, PyObject *said)
 {
-    PyObject *given = NULL, *said = Py_None, *text, *print;
+    PyObject *text = given ? stripped(given) : PyUnicode_FromString(""), *print;
     pep440_string string;
     Compiled compiled;
     uint8_t status;
     int done = -1;
-    if (init_arguments(args, named, "spec", "|OO:Specifier", &given, &said) < 0)
-        return -1;
-    if (given && !PyUnicode_Check(given)) {
-        PyErr_Format(PyExc_TypeError, "expected a str, not %R", Py_TYPE(given));
-        return -1;
-    }
-    text = given ? stripped(given) : PyUnicode_FromString("");
     print = text ? joined(text) : NULL;
     if (print && view_str(print, &string) == 0) {
         status = compile_specifier(print, string, &compiled);
@@ -225,6 +233,18 @@ static int specifier_init(Specifiers *self, PyObject *args, PyObject *named)
     return done;
 }
 
+static int specifier_init(Specifiers *self, PyObject *args, PyObject *named)
+{
+    PyObject *given = NULL, *said = Py_None;
+    if (init_arguments(args, named, "spec", "|OO:Specifier", &given, &said) < 0)
+        return -1;
+    if (given && !PyUnicode_Check(given)) {
+        PyErr_Format(PyExc_TypeError, "expected a str, not %R", Py_TYPE(given));
+        return -1;
+    }
+    return read_specifier(self, given, said);
+}
+
 /* ---- what is asked of a specifier */
 
 static PyObject *specifier_str(Specifiers *self) { return is_compiled(self) ? Py_NewRef(self->text) : NULL; }
@@ -232,10 +252,11 @@ static PyObject *specifier_str(Specifiers *self) { return is_compiled(self) ? Py
 /* (operator, version), borrowed. */
 static PyObject *spec_of(Specifiers *self)
 {
+    pep440_string text;
     Py_ssize_t width;
-    if (self->members || !is_compiled(self))
+    if (self->members || !is_compiled(self) || view_str(self->text, &text) < 0)
         return self->members;
-    width = operator_width(self->text);
+    width = (Py_ssize_t)operator_width(self->text, text);
     return kept_in(&self->members, Py_BuildValue("NN", PyUnicode_Substring(self->text, 0, width),
                                                  PyUnicode_Substring(self->text, width, PY_SSIZE_T_MAX)));
 }
@@ -266,7 +287,7 @@ static PyObject *key_or_text(Specifiers *self, PyObject *text)
     PyObject *key;
     if (status != PEP440_OK)
         return status == PEP440_INVALID_VERSION ? Py_NewRef(text) : raise_by(status, NULL, NULL);
-    key = made_of(pep440_sort_key_compiled, compiled.bytes, compiled.length, PyBytes_FromStringAndSize);
+    key = made_of(pep440_sort_key, compiled.bytes, compiled.length, PyBytes_FromStringAndSize);
     drop_compiled(&compiled);
     return key;
 }
@@ -482,9 +503,15 @@ static uint8_t *assemble(PyObject *members, size_t *length)
 /* The specifier of a piece of a string, or of another one that is given, which is a member as it is. */
 static PyObject *member_of(PyObject *given)
 {
+    PyObject *made;
     if (PyObject_TypeCheck(given, HeldSpecifierType))
         return is_compiled((Specifiers *)given) ? Py_NewRef(given) : NULL;
-    return PyObject_CallFunctionObjArgs(member_class, given, NULL);
+    if (!PyUnicode_Check(given))
+        return PyObject_CallFunctionObjArgs(member_class, given, NULL);
+    made = PyType_GenericAlloc((PyTypeObject *)member_class, 0);
+    if (made && read_specifier((Specifiers *)made, given, Py_None) < 0)
+        Py_CLEAR(made);
+    return made;
 }
 
 /* Adds the member of each piece of a string, of which the empty ones are passed over. */
@@ -539,6 +566,44 @@ static int set_init(Specifiers *self, PyObject *args, PyObject *named)
     PyMem_Free(bytes);
     Py_XDECREF(members);
     return done;
+}
+
+/* The members of both, equal ones too. */
+static PyObject *joined_members(Specifiers *one, Specifiers *two)
+{
+    PyObject *left = PySequence_List(one->members), *right = PySequence_List(two->members), *both = NULL;
+    if (left && right)
+        both = PySequence_Concat(left, right);
+    Py_XDECREF(left);
+    Py_XDECREF(right);
+    return both;
+}
+
+/* The members of both sets, or of a set and a string, as a plain set: with what one of them says of pre-releases, which the other may not gainsay. */
+static PyObject *set_and(PyObject *left, PyObject *right)
+{
+    PyObject *other, *said, *given = NULL, *made = NULL;
+    Specifiers *one = (Specifiers *)left, *two;
+    int differ;
+    if (!PyObject_TypeCheck(left, HeldSetType) || !(PyUnicode_Check(right) || PyObject_TypeCheck(right, HeldSetType)))
+        Py_RETURN_NOTIMPLEMENTED;
+    other = PyUnicode_Check(right) ? PyObject_CallFunctionObjArgs(set_class, right, NULL) : Py_NewRef(right);
+    two = (Specifiers *)other;
+    if (!other || !is_compiled(one) || !is_compiled(two)) {
+        Py_XDECREF(other);
+        return NULL;
+    }
+    said = one->said == Py_None ? two->said : one->said;
+    differ = two->said == Py_None ? 0 : PyObject_RichCompareBool(said, two->said, Py_NE);
+    if (differ > 0)
+        PyErr_SetString(PyExc_ValueError, "Cannot combine SpecifierSets with True and False prerelease overrides.");
+    else if (differ == 0)
+        given = joined_members(one, two);
+    if (given)
+        made = PyObject_CallFunctionObjArgs(set_class, given, said, NULL);
+    Py_XDECREF(given);
+    Py_DECREF(other);
+    return made;
 }
 
 static int assign_members(Specifiers *self, PyObject *value, void *unused)
@@ -629,28 +694,32 @@ static PyObject *get_is_by_python(Specifiers *self, void *unused)
     return changed < 0 ? NULL : PyBool_FromLong(changed);
 }
 
+/* Whether the version of a string, or of what has one, is contained: it is compiled first, since of two compiled forms the library answers in place. */
+static uint8_t contains_text(const Specifiers *self, PyObject *item, uint8_t *contained, uint8_t *early)
+{
+    PyObject *text = text_of(item);
+    pep440_string string;
+    Compiled compiled;
+    uint8_t status = PEP440_OUT_OF_MEMORY;
+    if (text && view_str(text, &string) == 0)
+        status = compile(pep440_compile, string, 0, &compiled);
+    if (status == PEP440_OK) {
+        status = pep440_contains(self->compiled, self->length, compiled.bytes, compiled.length, contained, early);
+        drop_compiled(&compiled);
+    }
+    Py_XDECREF(text);
+    return status;
+}
+
 /* 1, 0, or -1 with an error. */
 static int contains(Specifiers *self, PyObject *item, PyObject *prereleases)
 {
     const Held *version = (Held *)item;
-    PyObject *text;
-    pep440_string string;
-    Compiled compiled;
     uint8_t contained, early, status = PEP440_OUT_OF_MEMORY;
-    if (PyObject_TypeCheck(item, HeldType)) {
-        if (!is_initialised(version))
-            return -1;
-        status = pep440_contains_compiled(self->compiled, self->length, version->compiled, version->length, &contained, &early);
-    } else {
-        text = text_of(item);
-        if (text && view_str(text, &string) == 0)
-            status = compile(pep440_compile, string, 0, &compiled);
-        if (status == PEP440_OK) {
-            status = pep440_contains_compiled(self->compiled, self->length, compiled.bytes, compiled.length, &contained, &early);
-            drop_compiled(&compiled);
-        }
-        Py_XDECREF(text);
-    }
+    if (!PyObject_TypeCheck(item, HeldType))
+        status = contains_text(self, item, &contained, &early);
+    else if (is_initialised(version))
+        status = pep440_contains(self->compiled, self->length, version->compiled, version->length, &contained, &early);
     if (status != PEP440_OK) {
         raise_by(status, item, NULL);
         return -1;

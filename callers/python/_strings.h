@@ -17,9 +17,14 @@ typedef struct {
     char has_own_key;  /* a key was set */
 } Held;
 
+/* The forms (docs/PROMISES.md, "Compiled versions"): a version is a byte, its sort key, and a byte 1 for each zero that ends its release; a list is a
+   byte, and for each member its operator, and key and zeros of its version. */
+enum { VERSION = 4, LIST = 5, LIST_HEAD = 1, OPERATOR = 16, MEMBER_HEAD = 2 };
+
 /* ---- texts in, answers out */
 
-/* What stands for a str with a lone surrogate, which has no UTF-8: no version and no list has this character. */
+/* What stands for a str with a lone surrogate, which has no UTF-8, or with one of the bytes in front that compiled forms begin with, which the library
+   would take for one: no version and no list has this character. */
 static const uint8_t NO_TEXT[] = "\xEF\xBF\xBD";
 
 static PyObject *str_of(PyObject *given)
@@ -44,6 +49,8 @@ static int view_str(PyObject *given, pep440_string *text)
         if (!PyErr_ExceptionMatches(PyExc_UnicodeEncodeError))
             return -1;
         PyErr_Clear();
+    }
+    if (!bytes || *bytes == VERSION || *bytes == LIST) {
         bytes = (const char *)NO_TEXT;
         length = sizeof NO_TEXT - 1;
     }
@@ -136,7 +143,7 @@ static PyObject *raise_invalid(PyObject *error, const char *form, PyObject *quot
     PyObject *reason;
     if (view(given, &text) < 0)
         return NULL;
-    reason = text.bytes == NO_TEXT ? PyUnicode_FromString("it has a lone surrogate")
+    reason = text.bytes == NO_TEXT ? PyUnicode_FromString("it has a character that none has")
                                    : written_by(why, text, lines_of, &status);
     if (reason)
         PyErr_Format(error, form, str_of(quoted), reason);
@@ -163,10 +170,6 @@ static PyObject *raise_by(uint8_t status, PyObject *version, PyObject *list)
 }
 
 /* ---- compiled forms */
-
-/* The forms (docs/PROMISES.md, "Compiled versions"): a version is a byte, its sort key, and a byte 1 for each zero that ends its release; a list is a
-   byte, and for each member its operator, and key and zeros of its version. */
-enum { LIST = 5, LIST_HEAD = 1, OPERATOR = 16, MEMBER_HEAD = 2 };
 
 static const uint8_t EMPTY_LIST[LIST_HEAD] = {LIST};
 
@@ -212,16 +215,15 @@ static void drop_compiled(Compiled *compiled)
         free(compiled->bytes);
 }
 
-/* Compiles a string in one call, and leaves room in front: by the header a version or a specifier takes at most 10 bytes and 3 for each byte of
-   its string. To be dropped where the status is PEP440_OK. */
+/* Compiles a string in one call, and leaves room in front. To be dropped where the status is PEP440_OK. */
 static uint8_t compile(Writer call, pep440_string text, size_t front, Compiled *compiled)
 {
-    size_t room = sizeof compiled->few, most = (SIZE_MAX - 10 - MEMBER_HEAD) / 3;
+    size_t room = sizeof compiled->few;
     uint8_t status;
     compiled->bytes = compiled->few;
-    if (text.length > (room - 10 - MEMBER_HEAD) / 3) {
-        room = 10 + MEMBER_HEAD + 3 * text.length;
-        compiled->bytes = text.length <= most ? malloc(room) : NULL;
+    if (text.length > (room - PEP440_COMPILED_BOUND(0) - MEMBER_HEAD) / 3) {
+        room = MEMBER_HEAD + PEP440_COMPILED_BOUND(text.length);
+        compiled->bytes = text.length <= SIZE_MAX / 4 ? malloc(room) : NULL;
         if (!compiled->bytes)
             return PEP440_OUT_OF_MEMORY;
     }

@@ -75,7 +75,7 @@ static PyObject *key_of(Held *self)
 {
     if (self->key || !is_initialised(self))
         return self->key;
-    return kept_in(&self->key, made_of(pep440_sort_key_compiled, self->compiled, self->length, PyBytes_FromStringAndSize));
+    return kept_in(&self->key, made_of(pep440_sort_key, self->compiled, self->length, PyBytes_FromStringAndSize));
 }
 
 /* Compares what both have of this name. */
@@ -135,7 +135,10 @@ static PyObject *prints_of(PyObject *normal)
 
 static PyObject *read_prints(Held *self)
 {
-    PyObject *normal = made_of(pep440_normalize_compiled, self->compiled, self->length, PyUnicode_FromStringAndSize), *prints = NULL;
+    pep440_string text;
+    PyObject *normal = NULL, *prints = NULL;
+    if (view_str(self->text, &text) == 0) /* of the string it takes a third of what it takes of the compiled form */
+        normal = made_of(pep440_normalize, text.bytes, text.length, PyUnicode_FromStringAndSize);
     if (normal) /* the string that was given, where it is the same */
         prints = prints_of(PyUnicode_Compare(normal, self->text) == 0 ? self->text : normal);
     Py_XDECREF(normal);
@@ -180,13 +183,16 @@ static PyObject *tuple_of(const pep440_parts *parts, const uint64_t *release)
 
 static PyObject *read_parts(Held *self)
 {
+    pep440_string text;
     pep440_parts parts;
     uint64_t few[16], *more = NULL;
-    uint8_t status = pep440_parts_of_compiled(self->compiled, self->length, &parts, few, 16);
+    uint8_t status = PEP440_OUT_OF_MEMORY;
     PyObject *made = NULL;
+    if (view_str(self->text, &text) == 0)
+        status = pep440_parts_of(text.bytes, text.length, &parts, few, 16);
     if (status == PEP440_NO_ROOM) {
         more = PyMem_Calloc(parts.release_length, sizeof *more);
-        status = more ? pep440_parts_of_compiled(self->compiled, self->length, &parts, more, parts.release_length) : PEP440_OUT_OF_MEMORY;
+        status = more ? pep440_parts_of(text.bytes, text.length, &parts, more, parts.release_length) : PEP440_OUT_OF_MEMORY;
     }
     if (status == PEP440_OK)
         made = tuple_of(&parts, more ? more : few);
@@ -231,7 +237,7 @@ static PyObject *get_number(Held *self, void *place)
 static PyObject *get_key(Held *self, void *unused)
 {
     if (self->has_own_key)
-        return made_of(pep440_sort_key_compiled, self->compiled, self->length, PyBytes_FromStringAndSize);
+        return made_of(pep440_sort_key, self->compiled, self->length, PyBytes_FromStringAndSize);
     return Py_XNewRef(key_of(self));
 }
 

@@ -1,13 +1,14 @@
 """Builds the wheel and the source archive with `cc` and the standard library alone (the hooks of PEP 517 and PEP 660).
 
-The wheel has the static library in it, the first of these that is there:
+The wheel has the static library in it, and brings both programs as commands; of each the first of these that is there:
 
     PEP440_ARCHIVES, in the environment: static libraries with a colon between them;
-    in a clone of the repository, what `rt lib` in crates/pep440_c leaves, and the toolchain's part over the C library, found by `rt`;
-    libpep440.a of the release's library archive, where pkg-config finds `pep440`.
+    PEP440_PROGRAMS: pep440 and pyver, with a colon between them, or nothing for a wheel without programs;
+    in a clone of the repository, what the toolchain left in crates/NAME/out; where nothing is, the toolchain proves and builds it;
+    the library of the release's library archive, where pkg-config finds `pep440`.
 
-CC and CFLAGS in the environment are the C compiler (cc) and what else it is to be passed. The source archive has pep440.h beside _core.c, and
-the licence; it wants a library archive of a release, and no toolchain. The rest lies as in the repository.
+CC and CFLAGS in the environment are the C compiler (cc) and what else it is to be passed. The source archive has the sources of the package alone,
+each where it lies in the repository: it wants archives of a release, and no toolchain.
 """
 import base64
 import gzip
@@ -19,6 +20,7 @@ import re
 import shlex
 import shutil
 import subprocess
+import sys
 import sysconfig
 import tarfile
 import tempfile
@@ -29,17 +31,22 @@ PACKAGE = "pep440_rattle"
 EXTENSION = "_core.abi3.so"
 # The lowest Python whose stable interface has what _core.c calls.
 PYTHON_TAG = "cp310"
+# What is part of every glibc.
+OF_GLIBC = {"libc.so.6", "libm.so.6", "ld-linux-x86-64.so.2"}
 
-
-# In a clone the header and the licence lie elsewhere than in the source archive.
-CLONE = HERE.parent.parent if (HERE.parent / "c" / "pep440.h").is_file() else None
-HEADER = HERE.parent / "c" / "pep440.h" if CLONE else HERE / "pep440.h"
-LICENCES = {name: (CLONE or HERE) / name for name in ("LICENSE", "NOTICE")}
+TOP = HERE.parent.parent
+CRATES = TOP / "crates"
+HEADER = TOP / "callers" / "c" / "pep440.h"
+LICENCES = {name: TOP / name for name in ("LICENSE", "NOTICE")}
+# What has the toolchain prove and build each of them, where it lies then, and what the first time takes.
+LIBRARY = ("pep440_c", "libpep440_c.a", ["lib"])
+PROGRAMS = {"pep440": ["run", "--", "show", "0"], "pyver": ["run", "--", "--version"]}
+FIRST_TIME = "all of it the first time about an hour of processor"
 
 
 def project():
     """The strings under [project] of pyproject.toml, and the lists of strings, one a line."""
-    table = (HERE / "pyproject.toml").read_text(encoding="utf-8").partition("[project]\n")[2]
+    table = (TOP / "pyproject.toml").read_text(encoding="utf-8").partition("[project]\n")[2]
     lists = {name: re.findall('"(.*)"', lines) for name, lines in re.findall(r"^([a-z-]+) = \[\n(.*?)^\]$", table, re.M | re.S)}
     return dict(re.findall(r'^([a-z-]+) = "(.*)"$', table, re.M)) | lists
 
@@ -48,31 +55,62 @@ def stop(missing):
     raise SystemExit(f"{PACKAGE}: {missing}")
 
 
+def named(variable):
+    """The files that a variable of the environment names, with a colon between them."""
+    files = [pathlib.Path(each).resolve() for each in os.environ[variable].split(":")]
+    for each in files:
+        if not each.is_file():
+            stop(f"{each} is not there, which {variable} names")
+    return files
+
+
+def proved(crate, name, words):
+    """What the toolchain left of a crate of this clone, or else builds now."""
+    made = CRATES / crate / "out" / name
+    if not made.is_file() and shutil.which("rt"):
+        print(f"{PACKAGE}: proving and building {crate} ({FIRST_TIME})", file=sys.stderr, flush=True)
+        if subprocess.run(["rt", *words], cwd=CRATES / crate, stdin=subprocess.DEVNULL, stdout=sys.stderr, check=False).returncode:
+            stop(f"{crate} was not built: `rt {words[0]}` in crates/{crate} failed")
+    return made if made.is_file() else None
+
+
 def installed():
-    """The static library that pkg-config knows of, if it does."""
+    """The static library that pkg-config knows of, or None."""
     tool = shutil.which("pkg-config")
     told = tool and subprocess.run([tool, "--variable=libdir", "pep440"], capture_output=True, text=True, check=False)
-    return [pathlib.Path(told.stdout.strip()) / "libpep440.a"] if told and told.returncode == 0 else []
+    library = told and told.returncode == 0 and pathlib.Path(told.stdout.strip()) / "libpep440.a"
+    return library if library and library.is_file() else None
+
+
+def missing(what, variable, value):
+    with_rt = "the toolchain `rt` is not there to build it; " if CRATES.is_dir() else ""
+    return stop(f"no {what}: {with_rt}let {variable} name {value}")
 
 
 def archives():
-    """The static libraries, or an error that says how they are made."""
+    """The static libraries, or an error that says where they come from."""
     if os.environ.get("PEP440_ARCHIVES"):
-        choices = [[pathlib.Path(each).resolve() for each in os.environ["PEP440_ARCHIVES"].split(":")]]
+        return named("PEP440_ARCHIVES")
+    rt = shutil.which("rt")
+    if rt and CRATES.is_dir():
+        return [proved(*LIBRARY), pathlib.Path(rt).resolve().parent.parent / "c" / "liblibc_c.a"]
+    return [installed() or missing("library", "PEP440_ARCHIVES", "lib/libpep440.a of the release's library archive")]
+
+
+def programs():
+    """The programs by their names in a wheel, or an error that says where they come from."""
+    if os.environ.get("PEP440_PROGRAMS") == "":
+        return {}
+    if "PEP440_PROGRAMS" in os.environ:
+        files = named("PEP440_PROGRAMS")
     else:
-        rt = shutil.which("rt")
-        kit = pathlib.Path(os.path.realpath(rt)).parent.parent if rt else pathlib.Path("KIT")
-        proved = CLONE and [CLONE / "crates" / "pep440_c" / "out" / "libpep440_c.a", kit / "c" / "liblibc_c.a"]
-        choices = [each for each in (proved, installed()) if each]
-    for found in choices:
-        if all(each.is_file() for each in found):
-            return found
-    missing = " ".join(str(each) for found in choices for each in found if not each.is_file())
-    made = "run `rt lib` in crates/pep440_c (24 minutes of processor), or " if CLONE else ""
-    return stop(f"no library: {missing or 'libpep440.a'} is not there; {made}let PEP440_ARCHIVES name lib/libpep440.a of the release's library archive")
+        files = [CRATES.is_dir() and proved(name, name, words) for name, words in PROGRAMS.items()]
+    if not all(files):
+        missing("programs", "PEP440_PROGRAMS", "pep440 and pyver of the release's programs archive, with a colon between them, or nothing for none")
+    return {f"{release()}.data/scripts/{name}": path for name, path in zip(PROGRAMS, files)}
 
 
-def compile_extension(out):
+def compile_extension(out, libraries):
     """Compiles and links _core.c with what it includes; of what the libraries define, nothing is left to see from outside."""
     include = [sysconfig.get_path("include"), sysconfig.get_path("platinclude"), str(HEADER.parent)]
     compiler = shlex.split(os.environ.get("CC", "cc"))
@@ -86,23 +124,23 @@ def compile_extension(out):
         *shlex.split(os.environ.get("CFLAGS", "")),
         *(f"-I{each}" for each in dict.fromkeys(include)),
         *("-o", str(out), str(HERE / "_core.c")),
-        *map(str, archives()),
+        *map(str, libraries),
     ]
     if subprocess.run(command, check=False).returncode:
         stop(f"not compiled: {shlex.join(command)}")
 
 
-def platform_of(extension):
-    """The platforms of the wheel's tag, with points between them: by the newest glibc that the extension asks for (PEP 600), where that can be read and
-    it needs no more; where glibc 2.17 has that, by both of its names too, since pip asks by these."""
+def platform_of(files):
+    """The platforms of the wheel's tag, with points between them: by the newest glibc that one of the files asks for (PEP 600), where that can be read and
+    they need no more; where glibc 2.17 has that, by both of its names too, since pip asks by these."""
     machine = re.sub(r"[-.]", "_", sysconfig.get_platform())
     readelf = shutil.which("readelf")
     if not machine.startswith("linux_") or not readelf:
         return machine
-    told = subprocess.run([readelf, "--wide", "--dynamic", "--version-info", str(extension)], capture_output=True, text=True, check=True).stdout
-    needed = re.findall(r"\(NEEDED\).*\[(.*)\]", told)
+    words = [readelf, "--wide", "--dynamic", "--version-info", *map(str, files)]
+    told = subprocess.run(words, capture_output=True, text=True, check=True).stdout
     asked = [tuple(map(int, it)) for it in re.findall(r"Name: GLIBC_([0-9]+)\.([0-9]+)", told)]
-    if needed != ["libc.so.6"] or not asked:
+    if set(re.findall(r"\(NEEDED\).*\[(.*)\]", told)) - OF_GLIBC or not asked:
         return machine
     # no index takes a lower one than 2.5
     newest = max(*asked, (2, 5))
@@ -125,7 +163,7 @@ def metadata(tag):
         f"Requires-Python: {told['requires-python']}",
         "Description-Content-Type: text/markdown",
     ]
-    readme = (HERE / told["readme"]).read_text(encoding="utf-8")
+    readme = (TOP / told["readme"]).read_text(encoding="utf-8")
     start, _, platforms = tag.rpartition("-")
     tags = [f"Tag: {start}-{each}" for each in platforms.split(".")]
     wheel = ["Wheel-Version: 1.0", "Generator: build_backend", "Root-Is-Purelib: false", *tags]
@@ -141,23 +179,25 @@ def record_line(name, data):
     return f"{name},sha256={digest},{len(data)}"
 
 
+def built(files, extension):
+    """Compiles the extension. The files of a wheel, these and the programs among them, by their names in it, and the platform of its tag."""
+    libraries, brought = archives(), programs()
+    compile_extension(extension, libraries)
+    return files | {name: path.read_bytes() for name, path in brought.items()}, platform_of([extension, *brought.values()])
+
+
 def package():
-    """The files of the package by their names in a wheel, and the platform of its tag."""
-    files = {}
-    for path in sorted((HERE / "src" / PACKAGE).iterdir()):
-        if path.suffix in (".py", ".pyi", ".typed"):
-            files[f"{PACKAGE}/{path.name}"] = path.read_bytes()
+    """The files of a wheel, and the platform of its tag."""
+    paths = [path for path in sorted((HERE / "src" / PACKAGE).iterdir()) if path.suffix in (".py", ".pyi", ".typed")]
     with tempfile.TemporaryDirectory() as work:
         extension = pathlib.Path(work) / EXTENSION
-        compile_extension(extension)
-        return files | {f"{PACKAGE}/{EXTENSION}": extension.read_bytes()}, platform_of(extension)
+        files, platform = built({f"{PACKAGE}/{path.name}": path.read_bytes() for path in paths}, extension)
+        return files | {f"{PACKAGE}/{EXTENSION}": extension.read_bytes()}, platform
 
 
 def links():
-    """The file that leads to the sources, beside which the extension is made, and the platform of an editable wheel's tag."""
-    extension = HERE / "src" / PACKAGE / EXTENSION
-    compile_extension(extension)
-    return {f"{PACKAGE}.pth": f"{HERE / 'src'}\n".encode()}, platform_of(extension)
+    """The same of an editable wheel: a file that leads to the sources, beside which the extension is made."""
+    return built({f"{PACKAGE}.pth": f"{HERE / 'src'}\n".encode()}, HERE / "src" / PACKAGE / EXTENSION)
 
 
 def contents(files, platform):
@@ -178,9 +218,17 @@ def write_wheel(wheel_directory, tag, files):
             # no time of day, so that the same sources make the same wheel
             entry = zipfile.ZipInfo(each, (1980, 1, 1, 0, 0, 0))
             entry.compress_type = zipfile.ZIP_DEFLATED
-            entry.external_attr = (0o755 if each.endswith(".so") else 0o644) << 16
+            entry.external_attr = (0o100755 if each.endswith(".so") or "/scripts/" in each else 0o100644) << 16
             wheel.writestr(entry, data)
     return name
+
+
+def prepare_metadata_for_build_wheel(metadata_directory, config_settings=None):
+    """Without it, pip would build the wheel twice."""
+    info = pathlib.Path(metadata_directory) / f"{release()}.dist-info"
+    info.mkdir()
+    (info / "METADATA").write_text(metadata("")["METADATA"], encoding="utf-8")
+    return info.name
 
 
 def build_wheel(wheel_directory, config_settings=None, metadata_directory=None):
@@ -193,14 +241,11 @@ def build_editable(wheel_directory, config_settings=None, metadata_directory=Non
 
 def sources():
     """The files of the source archive, by their names in it."""
-    names = ["README.md", "build_backend.py", "pyproject.toml", *sorted(path.name for path in HERE.glob("_*.[ch]"))]
-    folders = [HERE / "src" / PACKAGE, HERE / "tests"]
-    paths = [path for folder in folders for path in sorted(folder.iterdir()) if path.suffix in (".py", ".pyi", ".typed", ".c")]
-    files = {name: (HERE / name).read_bytes() for name in names} | {str(path.relative_to(HERE)): path.read_bytes() for path in paths}
-    files |= {name: path.read_bytes() for name, path in LICENCES.items()}
-    files["pep440.h"] = HEADER.read_bytes()
-    files["PKG-INFO"] = metadata("")["METADATA"].encode()
-    return files
+    folders = [HERE, HERE / "src" / PACKAGE, HERE / "tests"]
+    kinds = (".py", ".pyi", ".typed", ".c", ".h", ".md")
+    paths = [path for folder in folders for path in sorted(folder.iterdir()) if path.suffix in kinds]
+    paths += [TOP / "pyproject.toml", HEADER, *LICENCES.values()]
+    return {str(path.relative_to(TOP)): path.read_bytes() for path in paths} | {"PKG-INFO": metadata("")["METADATA"].encode()}
 
 
 def build_sdist(sdist_directory, config_settings=None):

@@ -1,5 +1,5 @@
 """What the build makes, what it says where something is missing, and on which processors the package runs."""
-import importlib
+import importlib.util
 import os
 import pathlib
 import shutil
@@ -14,11 +14,14 @@ import peer
 import pep440_rattle
 
 HERE = pathlib.Path(__file__).resolve().parent.parent
-BUILD = "import sys, sysconfig; sys.path.insert(0, sys.argv[1]); import build_backend as it; "
+BUILD = "import os, pathlib, sys, sysconfig; sys.path.insert(0, sys.argv[1]); import build_backend as it; "
+
+# As in a source archive, on a machine where nothing is installed.
+WITHOUT_TOOLCHAIN = "it.CRATES = pathlib.Path('/nowhere'); it.shutil.which = lambda name: '' if name in ('rt', 'pkg-config') else name"
 
 
 def run(program, *words, **environment):
-    environment = dict(os.environ, PYTHONDONTWRITEBYTECODE="1", **environment)
+    environment = dict(os.environ, PYTHONDONTWRITEBYTECODE="1", PEP440_PROGRAMS="") | environment
     return subprocess.run([sys.executable, "-c", program, *map(str, words)], capture_output=True, text=True, check=False, env=environment)
 
 
@@ -33,11 +36,19 @@ class Missing(unittest.TestCase):
         self.assertIn("pep440_rattle: no C compiler: there is no nowhere; install one", self.said(CC="nowhere -m64"))
 
     def test_headers(self):
-        said = self.said("sysconfig.get_path = lambda name: '/nowhere'", PEP440_ARCHIVES="/nowhere/libpep440.a")
+        said = self.said("sysconfig.get_path = lambda name: '/nowhere'", PEP440_ARCHIVES=sys.executable)
         self.assertIn("pep440_rattle: no headers of Python: /nowhere/Python.h is not there; install them", said)
 
     def test_library(self):
-        self.assertIn("pep440_rattle: no library: /nowhere/libpep440.a is not there; ", self.said(PEP440_ARCHIVES="/nowhere/libpep440.a"))
+        self.assertIn("pep440_rattle: /nowhere/libpep440.a is not there, which PEP440_ARCHIVES names", self.said(PEP440_ARCHIVES="/nowhere/libpep440.a"))
+        self.assertIn("no library: let PEP440_ARCHIVES name lib/libpep440.a of the release's", self.said(WITHOUT_TOOLCHAIN, PEP440_ARCHIVES=""))
+
+    def test_programs(self):
+        program = f"{WITHOUT_TOOLCHAIN}; del os.environ['PEP440_PROGRAMS']"
+        said = self.said(program, PEP440_ARCHIVES=sys.executable)
+        self.assertIn("no programs: let PEP440_PROGRAMS name pep440 and pyver of the release's programs archive", said)
+        said = self.said(PEP440_ARCHIVES=sys.executable, PEP440_PROGRAMS="/nowhere/pep440:/nowhere/pyver")
+        self.assertIn("pep440_rattle: /nowhere/pep440 is not there, which PEP440_PROGRAMS names", said)
 
 
 class Made(unittest.TestCase):
@@ -51,12 +62,12 @@ class Made(unittest.TestCase):
         with tarfile.open(self.work / ran.stdout.strip()) as it:
             it.extraction_filter = getattr(tarfile, "data_filter", None)
             it.extractall(self.work)
-        (self.sources,) = (each for each in self.work.iterdir() if each.is_dir())
+        (self.sources,) = (each / "callers/python" for each in self.work.iterdir() if each.is_dir())
 
-    def built(self, hook):
+    def built(self, hook, **environment):
         """The name of the wheel that is made of the source archive, and its files."""
         libraries = run(f"{BUILD}print(*it.archives(), sep=':')", HERE).stdout.strip()
-        ran = run(f"{BUILD}print(it.{hook}(sys.argv[2]))", self.sources, self.work, PEP440_ARCHIVES=libraries)
+        ran = run(f"{BUILD}print(it.{hook}(sys.argv[2]))", self.sources, self.work, PEP440_ARCHIVES=libraries, **environment)
         self.assertEqual((ran.returncode, ran.stderr), (0, ""))
         with zipfile.ZipFile(self.work / ran.stdout.strip()) as it:
             return ran.stdout.strip(), {name.partition(".dist-info/")[2] or name: it.read(name).decode(errors="replace") for name in it.namelist()}
@@ -77,9 +88,20 @@ class Made(unittest.TestCase):
         except ImportError:
             self.skipTest("this packaging has no metadata to check with")
         read, unread = metadata.parse_email(files["METADATA"])
-        self.assertEqual((unread, read["name"]), ({}, "pep440-rattle"))
-        if "license_expression" in read:
+        self.assertEqual(read["name"], "pep440-rattle")
+        self.assertLessEqual({*unread}, {"license-expression", "license-file"}, "which releases before 24.2 do not know")
+        if not unread:
             metadata.Metadata.from_raw(read)
+
+    @unittest.skipUnless(importlib.util.find_spec("pip") and shutil.which("echo"), "no pip, or no programs to stand in")
+    def test_commands(self):
+        name, _ = self.built("build_wheel", PEP440_PROGRAMS=f"{shutil.which('true')}:{shutil.which('echo')}")
+        words = ["-m", "pip", "install", "-q", "--no-index", "--no-deps", "--root-user-action=ignore", "--target", self.work / "target", self.work / name]
+        subprocess.run([sys.executable, *words], check=True)
+        self.assertEqual({it.name for it in (self.work / "target/bin").iterdir()}, {"pep440", "pyver"})
+        environment = dict(os.environ, PYTHONPATH=str(self.work / "target"))
+        ran = subprocess.run([sys.executable, "-m", "pep440_rattle", "sort", "--help"], capture_output=True, text=True, check=False, env=environment)
+        self.assertEqual((ran.returncode, ran.stdout), (0, "sort --help\n"), ran.stderr)
 
     def test_editable(self):
         _, files = self.built("build_editable")

@@ -7,9 +7,12 @@ import pickle
 import random
 import resource
 import shutil
+import signal
 import subprocess
 import sys
 import tempfile
+import threading
+import time
 import unittest
 import weakref
 
@@ -157,6 +160,28 @@ class Threads(unittest.TestCase):
         with concurrent.futures.ThreadPoolExecutor(8) as pool:
             self.assertTrue(all(pool.map(turn, range(32))))
 
+    def test_the_lock_is_released(self):
+        texts, turns, is_over = [f"1.{at % 999}.{at % 77}" for at in range(300_000)], [], threading.Event()
+
+        def count():
+            while not is_over.is_set():
+                turns.append(None)
+                time.sleep(0)
+
+        counter = threading.Thread(target=count)
+        interval = sys.getswitchinterval()
+        # so that the other thread runs only where the lock is released
+        sys.setswitchinterval(100)
+        try:
+            counter.start()
+            before = len(turns)
+            sort_texts(texts)
+            self.assertGreater(len(turns), before)
+        finally:
+            sys.setswitchinterval(interval)
+            is_over.set()
+            counter.join()
+
     def test_one_version_in_many_threads(self):
         def turn(_):
             version = Version("1!2.0rc1.post2.dev3+ubuntu.1")
@@ -167,6 +192,26 @@ class Threads(unittest.TestCase):
             self.assertEqual(turn(None), {((2, 0), ("rc", 1), "ubuntu.1", "1!2.0rc1.post2.dev3+ubuntu.1")})
 
     @unittest.skipUnless(hasattr(os, "fork"), "no fork here")
+    def test_interrupted(self):
+        """A signal ends each batch within 0.2 seconds of the processor."""
+
+        class Interrupted(Exception):
+            pass
+
+        def interrupt(number, frame):
+            raise Interrupted
+
+        texts = [f"1.{at % 999}.{at % 77}{'.dev4' if at % 5 else '+local'}" for at in range(1_000_000)]
+        before = signal.signal(signal.SIGPROF, interrupt)
+        self.addCleanup(signal.signal, signal.SIGPROF, before)
+        for call in (sort_texts, sort_keys, lambda it: filter_texts(">=1.5", it)):
+            for wait in (0.01, 0.04):
+                start = time.process_time()
+                signal.setitimer(signal.ITIMER_PROF, wait)
+                with self.assertRaises(Interrupted):
+                    call(texts)
+                self.assertLess(time.process_time() - start - wait, 0.2)
+
     def test_fork(self):
         held, several = Version("1.5rc1"), SpecifierSet(LIST)
         wanted = sort_texts(TEXTS)

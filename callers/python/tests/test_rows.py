@@ -38,7 +38,7 @@ CONTAINS = [
 
 
 def load_tests(loader, tests, pattern):
-    for name in ("version", "specifiers", "texts"):
+    for name in ("version", "specifiers", "texts", "requirements", "markers", "utils", "tags", "_parser"):
         module = importlib.import_module(f"pep440_rattle.{name}")
         tests.addTests(doctest.DocTestSuite(module, extraglobs={"Version": Version, "SpecifierSet": SpecifierSet, "Specifier": Specifier}))
     return tests
@@ -86,6 +86,17 @@ class Versions(unittest.TestCase):
         self.assertEqual(first, "Invalid version: ")
         self.assertIn("1.0pre", reason)
         self.assertIsInstance(caught.exception, ValueError)
+
+    def test_compiled_bytes_are_no_strings(self):
+        """The library takes compiled forms in place of strings; a str with their bytes is neither a version nor a list."""
+        version = (b"\4" + Version("1.0").sort_key + b"\1").decode()
+        several = _core.compile_list(">=1.0").decode()
+        calls = [lambda: Version(version), lambda: "1.0" in SpecifierSet(several), lambda: version in SpecifierSet(">=1.0"), lambda: Specifier(several)]
+        calls += [lambda: sort_texts([version]), lambda: sort_keys([version]), lambda: filter_texts(">=1.0", [version])]
+        for call in calls:
+            with self.assertRaises((InvalidVersion, InvalidSpecifier)):
+                call()
+        self.assertEqual(filter_texts(">=1.0", [version, "1.0"], skip_invalid=True), ["1.0"])
 
     def test_subclass(self):
         class Written(Version):

@@ -11,7 +11,8 @@ import weakref
 import pep440_rattle
 from pep440_rattle import InvalidSpecifier, InvalidVersion, Specifier, SpecifierSet, Version
 from pep440_rattle.specifiers import BaseSpecifier
-from pep440_rattle.version import _cmpkey, _parse_letter_version, _TrimmedRelease
+from pep440_rattle.utils import canonicalize_version
+from pep440_rattle.version import _cmpkey, _parse_letter_version
 
 
 class AsWritten(Version):
@@ -136,7 +137,7 @@ class Versions(unittest.TestCase):
         self.assertEqual(version, Version("1!2.3.4rc1+u"))
         self.assertEqual((version.minor, version.micro, version.is_prerelease), (3, 0, True))
         for text, wanted in {"1.0.0": "1", "0.0": "0", "1!1.0.10.0.post1.dev2": "1!1.0.10.post1.dev2"}.items():
-            self.assertEqual(str(_TrimmedRelease(text)), wanted)
+            self.assertEqual(canonicalize_version(text), wanted)
 
     def test_init_again(self):
         version = Version("1.0")

@@ -300,6 +300,12 @@ class SpecifierSet(_core.HeldSet, BaseSpecifier):
 
     >>> SpecifierSet(">=2.1,<3") == "<3.0,>=2.1.0"
     True
+
+    Of two sets `&` makes one that has the members of both. It raises `ValueError` where one allows pre-releases expressly and the other one
+    forbids them.
+
+    >>> str(SpecifierSet(">2.1") & "<3,!=2.2.*")
+    '!=2.2.*,<3,>2.1'
     """
 
     # Whether this is a class with properties of its own, for which `_contains` answers.
@@ -330,23 +336,6 @@ class SpecifierSet(_core.HeldSet, BaseSpecifier):
         """
         return ",".join(sorted(map(str, self._specs)))
 
-    def __and__(self, other: SpecifierSet | str) -> SpecifierSet:
-        """The members of both.
-
-        >>> str(SpecifierSet(">2.1") & "<3,!=2.2.*")
-        '!=2.2.*,<3,>2.1'
-
-        Raises `ValueError` where one allows pre-releases expressly and the other one forbids them.
-        """
-        if isinstance(other, str):
-            other = SpecifierSet(other)
-        elif not isinstance(other, SpecifierSet):
-            return NotImplemented
-        said = {each._prereleases for each in (self, other)} - {None}
-        if len(said) > 1:
-            raise ValueError("Cannot combine SpecifierSets with True and False prerelease overrides.")
-        return SpecifierSet(self._specs | other._specs, said.pop() if said else None)
-
     def _contains(self, item: UnparsedVersion, prereleases: bool | None, installed: bool | None) -> bool:
         """Whether the version is contained, by each member; and the base version of an installed one."""
         version = _version_of(item)
@@ -374,3 +363,6 @@ class SpecifierSet(_core.HeldSet, BaseSpecifier):
         for each in self._specs:
             iterable = each.filter(iterable, bool(allowed))
         return iter(iterable)
+
+
+_core.make_sets_of(SpecifierSet)

@@ -1,4 +1,4 @@
-"""Runs a program with these modules in place of `packaging.version` and `packaging.specifiers`.
+"""Runs a program with these modules in place of those of `packaging`: `version`, `specifiers`, `requirements`, `markers` and `utils`.
 
     python -m pep440_rattle.swap PROGRAM WORD..        a script by its path, or one of those that the interpreter's environment has
     python -m pep440_rattle.swap -m MODULE WORD..      a module
@@ -11,6 +11,7 @@ from __future__ import annotations
 
 import importlib.abc
 import importlib.machinery
+import importlib.util
 import os
 import re
 import runpy
@@ -26,8 +27,10 @@ __all__ = ["swap"]
 
 _OURS = {"version": version, "specifiers": specifiers}
 # The classes that `packaging` has, too: pickles know them by their modules' names.
-_CLASSES = ("Version", "InvalidVersion", "_Version", "_TrimmedRelease", "BaseSpecifier", "Specifier", "SpecifierSet", "InvalidSpecifier")
-_REPLACED = re.compile(r"(?:.*\.(?:_vendor|extern)\.)?packaging\.(version|specifiers)")
+_CLASSES = ("Version", "InvalidVersion", "_Version", "BaseSpecifier", "Specifier", "SpecifierSet", "InvalidSpecifier")
+# Modules that each copy has of its own, executed under its name, since they use others of the copy, as its `tags`.
+_COPIED = ("requirements", "markers", "utils", "_parser")
+_REPLACED = re.compile(rf"(?:.*\.(?:_vendor|extern)\.)?packaging\.({'|'.join([*_OURS, *_COPIED])})")
 
 
 def _is_old(package: str) -> bool:
@@ -41,7 +44,12 @@ class _Finder(importlib.abc.MetaPathFinder, importlib.abc.Loader):
     def find_spec(
         self, name: str, path: Sequence[str] | None, target: types.ModuleType | None = None
     ) -> importlib.machinery.ModuleSpec | None:
-        return importlib.machinery.ModuleSpec(name, self) if _REPLACED.fullmatch(name) and not _is_old(name.rpartition(".")[0]) else None
+        package, _, last = name.rpartition(".")
+        if not _REPLACED.fullmatch(name) or _is_old(package):
+            return None
+        if last in _OURS:
+            return importlib.machinery.ModuleSpec(name, self)
+        return importlib.util.spec_from_file_location(name, os.path.join(os.path.dirname(__file__), f"{last}.py"))
 
     def exec_module(self, module: types.ModuleType) -> None:
         # the import system takes what stands here by then
@@ -55,7 +63,7 @@ class _Finder(importlib.abc.MetaPathFinder, importlib.abc.Loader):
 
 
 def swap() -> None:
-    """From now on each import of `packaging.version` or `packaging.specifiers` gives these modules. It may be called again.
+    """From now on each import of these modules of `packaging` gives ours. It may be called again.
 
     Raises `RuntimeError` where one of them was imported before: who did so has other classes by now.
     """

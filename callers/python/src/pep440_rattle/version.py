@@ -233,19 +233,6 @@ def parse(version: str) -> Version:
     return Version(version)
 
 
-class _TrimmedRelease(Version):
-    """A version whose release, and so its string, has no zeros at its end, for `packaging.utils`."""
-
-    __slots__ = ()
-
-    @property
-    def release(self) -> tuple[int, ...]:
-        release = super().release
-        while len(release) > 1 and release[-1] == 0:
-            release = release[:-1]
-        return release
-
-
 # ---- names that only tools read which look behind the public ones
 
 # What PEP 440, "Normalization", makes of each spelling.

@@ -1,0 +1,23 @@
+"""`python -m pep440_rattle WORD..` is `pyver WORD..`, the program that the wheel brings."""
+import os
+import pathlib
+import sys
+import sysconfig
+
+
+def _folders() -> list[pathlib.Path]:
+    """Where installers put programs: of this environment, of the user, and beside a folder of packages (`pip install --target`)."""
+    user = sysconfig.get_preferred_scheme("user")
+    schemes = [sysconfig.get_path("scripts"), sysconfig.get_path("scripts", scheme=user)]
+    return [*map(pathlib.Path, schemes), pathlib.Path(__file__).resolve().parent.parent / "bin"]
+
+
+def _main() -> None:
+    program = next((it for folder in _folders() if (it := folder / "pyver").is_file()), None)
+    if not program:
+        sys.exit("pep440_rattle: there is no pyver here: the wheel was made without programs (they need glibc 2.34), or they were removed")
+    os.execv(program, [str(program), *sys.argv[1:]])
+
+
+if __name__ == "__main__":
+    _main()

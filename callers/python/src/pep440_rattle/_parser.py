@@ -1,0 +1,380 @@
+"""Requirements and markers, parsed as `packaging` parses them (PEP 508, with its marker variables of later standards).
+
+One regular expression reads what most requirements are made of, another one a comparison of a marker. What these do not match is read token by token,
+as it is read by `packaging`: it says what is wrong, with the words of `packaging`, or has a form that is rare. No part of this is proved; what a
+version and a specifier is says the library.
+"""
+from __future__ import annotations
+
+import ast
+import functools
+import re
+from typing import Any, NamedTuple, NoReturn, Union
+
+from .specifiers import Specifier
+
+_BLANKS = r"[ \t]*"
+_IDENTIFIER = r"\b[a-zA-Z0-9][a-zA-Z0-9._-]*\b"
+# The variables of markers; of two names of one, the older one stands for the other.
+_VARIABLES = {
+    name: name
+    for name in """
+        python_version python_full_version os_name sys_platform platform_release platform_system platform_version platform_machine
+        platform_python_implementation implementation_name implementation_version extra extras dependency_groups
+    """.split()
+}
+_VARIABLES |= {name: name.replace(".", "_") for name in "os.name sys.platform platform.version platform.machine platform.python_implementation".split()}
+_VARIABLES["python_implementation"] = "platform_python_implementation"
+_VARIABLES_OR_NONE = {*_VARIABLES, None}
+_VARIABLE = rf"\b(?:{'|'.join(sorted(map(re.escape, _VARIABLES), reverse=True))})\b"
+_QUOTED = r""" '[^']*' | "[^"]*" """
+_OPERATOR = r"===|==|~=|!=|<=|>=|<|>"
+# What stands behind an operator may yet be no version. Behind `===` commas belong to the string, so it is left to the tokens.
+_SPECIFIER = rf"(?: [~!<>]= | ==(?!=) | [<>] ) {_BLANKS} [A-Za-z0-9.+!*_-]+"
+_SPECIFIERS = rf"{_SPECIFIER} (?: {_BLANKS} , {_BLANKS} {_SPECIFIER} )* (?: {_BLANKS} , )?"
+
+_PLAIN_REQUIREMENT = re.compile(
+    rf"""
+    {_BLANKS} (?P<name> {_IDENTIFIER} )
+    {_BLANKS} (?: \[ {_BLANKS} (?P<extras> {_IDENTIFIER} (?: {_BLANKS} , {_BLANKS} {_IDENTIFIER} )* )? {_BLANKS} \] )?
+    {_BLANKS} (?P<open> \( {_BLANKS} )? (?P<specifiers> {_SPECIFIERS} )? (?(open) {_BLANKS} \) )
+    {_BLANKS} (?: (?P<semicolon> ; ) | $ )
+    """,
+    re.VERBOSE,
+)
+# A word may be no variable.
+_WORD = r"\b [a-z] [a-z_.]* \b"
+_ITEM = re.compile(
+    rf"""
+    {_BLANKS} (?: ( {_WORD} ) | ( {_QUOTED} ) )
+    {_BLANKS} ( {_OPERATOR} | \b in \b | \b not \b [ \t]+ \b in \b )
+    {_BLANKS} (?: ( {_WORD} ) | ( {_QUOTED} ) )
+    {_BLANKS}
+    """,
+    re.VERBOSE,
+)
+_BOOLEAN = re.compile(r"\b(?:or|and)\b")
+
+# Tokens, for what those do not match.
+_BLANK = re.compile(r"[ \t]+")
+_END = re.compile("$")
+_NAME = re.compile(_IDENTIFIER)
+_URL = re.compile(r"[^ \t]+")
+_STAR = re.compile(r"\.\*")
+_LOCAL = re.compile(r"\+[a-z0-9]+(?:[-_\.][a-z0-9]+)*")
+_MARKER_VARIABLE = re.compile(_VARIABLE, re.VERBOSE)
+_MARKER_VALUE = re.compile(_QUOTED, re.VERBOSE)
+_COMPARISON = re.compile(_OPERATOR)
+_IN, _NOT = re.compile(r"\bin\b"), re.compile(r"\bnot\b")
+
+
+class ParserSyntaxError(Exception):
+    """A string is no requirement, or no marker."""
+
+    def __init__(self, message: str, *, source: str, span: tuple[int, int]) -> None:
+        self.span = span
+        self.message = message
+        self.source = source
+        super().__init__()
+
+    def __str__(self) -> str:
+        start, end = self.span
+        return "\n    ".join([self.message, self.source, " " * start + "~" * (end - start) + "^"])
+
+
+class Node:
+    """A token of a marker."""
+
+    def __init__(self, value: str) -> None:
+        self.value = value
+
+    def __str__(self) -> str:
+        return self.value
+
+    def __repr__(self) -> str:
+        return f"<{self.__class__.__name__}('{self}')>"
+
+    def serialize(self) -> str:
+        """As it stands in a marker."""
+        raise NotImplementedError
+
+
+class Variable(Node):
+    def serialize(self) -> str:
+        return str(self)
+
+
+class Value(Node):
+    def serialize(self) -> str:
+        return f'"{self}"'
+
+
+class Op(Node):
+    def serialize(self) -> str:
+        return str(self)
+
+
+MarkerVar = Union[Variable, Value]
+MarkerItem = tuple[MarkerVar, Op, MarkerVar]
+# Items, "and" and "or", and for parentheses lists of these.
+MarkerList = list[Any]
+
+
+class ParsedRequirement(NamedTuple):
+    name: str
+    url: str
+    extras: list[str]
+    specifier: str
+    marker: MarkerList | None
+
+
+class _Cursor:
+    """A string, and how far it is read."""
+
+    def __init__(self, source: str, position: int = 0) -> None:
+        self.source = source
+        self.position = position
+
+    def is_at(self, token: re.Pattern[str]) -> bool:
+        return token.match(self.source, self.position) is not None
+
+    def take(self, token: re.Pattern[str]) -> str | None:
+        """The token, if it stands here; it is read then."""
+        found = token.match(self.source, self.position)
+        if not found:
+            return None
+        self.position = found.end()
+        return found[0]
+
+    def expect(self, token: re.Pattern[str], what: str) -> str:
+        found = self.take(token)
+        if found is None:
+            self.fail(f"Expected {what}")
+        return found
+
+    def take_sign(self, sign: str) -> bool:
+        is_here = self.source.startswith(sign, self.position)
+        self.position += is_here
+        return is_here
+
+    def close(self, opened: int, sign: str, names: tuple[str, str], around: str) -> None:
+        """Reads what closes the bracket that was opened at this position."""
+        if not self.take_sign(sign):
+            self.fail(f"Expected matching {names[1]} for {names[0]}, after {around}", opened)
+
+    def fail(self, message: str, start: int | None = None, end: int | None = None) -> NoReturn:
+        span = self.position if start is None else start, self.position if end is None else end
+        raise ParserSyntaxError(message, source=self.source, span=span)
+
+
+_PARENTHESES = "LEFT_PARENTHESIS", "RIGHT_PARENTHESIS"
+_BRACKETS = "LEFT_BRACKET", "RIGHT_BRACKET"
+
+
+# ---- requirements
+
+
+def parse_plain_requirement(source: str) -> ParsedRequirement | None:
+    """The parts of a requirement that has no URL; None where the other function is to say what it is. What its specifiers are is not looked at.
+
+    >>> parse_plain_requirement("name[a, b] >=1.0")
+    ParsedRequirement(name='name', url='', extras=['a', 'b'], specifier='>=1.0', marker=None)
+    """
+    found = _PLAIN_REQUIREMENT.match(source)
+    if not found:
+        return None
+    name, extras, _, specifiers, semicolon = found.groups()
+    marker = None
+    if semicolon:
+        try:
+            marker = _parse_marker_to_end(_Cursor(source, found.end()), "")
+        except (ParserSyntaxError, SyntaxError, ValueError):
+            return None
+    return ParsedRequirement(name, "", [it.strip(" \t") for it in extras.split(",")] if extras else [], specifiers or "", marker)
+
+
+def parse_requirement(source: str) -> ParsedRequirement:
+    """The parts of a requirement, by its tokens."""
+    cursor = _Cursor(source)
+    cursor.take(_BLANK)
+    name = cursor.expect(_NAME, "package name at the start of dependency specifier")
+    cursor.take(_BLANK)
+    extras = _parse_extras(cursor)
+    cursor.take(_BLANK)
+    if cursor.take_sign("@"):
+        return ParsedRequirement(name, *_parse_url(cursor, extras))
+    start = cursor.position
+    specifier = _parse_specifiers(cursor)
+    cursor.take(_BLANK)
+    marker = _parse_requirement_marker(cursor, start, "version specifier" if specifier else "name and no valid version specifier")
+    return ParsedRequirement(name, "", extras, specifier, marker)
+
+
+def _parse_url(cursor: _Cursor, extras: list[str]) -> tuple[str, list[str], str, MarkerList | None]:
+    cursor.take(_BLANK)
+    start = cursor.position
+    url = cursor.expect(_URL, "URL after @")
+    if cursor.is_at(_END):
+        return url, extras, "", None
+    cursor.expect(_BLANK, "whitespace after URL")
+    return url, extras, "", _parse_requirement_marker(cursor, start, "URL and whitespace")
+
+
+def _parse_requirement_marker(cursor: _Cursor, start: int, after: str) -> MarkerList | None:
+    if cursor.is_at(_END):
+        return None
+    if not cursor.take_sign(";"):
+        cursor.fail(f"Expected end or semicolon (after {after})", start)
+    return _parse_marker_to_end(cursor, "end of dependency specifier")
+
+
+def _parse_extras(cursor: _Cursor) -> list[str]:
+    opened = cursor.position
+    if not cursor.take_sign("["):
+        return []
+    cursor.take(_BLANK)
+    first = cursor.take(_NAME)
+    extras = [] if first is None else [first]
+    while extras:
+        cursor.take(_BLANK)
+        if cursor.is_at(_NAME):
+            cursor.fail("Expected comma between extra names")
+        if not cursor.take_sign(","):
+            break
+        cursor.take(_BLANK)
+        extras.append(cursor.expect(_NAME, "extra name after comma"))
+    cursor.take(_BLANK)
+    cursor.close(opened, "]", _BRACKETS, "extras")
+    return extras
+
+
+@functools.lru_cache(1)
+def _compile_specifier() -> re.Pattern[str]:
+    """A specifier as a token; compiled when it is needed, since that takes longer than all else here."""
+    return re.compile(Specifier._operator_regex_str + Specifier._version_regex_str, re.VERBOSE | re.IGNORECASE)
+
+
+def _parse_specifiers(cursor: _Cursor) -> str:
+    opened = cursor.position
+    is_closed = not cursor.take_sign("(")
+    cursor.take(_BLANK)
+    specifiers = _parse_specifier_list(cursor)
+    cursor.take(_BLANK)
+    if not is_closed:
+        cursor.close(opened, ")", _PARENTHESES, "version specifier")
+    return specifiers
+
+
+def _parse_specifier_list(cursor: _Cursor) -> str:
+    specifiers = ""
+    while True:
+        start = cursor.position
+        token = cursor.take(_compile_specifier())
+        if token is None:
+            return specifiers
+        specifiers += token
+        if cursor.is_at(_STAR):
+            cursor.fail(".* suffix can only be used with `==` or `!=` operators", start, cursor.position + 1)
+        if cursor.is_at(_LOCAL):
+            cursor.fail("Local version label can only be used with `==` or `!=` operators", start)
+        cursor.take(_BLANK)
+        if not cursor.take_sign(","):
+            return specifiers
+        specifiers += ","
+        cursor.take(_BLANK)
+
+
+# ---- markers
+
+
+def parse_marker(source: str) -> MarkerList:
+    """The comparisons of a marker, with "and" and "or" between them; a list for each pair of parentheses.
+
+    >>> parse_marker("os_name == 'nt' and ('a' in extras)")
+    [(<Variable('os_name')>, <Op('==')>, <Value('nt')>), 'and', [(<Value('a')>, <Op('in')>, <Variable('extras')>)]]
+    """
+    return _parse_marker_to_end(_Cursor(source), "end of marker expression")
+
+
+def _parse_marker_to_end(cursor: _Cursor, what: str) -> MarkerList:
+    marker = _parse_marker(cursor)
+    cursor.take(_BLANK)
+    if cursor.position != len(cursor.source):
+        cursor.expect(_END, what)
+    return marker
+
+
+def _parse_marker(cursor: _Cursor) -> MarkerList:
+    marker: MarkerList = [_parse_atom(cursor)]
+    while (boolean := cursor.take(_BOOLEAN)) is not None:
+        marker += boolean, _parse_atom(cursor)
+    return marker
+
+
+def _parse_atom(cursor: _Cursor) -> MarkerItem | MarkerList:
+    item = _take_plain_item(cursor)
+    if item:
+        return item
+    cursor.take(_BLANK)
+    opened = cursor.position
+    atom: MarkerItem | MarkerList
+    if cursor.take_sign("("):
+        atom = _parse_marker(cursor)
+        cursor.close(opened, ")", _PARENTHESES, "marker expression")
+    else:
+        atom = _parse_item(cursor)
+    cursor.take(_BLANK)
+    return atom
+
+
+def _take_plain_item(cursor: _Cursor) -> MarkerItem | None:
+    found = _ITEM.match(cursor.source, cursor.position)
+    if not found:
+        return None
+    left, left_value, operator, right, right_value = found.groups()
+    if left not in _VARIABLES_OR_NONE or right not in _VARIABLES_OR_NONE:
+        return None
+    cursor.position = found.end()
+    return (
+        Variable(_VARIABLES[left]) if left else _make_value(left_value),
+        Op(operator if operator[0] != "n" else "not in"),
+        Variable(_VARIABLES[right]) if right else _make_value(right_value),
+    )
+
+
+def _parse_item(cursor: _Cursor) -> MarkerItem:
+    left = _parse_operand(cursor)
+    cursor.take(_BLANK)
+    operator = _parse_operator(cursor)
+    cursor.take(_BLANK)
+    return left, operator, _parse_operand(cursor)
+
+
+def _parse_operand(cursor: _Cursor) -> MarkerVar:
+    variable = cursor.take(_MARKER_VARIABLE)
+    if variable is not None:
+        return Variable(_VARIABLES[variable])
+    value = cursor.take(_MARKER_VALUE)
+    if value is None:
+        cursor.fail("Expected a marker variable or quoted string")
+    return _make_value(value)
+
+
+def _parse_operator(cursor: _Cursor) -> Op:
+    if cursor.take(_IN):
+        return Op("in")
+    if cursor.take(_NOT):
+        cursor.expect(_BLANK, "whitespace after 'not'")
+        cursor.expect(_IN, "'in' after 'not'")
+        return Op("not in")
+    comparison = cursor.take(_COMPARISON)
+    if comparison is None:
+        cursor.fail("Expected marker operator, one of <=, <, !=, ==, >=, >, ~=, ===, in, not in")
+    return Op(comparison)
+
+
+def _make_value(quoted: str) -> Value:
+    """What the string between its quotes is to Python."""
+    if quoted.isascii() and quoted.isprintable() and "\\" not in quoted:
+        return Value(quoted[1:-1])
+    return Value(str(ast.literal_eval(quoted)))

@@ -1,0 +1,92 @@
+"""Requirements, with the names and the behaviour of `packaging.requirements`.
+
+>>> from pep440_rattle.requirements import Requirement
+>>> it = Requirement("name[extra] >=1.0, <2 ; python_version >= '3.8'")
+>>> it.name, it.extras, str(it.specifier), str(it.marker)
+('name', {'extra'}, '<2,>=1.0', 'python_version >= "3.8"')
+"""
+from __future__ import annotations
+
+from collections.abc import Iterator
+from typing import Any
+
+from ._parser import ParserSyntaxError, parse_plain_requirement, parse_requirement
+from .markers import Marker, _normalize_extra_values
+from .specifiers import InvalidSpecifier, SpecifierSet
+from .utils import canonicalize_name
+
+__all__ = ["InvalidRequirement", "Requirement"]
+
+
+class InvalidRequirement(ValueError):
+    """A string is no requirement."""
+
+
+class Requirement:
+    """A requirement: a name, extras, and specifiers or a URL, maybe with a marker.
+
+    Raises `InvalidRequirement`, with the reason, where the string is none.
+
+    >>> Requirement("name @ https://example.org/name.zip").url
+    'https://example.org/name.zip'
+    >>> Requirement("Name>=1.0") == Requirement("name >= 1.0.0")
+    True
+    """
+
+    def __init__(self, requirement_string: str) -> None:
+        try:
+            parsed = parse_plain_requirement(requirement_string)
+            specifier = parsed and _read_specifiers(parsed.specifier)
+            if not parsed or specifier is None:
+                parsed = parse_requirement(requirement_string)
+                specifier = SpecifierSet(parsed.specifier)
+        except ParserSyntaxError as error:
+            raise InvalidRequirement(str(error)) from error
+        self.name: str = parsed.name
+        self.url: str | None = parsed.url or None
+        self.extras: set[str] = set(parsed.extras)
+        self.specifier: SpecifierSet = specifier
+        self.marker: Marker | None = None
+        if parsed.marker is not None:
+            self.marker = Marker.__new__(Marker)
+            self.marker._markers = _normalize_extra_values(parsed.marker)
+
+    def _parts(self, name: str) -> Iterator[str]:
+        yield name
+        if self.extras:
+            yield f"[{','.join(sorted(self.extras))}]"
+        if self.specifier:
+            yield str(self.specifier)
+        if self.url:
+            yield f"@ {self.url}"
+            if self.marker:
+                yield " "
+        if self.marker:
+            yield f"; {self.marker}"
+
+    def __str__(self) -> str:
+        return "".join(self._parts(self.name))
+
+    def __repr__(self) -> str:
+        return f"<Requirement('{self}')>"
+
+    def __hash__(self) -> int:
+        return hash((self.__class__.__name__, *self._parts(canonicalize_name(self.name))))
+
+    def __eq__(self, other: Any) -> bool:
+        if not isinstance(other, Requirement):
+            return NotImplemented
+        return (
+            canonicalize_name(self.name) == canonicalize_name(other.name)
+            and self.extras == other.extras
+            and self.specifier == other.specifier
+            and self.url == other.url
+            and self.marker == other.marker
+        )
+
+
+def _read_specifiers(text: str) -> SpecifierSet | None:
+    try:
+        return SpecifierSet(text)
+    except InvalidSpecifier:
+        return None

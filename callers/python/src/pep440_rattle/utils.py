@@ -1,0 +1,112 @@
+"""Names of projects and of their files, with the names and the behaviour of `packaging.utils`."""
+from __future__ import annotations
+
+import re
+from typing import NewType, Union, cast
+
+from .tags import Tag, parse_tag
+from .version import InvalidVersion, Version
+
+BuildTag = Union[tuple[()], tuple[int, str]]
+NormalizedName = NewType("NormalizedName", str)
+
+
+class InvalidName(ValueError):
+    """A string is no name of a project."""
+
+
+class InvalidWheelFilename(ValueError):
+    """A string is no name of a wheel."""
+
+
+class InvalidSdistFilename(ValueError):
+    """A string is no name of a source archive."""
+
+
+_VALID_NAME = re.compile(r"^([A-Z0-9]|[A-Z0-9][A-Z0-9._-]*[A-Z0-9])$", re.IGNORECASE)
+_NORMALIZED_NAME = re.compile(r"^([a-z0-9]|[a-z0-9]([a-z0-9-](?!--))*[a-z0-9])$")
+_NAME_IN_WHEEL = re.compile(r"^[\w\d._]*$")
+_BUILD_TAG = re.compile(r"(\d+)(.*)")
+_ZEROS_AT_END = re.compile(r"(\.0)+$")
+
+
+def canonicalize_name(name: str, *, validate: bool = False) -> NormalizedName:
+    """The normalized name of a project (PEP 503). With `validate`, raises `InvalidName` where it is none.
+
+    >>> canonicalize_name("Some.-_Name")
+    'some-name'
+    """
+    if validate and not _VALID_NAME.match(name):
+        raise InvalidName(f"name is invalid: {name!r}")
+    name = name.lower().replace("_", "-").replace(".", "-")
+    while "--" in name:
+        name = name.replace("--", "-")
+    return cast(NormalizedName, name)
+
+
+def is_normalized_name(name: str) -> bool:
+    """Whether it is a normalized name."""
+    return _NORMALIZED_NAME.match(name) is not None
+
+
+def canonicalize_version(version: Version | str, *, strip_trailing_zero: bool = True) -> str:
+    """The normal form of a version, without the zeros at the end of its release; of a string that is no version, the string.
+
+    >>> canonicalize_version("1.0.0-RC1"), canonicalize_version("1.0.0", strip_trailing_zero=False), canonicalize_version("x")
+    ('1rc1', '1.0.0', 'x')
+    """
+    if isinstance(version, str):
+        try:
+            version = Version(version)
+        except InvalidVersion:
+            return version
+    if not strip_trailing_zero:
+        return str(version)
+    it = Version(str(version))
+    return _ZEROS_AT_END.sub("", it.base_version) + str(it)[len(it.base_version) :]
+
+
+def _parse_version(text: str, error: type[ValueError], kind: str, filename: str) -> Version:
+    try:
+        return Version(text)
+    except InvalidVersion as reason:
+        raise error(f"Invalid {kind} filename (invalid version): {filename!r}") from reason
+
+
+def parse_wheel_filename(filename: str) -> tuple[NormalizedName, Version, BuildTag, frozenset[Tag]]:
+    """The name, version, build number and tags of a wheel (PEP 427).
+
+    Raises `InvalidWheelFilename` where the string is no name of one.
+    """
+    if not filename.endswith(".whl"):
+        raise InvalidWheelFilename(f"Invalid wheel filename (extension must be '.whl'): {filename!r}")
+    filename = filename[: -len(".whl")]
+    dashes = filename.count("-")
+    if dashes not in (4, 5):
+        raise InvalidWheelFilename(f"Invalid wheel filename (wrong number of parts): {filename!r}")
+    parts = filename.split("-", dashes - 2)
+    if "__" in parts[0] or not _NAME_IN_WHEEL.match(parts[0]):
+        raise InvalidWheelFilename(f"Invalid project name: {filename!r}")
+    version = _parse_version(parts[1], InvalidWheelFilename, "wheel", filename)
+    build: BuildTag = ()
+    if dashes == 5:
+        number = _BUILD_TAG.match(parts[2])
+        if not number:
+            raise InvalidWheelFilename(f"Invalid build number: {parts[2]} in {filename!r}")
+        build = int(number[1]), number[2]
+    return canonicalize_name(parts[0]), version, build, parse_tag(parts[-1])
+
+
+def parse_sdist_filename(filename: str) -> tuple[NormalizedName, Version]:
+    """The name and version of a source archive.
+
+    Raises `InvalidSdistFilename` where the string is no name of one.
+    """
+    ending = next((each for each in (".tar.gz", ".zip") if filename.endswith(each)), None)
+    if not ending:
+        raise InvalidSdistFilename(f"Invalid sdist filename (extension must be '.tar.gz' or '.zip'): {filename!r}")
+    # no version has a dash in a name of a file
+    name, dash, version = filename[: -len(ending)].rpartition("-")
+    if not dash:
+        raise InvalidSdistFilename(f"Invalid sdist filename: {filename!r}")
+    return canonicalize_name(name), _parse_version(version, InvalidSdistFilename, "sdist", filename)

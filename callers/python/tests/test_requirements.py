@@ -1,0 +1,160 @@
+"""Requirements, markers and names of files beside `packaging` from 25.0 on: parts, strings, errors with their texts, and what markers evaluate to."""
+import importlib
+import os
+import random
+import unittest
+import warnings
+
+import pep440_rattle.requirements
+import peer
+
+NAMES = ["name", "a.b", "A_b-c", "n1", "-x", "\u00e9", "a-", "x_"]
+VERSIONS = ["1.0", "1.0.*", "2", "v1.0-Beta", "1!2.0.post1", "1.0+loc", "foo", "", "1.0.dev4+a.1", "1,2"]
+OPERATORS = [*peer.OPERATORS, "=", "=>"]
+BLANKS = ["", "", "", " ", "  ", "\t", "\n", "\u00a0"]
+VARIABLES = ["python_version", "os_name", "os.name", "extra", "extras", "dependency_groups", "python_implementation", "sys.platform"]
+VARIABLES += ["platform_python_implementation", "platform_release", "platform.version", "python_full_version", "foo"]
+VALUES = ["'3.8'", '"3.8"', "'linux'", '"a_B.c"', "'x", '""', "'\\n'", "'\\'", "'\u00e9'", "'=1.0'", "'=foo'", "'3.8.*'", "'1.0+x'", "'v3'", "' 3.9 '", "'\n'"]
+WORDS = ["in", "not in", "not  in", "not", "notin", "is"]
+ENVIRONMENTS = [None, {"extra": "a-b-c"}, {"os_name": "linux", "python_version": "3.8"}, {"python_full_version": "3.8.1+"}, {"extra": None}]
+CONTEXTS = ["metadata", "lock_file", "requirement"]
+
+
+def rarely(items, usual):
+    """One of the first ones, now and then one of all."""
+    return random.choice(items if random.random() < 0.2 else items[:usual])
+
+
+def spaced(text):
+    return rarely(BLANKS, 3) + text + rarely(BLANKS, 3)
+
+
+def some_specifiers():
+    pieces = [spaced(rarely(OPERATORS, 8) + rarely(BLANKS, 3) + rarely(VERSIONS, 5)) for _ in range(random.choice([0, 1, 1, 1, 2, 3]))]
+    text = ",".join(pieces) + rarely(["", ",", ",,", "+x", ".*", " a"], 1)
+    return f"({text}{rarely([')', '', ']'], 1)}" if random.random() < 0.25 else text
+
+
+def some_comparison(depth):
+    if random.random() < 0.2 and depth < 3:
+        return spaced("(" + some_marker(depth + 1) + rarely([")", ""], 1))
+    sides = [spaced(rarely(VARIABLES, 8)), spaced(rarely(VALUES, 4))]
+    if random.random() < 0.2:
+        sides.reverse()
+    return rarely(["==", "!=", ">=", "<", "in", "not in", *OPERATORS, *WORDS], 6).join(sides)
+
+
+def some_marker(depth=0):
+    text = some_comparison(depth)
+    for _ in range(random.choice([0, 0, 1, 2])):
+        text += rarely([" and ", " or ", "and", " or", " xor ", " "], 3) + some_comparison(depth)
+    return text
+
+
+def some_requirement():
+    text = spaced(rarely(NAMES, 4))
+    if random.random() < 0.3:
+        names = rarely([",", ", ", " , ", " ", ",,"], 2).join(rarely(NAMES, 4) for _ in range(random.choice([0, 1, 2, 3])))
+        text += f"[{spaced(names)}{rarely([']', ''], 1)}"
+    text += spaced("@" + spaced(random.choice(["http://x.y/z;a=b", "file:///a", "", "x y"])) if random.random() < 0.1 else some_specifiers())
+    return text + (f";{some_marker()}" if random.random() < 0.4 else "") + rarely(["", "x", "\n", "#c", " ;", "\n\n"], 1)
+
+
+def some_version():
+    return random.choice(["", "1!", "v"]) + ".".join(random.choices(["0", "1", "10", "00"], k=random.randint(1, 4))) + rarely(["", "rc1", ".post0", "+a.0", "x", ".0.0-1"], 2)
+
+
+def some_file():
+    parts = ["name", "a_b", "a__b", "1.0", "1.0.0", "1", "1a", "x", "py2.py3", "none", "any", "\u00e9"]
+    return "-".join(random.choices(parts, k=random.randint(2, 6))) + random.choice([".whl", ".whl", ".tar.gz", ".zip", ".x"])
+
+
+def shown(call, *given):
+    """What a call returns, or its error with its text and its cause; our texts of versions and specifiers go on with the reason."""
+    try:
+        return call(*given)
+    except Exception as error:
+        name = type(error).__name__
+        return name, name not in ("InvalidVersion", "InvalidSpecifier") and str(error), type(error.__cause__).__name__
+
+
+class Library:
+    """What is asked of a library, by its modules."""
+
+    def __init__(self, requirements, markers, utils):
+        self.requirements, self.markers, self.utils = requirements, markers, utils
+
+    def requirement(self, text):
+        it = self.requirements.Requirement(text)
+        marker = it.marker and repr(it.marker._markers)
+        return it.name, it.extras, str(it.specifier), it.url, str(it.marker), repr(it), marker, it == self.requirements.Requirement(text)
+
+    def marker(self, text, environment, context):
+        it = self.markers.Marker(text)
+        return str(it), repr(it._markers), shown(it.evaluate, environment, context)
+
+    def version(self, text):
+        call = self.utils.canonicalize_version
+        return call(text), call(text, strip_trailing_zero=False), self.utils.canonicalize_name(text)
+
+    def file(self, text):
+        name, version, build, tags = self.utils.parse_wheel_filename(text)
+        return name, str(version), build, sorted(map(str, tags))
+
+    def archive(self, text):
+        name, version = self.utils.parse_sdist_filename(text)
+        return name, str(version)
+
+    def name(self, text):
+        return self.utils.is_normalized_name(text), self.utils.canonicalize_name(text, validate=True)
+
+
+class AgainstPackaging(unittest.TestCase):
+    def setUp(self):
+        package = peer.load()[0].__name__.rpartition(".")[0]
+        number = importlib.import_module(package).__version__
+        if peer.number_of(number) < (25, 0):
+            self.skipTest(f"packaging {number} has other messages and fewer variables than 25.0")
+        names = ("requirements", "markers", "utils")
+        self.theirs = Library(*(importlib.import_module(f"{package}.{name}") for name in names))
+        self.ours = Library(*(importlib.import_module(f"pep440_rattle.{name}") for name in names))
+
+    def compare(self, ask, *given):
+        left, right = (shown(getattr(each, ask), *given) for each in (self.theirs, self.ours))
+        self.assertEqual(left, right, ascii((ask, *given)))
+
+    def test_random(self):
+        random.seed(os.environ.get("PEP440_SEED", "requirements"))
+        warnings.simplefilter("ignore", SyntaxWarning)
+        warnings.simplefilter("ignore", DeprecationWarning)
+        for _ in range(int(os.environ.get("PEP440_CASES", "200000")) // 20):
+            self.compare("requirement", some_requirement())
+            self.compare("marker", some_marker(), random.choice(ENVIRONMENTS), random.choice(CONTEXTS))
+            self.compare("version", some_version())
+            for ask in ("file", "archive", "name"):
+                self.compare(ask, some_file())
+
+    def test_other_types(self):
+        for given in (None, b"name", 1):
+            for ask in ("requirement", "name"):
+                self.assertEqual(shown(getattr(self.theirs, ask), given)[0], shown(getattr(self.ours, ask), given)[0], (ask, given))
+
+
+class Forms(unittest.TestCase):
+    """What no other library is needed for."""
+
+    def test_plain_and_by_tokens(self):
+        """A requirement has the same parts whether one expression reads it or its tokens."""
+        parser = pep440_rattle.requirements.parse_requirement, pep440_rattle.requirements.parse_plain_requirement
+        for text in ("name", "a.b[x, y]>=1.0,<2;os_name=='nt'", "name (==1.0.*)", " n ~= 1.0 , != 1.5, ; extra == 'x' "):
+            by_tokens, plain = (call(text) for call in parser)
+            self.assertEqual(by_tokens._replace(specifier="", marker=None), plain._replace(specifier="", marker=None))
+            self.assertEqual(repr(by_tokens.marker), repr(plain.marker))
+
+    def test_big_numbers(self):
+        with self.assertRaises(pep440_rattle.requirements.InvalidRequirement):
+            pep440_rattle.requirements.Requirement("name>=18446744073709551616")
+
+
+if __name__ == "__main__":
+    unittest.main()
