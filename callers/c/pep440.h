@@ -3,8 +3,8 @@
 
    A version or a list is passed as bytes and a length, with no zero at the end; for `const char *`
    see the calls at the end of this header. The bytes are a string, or a compiled form, made once of
-   a string (below): bytes that begin with 4 or 5 are taken as one. Every call takes either, but
-   the five of a pattern or a single specifier (pep440_pattern, pep440_pattern_error, pep440_specifier,
+   a string (below): bytes that begin with 4 or 5 are taken as one. Every call takes either, but the
+   five of a pattern or a single specifier (pep440_pattern, pep440_pattern_error, pep440_specifier,
    pep440_specifier_error and pep440_compile_specifier), which take strings. Bytes that are neither
    are an invalid version or list. Each call returns a status. No call keeps a pointer, and none
    ends the process. Programs to begin with are in the folder examples of the release archive, and
@@ -238,8 +238,8 @@ uint8_t pep440_range_keys(const uint8_t *list, size_t length, uint8_t *out, size
 
 /* The same of the cover of the list: a range that has each version that the list contains, local
    versions too, if a string denotes the list, and maybe others; what is found by it is then asked
-   of pep440_contains or
-   pep440_filter. The range of pep440_range_keys may leave out versions that the list contains. */
+   of pep440_contains or pep440_filter. The range of pep440_range_keys may leave out versions that
+   the list contains. */
 uint8_t pep440_cover_keys(const uint8_t *list, size_t length, uint8_t *out, size_t size,
                           size_t *ends, size_t ends_size, size_t *written, size_t *count);
 
@@ -267,10 +267,9 @@ uint8_t pep440_release_range_bounds(const uint8_t *list, size_t length, uint8_t 
    Compiled bytes are plain bytes: keep them in memory, in a file or in a column, copy them, share
    them among threads, give them to another process or machine. There is no handle, and nothing to
    free. Their first byte is a format, with which no string of a version or a list begins, and the
-   bytes of a format never change between releases: what 0.3.0 or a later
-   release wrote, each later one takes.
-   Bytes of a format that a library does not know are an invalid version or list, as are formats 1,
-   2 and 3, which earlier libraries wrote.
+   bytes of a format never change between releases: what 0.3.0 or a later release wrote, each later
+   one takes. Bytes of a format that a library does not know are an invalid version or list, as are
+   formats 1, 2 and 3, which earlier libraries wrote.
 
    A compiled version is the byte 4, the sort key of the version, and a byte 1 for each zero that
    ends its release, which is all that a sort key leaves out. A sort key ends with a byte 0. So
