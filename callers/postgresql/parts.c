@@ -14,11 +14,11 @@ static Datum make_numeric(uint64_t number)
 /* All parts but the numbers of the release. */
 static pep440_parts parts_of(FunctionCallInfo fcinfo)
 {
-    Version version = GET_VERSION(0);
-    Bytes compiled = CURRENT(version);
+    VersionBuffer buffer;
+    Bytes version = version_of(GET_STORED(0), &buffer).bytes;
     pep440_parts parts;
     uint64_t none[1];
-    uint8_t status = pep440_parts_of_compiled(compiled.bytes, compiled.length, &parts, none, 0);
+    uint8_t status = pep440_parts_of(version.bytes, version.length, &parts, none, 0);
     if (status != PEP440_OK && status != PEP440_NO_ROOM)
         fail(status);
     return parts;
@@ -33,13 +33,13 @@ Datum version_epoch(PG_FUNCTION_ARGS)
 PG_FUNCTION_INFO_V1(version_release);
 Datum version_release(PG_FUNCTION_ARGS)
 {
-    Version version = GET_VERSION(0);
-    Bytes compiled = CURRENT(version);
+    VersionBuffer buffer;
+    Bytes version = version_of(GET_STORED(0), &buffer).bytes;
     pep440_parts parts = parts_of(fcinfo);
     size_t count = parts.release_length;
     uint64_t *numbers = palloc(count * sizeof *numbers);
     Datum *items = palloc(count * sizeof *items);
-    uint8_t status = pep440_parts_of_compiled(compiled.bytes, compiled.length, &parts, numbers, count);
+    uint8_t status = pep440_parts_of(version.bytes, version.length, &parts, numbers, count);
     if (status != PEP440_OK)
         fail(status);
     for (size_t each = 0; each < count; each++)
@@ -104,7 +104,7 @@ PG_FUNCTION_INFO_V1(version_local);
 Datum version_local(PG_FUNCTION_ARGS)
 {
     Bytes public_part, local;
-    split_local(GET_VERSION(0).normal, &public_part, &local);
+    split_local(normal_argument(fcinfo), &public_part, &local);
     if (local.length == 0)
         PG_RETURN_NULL();
     PG_RETURN_TEXT_P(cstring_to_text(server_text(local)));
@@ -114,25 +114,26 @@ PG_FUNCTION_INFO_V1(version_public);
 Datum version_public(PG_FUNCTION_ARGS)
 {
     Bytes public_part, local;
-    split_local(GET_VERSION(0).normal, &public_part, &local);
-    PG_RETURN_POINTER(read_version(public_part));
+    split_local(normal_argument(fcinfo), &public_part, &local);
+    PG_RETURN_POINTER(read_version(public_part, NULL));
 }
 
 /* Epoch and release: of the normal form the digits and marks before the first letter or `+`; `.post` and `.dev` leave a dot. */
 PG_FUNCTION_INFO_V1(version_base);
 Datum version_base(PG_FUNCTION_ARGS)
 {
-    Bytes normal = GET_VERSION(0).normal;
+    Bytes normal = normal_argument(fcinfo);
     size_t length = 0;
     while (length < normal.length && memchr("0123456789.!", normal.bytes[length], 12) != NULL)
         length++;
     while (length > 0 && normal.bytes[length - 1] == '.')
         length--;
-    PG_RETURN_POINTER(read_version((Bytes){normal.bytes, length}));
+    PG_RETURN_POINTER(read_version((Bytes){normal.bytes, length}, NULL));
 }
 
 PG_FUNCTION_INFO_V1(version_key);
 Datum version_key(PG_FUNCTION_ARGS)
 {
-    PG_RETURN_BYTEA_P(make_bytea(GET_VERSION(0).key));
+    VersionBuffer buffer;
+    PG_RETURN_BYTEA_P(make_bytea(version_of(GET_STORED(0), &buffer).key));
 }
