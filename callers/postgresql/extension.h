@@ -16,7 +16,8 @@ typedef struct {
 typedef struct {
     Bytes key;
     Bytes bytes;
-    bool is_plain; /* epoch 0 and a release alone */
+    bool is_plain; /* epoch 0 and a release alone, */
+    size_t numbers_length; /* whose numbers take so many bytes of the key, behind the epoch */
 } Version;
 
 /* The keys of a cover, as pep440_cover_keys writes them. */
@@ -49,10 +50,12 @@ Bytes utf8_of(const char *text, int length);
 /* The argument of a function that takes a text. */
 Bytes utf8_argument(FunctionCallInfo fcinfo);
 /* The binary form of a value, and the text of one that is received. */
-bytea *send_text(Bytes normal);
+bytea *send_text(const char *normal);
 Bytes receive_text(StringInfo message, const char *type);
 /* What the call writes, however long, in memory of the server's. Where it is not PEP440_OK, nothing is written. */
 uint8_t write_all(Writer call, Bytes read, Bytes *out);
+/* The normal form that the call writes of a value, or the error of its status. It is ASCII, and so the same in each encoding of a server. */
+char *normal_text(Writer call, Bytes value);
 /* A text of the server's: a copy in its encoding, with a zero at the end. */
 char *server_text(Bytes utf8);
 /* The error of a status that has no other: memory that was refused, or stored bytes that are no value. */
@@ -62,10 +65,12 @@ void fail(uint8_t status) pg_attribute_noreturn();
 Bytes bytes_of(const struct varlena *stored);
 /* What a version is; the buffer keeps the compiled bytes of one that is stored without them. */
 Version version_of(const struct varlena *stored, VersionBuffer *buffer);
-/* Whether both versions are stored as the numbers of their releases, and so are compared as they lie; their order, -1, 0 or 1. */
-bool compare_releases(const struct varlena *left, const struct varlena *right, int *order);
+/* The order of two versions, -1, 0 or 1. */
+int compare_versions(const struct varlena *left, const struct varlena *right);
+/* A number that is not above that of a greater version: nearly all versions have epoch 0, and their keys a first byte 0; the eight bytes behind it. */
+uint64 first_of_key(const struct varlena *stored);
 /* The normal form of a version that is the first argument. */
-Bytes normal_argument(FunctionCallInfo fcinfo);
+char *normal_argument(FunctionCallInfo fcinfo);
 /* What the library takes as the list: compiled bytes, or the normal form where an older release stored the value. */
 Bytes list_of(const struct varlena *stored);
 /* The value of a compiled version. */

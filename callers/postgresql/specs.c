@@ -38,19 +38,9 @@ struct varlena *read_list(Bytes text, Node *context)
     return make_bytea(compiled);
 }
 
-/* What the call makes of a stored list. */
-static Bytes made_of(Writer call, Bytes list)
+static char *normal_list(FunctionCallInfo fcinfo, int number)
 {
-    Bytes made;
-    uint8_t status = write_all(call, list, &made);
-    if (status != PEP440_OK)
-        fail(status);
-    return made;
-}
-
-static Bytes normal_list(Bytes list)
-{
-    return made_of(pep440_normalize_list, list);
+    return normal_text(pep440_normalize_list, GET_LIST(number));
 }
 
 PG_FUNCTION_INFO_V1(specs_in);
@@ -63,13 +53,13 @@ Datum specs_in(PG_FUNCTION_ARGS)
 PG_FUNCTION_INFO_V1(specs_out);
 Datum specs_out(PG_FUNCTION_ARGS)
 {
-    PG_RETURN_CSTRING(server_text(normal_list(GET_LIST(0))));
+    PG_RETURN_CSTRING(normal_list(fcinfo, 0));
 }
 
 PG_FUNCTION_INFO_V1(specs_send);
 Datum specs_send(PG_FUNCTION_ARGS)
 {
-    PG_RETURN_BYTEA_P(send_text(normal_list(GET_LIST(0))));
+    PG_RETURN_BYTEA_P(send_text(normal_list(fcinfo, 0)));
 }
 
 PG_FUNCTION_INFO_V1(specs_recv);
@@ -87,7 +77,7 @@ Datum specs_from_text(PG_FUNCTION_ARGS)
 PG_FUNCTION_INFO_V1(specs_to_text);
 Datum specs_to_text(PG_FUNCTION_ARGS)
 {
-    PG_RETURN_TEXT_P(cstring_to_text(server_text(normal_list(GET_LIST(0)))));
+    PG_RETURN_TEXT_P(cstring_to_text(normal_list(fcinfo, 0)));
 }
 
 PG_FUNCTION_INFO_V1(specs_valid);
@@ -104,9 +94,8 @@ Datum specs_valid(PG_FUNCTION_ARGS)
 PG_FUNCTION_INFO_V1(specs_both);
 Datum specs_both(PG_FUNCTION_ARGS)
 {
-    Bytes left = normal_list(GET_LIST(0)), right = normal_list(GET_LIST(1));
-    const char *comma = left.length == 0 || right.length == 0 ? "" : ",";
-    char *both = psprintf("%.*s%s%.*s", (int)left.length, (const char *)left.bytes, comma, (int)right.length, (const char *)right.bytes);
+    const char *left = normal_list(fcinfo, 0), *right = normal_list(fcinfo, 1);
+    char *both = psprintf("%s%s%s", left, *left != 0 && *right != 0 ? "," : "", right);
     PG_RETURN_POINTER(read_list((Bytes){(const uint8_t *)both, strlen(both)}, NULL));
 }
 
@@ -115,8 +104,13 @@ Datum specs_both(PG_FUNCTION_ARGS)
 
 static Bytes compiled_list(const struct varlena *stored)
 {
-    Bytes list = list_of(stored);
-    return list.bytes == bytes_of(stored).bytes ? list : made_of(pep440_compile_list, list);
+    Bytes list = list_of(stored), compiled;
+    if (list.bytes == bytes_of(stored).bytes)
+        return list;
+    uint8_t status = write_all(pep440_compile_list, list, &compiled);
+    if (status != PEP440_OK)
+        fail(status);
+    return compiled;
 }
 
 static void free_list(FunctionCallInfo fcinfo, int number, struct varlena *stored, Bytes list)

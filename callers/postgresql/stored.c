@@ -10,7 +10,10 @@
 #include "extension.h"
 
 /* No local part, no dev release, no post-release, and that it is no pre-release: what ends a sort key, and follows the numbers of a release alone. */
-static const Bytes ENDS[] = {{(const uint8_t[]){0, 0x50, 0, 0x10, 0}, 5}, {(const uint8_t[]){0, 0x10, 0}, 3}, {(const uint8_t[]){0x10, 0}, 2}, {(const uint8_t[]){0}, 1}};
+static const struct {
+    uint8_t length;
+    uint8_t bytes[5];
+} ENDS[] = {{5, {0, 0x50, 0, 0x10, 0}}, {3, {0, 0x10, 0}}, {2, {0x10, 0}}, {1, {0}}};
 
 enum { RELEASE_ALONE = 0, SHORT = 0x80, MOST_SHORT = 0x7f, MOST_FIRST = 7, MOST_ZEROS = 3, MOST_END = 3, ZEROS_SHIFT = 3, END_SHIFT = 5, ZERO = 1 };
 
@@ -34,18 +37,6 @@ static int end_of(Bytes value)
     return value.bytes[0] >> END_SHIFT & MOST_END;
 }
 
-bool compare_releases(const struct varlena *left, const struct varlena *right, int *order)
-{
-    Bytes one = bytes_of(left), other = bytes_of(right);
-    if (!is_short(one) || !is_short(other) || end_of(one) != RELEASE_ALONE || end_of(other) != RELEASE_ALONE)
-        return false;
-    uint8_t first = one.bytes[0] & MOST_FIRST, other_first = other.bytes[0] & MOST_FIRST;
-    *order = first < other_first ? -1 : 1;
-    if (first == other_first)
-        *order = compare_bytes((Bytes){one.bytes + 1, one.length - 1}, (Bytes){other.bytes + 1, other.length - 1});
-    return true;
-}
-
 /* The sort key in compiled bytes: without the first byte, and the zeros of the release. */
 static Bytes key_of(Bytes compiled)
 {
@@ -55,22 +46,26 @@ static Bytes key_of(Bytes compiled)
     return end == 0 ? compiled : (Bytes){compiled.bytes + 1, end - 1};
 }
 
+/* Writes the first bytes of the sort key behind the epoch, no more than `most` of those before the end, and then five of the end; returns how many
+   come before it. */
+static size_t write_key(Bytes value, uint8_t *out, size_t most)
+{
+    uint8_t first = value.bytes[0] & MOST_FIRST;
+    size_t before = first != 0 || end_of(value) != RELEASE_ALONE, rest = Min(value.length - 1, most);
+    out[0] = first;
+    memcpy(out + before, value.bytes + 1, rest);
+    memcpy(out + before + rest, ENDS[end_of(value)].bytes, sizeof ENDS->bytes);
+    return before + rest;
+}
+
 static Version short_version(Bytes value, VersionBuffer *buffer)
 {
-    uint8_t first = value.bytes[0] & MOST_FIRST, zeros = value.bytes[0] >> ZEROS_SHIFT & MOST_ZEROS, *at = buffer->bytes;
-    bool is_plain = end_of(value) == RELEASE_ALONE;
-    Bytes end = ENDS[end_of(value)];
-    *at++ = VERSION_FORMAT;
-    *at++ = 0;
-    if (first != 0 || !is_plain)
-        *at++ = first;
-    memcpy(at, value.bytes + 1, value.length - 1);
-    at += value.length - 1;
-    memcpy(at, end.bytes, end.length);
-    at += end.length;
-    memset(at, ZERO, zeros);
-    size_t length = (size_t)(at - buffer->bytes);
-    return (Version){.key = {buffer->bytes + 1, length - 1}, .bytes = {buffer->bytes, length + zeros}, .is_plain = is_plain};
+    size_t zeros = value.bytes[0] >> ZEROS_SHIFT & MOST_ZEROS, numbers = write_key(value, buffer->bytes + 2, MOST_SHORT);
+    size_t length = 2 + numbers + ENDS[end_of(value)].length;
+    buffer->bytes[0] = VERSION_FORMAT;
+    buffer->bytes[1] = 0;
+    memset(buffer->bytes + length, ZERO, MOST_ZEROS);
+    return (Version){.key = {buffer->bytes + 1, length - 1}, .bytes = {buffer->bytes, length + zeros}, .is_plain = end_of(value) == RELEASE_ALONE, .numbers_length = numbers};
 }
 
 /* Of releases before 0.3: two lengths, the sort key, compiled bytes and the normal form. A key of no bytes is in the compiled bytes. */
@@ -97,9 +92,40 @@ Version version_of(const struct varlena *stored, VersionBuffer *buffer)
     return (Version){.key = key_of(value), .bytes = value};
 }
 
-static bool ends_with(Bytes key, Bytes end)
+int compare_versions(const struct varlena *left, const struct varlena *right)
 {
-    return key.length >= end.length && memcmp(key.bytes + key.length - end.length, end.bytes, end.length) == 0;
+    Bytes one = bytes_of(left), other = bytes_of(right);
+    VersionBuffer buffers[2];
+    if (one.length == other.length && memcmp(one.bytes, other.bytes, one.length) == 0)
+        return 0;
+    bool are_releases = is_short(one) && is_short(other) && end_of(one) == RELEASE_ALONE && end_of(other) == RELEASE_ALONE;
+    if (are_releases && (one.bytes[0] & MOST_FIRST) == (other.bytes[0] & MOST_FIRST))
+        return compare_bytes((Bytes){one.bytes + 1, one.length - 1}, (Bytes){other.bytes + 1, other.length - 1});
+    return compare_bytes(version_of(left, &buffers[0]).key, version_of(right, &buffers[1]).key);
+}
+
+uint64 first_of_key(const struct varlena *stored)
+{
+    Bytes value = bytes_of(stored);
+    VersionBuffer buffer;
+    uint64 first = 0;
+    if (is_short(value)) {
+        uint8_t bytes[2 * sizeof first] = {0};
+        write_key(value, bytes, sizeof first);
+        memcpy(&first, bytes, sizeof first);
+        return pg_ntoh64(first);
+    }
+    Bytes key = version_of(stored, &buffer).key;
+    if (key.length == 0 || key.bytes[0] != 0)
+        return PG_UINT64_MAX;
+    memcpy(&first, key.bytes + 1, Min(key.length - 1, sizeof first));
+    return pg_ntoh64(first);
+}
+
+static bool ends_with(Bytes key, int end)
+{
+    size_t length = ENDS[end].length;
+    return key.length >= length && memcmp(key.bytes + key.length - length, ENDS[end].bytes, length) == 0;
 }
 
 /* Which end the sort key has, whose epoch is 0. */
@@ -109,11 +135,11 @@ static int find_end(Bytes key)
     int end = RELEASE_ALONE;
     while (numbers < key.length && key.bytes[numbers] != 0)
         numbers += key.bytes[numbers];
-    if (numbers + ENDS[RELEASE_ALONE].length == key.length && ends_with(key, ENDS[RELEASE_ALONE]))
+    if (numbers + ENDS[end].length == key.length && ends_with(key, end))
         return end;
     do
         end++;
-    while (!ends_with(key, ENDS[end]));
+    while (!ends_with(key, end));
     return end;
 }
 

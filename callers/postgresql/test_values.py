@@ -174,7 +174,7 @@ def test_copy(server):
     if SMALL:
         return "left out"
     db = server.connect()
-    db.rows(f"COPY (SELECT written FROM releases WHERE id <= 50000) TO '{FOLDER}/written'")
+    db.rows(f"COPY (SELECT written FROM releases WHERE id <= 5000) TO '{FOLDER}/written'")
     db.rows("CREATE TABLE copied_version (it pep440); CREATE TABLE copied_string (it text)")
     db.close()
     server.stop()

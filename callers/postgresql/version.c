@@ -34,13 +34,12 @@ Bytes utf8_argument(FunctionCallInfo fcinfo)
 
 /* The binary form of both types is a byte that says which form it is, 1, and the normal form as a text. So what is received is read like any
    other text, and nothing in it is trusted. */
-bytea *send_text(Bytes normal)
+bytea *send_text(const char *normal)
 {
     StringInfoData buffer;
     pq_begintypsend(&buffer);
     pq_sendbyte(&buffer, 1);
-    char *text = server_text(normal);
-    pq_sendtext(&buffer, text, (int)strlen(text));
+    pq_sendtext(&buffer, normal, (int)strlen(normal));
     return pq_endtypsend(&buffer);
 }
 
@@ -56,16 +55,27 @@ Bytes receive_text(StringInfo message, const char *type)
 uint8_t write_all(Writer call, Bytes read, Bytes *out)
 {
     size_t room = 256 + PEP440_COMPILED_BOUND(read.length);
-    uint8_t *bytes = palloc(room);
+    uint8_t *bytes = palloc(room + 1);
     uint8_t status = call(read.bytes, read.length, bytes, room, &out->length);
     if (status == PEP440_NO_ROOM) {
         pfree(bytes);
         room = out->length;
-        bytes = palloc(room);
+        bytes = palloc(room + 1);
         status = call(read.bytes, read.length, bytes, room, &out->length);
     }
     out->bytes = bytes;
     return status;
+}
+
+char *normal_text(Writer call, Bytes value)
+{
+    Bytes normal;
+    uint8_t status = write_all(call, value, &normal);
+    if (status != PEP440_OK)
+        fail(status);
+    char *text = (char *)unconstify(uint8_t *, normal.bytes);
+    text[normal.length] = 0;
+    return text;
 }
 
 struct varlena *make_bytea(Bytes bytes)
@@ -109,14 +119,31 @@ struct varlena *read_version(Bytes text, Node *context)
     return make_version((Bytes){buffer.bytes, length});
 }
 
-Bytes normal_argument(FunctionCallInfo fcinfo)
+/* The normal form of a release alone, whose epoch is 0: the numbers of its key with dots between them, and the zeros at its end. The library would parse
+   the key again, in ten times the instructions. */
+static char *release_text(const Version *version)
+{
+    const uint8_t *at = version->key.bytes + 1, *end = at + version->numbers_length;
+    size_t zeros = version->bytes.length - 1 - version->key.length;
+    char *text = palloc(4 * version->numbers_length + 2 * zeros + 1), *out = text;
+    while (at < end) {
+        uint64 number = 0;
+        for (int left = *at++ - 1; left > 0; left--)
+            number = number << 8 | *at++;
+        out += pg_ulltoa_n(number, out);
+        *out++ = '.';
+    }
+    for (; zeros > 0; zeros--)
+        *out++ = '0', *out++ = '.';
+    out[-1] = 0;
+    return text;
+}
+
+char *normal_argument(FunctionCallInfo fcinfo)
 {
     VersionBuffer buffer;
-    Bytes normal;
-    uint8_t status = write_all(pep440_normalize, version_of(GET_STORED(0), &buffer).bytes, &normal);
-    if (status != PEP440_OK)
-        fail(status);
-    return normal;
+    Version version = version_of(GET_STORED(0), &buffer);
+    return version.is_plain ? release_text(&version) : normal_text(pep440_normalize, version.bytes);
 }
 
 PG_FUNCTION_INFO_V1(version_in);
@@ -129,7 +156,7 @@ Datum version_in(PG_FUNCTION_ARGS)
 PG_FUNCTION_INFO_V1(version_out);
 Datum version_out(PG_FUNCTION_ARGS)
 {
-    PG_RETURN_CSTRING(server_text(normal_argument(fcinfo)));
+    PG_RETURN_CSTRING(normal_argument(fcinfo));
 }
 
 PG_FUNCTION_INFO_V1(version_send);
@@ -153,7 +180,7 @@ Datum version_from_text(PG_FUNCTION_ARGS)
 PG_FUNCTION_INFO_V1(version_to_text);
 Datum version_to_text(PG_FUNCTION_ARGS)
 {
-    PG_RETURN_TEXT_P(cstring_to_text(server_text(normal_argument(fcinfo))));
+    PG_RETURN_TEXT_P(cstring_to_text(normal_argument(fcinfo)));
 }
 
 PG_FUNCTION_INFO_V1(version_valid);
@@ -176,19 +203,10 @@ int compare_bytes(Bytes left, Bytes right)
     return order != 0 ? (order > 0) - (order < 0) : (left.length > right.length) - (left.length < right.length);
 }
 
-static int compare_stored(const struct varlena *left, const struct varlena *right)
-{
-    int order;
-    VersionBuffer buffers[2];
-    if (compare_releases(left, right, &order))
-        return order;
-    return compare_bytes(version_of(left, &buffers[0]).key, version_of(right, &buffers[1]).key);
-}
-
 static int order_of(FunctionCallInfo fcinfo)
 {
     struct varlena *left = GET_STORED(0), *right = GET_STORED(1);
-    int order = compare_stored(left, right);
+    int order = compare_versions(left, right);
     PG_FREE_IF_COPY(left, 0);
     PG_FREE_IF_COPY(right, 1);
     return order;
@@ -281,7 +299,7 @@ Datum version_hash_extended(PG_FUNCTION_ARGS)
 static int compare_datums(Datum left, Datum right, SortSupport unused)
 {
     struct varlena *one = PG_DETOAST_DATUM_PACKED(left), *other = PG_DETOAST_DATUM_PACKED(right);
-    int order = compare_stored(one, other);
+    int order = compare_versions(one, other);
     (void)unused;
     if ((Pointer)one != DatumGetPointer(left))
         pfree(one);
@@ -290,21 +308,14 @@ static int compare_datums(Datum left, Datum right, SortSupport unused)
     return order;
 }
 
-/* Nearly all versions have epoch 0, and their keys a first byte 0: the eight bytes behind it. All other keys are above, and get one number. */
 static Datum abbreviate(Datum original, SortSupport unused)
 {
     struct varlena *stored = PG_DETOAST_DATUM_PACKED(original);
-    VersionBuffer buffer;
-    Bytes key = version_of(stored, &buffer).key;
-    uint64 first = 0;
+    uint64 first = first_of_key(stored);
     (void)unused;
-    if (key.length == 0 || key.bytes[0] != 0)
-        first = PG_UINT64_MAX;
-    else
-        memcpy(&first, key.bytes + 1, Min(key.length - 1, sizeof first));
     if ((Pointer)stored != DatumGetPointer(original))
         pfree(stored);
-    return UInt64GetDatum(pg_ntoh64(first));
+    return UInt64GetDatum(first);
 }
 
 static bool keep_abbreviating(int count, SortSupport unused)
