@@ -7,6 +7,7 @@ for name in ("PQconnectdb", "PQexec", "PQexecParams"):
     getattr(LIBRARY, name).restype = ctypes.c_void_p
 for name in ("PQerrorMessage", "PQresultErrorField", "PQresultErrorMessage", "PQgetvalue"):
     getattr(LIBRARY, name).restype = ctypes.c_void_p
+PROCESSOR = ctypes.CFUNCTYPE(None, ctypes.c_void_p, ctypes.c_char_p)
 COMMAND_OK, TUPLES_OK = 1, 2
 SQLSTATE = ord("C")
 
@@ -22,6 +23,9 @@ class Refused(Exception):
 class Connection:
     def __init__(self, where):
         self.connection = ctypes.c_void_p(LIBRARY.PQconnectdb(where.encode()))
+        self.notices = []
+        self.processor = PROCESSOR(lambda _, message: self.notices.append(message.decode()))
+        LIBRARY.PQsetNoticeProcessor(self.connection, self.processor, None)
         if LIBRARY.PQstatus(self.connection) != 0:
             message = ctypes.string_at(LIBRARY.PQerrorMessage(self.connection)).decode()
             self.close()

@@ -14,11 +14,11 @@ static Datum make_numeric(uint64_t number)
 /* All parts but the numbers of the release. */
 static pep440_parts parts_of(FunctionCallInfo fcinfo)
 {
-    Version version = GET_VERSION(0);
-    Bytes compiled = CURRENT(version);
+    VersionBuffer buffer;
+    Bytes version = version_of(GET_STORED(0), &buffer).bytes;
     pep440_parts parts;
     uint64_t none[1];
-    uint8_t status = pep440_parts_of_compiled(compiled.bytes, compiled.length, &parts, none, 0);
+    uint8_t status = pep440_parts_of(version.bytes, version.length, &parts, none, 0);
     if (status != PEP440_OK && status != PEP440_NO_ROOM)
         fail(status);
     return parts;
@@ -33,13 +33,13 @@ Datum version_epoch(PG_FUNCTION_ARGS)
 PG_FUNCTION_INFO_V1(version_release);
 Datum version_release(PG_FUNCTION_ARGS)
 {
-    Version version = GET_VERSION(0);
-    Bytes compiled = CURRENT(version);
+    VersionBuffer buffer;
+    Bytes version = version_of(GET_STORED(0), &buffer).bytes;
     pep440_parts parts = parts_of(fcinfo);
     size_t count = parts.release_length;
     uint64_t *numbers = palloc(count * sizeof *numbers);
     Datum *items = palloc(count * sizeof *items);
-    uint8_t status = pep440_parts_of_compiled(compiled.bytes, compiled.length, &parts, numbers, count);
+    uint8_t status = pep440_parts_of(version.bytes, version.length, &parts, numbers, count);
     if (status != PEP440_OK)
         fail(status);
     for (size_t each = 0; each < count; each++)
@@ -91,48 +91,42 @@ Datum version_is_prerelease(PG_FUNCTION_ARGS)
     PG_RETURN_BOOL(parts.pre_kind != PEP440_NO_PRE || parts.has_dev);
 }
 
-/* The normal form in front of `+`, and what is behind it; no such part has no bytes. */
-static void split_local(Bytes normal, Bytes *public_part, Bytes *local)
-{
-    const uint8_t *plus = memchr(normal.bytes, '+', normal.length);
-    size_t length = plus == NULL ? normal.length : (size_t)(plus - normal.bytes);
-    *public_part = (Bytes){normal.bytes, length};
-    *local = plus == NULL ? (Bytes){normal.bytes, 0} : (Bytes){plus + 1, normal.length - length - 1};
-}
-
 PG_FUNCTION_INFO_V1(version_local);
 Datum version_local(PG_FUNCTION_ARGS)
 {
-    Bytes public_part, local;
-    split_local(GET_VERSION(0).normal, &public_part, &local);
-    if (local.length == 0)
+    const char *plus = strchr(normal_argument(fcinfo), '+');
+    if (plus == NULL)
         PG_RETURN_NULL();
-    PG_RETURN_TEXT_P(cstring_to_text(server_text(local)));
+    PG_RETURN_TEXT_P(cstring_to_text(plus + 1));
+}
+
+/* The version of the first bytes of the normal form. */
+static Datum version_of_prefix(const char *normal, size_t length)
+{
+    PG_RETURN_POINTER(read_version((Bytes){(const uint8_t *)normal, length}, NULL));
 }
 
 PG_FUNCTION_INFO_V1(version_public);
 Datum version_public(PG_FUNCTION_ARGS)
 {
-    Bytes public_part, local;
-    split_local(GET_VERSION(0).normal, &public_part, &local);
-    PG_RETURN_POINTER(read_version(public_part));
+    const char *normal = normal_argument(fcinfo);
+    return version_of_prefix(normal, strcspn(normal, "+"));
 }
 
 /* Epoch and release: of the normal form the digits and marks before the first letter or `+`; `.post` and `.dev` leave a dot. */
 PG_FUNCTION_INFO_V1(version_base);
 Datum version_base(PG_FUNCTION_ARGS)
 {
-    Bytes normal = GET_VERSION(0).normal;
-    size_t length = 0;
-    while (length < normal.length && memchr("0123456789.!", normal.bytes[length], 12) != NULL)
-        length++;
-    while (length > 0 && normal.bytes[length - 1] == '.')
+    const char *normal = normal_argument(fcinfo);
+    size_t length = strspn(normal, "0123456789.!");
+    while (length > 0 && normal[length - 1] == '.')
         length--;
-    PG_RETURN_POINTER(read_version((Bytes){normal.bytes, length}));
+    return version_of_prefix(normal, length);
 }
 
 PG_FUNCTION_INFO_V1(version_key);
 Datum version_key(PG_FUNCTION_ARGS)
 {
-    PG_RETURN_BYTEA_P(make_bytea(GET_VERSION(0).key));
+    VersionBuffer buffer;
+    PG_RETURN_BYTEA_P(make_bytea(version_of(GET_STORED(0), &buffer).key));
 }

@@ -34,7 +34,7 @@ static List *constant_conditions(Oid family, Node *version, Oid type, const Cons
 {
     Cover cover;
     Bytes low, high;
-    if (list->constisnull || cover_of(specs_of(PG_DETOAST_DATUM_PACKED(list->constvalue)).compiled, &cover) != PEP440_OK)
+    if (list->constisnull || cover_of(list_of(PG_DETOAST_DATUM_PACKED(list->constvalue)), &cover) != PEP440_OK)
         return NIL;
     ends_of_cover(&cover, &low, &high);
     return interval_conditions(family, version, type, low, high);
@@ -124,8 +124,9 @@ static double intervals_selectivity(PlannerInfo *root, int relation, VariableSta
     return sum;
 }
 
-/* Of a column of versions and a list that is known. */
-static double known_selectivity(PlannerInfo *root, List *arguments, int relation, bool version_is_first)
+/* Of a column of lists and a version that is known: the lists of the statistics are asked. Of a column of versions and a list that is known: the
+   intervals of its cover. */
+static double known_selectivity(PlannerInfo *root, Oid operator, List *arguments, int relation, bool version_is_first)
 {
     VariableStatData variable;
     Node *list;
@@ -135,9 +136,11 @@ static double known_selectivity(PlannerInfo *root, List *arguments, int relation
     if (!get_restriction_variable(root, arguments, relation, &variable, &list, &is_left))
         return NOT_KNOWN;
     bool is_known = IsA(list, Const) && is_left == version_is_first;
-    if (is_known && ((Const *)list)->constisnull)
+    if (is_left != version_is_first)
+        found = generic_restriction_selectivity(root, operator, InvalidOid, arguments, relation, DEFAULT_RANGE_INEQ_SEL);
+    else if (is_known && ((Const *)list)->constisnull)
         found = 0;
-    else if (is_known && cover_of(specs_of(PG_DETOAST_DATUM_PACKED(((Const *)list)->constvalue)).compiled, &cover) == PEP440_OK)
+    else if (is_known && cover_of(list_of(PG_DETOAST_DATUM_PACKED(((Const *)list)->constvalue)), &cover) == PEP440_OK)
         found = intervals_selectivity(root, relation, &variable, &cover);
     ReleaseVariableStats(variable);
     return found;
@@ -145,7 +148,8 @@ static double known_selectivity(PlannerInfo *root, List *arguments, int relation
 
 static Datum selectivity(FunctionCallInfo fcinfo, bool version_is_first)
 {
-    double found = known_selectivity((PlannerInfo *)PG_GETARG_POINTER(0), (List *)PG_GETARG_POINTER(2), PG_GETARG_INT32(3), version_is_first);
+    PlannerInfo *root = (PlannerInfo *)PG_GETARG_POINTER(0);
+    double found = known_selectivity(root, PG_GETARG_OID(1), (List *)PG_GETARG_POINTER(2), PG_GETARG_INT32(3), version_is_first);
     if (found == NOT_KNOWN)
         found = DEFAULT_RANGE_INEQ_SEL;
     CLAMP_PROBABILITY(found);

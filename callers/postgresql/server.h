@@ -18,6 +18,7 @@
 #include "nodes/supportnodes.h"
 #include "optimizer/optimizer.h"
 #include "parser/parse_func.h"
+#include "port/pg_bswap.h"
 #include "utils/array.h"
 #include "utils/builtins.h"
 #include "utils/lsyscache.h"
@@ -25,3 +26,14 @@
 #include "utils/selfuncs.h"
 #include "utils/sortsupport.h"
 #include "utils/typcache.h"
+
+/* Before PostgreSQL 16 an error of an input function is always raised, and `varatt.h` is part of `postgres.h`. */
+#if PG_VERSION_NUM < 160000
+#define ereturn(context, result, ...) \
+    do { \
+        (void)(context); \
+        ereport(ERROR, __VA_ARGS__); \
+    } while (0)
+#else
+#include "varatt.h"
+#endif

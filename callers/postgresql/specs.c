@@ -1,24 +1,13 @@
-/* The type pep440_specs: a list of specifiers that is compiled once; what it contains, and the intervals of keys that cover it. */
+/* The type pep440_specs: a list of specifiers that is compiled once; lists as values; what a list contains, and the intervals of keys that cover it. */
 #include "extension.h"
 
 /* Above each key: the first byte of a key is at most 8. */
 static const uint8_t ABOVE_ALL[] = {0xff};
 
-Specs specs_of(const struct varlena *stored)
-{
-    const uint8_t *bytes = (const uint8_t *)VARDATA_ANY(stored);
-    size_t length = VARSIZE_ANY_EXHDR(stored);
-    uint32_t compiled;
-    if (length < sizeof compiled)
-        fail(PEP440_NOT_COMPILED);
-    memcpy(&compiled, bytes, sizeof compiled);
-    if (length - sizeof compiled < compiled)
-        fail(PEP440_NOT_COMPILED);
-    Bytes stored_list = {bytes + sizeof compiled, compiled}, normal = {stored_list.bytes + compiled, length - sizeof compiled - compiled};
-    return (Specs){current(stored_list, LIST_FORMAT, normal, pep440_compile_list), normal};
-}
+/* ---- values */
 
-static void fail_specs(Bytes text)
+/* Keeps the error that says why the text is no list, or raises it. */
+static struct varlena *fail_list(Bytes text, Node *context)
 {
     Bytes why;
     uint8_t status = write_all(pep440_list_error, text, &why);
@@ -26,78 +15,152 @@ static void fail_specs(Bytes text)
         fail(status);
     while (why.length > 0 && why.bytes[why.length - 1] == '\n')
         why.length--;
-    ereport(ERROR, (errcode(ERRCODE_INVALID_TEXT_REPRESENTATION),
-                    errmsg("invalid input syntax for type %s: \"%s\"", "pep440_specs", server_text(text)), errdetail("%s", server_text(why))));
+    ereturn(context, NULL, (errcode(ERRCODE_INVALID_TEXT_REPRESENTATION),
+                            errmsg("invalid input syntax for type %s: \"%s\"", "pep440_specs", server_text(text)), errdetail("%s", server_text(why))));
 }
 
-/* The compiled bytes are those of the normal form, so that what a dump restores is the same to the byte. */
-struct varlena *read_specs(Bytes text)
+static uint8_t compile_list(Bytes text, Bytes *compiled)
 {
-    Bytes compiled, normal;
-    uint8_t status = write_all(pep440_normalize_list, text, &normal);
+    return text.length > MOST_TEXT ? PEP440_NO_ROOM : write_all(pep440_compile_list, text, compiled);
+}
+
+struct varlena *read_list(Bytes text, Node *context)
+{
+    Bytes compiled;
+    uint8_t status = compile_list(text, &compiled);
     if (status == PEP440_INVALID_LIST)
-        fail_specs(text);
-    if (status == PEP440_OK)
-        status = write_all(pep440_compile_list, normal, &compiled);
+        return fail_list(text, context);
+    if (status == PEP440_NO_ROOM)
+        ereturn(context, NULL, (errcode(ERRCODE_PROGRAM_LIMIT_EXCEEDED), errmsg("list is too long for type %s", "pep440_specs"),
+                                errdetail("Its text has more than %d bytes.", MOST_TEXT)));
     if (status != PEP440_OK)
         fail(status);
-    uint32_t length = (uint32_t)compiled.length;
-    size_t size = VARHDRSZ + sizeof length + compiled.length + normal.length;
-    struct varlena *made = palloc(size);
-    SET_VARSIZE(made, size);
-    memcpy(VARDATA(made), &length, sizeof length);
-    memcpy(VARDATA(made) + sizeof length, compiled.bytes, compiled.length);
-    memcpy(VARDATA(made) + sizeof length + compiled.length, normal.bytes, normal.length);
-    return made;
+    return make_bytea(compiled);
+}
+
+static char *normal_list(FunctionCallInfo fcinfo, int number)
+{
+    return normal_text(pep440_normalize_list, GET_LIST(number));
 }
 
 PG_FUNCTION_INFO_V1(specs_in);
 Datum specs_in(PG_FUNCTION_ARGS)
 {
     const char *text = PG_GETARG_CSTRING(0);
-    PG_RETURN_POINTER(read_specs(utf8_of(text, (int)strlen(text))));
+    PG_RETURN_POINTER(read_list(utf8_of(text, (int)strlen(text)), fcinfo->context));
 }
 
 PG_FUNCTION_INFO_V1(specs_out);
 Datum specs_out(PG_FUNCTION_ARGS)
 {
-    PG_RETURN_CSTRING(server_text(GET_SPECS(0).normal));
+    PG_RETURN_CSTRING(normal_list(fcinfo, 0));
 }
 
 PG_FUNCTION_INFO_V1(specs_send);
 Datum specs_send(PG_FUNCTION_ARGS)
 {
-    Bytes normal = GET_SPECS(0).normal;
-    StringInfoData buffer;
-    pq_begintypsend(&buffer);
-    pq_sendbyte(&buffer, 1);
-    char *text = server_text(normal);
-    pq_sendtext(&buffer, text, (int)strlen(text));
-    PG_RETURN_BYTEA_P(pq_endtypsend(&buffer));
+    PG_RETURN_BYTEA_P(send_text(normal_list(fcinfo, 0)));
 }
 
 PG_FUNCTION_INFO_V1(specs_recv);
 Datum specs_recv(PG_FUNCTION_ARGS)
 {
-    StringInfo message = (StringInfo)PG_GETARG_POINTER(0);
-    int length, form = pq_getmsgbyte(message);
-    if (form != 1)
-        ereport(ERROR, (errcode(ERRCODE_INVALID_BINARY_REPRESENTATION), errmsg("unknown binary form %d of type %s", form, "pep440_specs")));
-    char *text = pq_getmsgtext(message, message->len - message->cursor, &length);
-    PG_RETURN_POINTER(read_specs(utf8_of(text, length)));
+    PG_RETURN_POINTER(read_list(receive_text((StringInfo)PG_GETARG_POINTER(0), "pep440_specs"), NULL));
 }
 
 PG_FUNCTION_INFO_V1(specs_from_text);
 Datum specs_from_text(PG_FUNCTION_ARGS)
 {
-    const text *given = PG_GETARG_TEXT_PP(0);
-    PG_RETURN_POINTER(read_specs(utf8_of(VARDATA_ANY(given), (int)VARSIZE_ANY_EXHDR(given))));
+    PG_RETURN_POINTER(read_list(utf8_argument(fcinfo), NULL));
 }
 
 PG_FUNCTION_INFO_V1(specs_to_text);
 Datum specs_to_text(PG_FUNCTION_ARGS)
 {
-    PG_RETURN_TEXT_P(cstring_to_text(server_text(GET_SPECS(0).normal)));
+    PG_RETURN_TEXT_P(cstring_to_text(normal_list(fcinfo, 0)));
+}
+
+PG_FUNCTION_INFO_V1(specs_valid);
+Datum specs_valid(PG_FUNCTION_ARGS)
+{
+    Bytes compiled;
+    uint8_t status = compile_list(utf8_argument(fcinfo), &compiled);
+    if (status == PEP440_OUT_OF_MEMORY)
+        fail(status);
+    PG_RETURN_BOOL(status == PEP440_OK);
+}
+
+/* The list of the members of both: a version is in it if it is in both. */
+PG_FUNCTION_INFO_V1(specs_both);
+Datum specs_both(PG_FUNCTION_ARGS)
+{
+    const char *left = normal_list(fcinfo, 0), *right = normal_list(fcinfo, 1);
+    char *both = psprintf("%s%s%s", left, *left != 0 && *right != 0 ? "," : "", right);
+    PG_RETURN_POINTER(read_list((Bytes){(const uint8_t *)both, strlen(both)}, NULL));
+}
+
+/* ---- order and hashes: lists are equal if they have the same normal form, and then their compiled bytes are the same. The order is that of these bytes,
+   so that lists can be sorted and indexed, and has no other meaning. */
+
+static Bytes compiled_list(const struct varlena *stored)
+{
+    Bytes list = list_of(stored), compiled;
+    if (list.bytes == bytes_of(stored).bytes)
+        return list;
+    uint8_t status = write_all(pep440_compile_list, list, &compiled);
+    if (status != PEP440_OK)
+        fail(status);
+    return compiled;
+}
+
+static void free_list(FunctionCallInfo fcinfo, int number, struct varlena *stored, Bytes list)
+{
+    if (list.bytes != bytes_of(stored).bytes)
+        pfree(unconstify(uint8_t *, list.bytes));
+    PG_FREE_IF_COPY(stored, number);
+}
+
+static int order_of_lists(FunctionCallInfo fcinfo)
+{
+    struct varlena *left = GET_STORED(0), *right = GET_STORED(1);
+    Bytes one = compiled_list(left), other = compiled_list(right);
+    int order = compare_bytes(one, other);
+    free_list(fcinfo, 0, left, one);
+    free_list(fcinfo, 1, right, other);
+    return order;
+}
+
+ORDER_FUNCTION(specs_lt, order_of_lists(fcinfo) < 0);
+ORDER_FUNCTION(specs_le, order_of_lists(fcinfo) <= 0);
+ORDER_FUNCTION(specs_eq, order_of_lists(fcinfo) == 0);
+ORDER_FUNCTION(specs_ge, order_of_lists(fcinfo) >= 0);
+ORDER_FUNCTION(specs_gt, order_of_lists(fcinfo) > 0);
+ORDER_FUNCTION(specs_ne, order_of_lists(fcinfo) != 0);
+
+PG_FUNCTION_INFO_V1(specs_cmp);
+Datum specs_cmp(PG_FUNCTION_ARGS)
+{
+    PG_RETURN_INT32(order_of_lists(fcinfo));
+}
+
+PG_FUNCTION_INFO_V1(specs_hash);
+Datum specs_hash(PG_FUNCTION_ARGS)
+{
+    struct varlena *stored = GET_STORED(0);
+    Bytes list = compiled_list(stored);
+    Datum hash = hash_any(list.bytes, (int)list.length);
+    free_list(fcinfo, 0, stored, list);
+    return hash;
+}
+
+PG_FUNCTION_INFO_V1(specs_hash_extended);
+Datum specs_hash_extended(PG_FUNCTION_ARGS)
+{
+    struct varlena *stored = GET_STORED(0);
+    Bytes list = compiled_list(stored);
+    Datum hash = hash_any_extended(list.bytes, (int)list.length, (uint64)PG_GETARG_INT64(1));
+    free_list(fcinfo, 0, stored, list);
+    return hash;
 }
 
 /* ---- covers */
@@ -132,7 +195,7 @@ static uint8_t intervals_of(Intervals call, Bytes list, Cover *cover)
 
 uint8_t cover_of(Bytes list, Cover *cover)
 {
-    return intervals_of(pep440_cover_keys_compiled, list, cover);
+    return intervals_of(pep440_cover_keys, list, cover);
 }
 
 Bytes cover_key(const Cover *cover, size_t place)
@@ -181,11 +244,12 @@ static void keep_list(FmgrInfo *function, Bytes list)
 
 /* Whether the range of the list holds no version without a local part that the list does not contain (docs/PROMISES.md, "Conversions into
    ranges"): so it is where no operator is `===`, which goes by the normal form, or `>`, whose range holds post-releases too. */
-static bool is_decided_by_range(Bytes normal)
+static bool is_decided_by_range(Bytes list)
 {
-    uint8_t *bytes = palloc(normal.length + 1);
-    size_t *ends = palloc((normal.length + 1) * sizeof *ends), room, count;
-    bool is_decided = pep440_specifiers_of(normal.bytes, normal.length, bytes, normal.length, ends, normal.length, &room, &count) == PEP440_OK;
+    size_t room = PEP440_COMPILED_BOUND(list.length), count;
+    uint8_t *bytes = palloc(room);
+    size_t *ends = palloc(room * sizeof *ends);
+    bool is_decided = pep440_specifiers_of(list.bytes, list.length, bytes, room, ends, room, &room, &count) == PEP440_OK;
     for (size_t each = 0; is_decided && each < count; each += 2) {
         size_t start = each == 0 ? 0 : ends[each - 1], length = ends[each] - start;
         is_decided = !(length == 3 || (length == 1 && bytes[start] == '>'));
@@ -196,13 +260,13 @@ static bool is_decided_by_range(Bytes normal)
 }
 
 /* Finds the intervals of a list that came again, in the memory that the function keeps. */
-static void know_list(FmgrInfo *function, Kept *kept, Specs specs)
+static void know_list(FmgrInfo *function, Kept *kept, Bytes list)
 {
     MemoryContext before = MemoryContextSwitchTo(function->fn_mcxt);
     Cover cover, contained;
-    if (cover_of(specs.compiled, &cover) != PEP440_OK)
+    if (cover_of(list, &cover) != PEP440_OK)
         cover = whole_cover();
-    if (!is_decided_by_range(specs.normal) || intervals_of(pep440_range_keys_compiled, specs.compiled, &contained) != PEP440_OK)
+    if (!is_decided_by_range(list) || intervals_of(pep440_range_keys, list, &contained) != PEP440_OK)
         contained = (Cover){palloc(1), palloc(sizeof(size_t)), 0};
     kept->cover = cover;
     kept->contained = contained;
@@ -227,10 +291,9 @@ static bool is_in_cover(const Cover *cover, Bytes key)
 }
 
 /* What is known of the list, if it is that of the last call too. */
-static const Kept *known_list(FmgrInfo *function, Specs specs)
+static const Kept *known_list(FmgrInfo *function, Bytes list)
 {
     Kept *kept = function == NULL ? NULL : function->fn_extra;
-    Bytes list = specs.compiled;
     if (function == NULL)
         return NULL;
     if (kept == NULL || kept->list.length != list.length || memcmp(kept->list.bytes, list.bytes, list.length) != 0) {
@@ -238,21 +301,22 @@ static const Kept *known_list(FmgrInfo *function, Specs specs)
         return NULL;
     }
     if (!kept->is_known)
-        know_list(function, kept, specs);
+        know_list(function, kept, list);
     return kept;
 }
 
 /* Most versions are told by their keys; the library tells the others. */
-static bool contains(FmgrInfo *function, Specs specs, Version version)
+static bool contains(FmgrInfo *function, Bytes list, const struct varlena *stored)
 {
+    VersionBuffer buffer;
     uint8_t contained, prerelease;
-    const Kept *known = known_list(function, specs);
+    Version version = version_of(stored, &buffer);
+    const Kept *known = known_list(function, list);
     if (known != NULL && !is_in_cover(&known->cover, version.key))
         return false;
-    if (known != NULL && memchr(version.normal.bytes, '+', version.normal.length) == NULL && is_in_cover(&known->contained, version.key))
+    if (known != NULL && version.is_plain && is_in_cover(&known->contained, version.key))
         return true;
-    Bytes compiled = CURRENT(version);
-    uint8_t status = pep440_contains_compiled(specs.compiled.bytes, specs.compiled.length, compiled.bytes, compiled.length, &contained, &prerelease);
+    uint8_t status = pep440_contains(list.bytes, list.length, version.bytes.bytes, version.bytes.length, &contained, &prerelease);
     if (status != PEP440_OK)
         fail(status);
     return contained != 0;
@@ -261,22 +325,22 @@ static bool contains(FmgrInfo *function, Specs specs, Version version)
 PG_FUNCTION_INFO_V1(specs_contains);
 Datum specs_contains(PG_FUNCTION_ARGS)
 {
-    PG_RETURN_BOOL(contains(fcinfo->flinfo, GET_SPECS(0), GET_VERSION(1)));
+    PG_RETURN_BOOL(contains(fcinfo->flinfo, GET_LIST(0), GET_STORED(1)));
 }
 
 PG_FUNCTION_INFO_V1(version_contained_by);
 Datum version_contained_by(PG_FUNCTION_ARGS)
 {
-    PG_RETURN_BOOL(contains(fcinfo->flinfo, GET_SPECS(1), GET_VERSION(0)));
+    PG_RETURN_BOOL(contains(fcinfo->flinfo, GET_LIST(1), GET_STORED(0)));
 }
 
 /* Whether the list names a pre-release or a developmental release. */
 PG_FUNCTION_INFO_V1(specs_any_prerelease);
 Datum specs_any_prerelease(PG_FUNCTION_ARGS)
 {
-    Bytes normal = GET_SPECS(0).normal;
+    Bytes list = GET_LIST(0);
     uint8_t any;
-    uint8_t status = pep440_any_prerelease(normal.bytes, normal.length, &any);
+    uint8_t status = pep440_any_prerelease(list.bytes, list.length, &any);
     if (status != PEP440_OK)
         fail(status);
     PG_RETURN_BOOL(any != 0);
@@ -290,7 +354,7 @@ static Datum end_of(FunctionCallInfo fcinfo, bool upper)
 {
     Cover cover;
     Bytes low = {ABOVE_ALL, 0}, high = {ABOVE_ALL, 0};
-    if (cover_of(GET_SPECS(0).compiled, &cover) == PEP440_OK)
+    if (cover_of(GET_LIST(0), &cover) == PEP440_OK)
         ends_of_cover(&cover, &low, &high);
     if (high.length == 0)
         high = (Bytes){ABOVE_ALL, 1};
@@ -314,7 +378,7 @@ PG_FUNCTION_INFO_V1(specs_cover);
 Datum specs_cover(PG_FUNCTION_ARGS)
 {
     Cover cover;
-    if (cover_of(GET_SPECS(0).compiled, &cover) != PEP440_OK)
+    if (cover_of(GET_LIST(0), &cover) != PEP440_OK)
         ereport(ERROR, (errcode(ERRCODE_NUMERIC_VALUE_OUT_OF_RANGE), errmsg("a bound of the cover would lie above 18446744073709551615")));
     InitMaterializedSRF(fcinfo, 0);
     ReturnSetInfo *result = (ReturnSetInfo *)fcinfo->resultinfo;

@@ -6,105 +6,16 @@ what `@>` finds. With --small there are fewer rows, and nothing is timed; --only
 """
 import ctypes
 import os
-import pathlib
 import random
 import re
-import resource
 import statistics
 import subprocess
 import sys
 
-from libpq import Connection, Refused
-
-HERE = pathlib.Path(__file__).resolve().parent
-WORDS = [word for word in sys.argv[1:] if not word.startswith("--")]
-FOLDER, PREFIX, PROGRAM = pathlib.Path(WORDS[0]), WORDS[1], (WORDS + [None])[2]
-SMALL = "--small" in sys.argv
-ROWS = 20_000 if SMALL else 1_000_000
-STRINGS = 10_000
-LISTS = ["", ">=1.0,<2.0,!=1.5.*", "==2.1.0+cu118", "<=2.1.0", "<1.0.post1,>=1.0", "~=1.4.2", "===1.10", "!=1.0", ">2.0,<1.0", "==1.*", ">1!0", ">=4.29.100", "==3.9.post1,!=3.9"]
-NARROW = ["==2.1.0+cu118", "~=1.4.2", "<1.0.post1,>=1.0", ">2.0,<1.0", ">1!0", ">=4.29.100", "==3.9.post1,!=3.9"]
-NO_INDEX = "SET enable_indexscan = off; SET enable_indexonlyscan = off; SET enable_bitmapscan = off;"
-NO_TABLE = "SET enable_seqscan = off;"
-OUT_OF_MEMORY = "53200"
-INVALID_REGULAR_EXPRESSION = "2201B"  # the server's own, of a request of its compiler of regular expressions
-USER = ["setpriv", "--reuid=postgres", "--regid=postgres", "--clear-groups"] if os.geteuid() == 0 else []
-
-
-class Server:
-    """A server of its own, in a folder of its own."""
-
-    def __init__(self, name):
-        self.folder = FOLDER / name
-        self.data = self.folder / "data"
-        self.log = self.folder / "log"
-        subprocess.run(USER + ["mkdir", str(self.folder)], check=True)
-        self.run("initdb", "-D", self.data, "-U", "tester", "-E", "UTF8", "--locale=C.UTF-8", "--no-sync")
-
-    def run(self, program, *words, environment=None, limit=None):
-        def limited():
-            if limit:
-                resource.setrlimit(resource.RLIMIT_AS, (limit, limit))
-
-        command = USER + [str(FOLDER / "bin" / program), *map(str, words)]
-        output = (self.folder / "output") if program == "pg_ctl" else None
-        with open(output or os.devnull, "wb") as file:
-            ran = subprocess.run(command, cwd=FOLDER, env={**os.environ, "LC_ALL": "C", **(environment or {})}, preexec_fn=limited, check=False,
-                                 stdout=file if output else subprocess.PIPE, stderr=subprocess.STDOUT)
-        assert ran.returncode == 0, (program, ran.stdout, output and output.read_text())
-        return ran.stdout
-
-    def start(self, environment=None, limit=None):
-        settings = f"-c listen_addresses= -c unix_socket_directories={self.folder} -c fsync=off -c shared_buffers=64MB -c max_wal_size=4GB -c jit=off"
-        self.run("pg_ctl", "-D", self.data, "-l", self.log, "-w", "-s", "-o", settings, "start", environment=environment, limit=limit)
-
-    def stop(self):
-        if (self.data / "postmaster.pid").exists():
-            self.run("pg_ctl", "-D", self.data, "-w", "-s", "-m", "fast", "stop")
-
-    def where(self, database="postgres"):
-        return f"host={self.folder} user=tester dbname={database}"
-
-    def connect(self, database="postgres"):
-        return Connection(self.where(database))
-
-    def environment(self, database="postgres"):
-        return {"PGHOST": str(self.folder), "PGUSER": "tester", "PGDATABASE": database}
-
-    def is_sound(self):
-        """Whether no process of the server ended as none should."""
-        found = re.findall(r"^.*(?:terminated by signal|PANIC|TRAP|server process .* exited).*$", self.log.read_text(errors="replace"), re.M)
-        assert not found, found
-        return True
-
-
-def version(rng):
-    """A version as indexes have them: mostly plain, some with suffixes, some local, a few with an epoch or written in another way."""
-    text = ".".join(str(rng.randrange(limit)) for limit in (5, 30, 150)[: rng.choice((1, 2, 3, 3))])
-    kind = rng.randrange(12)
-    suffix = {0: f"rc{rng.randrange(3)}", 1: f".post{rng.randrange(3)}", 2: f".dev{rng.randrange(3)}", 3: f"+cu{rng.randrange(120)}", 4: f"a{rng.randrange(2)}.dev1"}
-    text += suffix.get(kind, "")
-    return f"1!{text}" if kind == 5 and rng.randrange(20) == 0 else f"V{text}" if kind == 6 else text
-
-
-def fill(server):
-    """The table of all tests: what was written, and the version."""
-    rng = random.Random(20261123)
-    lines = FOLDER / "lines"
-    lines.write_text("".join(version(rng) + "\n" for _ in range(ROWS)))
-    db = server.connect()
-    db.rows("CREATE EXTENSION pep440")
-    db.rows('CREATE TABLE releases (id serial, written text COLLATE "C", version pep440 GENERATED ALWAYS AS (pep440(written)) STORED)')
-    db.rows(f"COPY releases (written) FROM '{lines}'")
-    db.rows("CREATE INDEX by_version ON releases (version)")
-    db.rows("CREATE INDEX by_hash ON releases USING hash (version)")
-    db.rows("VACUUM ANALYZE releases")
-    db.close()
-
-
-def plan_of(db, query):
-    return "\n".join(line for (line,) in db.rows("EXPLAIN (COSTS OFF) " + query))
-
+import test_values
+from libpq import Refused
+from server import (FOLDER, HERE, INVALID_REGULAR_EXPRESSION, LISTS, NARROW, NO_INDEX, NO_TABLE, OUT_OF_MEMORY, PREFIX, PROGRAM, ROWS, SMALL, STRINGS, USER, Server, copied, fill,
+                    instructions, milliseconds, plan_of, processor_time, version)
 
 # ---- what a running server is asked
 
@@ -131,13 +42,6 @@ def test_page(server):
     db.close()
     assert count == 8, count
     return f"{count} queries"
-
-
-def copied(db, query, name):
-    """What the query gives, as COPY writes it."""
-    file = db.folder / name
-    db.rows(f"COPY ({query}) TO '{file}'")
-    return file.read_bytes()
 
 
 def test_lists(server):
@@ -335,7 +239,8 @@ def test_receive(server):
         number = int(db.value(f"SELECT '{kind}'::regtype::oid"))
         for _ in range(STRINGS):
             given = random_bytes(rng, make())
-            wanted = normal(call, given[1:]) if given[:1] == b"\1" and b"\0" not in given else None
+            is_text = given[:1] == b"\1" and b"\0" not in given and given[1:2] not in (b"\4", b"\5")
+            wanted = normal(call, given[1:]) if is_text else None
             try:
                 ((found,),) = db.with_binary("SELECT $1", number, given)
             except Refused as error:
@@ -348,42 +253,18 @@ def test_receive(server):
     return f"{STRINGS} byte strings for each type, {taken} taken, the others errors"
 
 
-def milliseconds(db, query):
-    return float(re.search(r"Execution Time: ([\d.]+)", "\n".join(line for (line,) in db.rows("EXPLAIN (ANALYZE, TIMING OFF) " + query)))[1])
-
-
-def processor_time(db, query):
-    """Of the backend, in nanoseconds: on a loaded machine it waits longer, and takes no more."""
-    file = pathlib.Path(f"/proc/{db.value('SELECT pg_backend_pid()')}/schedstat")
-    before = int(file.read_text().split()[0])
-    db.rows(query)
-    return int(file.read_text().split()[0]) - before
-
-
-def instructions(server, query):
-    """Of the query, by valgrind, in a server that runs it alone: what two runs take more than one."""
-    settings = ("work_mem=1GB", "jit=off", "max_parallel_workers_per_gather=0")
-    counts = []
-    for turns in (1, 2):
-        command = USER + ["valgrind", "--tool=callgrind", "--callgrind-out-file=/dev/null", str(FOLDER / "bin" / "postgres"), "--single", "-D", str(server.data)]
-        ran = subprocess.run(command + [word for setting in settings for word in ("-c", setting)] + ["postgres"], cwd=FOLDER, env={**os.environ, "LC_ALL": "C"},
-                             input=(query + "\n") * turns, capture_output=True, text=True, check=True)
-        counts.append(int(re.search(r"Collected : (\d+)", ran.stderr)[1]))
-    return counts[1] - counts[0]
-
-
 def test_sort(server):
     """A sort of versions executes no more than one of the strings that they were written as."""
     if SMALL:
         return "left out"
     db = server.connect()
-    db.rows("CREATE TABLE unsorted AS SELECT written, version FROM releases WHERE id <= 100000")
+    db.rows("CREATE TABLE unsorted AS SELECT written, version FROM releases WHERE id <= 20000")
     db.close()
     server.stop()
     versions, strings = (instructions(server, f"SELECT count(*) FROM (SELECT {name} FROM unsorted ORDER BY {name} OFFSET 0) AS sorted") for name in ("version", "written"))
     server.start()
     assert versions <= strings, (versions, strings)
-    return f"100000 versions take {versions} instructions, their strings {strings}"
+    return f"20000 versions take {versions} instructions, their strings {strings}"
 
 
 def test_speed(server):
@@ -417,6 +298,7 @@ QUERIES = [
     "SELECT pep440_release(v), pep440_pre(v), pep440_local(v), pep440_public(v), pep440_base(v), v::text FROM (SELECT '1!1.2.3rc4.post5+u'::text::pep440 AS v) AS one",
     "SELECT count(*), count(high), bool_and(high IS NULL OR low < high) FROM pep440_cover('!=1.5,!=1.7.*,!=2.0+a')",
     "SELECT string_agg(version::text, ' ' ORDER BY version) FROM kept",
+    "SELECT s * t, s = t, pep440_specs_hash(s), s < t, pep440_specs_valid('>=1,' || s::text) FROM (SELECT '>=1,!=1.5+a'::text::pep440_specs AS s, '<2.0rc1'::text::pep440_specs AS t) AS one",
     "UPDATE kept SET version = (version::text || '.dev1')::pep440 WHERE version <@ '>=1,!=1.5+a' AND version::text !~ 'dev|[+]' RETURNING version",
 ]
 
@@ -504,6 +386,19 @@ def test_limited(unused):
     return f"{refused} of 4 queries out of memory, and no row changed"
 
 
+def test_valgrind(unused):
+    """No query reads or writes what it may not in the extension or the library: a server under valgrind that runs them alone."""
+    server, log = Server("checked"), FOLDER / "valgrind"
+    failing = ["SELECT '1.0.x'::text::pep440", "SELECT '=<1'::text::pep440_specs", f"SELECT ('1+' || repeat('a', 3000))::pep440 <> '{'1' + '.1' * 1000}'"]
+    rows = [f"INSERT INTO kept SELECT n, ('{'1!' if epoch else ''}1.' || n || '{suffix}')::pep440 FROM generate_series(1, 50) AS n" for epoch, suffix in enumerate(("", ".0rc1+ubuntu.7", ".0.0"))]
+    queries = ["CREATE EXTENSION pep440", *SMALL_TABLE.split(";")[:2], *rows, *QUERIES, *failing, "ANALYZE kept", "SELECT * FROM kept WHERE version <@ '~=1.5' ORDER BY version"]
+    command = USER + ["valgrind", f"--log-file={log}", "--num-callers=30", str(FOLDER / "bin" / "postgres"), "--single", "-D", str(server.data), "postgres"]
+    subprocess.run(command, cwd=FOLDER, env={**os.environ, "LC_ALL": "C"}, input="\n".join(queries) + "\n", capture_output=True, text=True, check=True)
+    found = [block for block in log.read_text().split("== \n") if re.search(r"pep440|\((version|stored|specs|parts|plan)\.c", block) and "Command:" not in block]
+    assert not found, found[0]
+    return f"{len(queries)} queries"
+
+
 def main():
     failed = passed = 0
     server = Server("server")
@@ -511,7 +406,8 @@ def main():
         server.start()
         fill(server)
         only = [f"test_{word[7:]}" for word in sys.argv if word.startswith("--only=")]
-        for name, test in [(name, test) for name, test in globals().items() if name.startswith("test_") and (not only or name in only)]:
+        tests = {**globals(), **vars(test_values)}
+        for name, test in [(name, test) for name, test in tests.items() if name.startswith("test_") and callable(test) and (not only or name in only)]:
             try:
                 print(f"postgresql: {name.removeprefix('test_')}: {test(server)}", flush=True)
                 passed += 1

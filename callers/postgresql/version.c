@@ -3,15 +3,6 @@
 
 PG_MODULE_MAGIC;
 
-/* Lengths; then the compiled bytes and the normal form. Values of older releases have the sort key first, and compiled bytes of another format, which
-   `current` makes anew; `key` is the length of that key, and 0 of values as they are stored now. */
-typedef struct {
-    uint16_t key;
-    uint16_t compiled;
-} Lengths;
-
-enum { MOST_PARTS = MOST_BYTES - VARHDRSZ };
-
 /* ---- what all files share */
 
 void fail(uint8_t status)
@@ -24,6 +15,8 @@ void fail(uint8_t status)
 Bytes utf8_of(const char *text, int length)
 {
     const char *utf8 = pg_server_to_any(text, length, PG_UTF8);
+    if (length > 0 && (utf8[0] == VERSION_FORMAT || utf8[0] == LIST_FORMAT))
+        return (Bytes){(const uint8_t *)"\1", 1};
     return (Bytes){(const uint8_t *)utf8, utf8 == text ? (size_t)length : strlen(utf8)};
 }
 
@@ -33,19 +26,56 @@ char *server_text(Bytes utf8)
     return pg_any_to_server(text, (int)utf8.length, PG_UTF8);
 }
 
+Bytes utf8_argument(FunctionCallInfo fcinfo)
+{
+    Bytes given = bytes_of(PG_GETARG_TEXT_PP(0));
+    return utf8_of((const char *)given.bytes, (int)given.length);
+}
+
+/* The binary form of both types is a byte that says which form it is, 1, and the normal form as a text. So what is received is read like any
+   other text, and nothing in it is trusted. */
+bytea *send_text(const char *normal)
+{
+    StringInfoData buffer;
+    pq_begintypsend(&buffer);
+    pq_sendbyte(&buffer, 1);
+    pq_sendtext(&buffer, normal, (int)strlen(normal));
+    return pq_endtypsend(&buffer);
+}
+
+Bytes receive_text(StringInfo message, const char *type)
+{
+    int length, form = pq_getmsgbyte(message);
+    if (form != 1)
+        ereport(ERROR, (errcode(ERRCODE_INVALID_BINARY_REPRESENTATION), errmsg("unknown binary form %d of type %s", form, type)));
+    char *text = pq_getmsgtext(message, message->len - message->cursor, &length);
+    return utf8_of(text, length);
+}
+
 uint8_t write_all(Writer call, Bytes read, Bytes *out)
 {
-    size_t room = 256;
-    uint8_t *bytes = palloc(room);
+    size_t room = 256 + PEP440_COMPILED_BOUND(read.length);
+    uint8_t *bytes = palloc(room + 1);
     uint8_t status = call(read.bytes, read.length, bytes, room, &out->length);
     if (status == PEP440_NO_ROOM) {
         pfree(bytes);
         room = out->length;
-        bytes = palloc(room);
+        bytes = palloc(room + 1);
         status = call(read.bytes, read.length, bytes, room, &out->length);
     }
     out->bytes = bytes;
     return status;
+}
+
+char *normal_text(Writer call, Bytes value)
+{
+    Bytes normal;
+    uint8_t status = write_all(call, value, &normal);
+    if (status != PEP440_OK)
+        fail(status);
+    char *text = (char *)unconstify(uint8_t *, normal.bytes);
+    text[normal.length] = 0;
+    return text;
 }
 
 struct varlena *make_bytea(Bytes bytes)
@@ -58,139 +88,108 @@ struct varlena *make_bytea(Bytes bytes)
 
 /* ---- values */
 
-/* The sort key in compiled bytes: without the first byte, and the zeros of the release, a byte 1 each. */
-static Bytes key_of(Bytes compiled)
-{
-    size_t end = compiled.length;
-    while (end > 1 && compiled.bytes[end - 1] == 1)
-        end--;
-    return end == 0 ? compiled : (Bytes){compiled.bytes + 1, end - 1};
-}
-
-Version version_of(const struct varlena *stored)
-{
-    const uint8_t *bytes = (const uint8_t *)VARDATA_ANY(stored);
-    size_t length = VARSIZE_ANY_EXHDR(stored);
-    Lengths lengths;
-    if (length < sizeof lengths)
-        fail(PEP440_NOT_COMPILED);
-    memcpy(&lengths, bytes, sizeof lengths);
-    size_t before = sizeof lengths + lengths.key + lengths.compiled;
-    if (length < before)
-        fail(PEP440_NOT_COMPILED);
-    Bytes key = {bytes + sizeof lengths, lengths.key}, compiled = {key.bytes + key.length, lengths.compiled};
-    return (Version){key.length > 0 ? key : key_of(compiled), compiled, {bytes + before, length - before}};
-}
-
-Bytes current(Bytes compiled, uint8_t format, Bytes normal, Writer compile)
-{
-    Bytes made;
-    if (compiled.length > 0 && compiled.bytes[0] == format)
-        return compiled;
-    uint8_t status = write_all(compile, normal, &made);
-    if (status != PEP440_OK)
-        fail(status);
-    return made;
-}
-
-/* Writes the parts of a value to `room`, which has MOST_PARTS bytes; PEP440_NO_ROOM where they are more. */
-static uint8_t write_parts(Bytes text, uint8_t *room, size_t *written)
-{
-    size_t length, normal, at = sizeof(Lengths);
-    uint8_t status = pep440_compile(text.bytes, text.length, room + at, MOST_PARTS - at, &length);
-    if (status != PEP440_OK)
-        return status;
-    Lengths lengths = {0, (uint16_t)length};
-    memcpy(room, &lengths, sizeof lengths);
-    at += length;
-    status = pep440_normalize_compiled(room + sizeof lengths, length, room + at, MOST_PARTS - at, &normal);
-    *written = at + normal;
-    return status;
-}
-
-static void fail_version(Bytes text)
+/* Keeps the error that says why the text is no version, or raises it. */
+static struct varlena *fail_version(Bytes text, Node *context)
 {
     Bytes why;
     uint8_t status = write_all(pep440_version_error, text, &why);
     if (status != PEP440_OK)
         fail(status);
-    ereport(ERROR, (errcode(ERRCODE_INVALID_TEXT_REPRESENTATION), errmsg("invalid input syntax for type %s: \"%s\"", "pep440", server_text(text)),
-                    errdetail("%s", server_text(why))));
+    ereturn(context, NULL, (errcode(ERRCODE_INVALID_TEXT_REPRESENTATION),
+                            errmsg("invalid input syntax for type %s: \"%s\"", "pep440", server_text(text)), errdetail("%s", server_text(why))));
 }
 
-struct varlena *read_version(Bytes text)
+static uint8_t compile_version(Bytes text, VersionBuffer *buffer, size_t *length)
 {
-    uint8_t room[MOST_PARTS];
+    return text.length > MOST_TEXT ? PEP440_NO_ROOM : pep440_compile(text.bytes, text.length, buffer->bytes, sizeof buffer->bytes, length);
+}
+
+struct varlena *read_version(Bytes text, Node *context)
+{
+    VersionBuffer buffer;
     size_t length;
-    uint8_t status = write_parts(text, room, &length);
+    uint8_t status = compile_version(text, &buffer, &length);
     if (status == PEP440_INVALID_VERSION)
-        fail_version(text);
+        return fail_version(text, context);
     if (status == PEP440_NO_ROOM)
-        ereport(ERROR, (errcode(ERRCODE_PROGRAM_LIMIT_EXCEEDED), errmsg("version is too long for type %s", "pep440"),
-                        errdetail("With its sort key it takes more than %d bytes, and no index could keep it.", MOST_BYTES)));
+        ereturn(context, NULL, (errcode(ERRCODE_PROGRAM_LIMIT_EXCEEDED), errmsg("version is too long for type %s", "pep440"),
+                                errdetail("It takes more than %d bytes, and no index could keep it; or its text has more than %d.", MOST_BYTES, MOST_TEXT)));
     if (status != PEP440_OK)
         fail(status);
-    return make_bytea((Bytes){room, length});
+    return make_version((Bytes){buffer.bytes, length});
+}
+
+/* The normal form of a release alone, whose epoch is 0: the numbers of its key with dots between them, and the zeros at its end. The library would parse
+   the key again, in ten times the instructions. */
+static char *release_text(const Version *version)
+{
+    const uint8_t *at = version->key.bytes + 1, *end = at + version->numbers_length;
+    size_t zeros = version->bytes.length - 1 - version->key.length;
+    char *text = palloc(4 * version->numbers_length + 2 * zeros + 1), *out = text;
+    while (at < end) {
+        uint64 number = 0;
+        for (int left = *at++ - 1; left > 0; left--)
+            number = number << 8 | *at++;
+        out += pg_ulltoa_n(number, out);
+        *out++ = '.';
+    }
+    for (; zeros > 0; zeros--)
+        *out++ = '0', *out++ = '.';
+    out[-1] = 0;
+    return text;
+}
+
+char *normal_argument(FunctionCallInfo fcinfo)
+{
+    VersionBuffer buffer;
+    Version version = version_of(GET_STORED(0), &buffer);
+    return version.is_plain ? release_text(&version) : normal_text(pep440_normalize, version.bytes);
 }
 
 PG_FUNCTION_INFO_V1(version_in);
 Datum version_in(PG_FUNCTION_ARGS)
 {
     const char *text = PG_GETARG_CSTRING(0);
-    PG_RETURN_POINTER(read_version(utf8_of(text, (int)strlen(text))));
+    PG_RETURN_POINTER(read_version(utf8_of(text, (int)strlen(text)), fcinfo->context));
 }
 
 PG_FUNCTION_INFO_V1(version_out);
 Datum version_out(PG_FUNCTION_ARGS)
 {
-    PG_RETURN_CSTRING(server_text(GET_VERSION(0).normal));
+    PG_RETURN_CSTRING(normal_argument(fcinfo));
 }
 
-/* The binary form of both types is a byte that says which form it is, 1, and the normal form as a text. So what is received is read like any
-   other text, and nothing in it is trusted. */
 PG_FUNCTION_INFO_V1(version_send);
 Datum version_send(PG_FUNCTION_ARGS)
 {
-    Version version = GET_VERSION(0);
-    StringInfoData buffer;
-    pq_begintypsend(&buffer);
-    pq_sendbyte(&buffer, 1);
-    pq_sendtext(&buffer, (const char *)version.normal.bytes, (int)version.normal.length);
-    PG_RETURN_BYTEA_P(pq_endtypsend(&buffer));
+    PG_RETURN_BYTEA_P(send_text(normal_argument(fcinfo)));
 }
 
 PG_FUNCTION_INFO_V1(version_recv);
 Datum version_recv(PG_FUNCTION_ARGS)
 {
-    StringInfo message = (StringInfo)PG_GETARG_POINTER(0);
-    int length, form = pq_getmsgbyte(message);
-    if (form != 1)
-        ereport(ERROR, (errcode(ERRCODE_INVALID_BINARY_REPRESENTATION), errmsg("unknown binary form %d of type %s", form, "pep440")));
-    char *text = pq_getmsgtext(message, message->len - message->cursor, &length);
-    PG_RETURN_POINTER(read_version(utf8_of(text, length)));
+    PG_RETURN_POINTER(read_version(receive_text((StringInfo)PG_GETARG_POINTER(0), "pep440"), NULL));
 }
 
 PG_FUNCTION_INFO_V1(version_from_text);
 Datum version_from_text(PG_FUNCTION_ARGS)
 {
-    const text *given = PG_GETARG_TEXT_PP(0);
-    PG_RETURN_POINTER(read_version(utf8_of(VARDATA_ANY(given), (int)VARSIZE_ANY_EXHDR(given))));
+    PG_RETURN_POINTER(read_version(utf8_argument(fcinfo), NULL));
 }
 
 PG_FUNCTION_INFO_V1(version_to_text);
 Datum version_to_text(PG_FUNCTION_ARGS)
 {
-    PG_RETURN_TEXT_P(cstring_to_text(server_text(GET_VERSION(0).normal)));
+    PG_RETURN_TEXT_P(cstring_to_text(normal_argument(fcinfo)));
 }
 
 PG_FUNCTION_INFO_V1(version_valid);
 Datum version_valid(PG_FUNCTION_ARGS)
 {
-    const text *given = PG_GETARG_TEXT_PP(0);
-    Bytes text = utf8_of(VARDATA_ANY(given), (int)VARSIZE_ANY_EXHDR(given));
-    uint8_t room[MOST_PARTS];
+    Bytes text = utf8_argument(fcinfo);
+    VersionBuffer buffer;
     size_t length;
-    uint8_t status = write_parts(text, room, &length);
+    uint8_t status = compile_version(text, &buffer, &length);
     if (status == PEP440_OUT_OF_MEMORY)
         fail(status);
     PG_RETURN_BOOL(status == PEP440_OK);
@@ -207,7 +206,7 @@ int compare_bytes(Bytes left, Bytes right)
 static int order_of(FunctionCallInfo fcinfo)
 {
     struct varlena *left = GET_STORED(0), *right = GET_STORED(1);
-    int order = compare_bytes(version_of(left).key, version_of(right).key);
+    int order = compare_versions(left, right);
     PG_FREE_IF_COPY(left, 0);
     PG_FREE_IF_COPY(right, 1);
     return order;
@@ -217,19 +216,12 @@ static int order_of(FunctionCallInfo fcinfo)
 static int order_of_key(FunctionCallInfo fcinfo, int version_at)
 {
     struct varlena *stored = GET_STORED(version_at), *key = GET_STORED(1 - version_at);
-    int order = compare_bytes(version_of(stored).key, (Bytes){(const uint8_t *)VARDATA_ANY(key), VARSIZE_ANY_EXHDR(key)});
+    VersionBuffer buffer;
+    int order = compare_bytes(version_of(stored, &buffer).key, bytes_of(key));
     PG_FREE_IF_COPY(stored, version_at);
     PG_FREE_IF_COPY(key, 1 - version_at);
     return version_at == 0 ? order : -order;
 }
-
-#define ORDER_FUNCTION(name, test) \
-    PG_FUNCTION_INFO_V1(name); \
-    Datum name(PG_FUNCTION_ARGS) \
-    { \
-        PG_RETURN_BOOL(test); \
-    } \
-    extern int no_such_variable
 
 ORDER_FUNCTION(version_lt, order_of(fcinfo) < 0);
 ORDER_FUNCTION(version_le, order_of(fcinfo) <= 0);
@@ -284,7 +276,8 @@ PG_FUNCTION_INFO_V1(version_hash);
 Datum version_hash(PG_FUNCTION_ARGS)
 {
     struct varlena *stored = GET_STORED(0);
-    Bytes key = version_of(stored).key;
+    VersionBuffer buffer;
+    Bytes key = version_of(stored, &buffer).key;
     Datum hash = hash_any(key.bytes, (int)key.length);
     PG_FREE_IF_COPY(stored, 0);
     return hash;
@@ -294,7 +287,8 @@ PG_FUNCTION_INFO_V1(version_hash_extended);
 Datum version_hash_extended(PG_FUNCTION_ARGS)
 {
     struct varlena *stored = GET_STORED(0);
-    Bytes key = version_of(stored).key;
+    VersionBuffer buffer;
+    Bytes key = version_of(stored, &buffer).key;
     Datum hash = hash_any_extended(key.bytes, (int)key.length, (uint64)PG_GETARG_INT64(1));
     PG_FREE_IF_COPY(stored, 0);
     return hash;
@@ -302,10 +296,10 @@ Datum version_hash_extended(PG_FUNCTION_ARGS)
 
 /* ---- sorts: a number that is made of the first bytes of the key, and the whole keys where these are equal */
 
-static int compare_stored(Datum left, Datum right, SortSupport unused)
+static int compare_datums(Datum left, Datum right, SortSupport unused)
 {
     struct varlena *one = PG_DETOAST_DATUM_PACKED(left), *other = PG_DETOAST_DATUM_PACKED(right);
-    int order = compare_bytes(version_of(one).key, version_of(other).key);
+    int order = compare_versions(one, other);
     (void)unused;
     if ((Pointer)one != DatumGetPointer(left))
         pfree(one);
@@ -314,16 +308,11 @@ static int compare_stored(Datum left, Datum right, SortSupport unused)
     return order;
 }
 
-/* Nearly all versions have epoch 0, and their keys a first byte 0: the eight bytes behind it. All other keys are above, and get one number. */
 static Datum abbreviate(Datum original, SortSupport unused)
 {
     struct varlena *stored = PG_DETOAST_DATUM_PACKED(original);
-    Bytes key = version_of(stored).key;
-    uint64 first = PG_UINT64_MAX;
+    uint64 first = first_of_key(stored);
     (void)unused;
-    if (key.length > 0 && key.bytes[0] == 0)
-        for (size_t each = 1; each <= sizeof first; each++)
-            first = first << 8 | (each < key.length ? key.bytes[each] : 0);
     if ((Pointer)stored != DatumGetPointer(original))
         pfree(stored);
     return UInt64GetDatum(first);
@@ -339,12 +328,12 @@ PG_FUNCTION_INFO_V1(version_sortsupport);
 Datum version_sortsupport(PG_FUNCTION_ARGS)
 {
     SortSupport sort = (SortSupport)PG_GETARG_POINTER(0);
-    sort->comparator = compare_stored;
+    sort->comparator = compare_datums;
     if (sort->abbreviate && sizeof(Datum) == sizeof(uint64)) {
         sort->comparator = ssup_datum_unsigned_cmp;
         sort->abbrev_converter = abbreviate;
         sort->abbrev_abort = keep_abbreviating;
-        sort->abbrev_full_comparator = compare_stored;
+        sort->abbrev_full_comparator = compare_datums;
     }
     PG_RETURN_VOID();
 }

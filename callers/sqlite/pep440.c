@@ -1,4 +1,4 @@
-/* Versions of Python packages (PEP 440) in SQLite: sort keys for indexes, normal forms, matching, covers of lists of specifiers.
+/* Versions of Python packages (PEP 440) in SQLite: sort keys for indexes, a collation, normal forms, matching, covers of lists of specifiers.
 
    Each function is deterministic and innocuous, so it serves in an index on an expression and in a generated column. A version is a TEXT; any
    other value, and a text that is no version, gives NULL (pep440_valid gives 0). A text that is no list of specifiers is an error that says why. */
@@ -43,14 +43,23 @@ static void release(Written *out)
         sqlite3_free(out->bytes);
 }
 
-/* Whether the value is a TEXT. The library wants no null pointer, not even for an empty string. */
+/* The text as the library takes it, which wants no null pointer. It would take bytes that begin with 4 or 5 as compiled: a text is none, so another
+   one stands for it that is no version and no list either. */
+static Text string_of(const uint8_t *bytes, size_t length)
+{
+    if (length > 0 && (bytes[0] == 4 || bytes[0] == 5))
+        return (Text){(const uint8_t *)"\1", 1};
+    return (Text){length == 0 ? (const uint8_t *)"" : bytes, length};
+}
+
+/* Whether the value is a TEXT. */
 static int is_text(sqlite3_value *value, Text *text)
 {
     if (sqlite3_value_type(value) != SQLITE_TEXT)
         return 0;
-    text->bytes = sqlite3_value_text(value);
-    text->length = (size_t)sqlite3_value_bytes(value);
-    return text->bytes != NULL;
+    const uint8_t *bytes = sqlite3_value_text(value);
+    *text = string_of(bytes, bytes == NULL ? 0 : (size_t)sqlite3_value_bytes(value));
+    return bytes != NULL;
 }
 
 /* Says in an error why the string is no list. The lines with the caret stand as the library writes them. */
@@ -95,21 +104,34 @@ static void normalize(sqlite3_context *context, int count, sqlite3_value **value
     give_written(context, values[0], pep440_normalize, 0);
 }
 
-/* pep440_valid(v): whether v is a version, 1 or 0; NULL of NULL. */
-static void valid(sqlite3_context *context, int count, sqlite3_value **values)
+/* Whether the call takes the value, 1 or 0; NULL of NULL. */
+static void test(sqlite3_context *context, sqlite3_value *value, Writer call)
 {
     Text text;
     size_t length;
     uint8_t nothing[1], status = PEP440_INVALID_VERSION;
-    (void)count;
-    if (sqlite3_value_type(values[0]) == SQLITE_NULL)
+    if (sqlite3_value_type(value) == SQLITE_NULL)
         return;
-    if (is_text(values[0], &text))
-        status = pep440_normalize(text.bytes, text.length, nothing, 0, &length);
+    if (is_text(value, &text))
+        status = call(text.bytes, text.length, nothing, 0, &length);
     if (status == PEP440_OUT_OF_MEMORY)
         sqlite3_result_error_nomem(context);
     else
-        sqlite3_result_int(context, status != PEP440_INVALID_VERSION);
+        sqlite3_result_int(context, status == PEP440_OK || status == PEP440_NO_ROOM);
+}
+
+/* pep440_valid(v): whether v is a version. */
+static void valid(sqlite3_context *context, int count, sqlite3_value **values)
+{
+    (void)count;
+    test(context, values[0], pep440_normalize);
+}
+
+/* pep440_specs_valid(specs): whether specs is a list of specifiers. */
+static void specs_valid(sqlite3_context *context, int count, sqlite3_value **values)
+{
+    (void)count;
+    test(context, values[0], pep440_normalize_list);
 }
 
 /* pep440_compare(a, b): -1, 0 or 1 where a is below b, equal to it or above it. */
@@ -126,6 +148,40 @@ static void compare(sqlite3_context *context, int count, sqlite3_value **values)
     else if (status == PEP440_OK)
         sqlite3_result_int(context, order);
 }
+
+/* ---- the collation: versions in their order, then all other texts as bytes. A collation cannot fail, so without memory the statement is interrupted. */
+
+/* Whether the text is a version; its key. */
+static int has_key(sqlite3 *db, Text text, Written *key)
+{
+    uint8_t status = write_all(pep440_sort_key, string_of(text.bytes, text.length), key);
+    if (status == PEP440_OUT_OF_MEMORY)
+        sqlite3_interrupt(db);
+    return status == PEP440_OK;
+}
+
+static int compare_bytes(Text left, Text right)
+{
+    size_t length = left.length < right.length ? left.length : right.length;
+    int order = length == 0 ? 0 : memcmp(left.bytes, right.bytes, length);
+    return order != 0 ? order : (left.length > right.length) - (left.length < right.length);
+}
+
+static int collate(void *db, int left_length, const void *left, int right_length, const void *right)
+{
+    Text one = {left, (size_t)left_length}, other = {right, (size_t)right_length};
+    Written keys[2];
+    int is_version = has_key(db, one, &keys[0]), other_is = has_key(db, other, &keys[1]), order = other_is - is_version;
+    if (order == 0 && is_version)
+        order = compare_bytes((Text){keys[0].bytes, keys[0].length}, (Text){keys[1].bytes, keys[1].length});
+    else if (order == 0)
+        order = compare_bytes(one, other);
+    release(&keys[0]);
+    release(&keys[1]);
+    return order;
+}
+
+/* ---- matching */
 
 /* pep440_is_prerelease(v): whether v is a pre-release or a developmental release, 1 or 0. */
 static void is_prerelease(sqlite3_context *context, int count, sqlite3_value **values)
@@ -185,21 +241,17 @@ static void match(sqlite3_context *context, int count, sqlite3_value **values)
 {
     Compiled *made;
     Text text;
-    Written version;
     uint8_t contained, prerelease;
     (void)count;
     if (sqlite3_value_type(values[1]) == SQLITE_NULL)
         return;
     const Compiled *list = compiled_list(context, values[0], &made);
     if (list != NULL && is_text(values[1], &text)) {
-        uint8_t status = write_all(pep440_compile, text, &version);
-        if (status == PEP440_OK)
-            status = pep440_contains_compiled(list->bytes, list->length, version.bytes, version.length, &contained, &prerelease);
+        uint8_t status = pep440_contains(list->bytes, list->length, text.bytes, text.length, &contained, &prerelease);
         if (status == PEP440_OUT_OF_MEMORY)
             sqlite3_result_error_nomem(context);
         else if (status == PEP440_OK)
             sqlite3_result_int(context, contained);
-        release(&version);
     }
     keep_list(context, made);
 }
@@ -391,6 +443,7 @@ __attribute__((visibility("default"))) int sqlite3_pep_init(sqlite3 *db, char **
         {"pep440_key", 1, key},
         {"pep440_normalize", 1, normalize},
         {"pep440_valid", 1, valid},
+        {"pep440_specs_valid", 1, specs_valid},
         {"pep440_compare", 2, compare},
         {"pep440_is_prerelease", 1, is_prerelease},
         {"pep440_match", 2, match},
@@ -401,5 +454,7 @@ __attribute__((visibility("default"))) int sqlite3_pep_init(sqlite3 *db, char **
     SQLITE_EXTENSION_INIT2(api);
     for (size_t each = 0; each < sizeof functions / sizeof *functions && status == SQLITE_OK; each++)
         status = sqlite3_create_function_v2(db, functions[each].name, functions[each].arguments, flags, NULL, functions[each].call, NULL, NULL, NULL);
+    if (status == SQLITE_OK)
+        status = sqlite3_create_collation_v2(db, "pep440", SQLITE_UTF8, db, collate, NULL);
     return status == SQLITE_OK ? sqlite3_create_module_v2(db, "pep440_cover", &COVER, NULL, NULL) : status;
 }

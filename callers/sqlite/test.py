@@ -67,6 +67,14 @@ def test_functions():
         ("pep440_valid('')", 0),
         ("pep440_valid(1)", 0),
         ("pep440_valid(NULL)", None),
+        ("pep440_specs_valid('>=1.0, <2.0')", 1),
+        ("pep440_specs_valid('')", 1),
+        ("pep440_specs_valid('>=1.0, =<2.0')", 0),
+        ("pep440_specs_valid(1)", 0),
+        ("pep440_specs_valid(NULL)", None),
+        # what begins as compiled bytes is a text like others
+        ("pep440_specs_valid(char(5))", 0),
+        ("pep440_normalize(CAST(X'0400020100500010000001' AS TEXT))", None),
         ("pep440_is_prerelease('1.0.dev1')", 1),
         ("pep440_is_prerelease('1.0.post1')", 0),
         ("pep440_is_prerelease('x')", None),
@@ -159,11 +167,11 @@ def plan_of(db, query, *values):
 def test_index():
     """Of each list: by the index and the cover, without an index, and by the program."""
     db = filled(ROWS)
-    by_index = """SELECT version FROM pep440_cover(?1) JOIN releases INDEXED BY by_key ON key >= low AND (high IS NULL OR key < high)
+    by_index = """SELECT version FROM pep440_cover(?1) JOIN releases INDEXED BY by_key ON key >= low AND key < ifnull(high, x'ff')
                   WHERE pep440_match(?1, version) ORDER BY key, id"""
     alone = "SELECT version FROM releases NOT INDEXED WHERE pep440_match(?1, version) ORDER BY pep440_key(version), id"
     plan = plan_of(db, by_index, "~=1.4.2")
-    assert "SEARCH releases USING INDEX by_key (key>?)" in plan, plan
+    assert "SEARCH releases USING INDEX by_key (key>? AND key<?)" in plan, plan
     found = 0
     lines = "".join(text + "\n" for (text,) in rows(db, "SELECT version FROM releases ORDER BY id"))
     for specs in LISTS:
@@ -174,6 +182,62 @@ def test_index():
             ran = subprocess.run([PROGRAM, "filter", specs], input=lines, capture_output=True, text=True, check=True)
             assert sorted(ran.stdout.split("\n")[:-1]) == sorted(text.removeprefix("V") for (text,) in one), specs
     return f"{len(LISTS)} lists over {ROWS} rows, {found} versions found, by an index as without" + (", and as `filter`" if PROGRAM else "")
+
+
+def test_collation():
+    """Texts in the order of their keys, and behind them what is no version; by an index as without; equal versions are one."""
+    db, rng = database(), random.Random(65)
+    others = ["", "latest", "2.x", "1.0 beta", "z", "~"]
+    db.execute("CREATE TABLE given (text TEXT, id INTEGER PRIMARY KEY)")
+    db.executemany("INSERT INTO given (text) VALUES (?)", [(version(rng),) for _ in range(ROWS // 20)] + [(text,) for text in others])
+    wanted = rows(db, "SELECT text FROM given ORDER BY pep440_key(text) IS NULL, pep440_key(text), CASE WHEN pep440_valid(text) THEN '' ELSE text END, id")
+    assert [text for (text,) in wanted[-len(others) :]] == sorted(others)
+    query = "SELECT text FROM given ORDER BY text COLLATE pep440, id"
+    assert rows(db, query) == wanted
+    db.execute("CREATE INDEX by_text ON given (text COLLATE pep440, id)")
+    assert "by_text" in plan_of(db, query) and rows(db, query) == wanted and value(db, "PRAGMA integrity_check") == "ok"
+    between = "SELECT count(*) FROM given {} WHERE text COLLATE pep440 >= '1.2' AND text COLLATE pep440 < '2.0rc1'"
+    assert "text>? AND text<?" in plan_of(db, between.format(""))
+    assert value(db, between.format("")) == value(db, "SELECT count(*) FROM given WHERE pep440_key(text) >= pep440_key('1.2') AND pep440_key(text) < pep440_key('2.0rc1')") > 0
+    db.execute("CREATE TABLE one (version TEXT COLLATE pep440 UNIQUE)")
+    db.execute("INSERT INTO one VALUES ('1.0'), ('1.1'), ('x'), ('X')")
+    for equal in ("1.0.0", "v1.1", "x"):
+        try:
+            db.execute("INSERT INTO one VALUES (?)", (equal,))
+        except sqlite3.IntegrityError:
+            continue
+        raise AssertionError(equal)
+    return f"{len(wanted)} texts in order, by an index as without"
+
+
+def test_without_extension():
+    """Where only whoever writes loads the extension, the table has plain columns: all else works without it."""
+    with tempfile.TemporaryDirectory() as work:
+        file = f"{work}/releases.db"
+        writer = database(file)
+        writer.execute("CREATE TABLE releases (name TEXT NOT NULL, version TEXT NOT NULL, key BLOB)")
+        writer.execute("CREATE INDEX by_version ON releases (name, key)")
+        writer.execute("""CREATE TEMP TRIGGER add_key AFTER INSERT ON main.releases WHEN NEW.key IS NULL BEGIN
+                              UPDATE releases SET key = pep440_key(NEW.version) WHERE rowid = NEW.rowid; END""")
+        writer.execute("INSERT INTO releases (name, version) VALUES ('a', '1.10'), ('a', '1.9'), ('a', '1.10rc1')")
+        reader = sqlite3.connect(file, isolation_level=None)
+        in_order = [("1.9",), ("1.10rc1",), ("1.10",)]
+        assert rows(reader, "SELECT version FROM releases ORDER BY key") == in_order
+        reader.execute("INSERT INTO releases (name, version) VALUES ('a', '1.8')")
+        assert value(reader, "PRAGMA integrity_check") == "ok"
+        reader.execute("VACUUM INTO ?", (f"{work}/copy.db",))
+        writer.execute("UPDATE releases SET key = pep440_key(version) WHERE key IS NULL")
+        assert rows(reader, "SELECT version FROM releases ORDER BY key") == [("1.8",), *in_order]
+        # a column that is generated by a function needs it for each of these
+        generated = filled(3, f"{work}/generated.db")
+        generated.close()
+        reader = sqlite3.connect(f"{work}/generated.db", isolation_level=None)
+        for query in ("INSERT INTO releases (version) VALUES ('1.0')", "PRAGMA integrity_check", f"VACUUM INTO '{work}/none.db'"):
+            try:
+                assert rows(reader, query) != [("ok",)], query
+            except sqlite3.OperationalError as error:
+                assert "pep440" in str(error) or "function" in str(error), error
+    return "reads, writes, integrity_check and VACUUM INTO"
 
 
 def test_speed():
@@ -204,7 +268,7 @@ def turns_with_less_memory(file):
     queries = [
         ("SELECT group_concat(pep440_normalize(version)) FROM releases", ()),
         ("SELECT hex(pep440_key(?))", (long,)),
-        ("SELECT count(*) FROM pep440_cover(?1) JOIN releases ON key >= low AND (high IS NULL OR key < high) WHERE pep440_match(?1, version)", (">=1,!=1.5,!=1.7.*",)),
+        ("SELECT count(*) FROM pep440_cover(?1) JOIN releases ON key >= low AND key < ifnull(high, x'ff') WHERE pep440_match(?1, version)", (">=1,!=1.5,!=1.7.*",)),
         ("SELECT pep440_normalize(?)", (long,)),
         ("UPDATE releases SET version = version || '.post' || pep440_match(?1, version) || substr(?2, 1, 0)", (">=0", long)),
     ]

@@ -1,8 +1,8 @@
 CREATE EXTENSION pep440;
 \pset format unaligned
 \pset tuples_only on
--- both families are whole
-SELECT opcname, amname FROM pg_opclass c JOIN pg_am a ON c.opcmethod = a.oid WHERE opcname = 'pep440_ops' AND amvalidate(c.oid) ORDER BY amname;
+-- all families are whole
+SELECT opcname, amname FROM pg_opclass c JOIN pg_am a ON c.opcmethod = a.oid WHERE opcname ~ '^pep440' AND amvalidate(c.oid) ORDER BY 1, 2;
 -- each function is immutable, strict and parallel safe, but for the two that estimate; and each has a finished type
 SELECT proname, provolatile, proisstrict, proparallel FROM pg_proc p JOIN pg_depend d ON d.objid = p.oid JOIN pg_extension e ON d.refobjid = e.oid
     WHERE extname = 'pep440' AND prokind = 'f' AND prorettype <> 'internal'::regtype AND (provolatile <> 'i' OR NOT proisstrict OR proparallel <> 's') ORDER BY 1;
@@ -39,6 +39,13 @@ SELECT pep440_any_prerelease('>=1.0rc1'), pep440_any_prerelease('>=1.0');
 SELECT count(*), count(high), bool_and(high IS NULL OR low < high) FROM pep440_cover('!=1.5,!=1.7.*');
 SELECT count(*) FROM pep440_cover('>2,<1');
 SELECT low = '', high FROM pep440_cover('');
+-- lists as values: equal if they have the same normal form
+SELECT '>=1.0,<2'::pep440_specs = '<2 , >= v1.0', '>=1.0'::pep440_specs = '>=1', '>=1.0'::pep440_specs <> '>=1', '>=1'::pep440_specs IS DISTINCT FROM '>=1 ';
+SELECT specs, count(*) FROM unnest('{">=1,<2","","<2,>=1",==1.*,NULL}'::pep440_specs[]) AS specs GROUP BY specs ORDER BY specs::text;
+SELECT '<2,!=1.5'::pep440_specs * '>=1', '>=1,!=1.5'::pep440_specs * '==1.*', ''::pep440_specs * '>1', ''::pep440_specs * '';
+SELECT pep440_specs_valid('>=1, <2'), pep440_specs_valid(''), pep440_specs_valid('>=1, =<2'), pep440_specs_valid(NULL) IS NULL;
+-- what begins as compiled bytes is a text like others
+SELECT pep440_specs_valid(E'\005'), pep440_valid(E'\004');
 -- errors
 SELECT '1.0.x'::pep440;
 SELECT ''::pep440;

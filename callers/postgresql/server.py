@@ -1,0 +1,130 @@
+"""Servers of the tests' own, the rows that they hold, and what a query takes."""
+import os
+import pathlib
+import random
+import re
+import resource
+import subprocess
+import sys
+
+from libpq import Connection
+
+HERE = pathlib.Path(__file__).resolve().parent
+WORDS = [word for word in sys.argv[1:] if not word.startswith("--")]
+FOLDER, PREFIX, PROGRAM = pathlib.Path(WORDS[0]), WORDS[1], (WORDS + [None])[2]
+SMALL = "--small" in sys.argv
+ROWS = 20_000 if SMALL else 1_000_000
+STRINGS = 10_000
+LISTS = ["", ">=1.0,<2.0,!=1.5.*", "==2.1.0+cu118", "<=2.1.0", "<1.0.post1,>=1.0", "~=1.4.2", "===1.10", "!=1.0", ">2.0,<1.0", "==1.*", ">1!0", ">=4.29.100", "==3.9.post1,!=3.9"]
+NARROW = ["==2.1.0+cu118", "~=1.4.2", "<1.0.post1,>=1.0", ">2.0,<1.0", ">1!0", ">=4.29.100", "==3.9.post1,!=3.9"]
+NO_INDEX = "SET enable_indexscan = off; SET enable_indexonlyscan = off; SET enable_bitmapscan = off;"
+NO_TABLE = "SET enable_seqscan = off;"
+OUT_OF_MEMORY = "53200"
+INVALID_REGULAR_EXPRESSION = "2201B"  # the server's own, of a request of its compiler of regular expressions
+USER = ["setpriv", "--reuid=postgres", "--regid=postgres", "--clear-groups"] if os.geteuid() == 0 else []
+
+
+class Server:
+    """A server of its own, in a folder of its own."""
+
+    def __init__(self, name):
+        self.folder = FOLDER / name
+        self.data = self.folder / "data"
+        self.log = self.folder / "log"
+        subprocess.run(USER + ["mkdir", str(self.folder)], check=True)
+        self.run("initdb", "-D", self.data, "-U", "tester", "-E", "UTF8", "--locale=C.UTF-8", "--no-sync")
+
+    def run(self, program, *words, environment=None, limit=None):
+        def limited():
+            if limit:
+                resource.setrlimit(resource.RLIMIT_AS, (limit, limit))
+
+        command = USER + [str(FOLDER / "bin" / program), *map(str, words)]
+        output = (self.folder / "output") if program == "pg_ctl" else None
+        with open(output or os.devnull, "wb") as file:
+            ran = subprocess.run(command, cwd=FOLDER, env={**os.environ, "LC_ALL": "C", **(environment or {})}, preexec_fn=limited, check=False,
+                                 stdout=file if output else subprocess.PIPE, stderr=subprocess.STDOUT)
+        assert ran.returncode == 0, (program, ran.stdout, output and output.read_text())
+        return ran.stdout
+
+    def start(self, environment=None, limit=None):
+        settings = f"-c listen_addresses= -c unix_socket_directories={self.folder} -c fsync=off -c shared_buffers=64MB -c max_wal_size=4GB -c jit=off -c wal_level=logical"
+        self.run("pg_ctl", "-D", self.data, "-l", self.log, "-w", "-s", "-o", settings, "start", environment=environment, limit=limit)
+
+    def stop(self):
+        if (self.data / "postmaster.pid").exists():
+            self.run("pg_ctl", "-D", self.data, "-w", "-s", "-m", "fast", "stop")
+
+    def where(self, database="postgres"):
+        return f"host={self.folder} user=tester dbname={database}"
+
+    def connect(self, database="postgres"):
+        return Connection(self.where(database))
+
+    def environment(self, database="postgres"):
+        return {"PGHOST": str(self.folder), "PGUSER": "tester", "PGDATABASE": database}
+
+    def is_sound(self):
+        """Whether no process of the server ended as none should."""
+        found = re.findall(r"^.*(?:terminated by signal|PANIC|TRAP|server process .* exited).*$", self.log.read_text(errors="replace"), re.M)
+        assert not found, found
+        return True
+
+
+def version(rng):
+    """A version as indexes have them: mostly plain, some with suffixes, some local, a few with an epoch or written in another way."""
+    text = ".".join(str(rng.randrange(limit)) for limit in (5, 30, 150)[: rng.choice((1, 2, 3, 3))])
+    kind = rng.randrange(12)
+    suffix = {0: f"rc{rng.randrange(3)}", 1: f".post{rng.randrange(3)}", 2: f".dev{rng.randrange(3)}", 3: f"+cu{rng.randrange(120)}", 4: f"a{rng.randrange(2)}.dev1"}
+    text += suffix.get(kind, "")
+    return f"1!{text}" if kind == 5 and rng.randrange(20) == 0 else f"V{text}" if kind == 6 else text
+
+
+def fill(server):
+    """The table of all tests: what was written, and the version."""
+    rng = random.Random(20261123)
+    lines = FOLDER / "lines"
+    lines.write_text("".join(version(rng) + "\n" for _ in range(ROWS)))
+    db = server.connect()
+    db.rows("CREATE EXTENSION pep440")
+    db.rows('CREATE TABLE releases (id serial, written text COLLATE "C", version pep440 GENERATED ALWAYS AS (pep440(written)) STORED)')
+    db.rows(f"COPY releases (written) FROM '{lines}'")
+    db.rows("CREATE INDEX by_version ON releases (version)")
+    db.rows("CREATE INDEX by_hash ON releases USING hash (version)")
+    db.rows("VACUUM ANALYZE releases")
+    db.close()
+
+
+def plan_of(db, query):
+    return "\n".join(line for (line,) in db.rows("EXPLAIN (COSTS OFF) " + query))
+
+
+def copied(db, query, name):
+    """What the query gives, as COPY writes it."""
+    file = db.folder / name
+    db.rows(f"COPY ({query}) TO '{file}'")
+    return file.read_bytes()
+
+
+def milliseconds(db, query):
+    return float(re.search(r"Execution Time: ([\d.]+)", "\n".join(line for (line,) in db.rows("EXPLAIN (ANALYZE, TIMING OFF) " + query)))[1])
+
+
+def processor_time(db, query):
+    """Of the backend, in nanoseconds: on a loaded machine it waits longer, and takes no more."""
+    file = pathlib.Path(f"/proc/{db.value('SELECT pg_backend_pid()')}/schedstat")
+    before = int(file.read_text().split()[0])
+    db.rows(query)
+    return int(file.read_text().split()[0]) - before
+
+
+def instructions(server, query):
+    """Of the query, by valgrind, in a server that runs it alone: what two runs take more than one."""
+    settings = ("work_mem=1GB", "jit=off", "max_parallel_workers_per_gather=0")
+    counts = []
+    for turns in (1, 2):
+        command = USER + ["valgrind", "--tool=callgrind", "--callgrind-out-file=/dev/null", str(FOLDER / "bin" / "postgres"), "--single", "-D", str(server.data)]
+        ran = subprocess.run(command + [word for setting in settings for word in ("-c", setting)] + ["postgres"], cwd=FOLDER, env={**os.environ, "LC_ALL": "C"},
+                             input=(query + "\n") * turns, capture_output=True, text=True, check=True)
+        counts.append(int(re.search(r"Collected : (\d+)", ran.stderr)[1]))
+    return counts[1] - counts[0]

@@ -1,0 +1,274 @@
+"""Tests of lists as values, of what values take, and of the update from release 0.2; test.py runs them."""
+import importlib
+import random
+import re
+import sys
+import time
+import unittest
+
+from libpq import Connection, Refused
+from server import FOLDER, HERE, LISTS, NO_TABLE, ROWS, SMALL, instructions, plan_of, version
+
+UNIQUE_VIOLATION, CANCELED, NO_PRIVILEGE = "23505", "57014", "42501"
+SPELLINGS = [">=1.0,<2.0", "<2.0 , >=1.0", ">=v1.0, <2.0"]  # of one list
+OPERATORS = [">=", "<", "==", "!=", "~=", "<=", ">", "==="]
+
+
+def specifiers(rng, most=3):
+    """A list with blanks, of few versions, so that lists repeat."""
+    members = []
+    for _ in range(rng.randrange(most + 1)):
+        members.append(f"{rng.choice(OPERATORS)}{rng.choice(['', ' '])}{rng.randrange(3)}.{rng.choice(['0', '1', '1rc1', '0.0'])}")
+    return rng.choice([",", ", ", " ,"]).join(members)
+
+
+def refused(db, query, code):
+    try:
+        db.rows(query)
+    except Refused as error:
+        assert error.code == code, error
+        return str(error)
+    raise AssertionError(query)
+
+
+def database(server, name, *commands):
+    db = server.connect()
+    db.rows(f"CREATE DATABASE {name}")
+    db.close()
+    made = server.connect(name)
+    for command in commands or ("CREATE EXTENSION pep440",):
+        made.rows(command)
+    return made
+
+
+def test_values(server):
+    """Lists are equal exactly if their normal forms are, whatever asks: operators, sorts, hashes, joins, DISTINCT, UNION, GROUP BY, UNIQUE."""
+    db, rng = database(server, "listed"), random.Random(651)
+    db.rows("CREATE TABLE listed (id serial, specs pep440_specs)")
+    count = 500 if SMALL else 3000
+    db.rows("INSERT INTO listed (specs) VALUES " + ",".join(f"('{specifiers(rng)}')" for _ in range(count)))
+    db.rows("CREATE TABLE sample AS SELECT * FROM listed WHERE id <= 300")
+    wrong = db.value("""SELECT count(*) FROM sample a, sample b WHERE (a.specs = b.specs) <> (a.specs::text = b.specs::text)
+        OR (a.specs <> b.specs) = (a.specs = b.specs) OR (a.specs IS DISTINCT FROM b.specs) = (a.specs = b.specs) OR (a.specs < b.specs) <> (b.specs > a.specs)
+        OR (a.specs <= b.specs) = (a.specs > b.specs) OR (a.specs >= b.specs) = (a.specs < b.specs) OR (pep440_specs_cmp(a.specs, b.specs) = 0) <> (a.specs = b.specs)""")
+    assert wrong == "0", wrong
+    for query in ("SELECT count(*) FROM (SELECT DISTINCT specs FROM listed) AS s", "SELECT count(*) FROM (SELECT specs FROM listed UNION SELECT specs FROM sample) AS s",
+                  "SELECT count(*) FROM (SELECT specs, count(*) FROM listed GROUP BY specs) AS s", "SELECT count(*) FROM listed a JOIN sample b USING (specs)"):
+        wanted, found = db.value(re.sub(r"USING \(specs\)", "ON a.specs::text = b.specs::text", query.replace("specs FROM", "specs::text AS specs FROM"))), set()
+        for setting in ("enable_hashagg = off; SET enable_hashjoin = off", "enable_sort = off; SET enable_mergejoin = off"):
+            found.add(db.value(f"SET {setting}; {query}"))
+            db.rows("RESET ALL")
+        assert found == {wanted}, (query, wanted, found)
+    for kind in ("btree", "hash"):
+        db.rows(f"CREATE INDEX by_specs ON listed USING {kind} (specs); ANALYZE listed;" + NO_TABLE)
+        assert "by_specs" in plan_of(db, "SELECT id FROM listed WHERE specs = '>=1.0'")
+        assert db.value("SELECT count(*) FROM listed WHERE specs = '>= 1.0'") == db.value("SELECT count(*) FROM listed WHERE specs::text = '>=1.0'") != "0"
+        db.rows("DROP INDEX by_specs; RESET ALL")
+    db.rows(f"CREATE TABLE single (specs pep440_specs PRIMARY KEY); INSERT INTO single VALUES ('{SPELLINGS[0]}')")
+    for other in SPELLINGS[1:]:
+        refused(db, f"INSERT INTO single VALUES ('{other}')", UNIQUE_VIOLATION)
+    db.rows("INSERT INTO single VALUES ('>=1.0.0,<2.0')")
+    assert db.rows("SELECT pep440_specs_valid('>=1, <2'), pep440_specs_valid(''), pep440_specs_valid('=<1'), pep440_specs_valid(NULL)") == [("t", "t", "f", None)]
+    db.close()
+    return f"{count} lists, 90000 pairs"
+
+
+def test_both(server):
+    """A version is in `a * b` exactly if it is in both."""
+    db, rng = server.connect("listed"), random.Random(652)
+    db.rows("CREATE TABLE candidate (version pep440); INSERT INTO candidate VALUES " + ",".join(f"('{version(rng)}')" for _ in range(200)))
+    wrong = db.value("SELECT count(*) FROM (SELECT * FROM sample LIMIT 60) a, (SELECT * FROM sample OFFSET 240) b, candidate WHERE (a.specs * b.specs @> version) <> (a.specs @> version AND b.specs @> version)")
+    assert wrong == "0", wrong
+    assert db.rows("SELECT '<2'::pep440_specs * '>=1', ''::pep440_specs * '', '>1'::pep440_specs * ''") == [(">=1, <2", "", ">1")]
+    db.close()
+    return "720000 triples"
+
+
+def test_replica(server):
+    """Changes of a table whose replica identity is the whole row arrive."""
+    sender, receiver = database(server, "sender"), database(server, "receiver")
+    for db in (sender, receiver):
+        db.rows("CREATE TABLE replicated (version pep440, specs pep440_specs); ALTER TABLE replicated REPLICA IDENTITY FULL")
+    sender.rows("CREATE PUBLICATION sent FOR TABLE replicated")
+    sender.rows("SELECT pg_create_logical_replication_slot('sent', 'pgoutput')")
+    receiver.rows(f"CREATE SUBSCRIPTION taken CONNECTION '{server.where('sender')}' PUBLICATION sent WITH (create_slot = false, slot_name = 'sent', copy_data = false)")
+    sender.rows("INSERT INTO replicated SELECT ('1.' || n)::pep440, ('>=1.' || n || ',!=2.0')::pep440_specs FROM generate_series(1, 200) AS n")
+    sender.rows("UPDATE replicated SET specs = '<3' WHERE specs = '!=2.0, >=1.7'")
+    sender.rows("UPDATE replicated SET version = '5.0' WHERE version = '1.8.0'; DELETE FROM replicated WHERE version = '1.9'")
+    query, wait = "SELECT version, specs FROM replicated ORDER BY version", 0
+    wanted = sender.rows(query)
+    while receiver.rows(query) != wanted and wait < 600:
+        time.sleep(0.1)
+        wait += 1
+    assert len(wanted) == 199 and receiver.rows(query) == wanted
+    receiver.rows("DROP SUBSCRIPTION taken")
+    sender.close()
+    receiver.close()
+    return f"{len(wanted)} rows after INSERT, UPDATE and DELETE"
+
+
+def test_estimates(server):
+    """How many of many stored lists a version is in."""
+    db, rng = server.connect("listed"), random.Random(653)
+    rows = ROWS // 5
+    lists = [f">={rng.randrange(6)}.{rng.randrange(20)}" + rng.choice(["", f",<{rng.randrange(3, 9)}", f",!={rng.randrange(6)}.*"]) for _ in range(2000)]
+    db.rows("CREATE TABLE required (specs pep440_specs); CREATE TABLE choice (id serial, specs pep440_specs); INSERT INTO choice (specs) VALUES " + ",".join(f"('{it}')" for it in lists))
+    db.rows(f"INSERT INTO required SELECT specs FROM choice, generate_series(1, {rows // 2000}) ORDER BY random()")
+    db.rows("ANALYZE required")
+    told = []
+    for condition in ("specs @> '1.5'", "'3.2' <@ specs", "specs @> '0.1'", "specs @> '7'"):
+        found = int(db.value(f"SELECT count(*) FROM required WHERE {condition}"))
+        estimate = int(re.search(r"Seq Scan.*rows=(\d+)", "\n".join(line for (line,) in db.rows(f"SET max_parallel_workers_per_gather = 0; EXPLAIN SELECT * FROM required WHERE {condition}")))[1])
+        assert abs(estimate - found) < 0.15 * rows, (condition, estimate, found)
+        told.append(f"{estimate} of {found}")
+    db.close()
+    return f"of {rows} lists " + ", ".join(told)
+
+
+def test_packaging(server):
+    """The order of all rows, and how many each list contains, beside the library `packaging`."""
+    sys.path.insert(0, str(HERE.parent / "python" / "tests"))
+    try:
+        versions, specifiers_of, name = importlib.import_module("peer").load()
+    except unittest.SkipTest as reason:
+        return f"left out: {reason}"
+    db = server.connect()
+    strings = db.rows("SELECT written, count(*) FROM releases GROUP BY written")
+    parsed = {string: versions.Version(string) for string, _ in strings}
+    in_order = [parsed[string] for (string,) in db.rows("SELECT min(written) FROM releases GROUP BY version ORDER BY version")]
+    assert in_order == sorted(set(parsed.values()))
+    for specs in LISTS:
+        those = specifiers_of.SpecifierSet(specs, prereleases=True)
+        wanted = sum(int(count) for string, count in strings if those.contains(parsed[string]))
+        found = int(db.value(f"SELECT count(*) FROM releases WHERE '{specs}' @> version"))
+        assert found == wanted, (specs, found, wanted)
+    db.close()
+    return f"{ROWS} rows, {len(in_order)} versions in order, {len(LISTS)} lists as in {name}"
+
+
+def test_sizes(server):
+    """What a version takes in a row and in an index."""
+    db = server.connect()
+    average = float(db.value("SELECT avg(pg_column_size(version)) FROM releases"))
+    strings = float(db.value("SELECT avg(pg_column_size(written)) FROM releases"))
+    db.rows("CREATE INDEX by_size ON releases (version)")
+    index = int(db.value("SELECT pg_relation_size('by_size')")) / ROWS
+    db.rows("DROP INDEX by_size; CREATE INDEX by_size ON releases (written) WITH (deduplicate_items = off)")
+    of_strings = int(db.value("SELECT pg_relation_size('by_size')")) / ROWS
+    db.rows("DROP INDEX by_size")
+    db.rows(f"CREATE TABLE plain AS SELECT ('1.' || n / 1000 % 100 || '.' || n % 250)::pep440 AS version FROM generate_series(1, {ROWS}) AS n; CREATE INDEX by_plain ON plain (version)")
+    plain = int(db.value("SELECT pg_relation_size('by_plain')")) / ROWS
+    db.rows("DROP TABLE plain")
+    db.close()
+    return f"{average:.1f} bytes a version (their strings {strings:.1f}), {index:.1f} in an index ({of_strings:.1f} where none is deduplicated), {plain:.1f} of releases alone"
+
+
+def copied_from(server, name):
+    """Instructions of COPY into an empty table, and out of it."""
+    file = FOLDER / "written"
+    load = instructions(server, f"TRUNCATE copied_{name}; COPY copied_{name} FROM '{file}'")
+    return load, instructions(server, f"COPY copied_{name} TO '{FOLDER}/copied'")
+
+
+def test_copy(server):
+    if SMALL:
+        return "left out"
+    db = server.connect()
+    db.rows(f"COPY (SELECT written FROM releases WHERE id <= 5000) TO '{FOLDER}/written'")
+    db.rows("CREATE TABLE copied_version (it pep440); CREATE TABLE copied_string (it text)")
+    db.close()
+    server.stop()
+    ratios = [versions / strings for versions, strings in zip(copied_from(server, "version"), copied_from(server, "string"))]
+    server.start()
+    return "COPY FROM takes {:.2f} of the instructions of strings, COPY TO {:.2f}".format(*ratios)
+
+
+def stored_by_0_2(normal, key):
+    """Bytes that release 0.2 stored: lengths, sort key, compiled bytes (not read any more) and the normal form."""
+    compiled = bytes([1]) + bytes(9)
+    return b"".join(len(part).to_bytes(2, "little") for part in (key, compiled)) + key + compiled + normal.encode()
+
+
+def test_update(server):
+    """ALTER EXTENSION UPDATE writes what its caller owns anew; what cannot be written is read as it is; and a dump of 0.2 restores."""
+    db = database(server, "older_release", "CREATE EXTENSION pep440 VERSION '0.2'", "CREATE CAST (bytea AS pep440) WITHOUT FUNCTION; CREATE CAST (bytea AS pep440_specs) WITHOUT FUNCTION")
+    rng, count = random.Random(654), 300
+    db.rows("CREATE TABLE fresh (id serial, version pep440); INSERT INTO fresh (version) VALUES " + ",".join(f"('{version(rng)}')" for _ in range(count)))
+    rows = db.rows("SELECT id, version, encode(pep440_key(version), 'hex') FROM fresh")
+    values = ",".join(f"({number}, '\\x{stored_by_0_2(normal, bytes.fromhex(key)).hex()}'::bytea::pep440)" for number, normal, key in rows)
+    for table in ("old", "seen", "other"):
+        db.rows(f"CREATE TABLE {table} (id int, version pep440); INSERT INTO {table} VALUES {values}; CREATE INDEX ON {table} (version)")
+    db.rows("CREATE VIEW on_seen AS SELECT version FROM seen; CREATE ROLE owner; ALTER TABLE other OWNER TO owner")
+    server.run("pg_dump", "-Fc", "-h", server.folder, "-U", "tester", "-f", server.folder / "dump_0_2", "-t", "old", "-e", "pep440", "older_release")
+    sizes = {table: int(db.value(f"SELECT sum(pg_column_size(version)) FROM {table}")) for table in ("fresh", "old")}
+    db.rows("ALTER EXTENSION pep440 UPDATE")
+    said = "".join(db.notices)
+    assert "wrote table old anew" in said and "table seen is left as it is" in said and "its owner may write table other anew" in said, said
+    assert db.value("SELECT extversion FROM pg_extension WHERE extname = 'pep440'") == "0.3"
+    for table in ("old", "seen", "other"):
+        differ = db.value(f"SELECT count(*) FROM {table} o JOIN fresh f USING (id) WHERE o.version <> f.version OR o.version::text <> f.version::text OR o.version <@ '>=1,!=2' <> f.version <@ '>=1,!=2'")
+        assert differ == "0", (table, differ)
+        order = db.rows(NO_TABLE + f"SELECT version FROM {table} ORDER BY version, id")
+        assert order == db.rows("RESET ALL; SELECT version FROM fresh ORDER BY version, id"), table
+        size = int(db.value(f"SELECT sum(pg_column_size(version)) FROM {table}"))
+        assert size == (sizes["fresh"] if table == "old" else sizes["old"]), (table, size, sizes)
+    db.close()
+    restored = database(server, "restored_0_2", "SELECT 1")
+    server.run("pg_restore", "-e", "-h", server.folder, "-U", "tester", "-d", "restored_0_2", server.folder / "dump_0_2")
+    assert restored.rows("SELECT id, version FROM old ORDER BY id") == [(number, normal) for number, normal, _ in rows]
+    restored.close()
+    return f"{count} versions of 0.2: {sizes['old'] / count:.1f} bytes each, then {sizes['fresh'] / count:.1f}"
+
+
+def test_trusted(server):
+    """Whoever owns a database may install the extension there, and nothing of others is run for him."""
+    db = server.connect()
+    db.rows("CREATE ROLE plain LOGIN")
+    db.rows("CREATE DATABASE plains OWNER plain")
+    db.close()
+    own = Connection(server.where("plains").replace("user=tester", "user=plain"))
+    own.rows("CREATE EXTENSION pep440 VERSION '0.2'; CREATE TABLE mine (version pep440); INSERT INTO mine VALUES ('1.0')")
+    own.rows("CREATE FUNCTION who() RETURNS boolean AS 'BEGIN RETURN current_user = ''plain''; END' LANGUAGE plpgsql; ALTER TABLE mine ADD CHECK (who())")
+    own.rows("ALTER EXTENSION pep440 UPDATE")
+    assert own.rows("SELECT version, version <@ '>=1' FROM mine") == [("1.0", "t")]
+    refused(own, "CREATE CAST (bytea AS pep440) WITHOUT FUNCTION", NO_PRIVILEGE)
+    own.close()
+    return "installed and updated by an ordinary user"
+
+
+def test_soft_errors(server):
+    """From PostgreSQL 16 on input errors can be asked for."""
+    db = server.connect()
+    if int(db.value("SHOW server_version_num")) < 160000:
+        db.close()
+        return "left out before PostgreSQL 16"
+    found = db.rows("SELECT pg_input_is_valid('1.0', 'pep440'), pg_input_is_valid('1.0.x', 'pep440'), pg_input_is_valid('>=1', 'pep440_specs'), pg_input_is_valid('=<1', 'pep440_specs')")
+    assert found == [("t", "f", "t", "f")], found
+    assert db.value("SELECT pg_input_is_valid(repeat('1.', 3000) || '1', 'pep440')") == "f"
+    message = db.rows("SELECT message, sql_error_code FROM pg_input_error_info('1.0.x', 'pep440')")
+    assert message == [('invalid input syntax for type pep440: "1.0.x"', "22P02")], message
+    db.close()
+    return "valid and invalid versions and lists"
+
+
+LONG = [  # what takes the longest of the texts that a server takes
+    "('1' || repeat('.1', 50000000))::pep440", "repeat('0', 100000000)::pep440", "(repeat(' ', 100000000) || '1')::pep440", "('>=1' || repeat(',!=1.5.*', 10000000))::pep440_specs",
+    "(repeat('>=1,', 20000000) || 'x')::pep440_specs", "pep440_valid(repeat('1', 100000000))", "pep440_specs_valid(repeat('>=1,', 20000000) || '>1')",
+]
+
+
+def test_interrupts(server):
+    """A statement that reads a long text ends soon after its time is over."""
+    if SMALL:
+        return "left out"
+    db, longest = server.connect(), 0
+    db.rows("SET statement_timeout = '1s'")
+    for text in LONG:
+        begun = time.monotonic()
+        try:
+            db.rows(f"SELECT length({text}::text)")
+        except Refused as error:
+            assert error.code in (CANCELED, "54000", "22P02"), error
+        longest = max(longest, time.monotonic() - begun)
+    db.close()
+    return f"{len(LONG)} long texts, the longest {longest:.1f} s under a limit of 1 s"
