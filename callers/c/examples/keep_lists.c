@@ -3,7 +3,7 @@
    $ ./keep_lists lists '>=1.16, <2.0' '~=1.4.2' && wc -c lists
    52 lists
    $ ./keep_lists lists '>=1.16; <2.0'
-   keep_lists: >=1.16; <2.0: not a list of specifiers */
+   keep_lists: >=1.16; <2.0: not a list of specifiers, or not a specifier */
 #include <err.h>
 #include <stdio.h>
 #include <stdlib.h>

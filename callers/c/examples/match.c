@@ -6,7 +6,7 @@
    1.20rc1: yes, a pre-release
    latest: not a version
    $ ./match '>=1.16; <2.0' 1.19
-   match: >=1.16; <2.0: not a list of specifiers */
+   match: >=1.16; <2.0: not a list of specifiers, or not a specifier */
 #include <err.h>
 #include <stdio.h>
 #include <stdlib.h>
