@@ -18,6 +18,7 @@
 #include "_strings.h"
 #include "_versions.h"
 #include "_specifiers.h"
+#include "_sets.h"
 #include "_sorting.h"
 #include "_batches.h"
 

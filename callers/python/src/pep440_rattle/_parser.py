@@ -37,7 +37,10 @@ _PLAIN_REQUIREMENT = re.compile(
     rf"""
     {_BLANKS} (?P<name> {_IDENTIFIER} )
     {_BLANKS} (?: \[ {_BLANKS} (?P<extras> {_IDENTIFIER} (?: {_BLANKS} , {_BLANKS} {_IDENTIFIER} )* )? {_BLANKS} \] )?
-    {_BLANKS} (?P<open> \( {_BLANKS} )? (?P<specifiers> {_SPECIFIERS} )? (?(open) {_BLANKS} \) )
+    {_BLANKS} (?:
+        @ {_BLANKS} (?P<url> [^ \t]+ ) (?! [^ \t] )
+        | (?P<open> \( {_BLANKS} )? (?P<specifiers> {_SPECIFIERS} )? (?(open) {_BLANKS} \) )
+    )
     {_BLANKS} (?: (?P<semicolon> ; ) | $ )
     """,
     re.VERBOSE,
@@ -175,7 +178,7 @@ _BRACKETS = "LEFT_BRACKET", "RIGHT_BRACKET"
 
 
 def parse_plain_requirement(source: str) -> ParsedRequirement | None:
-    """The parts of a requirement that has no URL; None where the other function is to say what it is. What its specifiers are is not looked at.
+    """The parts of a requirement; None where the other function is to say what it is. What its specifiers are is not looked at.
 
     >>> parse_plain_requirement("name[a, b] >=1.0")
     ParsedRequirement(name='name', url='', extras=['a', 'b'], specifier='>=1.0', marker=None)
@@ -183,14 +186,14 @@ def parse_plain_requirement(source: str) -> ParsedRequirement | None:
     found = _PLAIN_REQUIREMENT.match(source)
     if not found:
         return None
-    name, extras, _, specifiers, semicolon = found.groups()
+    name, extras, url, _, specifiers, semicolon = found.groups()
     marker = None
     if semicolon:
         try:
             marker = _parse_marker_to_end(_Cursor(source, found.end()), "")
         except (ParserSyntaxError, SyntaxError, ValueError):
             return None
-    return ParsedRequirement(name, "", [it.strip(" \t") for it in extras.split(",")] if extras else [], specifiers or "", marker)
+    return ParsedRequirement(name, url or "", [it.strip(" \t") for it in extras.split(",")] if extras else [], specifiers or "", marker)
 
 
 def parse_requirement(source: str) -> ParsedRequirement:
@@ -298,7 +301,6 @@ def parse_marker(source: str) -> MarkerList:
 
 def _parse_marker_to_end(cursor: _Cursor, what: str) -> MarkerList:
     marker = _parse_marker(cursor)
-    cursor.take(_BLANK)
     if cursor.position != len(cursor.source):
         cursor.expect(_END, what)
     return marker
@@ -306,7 +308,7 @@ def _parse_marker_to_end(cursor: _Cursor, what: str) -> MarkerList:
 
 def _parse_marker(cursor: _Cursor) -> MarkerList:
     marker: MarkerList = [_parse_atom(cursor)]
-    while (boolean := cursor.take(_BOOLEAN)) is not None:
+    while cursor.position < len(cursor.source) and (boolean := cursor.take(_BOOLEAN)) is not None:
         marker += boolean, _parse_atom(cursor)
     return marker
 

@@ -1,0 +1,218 @@
+/* The type of sets of specifiers: how one is made of its members, and what of these is asked. */
+
+/* A member of a set, and which one it is. */
+typedef struct {
+    const Specifiers *member;
+    size_t place;
+} Placed;
+
+/* By version, and those of equal ones as they came. */
+static int compare_placed(const void *left, const void *right)
+{
+    const Placed *one = left, *other = right;
+    int order = compare_forms(one->member->compiled + MEMBER_HEAD, one->member->length - MEMBER_HEAD, other->member->compiled + MEMBER_HEAD,
+                              other->member->length - MEMBER_HEAD);
+    return order ? order : (one->place > other->place) - (one->place < other->place);
+}
+
+/* The compiled list of the members but those with `===`: theirs, one after the other in the order of their versions. To be freed. */
+static uint8_t *assemble(PyObject *members, size_t *length)
+{
+    size_t all = (size_t)PyTuple_Size(members), count = 0;
+    Placed *sorted = PyMem_Calloc(all + 1, sizeof *sorted);
+    uint8_t *list = NULL, *end;
+    *length = LIST_HEAD;
+    for (size_t place = 0; sorted && place < all; place++) {
+        const Specifiers *member = (Specifiers *)PyTuple_GetItem(members, (Py_ssize_t)place);
+        if (is_arbitrary(member))
+            continue;
+        sorted[count++] = (Placed){member, place};
+        *length += member->length - LIST_HEAD;
+    }
+    if (sorted && (list = PyMem_Malloc(*length))) {
+        qsort(sorted, count, sizeof *sorted, compare_placed);
+        list[0] = LIST;
+        end = list + LIST_HEAD;
+        for (size_t turn = 0; turn < count; turn++) {
+            size_t size = sorted[turn].member->length - LIST_HEAD;
+            memcpy(end, sorted[turn].member->compiled + LIST_HEAD, size);
+            end += size;
+        }
+    }
+    PyMem_Free(sorted);
+    if (!list)
+        PyErr_NoMemory();
+    return list;
+}
+
+/* The specifier of a piece of a string, or of another one that is given, which is a member as it is. */
+static PyObject *member_of(PyObject *given)
+{
+    PyObject *made;
+    if (PyObject_TypeCheck(given, HeldSpecifierType))
+        return is_compiled((Specifiers *)given) ? Py_NewRef(given) : NULL;
+    if (!PyUnicode_Check(given))
+        return PyObject_CallFunctionObjArgs(member_class, given, NULL);
+    made = PyType_GenericAlloc((PyTypeObject *)member_class, 0);
+    if (made && read_specifier((Specifiers *)made, given, Py_None) < 0)
+        Py_CLEAR(made);
+    return made;
+}
+
+/* Adds the member of a piece of a string, unless this is empty. */
+static int add_piece(PyObject *list, PyObject *given)
+{
+    PyObject *piece = stripped(given), *member = NULL;
+    int done = piece ? 0 : -1;
+    if (piece && PyUnicode_GetLength(piece) && (!(member = member_of(piece)) || PyList_Append(list, member) < 0))
+        done = -1;
+    Py_XDECREF(piece);
+    Py_XDECREF(member);
+    return done;
+}
+
+/* Adds the members of a string, between its commas. */
+static int add_pieces(PyObject *list, PyObject *given)
+{
+    PyObject *comma, *pieces;
+    int done;
+    if (PyUnicode_FindChar(given, ',', 0, PY_SSIZE_T_MAX, 1) == -1)
+        return add_piece(list, given);
+    comma = PyUnicode_FromString(",");
+    pieces = comma ? PyUnicode_Split(given, comma, -1) : NULL;
+    done = pieces ? 0 : -1;
+    for (Py_ssize_t place = 0; done == 0 && place < PyList_Size(pieces); place++)
+        done = add_piece(list, PyList_GetItem(pieces, place));
+    Py_XDECREF(comma);
+    Py_XDECREF(pieces);
+    return done;
+}
+
+static int add_members(PyObject *list, PyObject *given)
+{
+    PyObject *all = PyObject_GetIter(given), *each;
+    while (all && (each = PyIter_Next(all))) {
+        PyObject *member = member_of(each);
+        if (member && PyList_Append(list, member) < 0)
+            Py_CLEAR(member);
+        Py_DECREF(each);
+        Py_XDECREF(member);
+        if (!member)
+            break;
+    }
+    Py_XDECREF(all);
+    return PyErr_Occurred() ? -1 : 0;
+}
+
+static int set_init(Specifiers *self, PyObject *args, PyObject *named)
+{
+    PyObject *given = NULL, *said = Py_None, *list, *members = NULL;
+    uint8_t *bytes = NULL;
+    size_t length;
+    int done = -1;
+    if (init_arguments(args, named, "specifiers", "|OO:SpecifierSet", &given, &said) < 0 || !(list = PyList_New(0)))
+        return -1;
+    if (!given || (PyUnicode_Check(given) ? add_pieces(list, given) : add_members(list, given)) == 0)
+        members = PyList_AsTuple(list);
+    Py_DECREF(list);
+    if (members)
+        bytes = assemble(members, &length);
+    if (bytes)
+        done = take(self, NULL, Py_NewRef(members), said, bytes, length);
+    PyMem_Free(bytes);
+    Py_XDECREF(members);
+    return done;
+}
+
+/* The members of both, equal ones too. */
+static PyObject *joined_members(Specifiers *one, Specifiers *two)
+{
+    PyObject *left = PySequence_List(one->members), *right = PySequence_List(two->members), *both = NULL;
+    if (left && right)
+        both = PySequence_Concat(left, right);
+    Py_XDECREF(left);
+    Py_XDECREF(right);
+    return both;
+}
+
+/* The members of both sets, or of a set and a string, as a plain set: with what one of them says of pre-releases, which the other may not gainsay. */
+static PyObject *set_and(PyObject *left, PyObject *right)
+{
+    PyObject *other, *said, *given = NULL, *made = NULL;
+    Specifiers *one = (Specifiers *)left, *two;
+    int differ;
+    if (!PyObject_TypeCheck(left, HeldSetType) || !(PyUnicode_Check(right) || PyObject_TypeCheck(right, HeldSetType)))
+        Py_RETURN_NOTIMPLEMENTED;
+    other = PyUnicode_Check(right) ? PyObject_CallFunctionObjArgs(set_class, right, NULL) : Py_NewRef(right);
+    two = (Specifiers *)other;
+    if (!other || !is_compiled(one) || !is_compiled(two)) {
+        Py_XDECREF(other);
+        return NULL;
+    }
+    said = one->said == Py_None ? two->said : one->said;
+    differ = two->said == Py_None ? 0 : PyObject_RichCompareBool(said, two->said, Py_NE);
+    if (differ > 0)
+        PyErr_SetString(PyExc_ValueError, "Cannot combine SpecifierSets with True and False prerelease overrides.");
+    else if (differ == 0)
+        given = joined_members(one, two);
+    if (given)
+        made = PyObject_CallFunctionObjArgs(set_class, given, said, NULL);
+    Py_XDECREF(given);
+    Py_DECREF(other);
+    return made;
+}
+
+static int assign_members(Specifiers *self, PyObject *value, void *unused)
+{
+    if (!value)
+        PyErr_SetString(PyExc_AttributeError, "_specs cannot be deleted");
+    return make_of(self, value, set_init);
+}
+
+/* The members as a frozenset, borrowed: of equal ones the first. */
+static PyObject *members_of(Specifiers *self)
+{
+    if (!is_compiled(self) || !PyTuple_Check(self->members))
+        return self->compiled ? self->members : NULL;
+    return kept_in(&self->members, PyFrozenSet_New(self->members));
+}
+
+static PyObject *get_members(Specifiers *self, void *unused) { return Py_XNewRef(members_of(self)); }
+
+static Py_ssize_t set_length(Specifiers *self)
+{
+    PyObject *members = members_of(self);
+    return members ? PyObject_Size(members) : -1;
+}
+
+static PyObject *set_iterator(Specifiers *self)
+{
+    PyObject *members = members_of(self);
+    return members ? PyObject_GetIter(members) : NULL;
+}
+
+static Py_hash_t set_hash(Specifiers *self)
+{
+    PyObject *members = members_of(self);
+    return members ? PyObject_Hash(members) : -1;
+}
+
+/* Whether both have equal members; of a string or a specifier a set is made. */
+static PyObject *set_compare(PyObject *left, PyObject *right, int operation)
+{
+    int is_set = PyObject_TypeCheck(right, HeldSetType), is_text = PyUnicode_Check(right) || PyObject_TypeCheck(right, HeldSpecifierType);
+    PyObject *text, *other, *one, *two, *answer = NULL;
+    if ((operation != Py_EQ && operation != Py_NE) || (!is_set && !is_text))
+        Py_RETURN_NOTIMPLEMENTED;
+    text = is_set ? Py_NewRef(right) : PyObject_Str(right);
+    other = is_set || !text ? Py_XNewRef(text) : PyObject_CallFunctionObjArgs((PyObject *)HeldSetType, text, NULL);
+    one = other ? Py_XNewRef(members_of((Specifiers *)left)) : NULL;
+    two = one ? Py_XNewRef(members_of((Specifiers *)other)) : NULL;
+    if (two)
+        answer = PyObject_RichCompare(one, two, operation);
+    Py_XDECREF(text);
+    Py_XDECREF(other);
+    Py_XDECREF(one);
+    Py_XDECREF(two);
+    return answer;
+}
