@@ -59,7 +59,7 @@ char *normal_text(Writer call, Bytes value);
 /* A text of the server's: a copy in its encoding, with a zero at the end. */
 char *server_text(Bytes utf8);
 /* The error of a status that has no other: memory that was refused, or stored bytes that are no value. */
-void fail(uint8_t status) pg_attribute_noreturn();
+_Noreturn void fail(uint8_t status);
 
 /* What is behind the header. */
 Bytes bytes_of(const struct varlena *stored);

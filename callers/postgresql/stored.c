@@ -1,12 +1,12 @@
-/* How values of both types are stored: as compiled bytes, but for most versions, of which the bytes that nearly all have are left out.
+/* How values of both types are stored: as compiled bytes, but for most versions, of which what nearly all have in common is left out.
 
-   The compiled bytes of a version of epoch 0 are the format, 0, the rest of its sort key, and a byte 1 for each zero at the end of the release. Stored are
-   those of the rest before one of ENDS; and its first byte, which is 0 to 9, holds also which end it is, and the number of zeros. Such a value has less
-   than 128 bytes, and its first byte is at least 0x80.
+   The compiled bytes of a version of epoch 0 are the format, 0, the rest of its sort key, and a byte 1 for each zero at the end of its release. The rest
+   ends with one of ENDS. Stored is the rest without this end; its first byte, which is at most 7 here, also has the number of zeros, which end it is, and
+   0x80. Such a value has less than 128 bytes.
 
-   Releases before 0.3 stored lengths and bytes that ended with the normal form. If the first of these is at least 0x80, then so is the first length; and the last
-   one is an ASCII character, or the value is an empty list that does not begin with its format. Compiled versions end with 0 or 1, as compiled lists do,
-   but for the empty one, which is the format alone. So a value tells how it is stored. */
+   Before 0.3 a value was lengths, other bytes and the normal form. If its first byte is at least 0x80, it has at least 128 bytes; and it ends with an
+   ASCII character, or is an empty list that does not begin with its format. Compiled versions end with 0 or 1; so do compiled lists, but for the empty
+   one, which is its format alone. So each value shows how it is stored. */
 #include "extension.h"
 
 /* No local part, no dev release, no post-release, and that it is no pre-release: what ends a sort key, and follows the numbers of a release alone. */

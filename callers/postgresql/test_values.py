@@ -160,6 +160,7 @@ def test_sizes(server):
     plain = int(db.value("SELECT pg_relation_size('by_plain')")) / ROWS
     db.rows("DROP TABLE plain")
     db.close()
+    assert average <= 16 and index <= of_strings, (average, index, of_strings)
     return f"{average:.1f} bytes a version (their strings {strings:.1f}), {index:.1f} in an index ({of_strings:.1f} where none is deduplicated), {plain:.1f} of releases alone"
 
 
@@ -180,6 +181,7 @@ def test_copy(server):
     server.stop()
     ratios = [versions / strings for versions, strings in zip(copied_from(server, "version"), copied_from(server, "string"))]
     server.start()
+    assert ratios[0] <= 1.5, ratios
     return "COPY FROM takes {:.2f} of the instructions of strings, COPY TO {:.2f}".format(*ratios)
 
 
