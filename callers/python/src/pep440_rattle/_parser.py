@@ -26,7 +26,7 @@ _VARIABLES = {
 _VARIABLES |= {name: name.replace(".", "_") for name in "os.name sys.platform platform.version platform.machine platform.python_implementation".split()}
 _VARIABLES["python_implementation"] = "platform_python_implementation"
 _VARIABLES_OR_NONE = {*_VARIABLES, None}
-_VARIABLE = rf"\b(?:{'|'.join(sorted(map(re.escape, _VARIABLES), reverse=True))})\b"
+_VARIABLE = rf"\b(?:{'|'.join(sorted((re.escape(name) for name in _VARIABLES), reverse=True))})\b"
 _QUOTED = r""" '[^']*' | "[^"]*" """
 _OPERATOR = r"===|==|~=|!=|<=|>=|<|>"
 # What stands behind an operator may yet be no version. Behind `===` commas belong to the string, so it is left to the tokens.

@@ -110,7 +110,7 @@ def _format_marker(marker: MarkerList | MarkerItem | str, first: bool = True) ->
         return marker
     if isinstance(marker, tuple):
         return " ".join([node.serialize() for node in marker])
-    if len(marker) == 1 and isinstance(marker[0], (list, tuple)):
+    if len(marker) == 1 and not isinstance(marker[0], str):
         return _format_marker(marker[0])
     inner = " ".join([_format_marker(each, first=False) for each in marker])
     return inner if first else f"({inner})"
@@ -174,12 +174,13 @@ def _evaluate_markers(markers: MarkerList, environment: dict[str, _Operand]) -> 
     """Whether of the groups that "or" parts one has comparisons that all hold. Each is made, since it may raise an error."""
     groups: list[list[bool]] = [[]]
     for marker in markers:
-        if isinstance(marker, tuple):
-            groups[-1].append(_evaluate_item(marker, environment))
+        if isinstance(marker, str):
+            if marker == "or":
+                groups.append([])
         elif isinstance(marker, list):
             groups[-1].append(_evaluate_markers(marker, environment))
-        elif marker == "or":
-            groups.append([])
+        else:
+            groups[-1].append(_evaluate_item(marker, environment))
     return any(all(group) for group in groups)
 
 

@@ -56,10 +56,11 @@ def canonicalize_version(version: Version | str, *, strip_trailing_zero: bool = 
     ('1rc1', '1.0.0', 'x')
     """
     if isinstance(version, str):
+        text = version
         try:
-            version = Version(version)
+            version = Version(text)
         except InvalidVersion:
-            return version
+            return text
     if not strip_trailing_zero:
         return str(version)
     it = Version(str(version))
