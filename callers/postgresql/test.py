@@ -258,13 +258,13 @@ def test_sort(server):
     if SMALL:
         return "left out"
     db = server.connect()
-    db.rows("CREATE TABLE unsorted AS SELECT written, version FROM releases WHERE id <= 20000")
+    db.rows("CREATE TABLE unsorted AS SELECT written, version FROM releases WHERE id <= 100000")
     db.close()
     server.stop()
     versions, strings = (instructions(server, f"SELECT count(*) FROM (SELECT {name} FROM unsorted ORDER BY {name} OFFSET 0) AS sorted") for name in ("version", "written"))
     server.start()
     assert versions <= strings, (versions, strings)
-    return f"20000 versions take {versions} instructions, their strings {strings}"
+    return f"100000 versions take {versions} instructions, their strings {strings}"
 
 
 def test_speed(server):
