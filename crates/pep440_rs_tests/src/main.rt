@@ -8,6 +8,7 @@ mod matching;
 mod operators;
 mod parsers;
 mod ranges;
+mod witness;
 
 use bounds::{lower_bound, pairs, upper_bound};
 use json::{
@@ -23,6 +24,7 @@ use ranges::{beside, cover, cover_beside, intersection, range, release_range, un
 use std::alloc::Global;
 use std::io;
 use testing::{Calls, CaseError, run_cases};
+use witness::version_in;
 
 struct SpecifierCalls;
 
@@ -37,6 +39,7 @@ fn of_one(alloc: Global, call: &str, text: &str) -> Result<String, CaseError> {
         "range" => range(alloc, text),
         "cover" => cover(alloc, text),
         "release-range" => release_range(alloc, text),
+        "version-in" => version_in(alloc, text),
         "lower-bound" => lower_bound(alloc, text),
         "upper-bound" => upper_bound(alloc, text),
         "json-version" => json_version(alloc, text),

@@ -1,5 +1,5 @@
 -- A list that contains some version that a string denotes contains a probe.
-use Rattle.std.proofs.Common.{◌≡◌, ◌⊎◌, inl, inr, ℕ, zero, suc, ◌+◌, ◌<◌, ◌≤◌, ◌^◌, ◌==◌, Bool, true, false, not, ◌&&◌, ◌||◌, List, [], ◌∷◌, ◌++◌, length, nat_lt, IfSome, Option, Some, None, is_some, cond, refl, sym, ap, ◌∙◌, subst, arith, IsTrue}
+use Rattle.std.proofs.Common.{◌≡◌, ◌⊎◌, inl, inr, ℕ, ◌≤◌, ◌==◌, Bool, true, false, not, ◌&&◌, ◌||◌, List, [], ◌∷◌, ◌++◌, length, nat_lt, IfSome, Option, Some, None, is_some, cond, refl, sym, ap, ◌∙◌, subst, arith}
 use mathlib.Core.Bool.{true≢false}
 use Rattle.std.proofs.lemmas.Bool.Decides.{nat_tests}
 use Rattle.std.proofs.lemmas.Cmp.{tied_itself}
@@ -29,7 +29,7 @@ use Rattle.pep440_version.specs.declared.prerelease.Prerelease.{Prerelease}
 use Rattle.pep440_witness.proofs.Keeping.{first_equal, in_left, in_right, is_equal, keep_all, not_true, or_false, other_local, pins, plain_of, same_dev, same_post, same_pre, tied_after}
 use Rattle.pep440_witness.proofs.Reaching.{AllShort, IsPlain, all_shaped, around_fits, is_fit, is_shaped, versions_le_le}
 use Rattle.pep440_witness.proofs.Releases.{FitAll, and_left, and_right, and_true, begins_tied, squash, squash_begins, squash_cmp, squash_fits, squash_short, without_last_short, zero_least}
-use Rattle.pep440_witness.proofs.Steps.{In, le_then}
+use Rattle.pep440_witness.proofs.Steps.{In}
 use Rattle.pep440_witness.specs.Probes.{ProbesDecide, around, beside, longest, next_release, points, probes, versions}
 
 -- ---- a release that compares alike

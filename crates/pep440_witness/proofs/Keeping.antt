@@ -1,5 +1,5 @@
 -- The greatest fit probe is matched by each member that matches the version.
-use Rattle.std.proofs.Common.{◌≡◌, ◌⊎◌, inl, inr, ℕ, zero, suc, ◌+◌, ◌<◌, ◌≤◌, ◌==◌, Bool, true, false, not, ◌&&◌, ◌||◌, List, [], ◌∷◌, ◌++◌, length, Option, Some, None, is_some, option_map, cond, refl, sym, ap, ◌∙◌, subst, arith, eqb-true, IsTrue}
+use Rattle.std.proofs.Common.{◌≡◌, inl, inr, ℕ, ◌<◌, ◌≤◌, ◌==◌, Bool, true, false, not, ◌&&◌, ◌||◌, List, [], ◌∷◌, ◌++◌, length, Option, Some, None, is_some, cond, refl, sym, ap, ◌∙◌, subst, arith, eqb-true}
 use mathlib.Core.Bool.{true≢false}
 use Rattle.std.proofs.lemmas.Bool.Decides.{nat_tests}
 use Rattle.std.proofs.lemmas.List.Elements.{All-tail}
@@ -8,11 +8,11 @@ use Rattle.std.specs.Option.{option_map_or}
 use Rattle.std.specs.Ordering.{nat_cmp, ordering_reverse, ordering_then, is_lt, is_le, is_gt, is_ge, is_eq}
 use Rattle.std.specs.declared.cmp.Ordering.{Ordering}
 use Rattle.std.specs.declared.cmp.Ordering.TheVariants as ord
-use Rattle.pep440_rs.proofs.Agreement.VersionOrder.{by_parts, is_plain, plain, same_base}
+use Rattle.pep440_rs.proofs.Agreement.VersionOrder.{by_parts, is_plain, plain}
 use Rattle.pep440_rs.proofs.Covering.PublicParts.{is_unmarked, unmarked}
 use Rattle.pep440_rs.specs.Agreement.{HasOperand}
 use Rattle.pep440_rs.specs.Cover.{IsCoverable, IsDenoted}
-use Rattle.pep440_rs.specs.Matching.{any_prerelease, begins_with, candidate, has_local, has_prefix, list_matches, matches, same_release, without_last}
+use Rattle.pep440_rs.specs.Matching.{begins_with, has_local, has_prefix, list_matches, matches, same_release, without_last}
 use Rattle.pep440_rs.specs.Specifiers.{Spec}
 use Rattle.pep440_rs.specs.declared.specifier.operator.Operator.{Operator}
 use Rattle.pep440_rs.specs.declared.specifier.operator.Operator.TheVariants.{Equal, EqualStar, ExactEqual, NotEqual, NotEqualStar, TildeEqual, LessThan, LessThanEqual, GreaterThan, GreaterThanEqual}
@@ -21,8 +21,8 @@ use Rattle.pep440_version.specs.KeyLaws.{record_total}
 use Rattle.pep440_version.specs.Record.{Fits, Record, LocalSegmentValue, from_parts}
 use Rattle.pep440_version.specs.Ties.{ties}
 use Rattle.pep440_version.specs.declared.prerelease.Prerelease.{Prerelease}
-use Rattle.pep440_witness.proofs.Reaching.{AllShort, IsPlain, Tops, all_like, all_shaped, base_le, bases_le_lt, base_total, deep, deep_above, deep_fits, fit_of, is_fit, is_shaped, reach_base, step_reaches, versions_le_le, versions_le_lt, versions_lt_le, weak, by_base}
-use Rattle.pep440_witness.proofs.Releases.{FitAll, after_apart, after_least, after_pin, after_short, and_left, and_right, and_true, begin, begins_le, begins_without_last, below_not, between, equal_is, itself, le_first, le_next, less_is, no_begin, no_begin_le, no_begin_next, pinned, tied_begins, without_last_short, zero_least}
+use Rattle.pep440_witness.proofs.Reaching.{AllShort, IsPlain, Tops, all_like, all_shaped, base_le, bases_le_lt, base_total, deep, deep_above, deep_fits, fit_of, is_shaped, reach_base, step_reaches, versions_le_le, versions_le_lt, versions_lt_le, weak, by_base}
+use Rattle.pep440_witness.proofs.Releases.{FitAll, after_apart, after_least, after_pin, after_short, and_left, and_right, and_true, begin, begins_le, begins_without_last, below_not, between, equal_is, itself, le_next, less_is, no_begin, no_begin_le, no_begin_next, pinned, tied_begins, zero_least}
 use Rattle.pep440_witness.proofs.Steps.{HasStep, In, raised_is, step}
 use Rattle.pep440_witness.specs.Probes.{after_prefix, around, beside, next_release, points, raised, versions}
 

@@ -3,3 +3,5 @@ pub mod Steps
 pub mod Reaching
 pub mod Keeping
 pub mod Deciding
+pub mod Above
+pub mod Finding

@@ -1,10 +1,10 @@
 -- A probe up to a version that is shaped as the list requires, and above what that version is above.
-use Rattle.std.proofs.Common.{◌≡◌, ◌⊎◌, inl, inr, ℕ, zero, suc, ◌+◌, ◌<◌, ◌≤◌, ◌==◌, Bool, true, false, not, ◌&&◌, ◌||◌, List, [], ◌∷◌, ◌++◌, length, IfSome, Option, Some, None, is_some, option_map, cond, refl, sym, ap, ◌∙◌, subst, arith}
+use Rattle.std.proofs.Common.{◌≡◌, inl, inr, ℕ, suc, ◌≤◌, ◌==◌, Bool, true, false, not, ◌&&◌, ◌||◌, List, [], ◌∷◌, length, IfSome, Option, Some, None, is_some, refl, sym, ap, ◌∙◌}
 use mathlib.Core.Bool.{true≢false}
 use Rattle.std.proofs.lemmas.Cmp.{nat_cmp_total, on_total, then_total, tied_itself}
 use Rattle.std.specs.Cmp.{IsTotalOrder}
 use Rattle.std.specs.List.{list_all}
-use Rattle.std.specs.Ordering.{nat_cmp, ordering_reverse, ordering_then, is_lt, is_le, is_gt, is_ge, is_eq}
+use Rattle.std.specs.Ordering.{nat_cmp, ordering_reverse, ordering_then, is_lt, is_le, is_eq}
 use Rattle.std.specs.declared.cmp.Ordering.{Ordering}
 use Rattle.std.specs.declared.cmp.Ordering.TheVariants as ord
 use Rattle.pep440_rs.proofs.Agreement.VersionOrder.{by_parts, plain, same_base}
@@ -19,8 +19,8 @@ use Rattle.pep440_version.specs.declared.prerelease.Prerelease.{Prerelease}
 use Rattle.pep440_version.specs.declared.prerelease.PrereleaseKind.{PrereleaseKind}
 use Rattle.pep440_version.specs.declared.prerelease.PrereleaseKind.TheVariants.{Alpha, Beta, Rc}
 use Rattle.pep440_witness.proofs.Releases.{FitAll, above_is_apart, above_is_least, and_left, and_right, and_true, carry, is_above}
-use Rattle.pep440_witness.proofs.Steps.{HasStep, In, IsStep, first_tail, le_then, step}
-use Rattle.pep440_witness.specs.Probes.{around, beside, just_above, longest, next_release, points, versions}
+use Rattle.pep440_witness.proofs.Steps.{HasStep, In, first_tail, le_then}
+use Rattle.pep440_witness.specs.Probes.{around, beside, just_above}
 
 -- ---- total orders
 

@@ -1,14 +1,14 @@
 -- Within one release: of the versions beside one, some is above it and up to each version above it, and is neither a pre-release
 -- nor a post-release unless that version is.
-use Rattle.std.proofs.Common.{◌≡◌, ◌⊎◌, inl, inr, ℕ, ◌+◌, ◌<◌, ◌≤◌, ◌^◌, ◌==◌, Bool, true, false, ◌||◌, List, [], ◌∷◌, IfSome, Option, Some, None, is_some, option_map, cond, refl, sym, ap, ◌∙◌, arith, eqb-true}
+use Rattle.std.proofs.Common.{◌≡◌, ◌⊎◌, inl, inr, ℕ, ◌+◌, ◌<◌, ◌==◌, Bool, true, false, ◌||◌, List, [], ◌∷◌, IfSome, Option, Some, None, is_some, option_map, cond, refl, sym, ap, ◌∙◌, arith, eqb-true}
 use mathlib.Core.Bool.{true≢false}
 use Rattle.std.proofs.lemmas.Bool.Decides.{nat_tests}
 use Rattle.std.proofs.lemmas.Cmp.{nat_cmp_total, tied_itself}
-use Rattle.std.specs.Ordering.{nat_cmp, ordering_then, is_lt, is_le, is_eq}
+use Rattle.std.specs.Ordering.{nat_cmp, ordering_then, is_lt, is_le}
 use Rattle.std.specs.declared.cmp.Ordering.{Ordering}
 use Rattle.std.specs.declared.cmp.Ordering.TheVariants as ord
 use Rattle.pep440_rs.specs.Matching.{any_prerelease}
-use Rattle.pep440_version.specs.Key.{Dev, Final, Pre, Stage, dev_cmp, dev_of, kind_rank, post_cmp, post_of, stage_cmp, stage_of, suffix_cmp}
+use Rattle.pep440_version.specs.Key.{Dev, Final, Pre, dev_cmp, dev_of, kind_rank, post_cmp, post_of, stage_cmp, stage_of, suffix_cmp}
 use Rattle.pep440_version.specs.Record.{Fits, Record, from_parts}
 use Rattle.pep440_version.specs.declared.prerelease.Prerelease.{Prerelease}
 use Rattle.pep440_version.specs.declared.prerelease.PrereleaseKind.{PrereleaseKind}

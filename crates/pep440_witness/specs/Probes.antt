@@ -1,7 +1,7 @@
 -- The probes of a list of specifiers: finitely many versions, some beside the version of each member. A list that contains some
 -- version that a string denotes contains a probe.
-use Rattle.std.specs.Prelude.{ℕ, zero, suc, ◌+◌, ◌==◌, ◌++◌, Bool, List, [], ◌∷◌, length, map, nat_lt, Option, Some, None, option_map, IsTrue, not, if◌then◌else◌}
-use Rattle.std.specs.List.{All, flat_map, list_any}
+use Rattle.std.specs.Prelude.{ℕ, zero, suc, ◌+◌, ◌==◌, ◌++◌, List, [], ◌∷◌, length, map, nat_lt, Option, Some, None, option_map, IsTrue, if◌then◌else◌}
+use Rattle.std.specs.List.{All, find, flat_map, list_any}
 use Rattle.std.specs.Option.{option_map_or}
 use Rattle.pep440_rs.specs.Bounds.{next_number}
 use Rattle.pep440_rs.specs.Cover.{IsCoverable, IsDenoted}
@@ -91,6 +91,10 @@ versions members = map (λ (m : Spec). m.version) members
 -- the members' versions themselves, then the probes of release 0 and of each
 abbrev pub probes : List Spec → List Record
 probes members = versions members ++ flat_map (points (longest (versions members))) (from_release (0 ∷ []) ∷ versions members)
+
+-- the first probe that the list contains
+abbrev pub first_match : List Spec → Option Record
+first_match members = find (λ p. list_matches members p) (probes members)
 
 -- a list that contains some version that a string denotes contains a probe
 abbrev pub ProbesDecide : List Spec → Type 0

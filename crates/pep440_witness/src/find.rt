@@ -1,0 +1,138 @@
+//! The first probe that a list contains.
+ghost use Rattle.std.specs.Prelude.{◌≡◌, ◌++◌, ◌∷◌, [], IfOk, IfSome, IsTrue, None, OnOk};
+ghost use Rattle.std.specs.List.{All, find, flat_map};
+ghost use Rattle.pep440_rs.specs.Cover.{IsCoverable, IsDenoted};
+ghost use Rattle.pep440_rs.specs.Matching.{list_matches};
+ghost use Rattle.pep440_version.specs.Record.{Record, from_release};
+ghost use Rattle.pep440_witness.specs.Probes.{around, first_match, longest, next_release, points, versions};
+
+use crate::beside::{push_beside, raise};
+use crate::near::{after_prefix, push_around};
+use pep440_rs::{VersionSpecifier, VersionSpecifiers};
+use pep440_version::Version;
+use std::alloc::{AllocError, Global};
+
+// Pushes the versions around the next release.
+fn push_around_next(
+    alloc: Global,
+    depth: usize,
+    version: &Version,
+    into: &mut Vec<Version>,
+) -> Result<(), AllocError>
+    ensures { OnOk result (into.new.items ≡ into.old.items ++ around depth (next_release version.now)) }
+{
+    match after_prefix(alloc, version.release())? {
+        Some(release) => push_around(alloc, depth, version.epoch(), &release, into),
+        None => push_around(alloc, depth, raise(version.epoch()), &[0], into),
+    }
+}
+
+// The probes of a version.
+fn points(alloc: Global, depth: usize, version: &Version) -> Result<Vec<Version>, AllocError>
+    ensures { IfOk result (λ found. found.items ≡ points depth version.now) }
+{
+    let mut found = Vec::with_capacity(alloc, 13)?;
+    push_beside(alloc, version, &mut found)?;
+    push_around(alloc, depth, version.epoch(), version.release(), &mut found)?;
+    push_around_next(alloc, depth, version, &mut found)?;
+    Ok(found)
+}
+
+// The first of these versions that the list contains.
+fn first_of(
+    alloc: Global,
+    list: &VersionSpecifiers,
+    candidates: Vec<Version>,
+) -> Result<Option<Version>, AllocError>
+    ensures { IfOk result (λ found. found ≡ find (λ v. list_matches list.now v) candidates.items) }
+{
+    for version in candidates {
+        if list.contains(alloc, &version)? {
+            return Ok(Some(version));
+        }
+    }
+    Ok(None)
+}
+
+// The first of the members' versions that the list contains.
+fn first_member(alloc: Global, list: &VersionSpecifiers) -> Result<Option<Version>, AllocError>
+    ensures { IfOk result (λ found. found ≡ find (λ v. list_matches list.now v) (versions list.now)) }
+{
+    for member in list.as_slice() {
+        if list.contains(alloc, member.version())? {
+            return Ok(Some(member.version().clone()?));
+        }
+    }
+    Ok(None)
+}
+
+// The most numbers that a member's release has, and at least 1.
+fn longest(members: &[VersionSpecifier]) -> usize
+    ensures { result ≡ longest (versions members.now) }
+{
+    let mut most = 1;
+    for member in members {
+        let length = member.version().release().len();
+        if most < length {
+            most = length;
+        }
+    }
+    most
+}
+
+#[tactic(auto, using(crate::proofs::Finding::none_beside))]
+// The first of the probes of the members that the list contains.
+fn first_beside_members(
+    alloc: Global,
+    depth: usize,
+    list: &VersionSpecifiers,
+) -> Result<Option<Version>, AllocError>
+    ensures { IfOk result (λ found. found ≡ find (λ v. list_matches list.now v) (flat_map (points depth) (versions list.now))) }
+{
+    for member in list.as_slice() {
+        let candidates = points(alloc, depth, member.version())?;
+        if let Some(found) = first_of(alloc, list, candidates)? {
+            return Ok(Some(found));
+        }
+    }
+    Ok(None)
+}
+
+// The first of the probes of version 0 that the list contains.
+fn first_beside_zero(
+    alloc: Global,
+    depth: usize,
+    list: &VersionSpecifiers,
+) -> Result<Option<Version>, AllocError>
+    ensures { IfOk result (λ found. found ≡ find (λ v. list_matches list.now v) (points depth (from_release (0 ∷ [])))) }
+{
+    let zero = Version::new(alloc, &[0])?;
+    first_of(alloc, list, points(alloc, depth, &zero)?)
+}
+
+// The first probe that the list contains.
+fn first_match(alloc: Global, list: &VersionSpecifiers) -> Result<Option<Version>, AllocError>
+    ensures { IfOk result (λ found. found ≡ first_match list.now) }
+{
+    let depth = longest(list.as_slice());
+    match first_member(alloc, list)? {
+        Some(found) => Ok(Some(found)),
+        None => match first_beside_zero(alloc, depth, list)? {
+            Some(found) => Ok(Some(found)),
+            None => first_beside_members(alloc, depth, list),
+        },
+    }
+}
+
+/// A version that the list contains, or `None` if it contains none that a string denotes (PEP 440, "Version specifiers"). It is the
+/// first of the list's probes that the list contains: the members' own versions come first, and versions beside them follow.
+///
+/// Allocates.
+#[tactic(auto, using(crate::proofs::Finding::answer_none))]
+pub fn find_version(alloc: Global, list: &VersionSpecifiers) -> Result<Option<Version>, AllocError>
+    ensures value { IfOk result (λ found. found ≡ first_match list.now) }
+    ensures contained { IfOk result (λ found. IfSome found (λ v. IsTrue (list_matches list.now v))) }
+    ensures none { All IsCoverable list.now → IfOk result (λ found. found ≡ None → (v : Record) → IsDenoted v → IsTrue (list_matches list.now v) → ⊥) }
+{
+    first_match(alloc, list)
+}
