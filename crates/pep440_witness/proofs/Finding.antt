@@ -1,5 +1,5 @@
 -- The first probe that a list contains, found in turn.
-use Rattle.std.proofs.Common.{◌≡◌, ◌<◌, ◌+◌, ◌∙◌, ℕ, Bool, true, false, List, [], ◌∷◌, ◌++◌, ◌||◌, cond, length, get_or, drop, nat_lt, Option, Some, None, IfSome, IfOk, IsTrue, Result, Ok, Err, refl, sym, ap, subst, arith, if◌then◌else◌}
+use Rattle.std.proofs.Common.{◌≡◌, ◌<◌, ◌+◌, ◌∙◌, ℕ, Bool, true, false, List, [], ◌∷◌, ◌++◌, ◌||◌, cond, length, get_or, drop, nat_lt, Option, Some, None, IfSome, IsTrue, refl, sym, ap, subst, arith, if◌then◌else◌}
 use Rattle.std.proofs.lemmas.List.Folds.{find-append}
 use Rattle.std.proofs.lemmas.List.{drop_more}
 use Rattle.std.specs.Option.{option_or}
@@ -102,8 +102,8 @@ does : (p : Record → Bool) (xs : List Record) → IfSome (find p xs) (λ v. Is
 does p [] = tt
 does p (x ∷ xs) = head_does p x (find p xs) (p x) refl (does p xs)
 
-pub contained : (members : List Spec) → IfSome (first_match members) (λ v. IsTrue (list_matches members v))
-contained members = does (λ v. list_matches members v) (probes members)
+pub is_contained : (members : List Spec) (v : Record) → Some v ≡ first_match members → IsTrue (list_matches members v)
+is_contained members v is = subst (λ o. IfSome o (λ v. IsTrue (list_matches members v))) (sym is) (does (λ v. list_matches members v) (probes members))
 
 head_not : (x : Record) (rest : Option Record) (any b : Bool) → (rest ≡ None → IsTrue any → ⊥) → cond b (Some x) rest ≡ None → IsTrue (b || any) → ⊥
 head_not x rest any true others none is = cc none
@@ -114,15 +114,5 @@ none_does : (p : Record → Bool) (xs : List Record) → find p xs ≡ None → 
 none_does p [] none any = cc any
 none_does p (x ∷ xs) none any = head_not x (find p xs) (list_any p xs) (p x) (none_does p xs) none any
 
-pub decided : (members : List Spec) → All IsCoverable members → first_match members ≡ None → (v : Record) → IsDenoted v → IsTrue (list_matches members v) → ⊥
-decided members coverable none v denoted matched = none_does (λ p. list_matches members p) (probes members) none (decide members coverable v denoted matched)
-
--- the same of an answer
-pub answer_contained : {E : Type 0} (members : List Spec) (result : Result (Option Record) E) → IfOk result (λ found. found ≡ first_match members) → IfOk result (λ found. IfSome found (λ v. IsTrue (list_matches members v)))
-answer_contained members (Ok found) is = subst (λ o. IfSome o (λ v. IsTrue (list_matches members v))) (sym is) (contained members)
-answer_contained members (Err e) is = tt
-
-pub answer_none : {E : Type 0} (members : List Spec) (result : Result (Option Record) E) → IfOk result (λ found. found ≡ first_match members) → All IsCoverable members →
-    IfOk result (λ found. found ≡ None → (v : Record) → IsDenoted v → IsTrue (list_matches members v) → ⊥)
-answer_none members (Ok found) is coverable = λ none. decided members coverable (sym is ∙ none)
-answer_none members (Err e) is coverable = tt
+pub is_none : (members : List Spec) → None ≡ first_match members → All IsCoverable members → (v : Record) → IsDenoted v → IsTrue (list_matches members v) → ⊥
+is_none members none coverable v denoted matched = none_does (λ p. list_matches members p) (probes members) (sym none) (decide members coverable v denoted matched)

@@ -5,3 +5,4 @@ pub mod Keeping
 pub mod Deciding
 pub mod Above
 pub mod Finding
+pub mod Denoted

@@ -3,7 +3,7 @@ ghost use Rattle.std.specs.Prelude.{◌≡◌, ◌++◌, ◌∷◌, [], IfOk, If
 ghost use Rattle.std.specs.List.{All, find, flat_map};
 ghost use Rattle.pep440_rs.specs.Cover.{IsCoverable, IsDenoted};
 ghost use Rattle.pep440_rs.specs.Matching.{list_matches};
-ghost use Rattle.pep440_version.specs.Record.{Record, from_release};
+ghost use Rattle.pep440_version.specs.Record.{IsRecord, Record, from_release};
 ghost use Rattle.pep440_witness.specs.Probes.{around, first_match, longest, next_release, points, versions};
 
 use crate::beside::{push_beside, raise};
@@ -124,15 +124,29 @@ fn first_match(alloc: Global, list: &VersionSpecifiers) -> Result<Option<Version
     }
 }
 
+// The numbers of a version fit.
+fn prove_fits(version: &Version)
+    ensures { IsRecord version.now }
+{
+    let _release = version.release();
+}
+
 /// A version that the list contains, or `None` if it contains none that a string denotes (PEP 440, "Version specifiers"). It is the
 /// first of the list's probes that the list contains: the members' own versions come first, and versions beside them follow.
 ///
 /// Allocates.
-#[tactic(auto, using(crate::proofs::Finding::answer_none))]
+#[tactic(auto, using(crate::proofs::Denoted::is_denoted, crate::proofs::Finding::is_contained, crate::proofs::Finding::is_none))]
 pub fn find_version(alloc: Global, list: &VersionSpecifiers) -> Result<Option<Version>, AllocError>
     ensures value { IfOk result (λ found. found ≡ first_match list.now) }
     ensures contained { IfOk result (λ found. IfSome found (λ v. IsTrue (list_matches list.now v))) }
+    ensures denoted { All IsCoverable list.now → IfOk result (λ found. IfSome found IsDenoted) }
     ensures none { All IsCoverable list.now → IfOk result (λ found. found ≡ None → (v : Record) → IsDenoted v → IsTrue (list_matches list.now v) → ⊥) }
 {
-    first_match(alloc, list)
+    match first_match(alloc, list)? {
+        Some(version) => {
+            prove_fits(&version);
+            Ok(Some(version))
+        }
+        None => Ok(None),
+    }
 }
