@@ -8,7 +8,7 @@ ghost use Rattle.pep440_witness.specs.Probes.{around, first_match, longest, next
 
 use crate::beside::{push_beside, raise};
 use crate::near::{after_prefix, push_around};
-use pep440_rs::{VersionSpecifier, VersionSpecifiers};
+use pep440_rs::VersionSpecifier;
 use pep440_version::Version;
 use std::alloc::{AllocError, Global};
 
@@ -38,28 +38,44 @@ fn points(alloc: Global, depth: usize, version: &Version) -> Result<Vec<Version>
     Ok(found)
 }
 
-// The first of these versions that the list contains.
+// Whether each member contains the version.
+fn contains(
+    alloc: Global,
+    members: &[VersionSpecifier],
+    version: &Version,
+) -> Result<bool, AllocError>
+    ensures { IfOk result (λ b. b ≡ list_matches members.now version.now) }
+{
+    for member in members {
+        if !member.contains(alloc, version)? {
+            return Ok(false);
+        }
+    }
+    Ok(true)
+}
+
+// The first of these versions that each member contains.
 fn first_of(
     alloc: Global,
-    list: &VersionSpecifiers,
+    members: &[VersionSpecifier],
     candidates: Vec<Version>,
 ) -> Result<Option<Version>, AllocError>
-    ensures { IfOk result (λ found. found ≡ find (λ v. list_matches list.now v) candidates.items) }
+    ensures { IfOk result (λ found. found ≡ find (λ v. list_matches members.now v) candidates.items) }
 {
     for version in candidates {
-        if list.contains(alloc, &version)? {
+        if contains(alloc, members, &version)? {
             return Ok(Some(version));
         }
     }
     Ok(None)
 }
 
-// The first of the members' versions that the list contains.
-fn first_member(alloc: Global, list: &VersionSpecifiers) -> Result<Option<Version>, AllocError>
-    ensures { IfOk result (λ found. found ≡ find (λ v. list_matches list.now v) (versions list.now)) }
+// The first of the members' versions that each member contains.
+fn first_member(alloc: Global, members: &[VersionSpecifier]) -> Result<Option<Version>, AllocError>
+    ensures { IfOk result (λ found. found ≡ find (λ v. list_matches members.now v) (versions members.now)) }
 {
-    for member in list.as_slice() {
-        if list.contains(alloc, member.version())? {
+    for member in members {
+        if contains(alloc, members, member.version())? {
             return Ok(Some(member.version().clone()?));
         }
     }
@@ -81,45 +97,45 @@ fn longest(members: &[VersionSpecifier]) -> usize
 }
 
 #[tactic(auto, using(crate::proofs::Finding::none_beside))]
-// The first of the probes of the members that the list contains.
+// The first of the probes of the members that each member contains.
 fn first_beside_members(
     alloc: Global,
     depth: usize,
-    list: &VersionSpecifiers,
+    members: &[VersionSpecifier],
 ) -> Result<Option<Version>, AllocError>
-    ensures { IfOk result (λ found. found ≡ find (λ v. list_matches list.now v) (flat_map (points depth) (versions list.now))) }
+    ensures { IfOk result (λ found. found ≡ find (λ v. list_matches members.now v) (flat_map (points depth) (versions members.now))) }
 {
-    for member in list.as_slice() {
+    for member in members {
         let candidates = points(alloc, depth, member.version())?;
-        if let Some(found) = first_of(alloc, list, candidates)? {
+        if let Some(found) = first_of(alloc, members, candidates)? {
             return Ok(Some(found));
         }
     }
     Ok(None)
 }
 
-// The first of the probes of version 0 that the list contains.
+// The first of the probes of version 0 that each member contains.
 fn first_beside_zero(
     alloc: Global,
     depth: usize,
-    list: &VersionSpecifiers,
+    members: &[VersionSpecifier],
 ) -> Result<Option<Version>, AllocError>
-    ensures { IfOk result (λ found. found ≡ find (λ v. list_matches list.now v) (points depth (from_release (0 ∷ [])))) }
+    ensures { IfOk result (λ found. found ≡ find (λ v. list_matches members.now v) (points depth (from_release (0 ∷ [])))) }
 {
     let zero = Version::new(alloc, &[0])?;
-    first_of(alloc, list, points(alloc, depth, &zero)?)
+    first_of(alloc, members, points(alloc, depth, &zero)?)
 }
 
-// The first probe that the list contains.
-fn first_match(alloc: Global, list: &VersionSpecifiers) -> Result<Option<Version>, AllocError>
-    ensures { IfOk result (λ found. found ≡ first_match list.now) }
+// The first probe that each member contains.
+fn first_match(alloc: Global, members: &[VersionSpecifier]) -> Result<Option<Version>, AllocError>
+    ensures { IfOk result (λ found. found ≡ first_match members.now) }
 {
-    let depth = longest(list.as_slice());
-    match first_member(alloc, list)? {
+    let depth = longest(members);
+    match first_member(alloc, members)? {
         Some(found) => Ok(Some(found)),
-        None => match first_beside_zero(alloc, depth, list)? {
+        None => match first_beside_zero(alloc, depth, members)? {
             Some(found) => Ok(Some(found)),
-            None => first_beside_members(alloc, depth, list),
+            None => first_beside_members(alloc, depth, members),
         },
     }
 }
@@ -131,18 +147,22 @@ fn prove_fits(version: &Version)
     let _release = version.release();
 }
 
-/// A version that the list contains, or `None` if it contains none that a string denotes (PEP 440, "Version specifiers"). It is the
-/// first of the list's probes that the list contains: the members' own versions come first, and versions beside them follow.
+/// A version that each member contains, or `None` if there is none that a string denotes (PEP 440, "Version specifiers"). It is the
+/// first that does of finitely many: the members' own versions come first, and versions beside them follow. The members may be those
+/// of several lists.
 ///
 /// Allocates.
 #[tactic(auto, using(crate::proofs::Denoted::is_denoted, crate::proofs::Finding::is_contained, crate::proofs::Finding::is_none))]
-pub fn find_version(alloc: Global, list: &VersionSpecifiers) -> Result<Option<Version>, AllocError>
-    ensures value { IfOk result (λ found. found ≡ first_match list.now) }
-    ensures contained { IfOk result (λ found. IfSome found (λ v. IsTrue (list_matches list.now v))) }
-    ensures denoted { All IsCoverable list.now → IfOk result (λ found. IfSome found IsDenoted) }
-    ensures none { All IsCoverable list.now → IfOk result (λ found. found ≡ None → (v : Record) → IsDenoted v → IsTrue (list_matches list.now v) → ⊥) }
+pub fn find_version(
+    alloc: Global,
+    members: &[VersionSpecifier],
+) -> Result<Option<Version>, AllocError>
+    ensures value { IfOk result (λ found. found ≡ first_match members.now) }
+    ensures contained { IfOk result (λ found. IfSome found (λ v. IsTrue (list_matches members.now v))) }
+    ensures denoted { All IsCoverable members.now → IfOk result (λ found. IfSome found IsDenoted) }
+    ensures none { All IsCoverable members.now → IfOk result (λ found. found ≡ None → (v : Record) → IsDenoted v → IsTrue (list_matches members.now v) → ⊥) }
 {
-    match first_match(alloc, list)? {
+    match first_match(alloc, members)? {
         Some(version) => {
             prove_fits(&version);
             Ok(Some(version))

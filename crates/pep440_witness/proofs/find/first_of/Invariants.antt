@@ -8,4 +8,4 @@ abbrev pub invariant-loop-version : goal.invariant-loop-version
 invariant-loop-version l =
     (goal.iterator-loop-version).can_next l.version-iterator ×
     (goal.iterator-loop-version).is_finite l.version-iterator ×
-    (find (λ v. list_matches l.list v) l.fn.candidates.items ≡ find (λ v. list_matches l.list v) (into_iter_items l.version-iterator))
+    (find (λ v. list_matches l.members v) l.fn.candidates.items ≡ find (λ v. list_matches l.members v) (into_iter_items l.version-iterator))
