@@ -1,4 +1,4 @@
--- What holds of the outcomes of `range`: 'no version' is never wrong, and an intersection holds what each range holds.
+-- What holds of the outcomes of `range`: 'no version' is printed exactly where there is none, and an intersection holds what each range holds.
 use Rattle.std.specs.Prelude.{◌≡◌, ℕ, List, IsTrue, codes}
 use Rattle.std.specs.List.{All, list_all}
 use Rattle.pep440_ranges.specs.RangeSegments.{contains}
@@ -21,6 +21,11 @@ AllowsVersion v word = (list : List Spec) × DerivesList word list × IsTrue (li
 abbrev pub NoVersionIsCommon : Type 0
 NoVersionIsCommon = (options : RangeOptions) (words : List (List ℕ)) (o : Outcome) → FindsCommon options words o → o.status ≡ 1
     → (v : Record) → IsDenoted v → ¬ All (AllowsVersion v) words
+
+-- where the status is 0, some version is contained in all lists
+abbrev pub VersionIsCommon : Type 0
+VersionIsCommon = (options : RangeOptions) (words : List (List ℕ)) (o : Outcome) → FindsCommon options words o → o.status ≡ 0
+    → (v : Record) × All (AllowsVersion v) words
 
 -- where `no version` is printed, the status is 1
 abbrev pub NoVersionHasItsStatus : Type 0

@@ -5,5 +5,5 @@ use Rattle.pyver_tool.specs.declared.common_range.RangeReading.{RangeReading}
 use Rattle.pyver_tool.specs.declared.common_range.RangeReading.TheVariants as reading
 
 abbrev pub range_reading_of : RangeReading → RangeReadingValue
-range_reading_of (reading.Ranges range cover) = HasRange range cover
+range_reading_of (reading.Ranges range cover list) = HasRange range cover list
 range_reading_of (reading.Failed message) = HasNone message.items

@@ -5,7 +5,7 @@ ghost use Rattle.pep440_rs.specs.Bounds.{list_range, range_of};
 ghost use Rattle.pep440_rs.specs.Cover.{cover_of};
 ghost use Rattle.pep440_version.specs.Key.{record_cmp};
 ghost use Rattle.pyver_tool.specs.AnswerViews.{outcome_of};
-ghost use Rattle.pyver_tool.specs.CommonRanges.{FindsCommon, HasNone, ReadsRange, common_outcome, covers_in, lists_outcome, message_in, no_version_text, perhaps_text, ranges_in, segments_text, with_cover};
+ghost use Rattle.pyver_tool.specs.CommonRanges.{FindsCommon, HasNone, ReadsRange, common_outcome, covers_in, lists_outcome, members_in, message_in, no_version_text, ranges_in, segments_text, allowed_text, with_cover};
 ghost use Rattle.pyver_tool.specs.RangeViews.{range_reading_of};
 
 use crate::allowed::{SpecifiersReading, parse_specifiers, push_list_message};
@@ -13,9 +13,10 @@ use crate::answer::{Answer, push_fault};
 use crate::range_json::push_segments;
 use crate::version_json::push_text;
 use pep440_rs::{
-    RangeError, RangeLines, Ranges, Version, VersionSpecifiers, specifiers_to_cover,
-    specifiers_to_ranges,
+    RangeError, RangeLines, Ranges, Version, VersionSpecifier, VersionSpecifiers,
+    specifiers_to_cover, specifiers_to_ranges,
 };
+use pep440_witness::find_version;
 use std::alloc::{AllocError, Global};
 
 // What is printed of the range that all lists allow.
@@ -28,8 +29,8 @@ pub(crate) struct RangeOptions {
 // What a list is read as.
 #[derive(Drop)]
 pub(crate) enum RangeReading {
-    // Its range and its cover.
-    Ranges(Ranges<Version>, Ranges<Version>),
+    // Its range, its cover, and the list.
+    Ranges(Ranges<Version>, Ranges<Version>, VersionSpecifiers),
     // None, with this message.
     Failed(Vec<u8>),
 }
@@ -41,6 +42,7 @@ struct CommonRanges {
     errors: Vec<u8>,
     range: Ranges<Version>,
     cover: Ranges<Version>,
+    members: Vec<VersionSpecifier>,
 }
 
 // The message that the word's list has no range, unless an allocation failed.
@@ -49,7 +51,7 @@ fn report_range_error(
     word: &str,
     error: RangeError,
 ) -> Result<RangeReading, AllocError>
-    ensures { IfOk result (λ x. (error ≡ RangeError.NumberAtMax) × (range_reading_of x ≡ with_cover word.now None None)) }
+    ensures { IfOk result (λ x. (error ≡ RangeError.NumberAtMax) × (range_reading_of x ≡ with_cover word.now [] None None)) }
 {
     match error {
         RangeError::OutOfMemory => Err(AllocError),
@@ -70,20 +72,19 @@ fn convert_list(
     word: &str,
     list: VersionSpecifiers,
 ) -> Result<RangeReading, AllocError>
-    ensures { IfOk result (λ x. range_reading_of x ≡ with_cover word.now (list_range range_of list) (list_range cover_of list)) }
+    ensures { IfOk result (λ x. range_reading_of x ≡ with_cover word.now list (list_range range_of list) (list_range cover_of list)) }
 {
-    let copy = list.clone()?;
-    let range = match specifiers_to_ranges(alloc, copy) {
+    let range = match specifiers_to_ranges(alloc, list.clone()?) {
         Ok(range) => range,
         Err(error) => return report_range_error(alloc, word, error),
     };
-    match specifiers_to_cover(alloc, list) {
-        Ok(cover) => Ok(RangeReading::Ranges(range, cover)),
+    match specifiers_to_cover(alloc, list.clone()?) {
+        Ok(cover) => Ok(RangeReading::Ranges(range, cover, list)),
         Err(error) => report_range_error(alloc, word, error),
     }
 }
 
-// The range and the cover of the list that the word denotes, or why it has none.
+// The range, the cover and the list that the word denotes, or why it has none.
 fn parse_list_range(alloc: Global, word: &str) -> Result<RangeReading, AllocError>
     ensures { IfOk result (λ x. ReadsRange word.now (range_reading_of x)) }
 {
@@ -97,18 +98,32 @@ fn parse_list_range(alloc: Global, word: &str) -> Result<RangeReading, AllocErro
     }
 }
 
+// Pushes the members of the list.
+fn push_members(
+    members: &mut Vec<VersionSpecifier>,
+    list: &VersionSpecifiers,
+) -> Result<(), AllocError>
+    ensures { IfOk result (λ _. members.new.items ≡ members.old.items ++ list.now) }
+{
+    for member in list.as_slice() {
+        members.push(member.clone()?)?;
+    }
+    Ok(())
+}
+
 impl CommonRanges {
     // What is known after one list more.
     fn intersect(&mut self, alloc: Global, reading: &RangeReading) -> Result<(), AllocError>
         ensures errors { IfOk result (λ _. self.new.errors.items ≡ self.old.errors.items ++ message_in (range_reading_of reading.now)) }
         ensures range { IfOk result (λ _. self.new.range ≡ fold (overlaps record_cmp) self.old.range (ranges_in (range_reading_of reading.now))) }
         ensures cover { IfOk result (λ _. self.new.cover ≡ fold (overlaps record_cmp) self.old.cover (covers_in (range_reading_of reading.now))) }
+        ensures members { IfOk result (λ _. self.new.members.items ≡ self.old.members.items ++ members_in (range_reading_of reading.now)) }
     {
         match reading {
-            RangeReading::Ranges(range, cover) => {
+            RangeReading::Ranges(range, cover, list) => {
                 self.range = self.range.intersection(alloc, range)?;
                 self.cover = self.cover.intersection(alloc, cover)?;
-                Ok(())
+                push_members(&mut self.members, list)
             }
             RangeReading::Failed(message) => self.errors.extend_from_slice(message.as_slice()),
         }
@@ -137,25 +152,57 @@ fn push_sentence(output: &mut Vec<u8>, json: bool, sentence: &str) -> Result<(),
     push_text(output, if json { "[]\n" } else { sentence })
 }
 
+// The sentence that only this version was found; as JSON no segments.
+fn push_version(
+    alloc: Global,
+    output: &mut Vec<u8>,
+    json: bool,
+    version: &Version,
+) -> Result<(), AllocError>
+    ensures { IfOk result (λ _. output.new.items ≡ output.old.items ++ allowed_text json version.now) }
+{
+    let sentence = format!(in alloc; "no range, but {version} is allowed\n")?;
+    push_sentence(output, json, sentence.as_str())
+}
+
+// The outcome of a range, and of a version that is in all lists.
 fn print_common(
     alloc: Global,
     json: bool,
     range: &Ranges<Version>,
-    cover: &Ranges<Version>,
+    found: Option<Version>,
 ) -> Result<Answer, AllocError>
-    ensures { IfOk result (λ a. outcome_of a ≡ common_outcome json range.now cover.now) }
+    ensures { IfOk result (λ a. outcome_of a ≡ common_outcome json range.now found) }
 {
     let mut answer = Answer::silent(alloc, 0);
-    if cover.is_empty() {
+    let Some(version) = found else {
         push_sentence(&mut answer.output, json, "no version\n")?;
         answer.status = 1;
-    } else if range.is_empty() {
-        let sentence = "perhaps, by local versions or suffixes alone\n";
-        push_sentence(&mut answer.output, json, sentence)?;
+        return Ok(answer);
+    };
+    if range.is_empty() {
+        push_version(alloc, &mut answer.output, json, &version)?;
     } else {
         push_range(alloc, &mut answer.output, json, range)?;
     }
     Ok(answer)
+}
+
+// The outcome of lists that have these ranges and covers in common, and these members.
+fn print_found(
+    alloc: Global,
+    options: RangeOptions,
+    range: &Ranges<Version>,
+    cover: &Ranges<Version>,
+    members: &[VersionSpecifier],
+) -> Result<Answer, AllocError>
+    ensures { IfOk result (λ a. outcome_of a ≡ lists_outcome options [] range.now cover.now members.now) }
+{
+    let version = find_version(alloc, members)?;
+    if options.cover {
+        return print_common(alloc, options.json, cover, version);
+    }
+    print_common(alloc, options.json, range, version)
 }
 
 fn print_lists(
@@ -163,19 +210,16 @@ fn print_lists(
     options: RangeOptions,
     found: CommonRanges,
 ) -> Result<Answer, AllocError>
-    ensures { IfOk result (λ a. outcome_of a ≡ lists_outcome options found.errors.items found.range found.cover) }
+    ensures { IfOk result (λ a. outcome_of a ≡ lists_outcome options found.errors.items found.range found.cover found.members.items) }
 {
-    if !found.errors.is_empty() {
-        return Ok(Answer {
-            output: Vec::new(alloc),
-            errors: found.errors,
-            status: 2,
-        });
+    if found.errors.is_empty() {
+        return print_found(alloc, options, &found.range, &found.cover, &found.members);
     }
-    if options.cover {
-        return print_common(alloc, options.json, &found.cover, &found.cover);
-    }
-    print_common(alloc, options.json, &found.range, &found.cover)
+    Ok(Answer {
+        output: Vec::new(alloc),
+        errors: found.errors,
+        status: 2,
+    })
 }
 
 // `range SPECS..`: the status is 0, 1 where no version is allowed by all lists, and 2 where one is invalid.
@@ -190,6 +234,7 @@ pub(crate) fn find_common(
         errors: Vec::new(alloc),
         range: Ranges::full(alloc)?,
         cover: Ranges::full(alloc)?,
+        members: Vec::new(alloc),
     };
     for word in words {
         let reading = parse_list_range(alloc, word.as_str())?;

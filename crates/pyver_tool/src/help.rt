@@ -239,14 +239,14 @@ the release 2, and 2~max0 above them. The range of '' is (*, *). Pre-releases ar
 The exit status is 0, 1 if no version is in all lists, and 2 if one is not a list.
 
 A range says nothing of local versions and little of suffixes: 2.1.0+cu118 is in both ==2.1.0+cu118
-and <=2.1.0, but their ranges have nothing in common. So the cover decides, which holds all versions
-that a list contains, and maybe more. If it is empty, 'no version' is printed, and the exit status
-is 1. If only the range is empty, 'perhaps, by local versions or suffixes alone' is printed, and the
-exit status is 0.
+and <=2.1.0, but their ranges have nothing in common. If no version is in all lists, 'no version' is
+printed, and the exit status is 1. If only the range is empty, one version that is in all lists is
+named, as 'no range, but 2.1.0+cu118 is allowed', and the exit status is 0.
 
 options:
   --cover  print the cover instead of the range
-  --json   print an array of segments; no version and perhaps are [], told apart by the exit status
+  --json   print an array of segments; without a range it is [], and the exit status shows whether
+           a version is allowed
   --       end of options
 
 examples:

@@ -2,7 +2,7 @@
 ghost use Rattle.pyver_tool.specs.BumpLaws.{BumpsAreGreater, BumpsChangeOnly, ReleasesAreBumped};
 ghost use Rattle.pyver_tool.specs.CheckLaws.{ChecksOnce};
 ghost use Rattle.pyver_tool.specs.OneOutcome.{OutcomesOnce};
-ghost use Rattle.pyver_tool.specs.RangeLaws.{CommonIsInEach, NoVersionHasItsStatus, NoVersionIsCommon};
+ghost use Rattle.pyver_tool.specs.RangeLaws.{CommonIsInEach, NoVersionHasItsStatus, NoVersionIsCommon, VersionIsCommon};
 
 /// Of what is asked for there is at most one outcome.
 pub fn outcomes_once()
@@ -22,10 +22,11 @@ pub fn bumps()
     ensures release { ReleasesAreBumped }
 {}
 
-/// If `range` says that there is no version, none is contained in all lists; and a version lies in the intersection of
+/// `range` says that there is no version exactly if none is contained in all lists; and a version lies in the intersection of
 /// ranges exactly if it lies in each of them.
 pub fn common_ranges()
     ensures none { NoVersionIsCommon }
+    ensures some { VersionIsCommon }
     ensures status { NoVersionHasItsStatus }
     ensures each { CommonIsInEach }
 {}
