@@ -12,3 +12,4 @@ pub mod OneSpecifier
 pub mod RangeBounds
 pub mod ReleaseRangeBounds
 pub mod PatternErrors
+pub mod VersionsIn

@@ -30,6 +30,7 @@ ghost use Rattle.pep440_c.specs.JoinedStrings.{PutsJoined};
 ghost use Rattle.pep440_c.specs.Meaning.{RefusesBytes, RefusesListBytes};
 ghost use Rattle.pep440_c.specs.PatternCalls.{IsSpecifier, PatternAnswer, RefusesOperand, RefusesOperator};
 ghost use Rattle.pep440_c.specs.Statuses.{IsFlagOf, Puts, PutsBytes};
+ghost use Rattle.pep440_c.specs.VersionsIn.{IsVersionIn};
 
 mod batch;
 mod buffer;
@@ -49,6 +50,7 @@ mod release_range_bounds;
 mod tests;
 mod texts;
 mod version_parts;
+mod versions_in;
 
 use crate::batch::BatchError;
 use crate::buffer::{
@@ -260,6 +262,19 @@ pub extern "C" fn pep440_contains(
         }
         Err(fault) => fault.status(),
     }
+}
+
+/// Writes a version that the list contains, and nothing if it contains none that a string denotes (PEP 440, "Version specifiers").
+#[unsafe(no_mangle)]
+pub extern "C" fn pep440_version_in(
+    alloc: Global,
+    list: &[u8],
+    out: &mut [u8],
+    written: &mut usize,
+) -> u8
+    ensures { PutsBytes ⊥ (RefusesListBytes list.now) ⊥ (IsVersionIn list.now) out.old out.new written.old written.new result }
+{
+    put_text(versions_in::find_in(alloc, list), out, written)
 }
 
 /// Whether a version of the list's specifiers is a pre-release or a developmental release, 1 or 0 (PEP 440, "Handling of pre-releases").
