@@ -13,3 +13,4 @@ pub mod Edited
 pub mod OneSpecifier
 pub mod Bounded
 pub mod SpecifierOnce
+pub mod VersionsIn

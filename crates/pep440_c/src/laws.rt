@@ -1,5 +1,5 @@
 //! What holds of the bytes of a caller, as contracts of functions that do nothing.
-ghost use Rattle.std.specs.Prelude.{◌≡◌, ◌⊎◌, ◌↔◌, ℕ, Bool, List, true};
+ghost use Rattle.std.specs.Prelude.{◌≡◌, ◌⊎◌, ◌↔◌, [], ℕ, Bool, IsTrue, List, None, true};
 ghost use Rattle.std.specs.List.{list_any};
 ghost use Rattle.pep440_keys.specs.RangeKeys.{is_within, segment_interval};
 ghost use Rattle.pep440_ranges.specs.RangeSegments.{contains};
@@ -7,11 +7,14 @@ ghost use Rattle.pep440_compiled.specs.Lists.{HasListFormat};
 ghost use Rattle.pep440_compiled.specs.Version.{HasVersionFormat};
 ghost use Rattle.pep440_rs.specs.Bounds.{Segments, list_range, range_of};
 ghost use Rattle.pep440_rs.specs.Matching.{list_matches};
-ghost use Rattle.pep440_rs.specs.Cover.{cover_of};
+ghost use Rattle.pep440_rs.specs.Cover.{IsDenoted, cover_of};
 ghost use Rattle.pep440_keys.specs.SortKeys.{key_bytes};
 ghost use Rattle.pep440_rs.specs.Specifiers.{Spec};
 ghost use Rattle.pep440_version.specs.Grammar.{Derives};
+ghost use Rattle.pep440_version.specs.Print.{print};
 ghost use Rattle.pep440_version.specs.Record.{Record};
+ghost use Rattle.pep440_witness.specs.Probes.{first_match};
+ghost use Rattle.pep440_c.specs.VersionsIn.{IsVersionIn};
 ghost use Rattle.pep440_version.specs.Key.{record_cmp};
 ghost use Rattle.std.specs.Ordering.{nat_cmp};
 ghost use Rattle.std.specs.Prelude.{Some};
@@ -56,6 +59,13 @@ pub fn ranges_once()
     ensures never_both { (bytes words : List ℕ) → IsRangeText bytes words → RefusesListBytes bytes → ⊥ }
     ensures never_at_max { (bytes words : List ℕ) → IsRangeText bytes words → HasNoRange bytes → ⊥ }
     ensures one_error { (bytes : List ℕ) → HasNoRange bytes → RefusesListBytes bytes → ⊥ }
+{}
+
+/// What `pep440_version_in` writes is nothing or a version that the list contains; of a list of a string it writes nothing only if
+/// the list contains no version that a string denotes.
+pub fn versions_in_lists()
+    ensures contained { (bytes words : List ℕ) (l : List Spec) → IsVersionIn bytes words → MeansListBytes bytes l → (words ≡ []) ⊎ ((v : Record) × (words ≡ print v) × IsTrue (list_matches l v)) }
+    ensures none { (bytes : List ℕ) (l : List Spec) → MeansListString bytes l → first_match l ≡ None → (v : Record) → IsDenoted v → IsTrue (list_matches l v) → ⊥ }
 {}
 
 /// The words of strings, as numbers, are in the order of the versions, and equal exactly if these are; a string has at most one word.

@@ -1,4 +1,4 @@
-use Rattle.std.proofs.Common.{◌≡◌, ◌∙◌, [], ap}
+use Rattle.std.proofs.Common.{◌∙◌, [], ap}
 use Rattle.std.specs.Option.{option_map_or}
 use Rattle.pep440_version.specs.Print.{print}
 use Rattle.pep440_witness.specs.Probes.{first_match}
