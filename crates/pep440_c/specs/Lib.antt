@@ -12,3 +12,6 @@ pub mod OneSpecifier
 pub mod RangeBounds
 pub mod ReleaseRangeBounds
 pub mod PatternErrors
+pub mod Explanations
+pub mod AllowedVersions
+pub mod NewestString
