@@ -43,6 +43,15 @@
 extern "C" {
 #endif
 
+/* Calls that are part of the header, and not of the library. */
+#if defined(__cplusplus) || (defined(__STDC_VERSION__) && __STDC_VERSION__ >= 199901L)
+#define PEP440_INLINE static inline
+#elif defined(__GNUC__)
+#define PEP440_INLINE static __inline__
+#else
+#define PEP440_INLINE static
+#endif
+
 /* The version of this header, a byte for each number. */
 #define PEP440_VERSION 0x000300
 #define PEP440_VERSION_TEXT "0.3.0"
@@ -61,9 +70,11 @@ enum {
     PEP440_OUT_OF_MEMORY = 3,
     PEP440_NO_ROOM = 4,
     PEP440_NUMBER_AT_MAX = 5,
-    PEP440_INVALID_RIGHT = 6, /* only of pep440_compare: the right bytes are no version */
-    PEP440_NOT_PACKED = 7,    /* only of pep440_word: the version has no word */
-    PEP440_INVALID_CHANGE = 8 /* only of pep440_edit: a change is none, or cannot be made */
+    PEP440_INVALID_RIGHT = 6,  /* only of pep440_compare: the right bytes are no version */
+    PEP440_NOT_PACKED = 7,     /* only of pep440_word: the version has no word */
+    PEP440_INVALID_CHANGE = 8, /* only of pep440_edit: a change is none, or cannot be made */
+    PEP440_INVALID_KIND = 9,   /* only of pep440_error: `kind` is none of PEP440_A_VERSION.. */
+    PEP440_NONE_FOUND = 10     /* only of pep440_newest: the list contains no string of the batch */
 };
 
 /* A version of a batch, or a change of pep440_edit. */
@@ -132,23 +143,40 @@ uint8_t pep440_edit(const uint8_t *version, size_t length, const pep440_string *
 uint8_t pep440_edit_error(const uint8_t *version, size_t length, const pep440_string *changes,
                           size_t count, uint8_t *out, size_t size, size_t *written);
 
-/* Writes why bytes are no version, in words, and 0 bytes if they are one; `out` and `written` as
-   for pep440_normalize. */
-uint8_t pep440_version_error(const uint8_t *version, size_t length, uint8_t *out, size_t size,
-                             size_t *written);
+/* What bytes were to be. */
+enum { PEP440_A_VERSION = 0, PEP440_A_PATTERN = 1, PEP440_A_SPECIFIER = 2, PEP440_A_LIST = 3 };
 
-/* The same of a pattern, as `1.5.*` or `1.5`. */
-uint8_t pep440_pattern_error(const uint8_t *pattern, size_t length, uint8_t *out, size_t size,
-                             size_t *written);
+/* Writes why bytes are no version, no pattern (as `1.5.*` or `1.5`), no single specifier (as
+   `>=1.16`) or no list of specifiers, by what `kind` says they were to be, in words, of a list in
+   lines; and 0 bytes if they are one. `out` and `written` as for pep440_normalize.
+   PEP440_INVALID_KIND if `kind` is none of these. */
+uint8_t pep440_error(uint8_t kind, const uint8_t *bytes, size_t length, uint8_t *out, size_t size,
+                     size_t *written);
 
-/* The same of one specifier, as `>=1.16`. */
-uint8_t pep440_specifier_error(const uint8_t *specifier, size_t length, uint8_t *out, size_t size,
-                               size_t *written);
+/* The same of each, as part of the header. */
+PEP440_INLINE uint8_t pep440_version_error(const uint8_t *version, size_t length, uint8_t *out,
+                                           size_t size, size_t *written)
+{
+    return pep440_error(PEP440_A_VERSION, version, length, out, size, written);
+}
 
-/* Writes why bytes are no list of specifiers, in lines, and 0 bytes if they are one; `out` and
-   `written` as for pep440_normalize. */
-uint8_t pep440_list_error(const uint8_t *list, size_t length, uint8_t *out, size_t size,
-                          size_t *written);
+PEP440_INLINE uint8_t pep440_pattern_error(const uint8_t *pattern, size_t length, uint8_t *out,
+                                           size_t size, size_t *written)
+{
+    return pep440_error(PEP440_A_PATTERN, pattern, length, out, size, written);
+}
+
+PEP440_INLINE uint8_t pep440_specifier_error(const uint8_t *specifier, size_t length, uint8_t *out,
+                                             size_t size, size_t *written)
+{
+    return pep440_error(PEP440_A_SPECIFIER, specifier, length, out, size, written);
+}
+
+PEP440_INLINE uint8_t pep440_list_error(const uint8_t *list, size_t length, uint8_t *out,
+                                        size_t size, size_t *written)
+{
+    return pep440_error(PEP440_A_LIST, list, length, out, size, written);
+}
 
 /* Writes to `order` whether the left version is below the right one (-1), equal to it (0) or above
    it (1). PEP440_INVALID_RIGHT if only the right one is invalid. */
@@ -158,11 +186,18 @@ uint8_t pep440_compare(const uint8_t *left, size_t left_length, const uint8_t *r
 /* Writes to `contained` whether the list contains the version, 1 or 0: whether each of its
    specifiers does; and to `prerelease` whether the version is a pre-release or a developmental
    release, 1 or 0, contained or not. Pre-releases are versions like others here: `>=1.0` contains
-   `2.0rc1`. So a caller that leaves them out (PEP 440, "Handling of pre-releases") looks at both,
-   and finds by pep440_any_prerelease whether the list names one.
+   `2.0rc1`; pep440_allows leaves them out.
    If both are invalid PEP440_INVALID_LIST is returned; of two compiled forms, either. */
 uint8_t pep440_contains(const uint8_t *list, size_t list_length, const uint8_t *version,
                         size_t length, uint8_t *contained, uint8_t *prerelease);
+
+/* Writes to `allowed` whether the list contains the version, 1 or 0, with pre-releases and
+   developmental releases left out (PEP 440, "Handling of pre-releases") unless the list asks for
+   them, which it does if a specifier with another operator than `!=` has such a version. So `>=1.0`
+   does not allow `2.0rc1`, `>=1.0,!=1.5rc1` neither, and `>=1.0rc1` does. The rule is that of
+   SpecifierSet.contains of `packaging` 25.0. Errors as of pep440_contains. */
+uint8_t pep440_allows(const uint8_t *list, size_t list_length, const uint8_t *version,
+                      size_t length, uint8_t *allowed);
 
 /* Writes to `any` whether the version of some specifier of the list is a pre-release or a
    developmental release, 1 or 0: of any operator, also `!=`, which `packaging` does not count. */
@@ -285,11 +320,11 @@ uint8_t pep440_release_range_bounds(const uint8_t *list, size_t length, uint8_t 
    list that no string denotes, as `>=1.0+a`, but each version in them is one of a string.
 
    Bytes are never read beyond their length, whether they are compiled, cut, changed or chosen by an
-   attacker. pep440_compare of two compiled versions and pep440_contains of a compiled list and a
-   compiled version read them as they lie, and allocate nothing: of bytes that begin as a compiled
-   form and are none they write any result, or return the status of an invalid one. All other calls
-   reject such bytes. So give bytes of unknown origin to pep440_normalize or pep440_normalize_list
-   once. */
+   attacker. pep440_compare of two compiled versions, and pep440_contains and pep440_allows of a
+   compiled list and a compiled version, read them as they lie, and allocate nothing: of bytes that
+   begin as a compiled form and are none they write any result, or return the status of an invalid
+   one. All other calls reject such bytes. So give bytes of unknown origin to pep440_normalize or
+   pep440_normalize_list once. */
 
 /* How many bytes suffice for the compiled form of a version or a list, and so for a sort key, by
    the length of its string. */
@@ -348,6 +383,14 @@ enum {
 uint8_t pep440_filter(const uint8_t *list, size_t list_length, const pep440_string *strings,
                       size_t count, uint8_t *marks, size_t size);
 
+/* Writes to `index` which string, from 0, is the newest version that the list contains, of equal
+   ones the first. Strings that are no version are passed over. Pre-releases and developmental
+   releases count only if the list asks for them, as for pep440_allows, or contains nothing else of
+   the batch (PEP 440, "Handling of pre-releases"). PEP440_NONE_FOUND if it contains nothing at
+   all; then nothing is written. Whatever `count`, it allocates for the list and two versions. */
+uint8_t pep440_newest(const uint8_t *list, size_t list_length, const pep440_string *strings,
+                      size_t count, size_t *index);
+
 /* Writes the indices of the strings, from 0, in the order of their versions; equal ones in the
    order given. With PEP440_INVALID_VERSION only `index` is written, the index of the first string
    that is no version. PEP440_NO_ROOM if all are versions and `size` is less than `count`; then
@@ -364,16 +407,8 @@ uint8_t pep440_sort_keys(const pep440_string *strings, size_t count, uint8_t *ou
 
 /* ---- strings with a zero at their end
 
-   The calls that programs make most, over `const char *`: these are part of the header,
-   and no calls of the library. A compiled form has zero bytes, so they do not take one. */
-
-#if defined(__cplusplus) || (defined(__STDC_VERSION__) && __STDC_VERSION__ >= 199901L)
-#define PEP440_INLINE static inline
-#elif defined(__GNUC__)
-#define PEP440_INLINE static __inline__
-#else
-#define PEP440_INLINE static
-#endif
+   The calls that programs make most, over `const char *`. A compiled form has zero bytes, so they
+   do not take one. */
 
 /* What a status says, in words. */
 PEP440_INLINE const char *pep440_status_text(uint8_t status)
@@ -397,6 +432,10 @@ PEP440_INLINE const char *pep440_status_text(uint8_t status)
         return "the version has no word";
     case PEP440_INVALID_CHANGE:
         return "a change cannot be made";
+    case PEP440_INVALID_KIND:
+        return "not a kind of bytes";
+    case PEP440_NONE_FOUND:
+        return "no version is contained";
     default:
         return "unknown status";
     }

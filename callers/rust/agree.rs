@@ -68,8 +68,7 @@ mod pep440 {
     }
 
     declare!((text: *const u8, length: usize, out: *mut u8, room: usize, written: *mut usize):
-        pep440_normalize pep440_normalize_list pep440_version_error pep440_list_error pep440_sort_key pep440_ranges pep440_compile
-        pep440_compile_list);
+        pep440_normalize pep440_normalize_list pep440_sort_key pep440_ranges pep440_compile pep440_compile_list);
     declare!((list: *const u8, length: usize, out: *mut u8, room: usize, ends: *mut usize, ends_room: usize, written: *mut usize, count: *mut usize):
         pep440_specifiers_of pep440_range_keys pep440_cover_keys);
     declare!((text: *const u8, length: usize, changes: *const Text, count: usize, out: *mut u8, room: usize, written: *mut usize):
@@ -86,6 +85,7 @@ mod pep440 {
         pep440_sort);
 
     unsafe extern "C" {
+        fn pep440_error(kind: u8, text: *const u8, length: usize, out: *mut u8, room: usize, written: *mut usize) -> u8;
         fn pep440_word(text: *const u8, length: usize, word: *mut u64) -> u8;
         fn pep440_specifier(
             operator: *const u8,
@@ -137,6 +137,16 @@ mod pep440 {
             assert!(written > out.len(), "too little room, and no more is asked for");
             out.resize(written, 0);
         }
+    }
+
+    unsafe extern "C" fn pep440_version_error(text: *const u8, length: usize, out: *mut u8, room: usize, written: *mut usize) -> u8 {
+        // SAFETY: the caller's.
+        unsafe { pep440_error(0, text, length, out, room, written) }
+    }
+
+    unsafe extern "C" fn pep440_list_error(text: *const u8, length: usize, out: *mut u8, room: usize, written: *mut usize) -> u8 {
+        // SAFETY: the caller's.
+        unsafe { pep440_error(3, text, length, out, room, written) }
     }
 
     fn as_text(written: Result<Vec<u8>, Error>) -> Result<String, Error> {

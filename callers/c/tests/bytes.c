@@ -106,6 +106,7 @@ static int have_same_parts(const Bytes *form, const Bytes *text)
 }
 
 static const uint8_t list[] = {5, 25, 0, 2, 1, 0, 80, 0, 16, 0}, version[] = {4, 0, 2, 1, 0, 80, 0, 16, 0};
+static const uint8_t early_version[] = {4, 0, 2, 1, 0, 49, 2, 0, 16, 0}; /* 1b2 */
 
 /* Calls that read compiled bytes as they lie: of any bytes they say that these are invalid, or write some result. */
 static void ask_in_place(const Bytes *form)
@@ -119,6 +120,10 @@ static void ask_in_place(const Bytes *form)
     hold(status == PEP440_INVALID_VERSION || (status == PEP440_OK && is <= 1 && early <= 1), "contains, a version");
     status = pep440_contains(OF(form), version, sizeof version, &is, &early);
     hold(status == PEP440_INVALID_LIST || (status == PEP440_OK && is <= 1 && early <= 1), "contains, a list");
+    status = pep440_allows(list, sizeof list, OF(form), &is);
+    hold(status == PEP440_INVALID_VERSION || (status == PEP440_OK && is <= 1), "allows, a version");
+    status = pep440_allows(OF(form), early_version, sizeof early_version, &is);
+    hold(status == PEP440_INVALID_LIST || (status == PEP440_OK && is <= 1), "allows, a list");
 }
 
 /* Of bytes that are no version a string beside them does not matter: with it they are tested as a whole. */
@@ -137,6 +142,7 @@ static void hold_no_version(const Bytes *form)
     hold(pep440_compare(OF(form), (const uint8_t *)"1", 1, &order) == PEP440_INVALID_VERSION && order == 7, "compare with a string");
     hold(pep440_compare((const uint8_t *)"1", 1, OF(form), &order) == PEP440_INVALID_RIGHT && order == 7, "compare a string with it");
     hold(pep440_contains((const uint8_t *)">=1", 3, OF(form), &is, &early) == PEP440_INVALID_VERSION && is == 7, "contains, a list that is a string");
+    hold(pep440_allows((const uint8_t *)">=1", 3, OF(form), &is) == PEP440_INVALID_VERSION && is == 7, "allows, a list that is a string");
     hold(pep440_filter(list, sizeof list, &one, 1, &mark, 1) == PEP440_OK && mark == PEP440_NOT_A_VERSION, "filter");
     hold(pep440_sort(&one, 1, &index, 1, &index) == PEP440_INVALID_VERSION && index == 0, "sort");
 }
@@ -182,6 +188,7 @@ static void hold_list(const Bytes *form)
         hold(pep440_any_prerelease(OF(form), &any) == PEP440_INVALID_LIST && any == 7, "any_prerelease");
         hold(pep440_compile_list(OF(form), TO(&again)) == PEP440_INVALID_LIST, "compile_list");
         hold(pep440_contains(OF(form), (const uint8_t *)"1", 1, &any, &early) == PEP440_INVALID_LIST && any == 7, "contains a string");
+        hold(pep440_allows(OF(form), (const uint8_t *)"1", 1, &any) == PEP440_INVALID_LIST && any == 7, "allows a string");
         return;
     }
     hold(status == PEP440_OK, "normalize_list");

@@ -85,6 +85,8 @@ static void normalize(void)
     hold(pep440_normalize(VERSION("1.0prev"), out, sizeof out, &written) == PEP440_INVALID_VERSION, "invalid");
     hold(pep440_version_error(VERSION("1.0prev"), out, sizeof out, &written) == PEP440_OK && written > 0, "why");
     hold(pep440_version_error(VERSION("1.0"), out, sizeof out, &written) == PEP440_OK && written == 0, "nothing is wrong");
+    written = 77;
+    hold(pep440_error(PEP440_A_LIST + 1, VERSION("1.0"), out, sizeof out, &written) == PEP440_INVALID_KIND && written == 77, "no kind");
 
     hold(pep440_normalize_list(LIST(">=1.16 ,<2.0"), out, sizeof out, &written) == PEP440_OK, "normalize_list");
     hold_text(out, written, ">=1.16, <2.0");
@@ -164,6 +166,12 @@ static void compare_and_match(void)
     hold(pep440_contains(LIST(">=1.16; <2.0"), VERSION("1.19"), &is, &early) == PEP440_INVALID_LIST, "no list");
     hold(pep440_contains(LIST(">=1.16"), VERSION("latest"), &is, &early) == PEP440_INVALID_VERSION, "no version");
     hold(pep440_contains(LIST(">=1.16; <2.0"), VERSION("latest"), &is, &early) == PEP440_INVALID_LIST, "neither");
+    hold(pep440_allows(LIST(">=1.0"), VERSION("2.0rc1"), &is) == PEP440_OK && is == 0, "no pre-release is allowed");
+    hold(pep440_allows(LIST(">=1.0, !=1.5rc1"), VERSION("2.0.dev1"), &is) == PEP440_OK && is == 0, "!= asks for none");
+    hold(pep440_allows(LIST(">=1.0rc1"), VERSION("2.0rc1"), &is) == PEP440_OK && is == 1, "the list asks for one");
+    hold(pep440_allows(LIST(">=1.0"), VERSION("2.0.post1"), &is) == PEP440_OK && is == 1, "a post-release is a final one");
+    hold(pep440_allows(LIST(">=1.16; <2.0"), VERSION("latest"), &is) == PEP440_INVALID_LIST, "allows, neither");
+    hold(pep440_allows(LIST(">=1.16"), VERSION("latest"), &is) == PEP440_INVALID_VERSION, "allows, no version");
     hold(pep440_any_prerelease(LIST(">=1.0, <2.0rc1"), &is) == PEP440_OK && is == 1, "a pre-release among them");
     hold(pep440_any_prerelease(LIST(">=1.0, <2.0"), &is) == PEP440_OK && is == 0, "none among them");
 }
@@ -277,6 +285,12 @@ static void many_at_once(void)
         texts[at] = *given(names[at], at % 2 ? 'v' : 'r');
     hold(pep440_filter(LIST(">1.9,<2.0"), texts, COUNT, marks, COUNT) == PEP440_OK, "filter");
     hold(memcmp(marks, wanted_marks, COUNT) == 0, "marks");
+    hold(pep440_newest(LIST(""), texts, COUNT, &index) == PEP440_OK && index == 4, "the newest final release");
+    hold(pep440_newest(LIST("<2.0,!=1.10,!=1.9"), texts, COUNT, &index) == PEP440_OK && index == 3, "the newest pre-release, where no final one is contained");
+    hold(pep440_newest(LIST("<=1.10rc1"), texts, COUNT, &index) == PEP440_OK && index == 3, "pre-releases that are asked for");
+    index = 77;
+    hold(pep440_newest(LIST(">3"), texts, COUNT, &index) == PEP440_NONE_FOUND && index == 77, "none is contained");
+    hold(pep440_newest(LIST(">=1;"), texts, COUNT, &index) == PEP440_INVALID_LIST && index == 77, "newest, no list");
     hold(pep440_sort(texts, COUNT, indices, COUNT, &index) == PEP440_INVALID_VERSION && index == 2, "the first that is no version");
     hold(pep440_sort_keys(texts, COUNT, out, sizeof out, indices, COUNT, &written, &index) == PEP440_INVALID_VERSION && index == 2, "no keys");
     texts[2] = texts[4];

@@ -71,7 +71,9 @@ static uint8_t range_bounds(void) { return pep440_range_bounds(IN, KEYS); }
 static uint8_t release_range_bounds(void) { return pep440_release_range_bounds(IN, KEYS); }
 static uint8_t compare(void) { return pep440_compare(IN, OTHER, order); }
 static uint8_t contains(void) { return pep440_contains(IN, OTHER, flag, early); }
+static uint8_t allows(void) { return pep440_allows(IN, OTHER, flag); }
 static uint8_t filter(void) { return pep440_filter(IN, strings, many, out, size); }
+static uint8_t newest(void) { return pep440_newest(IN, strings, many, count); }
 static uint8_t sort(void) { return pep440_sort(strings, many, ends, ends_size, count); }
 static uint8_t sort_keys(void) { return pep440_sort_keys(strings, many, out, size, ends, ends_size, written, count); }
 
@@ -104,7 +106,9 @@ static const struct {
     {"range_bounds, at max", range_bounds, "l", "==18446744073709551615.*", "", PEP440_NUMBER_AT_MAX},
     {"release_range_bounds", release_range_bounds, "l", ">1!1.0rc1", "", PEP440_OK}, {"compare", compare, "vv", LONG, "1!1.2.301", PEP440_OK},
     {"compare, invalid", compare, "vs", LONG, "1.0prev", PEP440_INVALID_RIGHT}, {"contains", contains, "lv", LIST, "1.17+a", PEP440_OK},
-    {"filter", filter, "lv", LIST, "b", PEP440_OK}, {"sort", sort, "sv", "", "c", PEP440_OK},
+    {"allows", allows, "lv", LIST, "1.17+a", PEP440_OK}, {"allows, early", allows, "lv", LIST, "1.17rc1", PEP440_OK},
+    {"filter", filter, "lv", LIST, "b", PEP440_OK}, {"newest", newest, "lv", ">=0", "b", PEP440_OK},
+    {"newest, none", newest, "lv", ">99", "b", PEP440_NONE_FOUND}, {"sort", sort, "sv", "", "c", PEP440_OK},
     {"sort, invalid", sort, "sv", "", "b", PEP440_INVALID_VERSION}, {"sort_keys", sort_keys, "sv", "", "c", PEP440_OK}};
 
 static int wrong;

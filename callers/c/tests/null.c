@@ -47,6 +47,8 @@ static void strings(void)
     hold(pep440_list_error(NONE, out, sizeof out, &written) == PEP440_OK && written == 0, "list_error");
     hold(pep440_contains(NONE, (const uint8_t *)"1", 1, &is, &early) == PEP440_OK && is == 1 && early == 0, "contains, list");
     hold(pep440_contains(EMPTY, NONE, &is, &early) == PEP440_INVALID_VERSION, "contains, version");
+    hold(pep440_allows(NONE, (const uint8_t *)"1", 1, &is) == PEP440_OK && is == 1, "allows, list");
+    hold(pep440_allows(EMPTY, NONE, &is) == PEP440_INVALID_VERSION, "allows, version");
     hold(pep440_any_prerelease(NONE, &is) == PEP440_OK && is == 0, "any_prerelease");
     hold(pep440_ranges(NONE, out, sizeof out, &written) == PEP440_OK && written == 7, "ranges");
     hold(pep440_specifiers_of(NONE, NONE, NONE, &written, &count) == PEP440_OK && written == 0 && count == 0, "specifiers_of");
@@ -70,6 +72,8 @@ static void compiled(void)
     hold(pep440_compare(version, sizeof version, NONE, &order) == PEP440_INVALID_RIGHT, "compare a compiled one");
     hold(pep440_contains(NONE, version, sizeof version, &is, &early) == PEP440_OK && is == 1 && early == 0, "contains a compiled one");
     hold(pep440_contains(list, sizeof list, NONE, &is, &early) == PEP440_INVALID_VERSION, "contains, a compiled list");
+    hold(pep440_allows(NONE, version, sizeof version, &is) == PEP440_OK && is == 1, "allows a compiled one");
+    hold(pep440_allows(list, sizeof list, NONE, &is) == PEP440_INVALID_VERSION, "allows, a compiled list");
 }
 
 static void buffers(void)
@@ -90,12 +94,14 @@ static void batches(void)
     hold(pep440_edit((const uint8_t *)"1", 1, NONE, out, 8, &written) == PEP440_OK && written == 1, "edit by none");
     hold(pep440_edit((const uint8_t *)"1", 1, one, 1, out, 8, &written) == PEP440_INVALID_CHANGE, "edit by null");
     hold(pep440_filter(EMPTY, NONE, NONE) == PEP440_OK, "filter of none");
+    hold(pep440_newest(EMPTY, NONE, &index) == PEP440_NONE_FOUND, "newest of none");
     hold(pep440_sort(NONE, NONE, &index) == PEP440_OK, "sort of none");
     hold(pep440_filter(NONE, two, 2, marks, 2) == PEP440_OK && marks[0] == PEP440_NOT_A_VERSION && marks[1] == PEP440_MATCH, "filter, list");
     hold(pep440_sort(two + 1, 1, NONE, &index) == PEP440_NO_ROOM, "sort, no indices");
     hold(pep440_sort_keys(two + 1, 1, NONE, NONE, &written, &index) == PEP440_NO_ROOM && written == 8, "sort_keys, no buffers");
     hold(pep440_edit_error((const uint8_t *)"1", 1, one, 1, out, 8, &written) == PEP440_NO_ROOM && written > 8, "edit_error by null");
     hold(pep440_sort_keys(NONE, NONE, NONE, &written, &index) == PEP440_OK && written == 0, "sort_keys of none");
+    hold(pep440_newest(NONE, two, 2, &index) == PEP440_OK && index == 1, "newest, list");
     hold(pep440_filter(EMPTY, one, 1, marks, 1) == PEP440_OK && marks[0] == PEP440_NOT_A_VERSION, "filter of null");
     hold(pep440_sort(one, 1, indices, 1, &index) == PEP440_INVALID_VERSION && index == 0, "sort of null");
     hold(pep440_sort_keys(one, 1, out, 8, ends, 1, &written, &index) == PEP440_INVALID_VERSION && index == 0, "sort_keys of null");

@@ -82,6 +82,7 @@ static void of_pair(pep440_string version, pep440_string other, pep440_string sp
     CHECK(pep440_compare(PARSED(version), PARSED(other), &order));
     CHECK(pep440_contains(PARSED(specifier), PARSED(version), &is, &early));
     CHECK(pep440_contains(PARSED(few), PARSED(version), &is, &early));
+    CHECK(pep440_allows(PARSED(specifier), PARSED(version), &is));
 }
 
 /* Of a version: release numbers, digits, local segments, bytes of one. */
@@ -118,6 +119,7 @@ static void of_either_list(pep440_string list, const char *part, size_t size)
         pep440_string compiled = compile(pep440_compile, versions[number], part, size);
         CHECK(pep440_contains(PARSED(list), PARSED(versions[number]), &is, &early));
         CHECK(pep440_contains(PARSED(list), PARSED(compiled), &is, &early));
+        CHECK(pep440_allows(PARSED(list), PARSED(compiled), &is));
         CHECK(pep440_filter(PARSED(list), &versions[number], 1, marks, 1));
         CHECK(pep440_filter(PARSED(list), &compiled, 1, marks, 1));
         drop(compiled);
@@ -158,6 +160,7 @@ static void of_batches(const char *text, const char *part, size_t size)
     pep440_string list = repeat(text, "", "", 0), compiled = compile(pep440_compile_list, list, part, size), *const batches[] = {batch, forms, mixed};
     for (int number = 0; number < 3; number++) {
         CHECK(pep440_filter(PARSED(list), batches[number], size, marks, GREATEST));
+        CHECK(pep440_newest(PARSED(list), batches[number], size, &at));
         CHECK(pep440_filter(PARSED(compiled), batches[number], size, marks, GREATEST));
         CHECK(pep440_sort(batches[number], size, ends, GREATEST, &at));
         CHECK(pep440_sort_keys(batches[number], size, out, sizeof out, ends, GREATEST, &written, &at));

@@ -34,6 +34,7 @@ static void *version_error(void *unused) { pep440_version_error(GIVEN, OUT); ret
 static void *list_error(void *unused) { pep440_list_error(LIST, OUT); return unused; }
 static void *compare(void *unused) { pep440_compare(GIVEN, RIGHT, &order); return unused; }
 static void *contains(void *unused) { pep440_contains(LIST, GIVEN, &flag, &early); return unused; }
+static void *allows(void *unused) { pep440_allows(LIST, GIVEN, &flag); return unused; }
 static void *any_prerelease(void *unused) { pep440_any_prerelease(LIST, &flag); return unused; }
 static void *parts_of(void *unused) { pep440_parts_of(GIVEN, &parts, release, LONG); return unused; }
 static void *sort_key(void *unused) { pep440_sort_key(GIVEN, OUT); return unused; }
@@ -81,6 +82,7 @@ static void *compile(void *unused) { pep440_compile(GIVEN, OUT); return unused; 
 static void *compile_specifier(void *unused) { pep440_compile_specifier(LIST, OUT); return unused; }
 static void *compile_list(void *unused) { pep440_compile_list(LIST, OUT); return unused; }
 static void *build_error(void *unused) { pep440_build_error(PEP440_LESS, GIVEN, 0, OUT); return unused; }
+static void *newest(void *unused) { pep440_newest(LIST, batch, MANY, &at); return unused; }
 static void *filter(void *unused) { pep440_filter(LIST, batch, MANY, out, MANY); return unused; }
 static void *sort(void *unused) { pep440_sort(batch, MANY, indices, MANY, &at); return unused; }
 static void *sort_keys(void *unused)
@@ -98,6 +100,7 @@ static const struct {
              {"list_error", list_error},
              {"compare", compare},
              {"contains", contains},
+             {"allows", allows},
              {"any_prerelease", any_prerelease},
              {"parts_of", parts_of},
              {"sort_key", sort_key},
@@ -120,6 +123,7 @@ static const struct {
              {"compile_list", compile_list},
              {"build_error", build_error},
              {"filter", filter},
+             {"newest", newest},
              {"sort", sort},
              {"sort_keys", sort_keys}};
 

@@ -136,8 +136,14 @@ static uint8_t contains(Answer *answer) { return pep440_contains(FIRST(members),
 static uint8_t contains_not(Answer *answer) { return pep440_contains(FIRST(members), SECOND(longer), &answer->is, &answer->early); }
 static uint8_t contains_no_list(Answer *answer) { return pep440_contains(FIRST(no_list), SECOND(invalid), &answer->is, &answer->early); }
 static uint8_t contains_invalid(Answer *answer) { return pep440_contains(FIRST(members), SECOND(invalid), &answer->is, &answer->early); }
+static uint8_t allows(Answer *answer) { return pep440_allows(FIRST(members), SECOND(shorter), &answer->is); }
+static uint8_t allows_not(Answer *answer) { return pep440_allows(FIRST(members), SECOND(longer), &answer->is); }
+static uint8_t allows_no_list(Answer *answer) { return pep440_allows(FIRST(no_list), SECOND(invalid), &answer->is); }
+static uint8_t allows_invalid(Answer *answer) { return pep440_allows(FIRST(members), SECOND(invalid), &answer->is); }
 static pep440_string batch[5], stopped[2];
 static uint8_t filter(Answer *answer) { return pep440_filter(FIRST(members), batch, 5, answer->marks, 8); }
+static uint8_t newest(Answer *answer) { return pep440_newest(FIRST(members), batch, 5, &answer->count); }
+static uint8_t newest_no_list(Answer *answer) { return pep440_newest(FIRST(no_list), batch, 5, &answer->count); }
 static uint8_t filter_stopped(Answer *answer) { return pep440_filter(FIRST(members), stopped, 2, answer->marks, 8); }
 static uint8_t filter_no_list(Answer *answer) { return pep440_filter(FIRST(no_list), batch, 5, answer->marks, 8); }
 static uint8_t sort(Answer *answer) { return pep440_sort(batch, 5, answer->places, 8, &at); }
@@ -211,7 +217,13 @@ static const Call CALLS[] = {
     CALL(contains_not, PEP440_OK, 2),
     CALL(contains_no_list, PEP440_INVALID_LIST, 2),
     CALL(contains_invalid, PEP440_INVALID_VERSION, 2),
+    CALL(allows, PEP440_OK, 2),
+    CALL(allows_not, PEP440_OK, 2),
+    CALL(allows_no_list, PEP440_INVALID_LIST, 2),
+    CALL(allows_invalid, PEP440_INVALID_VERSION, 2),
     CALL(filter, PEP440_OK, 2),
+    CALL(newest, PEP440_OK, 2),
+    CALL(newest_no_list, PEP440_INVALID_LIST, 2),
     CALL(filter_stopped, PEP440_OK, 2),
     CALL(filter_no_list, PEP440_INVALID_LIST, 2),
     CALL(sort, PEP440_OK, 2),
@@ -233,7 +245,8 @@ static const Call CUT[] = {CALL(normalize_cut, PEP440_INVALID_VERSION, 1), CALL(
                            CALL(normalize_cut_list, PEP440_INVALID_LIST, 1), CALL(list_error_cut, PEP440_OK, 1)};
 
 /* Calls of compiled forms alone that allocate nothing. */
-static const Call WITHOUT[] = {CALL(compare, PEP440_OK, 2), CALL(contains, PEP440_OK, 2), CALL(contains_not, PEP440_OK, 2)};
+static const Call WITHOUT[] = {CALL(compare, PEP440_OK, 2), CALL(contains, PEP440_OK, 2), CALL(contains_not, PEP440_OK, 2),
+                                CALL(allows, PEP440_OK, 2),  CALL(allows_not, PEP440_OK, 2)};
 
 /* Wrong results of this call; `failed` counts the allocations that failed. */
 static int sweep(uint8_t (*call)(Answer *), uint8_t wanted, int may_guess, int *failed)

@@ -91,11 +91,12 @@ static void *call_all(void *memory)
             for (size_t other = 0; other < VERSIONS; other++)
                 fold(m, pep440_compare(OF(some[v]), OF(others[other]), &m->order));
             for (size_t l = 0; l < LISTS; l++)
-                fold(m, pep440_contains(OF(several[l]), OF(some[v]), &m->flag, &m->early));
+                fold(m, pep440_contains(OF(several[l]), OF(some[v]), &m->flag, &m->early)), fold(m, pep440_allows(OF(several[l]), OF(some[v]), &m->flag));
         }
         for (size_t l = 0; l < LISTS; l++) {
             of_list(m, several[l]);
             fold(m, pep440_filter(OF(several[l]), some, VERSIONS, m->out, ROOM));
+            fold(m, pep440_newest(OF(several[l]), some, VERSIONS, &m->count));
         }
         fold(m, pep440_sort(some, 3, m->ends, 16, &m->count));
         fold(m, pep440_sort(some, VERSIONS, m->ends, 16, &m->count));

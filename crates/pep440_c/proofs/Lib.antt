@@ -3,6 +3,8 @@ pub mod Joining
 pub mod Placed
 pub mod Once
 pub mod Forms
+pub mod Allowed
+pub mod Choosing
 pub mod Words
 pub mod Keyed
 pub mod Membership

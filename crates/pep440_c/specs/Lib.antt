@@ -13,3 +13,6 @@ pub mod RangeBounds
 pub mod ReleaseRangeBounds
 pub mod PatternErrors
 pub mod VersionsIn
+pub mod Explanations
+pub mod AllowedVersions
+pub mod NewestString

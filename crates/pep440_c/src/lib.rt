@@ -4,10 +4,10 @@
 //! with. Each call takes either, but for the five that take an operator, a pattern or one specifier as a string. No call keeps a
 //! pointer, and none has a condition beyond its types. Each returns a status: 0 ok, 1 a version is invalid, 2 a list is invalid, or an
 //! operator or a specifier, 3 out of memory, 4 too little room, 5 a bound of a range lies above the greatest number, 6 the right one of
-//! two versions is invalid, 7 a version is not packed, 8 a version cannot be changed so.
+//! two versions is invalid, 7 a version is not packed, 8 a version cannot be changed so, 9 bytes are to be nothing known, 10 none is found.
 //!
-//! `pep440_compare` of two compiled versions and `pep440_contains` of a compiled list and a compiled version read them as they lie, without
-//! allocating. They do not test the whole of them: of bytes that begin as a compiled form and are none they return an error or any
+//! `pep440_compare` of two compiled versions, and `pep440_contains` and `pep440_allows` of a compiled list and a compiled version, read them as
+//! they lie, without allocating. They do not test the whole of them: of bytes that begin as a compiled form and are none they return an error or any
 //! result, and never read outside them.
 //! The header `callers/c/pep440.h` says what each call writes.
 //!
@@ -22,7 +22,7 @@
 ghost use Rattle.std.specs.Prelude.{◌≡◌, map};
 ghost use Rattle.pep440_rs.specs.Bounds.{range_of};
 ghost use Rattle.pep440_rs.specs.Cover.{cover_of};
-ghost use Rattle.pep440_c.specs.CallResults.{ContainsAnswer, HasNoRange, IsKey, IsListError, IsNormal, IsNormalList, IsRangeText, IsVersionError, NamesPrerelease, OrderAnswer, PartsAnswer, TellsMembers, WordAnswer, order_number};
+ghost use Rattle.pep440_c.specs.CallResults.{ContainsAnswer, HasNoRange, IsKey, IsNormal, IsNormalList, IsRangeText, NamesPrerelease, OrderAnswer, PartsAnswer, TellsMembers, WordAnswer, order_number};
 ghost use Rattle.pep440_c.specs.Batches.{FilterMarks, KeysAnswer, SortAnswer};
 ghost use Rattle.pep440_c.specs.Edits.{PutsEdited, IsEditError};
 ghost use Rattle.pep440_c.specs.Intervals.{LacksRange, TellsIntervals};
@@ -36,14 +36,17 @@ mod batch;
 mod buffer;
 mod compile;
 mod edits;
+mod explanations;
 mod intervals;
 mod joined_strings;
 pub mod laws;
 mod list_members;
 mod messages;
+mod newest_string;
 mod one_specifier;
 mod pattern_errors;
 mod patterns;
+mod prereleases;
 mod range_bounds;
 mod release_range_bounds;
 #[cfg(test)]
@@ -187,32 +190,6 @@ pub extern "C" fn pep440_edit_error(
     ensures { PutsBytes ⊥ ⊥ ⊥ (IsEditError text.now (map (λ t. t.now) changes.now)) out.old out.new written.old written.new result }
 {
     put_text(edits::explain_edit(alloc, text, changes), out, written)
-}
-
-/// Writes why the bytes are no version; nothing if they are one.
-#[unsafe(no_mangle)]
-pub extern "C" fn pep440_version_error(
-    alloc: Global,
-    text: &[u8],
-    out: &mut [u8],
-    written: &mut usize,
-) -> u8
-    ensures { PutsBytes ⊥ ⊥ ⊥ (IsVersionError text.now) out.old out.new written.old written.new result }
-{
-    put_text(messages::explain_version(alloc, text), out, written)
-}
-
-/// Writes why the bytes are no list of specifiers; nothing if they are one.
-#[unsafe(no_mangle)]
-pub extern "C" fn pep440_list_error(
-    alloc: Global,
-    list: &[u8],
-    out: &mut [u8],
-    written: &mut usize,
-) -> u8
-    ensures { PutsBytes ⊥ ⊥ ⊥ (IsListError list.now) out.old out.new written.old written.new result }
-{
-    put_text(messages::explain_list(alloc, list), out, written)
 }
 
 /// The number that stands for an order.

@@ -3,7 +3,7 @@ ghost use Rattle.std.specs.Prelude.{string_bytes};
 ghost use Rattle.pep440_c.specs.OneSpecifier.{IsCompiledSpecifier, IsSpecifierError, MeansSpecifierBytes, RefusesSpecifierBytes};
 ghost use Rattle.pep440_c.specs.Statuses.{Gives, PutsBytes};
 
-use crate::buffer::{put_bytes, put_text};
+use crate::buffer::put_bytes;
 use crate::texts::Fault;
 use pep440_rs::{ParseErrorKind, VersionSpecifier, VersionSpecifiers};
 use std::alloc::Global;
@@ -22,19 +22,6 @@ pub extern "C" fn pep440_compile_specifier(
     ensures { PutsBytes ⊥ (RefusesSpecifierBytes specifier.now) ⊥ (IsCompiledSpecifier specifier.now) out.old out.new written.old written.new result }
 {
     put_bytes(compile(alloc, specifier), out, written)
-}
-
-/// Writes why the string is no specifier; nothing if it is one.
-#[unsafe(no_mangle)]
-pub extern "C" fn pep440_specifier_error(
-    alloc: Global,
-    specifier: &[u8],
-    out: &mut [u8],
-    written: &mut usize,
-) -> u8
-    ensures { PutsBytes ⊥ ⊥ ⊥ (IsSpecifierError specifier.now) out.old out.new written.old written.new result }
-{
-    put_text(explain(alloc, specifier), out, written)
 }
 
 // The specifier that the bytes denote.
@@ -64,8 +51,8 @@ fn compile(alloc: Global, bytes: &[u8]) -> Result<Vec<u8>, Fault>
     Ok(pep440_compiled::compile_list(alloc, &list)?)
 }
 
-// Why the bytes are no specifier; empty where they are one.
-fn explain(alloc: Global, bytes: &[u8]) -> Result<String, Fault>
+/// Why the bytes are no specifier; empty if they are one.
+pub(crate) fn explain(alloc: Global, bytes: &[u8]) -> Result<String, Fault>
     ensures { Gives ⊥ ⊥ ⊥ (λ words. IsSpecifierError bytes.now (string_bytes words)) result }
 {
     let Ok(text) = std::str::from_utf8(bytes) else {

@@ -11,19 +11,6 @@ use std::alloc::Global;
 
 const NOT_UTF8: &str = "not UTF-8";
 
-/// Writes why the string is no version pattern (PEP 440, "Version matching"); nothing if it is one.
-#[unsafe(no_mangle)]
-pub extern "C" fn pep440_pattern_error(
-    alloc: Global,
-    pattern: &[u8],
-    out: &mut [u8],
-    written: &mut usize,
-) -> u8
-    ensures { PutsBytes ⊥ ⊥ ⊥ (IsPatternError pattern.now) out.old out.new written.old written.new result }
-{
-    put_text(explain_pattern(alloc, pattern), out, written)
-}
-
 /// Writes why the operator of this number, its position in `Operator`, and the version make no specifier; nothing if they do
 /// (PEP 440, "Version specifiers"). `.*` follows the version unless `star` is 0. Status 2 if no operator has the number.
 #[unsafe(no_mangle)]
@@ -44,8 +31,8 @@ pub extern "C" fn pep440_build_error(
     )
 }
 
-// Why the bytes are no pattern; empty where they are one.
-fn explain_pattern(alloc: Global, bytes: &[u8]) -> Result<String, Fault>
+/// Why the bytes are no pattern; empty if they are one.
+pub(crate) fn explain_pattern(alloc: Global, bytes: &[u8]) -> Result<String, Fault>
     ensures { Gives ⊥ ⊥ ⊥ (λ words. IsPatternError bytes.now (string_bytes words)) result }
 {
     let Ok(text) = std::str::from_utf8(bytes) else {

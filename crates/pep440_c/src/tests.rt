@@ -1,16 +1,19 @@
 //! Each call once with a value and once with an error, with too little room, and with each allocation failing in turn.
 mod compiled;
 mod edits;
+mod newest_string;
 mod one_specifier;
 mod patterns;
+mod prereleases;
 mod range_bounds;
 mod release_range_bounds;
 
+use crate::explanations::pep440_error;
 use crate::{
     Parts, pep440_any_prerelease, pep440_compare, pep440_contains, pep440_cover_keys,
-    pep440_filter, pep440_list_error, pep440_normalize, pep440_normalize_list, pep440_parts_of,
-    pep440_range_keys, pep440_ranges, pep440_sort, pep440_sort_key, pep440_sort_keys,
-    pep440_specifiers_of, pep440_version_error, pep440_word,
+    pep440_filter, pep440_normalize, pep440_normalize_list, pep440_parts_of, pep440_range_keys,
+    pep440_ranges, pep440_sort, pep440_sort_key, pep440_sort_keys, pep440_specifiers_of,
+    pep440_word,
 };
 use std::alloc::Global;
 use std::test::Fail;
@@ -24,16 +27,19 @@ enum Call {
     ListError,
     SortKey,
     Ranges,
+    // Of something that bytes are never to be.
+    NoError,
 }
 
 fn write(alloc: Global, call: Call, text: &[u8], out: &mut [u8], written: &mut usize) -> u8 {
     match call {
         Call::Normalize => pep440_normalize(alloc, text, out, written),
         Call::NormalizeList => pep440_normalize_list(alloc, text, out, written),
-        Call::VersionError => pep440_version_error(alloc, text, out, written),
-        Call::ListError => pep440_list_error(alloc, text, out, written),
+        Call::VersionError => pep440_error(alloc, 0, text, out, written),
+        Call::ListError => pep440_error(alloc, 3, text, out, written),
         Call::SortKey => pep440_sort_key(alloc, text, out, written),
         Call::Ranges => pep440_ranges(alloc, text, out, written),
+        Call::NoError => pep440_error(alloc, 4, text, out, written),
     }
 }
 
@@ -68,7 +74,8 @@ const WRITTEN: [(Call, &[u8], &[u8]); 11] = [
     ),
 ];
 
-const ERRORS: [(Call, &[u8], u8); 9] = [
+const ERRORS: [(Call, &[u8], u8); 10] = [
+    (Call::NoError, b"1.0x", 9),
     (Call::Normalize, b"1.2.3.4.5.6x", 1),
     (Call::Normalize, b"1.0\xff", 1),
     (Call::NormalizeList, b">=1.16; <2.0", 2),

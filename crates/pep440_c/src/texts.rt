@@ -209,8 +209,8 @@ pub(crate) fn compare(alloc: Global, left: &[u8], right: &[u8]) -> Result<Orderi
     }
 }
 
-// Whether a compiled list contains a compiled version, and whether this is a pre-release or a developmental release.
-fn contains_compiled(list: &[u8], version: &[u8]) -> Result<(bool, bool), Fault>
+/// Whether a compiled list contains a compiled version, and whether this is a pre-release or a developmental release.
+pub(crate) fn contains_compiled(list: &[u8], version: &[u8]) -> Result<(bool, bool), Fault>
     requires list { HasListFormat list.now }
     requires version { HasVersionFormat version.now }
     ensures { Gives (RefusesSecond list.now version.now) (RefusesListBytes list.now) ⊥ (λ found. Contains list.now version.now found.0 × IsPrerelease version.now found.1) result }

@@ -2,3 +2,4 @@ pub mod KeyParts
 pub mod Lists
 pub mod Version
 pub mod KeyViews
+pub mod PrereleaseRequests

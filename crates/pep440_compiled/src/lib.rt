@@ -25,7 +25,9 @@ mod version;
 mod views;
 
 pub use error::{CompileError, CompiledError, NotCompiled};
-pub use list::{compile_list, contains, has_list_format, normalize_list, read_list};
+pub use list::{
+    compile_list, contains, has_list_format, normalize_list, read_list, requests_prereleases,
+};
 pub use version::{
     any_prerelease, compare, compile_version, normalize, push_compiled_form, read_version, sort_key,
 };

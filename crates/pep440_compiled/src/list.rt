@@ -5,8 +5,10 @@ ghost use Rattle.pep440_compiled.specs.KeyParts.{BeginsOtherwise};
 ghost use Rattle.pep440_compiled.specs.Lists.{DenotesList, HasListFormat, IsParsedMember, member_bytes};
 ghost use Rattle.pep440_compiled.specs.Version.{DenotesVersion, HasVersionFormat, IsParsed};
 ghost use Rattle.pep440_compiled.specs.KeyViews.{HasParts};
+ghost use Rattle.pep440_compiled.specs.PrereleaseRequests.{requests_prerelease, requests_prereleases};
 ghost use Rattle.pep440_compiled.specs.declared.error.CompileError.TheVariants.{NotParsed};
 ghost use Rattle.pep440_compiled.specs.declared.error.CompiledError.TheVariants as unread;
+ghost use Rattle.pep440_rs.specs.Agreement.{is_exclusion};
 ghost use Rattle.pep440_rs.specs.Arrangement.{IsArranged};
 ghost use Rattle.pep440_rs.specs.Lists.{list_print};
 ghost use Rattle.pep440_rs.specs.Matching.{list_matches};
@@ -129,6 +131,44 @@ pub fn contains(list: &[u8], version: &[u8]) -> Result<bool, NotCompiled>
         left = rest;
     }
     Ok(true)
+}
+
+// The operator is `!=`, or the star form of it.
+fn is_exclusion(operator: Operator) -> bool
+    ensures { result ≡ is_exclusion operator }
+{
+    matches!(operator, Operator::NotEqual | Operator::NotEqualStar)
+}
+
+fn requests_prerelease(member: MemberView<'_>) -> bool
+    ensures { (s : Spec) → member.entry.operator ≡ s.operator → HasParts member.entry.parts s.version → result ≡ requests_prerelease s }
+{
+    !is_exclusion(member.operator) && member.parts.suffix.is_prerelease
+}
+
+/// Whether the list that the bytes denote asks for pre-releases: some specifier with another operator than `!=` names a
+/// pre-release or a developmental release (PEP 440, "Handling of pre-releases"). If the bytes are of another format,
+/// `NotCompiled`; if they denote no list, `NotCompiled` or either result.
+///
+/// Does not allocate.
+pub fn requests_prereleases(bytes: &[u8]) -> Result<bool, NotCompiled>
+    ensures found { (l : List Spec) → DenotesList bytes.now l → result ≡ Ok (requests_prereleases l) }
+    ensures format { IfOk result (λ _. HasListFormat bytes.now) }
+{
+    let Some(members) = view_members(bytes) else {
+        return Err(NotCompiled);
+    };
+    let mut left = members;
+    while !left.is_empty() {
+        let Some((member, rest)) = view_member(left) else {
+            return Err(NotCompiled);
+        };
+        if requests_prerelease(member) {
+            return Ok(true);
+        }
+        left = rest;
+    }
+    Ok(false)
 }
 
 // The specifier of a member.

@@ -1,6 +1,7 @@
 //! Test cases: lists and their bytes, and failing allocations.
 use pep440_compiled::{
-    CompileError, CompiledError, compile_list, contains, normalize_list, read_list,
+    CompileError, CompiledError, NotCompiled, requests_prereleases, compile_list, contains,
+    normalize_list, read_list,
 };
 use pep440_rs::{VersionSpecifier, VersionSpecifiers};
 use pep440_version::Version;
@@ -112,5 +113,36 @@ fn sweep_contains_takes_none(rt: HostRuntime) -> Result<(), Fail> {
     for (i, (version, want)) in CONTAINED.iter().enumerate() {
         assert!(rt; contains(THREE, version) == Ok(*want), "{i}");
     }
+    Ok(())
+}
+
+// PEP 440, "Handling of pre-releases": `!=` asks for none. The last is `!=1a1.*`, which no string denotes.
+const ASKED: [(&[u8], bool); 8] = [
+    (&[5], false),
+    (THREE, false),
+    (&[5, 25, 0, 2, 1, 0, 49, 2, 0, 16, 0], true),
+    (&[5, 19, 0, 2, 1, 0, 49, 2, 0, 16, 0], false),
+    (
+        &[
+            5, 19, 0, 2, 1, 0, 49, 2, 0, 16, 0, 22, 0, 2, 2, 0, 49, 2, 0, 16, 0,
+        ],
+        true,
+    ),
+    (
+        &[
+            5, 25, 0, 2, 1, 0, 49, 2, 0, 16, 0, 22, 0, 2, 2, 0, 80, 0, 16, 0,
+        ],
+        true,
+    ),
+    (&[5, 22, 0, 2, 1, 0, 80, 0, 16, 0], false),
+    (&[5, 20, 0, 2, 1, 0, 49, 2, 0, 16, 0], false),
+];
+
+#[test]
+fn sweep_requests_prereleases_takes_none(rt: HostRuntime) -> Result<(), Fail> {
+    for (i, (list, want)) in ASKED.iter().enumerate() {
+        assert!(rt; requests_prereleases(list) == Ok(*want), "{i}");
+    }
+    assert!(rt; requests_prereleases(b">=1.0a1") == Err(NotCompiled));
     Ok(())
 }

@@ -29,10 +29,7 @@ unsafe extern "C" {
         size: usize,
         written: *mut usize,
     ) -> u8;
-    fn pep440_version_error(version: *const u8, length: usize, out: *mut u8, size: usize, written: *mut usize) -> u8;
-    fn pep440_pattern_error(pattern: *const u8, length: usize, out: *mut u8, size: usize, written: *mut usize) -> u8;
-    fn pep440_specifier_error(specifier: *const u8, length: usize, out: *mut u8, size: usize, written: *mut usize) -> u8;
-    fn pep440_list_error(list: *const u8, length: usize, out: *mut u8, size: usize, written: *mut usize) -> u8;
+    fn pep440_error(kind: u8, bytes: *const u8, length: usize, out: *mut u8, size: usize, written: *mut usize) -> u8;
     fn pep440_build_error(
         operator: u8,
         version: *const u8,
@@ -206,9 +203,22 @@ pub(crate) fn compile_specifier<T>(specifier: &str, read: impl FnOnce(&[u8]) -> 
     written(pep440_compile_specifier, bytes_of(specifier)?, read)
 }
 
-/// The words that `call` writes of a string, which has some with each string.
-fn words(call: Writer, string: &str) -> Box<str> {
-    let said = |string: &[u8]| written(call, string, |bytes| as_text(bytes).into()).expect("any string has an answer");
+// What bytes were to be.
+const A_VERSION: u8 = 0;
+const A_PATTERN: u8 = 1;
+const A_SPECIFIER: u8 = 2;
+const A_LIST: u8 = 3;
+
+/// Why a string is none of this kind; empty where it is one.
+fn error(kind: u8, string: &str) -> Box<str> {
+    let said = |string: &[u8]| {
+        let call = |out: &mut [u8], length: &mut usize| {
+            // SAFETY: as the module says.
+            unsafe { pep440_error(kind, string.as_ptr(), string.len(), out.as_mut_ptr(), out.len(), length) }
+        };
+        written_to_room::<STACK, Box<str>>(call, |room, length| as_text(&room[..length]).into())
+            .expect("any string has an answer")
+    };
     match bytes_of(string) {
         Ok(bytes) => said(bytes),
         // Another character that no valid string begins with, and that is written alike.
@@ -218,17 +228,17 @@ fn words(call: Writer, string: &str) -> Box<str> {
 
 /// Why the string is no version; empty where it is one.
 pub(crate) fn version_error(version: &str) -> Box<str> {
-    words(pep440_version_error, version)
+    error(A_VERSION, version)
 }
 
 /// Why the string is no pattern; empty where it is one.
 pub(crate) fn pattern_error(pattern: &str) -> Box<str> {
-    words(pep440_pattern_error, pattern)
+    error(A_PATTERN, pattern)
 }
 
 /// Why the string is no specifier; empty where it is one.
 pub(crate) fn specifier_error(specifier: &str) -> Box<str> {
-    words(pep440_specifier_error, specifier)
+    error(A_SPECIFIER, specifier)
 }
 
 /// Why the operator of this number and the compiled version make no specifier, `.*` behind the version or not; empty where they do.
@@ -243,7 +253,7 @@ pub(crate) fn build_error(operator: u8, version: &[u8], star: bool) -> Box<str> 
 
 /// Why the string is no list; empty where it is one.
 pub(crate) fn list_error(list: &str) -> Box<str> {
-    words(pep440_list_error, list)
+    error(A_LIST, list)
 }
 
 /// Calls `read` with the normalized form of a compiled version.

@@ -1,10 +1,10 @@
 //! The calls over compiled bytes, each with a value and with bytes that are none, with too little room, and with each allocation
 //! failing in turn.
 use crate::compile::{pep440_compile, pep440_compile_list};
+use crate::explanations::pep440_error;
 use crate::{
-    Parts, pep440_compare, pep440_contains, pep440_cover_keys, pep440_filter, pep440_list_error,
-    pep440_normalize, pep440_normalize_list, pep440_parts_of, pep440_range_keys, pep440_sort,
-    pep440_sort_key, pep440_version_error,
+    Parts, pep440_compare, pep440_contains, pep440_cover_keys, pep440_filter, pep440_normalize,
+    pep440_normalize_list, pep440_parts_of, pep440_range_keys, pep440_sort, pep440_sort_key,
 };
 use std::alloc::Global;
 use std::test::Fail;
@@ -51,8 +51,8 @@ fn write(alloc: Global, call: Call, given: &[u8], out: &mut [u8], written: &mut 
         Call::Normalize => pep440_normalize(alloc, given, out, written),
         Call::NormalizeList => pep440_normalize_list(alloc, given, out, written),
         Call::SortKey => pep440_sort_key(alloc, given, out, written),
-        Call::VersionError => pep440_version_error(alloc, given, out, written),
-        Call::ListError => pep440_list_error(alloc, given, out, written),
+        Call::VersionError => pep440_error(alloc, 0, given, out, written),
+        Call::ListError => pep440_error(alloc, 3, given, out, written),
     }
 }
 

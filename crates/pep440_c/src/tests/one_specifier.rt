@@ -1,7 +1,8 @@
 //! One specifier: its compiled form, and each error text of specifiers, of patterns, and of an operator beside a version; each
 //! allocation failing in turn.
-use crate::one_specifier::{pep440_compile_specifier, pep440_specifier_error};
-use crate::pattern_errors::{pep440_build_error, pep440_pattern_error};
+use crate::explanations::pep440_error;
+use crate::one_specifier::pep440_compile_specifier;
+use crate::pattern_errors::pep440_build_error;
 use std::alloc::Global;
 use std::test::Fail;
 
@@ -23,8 +24,8 @@ enum Call {
 fn write(alloc: Global, call: Call, text: &[u8], out: &mut [u8], written: &mut usize) -> u8 {
     match call {
         Call::Compile => pep440_compile_specifier(alloc, text, out, written),
-        Call::SpecifierError => pep440_specifier_error(alloc, text, out, written),
-        Call::PatternError => pep440_pattern_error(alloc, text, out, written),
+        Call::SpecifierError => pep440_error(alloc, 2, text, out, written),
+        Call::PatternError => pep440_error(alloc, 1, text, out, written),
     }
 }
 
