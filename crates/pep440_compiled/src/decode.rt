@@ -17,6 +17,7 @@ use crate::key_parts::skip_text;
 use crate::views::VersionView;
 use pep440_version::key::trim_trailing_zeros;
 use pep440_version::{LocalSegment, Prerelease, PrereleaseKind, Version};
+use smallvec::SmallVec;
 use std::alloc::{AllocError, Global};
 
 // The number of these bytes, the most significant first.
@@ -86,11 +87,14 @@ fn read_ranked_number(bytes: &[u8]) -> Option<(RankAndNumber, &[u8])>
 }
 
 // Release numbers up to the 0 that ends them, and the rest.
-fn read_numbers(alloc: Global, bytes: &[u8]) -> Result<Option<(Vec<u64>, &[u8])>, AllocError>
+fn read_numbers(
+    alloc: Global,
+    bytes: &[u8],
+) -> Result<Option<(SmallVec<u64, 4>, &[u8])>, AllocError>
     ensures found { (numbers rest : List ℕ) → All Fits numbers → bytes.now ≡ flat_map (number_bytes 1) numbers ++ 0 ∷ rest → IfOk result (λ o. MatchOption o ⊥ (λ p. (p.0.items ≡ numbers) × (p.1.now ≡ rest))) }
     ensures exact { IfOk result (λ o. IfSome o (λ p. bytes.now ≡ flat_map (number_bytes 1) p.0.items ++ 0 ∷ p.1.now)) }
 {
-    let mut numbers = Vec::with_capacity(alloc, 4)?;
+    let mut numbers = SmallVec::new(alloc);
     let mut left = bytes;
     while let Some((first, later)) = left.split_first() {
         if *first == 0 {
@@ -106,7 +110,7 @@ fn read_numbers(alloc: Global, bytes: &[u8]) -> Result<Option<(Vec<u64>, &[u8])>
 }
 
 // Appends zeros.
-fn push_zeros(numbers: &mut Vec<u64>, zeros: usize) -> Result<(), AllocError>
+fn push_zeros(numbers: &mut SmallVec<u64, 4>, zeros: usize) -> Result<(), AllocError>
     ensures { OnOk result (numbers.new.items ≡ numbers.old.items ++ replicate zeros 0) }
 {
     for _ in 0..zeros {
@@ -127,7 +131,7 @@ fn read_release(
     alloc: Global,
     bytes: &[u8],
     zeros: usize,
-) -> Result<Option<(Vec<u64>, &[u8])>, AllocError>
+) -> Result<Option<(SmallVec<u64, 4>, &[u8])>, AllocError>
     ensures found { (release rest : List ℕ) → All Fits (trim release) → 0 < length release → zeros ≡ ending_zeros release → bytes.now ≡ flat_map (number_bytes 1) (trim release) ++ 0 ∷ rest → IfOk result (λ o. MatchOption o ⊥ (λ p. (p.0.items ≡ release) × (p.1.now ≡ rest))) }
     ensures exact { IfOk result (λ o. IfSome o (λ p. (zeros ≡ ending_zeros p.0.items) × (bytes.now ≡ flat_map (number_bytes 1) (trim p.0.items) ++ 0 ∷ p.1.now))) }
     ensures some { IfOk result (λ o. IfSome o (λ p. 0 < length p.0.items)) }
@@ -135,11 +139,11 @@ fn read_release(
     let Some((mut numbers, rest)) = read_numbers(alloc, bytes)? else {
         return Ok(None);
     };
-    if !are_trimmed(&numbers) {
+    if !are_trimmed(numbers.as_slice()) {
         return Ok(None);
     }
     push_zeros(&mut numbers, zeros)?;
-    if numbers.is_empty() {
+    if numbers.as_slice().is_empty() {
         return Ok(None);
     }
     Ok(Some((numbers, rest)))
@@ -321,6 +325,6 @@ pub(crate) fn decode_version(
     let Some(local) = read_local(alloc, rest)? else {
         return Ok(None);
     };
-    let version = assemble(alloc, epoch, &release, suffix, local)?;
+    let version = assemble(alloc, epoch, release.as_slice(), suffix, local)?;
     Ok(Some(version))
 }

@@ -38,7 +38,7 @@ returns-clause-found c r v =
     let suffix = c.in-Some-read_suffix.ensures.found r (local_bytes r.local) v.parsed release.1 in
     let local = rw c.in-Some-3.is at (c.in_ok-local.ensures.found r.local v.parsed.valid.local v.parsed.round_trips.local suffix.3) in
     ap Some (c.in_ok-version.ensures
-    ∙ (λ i. from_parts (epoch.0 i) ((c.deref.ensures.value ∙ release.0) i) (suffix.0 i) (suffix.1 i) (suffix.2 i) (local i))
+    ∙ (λ i. from_parts (epoch.0 i) ((c.as_slice.ensures ∙ release.0) i) (suffix.0 i) (suffix.1 i) (suffix.2 i) (local i))
     ∙ without_sentinels r v.parsed)
 
 pub returns-clause-exact : goal.returns-clause-exact
@@ -46,7 +46,7 @@ returns-clause-exact c p =
     let suffix = c.in-Some-read_suffix.suffix in
     let local = map segment c.in-Some-3.local.items in
     let release = rw c.in-Some-2.is at c.in_ok-release.ensures.exact in
-    let is = c.in_ok-version.ensures ∙ ap (λ l. from_parts c.in-Some.epoch l suffix.pre suffix.post suffix.dev local) c.deref.ensures.value in
+    let is = c.in_ok-version.ensures ∙ ap (λ l. from_parts c.in-Some.epoch l suffix.pre suffix.post suffix.dev local) c.as_slice.ensures in
     record {
       parsed = p;
       key =

@@ -29,11 +29,11 @@ loop-first-preserved c = record {
       let left = c.loop-first.invariant.reads numbers rest all e in
       let next = next_number Fits c.in-Some.first.now c.loop-first.left.now c.in-Some.later.now rest left.0 left.1 c.in-Some.ensures.cases.0 c.if-first-eq0.false left.3 in
       let read = c.in-Some-read_number.ensures.found next.number _ next.holds (omega (arith, next.count)) next.bytes in
-      (next.more, next.all, one_read numbers c.loop-first.numbers.items left.0 next.more c.push.new.self.items next.number c.in-Some-read_number.number left.2 next.split read.0 c.in_ok-push.ensures.items, read.1);
+      (next.more, next.all, one_read numbers c.loop-first.numbers.items left.0 next.more c.push.new.self.items next.number c.in-Some-read_number.number left.2 next.split read.0 c.in_ok-push.ensures.ok, read.1);
   coded =
       let first = c.in-Some.first.now in
       let code = coded_again 1 c.loop-first.left.now c.in-Some.later.now c.in-Some-read_number.rest.now first (first - 1) c.in-Some-read_number.number c.in-Some.ensures.cases.0 (omega (arith, c.if-first-eq0.false)) c.in-Some-read_number.ensures.exact.0 c.in-Some-read_number.ensures.exact.1 in
-      one_coded (number_bytes 1) c.args.bytes.now c.loop-first.left.now c.in-Some-read_number.rest.now c.loop-first.numbers.items c.push.new.self.items c.in-Some-read_number.number c.loop-first.invariant.coded code c.in_ok-push.ensures.items;
+      one_coded (number_bytes 1) c.args.bytes.now c.loop-first.left.now c.in-Some-read_number.rest.now c.loop-first.numbers.items c.push.new.self.items c.in-Some-read_number.number c.loop-first.invariant.coded code c.in_ok-push.ensures.ok;
 }
 
 pub returns-clause-found : goal.returns-clause-found

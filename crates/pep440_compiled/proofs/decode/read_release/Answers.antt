@@ -14,7 +14,7 @@ returns-in_default-clause-found c release rest all some z e = absurd (rw c.in_de
 pub returns-then-not-are_trimmed-clause-found : goal.returns-then-not-are_trimmed-clause-found
 returns-then-not-are_trimmed-clause-found c release rest all some z e =
     let numbers = rw c.in-Some.is at (c.in_ok-numbers.ensures.found (trim release) rest all e) in
-    let trimmed = c.are_trimmed.ensures.1 (subst IsTrimmed (sym (c.deref.ensures.value ∙ numbers.0)) (trim_again release)) in
+    let trimmed = c.are_trimmed.ensures.1 (subst IsTrimmed (sym (c.as_slice.ensures ∙ numbers.0)) (trim_again release)) in
     absurd (true≢false (sym trimmed ∙ c.if-not-are_trimmed.true))
 
 pub returns-then-is_empty-clause-found : goal.returns-then-is_empty-clause-found
@@ -32,6 +32,6 @@ returns-clause-found c release rest all some z e =
 pub returns-clause-exact : goal.returns-clause-exact
 returns-clause-exact c =
     let read = rw c.in-Some.is at c.in_ok-numbers.ensures.exact in
-    let trimmed = subst IsTrimmed c.deref.ensures.value (c.are_trimmed.ensures.0 c.if-not-are_trimmed.false) in
+    let trimmed = subst IsTrimmed c.as_slice.ensures (c.are_trimmed.ensures.0 c.if-not-are_trimmed.false) in
     let written = release_written c.in-Some.numbers.items c.push_zeros.new.numbers.items c.args.zeros trimmed c.in_ok-push_zeros.ensures in
     (written.0, read ∙ ap (λ l. flat_map (number_bytes 1) l ++ 0 ∷ c.in-Some.rest.now) (sym written.1))
