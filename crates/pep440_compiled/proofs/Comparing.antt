@@ -1,5 +1,5 @@
 -- Versions in order by the leading parts of their sort keys.
-use Rattle.std.proofs.Common.{◌≡◌, ◌∙◌, ◌==◌, ◌&&◌, ℕ, ◌<◌, refl, sym, ap, arith, inl, inr, Bool, true, false, true≢false, not, List, [], ◌∷◌, ◌++◌, length, nat_eq, take, cond, append_assoc}
+use Rattle.std.proofs.Common.{◌≡◌, ◌∙◌, ◌==◌, ◌&&◌, ℕ, ◌<◌, refl, sym, ap, arith, inl, inr, Bool, true, false, not, List, [], ◌∷◌, ◌++◌, length, nat_eq, take, cond, append_assoc}
 use Rattle.std.proofs.Math.Seq.{drop-append_seam}
 use Rattle.std.proofs.lemmas.Bool.{cases_eq, cases_order, eq-eqb, ne_eqb, not-false, eqb-true}
 use Rattle.std.proofs.lemmas.Bool.Decides.{nat_tests}

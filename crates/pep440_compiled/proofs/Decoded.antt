@@ -27,7 +27,7 @@ one_of xs i x is inside all =
 
 -- ---- the zeros after a key
 
-ones : (xs : List ℕ) → map {B = ℕ} (λ n. 1) xs ≡ replicate (length xs) 1
+pub ones : (xs : List ℕ) → map {B = ℕ} (λ n. 1) xs ≡ replicate (length xs) 1
 ones [] = refl
 ones (x ∷ xs) = ap (λ l. 1 ∷ l) (ones xs)
 

@@ -9,5 +9,6 @@ pub mod Loops
 pub mod Members
 pub mod Numbers
 pub mod Prefixes
+pub mod Rewritten
 pub mod Suffixes
 pub mod Zeros

@@ -9,7 +9,7 @@ use Rattle.std.specs.List.{list_all}
 use Rattle.std.specs.Result.{is_ok, result_ok}
 use Rattle.std.specs.Str.Parse.{ParsesUnsigned, digits_value}
 use Rattle.pep440_keys.proofs.Bytes.{needed_le, unpadded_le}
-use Rattle.pep440_keys.specs.SortKeys.{needed_bytes, rank_bytes, trim_leading_zeros}
+use Rattle.pep440_keys.specs.SortKeys.{needed_bytes, number_bytes, rank_bytes, trim_leading_zeros}
 use Rattle.pep440_version.proofs.Reading.Digits.{value_of}
 use Rattle.pep440_version.specs.Grammar.{is_numeral}
 use Rattle.pep440_version.specs.Record.{Fits}
@@ -50,15 +50,21 @@ none_after k zero le = ap (λ n. drop {A = ℕ} n (replicate k 0)) (let s : k - 
 none_after zero (suc j) le = absurd (omega (arith, le))
 none_after (suc k) (suc j) le = ap (λ n. drop {A = ℕ} n (drop j (replicate k 0))) (let s : suc k - suc j ≡ k - j = omega arith in s) ∙ none_after k j (omega (arith, le))
 
+-- the end of eight zeros replaced by these bytes
+pub padded_is : (start : ℕ) (bytes : List ℕ) → length bytes ≤ 8 → start ≡ 8 - length bytes
+    → take start (replicate 8 0) ++ (bytes ++ drop (8 - start) (drop start (replicate 8 0))) ≡ replicate (8 - length bytes) 0 ++ bytes
+padded_is start bytes few s =
+    let le : start ≤ 8 = omega (arith, s) in
+    ap (λ l. take start (replicate 8 0) ++ (bytes ++ l)) (none_after 8 start le)
+    ∙ ap (λ l. take start (replicate 8 0) ++ l) (append-nil bytes)
+    ∙ ap (λ l. l ++ bytes) (taken 8 start le)
+    ∙ ap (λ k. replicate k 0 ++ bytes) s
+
 -- these bytes, with zeros in front of them, are those of the number
 pub number_of : (n start : ℕ) (bytes : List ℕ) → Fits n → bytes ≡ needed_bytes n → length bytes ≤ 8 → start ≡ 8 - length bytes
     → from_be_bytes w64 (take start (replicate 8 0) ++ (bytes ++ drop (8 - start) (drop start (replicate 8 0)))) ≡ n
 number_of n start bytes f e few s =
-    let le : start ≤ 8 = omega (arith, s) in
-    ap (λ l. from_be_bytes w64 (take start (replicate 8 0) ++ (bytes ++ l))) (none_after 8 start le)
-    ∙ ap (λ l. from_be_bytes w64 (take start (replicate 8 0) ++ l)) (append-nil bytes)
-    ∙ ap (λ l. from_be_bytes w64 (l ++ bytes)) (taken 8 start le)
-    ∙ ap (λ k. from_be_bytes w64 (replicate k 0 ++ bytes)) s
+    ap (from_be_bytes w64) (padded_is start bytes few s)
     ∙ ap (λ l. from_be_bytes w64 (replicate (8 - length l) 0 ++ l)) e
     ∙ ap (from_be_bytes w64) (eight n)
     ∙ from_be_bytes-to_be_bytes_8 n f
@@ -78,7 +84,12 @@ numeral_by_parse digits r all some p =
     let small = nat_lt (digits_value 10 digits) (2 ^ 64) in
     by_result r ∙ ap is_some (value_of digits r all some p) ∙ given small (digits_value 10 digits) ∙ sym (ap (λ b. b && small) all)
 
--- ---- a rank and a number
+-- ---- an epoch; a rank and a number
+
+pub epoch_parts : (bytes later rest : List ℕ) (first n : ℕ) → bytes ≡ first ∷ later → bytes ≡ number_bytes 0 n ++ rest → (first ≡ length (needed_bytes n)) × (later ≡ needed_bytes n ++ rest)
+epoch_parts bytes later rest first n is e =
+    let at : first ≡ 0 + length (needed_bytes n) = ap (λ l. get_or l 0 0) (sym is ∙ e) in
+    (omega (arith, at), ap (drop 1) (sym is ∙ e))
 
 -- what stands before the bytes of the number, and where they stand
 pub ranked_parts : (bytes later rest : List ℕ) (first rank n : ℕ) → bytes ≡ first ∷ later → bytes ≡ rank_bytes (rank, n) ++ rest

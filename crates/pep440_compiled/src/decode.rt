@@ -1,7 +1,8 @@
-//! Versions made of their sort keys. What is made of other bytes is not specified.
-ghost use Rattle.std.specs.Prelude.{◌≡◌, ◌<◌, ◌≤◌, ◌++◌, ◌∷◌, [], ℕ, List, length, map, MatchOption, IfOk, replicate, IfSome, OnOk, Option, Some, None};
+//! Versions made of their sort keys. Each byte is tested, and no version is made of another one's key; only the characters of local
+//! parts are left to the caller.
+ghost use Rattle.std.specs.Prelude.{◌≡◌, ◌↔◌, ◌<◌, ◌≤◌, ◌++◌, ◌∷◌, [], ℕ, List, length, map, MatchOption, IfOk, replicate, IfSome, OnOk, Option, Some, None, true};
 ghost use Rattle.std.specs.List.{All, flat_map};
-ghost use Rattle.pep440_compiled.specs.KeyParts.{suffix_bytes};
+ghost use Rattle.pep440_compiled.specs.KeyParts.{BeginsOtherwise, ending_zeros, suffix_bytes};
 ghost use Rattle.pep440_compiled.specs.Version.{IsParsed};
 ghost use Rattle.pep440_compiled.specs.KeyViews.{IsViewOf};
 ghost use Rattle.pep440_keys.specs.SortKeys.{HasNoZero, local_bytes, needed_bytes, number_bytes, rank_bytes, segment_bytes};
@@ -9,16 +10,20 @@ ghost use Rattle.pep440_version.specs.Key.{dev_of, dev_rank, post_of, post_rank,
 ghost use Rattle.pep440_version.specs.Record.{Fits, LocalSegmentValue, Record, SegmentFits, from_parts};
 ghost use Rattle.pep440_version.specs.RoundTrip.{SegmentRereads};
 ghost use Rattle.pep440_version.specs.Segments.{segment};
+ghost use Rattle.pep440_version.specs.Trim.{trim};
 ghost use Rattle.pep440_version.specs.declared.prerelease.Prerelease.{Prerelease};
 
 use crate::key_parts::skip_text;
 use crate::views::VersionView;
+use pep440_version::key::trim_trailing_zeros;
 use pep440_version::{LocalSegment, Prerelease, PrereleaseKind, Version};
+use smallvec::SmallVec;
 use std::alloc::{AllocError, Global};
 
-// The number of these bytes, the greatest first.
-fn to_number(bytes: &[u8]) -> Option<u64>
-    ensures { (n : ℕ) → Fits n → bytes.now ≡ needed_bytes n → result ≡ Some n }
+// The number of these bytes, the most significant first.
+fn to_long_number(bytes: &[u8]) -> Option<u64>
+    ensures found { (n : ℕ) → Fits n → bytes.now ≡ needed_bytes n → result ≡ Some n }
+    ensures exact { BeginsOtherwise 0 bytes.now → IfSome result (λ n. bytes.now ≡ needed_bytes n) }
 {
     let start = 8_usize.checked_sub(bytes.len())?;
     let mut padded = [0; 8];
@@ -26,13 +31,41 @@ fn to_number(bytes: &[u8]) -> Option<u64>
     Some(u64::from_be_bytes(padded))
 }
 
+// The same, of the bytes that the number needs. Most numbers need one or none.
+fn to_number(bytes: &[u8]) -> Option<u64>
+    ensures found { (n : ℕ) → Fits n → bytes.now ≡ needed_bytes n → result ≡ Some n }
+    ensures exact { IfSome result (λ n. bytes.now ≡ needed_bytes n) }
+{
+    let Some((first, rest)) = bytes.split_first() else {
+        return Some(0);
+    };
+    if *first == 0 {
+        return None;
+    }
+    if rest.is_empty() {
+        return Some(u64::from(*first));
+    }
+    to_long_number(bytes)
+}
+
 // A number of so many bytes, and the rest.
 fn read_number(count: u8, bytes: &[u8]) -> Option<(u64, &[u8])>
     ensures found { (n : ℕ) (rest : List ℕ) → Fits n → count ≡ length (needed_bytes n) → bytes.now ≡ needed_bytes n ++ rest → MatchOption result ⊥ (λ p. (p.0 ≡ n) × (p.1.now ≡ rest)) }
+    ensures exact { IfSome result (λ p. (count ≡ length (needed_bytes p.0)) × (bytes.now ≡ needed_bytes p.0 ++ p.1.now)) }
     ensures shorter { IfSome result (λ p. length p.1.now ≤ length bytes.now) }
 {
     let (number, rest) = bytes.split_at_checked(usize::from(count))?;
     Some((to_number(number)?, rest))
+}
+
+// The epoch, and the rest.
+fn read_epoch(bytes: &[u8]) -> Option<(u64, &[u8])>
+    ensures found { (n : ℕ) (rest : List ℕ) → Fits n → bytes.now ≡ number_bytes 0 n ++ rest → MatchOption result ⊥ (λ p. (p.0 ≡ n) × (p.1.now ≡ rest)) }
+    ensures exact { IfSome result (λ p. bytes.now ≡ number_bytes 0 p.0 ++ p.1.now) }
+{
+    let (first, rest) = bytes.split_first()?;
+    let (number, rest) = read_number(*first, rest)?;
+    Some((number, rest))
 }
 
 // A rank and its number, as any bytes have them.
@@ -44,7 +77,8 @@ struct RankAndNumber {
 
 // A rank and its number, and the rest.
 fn read_ranked_number(bytes: &[u8]) -> Option<(RankAndNumber, &[u8])>
-    ensures { (rank n : ℕ) (rest : List ℕ) → rank < 16 → Fits n → bytes.now ≡ rank_bytes (rank, n) ++ rest → MatchOption result ⊥ (λ p. (p.0.rank ≡ rank) × (p.0.number ≡ n) × (p.1.now ≡ rest)) }
+    ensures found { (rank n : ℕ) (rest : List ℕ) → rank < 16 → Fits n → bytes.now ≡ rank_bytes (rank, n) ++ rest → MatchOption result ⊥ (λ p. (p.0.rank ≡ rank) × (p.0.number ≡ n) × (p.1.now ≡ rest)) }
+    ensures exact { IfSome result (λ p. bytes.now ≡ rank_bytes (p.0.rank, p.0.number) ++ p.1.now) }
 {
     let (first, rest) = bytes.split_first()?;
     let (number, rest) = read_number(*first % 16, rest)?;
@@ -53,10 +87,14 @@ fn read_ranked_number(bytes: &[u8]) -> Option<(RankAndNumber, &[u8])>
 }
 
 // Release numbers up to the 0 that ends them, and the rest.
-fn read_numbers(alloc: Global, bytes: &[u8]) -> Result<Option<(Vec<u64>, &[u8])>, AllocError>
-    ensures { (numbers rest : List ℕ) → All Fits numbers → bytes.now ≡ flat_map (number_bytes 1) numbers ++ 0 ∷ rest → IfOk result (λ o. MatchOption o ⊥ (λ p. (p.0.items ≡ numbers) × (p.1.now ≡ rest))) }
+fn read_numbers(
+    alloc: Global,
+    bytes: &[u8],
+) -> Result<Option<(SmallVec<u64, 4>, &[u8])>, AllocError>
+    ensures found { (numbers rest : List ℕ) → All Fits numbers → bytes.now ≡ flat_map (number_bytes 1) numbers ++ 0 ∷ rest → IfOk result (λ o. MatchOption o ⊥ (λ p. (p.0.items ≡ numbers) × (p.1.now ≡ rest))) }
+    ensures exact { IfOk result (λ o. IfSome o (λ p. bytes.now ≡ flat_map (number_bytes 1) p.0.items ++ 0 ∷ p.1.now)) }
 {
-    let mut numbers = Vec::new(alloc);
+    let mut numbers = SmallVec::new(alloc);
     let mut left = bytes;
     while let Some((first, later)) = left.split_first() {
         if *first == 0 {
@@ -71,9 +109,50 @@ fn read_numbers(alloc: Global, bytes: &[u8]) -> Result<Option<(Vec<u64>, &[u8])>
     Ok(None)
 }
 
+// Appends zeros.
+fn push_zeros(numbers: &mut SmallVec<u64, 4>, zeros: usize) -> Result<(), AllocError>
+    ensures { OnOk result (numbers.new.items ≡ numbers.old.items ++ replicate zeros 0) }
+{
+    for _ in 0..zeros {
+        numbers.push(0)?;
+    }
+    Ok(())
+}
+
+// No zero ends the numbers.
+fn are_trimmed(numbers: &[u64]) -> bool
+    ensures { (result ≡ true) ↔ (trim numbers.now ≡ numbers.now) }
+{
+    trim_trailing_zeros(numbers).len() == numbers.len()
+}
+
+// The release, which ends in so many zeros that the key leaves out; and the rest.
+fn read_release(
+    alloc: Global,
+    bytes: &[u8],
+    zeros: usize,
+) -> Result<Option<(SmallVec<u64, 4>, &[u8])>, AllocError>
+    ensures found { (release rest : List ℕ) → All Fits (trim release) → 0 < length release → zeros ≡ ending_zeros release → bytes.now ≡ flat_map (number_bytes 1) (trim release) ++ 0 ∷ rest → IfOk result (λ o. MatchOption o ⊥ (λ p. (p.0.items ≡ release) × (p.1.now ≡ rest))) }
+    ensures exact { IfOk result (λ o. IfSome o (λ p. (zeros ≡ ending_zeros p.0.items) × (bytes.now ≡ flat_map (number_bytes 1) (trim p.0.items) ++ 0 ∷ p.1.now))) }
+    ensures some { IfOk result (λ o. IfSome o (λ p. 0 < length p.0.items)) }
+{
+    let Some((mut numbers, rest)) = read_numbers(alloc, bytes)? else {
+        return Ok(None);
+    };
+    if !are_trimmed(numbers.as_slice()) {
+        return Ok(None);
+    }
+    push_zeros(&mut numbers, zeros)?;
+    if numbers.as_slice().is_empty() {
+        return Ok(None);
+    }
+    Ok(Some((numbers, rest)))
+}
+
 // Up to the first 0, and what follows it.
 fn split_text(bytes: &[u8]) -> Option<(&[u8], &[u8])>
     ensures found { (text rest : List ℕ) → All (λ b. 0 < b) text → bytes.now ≡ text ++ 0 ∷ rest → MatchOption result ⊥ (λ p. (p.0.now ≡ text) × (p.1.now ≡ rest)) }
+    ensures exact { IfSome result (λ p. bytes.now ≡ p.0.now ++ 0 ∷ p.1.now) }
     ensures shorter { IfSome result (λ p. length p.1.now < length bytes.now) }
 {
     let rest = skip_text(bytes)?;
@@ -88,6 +167,7 @@ fn read_segment(
 ) -> Result<Option<(LocalSegment, &[u8])>, AllocError>
     requires { 0 < first }
     ensures found { (s : LocalSegmentValue) (rest : List ℕ) → SegmentFits s → SegmentRereads s → first ∷ bytes.now ≡ segment_bytes s ++ rest → IfOk result (λ o. MatchOption o ⊥ (λ p. (segment p.0 ≡ s) × (p.1.now ≡ rest))) }
+    ensures exact { IfOk result (λ o. IfSome o (λ p. first ∷ bytes.now ≡ segment_bytes (segment p.0) ++ p.1.now)) }
     ensures shorter { IfOk result (λ o. IfSome o (λ p. length p.1.now ≤ length bytes.now)) }
 {
     if first > 1 {
@@ -105,14 +185,18 @@ fn read_segment(
     Ok(Some((LocalSegment::String(String::from_str(alloc, text)?), rest)))
 }
 
-// A local part.
+// A local part, after which nothing follows.
 fn read_local(alloc: Global, bytes: &[u8]) -> Result<Option<Vec<LocalSegment>>, AllocError>
-    ensures { (local : List LocalSegmentValue) → All SegmentFits local → All SegmentRereads local → bytes.now ≡ local_bytes local → IfOk result (λ o. MatchOption o ⊥ (λ segments. map segment segments.items ≡ local)) }
+    ensures found { (local : List LocalSegmentValue) → All SegmentFits local → All SegmentRereads local → bytes.now ≡ local_bytes local → IfOk result (λ o. MatchOption o ⊥ (λ segments. map segment segments.items ≡ local)) }
+    ensures exact { IfOk result (λ o. IfSome o (λ segments. bytes.now ≡ local_bytes (map segment segments.items))) }
 {
     let mut segments = Vec::new(alloc);
     let mut left = bytes;
     while let Some((first, later)) = left.split_first() {
         if *first == 0 {
+            if !later.is_empty() {
+                return Ok(None);
+            }
             return Ok(Some(segments));
         }
         let Some((part, rest)) = read_segment(alloc, *first, later)? else {
@@ -124,37 +208,58 @@ fn read_local(alloc: Global, bytes: &[u8]) -> Result<Option<Vec<LocalSegment>>, 
     Ok(None)
 }
 
-// The pre-release of a stage.
-fn pre_of_stage(stage: RankAndNumber) -> Option<Prerelease>
-    ensures { (pre : Option Prerelease) (dev post : Option ℕ) → (stage.rank, stage.number) ≡ stage_rank (stage_of None pre dev post None) → result ≡ pre }
+// The rank of the stage of a version without a pre-release: a dev release counts here only by itself.
+fn rank_without_pre(post: Option<u64>, dev: Option<u64>) -> u8
+    ensures { (result, 0) ≡ stage_rank (stage_of None None dev post None) }
 {
+    if dev.is_some() && post.is_none() {
+        1
+    } else {
+        5
+    }
+}
+
+// The pre-release of a stage, beside these parts.
+fn pre_of_stage(
+    stage: RankAndNumber,
+    post: Option<u64>,
+    dev: Option<u64>,
+) -> Option<Option<Prerelease>>
+    ensures found { (pre : Option Prerelease) → (stage.rank, stage.number) ≡ stage_rank (stage_of None pre dev post None) → MatchOption result ⊥ (λ found. found ≡ pre) }
+    ensures exact { IfSome result (λ pre. (stage.rank, stage.number) ≡ stage_rank (stage_of None pre dev post None)) }
+{
+    let number = stage.number;
+    if stage.rank == rank_without_pre(post, dev) && number == 0 {
+        return Some(None);
+    }
     let kind = match stage.rank {
         2 => PrereleaseKind::Alpha,
         3 => PrereleaseKind::Beta,
         4 => PrereleaseKind::Rc,
         _ => return None,
     };
-    let number = stage.number;
-    Some(Prerelease { kind, number })
+    Some(Some(Prerelease { kind, number }))
 }
 
-fn post_number(post: RankAndNumber) -> Option<u64>
-    ensures { (number : Option ℕ) → (post.rank, post.number) ≡ post_rank (post_of None number) → result ≡ number }
+fn post_number(post: RankAndNumber) -> Option<Option<u64>>
+    ensures found { (number : Option ℕ) → (post.rank, post.number) ≡ post_rank (post_of None number) → MatchOption result ⊥ (λ found. found ≡ number) }
+    ensures exact { IfSome result (λ number. (post.rank, post.number) ≡ post_rank (post_of None number)) }
 {
-    if post.rank == 1 {
-        Some(post.number)
-    } else {
-        None
+    match (post.rank, post.number) {
+        (0, 0) => Some(None),
+        (1, number) => Some(Some(number)),
+        _ => None,
     }
 }
 
-fn dev_number(dev: RankAndNumber) -> Option<u64>
-    ensures { (number : Option ℕ) → (dev.rank, dev.number) ≡ dev_rank (dev_of None number) → result ≡ number }
+fn dev_number(dev: RankAndNumber) -> Option<Option<u64>>
+    ensures found { (number : Option ℕ) → (dev.rank, dev.number) ≡ dev_rank (dev_of None number) → MatchOption result ⊥ (λ found. found ≡ number) }
+    ensures exact { IfSome result (λ number. (dev.rank, dev.number) ≡ dev_rank (dev_of None number)) }
 {
-    if dev.rank == 0 {
-        Some(dev.number)
-    } else {
-        None
+    match (dev.rank, dev.number) {
+        (0, number) => Some(Some(number)),
+        (1, 0) => Some(None),
+        _ => None,
     }
 }
 
@@ -167,27 +272,16 @@ struct SuffixParts {
 }
 
 fn read_suffix(bytes: &[u8]) -> Option<(SuffixParts, &[u8])>
-    ensures { (r : Record) (rest : List ℕ) → IsParsed r → bytes.now ≡ suffix_bytes r ++ rest → MatchOption result ⊥ (λ p. (p.0.pre ≡ r.pre) × (p.0.post ≡ r.post) × (p.0.dev ≡ r.dev) × (p.1.now ≡ rest)) }
+    ensures found { (r : Record) (rest : List ℕ) → IsParsed r → bytes.now ≡ suffix_bytes r ++ rest → MatchOption result ⊥ (λ p. (p.0.pre ≡ r.pre) × (p.0.post ≡ r.post) × (p.0.dev ≡ r.dev) × (p.1.now ≡ rest)) }
+    ensures exact { IfSome result (λ p. bytes.now ≡ suffix_bytes (from_parts 0 [] p.0.pre p.0.post p.0.dev []) ++ p.1.now) }
 {
     let (stage, rest) = read_ranked_number(bytes)?;
-    let (post, rest) = read_ranked_number(rest)?;
-    let (dev, rest) = read_ranked_number(rest)?;
-    let parts = SuffixParts {
-        pre: pre_of_stage(stage),
-        post: post_number(post),
-        dev: dev_number(dev),
-    };
-    Some((parts, rest))
-}
-
-// The release, whose last zeros the key leaves out.
-fn push_zeros(numbers: &mut Vec<u64>, zeros: usize) -> Result<(), AllocError>
-    ensures { OnOk result (numbers.new.items ≡ numbers.old.items ++ replicate zeros 0) }
-{
-    for _ in 0..zeros {
-        numbers.push(0)?;
-    }
-    Ok(())
+    let (post_rank, rest) = read_ranked_number(rest)?;
+    let (dev_rank, rest) = read_ranked_number(rest)?;
+    let post = post_number(post_rank)?;
+    let dev = dev_number(dev_rank)?;
+    let pre = pre_of_stage(stage, post, dev)?;
+    Some((SuffixParts { pre, post, dev }, rest))
 }
 
 fn assemble(
@@ -200,12 +294,15 @@ fn assemble(
     requires { 0 < length release.now }
     ensures { IfOk result (λ v. v ≡ from_parts epoch release.now suffix.pre suffix.post suffix.dev (map segment local.items)) }
 {
-    Version::new(alloc, release)?
+    let version = Version::new(alloc, release)?
         .with_pre(alloc, suffix.pre)?
         .with_post(alloc, suffix.post)?
         .with_dev(alloc, suffix.dev)?
-        .with_epoch(alloc, epoch)?
-        .with_local(alloc, local)
+        .with_epoch(alloc, epoch)?;
+    if local.is_empty() {
+        return Ok(version);
+    }
+    version.with_local(alloc, local)
 }
 
 // The version of this sort key, with so many zeros at the end of its release.
@@ -213,24 +310,21 @@ pub(crate) fn decode_version(
     alloc: Global,
     view: VersionView<'_>,
 ) -> Result<Option<Version>, AllocError>
-    ensures { (r : Record) → IsViewOf view.entry r → IfOk result (λ o. o ≡ Some r) }
+    ensures found { (r : Record) → IsViewOf view.entry r → IfOk result (λ o. o ≡ Some r) }
+    ensures exact { IfOk result (λ o. IfSome o (λ version. IsParsed version → IsViewOf view.entry version)) }
 {
-    let Some((epoch, rest)) = read_ranked_number(view.key) else {
+    let Some((epoch, rest)) = read_epoch(view.key) else {
         return Ok(None);
     };
-    let Some((mut release, rest)) = read_numbers(alloc, rest)? else {
+    let Some((release, rest)) = read_release(alloc, rest, view.zeros)? else {
         return Ok(None);
     };
-    push_zeros(&mut release, view.zeros)?;
     let Some((suffix, rest)) = read_suffix(rest) else {
         return Ok(None);
     };
     let Some(local) = read_local(alloc, rest)? else {
         return Ok(None);
     };
-    if release.is_empty() {
-        return Ok(None);
-    }
-    let version = assemble(alloc, epoch.number, &release, suffix, local)?;
+    let version = assemble(alloc, epoch, release.as_slice(), suffix, local)?;
     Ok(Some(version))
 }

@@ -1,5 +1,5 @@
 //! The parts of a sort key, found in its bytes. What is returned of other bytes is not specified.
-ghost use Rattle.std.specs.Prelude.{◌≡◌, ◌<◌, ◌≤◌, ◌++◌, ◌∷◌, [], ℕ, List, is_some, length, map, IfSome, MatchOption};
+ghost use Rattle.std.specs.Prelude.{◌≡◌, ◌<◌, ◌≤◌, ◌++◌, ◌∷◌, [], ℕ, List, is_some, length, map, replicate, IfSome, MatchOption};
 ghost use Rattle.std.specs.List.{All, flat_map};
 ghost use Rattle.pep440_compiled.specs.KeyParts.{BeginsOtherwise, base_bytes, suffix_bytes};
 ghost use Rattle.pep440_compiled.specs.Version.{IsParsed};
@@ -69,6 +69,7 @@ pub(crate) fn split_suffix(bytes: &[u8]) -> Option<(Suffix, &[u8])>
 // What follows a string and the 0 that ends it.
 pub(crate) fn skip_text(bytes: &[u8]) -> Option<&[u8]>
     ensures found { (text rest : List ℕ) → All (λ b. 0 < b) text → bytes.now ≡ text ++ 0 ∷ rest → MatchOption result ⊥ (λ r. r.now ≡ rest) }
+    ensures exact { IfSome result (λ r. (text : List ℕ) × (bytes.now ≡ text ++ 0 ∷ r.now)) }
     ensures shorter { IfSome result (λ r. length r.now < length bytes.now) }
 {
     let mut left = bytes;
@@ -127,6 +128,7 @@ pub(crate) fn skip_zeros(bytes: &[u8]) -> &[u8]
 // The bytes without the zeros of a release at their end, a byte 1 each.
 pub(crate) fn trim_zeros(bytes: &[u8]) -> &[u8]
     ensures found { (key numbers : List ℕ) → bytes.now ≡ (key ++ 0 ∷ []) ++ map (λ n. 1) numbers → result.now ≡ key ++ 0 ∷ [] }
+    ensures exact { (zeros : ℕ) × (bytes.now ≡ result.now ++ replicate zeros 1) }
     ensures shorter { length result.now ≤ length bytes.now }
 {
     let mut left = bytes;

@@ -1,5 +1,5 @@
 //! Compiled versions: made, read, compared.
-ghost use Rattle.std.specs.Prelude.{◌≡◌, ◌↔◌, ◌++◌, true, Ok, IfErr, IfOk, MatchResult, OnOk, string_bytes};
+ghost use Rattle.std.specs.Prelude.{◌≡◌, ◌++◌, Ok, IfErr, IfOk, MatchResult, OnOk, string_bytes};
 ghost use Rattle.pep440_compiled.specs.Version.{DenotesVersion, HasVersionFormat, IsParsed, compiled_bytes, version_bytes, zero_bytes};
 ghost use Rattle.pep440_compiled.specs.declared.error.CompileError.TheVariants.{NotParsed};
 ghost use Rattle.pep440_compiled.specs.declared.error.CompiledError.TheVariants as unread;
@@ -63,17 +63,6 @@ pub fn compile_version(alloc: Global, version: &Version) -> Result<Vec<u8>, Comp
     Ok(bytes)
 }
 
-// The bytes are the compiled form of this version.
-fn is_compiled_form(alloc: Global, version: &Version, bytes: &[u8]) -> Result<bool, AllocError>
-    ensures { IfOk result (λ b. (b ≡ true) ↔ DenotesVersion bytes.now version.now) }
-{
-    match compile_version(alloc, version) {
-        Ok(compiled) => Ok(compiled.as_slice() == bytes),
-        Err(CompileError::NotParsed) => Ok(false),
-        Err(CompileError::OutOfMemory) => Err(AllocError),
-    }
-}
-
 /// The version that the bytes denote; `NotCompiled` if they denote none.
 ///
 /// Allocates, and may return `OutOfMemory`.
@@ -87,8 +76,8 @@ pub fn read_version(alloc: Global, bytes: &[u8]) -> Result<Version, CompiledErro
     let Some(version) = decode_version(alloc, view)? else {
         return Err(CompiledError::NotCompiled);
     };
-    // Bytes that no version compiles to are decoded to something, too.
-    if !is_compiled_form(alloc, &version, bytes)? {
+    // Decoding does not test the characters of a local part.
+    if !is_parsed(&version) {
         return Err(CompiledError::NotCompiled);
     }
     Ok(version)

@@ -1,5 +1,5 @@
 //! Compiled versions as they lie: where their parts are.
-ghost use Rattle.std.specs.Prelude.{◌≡◌, ◌↔◌, ◌<◌, ◌++◌, List, ℕ, true, length, IfSome, MatchOption};
+ghost use Rattle.std.specs.Prelude.{◌≡◌, ◌↔◌, ◌<◌, ◌++◌, ◌∷◌, List, ℕ, true, length, replicate, IfSome, MatchOption};
 ghost use Rattle.pep440_compiled.specs.KeyParts.{BeginsOtherwise};
 ghost use Rattle.pep440_compiled.specs.Version.{DenotesVersion, HasVersionFormat, IsParsed, version_bytes};
 ghost use Rattle.pep440_compiled.specs.KeyViews.{HasParts, IsViewOf};
@@ -38,6 +38,7 @@ pub fn has_version_format(bytes: &[u8]) -> bool
 // The compiled version.
 pub(crate) fn view_version(bytes: &[u8]) -> Option<VersionView<'_>>
     ensures found { (r : Record) → DenotesVersion bytes.now r → MatchOption result ⊥ (λ view. IsViewOf view r) }
+    ensures exact { IfSome result (λ view. bytes.now ≡ 4 ∷ (view.key.now ++ replicate view.zeros 1)) }
     ensures format { MatchOption result (¬ HasVersionFormat bytes.now) (λ _. HasVersionFormat bytes.now) }
 {
     let (format, rest) = bytes.split_first()?;

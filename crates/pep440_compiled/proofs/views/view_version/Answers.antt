@@ -3,6 +3,7 @@ use Rattle.std.proofs.lemmas.List.{length-append}
 use Rattle.std.specs.List.{flat_map}
 use Rattle.std.specs.Prelude.{drop}
 use Rattle.pep440_compiled.proofs.Keys.{key_ends, zeros_length}
+use Rattle.pep440_compiled.proofs.Rewritten.{view_again}
 use Rattle.pep440_compiled.proofs.views.view_version.Goals as goal
 use Rattle.pep440_compiled.specs.KeyParts.{public_bytes}
 use Rattle.pep440_compiled.specs.Version.{zero_bytes}
@@ -18,3 +19,8 @@ returns-clause-found c r d =
       key = found ∙ sym (key_ends r);
       zeros = omega (arith, ap length rest, length-append (key_bytes r) (zero_bytes r.release), ap length (found ∙ sym (key_ends r)), zeros_length r.release);
     }
+
+pub returns-clause-exact : goal.returns-clause-exact
+returns-clause-exact c =
+    let split = c.trim_zeros-key.ensures.exact in
+    view_again c.args.bytes.now c.in_ok-format.rest.now c.trim_zeros-key.result.now c.in_ok-format.format.now split.0 c.in_ok-format.ensures.cases.0 (omega arith) split.1
