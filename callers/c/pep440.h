@@ -194,7 +194,7 @@ uint8_t pep440_contains(const uint8_t *list, size_t list_length, const uint8_t *
 /* Writes to `allowed` whether the list contains the version, 1 or 0, with pre-releases and
    developmental releases left out (PEP 440, "Handling of pre-releases") unless the list asks for
    them, which it does if a specifier with another operator than `!=` has such a version. So `>=1.0`
-   does not allow `2.0rc1`, `>=1.0,!=1.5rc1` neither, and `>=1.0rc1` does. The rule is that of
+   does not allow `2.0rc1`, `>=1.0,!=1.5rc1` neither, and `>=1.0rc1` does. So does
    SpecifierSet.contains of `packaging` 25.0. Errors as of pep440_contains. */
 uint8_t pep440_allows(const uint8_t *list, size_t list_length, const uint8_t *version,
                       size_t length, uint8_t *allowed);
@@ -202,6 +202,14 @@ uint8_t pep440_allows(const uint8_t *list, size_t list_length, const uint8_t *ve
 /* Writes to `any` whether the version of some specifier of the list is a pre-release or a
    developmental release, 1 or 0: of any operator, also `!=`, which `packaging` does not count. */
 uint8_t pep440_any_prerelease(const uint8_t *list, size_t length, uint8_t *any);
+
+/* Writes a version that the list contains, as `1.16` of `>=1.16`, and 0 bytes if it contains none, as
+   of `>1, <1`; `out` and `written` as for pep440_normalize. It decides exactly for each list of a
+   string, where ranges do not: `==1.0+cu1, <=1.0` has no range, yet contains `1.0+cu1`. To know
+   whether two lists have a version in common, ask both strings with a comma between them. The time
+   grows with the square of the number of specifiers. */
+uint8_t pep440_version_in(const uint8_t *list, size_t length, uint8_t *out, size_t size,
+                          size_t *written);
 
 /* The kind of a pre-release. */
 enum { PEP440_NO_PRE = 0, PEP440_ALPHA = 1, PEP440_BETA = 2, PEP440_RC = 3 };

@@ -190,6 +190,10 @@ static void take_apart(void)
     hold(pep440_parts_of(VERSION("1.2.3.4.5"), &parts, release, 4) == PEP440_NO_ROOM && parts.release_length == 5, "no room, and how much is needed");
 
     /* The end of this range would have a number that is too big. */
+    hold(pep440_version_in(LIST("!=1.5, >=1.16"), out, sizeof out, &written) == PEP440_OK && written == 4 && memcmp(out, "1.16", 4) == 0, "a version in the list");
+    hold(pep440_version_in(LIST("==1.0+cu1, <=1.0"), out, sizeof out, &written) == PEP440_OK && written == 7 && memcmp(out, "1.0+cu1", 7) == 0, "a local version");
+    hold(pep440_version_in(LIST(">=1, <=1, !=1"), out, sizeof out, &written) == PEP440_OK && written == 0, "no version in the list");
+    hold(pep440_version_in(LIST("=1.0"), out, sizeof out, &written) == PEP440_INVALID_LIST, "no list, so no version in it");
     hold(pep440_ranges(LIST("==18446744073709551615.*"), out, sizeof out, &written) == PEP440_NUMBER_AT_MAX, "no range");
     hold(pep440_ranges(LIST("=1.0"), out, sizeof out, &written) == PEP440_INVALID_LIST, "no list, so no range");
     hold(pep440_ranges(LIST(">1.0,<1.0"), out, sizeof out, &written) == PEP440_OK, "no version");

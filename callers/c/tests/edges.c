@@ -62,6 +62,7 @@ static uint8_t compile_specifier(void) { return pep440_compile_specifier(IN, OUT
 static uint8_t normalize_list(void) { return pep440_normalize_list(IN, OUT); }
 static uint8_t list_error(void) { return pep440_list_error(IN, OUT); }
 static uint8_t compile_list(void) { return pep440_compile_list(IN, OUT); }
+static uint8_t version_in(void) { return pep440_version_in(IN, OUT); }
 static uint8_t ranges(void) { return pep440_ranges(IN, OUT); }
 static uint8_t any_prerelease(void) { return pep440_any_prerelease(IN, flag); }
 static uint8_t specifiers_of(void) { return pep440_specifiers_of(IN, KEYS); }
@@ -99,7 +100,7 @@ static const struct {
     {"specifier_error", specifier_error, "s", ">=1.0prev", "", PEP440_OK},
     {"compile_specifier", compile_specifier, "s", "===" LONG, "", PEP440_OK}, {"normalize_list", normalize_list, "l", LIST, "", PEP440_OK},
     {"list_error", list_error, "l", LIST, "", PEP440_OK}, {"list_error, why", list_error, "s", LIST ",=<1", "", PEP440_OK},
-    {"compile_list", compile_list, "l", LIST, "", PEP440_OK}, {"ranges", ranges, "l", ">=1.16, !=1.17, <2.0", "", PEP440_OK},
+    {"compile_list", compile_list, "l", LIST, "", PEP440_OK}, {"version_in", version_in, "l", ">=1.16, !=1.17, <2.0", "", PEP440_OK}, {"ranges", ranges, "l", ">=1.16, !=1.17, <2.0", "", PEP440_OK},
     {"any_prerelease", any_prerelease, "l", LIST, "", PEP440_OK}, {"specifiers_of", specifiers_of, "l", LIST, "", PEP440_OK},
     {"range_keys", range_keys, "l", ">=1.16, !=1.17, <2.0", "", PEP440_OK}, {"cover_keys", cover_keys, "l", ">=1.16, <=2.0", "", PEP440_OK},
     {"range_bounds", range_bounds, "l", ">=1.16, !=1.17, <2.0", "", PEP440_OK},

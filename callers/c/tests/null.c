@@ -50,6 +50,7 @@ static void strings(void)
     hold(pep440_allows(NONE, (const uint8_t *)"1", 1, &is) == PEP440_OK && is == 1, "allows, list");
     hold(pep440_allows(EMPTY, NONE, &is) == PEP440_INVALID_VERSION, "allows, version");
     hold(pep440_any_prerelease(NONE, &is) == PEP440_OK && is == 0, "any_prerelease");
+    hold(pep440_version_in(NONE, out, sizeof out, &written) == PEP440_OK && written == 1 && out[0] == '0', "version_in");
     hold(pep440_ranges(NONE, out, sizeof out, &written) == PEP440_OK && written == 7, "ranges");
     hold(pep440_specifiers_of(NONE, NONE, NONE, &written, &count) == PEP440_OK && written == 0 && count == 0, "specifiers_of");
     hold(pep440_range_bounds(NONE, NONE, NONE, &written, &count) == PEP440_NO_ROOM && written == 2 && count == 2, "range_bounds");

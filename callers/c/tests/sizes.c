@@ -139,6 +139,7 @@ static void of_lists(const char *before, const char *part, size_t size)
 static void of_either_range(pep440_string list, const char *part, size_t size)
 {
     CHECK(pep440_ranges(PARSED(list), OUT));
+    CHECK(pep440_version_in(PARSED(list), OUT));
     CHECK(pep440_range_keys(PARSED(list), KEYS));
     CHECK(pep440_cover_keys(PARSED(list), KEYS));
     CHECK(pep440_range_bounds(PARSED(list), KEYS));

@@ -39,6 +39,7 @@ static void *any_prerelease(void *unused) { pep440_any_prerelease(LIST, &flag); 
 static void *parts_of(void *unused) { pep440_parts_of(GIVEN, &parts, release, LONG); return unused; }
 static void *sort_key(void *unused) { pep440_sort_key(GIVEN, OUT); return unused; }
 static void *word(void *unused) { pep440_word(GIVEN, &packed); return unused; }
+static void *version_in(void *unused) { pep440_version_in(LIST, OUT); return unused; }
 static void *ranges(void *unused) { pep440_ranges(LIST, OUT); return unused; }
 static void *specifiers_of(void *unused)
 {
@@ -105,7 +106,7 @@ static const struct {
              {"parts_of", parts_of},
              {"sort_key", sort_key},
              {"word", word},
-             {"ranges", ranges},
+             {"version_in", version_in}, {"ranges", ranges},
              {"pattern_error", pattern_error},
              {"specifier_error", specifier_error},
              {"range_bounds", range_bounds},

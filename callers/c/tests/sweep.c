@@ -111,6 +111,8 @@ static uint8_t list_error(Answer *answer) { return pep440_list_error(FIRST(no_li
 static uint8_t list_error_cut(Answer *answer) { return pep440_list_error(FIRST(cut_list), OUT); }
 static uint8_t any_prerelease(Answer *answer) { return pep440_any_prerelease(FIRST(early), &answer->is); }
 static uint8_t specifiers_of(Answer *answer) { return pep440_specifiers_of(FIRST(members), KEYS); }
+static uint8_t version_in(Answer *answer) { return pep440_version_in(FIRST(members), OUT); }
+static uint8_t version_in_no_list(Answer *answer) { return pep440_version_in(FIRST(no_list), OUT); }
 static uint8_t ranges(Answer *answer) { return pep440_ranges(FIRST(members), OUT); }
 static uint8_t ranges_at_max(Answer *answer) { return pep440_ranges(FIRST(at_max), OUT); }
 static uint8_t ranges_no_list(Answer *answer) { return pep440_ranges(FIRST(no_list), OUT); }
@@ -194,6 +196,8 @@ static const Call CALLS[] = {
     CALL(list_error, PEP440_OK, 1),
     CALL(any_prerelease, PEP440_OK, 1),
     CALL(specifiers_of, PEP440_OK, 1),
+    CALL(version_in, PEP440_OK, 1),
+    CALL(version_in_no_list, PEP440_INVALID_LIST, 1),
     CALL(ranges, PEP440_OK, 1),
     CALL(ranges_at_max, PEP440_NUMBER_AT_MAX, 1),
     CALL(ranges_no_list, PEP440_INVALID_LIST, 1),

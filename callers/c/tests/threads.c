@@ -75,6 +75,7 @@ static void of_list(Memory *m, pep440_string list)
     fold(m, pep440_compile_list(OF(list), OUT));
     fold(m, pep440_compile_specifier(OF(list), OUT));
     fold(m, pep440_ranges(OF(list), OUT));
+    fold(m, pep440_version_in(OF(list), OUT));
     fold(m, pep440_range_keys(OF(list), KEYS));
     fold(m, pep440_cover_keys(OF(list), KEYS));
     fold(m, pep440_range_bounds(OF(list), KEYS));

@@ -13,7 +13,7 @@ use crate::{
     Parts, pep440_any_prerelease, pep440_compare, pep440_contains, pep440_cover_keys,
     pep440_filter, pep440_normalize, pep440_normalize_list, pep440_parts_of, pep440_range_keys,
     pep440_ranges, pep440_sort, pep440_sort_key, pep440_sort_keys, pep440_specifiers_of,
-    pep440_word,
+    pep440_version_in, pep440_word,
 };
 use std::alloc::Global;
 use std::test::Fail;
@@ -27,6 +27,7 @@ enum Call {
     ListError,
     SortKey,
     Ranges,
+    VersionIn,
     // Of something that bytes are never to be.
     NoError,
 }
@@ -39,12 +40,13 @@ fn write(alloc: Global, call: Call, text: &[u8], out: &mut [u8], written: &mut u
         Call::ListError => pep440_error(alloc, 3, text, out, written),
         Call::SortKey => pep440_sort_key(alloc, text, out, written),
         Call::Ranges => pep440_ranges(alloc, text, out, written),
+        Call::VersionIn => pep440_version_in(alloc, text, out, written),
         Call::NoError => pep440_error(alloc, 4, text, out, written),
     }
 }
 
 // Strings for which each call that may allocate does: the version's numbers are too many for one word.
-const WRITTEN: [(Call, &[u8], &[u8]); 11] = [
+const WRITTEN: [(Call, &[u8], &[u8]); 13] = [
     (
         Call::Normalize,
         b" V1.0-Alpha.2-3.DEV+Ubuntu-01 ",
@@ -72,9 +74,11 @@ const WRITTEN: [(Call, &[u8], &[u8]); 11] = [
         b">=1.0,<2.0,!=1.5",
         b"[1.0, 1.5)\n(1.5, 2.0~min0)\n",
     ),
+    (Call::VersionIn, b">=1.2.3.4.5.6", b"1.2.3.4.5.6"),
+    (Call::VersionIn, b"==1.2.3.4.5.6, !=1.2.3.4.5.6", b""),
 ];
 
-const ERRORS: [(Call, &[u8], u8); 10] = [
+const ERRORS: [(Call, &[u8], u8); 11] = [
     (Call::NoError, b"1.0x", 9),
     (Call::Normalize, b"1.2.3.4.5.6x", 1),
     (Call::Normalize, b"1.0\xff", 1),
@@ -84,6 +88,7 @@ const ERRORS: [(Call, &[u8], u8); 10] = [
     (Call::Ranges, b"~1.2.3.4.5.6", 2),
     (Call::Ranges, b">=1.0\xff", 2),
     (Call::Ranges, b"==18446744073709551615.*", 5),
+    (Call::VersionIn, b"~1.2.3.4.5.6", 2),
     (Call::Ranges, b">=1.2.3.4.5.6, ==18446744073709551615.*", 5),
 ];
 

@@ -1,7 +1,7 @@
 //! Test cases: lists and their bytes, and failing allocations.
 use pep440_compiled::{
-    CompileError, CompiledError, NotCompiled, requests_prereleases, compile_list, contains,
-    normalize_list, read_list,
+    CompileError, CompiledError, NotCompiled, compile_list, contains, normalize_list, read_list,
+    requests_prereleases,
 };
 use pep440_rs::{VersionSpecifier, VersionSpecifiers};
 use pep440_version::Version;
