@@ -12,6 +12,7 @@ mod group;
 mod json_string;
 pub mod laws;
 mod line_meaning;
+mod name;
 mod named_files;
 mod pairs;
 mod report;
