@@ -5,7 +5,7 @@ ghost use Rattle.pyver_findings.specs.Demands.{line_demand, cover_or_all, is_pin
 ghost use Rattle.pyver_findings.specs.Views.{demand_of, file_line_of};
 
 use crate::file_line::FileLine;
-use crate::name::normalize_name;
+use crate::normal_name::normalize_name;
 use pep440_pick::Requirement;
 use pep440_rs::{
     Operator, RangeError, Ranges, Version, VersionSpecifier, VersionSpecifiers, specifiers_to_cover,
