@@ -6,7 +6,6 @@ use Rattle.std.proofs.lemmas.List.Folds.{list_any-append}
 use Rattle.std.proofs.lemmas.Slice.Eq.{bytes_eq-Decides}
 use Rattle.std.proofs.lemmas.List.Elements.{All-append, All-cons, All-contains_itself, All-head, All-nil, All-tail}
 use Rattle.std.specs.List.{All, Any, Contains, filter, flat_map, list_any}
-use Rattle.pep440_pick.specs.Names.{normal}
 use Rattle.pyver_findings.proofs.Once.{of_lines}
 use Rattle.pyver_findings.specs.Demands.{Demand}
 use Rattle.pyver_findings.specs.Conflicts.{common_cover, conflicts, counts_under, excludes, first_mentions, is_empty, of_all, of_few, of_name, of_one, of_pairs, of_two, pin_conflict, has_same_marker, same_marker, has_same_name, under}
@@ -196,11 +195,11 @@ module _ {K : Type 0} (key : Demand → K) where
 
 -- ---- names and markers
 
-name_yes : (a b : Demand) → has_same_name a b ≡ true → normal a.name ≡ normal b.name
-name_yes a b e = (bytes_eq-Decides (normal a.name) (normal b.name)).0 e
+name_yes : (a b : Demand) → has_same_name a b ≡ true → a.name ≡ b.name
+name_yes a b e = (bytes_eq-Decides a.name b.name).0 e
 
-name_alike : (a b : Demand) → normal a.name ≡ normal b.name → has_same_name a b ≡ true
-name_alike a b e = (bytes_eq-Decides (normal a.name) (normal b.name)).1 e
+name_alike : (a b : Demand) → a.name ≡ b.name → has_same_name a b ≡ true
+name_alike a b e = (bytes_eq-Decides a.name b.name).1 e
 
 pub marker_yes : (m n : Option (List ℕ)) → same_marker m n ≡ true → m ≡ n
 marker_yes None None e = refl
@@ -302,9 +301,9 @@ in_name lines marker none = by_both lines marker (is_empty (common_cover (under 
 some_found : (lines : List Demand) (a : Demand) (marker : Option (List ℕ)) → Contains lines a → common_cover (under marker (filter (has_same_name a) lines)) ≡ [] → Some_is (Fits (filter (has_same_name a) lines) marker) (conflicts lines)
 some_found lines a marker (k, inside, is) none =
     let P = Fits (filter (has_same_name a) lines) marker in
-    reach (λ (x : Demand). normal x.name) has_same_name name_yes name_alike P (λ (b : Demand). of_name (filter (has_same_name b) lines)) a
-    (λ b e. subst (λ n. Some_is P (of_name (filter (λ (c : Demand). bytes_eq n (normal c.name)) lines))) (sym e) (in_name (filter (has_same_name a) lines) marker none)) [] lines refl
-    (contains_key (λ (x : Demand). normal x.name) a lines k inside is)
+    reach (λ (x : Demand). x.name) has_same_name name_yes name_alike P (λ (b : Demand). of_name (filter (has_same_name b) lines)) a
+    (λ b e. subst (λ n. Some_is P (of_name (filter (λ (c : Demand). bytes_eq n c.name) lines))) (sym e) (in_name (filter (has_same_name a) lines) marker none)) [] lines refl
+    (contains_key (λ (x : Demand). x.name) a lines k inside is)
 
 pub conflicts_have_findings : ConflictsHaveFindings
 conflicts_have_findings files r lines a marker (xs, h, is) (ys, k, are) inside none =

@@ -1,10 +1,10 @@
 -- What is reported: a line by itself is no requirement; lines together count together, and no version is allowed by all.
-use Rattle.std.proofs.Common.{◌≡◌, ◌==◌, ◌⊎◌, ◌∙◌, ℕ, List, [], ◌∷◌, ◌&&◌, ◌||◌, Bool, true, false, IsTrue, Option, Some, None, fold, is_none, length, map, not, refl, sym, ap, subst, inl, inr, if◌then◌else◌}
+use Rattle.std.proofs.Common.{◌≡◌, ◌==◌, ◌⊎◌, ◌∙◌, ℕ, List, [], ◌∷◌, ◌&&◌, ◌||◌, Bool, true, false, IsTrue, Option, Some, None, bytes_eq, fold, is_none, length, map, not, refl, sym, ap, subst, inl, inr, if◌then◌else◌}
 use Rattle.std.proofs.lemmas.Bool.{true≢false}
 use Rattle.std.proofs.lemmas.List.Elements.{All-append, All-cons, All-contains_itself, All-filter, All-head, All-nil, All-tail, filter_passes}
 use Rattle.std.specs.List.{All, AllZip, Contains, filter, flat_map}
 use Rattle.pep440_pick.proofs.Once.{one_requirement}
-use Rattle.pep440_pick.specs.Names.{same_name}
+use Rattle.pep440_pick.specs.Names.{normal}
 use Rattle.pep440_pick.specs.RequirementGrammar.{DerivesRequirement, Needed}
 use Rattle.pep440_ranges.proofs.Laws.{overlaps_hold_both}
 use Rattle.pep440_ranges.specs.Intersection.{overlaps}
@@ -46,9 +46,9 @@ demand_covered l marker n d v denoted (m, dm, hm) =
     list_covered (line_parts l.text).requirement n d (list_range cover_of n.specifiers) refl v denoted
     (subst (λ (q : Needed). IsTrue (list_matches q.specifiers v)) (one_requirement (line_parts l.text).requirement m n dm d) hm)
 
--- the line derives a requirement with the name of the demand, and with a pin where it has one
+-- the line derives a requirement whose name has the normal form of the demand, and with a pin where it has one
 abbrev pub IsDerived : Demand → Type 0
-IsDerived a = (n : Needed) × DerivesRequirement (line_parts a.line.text).requirement n × (n.name ≡ a.name) × (is_pinned n.specifiers ≡ a.pinned)
+IsDerived a = (n : Needed) × DerivesRequirement (line_parts a.line.text).requirement n × (normal n.name ≡ a.name) × (is_pinned n.specifiers ≡ a.pinned)
 
 -- one of these lines asks for it
 abbrev pub IsAsked : List FileLine → Demand → Type 0
@@ -161,10 +161,10 @@ module _ (read : List FileLine) where
 
   module _ (name : List ℕ) where
     abbrev pub IsNamed : Demand → Type 0
-    IsNamed a = IsAsked read a × (same_name name a.name ≡ true)
+    IsNamed a = IsAsked read a × (bytes_eq name a.name ≡ true)
 
     asks_for : (a : Demand) → IsNamed a → AsksFor name a.line
-    asks_for a ((covered, known, (n, d, called, pinned), marked), same) = (n, d, ap (same_name name) called ∙ same)
+    asks_for a ((covered, known, (n, d, called, pinned), marked), same) = (n, d, ap (bytes_eq name) called ∙ same)
 
     counts_line : (marker : Option (List ℕ)) (a : Demand) → IsNamed a → (a.marker ≡ None) ⊎ (a.marker ≡ marker) → CountsUnder marker a.line
     counts_line marker a ((covered, known, derived, marked), same) (inl none) = inl (marked ∙ none)

@@ -1,5 +1,6 @@
 pub mod Steps
 pub mod Reasons
+pub mod Grouping
 pub mod Readings
 pub mod Rejecting
 pub mod Holding

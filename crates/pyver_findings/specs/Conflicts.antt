@@ -2,7 +2,6 @@
 -- a marker.
 use Rattle.std.specs.Prelude.{ℕ, ◌==◌, ◌&&◌, ◌||◌, List, [], ◌∷◌, ◌++◌, Bool, true, false, Option, Some, None, bytes_eq, fold, is_none, length, map, not, if◌then◌else◌}
 use Rattle.std.specs.List.{filter, flat_map, list_any}
-use Rattle.pep440_pick.specs.Names.{same_name}
 use Rattle.pep440_ranges.specs.Intersection.{overlaps}
 use Rattle.pep440_rs.specs.Bounds.{Segments, full}
 use Rattle.pep440_version.specs.Key.{record_cmp}
@@ -15,7 +14,7 @@ use Rattle.pyver_findings.specs.declared.finding.Conflict.TheVariants.{NoVersion
 
 -- the two lines have one name
 abbrev pub has_same_name : Demand → Demand → Bool
-has_same_name a b = same_name a.name b.name
+has_same_name a b = bytes_eq a.name b.name
 
 -- both markers are the same bytes, or there is neither
 abbrev pub same_marker : Option (List ℕ) → Option (List ℕ) → Bool

@@ -1,6 +1,7 @@
--- What a line asks for that is a requirement: a name, under a marker, a pin or none, and the cover of its list.
+-- What a line asks for that is a requirement: a name in its normal form, under a marker, a pin or none, and the cover of its list.
 use Rattle.std.specs.Prelude.{ℕ, List, Bool, true, false, Option, Some, None}
 use Rattle.std.specs.List.{list_any}
+use Rattle.pep440_pick.specs.Names.{normal}
 use Rattle.pep440_pick.specs.RequirementGrammar.{Needed}
 use Rattle.pep440_rs.specs.Bounds.{Segments, full, list_range}
 use Rattle.pep440_rs.specs.Cover.{cover_of}
@@ -37,4 +38,4 @@ cover_or_all list = or_all (list_range cover_of list)
 
 -- what the line asks for
 abbrev pub line_demand : FileLine → Option (List ℕ) → Needed → Demand
-line_demand line marker n = record { line = line; name = n.name; marker = marker; pinned = is_pinned n.specifiers; cover = cover_or_all n.specifiers }
+line_demand line marker n = record { line = line; name = normal n.name; marker = marker; pinned = is_pinned n.specifiers; cover = cover_or_all n.specifiers }

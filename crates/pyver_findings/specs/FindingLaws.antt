@@ -1,10 +1,10 @@
 -- What holds of findings: a line that is reported by itself is no requirement, and each that is none is reported; lines that are
 -- reported together count together and cannot be satisfied, and those that have no version in common are reported; there is one
 -- report.
-use Rattle.std.specs.Prelude.{◌≡◌, ◌⊎◌, ⊤, ℕ, List, [], ◌∷◌, IsTrue, Option, Some, None, map}
+use Rattle.std.specs.Prelude.{◌≡◌, ◌⊎◌, ⊤, ℕ, List, [], ◌∷◌, IsTrue, Option, Some, None, bytes_eq, map}
 use Rattle.std.specs.List.{All, AllZip, Any, Contains, filter, flat_map}
 use Rattle.std.specs.Str.{IsUtf8}
-use Rattle.pep440_pick.specs.Names.{same_name}
+use Rattle.pep440_pick.specs.Names.{normal}
 use Rattle.pep440_pick.specs.RequirementGrammar.{DerivesRequirement, Needed}
 use Rattle.pep440_rs.specs.Cover.{IsDenoted}
 use Rattle.pep440_rs.specs.Matching.{list_matches}
@@ -33,9 +33,9 @@ abbrev pub IsRequirementLine : FileLine → Type 0
 IsRequirementLine l = (line_kind l.text ≡ Requirement) × IsUtf8 (line_parts l.text).requirement
     × ((n : Needed) × DerivesRequirement (line_parts l.text).requirement n × IsComplete (line_parts l.text) n)
 
--- the line asks for this name
+-- the line asks for a name with this normal form
 abbrev pub AsksFor : List ℕ → FileLine → Type 0
-AsksFor name l = (n : Needed) × DerivesRequirement (line_parts l.text).requirement n × IsTrue (same_name name n.name)
+AsksFor name l = (n : Needed) × DerivesRequirement (line_parts l.text).requirement n × IsTrue (bytes_eq name (normal n.name))
 
 -- the line has no marker, or this one
 abbrev pub CountsUnder : Option (List ℕ) → FileLine → Type 0

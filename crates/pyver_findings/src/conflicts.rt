@@ -1,64 +1,68 @@
 // The names in requirements files, and what is wrong with the lines of each.
-ghost use Rattle.std.specs.Prelude.{◌≡◌, ◌++◌, [], IfOk, map, if◌then◌else◌};
-ghost use Rattle.std.specs.List.{filter, list_any};
-ghost use Rattle.pyver_findings.specs.Conflicts.{conflicts, of_name, has_same_name};
+ghost use Rattle.std.specs.Prelude.{◌≡◌, ◌∷◌, ◌++◌, [], IfOk, List, bytes_eq, map, ℕ, if◌then◌else◌};
+ghost use Rattle.std.specs.HashMap.{get_by};
+ghost use Rattle.std.specs.List.{filter};
+ghost use Rattle.std.specs.Option.{option_map_or};
+ghost use Rattle.pyver_findings.specs.Conflicts.{conflicts, of_name};
 ghost use Rattle.pyver_findings.specs.Views.{demand_of, finding_of};
 
 use crate::demand::Demand;
 use crate::finding::Finding;
 use crate::group::push_of_name;
-use pep440_pick::same_name;
 use std::alloc::{AllocError, Global};
+use std::collections::HashMap;
 
-fn has_same_name(one: &Demand, other: &Demand) -> bool
-    ensures { result ≡ has_same_name (demand_of one.now) (demand_of other.now) }
+// The lines, or none.
+fn lines_or_none<'a>(alloc: Global, group: Option<Vec<&'a Demand>>) -> Vec<&'a Demand>
+    ensures { result.items ≡ option_map_or (λ g. g.items) group.entry [] }
 {
-    same_name(one.name.as_str(), other.name.as_str())
+    match group {
+        Some(lines) => lines,
+        None => Vec::new(alloc),
+    }
 }
 
-// The lines with the name of this one.
-fn of_same_name<'a>(
+// Adds the line to those of its name.
+fn push_to_group<'a>(
     alloc: Global,
-    line: &Demand,
+    groups: &mut HashMap<&'a [u8], Vec<&'a Demand>>,
+    line: &'a Demand,
+) -> Result<(), AllocError>
+    ensures { IfOk result (λ _. (q : List ℕ) → map (λ x. demand_of x.now) (option_map_or (λ g. g.items) (get_by (λ k. bytes_eq q k.now) groups.new) []) ≡ map (λ x. demand_of x.now) (option_map_or (λ g. g.items) (get_by (λ k. bytes_eq q k.now) groups.old) []) ++ (if bytes_eq q line.now.name.items then demand_of line.now ∷ [] else [])) }
+{
+    let name = line.name.as_slice();
+    let mut group = lines_or_none(alloc, groups.remove(name));
+    group.push(line)?;
+    groups.insert(name, group)?;
+    Ok(())
+}
+
+// The lines of each name, in their order.
+fn group_by_name<'a>(
+    alloc: Global,
     lines: &'a [Demand],
-) -> Result<Vec<&'a Demand>, AllocError>
-    ensures { IfOk result (λ kept. map (λ x. demand_of x.now) kept.items ≡ filter (has_same_name (demand_of line.now)) (map demand_of lines.now)) }
+) -> Result<HashMap<&'a [u8], Vec<&'a Demand>>, AllocError>
+    ensures { IfOk result (λ groups. (q : List ℕ) → map (λ x. demand_of x.now) (option_map_or (λ g. g.items) (get_by (λ k. bytes_eq q k.now) groups) []) ≡ filter (λ a. bytes_eq q a.name) (map demand_of lines.now)) }
 {
-    let mut kept = Vec::new(alloc);
-    for other in lines {
-        if has_same_name(line, other) {
-            kept.push(other)?;
-        }
+    let mut groups: HashMap<&'a [u8], Vec<&'a Demand>> = HashMap::new(alloc);
+    for line in lines {
+        push_to_group(alloc, &mut groups, line)?;
     }
-    Ok(kept)
+    Ok(groups)
 }
 
-fn has_name(lines: &[Demand], line: &Demand) -> bool
-    ensures { result ≡ list_any (has_same_name (demand_of line.now)) (map demand_of lines.now) }
-{
-    for other in lines {
-        if has_same_name(line, other) {
-            return true;
-        }
-    }
-    false
-}
-
-// Of the lines with the name of this one, if none before has it.
-fn push_with_name(
+// What is wrong with the lines of one name, if there are any.
+fn push_group(
     alloc: Global,
     findings: &mut Vec<Finding>,
-    lines: &[Demand],
-    before: &[Demand],
-    line: &Demand,
+    group: Option<Vec<&Demand>>,
 ) -> Result<(), AllocError>
-    ensures { IfOk result (λ _. map finding_of findings.new.items ≡ map finding_of findings.old.items ++ (if list_any (has_same_name (demand_of line.now)) (map demand_of before.now) then [] else of_name (filter (has_same_name (demand_of line.now)) (map demand_of lines.now)))) }
+    ensures { IfOk result (λ _. map finding_of findings.new.items ≡ map finding_of findings.old.items ++ of_name (map (λ x. demand_of x.now) (option_map_or (λ g. g.items) group.entry []))) }
 {
-    if has_name(before, line) {
-        return Ok(());
+    match group {
+        Some(lines) => push_of_name(alloc, findings, lines.as_slice()),
+        None => Ok(()),
     }
-    let same = of_same_name(alloc, line, lines)?;
-    push_of_name(alloc, findings, same.as_slice())
 }
 
 // What is wrong with lines together.
@@ -69,8 +73,10 @@ pub(crate) fn push_conflicts(
 ) -> Result<(), AllocError>
     ensures { IfOk result (λ _. map finding_of findings.new.items ≡ map finding_of findings.old.items ++ conflicts (map demand_of lines.now)) }
 {
-    for (at, line) in lines.iter().enumerate() {
-        push_with_name(alloc, findings, lines, &lines[..at], line)?;
+    let mut groups = group_by_name(alloc, lines)?;
+    for line in lines {
+        let group = groups.remove(line.name.as_slice());
+        push_group(alloc, findings, group)?;
     }
     Ok(())
 }

@@ -5,6 +5,7 @@ ghost use Rattle.pyver_findings.specs.Demands.{line_demand, cover_or_all, is_pin
 ghost use Rattle.pyver_findings.specs.Views.{demand_of, file_line_of};
 
 use crate::file_line::FileLine;
+use crate::normal_name::normalize_name;
 use pep440_pick::Requirement;
 use pep440_rs::{
     Operator, RangeError, Ranges, Version, VersionSpecifier, VersionSpecifiers, specifiers_to_cover,
@@ -15,7 +16,8 @@ use std::alloc::{AllocError, Global};
 #[derive(Drop)]
 pub(crate) struct Demand {
     pub(crate) line: FileLine,
-    pub(crate) name: String,
+    // In its normal form.
+    pub(crate) name: Vec<u8>,
     pub(crate) marker: Option<Vec<u8>>,
     // Whether some member of the list names one version.
     pub(crate) pinned: bool,
@@ -69,10 +71,11 @@ impl Demand {
     {
         let pinned = is_pinned(requirement.specifiers.as_slice());
         let cover = cover_or_all(alloc, requirement.specifiers.clone()?)?;
+        let name = normalize_name(alloc, requirement.name.as_str())?;
         let marker = copy_marker(alloc, marker)?;
         Ok(Demand {
             line: line.clone()?,
-            name: requirement.name.clone()?,
+            name,
             marker,
             pinned,
             cover,

@@ -13,6 +13,7 @@ mod json_string;
 pub mod laws;
 mod line_meaning;
 mod named_files;
+mod normal_name;
 mod pairs;
 mod report;
 mod report_json;

@@ -71,7 +71,8 @@ fn parse_lines(alloc: Global, lines: &[FileLine]) -> Result<Readings, AllocError
 /// each; if the lines without a marker have no version in common, they are reported together, and no line with a marker with them.
 ///
 /// A line names a version if a member of its list is `==` without a star, or `===`. A list stands for its cover, or for all versions if
-/// a number in it cannot be raised. Each name is compared with all: n requirements take n² steps, and m·n² if m markers have findings.
+/// a number in it cannot be raised. n requirements take n steps, and those of one name n² as each is compared with each, or m·n² if m markers
+/// have findings.
 ///
 /// Allocates.
 pub fn find_problems(alloc: Global, files: &[SourceFile]) -> Result<Report, AllocError>

@@ -1,0 +1,67 @@
+-- Lines that are grouped by name, and the groups that are taken one after another.
+use Rattle.std.proofs.Common.{◌≡◌, ◌+◌, ◌<◌, ◌∙◌, ℕ, List, [], ◌∷◌, ◌++◌, ◌||◌, Bool, true, false, Option, Some, None, bytes_eq, cond, get_or, length, take, map, refl, sym, ap, if◌then◌else◌}
+use Rattle.std.proofs.lemmas.Bool.{true≢false}
+use Rattle.std.proofs.lemmas.List.{append-nil, map-append, take_more}
+use Rattle.std.proofs.lemmas.List.Elements.{filter-append}
+use Rattle.std.proofs.lemmas.List.Folds.{list_any-append}
+use Rattle.std.proofs.lemmas.Slice.Eq.{bytes_eq-Decides}
+use Rattle.std.specs.List.{filter, list_any}
+use Rattle.pyver_findings.specs.Demands.{Demand}
+use Rattle.pyver_findings.specs.Conflicts.{of_name}
+
+-- what is made of a group that is taken: at its first mention all, and later nothing
+pub of_taken : (b : Bool) (lines group : List Demand) → group ≡ (if b then [] else lines) → of_name group ≡ (if b then [] else of_name lines)
+of_taken true lines group is = ap of_name is
+of_taken false lines group is = ap of_name is
+
+swap_by : (m n : List ℕ) (b c : Bool) → bytes_eq m n ≡ b → bytes_eq n m ≡ c → b ≡ c
+swap_by m n true true e f = refl
+swap_by m n true false e f = absurd (true≢false (sym ((bytes_eq-Decides n m).1 (sym ((bytes_eq-Decides m n).0 e))) ∙ f))
+swap_by m n false true e f = absurd (true≢false (sym ((bytes_eq-Decides m n).1 (sym ((bytes_eq-Decides n m).0 f))) ∙ e))
+swap_by m n false false e f = refl
+
+swap : (m n : List ℕ) → bytes_eq m n ≡ bytes_eq n m
+swap m n = swap_by m n (bytes_eq m n) (bytes_eq n m) refl refl
+
+-- a line is added to the group of its name, which is taken out and put back
+module _ {X : Type 0} (f : Option X → List Demand) (name q : List ℕ) (x : Demand) (old taken new : List ℕ → Option X) (group : Option X) (value : X) where
+  added_by : (b : Bool) → bytes_eq name q ≡ b → group ≡ old name → f (Some value) ≡ f group ++ x ∷ [] → taken q ≡ cond (bytes_eq name q) None (old q)
+      → new q ≡ cond (bytes_eq name q) (Some value) (taken q) → f (new q) ≡ f (old q) ++ (if bytes_eq q name then x ∷ [] else [])
+  added_by true e is more out back =
+      let same : name ≡ q = (bytes_eq-Decides name q).0 e in
+      ap f (back ∙ ap (λ b. cond b (Some value) (taken q)) e) ∙ more ∙ ap (λ g. f g ++ x ∷ []) (is ∙ ap old same) ∙ ap (λ b. f (old q) ++ (if b then x ∷ [] else [])) (sym (swap q name ∙ e))
+  added_by false e is more out back =
+      ap f (back ∙ ap (λ b. cond b (Some value) (taken q)) e ∙ out ∙ ap (λ b. cond b None (old q)) e) ∙ sym (append-nil (f (old q)))
+      ∙ ap (λ b. f (old q) ++ (if b then x ∷ [] else [])) (sym (swap q name ∙ e))
+
+  pub added : group ≡ old name → f (Some value) ≡ f group ++ x ∷ [] → taken q ≡ cond (bytes_eq name q) None (old q) → new q ≡ cond (bytes_eq name q) (Some value) (taken q)
+      → f (new q) ≡ f (old q) ++ (if bytes_eq q name then x ∷ [] else [])
+  added is more out back = added_by (bytes_eq name q) refl is more out back
+
+-- one line more in a group
+pub grouped_more : {L : Type 0} (view : L → Demand) (q : List ℕ) (xs : List L) (i : ℕ) (x : L) (old new : List Demand) → i < length xs → x ≡ get_or xs i x
+    → new ≡ old ++ (if bytes_eq q (view x).name then view x ∷ [] else []) → old ≡ filter (λ (a : Demand). bytes_eq q a.name) (map view (take i xs))
+    → new ≡ filter (λ (a : Demand). bytes_eq q a.name) (map view (take (i + 1) xs))
+grouped_more view q xs i x old new inside is changed was =
+    let has = λ (a : Demand). bytes_eq q a.name in
+    let before = map view (take i xs) in
+    let taken : map view (take (i + 1) xs) ≡ before ++ view x ∷ [] = ap (map view) (take_more xs i x inside ∙ ap (λ y. take i xs ++ y ∷ []) (sym is)) ∙ map-append view (take i xs) (x ∷ []) in
+    changed ∙ ap (λ o. o ++ (if bytes_eq q (view x).name then view x ∷ [] else [])) was ∙ sym (filter-append has before (view x ∷ [])) ∙ ap (filter has) (sym taken)
+
+module _ {X : Type 0} (f : Option X → List Demand) (none : f None ≡ []) where
+  taken_by : (b any : Bool) (all : List Demand) (old new : Option X) → new ≡ cond b None old → f old ≡ (if any then [] else all) → f new ≡ (if any || (b || false) then [] else all)
+  taken_by true true all old new is was = ap f is ∙ none
+  taken_by true false all old new is was = ap f is ∙ none
+  taken_by false true all old new is was = ap f is ∙ was
+  taken_by false false all old new is was = ap f is ∙ was
+
+  -- one group less
+  pub taken_more : {L : Type 0} (view : L → Demand) (q : List ℕ) (xs : List L) (i : ℕ) (x : L) (all : List Demand) (old new : Option X) → i < length xs → x ≡ get_or xs i x
+      → new ≡ cond (bytes_eq (view x).name q) None old → f old ≡ (if list_any (λ (a : Demand). bytes_eq q a.name) (map view (take i xs)) then [] else all)
+      → f new ≡ (if list_any (λ (a : Demand). bytes_eq q a.name) (map view (take (i + 1) xs)) then [] else all)
+  taken_more view q xs i x all old new inside is changed was =
+      let has = λ (a : Demand). bytes_eq q a.name in
+      let before = map view (take i xs) in
+      let taken : map view (take (i + 1) xs) ≡ before ++ view x ∷ [] = ap (map view) (take_more xs i x inside ∙ ap (λ y. take i xs ++ y ∷ []) (sym is)) ∙ map-append view (take i xs) (x ∷ []) in
+      let any : list_any has (map view (take (i + 1) xs)) ≡ list_any has before || (bytes_eq q (view x).name || false) = ap (list_any has) taken ∙ list_any-append has before (view x ∷ []) in
+      taken_by (bytes_eq q (view x).name) (list_any has before) all old new (changed ∙ ap (λ b. cond b None old) (swap (view x).name q)) was ∙ ap (λ b. if b then [] else all) (sym any)
