@@ -1,6 +1,6 @@
 -- What a logical line of a requirements file is (pip, "Requirements File Format").
 use Rattle.std.specs.Prelude.{ℕ, ◌==◌, ◌&&◌, ◌||◌, List, [], ◌∷◌, Bool, false, Option, Some, None, codes, drop, length, nat_eq, not, if◌then◌else◌}
-use Rattle.std.specs.Char.{is_ascii_digit, is_ascii_uppercase, is_ascii_whitespace}
+use Rattle.std.specs.Char.{eq_ignore_ascii_case, is_ascii_digit, is_ascii_uppercase, is_ascii_whitespace}
 use Rattle.std.specs.List.{ends_with, list_any, starts_with}
 use Rattle.std.specs.Option.{option_map_or}
 use Rattle.pep440_rs.specs.Blanks.{opens, trim_blanks}
@@ -81,9 +81,9 @@ tar_endings = codes ".tar" ∷ (codes ".tar.gz" ∷ (codes ".tar.bz2" ∷ (codes
 abbrev pub short_endings : List (List ℕ)
 short_endings = codes ".whl" ∷ (codes ".zip" ∷ (codes ".tgz" ∷ (codes ".tbz" ∷ (codes ".txz" ∷ (codes ".tlz" ∷ [])))))
 
--- the word has one of these endings
+-- the word has one of these endings, in any case
 abbrev pub ends_as : List (List ℕ) → List ℕ → Bool
-ends_as endings word = list_any (λ ending. ends_with nat_eq word ending) endings
+ends_as endings word = list_any (λ ending. ends_with eq_ignore_ascii_case word ending) endings
 
 abbrev pub is_archive : List ℕ → Bool
 is_archive word = ends_as short_endings word || ends_as tar_endings word

@@ -1,7 +1,7 @@
 // What a logical line is.
 ghost use Rattle.std.specs.Prelude.{◌≡◌, ◌≤◌, ◌==◌, ◌||◌, IsTrue, length, not, option_map};
-ghost use Rattle.std.specs.Char.{is_ascii_whitespace};
-ghost use Rattle.std.specs.List.{list_any, prefix_len};
+ghost use Rattle.std.specs.Char.{eq_ignore_ascii_case, is_ascii_whitespace};
+ghost use Rattle.std.specs.List.{ends_with, list_any, prefix_len};
 ghost use Rattle.pep440_rs.specs.Blanks.{opens, trim_blanks};
 ghost use Rattle.pyver_requirements.specs.LineKinds.{closes_variable, constraints_file, ends_as, first_word, has_variable, is_archive, is_location, is_variable_byte, line_kind, long_option_value, opens_variable, option_kind, option_value, requirements_file, short_endings, tar_endings};
 ghost use Rattle.pyver_requirements.specs.LineKindViews.{line_kind_of};
@@ -170,26 +170,33 @@ fn first_word(text: &[u8]) -> &[u8]
     &text[..count_word_bytes(text)]
 }
 
+// The word ends so, in any case.
+fn has_ending(word: &[u8], ending: &[u8]) -> bool
+    ensures { result ≡ ends_with eq_ignore_ascii_case word.now ending.now }
+{
+    ending.eq_ignore_ascii_case(&word[word.len().saturating_sub(ending.len())..])
+}
+
 fn has_tar_ending(word: &[u8]) -> bool
     ensures { result ≡ ends_as tar_endings word.now }
 {
-    word.ends_with(".tar".as_bytes())
-        || word.ends_with(".tar.gz".as_bytes())
-        || word.ends_with(".tar.bz2".as_bytes())
-        || word.ends_with(".tar.xz".as_bytes())
-        || word.ends_with(".tar.lz".as_bytes())
-        || word.ends_with(".tar.lzma".as_bytes())
+    has_ending(word, ".tar".as_bytes())
+        || has_ending(word, ".tar.gz".as_bytes())
+        || has_ending(word, ".tar.bz2".as_bytes())
+        || has_ending(word, ".tar.xz".as_bytes())
+        || has_ending(word, ".tar.lz".as_bytes())
+        || has_ending(word, ".tar.lzma".as_bytes())
 }
 
 fn has_short_ending(word: &[u8]) -> bool
     ensures { result ≡ ends_as short_endings word.now }
 {
-    word.ends_with(".whl".as_bytes())
-        || word.ends_with(".zip".as_bytes())
-        || word.ends_with(".tgz".as_bytes())
-        || word.ends_with(".tbz".as_bytes())
-        || word.ends_with(".txz".as_bytes())
-        || word.ends_with(".tlz".as_bytes())
+    has_ending(word, ".whl".as_bytes())
+        || has_ending(word, ".zip".as_bytes())
+        || has_ending(word, ".tgz".as_bytes())
+        || has_ending(word, ".tbz".as_bytes())
+        || has_ending(word, ".txz".as_bytes())
+        || has_ending(word, ".tlz".as_bytes())
 }
 
 fn is_archive(word: &[u8]) -> bool
@@ -213,7 +220,7 @@ fn is_location(word: &[u8]) -> bool
 /// What the logical line is: the first that holds of an option, a line with a variable, a location and a requirement.
 ///
 /// Options have their full names, and the path of `-r` and `-c` is the rest of the line, with its quotes. The first word, up to a blank,
-/// `;` or `@`, makes a location if it has a `/`, begins with `.` or ends as an archive: so a later URL makes none. Files are not looked for.
+/// `;` or `@`, makes a location if it has a `/`, begins with `.` or ends as an archive, in any case: so a later URL makes none. Files are not looked for.
 ///
 /// Allocates nothing.
 pub fn classify(text: &[u8]) -> LineKind<'_>
