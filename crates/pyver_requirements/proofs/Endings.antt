@@ -1,5 +1,5 @@
 -- Strings that are the same but for their case.
-use Rattle.std.proofs.Common.{◌≡◌, ◌∙◌, ◌↔◌, ℕ, List, Bool, true, false, map, refl, ap}
+use Rattle.std.proofs.Common.{◌≡◌, ◌∙◌, ◌↔◌, ℕ, List, Bool, true, false, map, refl}
 use Rattle.std.proofs.lemmas.Bool.{cases_from_iff}
 use Rattle.std.specs.Bool.{MatchBool}
 use Rattle.std.specs.Char.{eq_ignore_ascii_case, to_ascii_lowercase}
