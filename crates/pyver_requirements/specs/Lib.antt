@@ -1,5 +1,6 @@
 pub mod LogicalLines
 pub mod LineViews
+pub mod OptionValues
 pub mod LineKinds
 pub mod LineKindViews
 pub mod LineParts

@@ -6,6 +6,7 @@ use Rattle.std.specs.Option.{option_map_or}
 use Rattle.pep440_rs.specs.Blanks.{opens, trim_blanks}
 use Rattle.pep440_version.specs.Grammar.{starts}
 use Rattle.pep440_version.specs.Reading.{lead, past}
+use Rattle.pyver_requirements.specs.OptionValues.{first_value}
 
 -- another file of requirements, and one of constraints, each with its path; the option of such a file without a path; an editable;
 -- another option of pip; a line with a variable; a URL, a path or an archive; a requirement
@@ -24,12 +25,12 @@ pub data LineKind : Type 0 where
 -- the value of a long option, after `=` or a blank; the empty string where nothing follows
 abbrev pub long_option_value : List ℕ → Option (List ℕ)
 long_option_value [] = Some []
-long_option_value (b ∷ rest) = if (b == 61) || is_ascii_whitespace b then Some (trim_blanks rest) else None
+long_option_value (b ∷ rest) = if b == 61 then Some (first_value rest) else (if is_ascii_whitespace b then Some (first_value (trim_blanks rest)) else None)
 
 -- the value of the option with this long and this short name, if the line begins with one of them
 abbrev pub option_value : List ℕ → List ℕ → List ℕ → Option (List ℕ)
 option_value long short text = if starts_with nat_eq text long then long_option_value (drop (length long) text)
-    else (if starts_with nat_eq text short then Some (trim_blanks (drop (length short) text)) else None)
+    else (if starts_with nat_eq text short then Some (first_value (trim_blanks (drop (length short) text))) else None)
 
 -- the file of requirements with this path
 abbrev pub requirements_file : List ℕ → LineKind

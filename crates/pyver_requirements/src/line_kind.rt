@@ -7,6 +7,7 @@ ghost use Rattle.pyver_requirements.specs.LineKinds.{closes_variable, constraint
 ghost use Rattle.pyver_requirements.specs.LineKindViews.{line_kind_of};
 
 use crate::comment::trim_blanks;
+use crate::option_value::first_value;
 
 /// What a logical line is.
 #[derive(Clone, Copy, Debug)]
@@ -44,8 +45,10 @@ fn long_option_value(rest: &[u8]) -> Option<&[u8]>
     match rest {
         [] => Some(rest),
         [first, value @ ..] => {
-            if *first == b'=' || first.is_ascii_whitespace() {
-                Some(trim_blanks(value))
+            if *first == b'=' {
+                Some(first_value(value))
+            } else if first.is_ascii_whitespace() {
+                Some(first_value(trim_blanks(value)))
             } else {
                 None
             }
@@ -60,7 +63,7 @@ fn option_value<'a>(text: &'a [u8], long: &[u8], short: &[u8]) -> Option<&'a [u8
     if text.starts_with(long) {
         long_option_value(&text[long.len()..])
     } else if text.starts_with(short) {
-        Some(trim_blanks(&text[short.len()..]))
+        Some(first_value(trim_blanks(&text[short.len()..])))
     } else {
         None
     }
@@ -219,7 +222,8 @@ fn is_location(word: &[u8]) -> bool
 
 /// What the logical line is: the first that holds of an option, a line with a variable, a location and a requirement.
 ///
-/// Options have their full names, and the path of `-r` and `-c` is the rest of the line, with its quotes. The first word, up to a blank,
+/// The first option of a line decides, by its full name. A path ends at a blank that stands in no quotes, and quotes around the whole
+/// path are left out. The first word, up to a blank,
 /// `;` or `@`, makes a location if it has a `/`, begins with `.` or ends as an archive, in any case: so a later URL makes none. Files are not looked for.
 ///
 /// Allocates nothing.
