@@ -6,7 +6,8 @@ use Rattle.std.specs.Option.{option_map_or}
 use Rattle.pep440_rs.specs.Blanks.{opens, trim_blanks}
 use Rattle.pep440_version.specs.Grammar.{starts}
 use Rattle.pep440_version.specs.Reading.{lead, past}
-use Rattle.pyver_requirements.specs.OptionValues.{first_value}
+use Rattle.pyver_requirements.specs.OptionNames.{abbreviates, behind_name, long_name}
+use Rattle.pyver_requirements.specs.OptionValues.{first_value, long_value}
 
 -- another file of requirements, and one of constraints, each with its path; the option of such a file without a path; an editable;
 -- another option of pip; a line with a variable; a URL, a path or an archive; a requirement
@@ -22,14 +23,13 @@ pub data LineKind : Type 0 where
 
 -- ---- options
 
--- the value of a long option, after `=` or a blank; the empty string where nothing follows
-abbrev pub long_option_value : List ℕ → Option (List ℕ)
-long_option_value [] = Some []
-long_option_value (b ∷ rest) = if b == 61 then Some (first_value rest) else (if is_ascii_whitespace b then Some (first_value (trim_blanks rest)) else None)
+-- the value of this long option, if the line begins with it
+abbrev pub long_option_value : List ℕ → List ℕ → Option (List ℕ)
+long_option_value long text = if abbreviates long (long_name text) then Some (long_value (behind_name text)) else None
 
 -- the value of the option with this long and this short name, if the line begins with one of them
 abbrev pub option_value : List ℕ → List ℕ → List ℕ → Option (List ℕ)
-option_value long short text = if starts_with nat_eq text long then long_option_value (drop (length long) text)
+option_value long short text = if starts_with nat_eq text (codes "--") then long_option_value long text
     else (if starts_with nat_eq text short then Some (first_value (trim_blanks (drop (length short) text))) else None)
 
 -- the file of requirements with this path

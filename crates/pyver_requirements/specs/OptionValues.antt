@@ -2,6 +2,7 @@
 use Rattle.std.specs.Prelude.{ℕ, ◌==◌, ◌&&◌, ◌||◌, List, [], ◌∷◌, Bool, Option, Some, None, not, if◌then◌else◌}
 use Rattle.std.specs.Char.{is_ascii_whitespace}
 use Rattle.std.specs.Option.{is_some}
+use Rattle.pep440_rs.specs.Blanks.{trim_blanks}
 use Rattle.pyver_requirements.specs.LineParts.{before_byte, behind_byte}
 
 -- a single or a double quote
@@ -31,3 +32,8 @@ without_quotes (b ∷ rest) = if is_quote b then between_quotes (b ∷ rest) (be
 -- the value that the string begins with
 abbrev pub first_value : List ℕ → List ℕ
 first_value text = without_quotes (quoted_word None text)
+
+-- the value of a long option, behind `=` or a blank
+abbrev pub long_value : List ℕ → List ℕ
+long_value [] = []
+long_value (b ∷ rest) = if b == 61 then first_value rest else first_value (trim_blanks rest)

@@ -5,6 +5,7 @@ mod comment;
 mod line_kind;
 mod line_parts;
 mod logical_line;
+mod option_name;
 mod option_value;
 mod physical_line;
 

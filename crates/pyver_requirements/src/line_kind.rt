@@ -7,7 +7,8 @@ ghost use Rattle.pyver_requirements.specs.LineKinds.{closes_variable, constraint
 ghost use Rattle.pyver_requirements.specs.LineKindViews.{line_kind_of};
 
 use crate::comment::trim_blanks;
-use crate::option_value::first_value;
+use crate::option_name::{abbreviates, count_name_bytes};
+use crate::option_value::{first_value, long_value};
 
 /// What a logical line is.
 #[derive(Clone, Copy, Debug)]
@@ -39,20 +40,15 @@ fn opens_with(text: &[u8], byte: u8) -> bool
     }
 }
 
-fn long_option_value(rest: &[u8]) -> Option<&[u8]>
-    ensures { option_map (λ x. x.now) result ≡ long_option_value rest.now }
+// The value of the long option, if the text begins with it.
+fn long_option_value<'a>(text: &'a [u8], long: &[u8]) -> Option<&'a [u8]>
+    ensures { option_map (λ x. x.now) result ≡ long_option_value long.now text.now }
 {
-    match rest {
-        [] => Some(rest),
-        [first, value @ ..] => {
-            if *first == b'=' {
-                Some(first_value(value))
-            } else if first.is_ascii_whitespace() {
-                Some(first_value(trim_blanks(value)))
-            } else {
-                None
-            }
-        }
+    let count = count_name_bytes(text);
+    if abbreviates(long, &text[..count]) {
+        Some(long_value(&text[count..]))
+    } else {
+        None
     }
 }
 
@@ -60,8 +56,8 @@ fn long_option_value(rest: &[u8]) -> Option<&[u8]>
 fn option_value<'a>(text: &'a [u8], long: &[u8], short: &[u8]) -> Option<&'a [u8]>
     ensures { option_map (λ x. x.now) result ≡ option_value long.now short.now text.now }
 {
-    if text.starts_with(long) {
-        long_option_value(&text[long.len()..])
+    if text.starts_with("--".as_bytes()) {
+        long_option_value(text, long)
     } else if text.starts_with(short) {
         Some(first_value(trim_blanks(&text[short.len()..])))
     } else {
@@ -222,8 +218,8 @@ fn is_location(word: &[u8]) -> bool
 
 /// What the logical line is: the first that holds of an option, a line with a variable, a location and a requirement.
 ///
-/// The first option of a line decides, by its full name. A path ends at a blank that stands in no quotes, and quotes around the whole
-/// path are left out. The first word, up to a blank,
+/// The first option of a line decides, and a long one may be abbreviated if no other that pip knows begins so. A path ends at a blank
+/// that stands in no quotes, and quotes around the whole path are left out. The first word, up to a blank,
 /// `;` or `@`, makes a location if it has a `/`, begins with `.` or ends as an archive, in any case: so a later URL makes none. Files are not looked for.
 ///
 /// Allocates nothing.

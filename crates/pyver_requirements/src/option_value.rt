@@ -1,7 +1,8 @@
 // Values of options, as a shell splits them.
 ghost use Rattle.std.specs.Prelude.{◌≡◌, ◌==◌, None, option_map};
-ghost use Rattle.pyver_requirements.specs.OptionValues.{first_value, is_quote, next_quote, quoted_word, without_quotes};
+ghost use Rattle.pyver_requirements.specs.OptionValues.{first_value, is_quote, long_value, next_quote, quoted_word, without_quotes};
 
+use crate::comment::trim_blanks;
 use crate::line_parts::split_at_first;
 
 fn is_quote(byte: u8) -> bool
@@ -55,4 +56,15 @@ pub(crate) fn first_value(text: &[u8]) -> &[u8]
     ensures { result.now ≡ first_value text.now }
 {
     without_quotes(quoted_word(text))
+}
+
+// The value of a long option, of which the text follows the name.
+pub(crate) fn long_value(text: &[u8]) -> &[u8]
+    ensures { result.now ≡ long_value text.now }
+{
+    match text {
+        [] => text,
+        [b'=', value @ ..] => first_value(value),
+        [_, value @ ..] => first_value(trim_blanks(value)),
+    }
 }
