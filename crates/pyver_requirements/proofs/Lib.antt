@@ -1,3 +1,3 @@
 pub mod Lines
 pub mod Joining
-pub mod Comments
+pub mod Endings

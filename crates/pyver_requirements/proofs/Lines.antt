@@ -1,21 +1,62 @@
 -- The physical lines of a string.
-use Rattle.std.proofs.Common.{◌≡◌, ◌∙◌, ◌+◌, ◌==◌, ◌<◌, ℕ, List, [], ◌∷◌, ◌++◌, false, length, take, map, get_or, refl, sym, ap, drop, take-append-drop}
-use Rattle.std.proofs.lemmas.List.{drop_more}
-use Rattle.std.proofs.lemmas.List.Splits.{slice_split_at, slice_split_none}
-use Rattle.std.specs.List.{All}
-use Rattle.std.specs.Str.Lines.{strip_carriage_return}
-use Rattle.pyver_requirements.specs.LogicalLines.{physical_lines}
+use Rattle.std.proofs.Common.{◌≡◌, ◌≢◌, ◌∙◌, ◌+◌, ◌-◌, ◌==◌, ◌<◌, ℕ, zero, suc, List, [], ◌∷◌, false, cond, length, take, refl, sym, ap, arith, drop}
+use Rattle.std.proofs.lemmas.Bool.{cond-false, ne_eqb}
+use Rattle.std.proofs.lemmas.List.{drop-drop}
+use Rattle.std.proofs.lemmas.List.Splits.{slice_split-cons_no}
+use Rattle.std.specs.List.{onto_first, slice_split}
+use Rattle.pyver_requirements.specs.LogicalLines.{line_end, physical_lines, with_newlines}
 
-abbrev pub HasNoNewline : List ℕ → Type 0
-HasNoNewline text = All (λ b. (b == 10) ≡ false) text
+-- no line end begins before this index
+abbrev pub HasNoLineEnd : List ℕ → ℕ → Type 0
+HasNoLineEnd text i = (k : ℕ) → k < i → line_end (drop k text) ≡ 0
 
--- the first line ends at the first newline
-pub first_line : (text : List ℕ) (i : ℕ) → i < length text → get_or text i 0 ≡ 10 → HasNoNewline (take i text) → physical_lines text ≡ strip_carriage_return (take i text) ∷ physical_lines (drop (i + 1) text)
-first_line text i inside newline before =
-    let parts : text ≡ take i text ++ 10 ∷ drop (i + 1) text =
-    sym (take-append-drop i text) ∙ ap (λ (zs : List ℕ). take i text ++ zs) (drop_more text i 0 inside ∙ ap (λ (z : ℕ). z ∷ drop (i + 1) text) newline) in
-    ap physical_lines parts ∙ ap (map strip_carriage_return) (slice_split_at (λ x. x == 10) (take i text) 10 (drop (i + 1) text) before refl)
+abbrev split_lines : List ℕ → List (List ℕ)
+split_lines text = slice_split (λ b. b == 10) text
 
--- without a newline the text is one line
-pub one_line : (text : List ℕ) → HasNoNewline text → physical_lines text ≡ strip_carriage_return text ∷ []
-one_line text none = ap (map strip_carriage_return) (slice_split_none (λ x. x == 10) text none)
+-- a byte at which no line end begins
+next_byte : (b : ℕ) (rest : List ℕ) → line_end (b ∷ rest) ≡ 0 → with_newlines 0 (b ∷ rest) ≡ b ∷ with_newlines 0 rest
+next_byte b rest none = ap (λ (n : ℕ). cond (n == 0) (b ∷ with_newlines 0 rest) (10 ∷ with_newlines (n - 1) rest)) none
+
+some_end : (n : ℕ) (x y : List ℕ) → 0 < n → cond (n == 0) x y ≡ y
+some_end n x y some = cond-false (n == 0) x y (ne_eqb n 0 (λ e. omega (arith, some, e)))
+
+-- a byte at which one begins
+end_here : (b : ℕ) (rest : List ℕ) → 0 < line_end (b ∷ rest) → with_newlines 0 (b ∷ rest) ≡ 10 ∷ with_newlines (line_end (b ∷ rest) - 1) rest
+end_here b rest some = some_end (line_end (b ∷ rest)) (b ∷ with_newlines 0 rest) (10 ∷ with_newlines (line_end (b ∷ rest) - 1) rest) some
+
+newline_ends : (rest : List ℕ) → line_end (10 ∷ rest) ≢ 0
+newline_ends [] e = absurd (omega (arith, e))
+newline_ends (c ∷ rest) e = absurd (omega (arith, e))
+
+no_newline : (b : ℕ) (rest : List ℕ) → line_end (b ∷ rest) ≡ 0 → (b == 10) ≡ false
+no_newline b rest none = ne_eqb b 10 (λ e. newline_ends rest (ap (λ x. line_end (x ∷ rest)) (sym e) ∙ none))
+
+kept : (b : ℕ) (rest : List ℕ) → line_end (b ∷ rest) ≡ 0 → split_lines (with_newlines 0 (b ∷ rest)) ≡ onto_first b (split_lines (with_newlines 0 rest))
+kept b rest none = ap split_lines (next_byte b rest none) ∙ slice_split-cons_no (λ x. x == 10) b (with_newlines 0 rest) (no_newline b rest none)
+
+without_first : (n : ℕ) (text : List ℕ) → with_newlines n text ≡ with_newlines 0 (drop n text)
+without_first zero text = refl
+without_first (suc n) [] = refl
+without_first (suc n) (b ∷ rest) = without_first n rest
+
+line_here : (text : List ℕ) (i : ℕ) → i < length text → HasNoLineEnd text i → 0 < line_end (drop i text)
+    → split_lines (with_newlines 0 text) ≡ take i text ∷ split_lines (with_newlines (line_end (drop i text) - 1) (drop (suc i) text))
+line_here [] i inside before some = absurd (omega (arith, inside))
+line_here (b ∷ rest) zero inside before some = ap split_lines (end_here b rest some)
+line_here (b ∷ rest) (suc i) inside before some =
+    kept b rest (before 0 (omega arith))
+    ∙ ap (onto_first b) (line_here rest i (omega (arith, inside)) (λ k lt. before (suc k) (omega (arith, lt))) some)
+
+-- the first line ends at the first line end
+pub first_line : (text : List ℕ) (i n : ℕ) → i < length text → n ≡ line_end (drop i text) → 0 < n → HasNoLineEnd text i → physical_lines text ≡ take i text ∷ physical_lines (drop (i + n) text)
+first_line text i n inside is some before =
+    let ends : 0 < line_end (drop i text) = rw is at some in
+    let sum : suc i + (line_end (drop i text) - 1) ≡ i + n = omega (arith, ends, is) in
+    line_here text i inside before ends
+    ∙ ap (λ l. take i text ∷ split_lines l)
+    (without_first (line_end (drop i text) - 1) (drop (suc i) text) ∙ ap (with_newlines 0) (drop-drop (line_end (drop i text) - 1) (suc i) text ∙ ap (λ k. drop k text) sum))
+
+-- without a line end the text is one line
+pub one_line : (text : List ℕ) → HasNoLineEnd text (length text) → physical_lines text ≡ text ∷ []
+one_line [] none = refl
+one_line (b ∷ rest) none = kept b rest (none 0 (omega arith)) ∙ ap (onto_first b) (one_line rest (λ k lt. none (suc k) (omega (arith, lt))))

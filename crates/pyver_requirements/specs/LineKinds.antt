@@ -1,11 +1,13 @@
 -- What a logical line of a requirements file is (pip, "Requirements File Format").
 use Rattle.std.specs.Prelude.{ℕ, ◌==◌, ◌&&◌, ◌||◌, List, [], ◌∷◌, Bool, false, Option, Some, None, codes, drop, length, nat_eq, not, if◌then◌else◌}
-use Rattle.std.specs.Char.{is_ascii_digit, is_ascii_uppercase, is_ascii_whitespace}
+use Rattle.std.specs.Char.{eq_ignore_ascii_case, is_ascii_digit, is_ascii_uppercase, is_ascii_whitespace}
 use Rattle.std.specs.List.{ends_with, list_any, starts_with}
 use Rattle.std.specs.Option.{option_map_or}
 use Rattle.pep440_rs.specs.Blanks.{opens, trim_blanks}
 use Rattle.pep440_version.specs.Grammar.{starts}
 use Rattle.pep440_version.specs.Reading.{lead, past}
+use Rattle.pyver_requirements.specs.OptionNames.{abbreviates, behind_name, long_name}
+use Rattle.pyver_requirements.specs.OptionValues.{first_value, long_value}
 
 -- another file of requirements, and one of constraints, each with its path; the option of such a file without a path; an editable;
 -- another option of pip; a line with a variable; a URL, a path or an archive; a requirement
@@ -21,15 +23,14 @@ pub data LineKind : Type 0 where
 
 -- ---- options
 
--- the value of a long option, after `=` or a blank; the empty string where nothing follows
-abbrev pub long_option_value : List ℕ → Option (List ℕ)
-long_option_value [] = Some []
-long_option_value (b ∷ rest) = if (b == 61) || is_ascii_whitespace b then Some (trim_blanks rest) else None
+-- the value of this long option, if the line begins with it
+abbrev pub long_option_value : List ℕ → List ℕ → Option (List ℕ)
+long_option_value long text = if abbreviates long (long_name text) then Some (long_value (behind_name text)) else None
 
 -- the value of the option with this long and this short name, if the line begins with one of them
 abbrev pub option_value : List ℕ → List ℕ → List ℕ → Option (List ℕ)
-option_value long short text = if starts_with nat_eq text long then long_option_value (drop (length long) text)
-    else (if starts_with nat_eq text short then Some (trim_blanks (drop (length short) text)) else None)
+option_value long short text = if starts_with nat_eq text (codes "--") then long_option_value long text
+    else (if starts_with nat_eq text short then Some (first_value (trim_blanks (drop (length short) text))) else None)
 
 -- the file of requirements with this path
 abbrev pub requirements_file : List ℕ → LineKind
@@ -81,9 +82,9 @@ tar_endings = codes ".tar" ∷ (codes ".tar.gz" ∷ (codes ".tar.bz2" ∷ (codes
 abbrev pub short_endings : List (List ℕ)
 short_endings = codes ".whl" ∷ (codes ".zip" ∷ (codes ".tgz" ∷ (codes ".tbz" ∷ (codes ".txz" ∷ (codes ".tlz" ∷ [])))))
 
--- the word has one of these endings
+-- the word has one of these endings, in any case
 abbrev pub ends_as : List (List ℕ) → List ℕ → Bool
-ends_as endings word = list_any (λ ending. ends_with nat_eq word ending) endings
+ends_as endings word = list_any (λ ending. ends_with eq_ignore_ascii_case word ending) endings
 
 abbrev pub is_archive : List ℕ → Bool
 is_archive word = ends_as short_endings word || ends_as tar_endings word

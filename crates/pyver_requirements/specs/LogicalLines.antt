@@ -1,9 +1,9 @@
 -- The logical lines of a requirements file (pip, "Requirements File Format").
-use Rattle.std.specs.Prelude.{ℕ, ◌+◌, ◌-◌, ◌==◌, ◌&&◌, List, [], ◌∷◌, ◌++◌, Bool, true, length, map, not, take, if◌then◌else◌}
+use Rattle.std.specs.Prelude.{ℕ, zero, suc, ◌+◌, ◌-◌, ◌==◌, ◌&&◌, ◌||◌, List, [], ◌∷◌, ◌++◌, Bool, true, length, map, nat_le, not, take, if◌then◌else◌}
 use Rattle.std.specs.Char.{is_ascii_whitespace}
-use Rattle.std.specs.List.{filter, slice_split}
-use Rattle.std.specs.Str.Lines.{strip_carriage_return}
+use Rattle.std.specs.List.{filter, slice_split, suffix_len}
 use Rattle.pep440_rs.specs.Blanks.{opens, trim_blanks}
+use Rattle.pep440_version.specs.Grammar.{starts}
 use Rattle.pep440_version.specs.Reading.{past}
 use Rattle.pep440_version.specs.Refusals.{ends}
 
@@ -19,9 +19,31 @@ abbrev pub after_mark : List ℕ → List ℕ
 after_mark (a ∷ b ∷ c ∷ rest) = if (a == 239) && ((b == 187) && (c == 191)) then rest else a ∷ (b ∷ (c ∷ rest))
 after_mark text = text
 
--- the lines of a string: each ends at a newline or with the string, and a carriage return at its end is left out
+-- a line feed, a vertical tab, a form feed, a carriage return, and a separator of files, of groups or of records
+abbrev pub is_line_end : ℕ → Bool
+is_line_end b = (nat_le 10 b && nat_le b 13) || (nat_le 28 b && nat_le b 30)
+
+-- the last byte of U+2028, the line separator, or of U+2029, the paragraph separator
+abbrev pub ends_separator : ℕ → Bool
+ends_separator b = (b == 168) || (b == 169)
+
+-- the number of bytes of the line end that the string begins with, or 0: a carriage return and a line feed are one, U+0085 has two
+-- bytes, and U+2028 and U+2029 have three
+abbrev pub line_end : List ℕ → ℕ
+line_end [] = 0
+line_end (a ∷ []) = if is_line_end a then 1 else 0
+line_end (a ∷ b ∷ rest) = if (a == 13) && (b == 10) then 2 else (if is_line_end a then 1
+    else (if (a == 194) && (b == 133) then 2 else (if (a == 226) && ((b == 128) && starts ends_separator rest) then 3 else 0)))
+
+-- the string with a newline for each line end, without so many bytes at its start
+abbrev pub with_newlines : ℕ → List ℕ → List ℕ
+with_newlines skipped [] = []
+with_newlines (suc skipped) (b ∷ rest) = with_newlines skipped rest
+with_newlines zero (b ∷ rest) = if line_end (b ∷ rest) == 0 then b ∷ with_newlines 0 rest else 10 ∷ with_newlines (line_end (b ∷ rest) - 1) rest
+
+-- the lines of a string: each ends at a line end or with the string
 abbrev pub physical_lines : List ℕ → List (List ℕ)
-physical_lines text = map strip_carriage_return (slice_split (λ b. b == 10) text)
+physical_lines text = slice_split (λ b. b == 10) (with_newlines 0 text)
 
 -- ---- joined lines
 
@@ -33,9 +55,13 @@ is_comment_line line = opens 35 (past is_ascii_whitespace line)
 abbrev pub continues : List ℕ → Bool
 continues line = ends (λ b. b == 92) line && not (is_comment_line line)
 
--- what a line adds to its logical line: a comment line nothing, and another one what stands before a `\` at its end
+-- the string without the backslashes at its ends
+abbrev pub trim_backslashes : List ℕ → List ℕ
+trim_backslashes text = let rest = past (λ b. b == 92) text in take (length rest - suffix_len (λ b. b == 92) rest) rest
+
+-- what a line adds to its logical line: a comment line nothing, and one that continues what stands between the backslashes at its ends
 abbrev pub added : List ℕ → List ℕ
-added line = if is_comment_line line then [] else (if ends (λ b. b == 92) line then take (length line - 1) line else line)
+added line = if is_comment_line line then [] else (if ends (λ b. b == 92) line then trim_backslashes line else line)
 
 -- the lines with this text in front of the first, which then has this number; only the text where there are none
 abbrev pub prefixed : ℕ → List ℕ → List Line → List Line

@@ -5,6 +5,8 @@ mod comment;
 mod line_kind;
 mod line_parts;
 mod logical_line;
+mod option_name;
+mod option_value;
 mod physical_line;
 
 pub use line_kind::{LineKind, classify, has_variable};

@@ -1,12 +1,14 @@
 // What a logical line is.
 ghost use Rattle.std.specs.Prelude.{◌≡◌, ◌≤◌, ◌==◌, ◌||◌, IsTrue, length, not, option_map};
-ghost use Rattle.std.specs.Char.{is_ascii_whitespace};
-ghost use Rattle.std.specs.List.{list_any, prefix_len};
+ghost use Rattle.std.specs.Char.{eq_ignore_ascii_case, is_ascii_whitespace};
+ghost use Rattle.std.specs.List.{ends_with, list_any, prefix_len};
 ghost use Rattle.pep440_rs.specs.Blanks.{opens, trim_blanks};
 ghost use Rattle.pyver_requirements.specs.LineKinds.{closes_variable, constraints_file, ends_as, first_word, has_variable, is_archive, is_location, is_variable_byte, line_kind, long_option_value, opens_variable, option_kind, option_value, requirements_file, short_endings, tar_endings};
 ghost use Rattle.pyver_requirements.specs.LineKindViews.{line_kind_of};
 
 use crate::comment::trim_blanks;
+use crate::option_name::{abbreviates, count_name_bytes};
+use crate::option_value::{first_value, long_value};
 
 /// What a logical line is.
 #[derive(Clone, Copy, Debug)]
@@ -38,18 +40,15 @@ fn opens_with(text: &[u8], byte: u8) -> bool
     }
 }
 
-fn long_option_value(rest: &[u8]) -> Option<&[u8]>
-    ensures { option_map (λ x. x.now) result ≡ long_option_value rest.now }
+// The value of the long option, if the text begins with it.
+fn long_option_value<'a>(text: &'a [u8], long: &[u8]) -> Option<&'a [u8]>
+    ensures { option_map (λ x. x.now) result ≡ long_option_value long.now text.now }
 {
-    match rest {
-        [] => Some(rest),
-        [first, value @ ..] => {
-            if *first == b'=' || first.is_ascii_whitespace() {
-                Some(trim_blanks(value))
-            } else {
-                None
-            }
-        }
+    let count = count_name_bytes(text);
+    if abbreviates(long, &text[..count]) {
+        Some(long_value(&text[count..]))
+    } else {
+        None
     }
 }
 
@@ -57,10 +56,10 @@ fn long_option_value(rest: &[u8]) -> Option<&[u8]>
 fn option_value<'a>(text: &'a [u8], long: &[u8], short: &[u8]) -> Option<&'a [u8]>
     ensures { option_map (λ x. x.now) result ≡ option_value long.now short.now text.now }
 {
-    if text.starts_with(long) {
-        long_option_value(&text[long.len()..])
+    if text.starts_with("--".as_bytes()) {
+        long_option_value(text, long)
     } else if text.starts_with(short) {
-        Some(trim_blanks(&text[short.len()..]))
+        Some(first_value(trim_blanks(&text[short.len()..])))
     } else {
         None
     }
@@ -170,26 +169,33 @@ fn first_word(text: &[u8]) -> &[u8]
     &text[..count_word_bytes(text)]
 }
 
+// The word ends so, in any case.
+fn has_ending(word: &[u8], ending: &[u8]) -> bool
+    ensures { result ≡ ends_with eq_ignore_ascii_case word.now ending.now }
+{
+    ending.eq_ignore_ascii_case(&word[word.len().saturating_sub(ending.len())..])
+}
+
 fn has_tar_ending(word: &[u8]) -> bool
     ensures { result ≡ ends_as tar_endings word.now }
 {
-    word.ends_with(".tar".as_bytes())
-        || word.ends_with(".tar.gz".as_bytes())
-        || word.ends_with(".tar.bz2".as_bytes())
-        || word.ends_with(".tar.xz".as_bytes())
-        || word.ends_with(".tar.lz".as_bytes())
-        || word.ends_with(".tar.lzma".as_bytes())
+    has_ending(word, ".tar".as_bytes())
+        || has_ending(word, ".tar.gz".as_bytes())
+        || has_ending(word, ".tar.bz2".as_bytes())
+        || has_ending(word, ".tar.xz".as_bytes())
+        || has_ending(word, ".tar.lz".as_bytes())
+        || has_ending(word, ".tar.lzma".as_bytes())
 }
 
 fn has_short_ending(word: &[u8]) -> bool
     ensures { result ≡ ends_as short_endings word.now }
 {
-    word.ends_with(".whl".as_bytes())
-        || word.ends_with(".zip".as_bytes())
-        || word.ends_with(".tgz".as_bytes())
-        || word.ends_with(".tbz".as_bytes())
-        || word.ends_with(".txz".as_bytes())
-        || word.ends_with(".tlz".as_bytes())
+    has_ending(word, ".whl".as_bytes())
+        || has_ending(word, ".zip".as_bytes())
+        || has_ending(word, ".tgz".as_bytes())
+        || has_ending(word, ".tbz".as_bytes())
+        || has_ending(word, ".txz".as_bytes())
+        || has_ending(word, ".tlz".as_bytes())
 }
 
 fn is_archive(word: &[u8]) -> bool
@@ -212,8 +218,9 @@ fn is_location(word: &[u8]) -> bool
 
 /// What the logical line is: the first that holds of an option, a line with a variable, a location and a requirement.
 ///
-/// Options have their full names, and the path of `-r` and `-c` is the rest of the line, with its quotes. The first word, up to a blank,
-/// `;` or `@`, makes a location if it has a `/`, begins with `.` or ends as an archive: so a later URL makes none. Files are not looked for.
+/// The first option of a line decides, and a long one may be abbreviated if no other that pip knows begins so. A path ends at a blank
+/// that stands in no quotes, and quotes around the whole path are left out. The first word, up to a blank,
+/// `;` or `@`, makes a location if it has a `/`, begins with `.` or ends as an archive, in any case: so a later URL makes none. Files are not looked for.
 ///
 /// Allocates nothing.
 pub fn classify(text: &[u8]) -> LineKind<'_>

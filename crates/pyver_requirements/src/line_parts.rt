@@ -54,7 +54,7 @@ fn split_rest(text: &[u8]) -> Option<&[u8]>
 }
 
 // What stands before the first such byte, and what after it if there is one.
-fn split_at_first(text: &[u8], byte: u8) -> (&[u8], Option<&[u8]>)
+pub(crate) fn split_at_first(text: &[u8], byte: u8) -> (&[u8], Option<&[u8]>)
     ensures before { result.0.now ≡ before_byte byte text.now }
     ensures behind { option_map (λ x. x.now) result.1 ≡ behind_byte byte text.now }
 {

@@ -84,9 +84,9 @@ impl LineJoiner {
 /// The logical lines of a requirements file: lines that end with `\` are joined with the next one, comments are left out, and so
 /// are blanks at both ends, a byte order mark at the start and lines that are then empty.
 ///
-/// This is how pip reads, if its page is silent: a `\` at the end joins even after another `\`, and only the last is taken away; a
-/// comment line never continues, and ends the line that it is joined with; a comment begins only at the start or after a blank, so
-/// `demo#1` has none. Blanks are ASCII, a line ends only at a newline, and bytes are not decoded.
+/// This is how pip reads, if its page is silent: lines end as for Python's `splitlines`, in UTF-8; a line that continues loses all `\`
+/// at both ends; a comment line never continues, and ends the line that it is joined with; a comment begins only at the start or after
+/// a blank, so `demo#1` has none. Blanks are ASCII, and bytes are not decoded.
 ///
 /// Allocates.
 pub fn logical_lines(alloc: Global, text: &[u8]) -> Result<Vec<LogicalLine>, AllocError>

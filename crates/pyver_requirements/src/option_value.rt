@@ -1,0 +1,70 @@
+// Values of options, as a shell splits them.
+ghost use Rattle.std.specs.Prelude.{◌≡◌, ◌==◌, None, option_map};
+ghost use Rattle.pyver_requirements.specs.OptionValues.{first_value, is_quote, long_value, next_quote, quoted_word, without_quotes};
+
+use crate::comment::trim_blanks;
+use crate::line_parts::split_at_first;
+
+fn is_quote(byte: u8) -> bool
+    ensures { result ≡ is_quote byte }
+{
+    byte == b'"' || byte == b'\''
+}
+
+// The quote that is open after the byte, if this one was open before.
+fn next_quote(quote: Option<u8>, byte: u8) -> Option<u8>
+    ensures { result ≡ next_quote quote byte }
+{
+    match quote {
+        None => is_quote(byte).then_some(byte),
+        Some(open) => (byte != open).then_some(open),
+    }
+}
+
+// Up to the first blank that stands in no quotes.
+fn quoted_word(text: &[u8]) -> &[u8]
+    ensures { result.now ≡ quoted_word None text.now }
+{
+    let mut quote = None;
+    for (at, byte) in text.iter().enumerate() {
+        if quote.is_none() && byte.is_ascii_whitespace() {
+            return &text[..at];
+        }
+        quote = next_quote(quote, *byte);
+    }
+    text
+}
+
+// Quotes elsewhere than around the whole word stay, since a part of the text has no gaps.
+fn without_quotes(word: &[u8]) -> &[u8]
+    ensures { result.now ≡ without_quotes word.now }
+{
+    let [first, rest @ ..] = word else {
+        return word;
+    };
+    if !is_quote(*first) {
+        return word;
+    }
+    match split_at_first(rest, *first) {
+        (inside, Some([])) => inside,
+        _ => word,
+    }
+}
+
+// The value that the text begins with.
+pub(crate) fn first_value(text: &[u8]) -> &[u8]
+    ensures { result.now ≡ first_value text.now }
+{
+    without_quotes(quoted_word(text))
+}
+
+// The value of a long option, of which the text follows the name.
+pub(crate) fn long_value(text: &[u8]) -> &[u8]
+    ensures { result.now ≡ long_value text.now }
+{
+    match text {
+        [] => text,
+        [b'=', value @ ..] => first_value(value),
+        [_, value @ ..] => first_value(trim_blanks(value)),
+    }
+}
