@@ -284,6 +284,15 @@ fn read_suffix(bytes: &[u8]) -> Option<(SuffixParts, &[u8])>
     Some((SuffixParts { pre, post, dev }, rest))
 }
 
+impl SuffixParts {
+    fn is_empty(self) -> bool
+        ensures { result ≡ true → (self.pre ≡ None) × (self.post ≡ None) × (self.dev ≡ None) }
+    {
+        self.pre.is_none() && self.post.is_none() && self.dev.is_none()
+    }
+}
+
+// Most versions are only a release, and need no other part replaced.
 fn assemble(
     alloc: Global,
     epoch: u64,
@@ -294,7 +303,11 @@ fn assemble(
     requires { 0 < length release.now }
     ensures { IfOk result (λ v. v ≡ from_parts epoch release.now suffix.pre suffix.post suffix.dev (map segment local.items)) }
 {
-    let version = Version::new(alloc, release)?
+    let version = Version::new(alloc, release)?;
+    if epoch == 0 && suffix.is_empty() && local.is_empty() {
+        return Ok(version);
+    }
+    let version = version
         .with_pre(alloc, suffix.pre)?
         .with_post(alloc, suffix.post)?
         .with_dev(alloc, suffix.dev)?
