@@ -6,7 +6,7 @@ use Rattle.std.specs.Option.{option_map_or}
 use Rattle.pep440_rs.specs.Blanks.{opens, trim_blanks}
 use Rattle.pep440_version.specs.Grammar.{starts}
 use Rattle.pep440_version.specs.Reading.{lead, past}
-use Rattle.pyver_requirements.specs.OptionNames.{abbreviates, behind_name, long_name}
+use Rattle.pyver_requirements.specs.OptionNames.{abbreviates, behind_long_name, long_name}
 use Rattle.pyver_requirements.specs.OptionValues.{first_value, long_value}
 
 -- another file of requirements, and one of constraints, each with its path; the option of such a file without a path; an editable;
@@ -25,11 +25,11 @@ pub data LineKind : Type 0 where
 
 -- the value of this long option, if the line begins with it
 abbrev pub long_option_value : List ℕ → List ℕ → Option (List ℕ)
-long_option_value long text = if abbreviates long (long_name text) then Some (long_value (behind_name text)) else None
+long_option_value option text = if abbreviates option (long_name text) then Some (long_value (behind_long_name text)) else None
 
 -- the value of the option with this long and this short name, if the line begins with one of them
 abbrev pub option_value : List ℕ → List ℕ → List ℕ → Option (List ℕ)
-option_value long short text = if starts_with nat_eq text (codes "--") then long_option_value long text
+option_value option short text = if starts_with nat_eq text (codes "--") then long_option_value option text
     else (if starts_with nat_eq text short then Some (first_value (trim_blanks (drop (length short) text))) else None)
 
 -- the file of requirements with this path

@@ -19,13 +19,13 @@ unfoldable pub abbreviates : List ℕ → List ℕ → Bool
 abbreviates option name = starts_with nat_eq option name && (count_options name == 1)
 
 -- no blank and no `=`
-abbrev pub is_name_byte : ℕ → Bool
-is_name_byte b = not (is_ascii_whitespace b || (b == 61))
+abbrev pub is_option_byte : ℕ → Bool
+is_option_byte b = not (is_ascii_whitespace b || (b == 61))
 
 -- the name of the long option that the line begins with
 abbrev pub long_name : List ℕ → List ℕ
-long_name text = lead is_name_byte text
+long_name text = lead is_option_byte text
 
 -- what follows that name
-abbrev pub behind_name : List ℕ → List ℕ
-behind_name text = past is_name_byte text
+abbrev pub behind_long_name : List ℕ → List ℕ
+behind_long_name text = past is_option_byte text

@@ -1,7 +1,7 @@
 // Names of long options, which `optparse` lets abbreviate.
 ghost use Rattle.std.specs.Prelude.{◌≡◌, ◌≤◌, ◌==◌, length, nat_eq};
 ghost use Rattle.std.specs.List.{count_by, prefix_len, starts_with};
-ghost use Rattle.pyver_requirements.specs.OptionNames.{abbreviates, count_options, is_name_byte};
+ghost use Rattle.pyver_requirements.specs.OptionNames.{abbreviates, count_options, is_option_byte};
 
 const LONG_OPTIONS: [&str; 18] = [
     "--index-url",
@@ -48,15 +48,17 @@ pub(crate) fn abbreviates(option: &[u8], name: &[u8]) -> bool
     option.starts_with(name) && count_options(name) == 1
 }
 
-fn is_name_byte(byte: u8) -> bool
-    ensures { result ≡ is_name_byte byte }
+fn is_option_byte(byte: u8) -> bool
+    ensures { result ≡ is_option_byte byte }
 {
     !(byte.is_ascii_whitespace() || byte == b'=')
 }
 
 pub(crate) fn count_name_bytes(text: &[u8]) -> usize
-    ensures count { result ≡ prefix_len is_name_byte text.now }
+    ensures count { result ≡ prefix_len is_option_byte text.now }
     ensures inside { result ≤ length text.now }
 {
-    text.iter().take_while(|byte| is_name_byte(**byte)).count()
+    text.iter()
+        .take_while(|byte| is_option_byte(**byte))
+        .count()
 }
