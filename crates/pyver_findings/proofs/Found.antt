@@ -7,18 +7,13 @@ use Rattle.std.proofs.lemmas.Slice.Eq.{bytes_eq-Decides}
 use Rattle.std.proofs.lemmas.List.Elements.{All-append, All-cons, All-contains_itself, All-head, All-nil, All-tail}
 use Rattle.std.specs.List.{All, Any, Contains, filter, flat_map, list_any}
 use Rattle.pyver_findings.proofs.Once.{of_lines}
+use Rattle.pyver_findings.proofs.SmallestLists.{all_smallest, smallest_right}
 use Rattle.pyver_findings.specs.Demands.{Demand}
-use Rattle.pyver_findings.specs.Conflicts.{common_cover, conflicts, counts_under, excludes, first_mentions, is_empty, of_all, of_few, of_name, of_one, of_pairs, of_two, pin_conflict, has_same_marker, same_marker, has_same_name, under}
+use Rattle.pyver_findings.specs.Conflicts.{common_cover, conflict_kind, conflicts, counts_under, first_mentions, is_empty, of_all, of_name, has_same_marker, same_marker, has_same_name, smallest, under}
 use Rattle.pyver_findings.specs.FileLines.{FileLine, all_lines}
 use Rattle.pyver_findings.specs.FindingLaws.{ConflictsHaveFindings, IsAmong}
 use Rattle.pyver_findings.specs.Findings.{Conflicting, Finding}
 use Rattle.pyver_findings.specs.Reports.{Report, demands_in, invalid_in}
-use Rattle.pyver_findings.specs.declared.finding.Conflict.TheVariants.{NoVersion}
-
--- a list of no length is empty
-pub is_nil : {X : Type 0} (xs : List X) → (length xs == 0) ≡ true → xs ≡ []
-is_nil [] e = refl
-is_nil (x ∷ xs) e = let none : length (x ∷ xs) ≡ 0 = eqb-true (length (x ∷ xs)) 0 e in absurd (omega (arith, none))
 
 -- ---- some finding
 
@@ -36,62 +31,24 @@ pub in_right : (P : Finding → Type 0) (fs gs : List Finding) → Some_is P gs 
 in_right P [] gs h = h
 in_right P (f ∷ fs) gs h = inr (in_right P fs gs h)
 
--- it holds of one in either part
-in_either : (P : Finding → Type 0) (fs gs hs is : List Finding) → (Some_is P fs → Some_is P hs) → (Some_is P gs → Some_is P is) → Some_is P (fs ++ gs) → Some_is P (hs ++ is)
-in_either P [] gs hs is one other h = in_right P hs is (other h)
-in_either P (f ∷ fs) gs hs is one other (inl p) = in_left P hs is (one (inl p))
-in_either P (f ∷ fs) gs hs is one other (inr h) = in_either P fs gs hs is (λ q. one (inr q)) other h
-
 pub any_is : (P : Finding → Type 0) (fs : List Finding) → Some_is P fs → Any P fs
 any_is P [] h = absurd h
 any_is P (f ∷ fs) (inl p) = (0, f, omega arith, refl, p)
 any_is P (f ∷ fs) (inr h) = let r = any_is P fs h in (suc r.0, r.1, omega (arith, r.2), r.3, r.4)
 
--- of findings of which it holds there is one
-first_is : (P : Finding → Type 0) (fs : List Finding) → (length fs == 0) ≡ false → All P fs → Some_is P fs
-first_is P [] some all = absurd (true≢false some)
-first_is P (f ∷ fs) some all = inl (All-head P f fs all)
-
 -- ---- what is reported of some lines names no others
-
-filled : (l : FileLine) (rest : List FileLine) → l ∷ rest ≡ [] → ⊥
-filled l rest e = let none : length (l ∷ rest) ≡ 0 = ap length e in absurd (omega (arith, none))
 
 -- lines with nothing in common are not none
 some_lines : (some : List Demand) → is_empty (common_cover some) ≡ true → map (λ (a : Demand). a.line) some ≡ [] → ⊥
 some_lines [] empty e = true≢false (sym empty)
-some_lines (a ∷ some) empty e = filled a.line (map (λ (b : Demand). b.line) some) e
+some_lines (a ∷ some) empty e =
+    let none : length (a.line ∷ map (λ (b : Demand). b.line) some) ≡ 0 = ap length e in
+    absurd (omega (arith, none))
 
 module _ (lines : List FileLine) where
   -- the line is one of these
   abbrev pub IsOne : Demand → Type 0
   IsOne a = Contains lines a.line
-
-  where_true : (b : Bool) (f : Finding) → IsAmong lines f → All (IsAmong lines) (if b then f ∷ [] else [])
-  where_true true f among = All-cons (IsAmong lines) f [] among (All-nil (IsAmong lines))
-  where_true false f among = All-nil (IsAmong lines)
-
-  one_among : (a : Demand) → IsOne a → All (IsAmong lines) (of_one a)
-  one_among a one = where_true (is_empty a.cover) (Conflicting NoVersion (a.line ∷ [])) (filled a.line [], All-cons (Contains lines) a.line [] one (All-nil (Contains lines)))
-
-  two_among : (a b : Demand) → IsOne a → IsOne b → All (IsAmong lines) (of_two a b)
-  two_among a b one other =
-      where_true (excludes a b) (Conflicting (pin_conflict a b) (a.line ∷ b.line ∷ []))
-      (filled a.line (b.line ∷ []), All-cons (Contains lines) a.line (b.line ∷ []) one (All-cons (Contains lines) b.line [] other (All-nil (Contains lines))))
-
-  each_among : (f : Demand → List Finding) → ((a : Demand) → IsOne a → All (IsAmong lines) (f a)) → (some : List Demand) → All IsOne some → All (IsAmong lines) (flat_map f some)
-  each_among f among [] k = All-nil (IsAmong lines)
-  each_among f among (a ∷ some) k = All-append (IsAmong lines) (f a) (flat_map f some) (among a (All-head IsOne a some k)) (each_among f among some (All-tail IsOne a some k))
-
-  pairs_among : (some : List Demand) → All IsOne some → All (IsAmong lines) (of_pairs some)
-  pairs_among [] k = All-nil (IsAmong lines)
-  pairs_among (a ∷ rest) k =
-      let one = All-head IsOne a rest k in
-      let others = All-tail IsOne a rest k in
-      All-append (IsAmong lines) (flat_map (of_two a) rest) (of_pairs rest) (each_among (of_two a) (λ b other. two_among a b one other) rest others) (pairs_among rest others)
-
-  few_among : (some : List Demand) → All IsOne some → All (IsAmong lines) (of_few some)
-  few_among some k = All-append (IsAmong lines) (flat_map of_one some) (of_pairs some) (each_among of_one one_among some k) (pairs_among some k)
 
   mapped : (some : List Demand) → All IsOne some → All (Contains lines) (map (λ (a : Demand). a.line) some)
   mapped [] k = All-nil (Contains lines)
@@ -101,40 +58,11 @@ module _ (lines : List FileLine) where
   unmapped [] k = All-nil IsOne
   unmapped (a ∷ some) k = All-cons IsOne a some (All-head (Contains lines) a.line (map (λ (b : Demand). b.line) some) k) (unmapped some (All-tail (Contains lines) a.line (map (λ (b : Demand). b.line) some) k))
 
-  -- lines with nothing in common are reported, or some of them are
-  by_few : (some : List Demand) → All IsOne some → (map (λ (a : Demand). a.line) some ≡ [] → ⊥) → (b : Bool) → (length (of_few some) == 0) ≡ b
-      → Some_is (IsAmong lines) (if true && b then Conflicting NoVersion (map (λ (a : Demand). a.line) some) ∷ [] else []) ⊎ Some_is (IsAmong lines) (of_few some)
-  by_few some k many true is = inl (inl (many, mapped some k))
-  by_few some k many false is = inr (first_is (IsAmong lines) (of_few some) is (few_among some k))
-
-  all_or_few : (some : List Demand) → All IsOne some → is_empty (common_cover some) ≡ true → Some_is (IsAmong lines) (of_all some) ⊎ Some_is (IsAmong lines) (of_few some)
-  all_or_few some k empty =
-      subst (λ e. Some_is (IsAmong lines) (if e && (length (of_few some) == 0) then Conflicting NoVersion (map (λ (a : Demand). a.line) some) ∷ [] else []) ⊎ Some_is (IsAmong lines) (of_few some)) (sym empty)
-      (by_few some k (some_lines some empty) (length (of_few some) == 0) refl)
-
--- ---- what is found of some of the lines is found of all
-
-module _ (P : Finding → Type 0) (p : Demand → Bool) where
-  one_kept : (b : Bool) (f : Demand → List Finding) (a : Demand) (lines : List Demand) → (Some_is P (flat_map f (filter p lines)) → Some_is P (flat_map f lines))
-      → Some_is P (flat_map f (if b then a ∷ filter p lines else filter p lines)) → Some_is P (f a ++ flat_map f lines)
-  one_kept true f a lines others h = in_either P (f a) (flat_map f (filter p lines)) (f a) (flat_map f lines) (λ q. q) others h
-  one_kept false f a lines others h = in_right P (f a) (flat_map f lines) (others h)
-
-  each_kept : (f : Demand → List Finding) (lines : List Demand) → Some_is P (flat_map f (filter p lines)) → Some_is P (flat_map f lines)
-  each_kept f [] h = h
-  each_kept f (a ∷ lines) h = one_kept (p a) f a lines (each_kept f lines) h
-
-  pair_kept : (b : Bool) (a : Demand) (lines : List Demand) → (Some_is P (of_pairs (filter p lines)) → Some_is P (of_pairs lines))
-      → Some_is P (of_pairs (if b then a ∷ filter p lines else filter p lines)) → Some_is P (flat_map (of_two a) lines ++ of_pairs lines)
-  pair_kept true a lines others h = in_either P (flat_map (of_two a) (filter p lines)) (of_pairs (filter p lines)) (flat_map (of_two a) lines) (of_pairs lines) (each_kept (of_two a) lines) others h
-  pair_kept false a lines others h = in_right P (flat_map (of_two a) lines) (of_pairs lines) (others h)
-
-  pairs_kept : (lines : List Demand) → Some_is P (of_pairs (filter p lines)) → Some_is P (of_pairs lines)
-  pairs_kept [] h = h
-  pairs_kept (a ∷ lines) h = pair_kept (p a) a lines (pairs_kept lines) h
-
-  few_kept : (lines : List Demand) → Some_is P (of_few (filter p lines)) → Some_is P (of_few lines)
-  few_kept lines h = in_either P (flat_map of_one (filter p lines)) (of_pairs (filter p lines)) (flat_map of_one lines) (of_pairs lines) (each_kept of_one lines) (pairs_kept lines) h
+  -- of lines with nothing in common some are reported
+  all_found : (some : List Demand) → All IsOne some → is_empty (common_cover some) ≡ true → Some_is (IsAmong lines) (of_all some)
+  all_found some k empty =
+      subst (λ e. Some_is (IsAmong lines) (if e then Conflicting (conflict_kind (smallest some)) (map (λ (a : Demand). a.line) (smallest some)) ∷ [] else [])) (sym empty)
+      (inl (some_lines (smallest some) (smallest_right some empty).0, mapped (smallest some) (all_smallest IsOne some k)))
 
 -- ---- first mentions
 
@@ -261,28 +189,20 @@ module _ (lines : List Demand) (marker : Option (List ℕ)) where
   all_ones = unmapped (map (λ (a : Demand). a.line) (under marker lines)) (under marker lines) (All-contains_itself (map (λ (a : Demand). a.line) (under marker lines)))
 
   -- the lines without a marker have nothing in common
-  by_none : is_empty (common_cover (under None lines)) ≡ true → Some_is Fits (of_few lines ++ of_all (under None lines))
+  by_none : is_empty (common_cover (under None lines)) ≡ true → Some_is Fits (of_all (under None lines))
   by_none e =
-      elim (all_or_few (map (λ (a : Demand). a.line) (under marker lines)) (under None lines)
-      (all_sub (IsOne (map (λ (a : Demand). a.line) (under marker lines))) (counts_under None) (counts_under marker) (λ x. none_counts x.marker marker) lines all_ones) e) [
-        | inl r ↦ in_right Fits (of_few lines) (of_all (under None lines)) r
-        | inr r ↦ in_left Fits (of_few lines) (of_all (under None lines)) (few_kept Fits (counts_under None) lines r)
-      ]
+      all_found (map (λ (a : Demand). a.line) (under marker lines)) (under None lines)
+      (all_sub (IsOne (map (λ (a : Demand). a.line) (under marker lines))) (counts_under None) (counts_under marker) (λ x. none_counts x.marker marker) lines all_ones) e
 
   -- a line has the marker
   by_line : is_empty (common_cover (under marker lines)) ≡ true → (a : Demand) → HasKey (λ (x : Demand). x.marker) a.marker lines → a.marker ≡ marker
-      → Some_is Fits (of_few lines ++ flat_map (λ (b : Demand). of_all (under b.marker lines)) (first_mentions has_same_marker [] lines))
+      → Some_is Fits (flat_map (λ (b : Demand). of_all (under b.marker lines)) (first_mentions has_same_marker [] lines))
   by_line none a has is =
-      let each = flat_map (λ (b : Demand). of_all (under b.marker lines)) (first_mentions has_same_marker [] lines) in
-      elim (all_or_few (map (λ (b : Demand). b.line) (under marker lines)) (under marker lines) all_ones none) [
-        | inl r ↦ in_right Fits (of_few lines) each
-            (reach (λ (x : Demand). x.marker) has_same_marker (λ x y. marker_yes x.marker y.marker) (λ x y. marker_alike x.marker y.marker) Fits (λ (b : Demand). of_all (under b.marker lines)) a
-            (λ b e. subst (λ n. Some_is Fits (of_all (under n lines))) (sym (e ∙ is)) r) [] lines refl has)
-        | inr r ↦ in_left Fits (of_few lines) each (few_kept Fits (counts_under marker) lines r)
-      ]
+      reach (λ (x : Demand). x.marker) has_same_marker (λ x y. marker_yes x.marker y.marker) (λ x y. marker_alike x.marker y.marker) Fits (λ (b : Demand). of_all (under b.marker lines)) a
+      (λ b e. subst (λ n. Some_is Fits (of_all (under n lines))) (sym (e ∙ is)) (all_found (map (λ (c : Demand). c.line) (under marker lines)) (under marker lines) all_ones none)) [] lines refl has
 
 by_marker : (lines : List Demand) (marker : Option (List ℕ)) → is_empty (common_cover (under marker lines)) ≡ true → is_empty (common_cover (under None lines)) ≡ false
-    → Some_is (Fits lines marker) (of_few lines ++ flat_map (λ (b : Demand). of_all (under b.marker lines)) (first_mentions has_same_marker [] lines))
+    → Some_is (Fits lines marker) (flat_map (λ (b : Demand). of_all (under b.marker lines)) (first_mentions has_same_marker [] lines))
 by_marker lines None none e = absurd (true≢false (sym none ∙ e))
 by_marker lines (Some m) none e =
     elim (marked m lines) [
@@ -291,7 +211,7 @@ by_marker lines (Some m) none e =
     ]
 
 by_both : (lines : List Demand) (marker : Option (List ℕ)) (b : Bool) → is_empty (common_cover (under marker lines)) ≡ true → is_empty (common_cover (under None lines)) ≡ b
-    → Some_is (Fits lines marker) (of_few lines ++ (if b then of_all (under None lines) else flat_map (λ (a : Demand). of_all (under a.marker lines)) (first_mentions has_same_marker [] lines)))
+    → Some_is (Fits lines marker) (if b then of_all (under None lines) else flat_map (λ (a : Demand). of_all (under a.marker lines)) (first_mentions has_same_marker [] lines))
 by_both lines marker true none e = by_none lines marker e
 by_both lines marker false none e = by_marker lines marker none e
 

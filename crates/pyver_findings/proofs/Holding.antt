@@ -18,12 +18,13 @@ use Rattle.pep440_version.specs.Key.{record_cmp}
 use Rattle.pep440_version.specs.KeyLaws.{record_total}
 use Rattle.pep440_version.specs.Record.{Record}
 use Rattle.pyver_findings.specs.Demands.{Demand, is_pinned, line_demand, or_all}
-use Rattle.pyver_findings.specs.Conflicts.{common_cover, conflicts, counts_under, excludes, first_mentions, pin_is_apart, is_empty, meets, of_all, of_few, of_markers, of_name, of_one, of_pairs, of_two, pin_conflict, has_same_marker, has_same_name, same_marker, under}
+use Rattle.pyver_findings.specs.Conflicts.{common_cover, conflict_kind, conflicts, counts_under, first_mentions, is_empty, of_all, of_name, has_same_marker, has_same_name, same_marker, smallest, under}
 use Rattle.pyver_findings.specs.FileLines.{FileLine, all_lines}
 use Rattle.pyver_findings.specs.FindingLaws.{AsksFor, CountTogether, CountsUnder, FindingsHold, FitsConflict, IsRight, LineAllows, NamesVersion}
 use Rattle.pyver_findings.specs.Findings.{Conflicting, Finding}
 use Rattle.pyver_findings.specs.LineMeanings.{IsNone, LeftOut, LineMeaning, NamesFile, IsKindMeaning, IsMeaning, requirement_meaning, has_scheme, names_file, with_marker, with_url}
-use Rattle.pyver_findings.proofs.Found.{is_nil, marker_yes}
+use Rattle.pyver_findings.proofs.Found.{marker_yes}
+use Rattle.pyver_findings.proofs.SmallestLists.{all_smallest, is_nil, smallest_right}
 use Rattle.pyver_findings.proofs.Rejecting.{invalid_right}
 use Rattle.pyver_findings.specs.Reports.{Report, demands_in, invalid_in}
 use Rattle.pyver_findings.specs.declared.cause.Cause.TheVariants as cause
@@ -106,14 +107,6 @@ module _ (read : List FileLine) where
 
 -- ---- ranges, lists and markers
 
-left_of : (a b : Bool) → (a && b) ≡ true → a ≡ true
-left_of true b e = refl
-left_of false b e = cc e
-
-right_of : (a b : Bool) → (a && b) ≡ true → b ≡ true
-right_of true b e = e
-right_of false b e = cc e
-
 -- no version lies in an empty range
 holds_none : (segments : Segments) (v : Record) → is_empty segments ≡ true → contains record_cmp segments v ≡ true → ⊥
 holds_none segments v e holds = true≢false (sym holds ∙ ap (λ s. contains record_cmp s v) (is_nil segments e))
@@ -131,34 +124,28 @@ mapped : (P : FileLine → Type 0) (Q : Demand → Type 0) → ((a : Demand) →
 mapped P Q so [] k = All-nil P
 mapped P Q so (a ∷ lines) k = All-cons P a.line (map (λ (b : Demand). b.line) lines) (so a (All-head Q a lines k)) (mapped P Q so lines (All-tail Q a lines k))
 
-pair : (P : FileLine → Type 0) (l k : FileLine) → P l → P k → All P (l ∷ (k ∷ []))
-pair P l k one other = All-cons P l (k ∷ []) one (All-cons P k [] other (All-nil P))
-
--- two markers of which one is missing, or which are one
-shared_marker : (m n : Option (List ℕ)) → (is_none n || (is_none m || same_marker m n)) ≡ true → (k : Option (List ℕ)) × ((m ≡ None) ⊎ (m ≡ k)) × ((n ≡ None) ⊎ (n ≡ k))
-shared_marker m None e = (m, inr refl, inl refl)
-shared_marker None (Some n) e = (Some n, inl refl, inr refl)
-shared_marker (Some m) (Some n) e = (Some n, inr (marker_yes (Some m) (Some n) e), inr refl)
-
 counted_marker : (n m : Option (List ℕ)) → (is_none n || same_marker n m) ≡ true → (n ≡ None) ⊎ (n ≡ m)
 counted_marker None m e = inl refl
 counted_marker (Some n) m e = inr (marker_yes (Some n) m e)
 
--- ---- lines of one name
+-- ---- what holds of each finding
 
-module _ (read : List FileLine) where
-  where_true : (b : Bool) (f : Finding) → (b ≡ true → (IsRight read) f) → All (IsRight read) (if b then f ∷ [] else [])
-  where_true true f right = All-cons (IsRight read) f [] (right refl) (All-nil (IsRight read))
-  where_true false f right = All-nil (IsRight read)
+module _ (P : Finding → Type 0) where
+  pub where_true : (b : Bool) (f : Finding) → (b ≡ true → P f) → All P (if b then f ∷ [] else [])
+  where_true true f right = All-cons P f [] (right refl) (All-nil P)
+  where_true false f right = All-nil P
 
-  any_right : (f : Demand → List Finding) → ((a : Demand) → All (IsRight read) (f a)) → (lines : List Demand) → All (IsRight read) (flat_map f lines)
-  any_right f right [] = All-nil (IsRight read)
-  any_right f right (a ∷ lines) = All-append (IsRight read) (f a) (flat_map f lines) (right a) (any_right f right lines)
+  pub of_each : (f : Demand → List Finding) → ((a : Demand) → All P (f a)) → (lines : List Demand) → All P (flat_map f lines)
+  of_each f right [] = All-nil P
+  of_each f right (a ∷ lines) = All-append P (f a) (flat_map f lines) (right a) (of_each f right lines)
 
-  by_empty : (b : Bool) (one other : List Finding) → All (IsRight read) one → All (IsRight read) other → All (IsRight read) (if b then one else other)
+  pub by_empty : (b : Bool) (one other : List Finding) → All P one → All P other → All P (if b then one else other)
   by_empty true one other right also = right
   by_empty false one other right also = also
 
+-- ---- lines of one name
+
+module _ (read : List FileLine) where
   module _ (name : List ℕ) where
     abbrev pub IsNamed : Demand → Type 0
     IsNamed a = IsAsked read a × (bytes_eq name a.name ≡ true)
@@ -178,60 +165,19 @@ module _ (read : List FileLine) where
         let one : n ≡ m = one_requirement (line_parts a.line.text).requirement n m d e in
         true≢false (sym holds ∙ sym (ap (λ (q : Needed). is_pinned q.specifiers) one) ∙ pinned ∙ free)
 
-    -- ---- one line, and two
+    -- ---- the kind
 
-    one_right : (a : Demand) → IsNamed a → All (IsRight read) (of_one a)
-    one_right a k =
-        where_true (is_empty a.cover) (Conflicting NoVersion (a.line ∷ [])) (λ e. (
-          All-cons (Contains read) a.line [] k.0.1 (All-nil (Contains read)),
-          (
-            name,
-            a.marker,
-            All-cons (AsksFor name) a.line [] (asks_for a k) (All-nil (AsksFor name)),
-            All-cons (CountsUnder a.marker) a.line [] (counts_line a.marker a k (inr refl)) (All-nil (CountsUnder a.marker)),
-          ),
-          tt,
-          λ v denoted all. holds_none a.cover v e (k.0.0 v denoted (All-head (LineAllows v) a.line [] all)),
-        ))
+    fits : (a b : Demand) → IsNamed a → IsNamed b → (p q : Bool) → a.pinned ≡ p → b.pinned ≡ q → FitsConflict (if p && q then TwoPins else (if p || q then PinOutside else NoVersion)) (a.line ∷ (b.line ∷ []))
+    fits a b one other true true p q = (a.line, b.line, refl, names_version a one p, names_version b other q)
+    fits a b one other true false p q = (a.line, b.line, refl, inl (names_version a one p), λ two. names_none b other q two.1)
+    fits a b one other false true p q = (a.line, b.line, refl, inr (names_version b other q), λ two. names_none a one p two.0)
+    fits a b one other false false p q = tt
 
-    two_together : (a b : Demand) → IsNamed a → IsNamed b → meets a b ≡ true → CountTogether (a.line ∷ (b.line ∷ []))
-    two_together a b one other e =
-        let k = shared_marker a.marker b.marker e in
-        (name, k.0, pair (AsksFor name) a.line b.line (asks_for a one) (asks_for b other), pair (CountsUnder k.0) a.line b.line (counts_line k.0 a one k.1) (counts_line k.0 b other k.2))
-
-    fits : (a b : Demand) → IsNamed a → IsNamed b → (p q : Bool) → a.pinned ≡ p → b.pinned ≡ q → (p || q) ≡ true → FitsConflict (if p && q then TwoPins else PinOutside) (a.line ∷ (b.line ∷ []))
-    fits a b one other true true p q e = (a.line, b.line, refl, names_version a one p, names_version b other q)
-    fits a b one other true false p q e = (a.line, b.line, refl, inl (names_version a one p), λ two. names_none b other q two.1)
-    fits a b one other false true p q e = (a.line, b.line, refl, inr (names_version b other q), λ two. names_none a one p two.0)
-    fits a b one other false false p q e = absurd (true≢false (sym e))
-
-    two_right : (a b : Demand) → IsNamed a → IsNamed b → All (IsRight read) (of_two a b)
-    two_right a b one other =
-        where_true (excludes a b) (Conflicting (pin_conflict a b) (a.line ∷ b.line ∷ [])) (λ e.
-        let apart : pin_is_apart a b ≡ true = right_of (not (is_empty a.cover) && not (is_empty b.cover)) (pin_is_apart a b) (right_of (meets a b) _ e) in
-        let empty : is_empty (overlaps record_cmp a.cover b.cover) ≡ true = right_of (a.pinned || b.pinned) _ apart in (
-          pair (Contains read) a.line b.line one.0.1 other.0.1,
-          two_together a b one other (left_of (meets a b) _ e),
-          fits a b one other a.pinned b.pinned refl refl (left_of (a.pinned || b.pinned) _ apart),
-          λ v denoted all.
-              holds_none (overlaps record_cmp a.cover b.cover) v empty
-              (both_hold a.cover b.cover v (one.0.0 v denoted (All-head (LineAllows v) a.line (b.line ∷ []) all))
-              (other.0.0 v denoted (All-head (LineAllows v) b.line [] (All-tail (LineAllows v) a.line (b.line ∷ []) all)))),
-        ))
-
-    each_right : (f : Demand → List Finding) → ((a : Demand) → IsNamed a → All (IsRight read) (f a)) → (lines : List Demand) → All IsNamed lines → All (IsRight read) (flat_map f lines)
-    each_right f right [] k = All-nil (IsRight read)
-    each_right f right (a ∷ lines) k = All-append (IsRight read) (f a) (flat_map f lines) (right a (All-head IsNamed a lines k)) (each_right f right lines (All-tail IsNamed a lines k))
-
-    pairs_right : (lines : List Demand) → All IsNamed lines → All (IsRight read) (of_pairs lines)
-    pairs_right [] k = All-nil (IsRight read)
-    pairs_right (a ∷ rest) k =
-        let one = All-head IsNamed a rest k in
-        let others = All-tail IsNamed a rest k in
-        All-append (IsRight read) (flat_map (of_two a) rest) (of_pairs rest) (each_right (of_two a) (λ b other. two_right a b one other) rest others) (pairs_right rest others)
-
-    few_right : (lines : List Demand) → All IsNamed lines → All (IsRight read) (of_few lines)
-    few_right lines k = All-append (IsRight read) (flat_map of_one lines) (of_pairs lines) (each_right of_one one_right lines k) (pairs_right lines k)
+    kind_fits : (lines : List Demand) → All IsNamed lines → FitsConflict (conflict_kind lines) (map (λ (a : Demand). a.line) lines)
+    kind_fits [] k = tt
+    kind_fits (a ∷ []) k = tt
+    kind_fits (a ∷ (b ∷ [])) k = fits a b (All-head IsNamed a (b ∷ []) k) (All-head IsNamed b [] (All-tail IsNamed a (b ∷ []) k)) a.pinned b.pinned refl refl
+    kind_fits (a ∷ (b ∷ (c ∷ rest))) k = tt
 
     -- ---- lines that count together
 
@@ -249,11 +195,13 @@ module _ (read : List FileLine) where
 
     all_right : (marker : Option (List ℕ)) (lines : List Demand) → All IsNamed lines → All (Counts marker) lines → All (IsRight read) (of_all lines)
     all_right marker lines named k =
-        where_true (is_empty (common_cover lines) && (length (of_few lines) == 0)) (Conflicting NoVersion (map (λ (a : Demand). a.line) lines)) (λ e. (
-          mapped (Contains read) IsNamed (λ a one. one.0.1) lines named,
-          (name, marker, mapped (AsksFor name) IsNamed asks_for lines named, mapped (CountsUnder marker) (Counts marker) (λ a one. counts_line marker a one.0 (counted_marker a.marker marker one.1)) lines k),
-          tt,
-          λ v denoted all. holds_none (common_cover lines) v (left_of (is_empty (common_cover lines)) _ e) (all_hold v denoted full lines refl named all),
+        let some = smallest lines in
+        let these = all_smallest IsNamed lines named in
+        where_true (IsRight read) (is_empty (common_cover lines)) (Conflicting (conflict_kind some) (map (λ (a : Demand). a.line) some)) (λ e. (
+          mapped (Contains read) IsNamed (λ a one. one.0.1) some these,
+          (name, marker, mapped (AsksFor name) IsNamed asks_for some these, mapped (CountsUnder marker) (Counts marker) (λ a one. counts_line marker a one.0 (counted_marker a.marker marker one.1)) some (all_smallest (Counts marker) lines k)),
+          kind_fits some these,
+          λ v denoted all. holds_none (common_cover some) v (smallest_right lines e).0 (all_hold v denoted full some refl these all),
         ))
 
     under_right : (marker : Option (List ℕ)) (lines : List Demand) → All IsNamed lines → All (IsRight read) (of_all (under marker lines))
@@ -261,17 +209,14 @@ module _ (read : List FileLine) where
         let named = All-filter (counts_under marker) IsNamed lines k in
         all_right marker (under marker lines) named (both IsNamed (λ a. counts_under marker a ≡ true) (under marker lines) named (filter_passes (counts_under marker) lines))
 
-    markers_right : (lines : List Demand) → All IsNamed lines → All (IsRight read) (of_markers lines)
-    markers_right lines k =
-        by_empty (is_empty (common_cover (under None lines))) _ _ (under_right None lines k)
-        (any_right (λ (a : Demand). of_all (under a.marker lines)) (λ a. under_right a.marker lines k) (first_mentions has_same_marker [] lines))
-
     name_right : (lines : List Demand) → All IsNamed lines → All (IsRight read) (of_name lines)
-    name_right lines k = All-append (IsRight read) (of_few lines) (of_markers lines) (few_right lines k) (markers_right lines k)
+    name_right lines k =
+        by_empty (IsRight read) (is_empty (common_cover (under None lines))) _ _ (under_right None lines k)
+        (of_each (IsRight read) (λ (a : Demand). of_all (under a.marker lines)) (λ a. under_right a.marker lines k) (first_mentions has_same_marker [] lines))
 
   conflicts_right : (lines : List Demand) → All (IsAsked read) lines → All (IsRight read) (conflicts lines)
   conflicts_right lines k =
-      any_right (λ (a : Demand). of_name (filter (has_same_name a) lines))
+      of_each (IsRight read) (λ (a : Demand). of_name (filter (has_same_name a) lines))
       (λ a. name_right a.name (filter (has_same_name a) lines) (both (IsAsked read) (λ b. has_same_name a b ≡ true) (filter (has_same_name a) lines) (All-filter (has_same_name a) (IsAsked read) lines k) (filter_passes (has_same_name a) lines)))
       (first_mentions has_same_name [] lines)
 

@@ -3,7 +3,8 @@ use Rattle.std.proofs.Common.{arith, ◌≡◌, ◌==◌, ◌<◌, ◌∙◌, �
 use Rattle.std.specs.List.{AllZip, flat_map}
 use Rattle.std.specs.Str.{IsUtf8}
 use Rattle.pep440_pick.specs.RequirementGrammar.{DerivesRequirement, Needed}
-use Rattle.pyver_findings.proofs.Found.{Some_is, any_is, in_left, in_right, is_nil}
+use Rattle.pyver_findings.proofs.Found.{Some_is, any_is, in_left, in_right}
+use Rattle.pyver_findings.proofs.SmallestLists.{is_nil}
 use Rattle.pyver_findings.specs.Conflicts.{conflicts}
 use Rattle.pyver_findings.specs.FileLines.{FileLine, all_lines}
 use Rattle.pyver_findings.specs.FindingLaws.{InvalidLinesHaveFindings, IsAlone, IsRequirementLine, LacksRequirement}

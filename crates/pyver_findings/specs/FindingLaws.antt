@@ -1,7 +1,7 @@
 -- What holds of findings: a line that is reported by itself is no requirement, and each that is none is reported; lines that are
--- reported together count together and cannot be satisfied, and those that have no version in common are reported; there is one
--- report.
-use Rattle.std.specs.Prelude.{◌≡◌, ◌⊎◌, ⊤, ℕ, List, [], ◌∷◌, IsTrue, Option, Some, None, bytes_eq, map}
+-- reported together count together and cannot be satisfied, and none of them can be left out; those that have no version in common are
+-- reported; there is one report.
+use Rattle.std.specs.Prelude.{◌≡◌, ◌⊎◌, ⊤, ℕ, List, [], ◌∷◌, ◌++◌, false, true, IsTrue, Option, Some, None, bytes_eq, map}
 use Rattle.std.specs.List.{All, AllZip, Any, Contains, filter, flat_map}
 use Rattle.std.specs.Str.{IsUtf8}
 use Rattle.pep440_pick.specs.Names.{normal}
@@ -9,7 +9,7 @@ use Rattle.pep440_pick.specs.RequirementGrammar.{DerivesRequirement, Needed}
 use Rattle.pep440_rs.specs.Cover.{IsDenoted}
 use Rattle.pep440_rs.specs.Matching.{list_matches}
 use Rattle.pep440_version.specs.Record.{Record}
-use Rattle.pyver_findings.specs.Conflicts.{common_cover, has_same_name, under}
+use Rattle.pyver_findings.specs.Conflicts.{common_cover, conflicts, has_same_name, is_empty, under}
 use Rattle.pyver_findings.specs.Demands.{Demand, is_pinned}
 use Rattle.pyver_findings.specs.FileLines.{File, FileLine, all_lines}
 use Rattle.pyver_findings.specs.Findings.{Conflicting, Finding, NoRequirement}
@@ -92,6 +92,24 @@ AreDemands files demands = (xs : List LineMeaning) × AllZip IsMeaning (all_line
 abbrev pub ConflictsHaveFindings : Type 0
 ConflictsHaveFindings = (files : List File) (r : Report) (lines : List Demand) (a : Demand) (marker : Option (List ℕ)) → IsReport files r → AreDemands files lines → Contains lines a
     → common_cover (under marker (filter (has_same_name a) lines)) ≡ [] → Any (IsAmong (map (λ (b : Demand). b.line) (under marker (filter (has_same_name a) lines)))) r.findings
+
+-- the others have something in common without any one of `lines`, where `front` stands before them
+abbrev pub IsNeeded : List Demand → List Demand → Type 0
+IsNeeded front [] = ⊤
+IsNeeded front (a ∷ lines) = (is_empty (common_cover (front ++ lines)) ≡ false) × IsNeeded (front ++ a ∷ []) lines
+
+-- the covers of the lines have nothing in common, and without any one of them they have
+abbrev pub IsSmallest : List Demand → Type 0
+IsSmallest lines = (is_empty (common_cover lines) ≡ true) × IsNeeded [] lines
+
+-- the lines that are reported together are some of these, and a smallest list
+abbrev pub ReportsSmallest : List Demand → Finding → Type 0
+ReportsSmallest lines (NoRequirement l reason column) = ⊤
+ReportsSmallest lines (Conflicting conflict reported) = (some : List Demand) × All (Contains lines) some × (reported ≡ map (λ (a : Demand). a.line) some) × IsSmallest some
+
+-- no line can be left out of those that are reported together
+abbrev pub ConflictsAreSmallest : Type 0
+ConflictsAreSmallest = (lines : List Demand) → All (ReportsSmallest lines) (conflicts lines)
 
 -- a line has at most one meaning
 abbrev pub MeaningsOnce : Type 0

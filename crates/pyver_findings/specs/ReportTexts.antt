@@ -1,5 +1,5 @@
 -- The findings of a report as lines for people, and its counts; what is quoted is escaped.
-use Rattle.std.specs.Prelude.{ℕ, ◌==◌, List, [], ◌∷◌, ◌++◌, Bool, true, false, codes, count_by, map, take, if◌then◌else◌}
+use Rattle.std.specs.Prelude.{ℕ, ◌-◌, ◌==◌, List, [], ◌∷◌, ◌++◌, Bool, true, false, codes, count_by, length, map, take, if◌then◌else◌}
 use Rattle.std.specs.Fmt.{decimal}
 use Rattle.std.specs.List.{flat_map}
 use Rattle.pyver_findings.specs.FileLines.{FileLine}
@@ -39,10 +39,18 @@ conflict_text NoVersion = codes "no version satisfies:\n"
 conflict_text PinOutside = codes "a version is named and excluded:\n"
 conflict_text TwoPins = codes "two versions are named:\n"
 
+-- how many lines more there are, if any
+abbrev pub more_text : ℕ → List ℕ
+more_text count = if count == 0 then [] else codes "    and " ++ (decimal count ++ codes " more\n")
+
+-- at most 20 lines, and how many more
+abbrev pub quoted_lines : List FileLine → List ℕ
+quoted_lines lines = flat_map quoted_line (take 20 lines) ++ more_text (length lines - 20)
+
 -- the file, the line number and the reason, and then the line, with a caret where it is none, or the lines
 abbrev pub finding_text : Finding → List ℕ
 finding_text (NoRequirement l reason column) = place_text l ++ (escaped reason ++ marked_line l.text column)
-finding_text (Conflicting conflict lines) = first_place lines ++ (conflict_text conflict ++ flat_map quoted_line lines)
+finding_text (Conflicting conflict lines) = first_place lines ++ (conflict_text conflict ++ quoted_lines lines)
 
 -- one finding after another
 abbrev pub report_text : Report → List ℕ

@@ -1,52 +1,63 @@
-// Lines of one name, as they count together.
-ghost use Rattle.std.specs.Prelude.{◌≡◌, ◌++◌, ◌==◌, [], IfOk, length, map, option_map, if◌then◌else◌};
+// What is wrong with the lines of one name.
+ghost use Rattle.std.specs.Prelude.{◌≡◌, ◌∷◌, ◌++◌, [], IfOk, map, if◌then◌else◌};
 ghost use Rattle.std.specs.List.{flat_map, list_any};
-ghost use Rattle.pyver_findings.specs.Conflicts.{common_cover, first_mentions, of_all, of_few, of_markers, of_name, has_same_marker, under};
-ghost use Rattle.pyver_findings.specs.Views.{demand_of, finding_of};
+ghost use Rattle.pyver_findings.specs.Conflicts.{conflict_kind, first_mentions, has_same_marker, of_all, of_name, pin_conflict, under};
+ghost use Rattle.pyver_findings.specs.Findings.{Conflicting};
+ghost use Rattle.pyver_findings.specs.Views.{demand_of, file_line_of, finding_of};
 
 use crate::demand::Demand;
+use crate::file_line::FileLine;
 use crate::finding::{Conflict, Finding};
-use crate::pairs::{counts_under, push_conflict, push_of_few, same_marker};
-use pep440_rs::{Ranges, Version};
+use crate::marker::{has_marker, under};
+use crate::smallest::{common_cover, find_smallest};
 use std::alloc::{AllocError, Global};
 
-// The lines without a marker, and those with this one.
-fn under<'a>(
+fn pin_conflict(one: &Demand, other: &Demand) -> Conflict
+    ensures { result ≡ pin_conflict (demand_of one.now) (demand_of other.now) }
+{
+    if one.pinned && other.pinned {
+        Conflict::TwoPins
+    } else if one.pinned || other.pinned {
+        Conflict::PinOutside
+    } else {
+        Conflict::NoVersion
+    }
+}
+
+fn conflict_kind(lines: &[&Demand]) -> Conflict
+    ensures { result ≡ conflict_kind (map (λ x. demand_of x.now) lines.now) }
+{
+    match lines {
+        [one, other] => pin_conflict(one, other),
+        _ => Conflict::NoVersion,
+    }
+}
+
+fn copy_lines(alloc: Global, lines: &[&Demand]) -> Result<Vec<FileLine>, AllocError>
+    ensures { IfOk result (λ copies. map file_line_of copies.items ≡ map (λ a. a.line) (map (λ x. demand_of x.now) lines.now)) }
+{
+    let mut copies = Vec::new(alloc);
+    for line in lines {
+        copies.push(line.line.clone()?)?;
+    }
+    Ok(copies)
+}
+
+// These lines cannot be satisfied together.
+fn push_conflict(
     alloc: Global,
-    marker: &Option<Vec<u8>>,
-    lines: &[&'a Demand],
-) -> Result<Vec<&'a Demand>, AllocError>
-    ensures { IfOk result (λ kept. map (λ x. demand_of x.now) kept.items ≡ under (option_map (λ m. m.items) marker.now) (map (λ x. demand_of x.now) lines.now)) }
+    findings: &mut Vec<Finding>,
+    conflict: Conflict,
+    lines: &[&Demand],
+) -> Result<(), AllocError>
+    ensures { IfOk result (λ _. map finding_of findings.new.items ≡ map finding_of findings.old.items ++ Conflicting conflict (map (λ a. a.line) (map (λ x. demand_of x.now) lines.now)) ∷ []) }
 {
-    let mut kept = Vec::new(alloc);
-    for line in lines {
-        if counts_under(marker, line) {
-            kept.push(*line)?;
-        }
-    }
-    Ok(kept)
+    let lines = copy_lines(alloc, lines)?;
+    findings.push(Finding::Conflicting(conflict, lines))?;
+    Ok(())
 }
 
-// The intersection of the covers.
-fn common_cover(alloc: Global, lines: &[&Demand]) -> Result<Ranges<Version>, AllocError>
-    ensures { IfOk result (λ cover. cover ≡ common_cover (map (λ x. demand_of x.now) lines.now)) }
-{
-    let mut cover = Ranges::full(alloc)?;
-    for line in lines {
-        cover = cover.intersection(alloc, &line.cover)?;
-    }
-    Ok(cover)
-}
-
-// Neither one line nor two explain that no version satisfies all.
-fn is_unexplained(alloc: Global, lines: &[&Demand]) -> Result<bool, AllocError>
-    ensures { IfOk result (λ b. b ≡ (length (of_few (map (λ x. demand_of x.now) lines.now)) == 0)) }
-{
-    let mut findings = Vec::new(alloc);
-    push_of_few(alloc, &mut findings, lines)?;
-    Ok(findings.is_empty())
-}
-
+// What is wrong with these lines together.
 fn push_of_all(
     alloc: Global,
     findings: &mut Vec<Finding>,
@@ -54,22 +65,16 @@ fn push_of_all(
 ) -> Result<(), AllocError>
     ensures { IfOk result (λ _. map finding_of findings.new.items ≡ map finding_of findings.old.items ++ of_all (map (λ x. demand_of x.now) lines.now)) }
 {
-    if !common_cover(alloc, lines)?.is_empty() || !is_unexplained(alloc, lines)? {
+    if !common_cover(alloc, lines)?.is_empty() {
         return Ok(());
     }
-    push_conflict(alloc, findings, Conflict::NoVersion, lines)
-}
-
-// One of the lines has the same marker.
-fn has_marker(lines: &[&Demand], line: &Demand) -> bool
-    ensures { result ≡ list_any (has_same_marker (demand_of line.now)) (map (λ x. demand_of x.now) lines.now) }
-{
-    for other in lines {
-        if same_marker(&line.marker, &other.marker) {
-            return true;
-        }
-    }
-    false
+    let kept = find_smallest(alloc, lines)?;
+    push_conflict(
+        alloc,
+        findings,
+        conflict_kind(kept.as_slice()),
+        kept.as_slice(),
+    )
 }
 
 // Of the lines that count under the marker of this one, if none before has the same.
@@ -102,20 +107,6 @@ fn push_of_each_marker(
     Ok(())
 }
 
-fn push_of_markers(
-    alloc: Global,
-    findings: &mut Vec<Finding>,
-    lines: &[&Demand],
-) -> Result<(), AllocError>
-    ensures { IfOk result (λ _. map finding_of findings.new.items ≡ map finding_of findings.old.items ++ of_markers (map (λ x. demand_of x.now) lines.now)) }
-{
-    let always = under(alloc, &None, lines)?;
-    if common_cover(alloc, always.as_slice())?.is_empty() {
-        return push_of_all(alloc, findings, always.as_slice());
-    }
-    push_of_each_marker(alloc, findings, lines)
-}
-
 // What is wrong with the lines of one name.
 pub(crate) fn push_of_name(
     alloc: Global,
@@ -124,6 +115,9 @@ pub(crate) fn push_of_name(
 ) -> Result<(), AllocError>
     ensures { IfOk result (λ _. map finding_of findings.new.items ≡ map finding_of findings.old.items ++ of_name (map (λ x. demand_of x.now) lines.now)) }
 {
-    push_of_few(alloc, findings, lines)?;
-    push_of_markers(alloc, findings, lines)
+    let always = under(alloc, &None, lines)?;
+    if common_cover(alloc, always.as_slice())?.is_empty() {
+        return push_of_all(alloc, findings, always.as_slice());
+    }
+    push_of_each_marker(alloc, findings, lines)
 }

@@ -1,5 +1,5 @@
 //! What holds of findings, as the contract of a function that does nothing.
-ghost use Rattle.pyver_findings.specs.FindingLaws.{ConflictsHaveFindings, FindingsHold, InvalidLinesHaveFindings, MeaningsOnce, ReportsOnce};
+ghost use Rattle.pyver_findings.specs.FindingLaws.{ConflictsAreSmallest, ConflictsHaveFindings, FindingsHold, InvalidLinesHaveFindings, MeaningsOnce, ReportsOnce};
 
 /// A line that is reported by itself is a line of the files and no requirement, for the reason and at the column that are
 /// reported. Lines that are reported together are lines of the files, ask for one name and have no two markers; no
@@ -17,6 +17,11 @@ pub fn invalid_lines_have_findings()
 /// reported together.
 pub fn conflicts_have_findings()
     ensures { ConflictsHaveFindings }
+{}
+
+/// No line can be left out of those that are reported together: the covers of the others have something in common.
+pub fn conflicts_are_smallest()
+    ensures { ConflictsAreSmallest }
 {}
 
 /// A line has at most one meaning, and files have at most one report.

@@ -12,13 +12,14 @@ mod group;
 mod json_string;
 pub mod laws;
 mod line_meaning;
+mod marker;
 mod named_files;
 mod normal_name;
-mod pairs;
 mod report;
 mod report_json;
 mod report_text;
 mod requirement_line;
+mod smallest;
 
 pub use cause::Cause;
 pub use escape::{push_escaped, push_escaped_lines};

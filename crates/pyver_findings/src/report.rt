@@ -65,14 +65,13 @@ fn parse_lines(alloc: Global, lines: &[FileLine]) -> Result<Readings, AllocError
 }
 
 /// What is wrong in these files, each of which is read once, in this order: first the lines that are no requirements, in
-/// order; then for each name, in the order in which names are first mentioned, the lines that no version satisfies, the pairs in which one
-/// line names a version that the other excludes, and the lines that no version satisfies together. What one line or two
-/// explain is not reported again. Lines with different markers do not count together, and lines without a marker count with the lines of
-/// each; if the lines without a marker have no version in common, they are reported together, and no line with a marker with them.
+/// order; then for each name, in the order in which names are first mentioned, lines that no version satisfies together: of these a
+/// smallest list, from which no line can be left out. Lines with different markers do not count together, and lines without a marker count
+/// with the lines of each; if the lines without a marker have no version in common, some of them are reported, and no line with a marker.
 ///
-/// A line names a version if a member of its list is `==` without a star, or `===`. A list stands for its cover, or for all versions if
-/// a number in it cannot be raised. n requirements take n steps, and those of one name n² as each is compared with each, or m·n² if m markers
-/// have findings.
+/// A list stands for its cover, or for all versions if a number in it cannot be raised. A line names a version if a member of its list is
+/// `==` without a star, or `===`; a finding of two lines says whether one or both do. Takes time for each line and marker of a name, and for
+/// each line of a finding.
 ///
 /// Allocates.
 pub fn find_problems(alloc: Global, files: &[SourceFile]) -> Result<Report, AllocError>

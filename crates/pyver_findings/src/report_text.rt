@@ -3,7 +3,7 @@ ghost use Rattle.std.specs.Prelude.{◌≡◌, ◌++◌, IfOk, count_by, map, ta
 ghost use Rattle.std.specs.Fmt.{decimal};
 ghost use Rattle.std.specs.List.{flat_map};
 ghost use Rattle.pyver_findings.specs.Findings.{Conflicting, NoRequirement};
-ghost use Rattle.pyver_findings.specs.ReportTexts.{caret_text, cause_text, conflict_text, count_text, finding_text, first_place, left_out_text, left_out_texts, marked_line, place_text, quoted_line, report_text, same_cause, summary_text};
+ghost use Rattle.pyver_findings.specs.ReportTexts.{caret_text, cause_text, conflict_text, count_text, finding_text, first_place, left_out_text, left_out_texts, marked_line, more_text, place_text, quoted_line, quoted_lines, report_text, same_cause, summary_text};
 ghost use Rattle.pyver_findings.specs.Views.{file_line_of, finding_of, report_of};
 
 use crate::cause::Cause;
@@ -121,6 +121,40 @@ fn push_quoted_lines(
     Ok(())
 }
 
+fn first_lines(lines: &[FileLine]) -> &[FileLine]
+    ensures { result.now ≡ take 20 lines.now }
+{
+    if lines.len() > 20 {
+        &lines[..20]
+    } else {
+        lines
+    }
+}
+
+// How many lines more there are, if any.
+fn push_more(alloc: Global, bytes: &mut Vec<u8>, count: usize) -> Result<(), AllocError>
+    ensures { IfOk result (λ _. bytes.new.items ≡ bytes.old.items ++ more_text count) }
+{
+    if count == 0 {
+        return Ok(());
+    }
+    push_text(bytes, "    and ")?;
+    push_number(alloc, bytes, count as u64)?;
+    push_text(bytes, " more\n")
+}
+
+// At most 20 lines, and how many more.
+fn push_first_lines(
+    alloc: Global,
+    bytes: &mut Vec<u8>,
+    lines: &[FileLine],
+) -> Result<(), AllocError>
+    ensures { IfOk result (λ _. bytes.new.items ≡ bytes.old.items ++ quoted_lines (map file_line_of lines.now)) }
+{
+    push_quoted_lines(alloc, bytes, first_lines(lines))?;
+    push_more(alloc, bytes, lines.len().saturating_sub(20))
+}
+
 fn conflict_text(conflict: Conflict) -> &'static str
     ensures { result.now ≡ conflict_text conflict }
 {
@@ -141,7 +175,7 @@ fn push_conflict(
 {
     push_first_place(alloc, bytes, lines)?;
     push_text(bytes, conflict_text(conflict))?;
-    push_quoted_lines(alloc, bytes, lines)
+    push_first_lines(alloc, bytes, lines)
 }
 
 fn push_no_requirement(

@@ -1,7 +1,7 @@
 use Rattle.std.proofs.Common.{◌≡◌, ◌++◌, drop, map, option_map}
 use Rattle.pyver_findings.specs.Conflicts.{under}
 use Rattle.pyver_findings.specs.Views.{demand_of}
-use Rattle.pyver_findings.proofs.group.under.Given as goal
+use Rattle.pyver_findings.proofs.marker.under.Given as goal
 
 abbrev pub invariant-loop-line : goal.invariant-loop-line
 invariant-loop-line l =
