@@ -53,6 +53,7 @@ fn sweep_newest_of_compiled(rt: HostRuntime) -> Result<(), Fail> {
     if pep440_compile(rt.alloc(), b"1.2.3.4.5.6", &mut form, &mut written) == 3 {
         pep440_compile(rt.alloc(), b"1.2.3.4.5.6", &mut form, &mut written);
     }
+    assert!(rt; written <= 32);
     let texts: [&[u8]; 4] = [b"1.2", &form[..written], b"1.2.3.4.5.6", b"1.2.3"];
     assert!(rt; newest_again(rt, b">=1", &texts) == (0, 1));
     Ok(())

@@ -80,6 +80,7 @@ fn sweep_allows_of_compiled(rt: HostRuntime) -> Result<(), Fail> {
         let mut version = [0u8; 64];
         let specifiers_len = compile_again(rt, true, list, &mut specifiers);
         let version_len = compile_again(rt, false, text, &mut version);
+        assert!(rt; specifiers_len <= 64 && version_len <= 64, "{list} {text}");
         let specifiers = &specifiers[..specifiers_len];
         let version = &version[..version_len];
         assert!(rt;
