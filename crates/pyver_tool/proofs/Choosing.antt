@@ -176,8 +176,3 @@ one_newest lines None None h k = refl
 one_newest lines None (Some y) h k = no_line k.before k.after y (sym h ∙ k.split)
 one_newest lines (Some x) None h k = no_line h.before h.after x (sym k ∙ h.split)
 one_newest lines (Some x) (Some y) h k = ap (λ z. Some z) (one_of h.before k.before x y h.after k.after (sym h.split ∙ k.split) h.above h.greatest k.above k.greatest)
-
-pub or_none : (taken : Prereleases) → or_else taken [] [] ≡ []
-or_none prereleases.Listed = refl
-or_none prereleases.Always = refl
-or_none prereleases.Never = refl

@@ -1,41 +1,20 @@
 -- How runs end, by what they wrote.
 use Rattle.std.proofs.Common.{◌≡◌, ◌⊎◌, ◌∙◌, ◌≤◌, ℕ, List, [], ◌∷◌, ◌++◌, Option, None, Some, inl, inr, refl, sym, ap, subst, arith, append_assoc}
-use Rattle.std.proofs.KnownBytes.{Appends-nil, Appends-trans}
+use Rattle.std.proofs.KnownBytes.{Appends-trans}
 use Rattle.std.specs.Io.KnownBytes.{Appends}
-use Rattle.pyver_tool.proofs.Whole.{unused}
-use Rattle.pyver_tool.specs.BumpInputs.{only_outcome}
 use Rattle.pyver_tool.specs.FilterSteps.{FilterFinishes, FilterStops}
-use Rattle.pyver_tool.specs.Filters.{Filters, filter_outcome, rule_of}
+use Rattle.pyver_tool.specs.Filters.{Filters}
 use Rattle.pyver_tool.specs.InputLines.{Source}
-use Rattle.pyver_tool.specs.Matches.{DenotesList}
-use Rattle.pyver_tool.specs.NewestOutcomes.{newest_rule}
 use Rattle.pyver_tool.specs.Outcomes.{Outcome}
-use Rattle.pyver_tool.specs.Runs.{Ends, IsLast, IsReadMessage, ReadsSome, WritesAnswer, WroteBeginning, memory_message}
+use Rattle.pyver_tool.specs.Runs.{Ends, IsLast, IsReadMessage, IsStopped, IsUnanswered, ReadsSome, WritesAnswer, WroteBeginning, memory_message}
 use Rattle.pyver_tool.specs.SourceViews.{IsRunFailureOf, Reports}
 use Rattle.pyver_tool.specs.Sources.{Input, KnownFile, ReadsFirst, ReadsInput, StopsReading, input_name, last_name, no_input, source_names}
 use Rattle.pyver_tool.specs.Tasks.{Bump, Check, Compare, Filter, Help, IsOutcome, IsStream, Match, Misused, NameVersion, NeedsInput, Newest, Range, Show, Sort, Task, names_of, task_of}
-use Rattle.pyver_tool.specs.WholeInputs.{AnswersInput, ReadsUnused, WholeFinishes, WholeStops}
+use Rattle.pyver_tool.specs.WholeInputs.{AnswersInput, WholeFinishes, WholeStops}
 use Rattle.pyver_tool.specs.declared.filter.FilterRule.{FilterRule}
 use Rattle.pyver_tool.specs.declared.stream.RunFailure.{RunFailure}
 use Rattle.pyver_tool.specs.declared.stream.RunFailure.TheVariants as run_failure
 use Rattle.pyver_tool.specs.declared.whole_input.Question.{Question}
-use Rattle.pyver_tool.specs.declared.whole_input.Question.TheVariants as question
-
--- before a source is read there is an outcome
-first_outcome : (task : Task) → NeedsInput task → (o : Outcome) × IsOutcome task no_input o
-first_outcome (Help about) n = absurd n
-first_outcome NameVersion n = absurd n
-first_outcome (Compare left operator right) n = absurd n
-first_outcome (Match options specifiers words) n = absurd n
-first_outcome (Filter options specifiers names) n = (filter_outcome (rule_of options n.0) [] None, (DenotesList n.0, n.1, ([], tt, refl)))
-first_outcome (Sort options names) n = unused (question.Sort options) []
-first_outcome (Newest options specifiers names) n = let k = unused (question.Newest (newest_rule options n.0)) [] in (k.0, (DenotesList n.0, n.1, k.1))
-first_outcome (Show asked words) n = absurd n
-first_outcome (Bump to parts None) n = (only_outcome to parts [], ([], tt, inl (refl, refl)))
-first_outcome (Bump to parts (Some word)) n = absurd n
-first_outcome (Range options words) n = absurd n
-first_outcome (Check json names) n = absurd n
-first_outcome (Misused message) n = absurd n
 
 -- there is a first source
 pub some_source : (names : List (List ℕ)) → (name : List ℕ) × (left : List (List ℕ)) × (source_names names ≡ name ∷ left)
@@ -192,52 +171,66 @@ module _ {F R W E : Type 0} (known : F → List ℕ → KnownFile) (remaining : 
       some_of (inl r) = inl (subst (λ n. ReadsInput (known files) remaining n reader reader' k.input) (sym same) r)
       some_of (inr r) =
           let stopped = stops_by (known files) remaining (why ≡ run_failure.OutOfMemory) (status ≡ 3) (memory_status why status message reports) names reader reader' k.input.sources r.0 in
-          inr (k.input.sources, inr (subst (λ n. StopsReading (known files) remaining (status ≡ 3) n reader reader' k.input.sources) (sym same) stopped), (r.1, λ _. refl, λ whole. absurd (whole stream)))
+          inr (stream, subst (λ n. StopsReading (known files) remaining (status ≡ 3) n reader reader' k.input.sources) (sym same) stopped, r.1)
 
-  pub whole_began : (asked : Question) (names : List (List ℕ)) (why : RunFailure) (told : E) (message : List ℕ) → Reports why status message → ¬ IsStream (task_of words) → names_of (task_of words) ≡ names → ((input : Input) (o : Outcome) → AnswersInput asked input o → IsOutcome (task_of words) input o)
-      → WholeStops (known files) remaining contents error_contents asked names reader reader' out out' err told why → Began why told
-  whole_began asked names why told message reports whole same is k = record {
-    input = k.input;
-    read = some_of k.reads;
-    outcome = k.outcome;
-    is = is k.input k.outcome k.is;
-    output = k.output;
-    errors = k.errors;
-    stops = k.stops;
+  -- a run stopped, and its last message was written
+  ends_stopped : (last : Option (List ℕ)) (message : List ℕ) → NeedsInput (task_of words) → known files' ≡ known files → IsLast last status message
+      → IsStopped known remaining contents error_contents words files reader reader' out out' err err' status ⊎ IsUnanswered known remaining contents error_contents words files reader reader' out out' err err' status
+      → Ends known remaining contents error_contents words files files' reader reader' out out' err err' status
+  ends_stopped name message needs same last stopped = record {
+    known_status = last_known name status message last;
+    unread = λ needless. absurd (needless needs);
+    kept = same;
+    finished = λ low. absurd (not_low name status message last low);
+    stopped = λ _ _. stopped;
+    memory = λ needless _. absurd (needless needs);
+    failed = λ needless _. absurd (needless needs);
   }
-    where
-      some_of : ReadsUnused (known files) remaining contents error_contents names reader reader' k.input why → ReadsSome known remaining contents error_contents words files reader reader' status k.input
-      some_of (inl r) = inl (subst (λ n. ReadsInput (known files) remaining n reader reader' k.input) (sym same) r)
-      some_of (inr (read, first, none, without)) =
-          let reads = first_by (known files) remaining (why ≡ run_failure.OutOfMemory) (status ≡ 3) (memory_status why status message reports) names reader reader' read first in
-          inr (read, subst (λ n. ReadsFirst (known files) remaining (status ≡ 3) n reader reader' read) (sym same) reads, (none, λ stream. absurd (whole stream), λ _. without))
 
-  -- a run stopped, and then the last message was written
+  -- the last message follows what was written before
   pub ends_by_stop : (why : RunFailure) (told : E) (message : List ℕ) → NeedsInput (task_of words) → known files' ≡ known files → Began why told → Reports why status message → WroteBeginning (error_contents told) (error_contents err') message
       → Ends known remaining contents error_contents words files files' reader reader' out out' err err' status
   ends_by_stop why told message needs same k reports wrote =
       let last = is_last (last_name k.input.sources) why status message k.stops reports in
-      record {
-        known_status = last_known (last_name k.input.sources) status message last;
-        unread = λ needless. absurd (needless needs);
-        kept = same;
-        finished = λ low. absurd (not_low (last_name k.input.sources) status message last low);
-        stopped = λ _ _. record {
-          input = k.input;
-          read = k.read;
-          outcome = k.outcome;
-          is = k.is;
-          output = k.output;
-          told = k.errors.written;
-          untold = k.errors.left;
-          errors_are = k.errors.whole;
-          message = message;
-          last = last;
-          errors = told_more _ _ _ k.errors.written message k.errors.wrote wrote;
-        };
-        memory = λ needless _. absurd (needless needs);
-        failed = λ needless _. absurd (needless needs);
-      }
+      ends_stopped (last_name k.input.sources) message needs same last (inl (record {
+        input = k.input;
+        read = k.read;
+        outcome = k.outcome;
+        is = k.is;
+        output = k.output;
+        told = k.errors.written;
+        untold = k.errors.left;
+        errors_are = k.errors.whole;
+        message = message;
+        last = last;
+        errors = told_more _ _ _ k.errors.written message k.errors.wrote wrote;
+      }))
+
+  -- a command that reads all sources stopped before it wrote its answer, or while it did
+  pub ends_by_whole_stop : (asked : Question) (names : List (List ℕ)) (why : RunFailure) (told : E) (message : List ℕ) → NeedsInput (task_of words) → known files' ≡ known files → names_of (task_of words) ≡ names
+      → ((input : Input) (o : Outcome) → AnswersInput asked input o → IsOutcome (task_of words) input o) → WholeStops (known files) remaining contents error_contents asked names reader reader' out out' err told why
+      → Reports why status message → WroteBeginning (error_contents told) (error_contents err') message → Ends known remaining contents error_contents words files files' reader reader' out out' err err' status
+  ends_by_whole_stop asked names why told message needs kept same is (inl k) reports wrote =
+      ends_by_stop why told message needs kept (record {
+        input = k.input;
+        read = inl (subst (λ n. ReadsInput (known files) remaining n reader reader' k.input) (sym same) k.reads);
+        outcome = k.outcome;
+        is = is k.input k.outcome k.is;
+        output = k.output;
+        errors = k.errors;
+        stops = k.stops;
+      }) reports wrote
+  ends_by_whole_stop asked names why told message needs kept same is (inr k) reports wrote =
+      let reads = first_by (known files) remaining (why ≡ run_failure.OutOfMemory) (status ≡ 3) (memory_status why status message reports) names reader reader' k.sources k.reads in
+      let last = is_last (last_name k.sources) why status message k.stops reports in
+      ends_stopped (last_name k.sources) message needs kept last (inr (record {
+        sources = k.sources;
+        read = subst (λ n. ReadsFirst (known files) remaining (status ≡ 3) n reader reader' k.sources) (sym same) reads;
+        silent = k.output;
+        message = message;
+        last = last;
+        errors = subst (λ (e : E). WroteBeginning (error_contents e) (error_contents err') message) k.errors wrote;
+      }))
 
   -- an allocation failed before anything was read or written
   pub ends_at_once : reader' ≡ reader → files' ≡ files → out' ≡ out → status ≡ 3 → WroteBeginning (error_contents err) (error_contents err') memory_message
@@ -249,20 +242,14 @@ module _ {F R W E : Type 0} (known : F → List ℕ → KnownFile) (remaining : 
     finished = λ low. absurd (omega (arith, low, three));
     stopped = λ needs _.
         let first = first_source (task_of words) needs in
-        let o = first_outcome (task_of words) needs in
-        record {
-          input = no_input;
-          read = inr ([], inr (inr (three, record { read = []; name = first.0; left = first.1; split = first.2; whole = (same, refl) })), (refl, λ _. refl, λ _. refl));
-          outcome = o.0;
-          is = o.1;
-          output = record { written = []; left = o.0.output; wrote = subst (λ w. Appends (contents out) (contents w) []) (sym unwritten) (Appends-nil (contents out)); whole = refl };
-          told = [];
-          untold = o.0.errors;
-          errors_are = refl;
+        inr (record {
+          sources = [];
+          read = inr (inr (three, record { read = []; name = first.0; left = first.1; split = first.2; whole = (same, refl) }));
+          silent = unwritten;
           message = memory_message;
           last = inl (three, refl);
           errors = wrote;
-        };
+        });
     memory = λ _ _. (unwritten, wrote);
     failed = λ _ e. absurd (other e);
   }

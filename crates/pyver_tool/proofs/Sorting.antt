@@ -2,7 +2,7 @@
 use Rattle.std.proofs.Common.{Bor, ◌≡◌, ◌∙◌, ◌+◌, ◌-◌, ◌<◌, ℕ, List, [], ◌∷◌, ◌++◌, Bool, true, false, Option, Some, None, cond, length, drop, map, refl, sym, ap, subst, arith}
 use Rattle.std.proofs.lemmas.List.{drop-map, get_or-map, length-map, map-append}
 use Rattle.std.proofs.lemmas.List.Folds.{flat_map-map}
-use Rattle.std.proofs.lemmas.List.Sorted.{IsPermutation-map, IsPermutation-refl, IsStrictWeakOrder-flip, length_permutation, ranks_by}
+use Rattle.std.proofs.lemmas.List.Sorted.{IsPermutation-map, IsStrictWeakOrder-flip, length_permutation, ranks_by}
 use Rattle.std.specs.Cmp.{IsStrictWeakOrder}
 use Rattle.std.specs.List.{filter, flat_map}
 use Rattle.std.specs.List.Sorted.{IsSorted, IsStable, ties}
@@ -30,10 +30,6 @@ order_weak version false = ranks_by record_total version
 pub one_sorted : (reversed : Bool) (given a b : List VersionLine) → ArrangesBy (line_order reversed) given a → ArrangesBy (line_order reversed) given b → a ≡ b
 one_sorted reversed given a b h g =
     same_by_ties (λ (x y : VersionLine). is_lt (line_order reversed x y)) (order_weak (λ (x : VersionLine). x.version) reversed) a b h.rises g.rises (λ z. h.stable z ∙ sym (g.stable z))
-
--- nothing is its own arrangement
-pub none_sorted : (reversed : Bool) → ArrangesBy (line_order reversed) [] []
-none_sorted reversed = record { same = IsPermutation-refl []; rises = λ k d low high. absurd (omega (arith, high)); stable = λ x. refl }
 
 -- ---- lines in memory and what they say
 

@@ -1,6 +1,5 @@
 -- `bump PART.. [V]`: the version with its parts raised, in order.
-use Rattle.std.specs.Prelude.{◌≡◌, ◌+◌, ◌==◌, ◌||◌, ℕ, zero, suc, List, [], ◌∷◌, ◌++◌, Bool, true, false, Option, Some, None, Result, Ok, Err, bytes_eq, codes, get_or, is_some, map, nat_lt, if◌then◌else◌}
-use Rattle.std.specs.Option.{unwrap_or}
+use Rattle.std.specs.Prelude.{◌≡◌, ◌+◌, ◌==◌, ◌||◌, ◌&&◌, not, ℕ, zero, suc, List, [], ◌∷◌, ◌++◌, Bool, true, false, Option, Some, None, Result, Ok, Err, bytes_eq, codes, get_or, is_some, map, nat_lt, if◌then◌else◌}
 use Rattle.std.specs.Ordering.{is_gt}
 use Rattle.pep440_rs.specs.Matching.{any_prerelease}
 use Rattle.pep440_version.specs.Key.{kind_rank, record_cmp}
@@ -32,10 +31,12 @@ bump_part_of word =
 
 -- ---- one part
 
--- the number that is asked for, or the one after the number that is there
-abbrev pub new_number : Option ℕ → ℕ → Result ℕ BumpError
-new_number (Some n) old = Ok n
-new_number None old = if old == 18446744073709551615 then Err error.Greatest else Ok (old + 1)
+-- the number that is asked for; else 1 where there is none, the same where its release is still in development, or the one after it
+abbrev pub new_number : Option ℕ → Bool → Option ℕ → Result ℕ BumpError
+new_number (Some n) is_dev old = Ok n
+new_number None is_dev None = Ok 1
+new_number None true (Some n) = Ok n
+new_number None false (Some n) = if n == 18446744073709551615 then Err error.Greatest else Ok (n + 1)
 
 -- the record that is made of the number, where there is one
 abbrev pub with_number : Result ℕ BumpError → (ℕ → Record) → Result Record BumpError
@@ -51,7 +52,7 @@ release_with (suc i) n (m ∷ rest) = m ∷ release_with i n rest
 
 -- a number that is missing counts as 0; what follows the release goes
 abbrev pub bump_release : Option ℕ → ℕ → Record → Result Record BumpError
-bump_release to index r = with_number (new_number to (get_or r.release index 0)) (λ n. epoch_and_release r.epoch (release_with index n r.release))
+bump_release to index r = with_number (new_number to false (Some (get_or r.release index 0))) (λ n. epoch_and_release r.epoch (release_with index n r.release))
 
 -- What a pre-release or a developmental release leads to: all after the release goes where there is a pre-release, and
 -- otherwise the developmental part. There is no number to set.
@@ -68,25 +69,29 @@ abbrev pub is_later_kind : PrereleaseKind → Option Prerelease → Bool
 is_later_kind kind None = false
 is_later_kind kind (Some p) = nat_lt (kind_rank kind) (kind_rank p.kind)
 
--- the number of the pre-release where it is of this kind, and else 0
-abbrev pub pre_number : PrereleaseKind → Option Prerelease → ℕ
-pre_number kind None = 0
-pre_number kind (Some p) = if kind_rank p.kind == kind_rank kind then p.number else 0
+-- the number of the pre-release where it is of this kind
+abbrev pub pre_number : PrereleaseKind → Option Prerelease → Option ℕ
+pre_number kind None = None
+pre_number kind (Some p) = if kind_rank p.kind == kind_rank kind then Some p.number else None
+
+-- a pre-release is still in development, as 1.0a1.dev2, and not its post-release, as 1.0a1.post1.dev2
+abbrev pub is_dev_of_pre : Record → Bool
+is_dev_of_pre r = is_some r.dev && not (is_some r.post)
 
 -- a pre-release of the release, and nothing after it
 abbrev pub bump_pre : Option ℕ → Bool → PrereleaseKind → Record → Result Record BumpError
 bump_pre to named kind r =
     if is_later_kind kind r.pre then Err error.NotGreater
-    else if knows_release named r then with_number (new_number to (pre_number kind r.pre)) (λ n. record (epoch_and_release r.epoch r.release) { pre = Some (record { kind = kind; number = n }) })
+    else if knows_release named r then with_number (new_number to (is_dev_of_pre r) (pre_number kind r.pre)) (λ n. record (epoch_and_release r.epoch r.release) { pre = Some (record { kind = kind; number = n }) })
     else Err error.NoRelease
 
 -- a post-release, and nothing after it
 abbrev pub bump_post : Option ℕ → Record → Result Record BumpError
-bump_post to r = with_number (new_number to (unwrap_or r.post 0)) (λ n. record r { post = Some n; dev = None; local = [] })
+bump_post to r = with_number (new_number to (is_some r.dev) r.post) (λ n. record r { post = Some n; dev = None; local = [] })
 
 abbrev pub bump_dev : Option ℕ → Bool → Record → Result Record BumpError
 bump_dev to named r =
-    if knows_release named r then with_number (new_number to (unwrap_or r.dev 0)) (λ n. record r { dev = Some n; local = [] })
+    if knows_release named r then with_number (new_number to false r.dev) (λ n. record r { dev = Some n; local = [] })
     else Err error.NoRelease
 
 abbrev pub bump_part : Option ℕ → Bool → BumpPart → Record → Result Record BumpError

@@ -4,8 +4,8 @@ use Rattle.std.specs.Prelude.{◌≡◌, ◌⊎◌, ◌≤◌, ℕ, List, [], �
 use Rattle.std.specs.Io.KnownBytes.{Appends}
 use Rattle.pyver_tool.specs.InputLines.{Source}
 use Rattle.pyver_tool.specs.Outcomes.{Outcome}
-use Rattle.pyver_tool.specs.Sources.{Input, KnownFile, ReadsFirst, ReadsInput, last_name, no_input, read_message, without_lines}
-use Rattle.pyver_tool.specs.Tasks.{IsOutcome, IsStream, NeedsInput, Task, names_of, task_of}
+use Rattle.pyver_tool.specs.Sources.{Input, KnownFile, ReadsFirst, ReadsInput, StopsReading, last_name, no_input, read_message}
+use Rattle.pyver_tool.specs.Tasks.{IsOutcome, IsStream, NeedsInput, names_of, task_of}
 
 -- a prefix of `all` was written, which may be empty or the whole
 pub record WroteBeginning (old new : Option (List ℕ)) (all : List ℕ) : Type 0 where
@@ -34,11 +34,6 @@ IsWriteFailure status message = ((status ≡ 4) × ((message ≡ write_message) 
 -- the last message of a run that stopped early, by its status, where the last source has this name
 abbrev pub IsLast : Option (List ℕ) → ℕ → List ℕ → Type 0
 IsLast last status message = ((status ≡ 3) × (message ≡ memory_message)) ⊎ (((status ≡ 4) × IsReadMessage last message) ⊎ IsWriteFailure status message)
-
--- of these sources a command that prints lines as they come used these; one that prints nothing before the end of all sources has
--- used no line
-abbrev pub Uses : Task → List Source → Input → Type 0
-Uses task read input = (input.unopened ≡ None) × (IsStream task → input.sources ≡ read) × (¬ IsStream task → input.sources ≡ without_lines read)
 
 module _ {W E : Type 0} (contents : W → Option (List ℕ)) (error_contents : E → Option (List ℕ)) where
   -- a write to standard output failed: a prefix of the output was written, and then a prefix of the message, of which there is none
@@ -75,12 +70,12 @@ module _ {F R W E : Type 0} (known : F → List ℕ → KnownFile) (remaining : 
     pub is : IsOutcome (task_of words) input outcome
     pub written : IsWritten contents error_contents outcome out out' err err' status
 
-  -- what was read, as far as the command used it: everything; or the first sources and some lines of the next one; or, where the
-  -- status is the one of a failed allocation, only the first sources
+  -- what was read before something was printed: everything; or, by a command that prints lines as they come, the first sources and
+  -- some lines of the next one, or, where the status is the one of a failed allocation, only the first sources
   abbrev pub ReadsSome : List (List ℕ) → F → R → R → ℕ → Input → Type 0
   ReadsSome words files reader reader' status input =
       ReadsInput (known files) remaining (names_of (task_of words)) reader reader' input
-      ⊎ ((read : List Source) × ReadsFirst (known files) remaining (status ≡ 3) (names_of (task_of words)) reader reader' read × Uses (task_of words) read input)
+      ⊎ (IsStream (task_of words) × StopsReading (known files) remaining (status ≡ 3) (names_of (task_of words)) reader reader' input.sources × (input.unopened ≡ None))
 
   -- A run stopped early: standard output has a prefix of the outcome of the first lines read, and standard error a prefix of
   -- its errors and of the last message.
@@ -97,6 +92,15 @@ module _ {F R W E : Type 0} (known : F → List ℕ → KnownFile) (remaining : 
     pub last : IsLast (last_name input.sources) status message
     pub errors : WroteBeginning (error_contents err) (error_contents err') (told ++ message)
 
+  -- A run stopped before there was anything to print: only a prefix of the last message was written.
+  pub record IsUnanswered (words : List (List ℕ)) (files : F) (reader reader' : R) (out out' : W) (err err' : E) (status : ℕ) : Type 0 where
+    pub sources : List Source
+    pub read : ReadsFirst (known files) remaining (status ≡ 3) (names_of (task_of words)) reader reader' sources
+    pub silent : out' ≡ out
+    pub message : List ℕ
+    pub last : IsLast (last_name sources) status message
+    pub errors : WroteBeginning (error_contents err) (error_contents err') message
+
   -- a write of the answer failed, by a command that reads nothing
   pub record IsCut (words : List (List ℕ)) (out out' : W) (err err' : E) (status : ℕ) : Type 0 where
     pub outcome : Outcome
@@ -110,6 +114,6 @@ module _ {F R W E : Type 0} (known : F → List ℕ → KnownFile) (remaining : 
     pub unread : ¬ NeedsInput (task_of words) → (reader' ≡ reader) × (files' ≡ files)
     pub kept : known files' ≡ known files
     pub finished : status ≤ 2 → IsFinished words files reader reader' out out' err err' status
-    pub stopped : NeedsInput (task_of words) → ¬ (status ≤ 2) → IsStopped words files reader reader' out out' err err' status
+    pub stopped : NeedsInput (task_of words) → ¬ (status ≤ 2) → IsStopped words files reader reader' out out' err err' status ⊎ IsUnanswered words files reader reader' out out' err err' status
     pub memory : ¬ NeedsInput (task_of words) → status ≡ 3 → (out' ≡ out) × WroteBeginning (error_contents err) (error_contents err') memory_message
     pub failed : ¬ NeedsInput (task_of words) → (status ≡ 4) ⊎ (status ≡ 141) → IsCut words out out' err err' status

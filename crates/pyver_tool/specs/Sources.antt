@@ -1,5 +1,5 @@
 -- The sources that a run reads, standard input and files, by their names.
-use Rattle.std.specs.Prelude.{◌≡◌, ◌⊎◌, ⊤, ℕ, List, [], ◌∷◌, ◌++◌, Bool, true, false, Option, Some, None, bytes_eq, codes, map, if◌then◌else◌}
+use Rattle.std.specs.Prelude.{◌≡◌, ◌⊎◌, ⊤, ℕ, List, [], ◌∷◌, ◌++◌, Bool, true, false, Option, Some, None, bytes_eq, codes, if◌then◌else◌}
 use Rattle.std.specs.Io.KnownBytes.{Consumes, IsAtEnd}
 use Rattle.pyver_tool.specs.InputLines.{Origin, Source, input_lines}
 use Rattle.pyver_tool.specs.Messages.{file_message}
@@ -88,10 +88,6 @@ read_message name = if is_input name then codes "pyver: a read failed\n" else fi
 pub record Input : Type 0 where
   pub sources : List Source
   pub unopened : Option UnopenedSource
-
--- the sources without their lines
-abbrev pub without_lines : List Source → List Source
-without_lines sources = map (λ (source : Source). record { origin = source.origin; lines = [] }) sources
 
 -- no source
 abbrev pub no_input : Input

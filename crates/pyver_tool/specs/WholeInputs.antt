@@ -1,5 +1,5 @@
 -- Commands that read all sources before they write.
-use Rattle.std.specs.Prelude.{◌≡◌, ◌⊎◌, ℕ, List, Option, None}
+use Rattle.std.specs.Prelude.{◌≡◌, ◌⊎◌, ℕ, List, Option}
 use Rattle.std.specs.Io.KnownBytes.{Appends}
 use Rattle.pyver_tool.specs.BumpInputs.{BumpsOnly}
 use Rattle.pyver_tool.specs.InputLines.{Source}
@@ -9,7 +9,7 @@ use Rattle.pyver_tool.specs.Runs.{WroteBeginning}
 use Rattle.pyver_tool.specs.NewestOutcomes.{FindsNewest}
 use Rattle.pyver_tool.specs.Sorts.{SortsParts}
 use Rattle.pyver_tool.specs.SourceViews.{IsRunFailureOf}
-use Rattle.pyver_tool.specs.Sources.{Input, KnownFile, ReadsFirst, ReadsInput, last_name, without_lines}
+use Rattle.pyver_tool.specs.Sources.{Input, KnownFile, ReadsFirst, ReadsInput, last_name}
 use Rattle.pyver_tool.specs.VersionLines.{InputParts, OfVersions}
 use Rattle.pyver_tool.specs.declared.line_options.LineOptions.{LineOptions}
 use Rattle.pyver_tool.specs.declared.stream.RunFailure.{RunFailure}
@@ -44,18 +44,23 @@ module _ {R W E : Type 0} (files : List ℕ → KnownFile) (remaining : R → Op
     pub errors : Appends (error_contents err) (error_contents err') outcome.errors
     pub ended : status ≡ outcome.status
 
-  -- all was read, or some of which no line was used
-  abbrev pub ReadsUnused : List (List ℕ) → R → R → Input → RunFailure → Type 0
-  ReadsUnused names reader reader' input why =
-      ReadsInput files remaining names reader reader' input
-      ⊎ ((read : List Source) × ReadsFirst files remaining (why ≡ run_failure.OutOfMemory) names reader reader' read × (input.unopened ≡ None) × (input.sources ≡ without_lines read))
-
-  -- nothing was written, or a beginning of what is asked for by all sources
-  pub record WholeStops (asked : Question) (names : List (List ℕ)) (reader reader' : R) (out out' : W) (err err' : E) (why : RunFailure) : Type 0 where
+  -- all was read, and a beginning of the answer was written
+  pub record IsWholeCut (asked : Question) (names : List (List ℕ)) (reader reader' : R) (out out' : W) (err err' : E) (why : RunFailure) : Type 0 where
     pub input : Input
-    pub reads : ReadsUnused names reader reader' input why
+    pub reads : ReadsInput files remaining names reader reader' input
     pub outcome : Outcome
     pub is : AnswersInput asked input outcome
     pub output : WroteBeginning (contents out) (contents out') outcome.output
     pub errors : WroteBeginning (error_contents err) (error_contents err') outcome.errors
     pub stops : IsRunFailureOf (last_name input.sources) why
+
+  -- some was read or all, and nothing was written
+  pub record IsSilent (names : List (List ℕ)) (reader reader' : R) (out out' : W) (err err' : E) (why : RunFailure) : Type 0 where
+    pub sources : List Source
+    pub reads : ReadsFirst files remaining (why ≡ run_failure.OutOfMemory) names reader reader' sources
+    pub stops : IsRunFailureOf (last_name sources) why
+    pub output : out' ≡ out
+    pub errors : err' ≡ err
+
+  abbrev pub WholeStops : Question → List (List ℕ) → R → R → W → W → E → E → RunFailure → Type 0
+  WholeStops asked names reader reader' out out' err err' why = IsWholeCut asked names reader reader' out out' err err' why ⊎ IsSilent names reader reader' out out' err err' why

@@ -3,7 +3,7 @@ ghost use Rattle.std.specs.Prelude.{◌≡◌, ◌++◌, IfOk, false, map};
 ghost use Rattle.pep440_version.specs.Key.{kind_rank};
 ghost use Rattle.pep440_version.specs.Record.{epoch_and_release};
 ghost use Rattle.pyver_tool.specs.AnswerViews.{outcome_of};
-ghost use Rattle.pyver_tool.specs.Bumps.{Bumps, bump, bump_dev, bump_error_text, bump_from, bump_part, bump_part_of, bump_post, bump_pre, bump_release, bump_stable, result_outcome, is_later_kind, knows_release, last_number, new_number, pre_number, release_with};
+ghost use Rattle.pyver_tool.specs.Bumps.{Bumps, bump, bump_dev, bump_error_text, bump_from, bump_part, bump_part_of, bump_post, bump_pre, bump_release, bump_stable, result_outcome, is_dev_of_pre, is_later_kind, knows_release, last_number, new_number, pre_number, release_with};
 ghost use Rattle.pyver_tool.specs.Outcomes.{followed_by};
 
 use crate::answer::Answer;
@@ -56,13 +56,15 @@ pub(crate) fn parse_bump_part(word: &str) -> Option<BumpPart>
     }
 }
 
-// The number that is asked for, or the one after the number that is there.
-fn new_number(to: Option<u64>, old: u64) -> Result<u64, BumpError>
-    ensures { result ≡ new_number to old }
+// The number that is asked for; else 1 where there is none, the same where its release is still in development, or the one after it.
+fn new_number(to: Option<u64>, is_dev: bool, old: Option<u64>) -> Result<u64, BumpError>
+    ensures { result ≡ new_number to is_dev old }
 {
-    match to {
-        Some(number) => Ok(number),
-        None => old.checked_add(1).ok_or(BumpError::Greatest),
+    match (to, old) {
+        (Some(number), _) => Ok(number),
+        (None, None) => Ok(1),
+        (None, Some(old)) if is_dev => Ok(old),
+        (None, Some(old)) => old.checked_add(1).ok_or(BumpError::Greatest),
     }
 }
 
@@ -127,7 +129,8 @@ fn bump_release(
 ) -> Result<Result<Version, BumpError>, AllocError>
     ensures { IfOk result (λ x. x ≡ bump_release to index version.now) }
 {
-    match new_number(to, release_number(version, index as usize)) {
+    let old = release_number(version, index as usize);
+    match new_number(to, false, Some(old)) {
         Ok(number) => Ok(Ok(with_release_number(alloc, version, index, number)?)),
         Err(error) => Ok(Err(error)),
     }
@@ -169,14 +172,21 @@ fn is_later_kind(kind: PrereleaseKind, pre: Option<Prerelease>) -> bool
     }
 }
 
-// The number of the pre-release where it is of this kind, and else 0.
-fn pre_number(kind: PrereleaseKind, pre: Option<Prerelease>) -> u64
+// The number of the pre-release where it is of this kind.
+fn pre_number(kind: PrereleaseKind, pre: Option<Prerelease>) -> Option<u64>
     ensures { result ≡ pre_number kind pre }
 {
     match pre {
-        Some(pre) if kind_rank(pre.kind) == kind_rank(kind) => pre.number,
-        _ => 0,
+        Some(pre) if kind_rank(pre.kind) == kind_rank(kind) => Some(pre.number),
+        _ => None,
     }
+}
+
+// Whether a pre-release is still in development, and not its post-release.
+fn is_dev_of_pre(version: &Version) -> bool
+    ensures { result ≡ is_dev_of_pre version.now }
+{
+    version.is_dev() && !version.is_post()
 }
 
 fn bump_pre(
@@ -194,7 +204,7 @@ fn bump_pre(
     if !knows_release(named, version) {
         return Ok(Err(BumpError::NoRelease));
     }
-    match new_number(to, pre_number(kind, version.pre())) {
+    match new_number(to, is_dev_of_pre(version), pre_number(kind, version.pre())) {
         Ok(number) => {
             let release = base_version(alloc, version)?;
             Ok(Ok(release.with_pre(alloc, Some(Prerelease { kind, number }))?))
@@ -210,7 +220,7 @@ fn bump_post(
 ) -> Result<Result<Version, BumpError>, AllocError>
     ensures { IfOk result (λ x. x ≡ bump_post to version.now) }
 {
-    match new_number(to, version.post().unwrap_or(0)) {
+    match new_number(to, version.is_dev(), version.post()) {
         Ok(number) => {
             let post = version.clone()?.with_post(alloc, Some(number))?;
             Ok(Ok(post.with_dev(alloc, None)?.without_local(alloc)?))
@@ -230,7 +240,7 @@ fn bump_dev(
     if !knows_release(named, version) {
         return Ok(Err(BumpError::NoRelease));
     }
-    match new_number(to, version.dev().unwrap_or(0)) {
+    match new_number(to, false, version.dev()) {
         Ok(number) => {
             let dev = version.clone()?.with_dev(alloc, Some(number))?;
             Ok(Ok(dev.without_local(alloc)?))

@@ -1,6 +1,6 @@
 use Rattle.std.proofs.Common.{map, refl, string_bytes, subst}
 use Rattle.pyver_tool.proofs.CheckEnds.{ends_unchecked, ends_unread, no_outcome_of_check}
-use Rattle.pyver_tool.proofs.RunEnds.{ends_at_once, ends_by_answer, ends_by_stop, filter_began, whole_began}
+use Rattle.pyver_tool.proofs.RunEnds.{ends_at_once, ends_by_answer, ends_by_stop, ends_by_whole_stop, filter_began}
 use Rattle.pyver_tool.specs.AnswerViews.{outcome_of}
 use Rattle.pyver_tool.specs.Sources.{no_input}
 use Rattle.pyver_tool.specs.TaskViews.{task}
@@ -31,11 +31,8 @@ returns-in-Ok-Filter-clause-command g c =
 pub returns-in-Ok-Whole-clause-command : goal.returns-in-Ok-Whole-clause-command
 returns-in-Ok-Whole-clause-command g c =
     let is = subst (λ t. IsWork t (work.Whole c.in-Ok-Whole.question c.in-Ok-Whole.names)) c.parse.ensures (subst (λ w. IsWork (task c.parse.result) w) c.in-Ok-Whole.field-0-is c.in-Ok-Whole.ensures) in
-    λ _. ends_by_stop _ _ _ _ _ c.args.files.now c.answer_input.new.files c.args.input.now c.answer_input.new.input c.args.out.now c.answer_input.new.out c.args.err.now c.report_run_failure-in-Err-answer_input.new.err c.report_run_failure-in-Err-answer_input.result
-    c.in-Err-answer_input.failure c.answer_input.new.err c.report_run_failure-in-Err-answer_input.ensures.0 is.0 c.in-Err-answer_input.ensures.kept
-    (whole_began _ _ _ _ _ c.args.files.now c.answer_input.new.files c.args.input.now c.answer_input.new.input c.args.out.now c.answer_input.new.out c.args.err.now c.report_run_failure-in-Err-answer_input.new.err
-    c.report_run_failure-in-Err-answer_input.result c.in-Ok-Whole.question _ c.in-Err-answer_input.failure c.answer_input.new.err c.report_run_failure-in-Err-answer_input.ensures.0
-    c.report_run_failure-in-Err-answer_input.ensures.1 is.1 is.2 is.3 c.in-Err-answer_input.ensures.stopped)
+    λ _. ends_by_whole_stop _ _ _ _ _ c.args.files.now c.answer_input.new.files c.args.input.now c.answer_input.new.input c.args.out.now c.answer_input.new.out c.args.err.now c.report_run_failure-in-Err-answer_input.new.err c.report_run_failure-in-Err-answer_input.result
+    c.in-Ok-Whole.question _ c.in-Err-answer_input.failure c.answer_input.new.err c.report_run_failure-in-Err-answer_input.ensures.0 is.0 c.in-Err-answer_input.ensures.kept is.2 is.3 c.in-Err-answer_input.ensures.stopped
     c.report_run_failure-in-Err-answer_input.ensures.1 c.report_run_failure-in-Err-answer_input.ensures.2
 
 pub returns-in-Ok-Check-clause-check : goal.returns-in-Ok-Check-clause-check
