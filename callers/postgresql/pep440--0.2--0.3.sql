@@ -30,6 +30,13 @@ CREATE OPERATOR CLASS pep440_specs_ops DEFAULT FOR TYPE pep440_specs USING hash 
 CREATE FUNCTION pep440_specs_both(pep440_specs, pep440_specs) RETURNS pep440_specs AS 'MODULE_PATHNAME', 'specs_both' LANGUAGE C IMMUTABLE STRICT PARALLEL SAFE;
 CREATE OPERATOR * (LEFTARG = pep440_specs, RIGHTARG = pep440_specs, FUNCTION = pep440_specs_both);
 
+-- ---- whether there is a version in a list, or in two at once
+
+CREATE FUNCTION isempty(pep440_specs) RETURNS boolean AS 'MODULE_PATHNAME', 'specs_isempty' LANGUAGE C IMMUTABLE STRICT PARALLEL SAFE;
+CREATE FUNCTION pep440_version_in(pep440_specs) RETURNS pep440 AS 'MODULE_PATHNAME', 'specs_version' LANGUAGE C IMMUTABLE STRICT PARALLEL SAFE;
+CREATE FUNCTION pep440_specs_overlap(pep440_specs, pep440_specs) RETURNS boolean AS 'MODULE_PATHNAME', 'specs_overlap' LANGUAGE C IMMUTABLE STRICT PARALLEL SAFE;
+CREATE OPERATOR && (LEFTARG = pep440_specs, RIGHTARG = pep440_specs, FUNCTION = pep440_specs_overlap, COMMUTATOR = &&, RESTRICT = contsel, JOIN = contjoinsel);
+
 -- ---- the columns: values of release 0.2 are read as they are, but take more room
 
 -- INFO, since scripts of extensions do not show a NOTICE. A rewrite runs what is defined on the table, as its constraints: so only whoever owns it may write it.

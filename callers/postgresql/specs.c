@@ -4,6 +4,9 @@
 /* Above each key: the first byte of a key is at most 8. */
 static const uint8_t ABOVE_ALL[] = {0xff};
 
+/* The most bytes of a list in which a version is sought. */
+enum { MOST_DECIDED = 4096 };
+
 /* ---- values */
 
 /* Keeps the error that says why the text is no list, or raises it. */
@@ -90,13 +93,54 @@ Datum specs_valid(PG_FUNCTION_ARGS)
     PG_RETURN_BOOL(status == PEP440_OK);
 }
 
+/* The members of both lists. */
+static Bytes join_lists(FunctionCallInfo fcinfo)
+{
+    const char *left = normal_list(fcinfo, 0), *right = normal_list(fcinfo, 1);
+    char *both = psprintf("%s%s%s", left, *left != 0 && *right != 0 ? "," : "", right);
+    return (Bytes){(const uint8_t *)both, strlen(both)};
+}
+
 /* The list of the members of both: a version is in it if it is in both. */
 PG_FUNCTION_INFO_V1(specs_both);
 Datum specs_both(PG_FUNCTION_ARGS)
 {
-    const char *left = normal_list(fcinfo, 0), *right = normal_list(fcinfo, 1);
-    char *both = psprintf("%s%s%s", left, *left != 0 && *right != 0 ? "," : "", right);
-    PG_RETURN_POINTER(read_list((Bytes){(const uint8_t *)both, strlen(both)}, NULL));
+    PG_RETURN_POINTER(read_list(join_lists(fcinfo), NULL));
+}
+
+/* A version that the list contains, no bytes if there is none. The time grows with the square of the length, and nothing can stop the call. */
+static Bytes find_version(Bytes list)
+{
+    Bytes version;
+    if (list.length > MOST_DECIDED)
+        ereport(ERROR, (errcode(ERRCODE_PROGRAM_LIMIT_EXCEEDED), errmsg("list is too long to find a version in it"),
+                        errdetail("It has more than %d bytes.", MOST_DECIDED)));
+    uint8_t status = write_all(pep440_version_in, list, &version);
+    if (status != PEP440_OK)
+        fail(status);
+    return version;
+}
+
+PG_FUNCTION_INFO_V1(specs_isempty);
+Datum specs_isempty(PG_FUNCTION_ARGS)
+{
+    PG_RETURN_BOOL(find_version(GET_LIST(0)).length == 0);
+}
+
+PG_FUNCTION_INFO_V1(specs_overlap);
+Datum specs_overlap(PG_FUNCTION_ARGS)
+{
+    PG_RETURN_BOOL(find_version(join_lists(fcinfo)).length != 0);
+}
+
+/* A version that the list contains, or null. */
+PG_FUNCTION_INFO_V1(specs_version);
+Datum specs_version(PG_FUNCTION_ARGS)
+{
+    Bytes version = find_version(GET_LIST(0));
+    if (version.length == 0)
+        PG_RETURN_NULL();
+    PG_RETURN_POINTER(read_version(version, NULL));
 }
 
 /* ---- order and hashes: lists are equal if they have the same normal form, and then their compiled bytes are the same. The order is that of these bytes,

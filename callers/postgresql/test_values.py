@@ -84,6 +84,23 @@ def test_both(server):
     return "720000 triples"
 
 
+def test_emptiness(server):
+    """Two lists overlap if a version is found in both; where none is found, no candidate is in both."""
+    db = server.connect("listed")
+    db.rows("CREATE TABLE pair AS SELECT a.specs AS one, b.specs AS other, a.specs * b.specs AS joined FROM (SELECT * FROM sample LIMIT 100) a, (SELECT * FROM sample OFFSET 200) b")
+    wrong = db.value("SELECT count(*) FROM pair WHERE (one && other) = isempty(joined) OR (one && other) <> (other && one) OR isempty(joined) <> (pep440_version_in(joined) IS NULL)")
+    assert wrong == "0", wrong
+    wrong = db.value("SELECT count(*) FROM pair WHERE NOT (one @> pep440_version_in(joined) AND other @> pep440_version_in(joined))")
+    assert wrong == "0", wrong
+    wrong = db.value("SELECT count(*) FROM pair, candidate WHERE joined @> version AND isempty(joined)")
+    assert wrong == "0", wrong
+    empty = db.value("SELECT count(*) FROM pair WHERE isempty(joined)")
+    assert 100 < int(empty) < 9900, empty
+    refused(db, "SELECT isempty(string_agg('!=1.' || n, ',')::pep440_specs) FROM generate_series(1, 1000) AS n", "54000")
+    db.close()
+    return f"{empty} of 10000 pairs have no version in common"
+
+
 def test_replica(server):
     """Changes of a table whose replica identity is the whole row arrive."""
     sender, receiver = database(server, "sender"), database(server, "receiver")

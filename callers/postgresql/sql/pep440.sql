@@ -43,6 +43,7 @@ SELECT low = '', high FROM pep440_cover('');
 SELECT '>=1.0,<2'::pep440_specs = '<2 , >= v1.0', '>=1.0'::pep440_specs = '>=1', '>=1.0'::pep440_specs <> '>=1', '>=1'::pep440_specs IS DISTINCT FROM '>=1 ';
 SELECT specs, count(*) FROM unnest('{">=1,<2","","<2,>=1",==1.*,NULL}'::pep440_specs[]) AS specs GROUP BY specs ORDER BY specs::text;
 SELECT '<2,!=1.5'::pep440_specs * '>=1', '>=1,!=1.5'::pep440_specs * '==1.*', ''::pep440_specs * '>1', ''::pep440_specs * '';
+SELECT isempty('>=1,<=1,!=1'::pep440_specs), isempty('<=1.0,==1.0+cu1'::pep440_specs), isempty(''::pep440_specs), pep440_version_in('>=1.16,<2'), pep440_version_in('===2,===2.0') IS NULL, '>=1'::pep440_specs && '<1', '>=1'::pep440_specs && '<=1';
 SELECT pep440_specs_valid('>=1, <2'), pep440_specs_valid(''), pep440_specs_valid('>=1, =<2'), pep440_specs_valid(NULL) IS NULL;
 -- what begins as compiled bytes is a text like others
 SELECT pep440_specs_valid(E'\005'), pep440_valid(E'\004');
