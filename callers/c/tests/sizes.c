@@ -66,7 +66,7 @@ static void of_either(pep440_string version, const char *part, size_t size)
 {
     static const pep440_string change = {TEXT("post=2")};
     CHECK(pep440_normalize(PARSED(version), OUT));
-    CHECK(pep440_version_error(PARSED(version), OUT));
+    CHECK(pep440_error(PEP440_A_VERSION, PARSED(version), OUT));
     CHECK(pep440_parts_of(PARSED(version), &parts, release, GREATEST + 2));
     CHECK(pep440_sort_key(PARSED(version), OUT));
     CHECK(pep440_build_error(PEP440_LESS, PARSED(version), 0, OUT));
@@ -92,11 +92,11 @@ static void of_versions(const char *before, const char *part, size_t size)
     pep440_string specifier = repeat("===", (const char *)version.bytes, "", 1);
     pep440_string compiled = compile(pep440_compile, version, part, size), only = compile(pep440_compile_specifier, specifier, part, size);
     pep440_string compiled_few = compile(pep440_compile_list, few, part, size);
-    CHECK(pep440_version_error(PARSED(invalid), OUT));
+    CHECK(pep440_error(PEP440_A_VERSION, PARSED(invalid), OUT));
     CHECK(pep440_pattern(PARSED(version), OUT, &is));
-    CHECK(pep440_pattern_error(PARSED(invalid), OUT));
+    CHECK(pep440_error(PEP440_A_PATTERN, PARSED(invalid), OUT));
     CHECK(pep440_specifier(TEXT("==="), PARSED(version), OUT));
-    CHECK(pep440_specifier_error(PARSED(invalid), OUT));
+    CHECK(pep440_error(PEP440_A_SPECIFIER, PARSED(invalid), OUT));
     CHECK(pep440_compile_specifier(PARSED(specifier), OUT));
     of_either(version, part, size);
     of_either(compiled, part, size);
@@ -130,7 +130,7 @@ static void of_lists(const char *before, const char *part, size_t size)
 {
     pep440_string list = repeat(before, part, "", size), invalid = repeat(before, part, ",=", size);
     pep440_string compiled = compile(pep440_compile_list, list, part, size);
-    CHECK(pep440_list_error(PARSED(invalid), OUT));
+    CHECK(pep440_error(PEP440_A_LIST, PARSED(invalid), OUT));
     of_either_list(list, part, size);
     of_either_list(compiled, part, size);
     drop(list), drop(invalid), drop(compiled);
