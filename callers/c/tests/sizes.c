@@ -161,7 +161,8 @@ static void of_batches(const char *text, const char *part, size_t size)
     pep440_string list = repeat(text, "", "", 0), compiled = compile(pep440_compile_list, list, part, size), *const batches[] = {batch, forms, mixed};
     for (int number = 0; number < 3; number++) {
         CHECK(pep440_filter(PARSED(list), batches[number], size, marks, GREATEST));
-        CHECK(pep440_newest(PARSED(list), batches[number], size, &at));
+        if (size > 0) /* of no versions none is the newest */
+            CHECK(pep440_newest(PARSED(list), batches[number], size, &at));
         CHECK(pep440_filter(PARSED(compiled), batches[number], size, marks, GREATEST));
         CHECK(pep440_sort(batches[number], size, ends, GREATEST, &at));
         CHECK(pep440_sort_keys(batches[number], size, out, sizeof out, ends, GREATEST, &written, &at));
