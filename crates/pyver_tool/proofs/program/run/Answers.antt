@@ -46,8 +46,16 @@ returns-in-Ok-Check-clause-check g c =
 
 pub returns-clause-command : goal.returns-clause-command
 returns-clause-command g c =
-    λ _. ends_at_once _ _ _ _ _ c.args.files.now c.args.files.now c.args.input.now c.args.input.now c.args.out.now c.args.out.now c.args.err.now c.refuse.new.err c.refuse.result refl refl refl c.refuse.ensures.status c.refuse.ensures.written
+    λ _. ends_at_once _ _ _ _ _ c.args.files.now c.args.files.now c.args.input.now c.args.input.now c.args.out.now c.args.out.now c.args.err.now c.refuse-in-Err.new.err c.refuse-in-Err.result refl refl refl c.refuse-in-Err.ensures.status c.refuse-in-Err.ensures.written
 
 pub returns-clause-check : goal.returns-clause-check
 returns-clause-check g c =
+    λ json names so. ends_unread _ _ _ _ _ json names c.args.files.now c.args.input.now c.args.out.now c.args.err.now c.refuse-in-Err.new.err c.refuse-in-Err.result c.refuse-in-Err.ensures.status c.refuse-in-Err.ensures.written
+
+pub returns-in_default-clause-command : goal.returns-in_default-clause-command
+returns-in_default-clause-command g c =
+    λ _. ends_at_once _ _ _ _ _ c.args.files.now c.args.files.now c.args.input.now c.args.input.now c.args.out.now c.args.out.now c.args.err.now c.refuse.new.err c.refuse.result refl refl refl c.refuse.ensures.status c.refuse.ensures.written
+
+pub returns-in_default-clause-check : goal.returns-in_default-clause-check
+returns-in_default-clause-check g c =
     λ json names so. ends_unread _ _ _ _ _ json names c.args.files.now c.args.input.now c.args.out.now c.args.err.now c.refuse.new.err c.refuse.result c.refuse.ensures.status c.refuse.ensures.written
