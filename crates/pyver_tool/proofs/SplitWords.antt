@@ -1,5 +1,5 @@
 -- The words of a call, one after another.
-use Rattle.std.proofs.Common.{◌≡◌, ◌∙◌, ◌-◌, ◌≤◌, ◌++◌, ℕ, List, [], ◌∷◌, true, false, Option, Some, None, append_assoc, arith, ap, bytes_eq, codes, cond, drop, get_or, length, map, refl, sym, take}
+use Rattle.std.proofs.Common.{◌≡◌, ◌∙◌, ◌-◌, ◌≤◌, ◌++◌, ℕ, List, [], ◌∷◌, true, false, Some, None, append_assoc, arith, ap, bytes_eq, codes, cond, drop, get_or, length, map, refl, sym, take}
 use Rattle.std.proofs.lemmas.List.{take_all}
 use Rattle.pyver_tool.specs.Options.{Row}
 use Rattle.pyver_tool.specs.Tasks.{Help, NameVersion, help_task, named_task, task_of}

@@ -1,5 +1,5 @@
 -- What options set: of two that contradict each other the last counts.
-use Rattle.std.specs.Prelude.{ℕ, ◌==◌, List, [], ◌∷◌, Bool, true, false, Option, Some, None, bytes_eq, codes, if◌then◌else◌}
+use Rattle.std.specs.Prelude.{ℕ, ◌==◌, List, [], ◌∷◌, true, false, Option, Some, None, bytes_eq, codes, if◌then◌else◌}
 use Rattle.std.specs.Option.{option_map}
 use Rattle.pyver_tool.specs.InvalidLines.{invalid_lines_of}
 use Rattle.pyver_tool.specs.LineOptions.{no_line_options}

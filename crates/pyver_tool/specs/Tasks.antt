@@ -1,5 +1,5 @@
 -- The tasks that the words of a call name, and their outcomes.
-use Rattle.std.specs.Prelude.{◌≡◌, ◌||◌, ⊤, ℕ, List, [], ◌∷◌, ◌++◌, Bool, true, false, Option, Some, None, bytes_eq, codes, is_some, map, if◌then◌else◌}
+use Rattle.std.specs.Prelude.{◌≡◌, ⊤, ℕ, List, [], ◌∷◌, ◌++◌, Bool, true, false, Option, Some, None, bytes_eq, codes, is_some, map, if◌then◌else◌}
 use Rattle.std.specs.List.{list_any}
 use Rattle.pep440_rs.specs.ListGrammar.{DerivesList}
 use Rattle.pep440_rs.specs.Specifiers.{Spec}
