@@ -16,8 +16,7 @@ pub mod RunEnds
 pub mod FileReads
 pub mod CheckEnds
 pub mod Starts
-pub mod FilterWords
-pub mod LineWords
+pub mod SplitWords
 pub mod Bumping
 pub mod Digits
 pub mod Releases

@@ -4,7 +4,7 @@ use Rattle.std.specs.Option.{option_copied, MatchOption}
 use Rattle.std.specs.Str.{IsCharBoundary}
 use Rattle.std.specs.Str.Pattern.{FindsTextPrefix, StripsPrefix}
 use Rattle.std.proofs.lemmas.Str.Pattern.{starts_text}
-use Rattle.pyver_tool.specs.LineOptions.{value_behind}
+use Rattle.pyver_tool.specs.SplitWords.{value_behind}
 
 -- `strip_prefix` at a string
 pub behind_is : (start word : List ℕ) (r : Option (Bor (List ℕ))) → MatchOption r (FindsTextPrefix start word None) (λ x. StripsPrefix (FindsTextPrefix start) word x.now) → option_copied r ≡ value_behind start word

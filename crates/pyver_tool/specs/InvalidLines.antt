@@ -1,5 +1,5 @@
 -- What is done with invalid lines, by the option `--invalid`.
-use Rattle.std.specs.Prelude.{ℕ, ◌-◌, ◌==◌, List, [], ◌∷◌, Option, Some, None, bytes_eq, codes, if◌then◌else◌}
+use Rattle.std.specs.Prelude.{ℕ, ◌-◌, ◌==◌, List, [], Option, Some, None, bytes_eq, codes, if◌then◌else◌}
 use Rattle.pyver_tool.specs.Messages.{more_faults_message, left_out_message}
 use Rattle.pyver_tool.specs.declared.invalid_lines.InvalidLines.{InvalidLines}
 use Rattle.pyver_tool.specs.declared.invalid_lines.InvalidLines.TheVariants as invalid
@@ -11,10 +11,6 @@ invalid_lines_of word =
     else if bytes_eq word (codes "skip") then Some invalid.Skip
     else if bytes_eq word (codes "keep") then Some invalid.Keep
     else None
-
--- the values of `--invalid`, with which a mistyped one is compared
-abbrev pub invalid_lines_names : List (List ℕ)
-invalid_lines_names = codes "error" ∷ (codes "skip" ∷ (codes "keep" ∷ []))
 
 -- how many invalid lines get a message of their own
 abbrev pub message_limit : InvalidLines → ℕ

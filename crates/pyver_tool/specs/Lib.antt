@@ -27,6 +27,10 @@ pub mod Filters
 pub mod VersionLines
 pub mod Sorts
 pub mod NewestOutcomes
+pub mod Options
+pub mod SplitWords
+pub mod SplitViews
+pub mod Settings
 pub mod Tasks
 pub mod TaskViews
 pub mod Runs

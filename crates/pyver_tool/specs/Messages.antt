@@ -1,6 +1,7 @@
 -- The messages on standard error, each a line of its own; what is quoted is escaped.
-use Rattle.std.specs.Prelude.{ℕ, ◌==◌, List, [], ◌++◌, Option, Some, None, codes, if◌then◌else◌}
+use Rattle.std.specs.Prelude.{ℕ, ◌==◌, List, [], ◌∷◌, ◌++◌, Option, Some, None, codes, if◌then◌else◌}
 use Rattle.std.specs.Fmt.{decimal}
+use Rattle.std.specs.List.{flat_map}
 use Rattle.pyver_findings.specs.Escapes.{escaped}
 use Rattle.pyver_tool.specs.Nearest.{nearest}
 
@@ -37,9 +38,22 @@ hint (Some name) = codes "; did you mean '" ++ (name ++ codes "'?")
 abbrev pub help_hint : List ℕ → List ℕ
 help_hint help = codes "\nTry '" ++ (help ++ codes "'.\n")
 
+-- the message of a word that names nothing of this kind, with a suggestion, as far as it depends on these
+abbrev pub unknown_start : List ℕ → List ℕ → List ℕ → Option (List ℕ) → List ℕ
+unknown_start start kind word near = start ++ (kind ++ (codes " '" ++ (escaped word ++ (codes "'" ++ hint near))))
+
 -- the message of a word that names nothing of this kind, with a suggestion
 abbrev pub unknown_message : List ℕ → List ℕ → List (List ℕ) → List ℕ → List ℕ
-unknown_message kind word names help = codes "pyver: no " ++ (kind ++ (codes " '" ++ (escaped word ++ (codes "'" ++ (hint (nearest word names) ++ help_hint help)))))
+unknown_message kind word names help = unknown_start (codes "pyver: no ") kind word (nearest word names) ++ help_hint help
+
+-- the values of an option, on a line of their own, if they are few
+abbrev pub choices_text : List (List ℕ) → List ℕ
+choices_text [] = []
+choices_text (choice ∷ others) = codes "\nChoices:" ++ flat_map (λ c. codes " " ++ c) (choice ∷ others)
+
+-- the message of a word that is no value of the option of this name
+abbrev pub value_message : List ℕ → List ℕ → List (List ℕ) → List ℕ → List ℕ
+value_message name word choices help = unknown_start (codes "pyver: no value of ") name word (nearest word choices) ++ (choices_text choices ++ help_hint help)
 
 -- the message of too few or too many words
 abbrev pub usage_message : List ℕ → List ℕ → List ℕ

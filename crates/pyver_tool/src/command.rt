@@ -1,9 +1,11 @@
 // The command that words ask for, and what it writes.
-ghost use Rattle.std.specs.Prelude.{◌≡◌, [], ◌∷◌, IfOk, map, option_map, string_bytes};
+ghost use Rattle.std.specs.Prelude.{◌≡◌, [], IfOk, Some, map, option_map, string_bytes};
 ghost use Rattle.pyver_tool.specs.AnswerViews.{outcome_of};
-ghost use Rattle.pyver_tool.specs.TaskViews.{task};
+ghost use Rattle.pyver_tool.specs.TaskViews.{task, words_task};
 ghost use Rattle.pyver_tool.specs.Outcomes.{message_outcome};
-ghost use Rattle.pyver_tool.specs.Tasks.{Filter, Newest, bump_from_words, compare_rest, compare_task, compare_words, is_help, is_option, match_operands, match_option, match_rest, match_task, no_match_options, printed, task_of};
+ghost use Rattle.pyver_tool.specs.Settings.{effect, no_settings};
+ghost use Rattle.pyver_tool.specs.SplitViews.{given_of, split_of};
+ghost use Rattle.pyver_tool.specs.Tasks.{Filter, Newest, asks_help, bump_from_words, bump_operands, bump_word, by_effect, by_last, by_split, is_json, printed, task_with};
 ghost use Rattle.pyver_tool.specs.TaskViews.{misuse_message};
 ghost use Rattle.pyver_tool.specs.WorkViews.{IsWork};
 
@@ -13,23 +15,19 @@ use crate::allowed::{
 use crate::answer::Answer;
 use crate::bump::{bump_version, parse_bump_part};
 use crate::bump_input::BumpRule;
-use crate::bump_words::parse_bump;
-use crate::check_words::parse_check;
 use crate::common_range::{RangeOptions, find_common};
 use crate::comparison::{Comparison, compare, parse_comparison};
 use crate::filter::{FilterOptions, FilterRule};
-use crate::filter_words::parse_filter;
 use crate::help::{Topic, VERSION_LINE, help};
 use crate::misuse::{Misuse, push_misuse};
 use crate::newest::{NewestOptions, NewestRule};
-use crate::newest_words::parse_newest;
-use crate::prerelease_rule::{Prereleases, takes_prereleases};
-use crate::range_words::parse_range;
+use crate::prerelease_rule::takes_prereleases;
+use crate::settings::Settings;
 use crate::show::{ShowFormat, show_versions};
-use crate::show_words::parse_show;
 use crate::sort::SortOptions;
-use crate::sort_words::parse_sort;
+use crate::split_words::{GivenOption, Split};
 use crate::whole_input::Question;
+use crate::words::Words;
 use std::alloc::{AllocError, Global};
 
 // What words ask for.
@@ -67,23 +65,14 @@ pub(crate) enum Work<'a> {
     Check(bool, &'a [String]),
 }
 
-pub(crate) fn is_help(word: &str) -> bool
-    ensures { result ≡ is_help word.now }
+fn is_json(format: ShowFormat) -> bool
+    ensures { result ≡ is_json format }
 {
-    word == "-h" || word == "--help"
+    matches!(format, ShowFormat::Json)
 }
 
-pub(crate) fn is_option(word: &str) -> bool
-    ensures { result ≡ is_option word.now }
-{
-    match word.as_bytes() {
-        [] => false,
-        [first, rest @ ..] => *first == b'-' && !rest.is_empty(),
-    }
-}
-
-fn parse_compare_words<'a>(words: &'a [String]) -> Command<'a>
-    ensures { task result ≡ compare_words (map string_bytes words.now) }
+fn parse_compare<'a>(words: &'a [String]) -> Command<'a>
+    ensures { (settings : Settings) → task result ≡ task_with settings Topic.Compare (map string_bytes words.now) }
 {
     match words {
         [left, word, right] => match parse_comparison(word.as_str()) {
@@ -94,120 +83,193 @@ fn parse_compare_words<'a>(words: &'a [String]) -> Command<'a>
     }
 }
 
-// The first word does not ask for help.
-fn parse_compare_rest<'a>(word: &'a str, words: &'a [String]) -> Command<'a>
-    ensures { task result ≡ compare_rest word.now (map string_bytes words.now) }
-{
-    if is_option(word) {
-        Command::Misused(Misuse::Option(Topic::Compare, word))
-    } else {
-        parse_compare_words(words)
-    }
-}
-
-fn parse_compare<'a>(words: &'a [String]) -> Command<'a>
-    ensures { task result ≡ compare_task (map string_bytes words.now) }
-{
-    match words {
-        [] => Command::Misused(Misuse::Count(Topic::Compare)),
-        [word, ..] => {
-            if is_help(word.as_str()) {
-                Command::Help(Topic::Compare)
-            } else {
-                parse_compare_rest(word.as_str(), words)
-            }
-        }
-    }
-}
-
-fn parse_match_operands<'a>(options: MatchOptions, words: &'a [String]) -> Command<'a>
-    ensures { task result ≡ match_operands options (map string_bytes words.now) }
+fn parse_match<'a>(settings: Settings, words: &'a [String]) -> Command<'a>
+    ensures { task result ≡ task_with settings Topic.Match (map string_bytes words.now) }
 {
     match words {
         [specifiers, versions @ ..] if !versions.is_empty() => {
+            let options = MatchOptions {
+                quiet: settings.quiet,
+                prereleases: settings.prereleases,
+            };
             Command::Match(options, specifiers.as_str(), versions)
         }
         _ => Command::Misused(Misuse::Count(Topic::Match)),
     }
 }
 
-// The options with what the word sets, if it is an option that sets some.
-fn parse_match_option(options: MatchOptions, word: &str) -> Option<MatchOptions>
-    ensures { result ≡ match_option options word.now }
+fn parse_filter<'a>(settings: Settings, words: &'a [String]) -> Command<'a>
+    ensures { task result ≡ task_with settings Topic.Filter (map string_bytes words.now) }
 {
-    let mut options = options;
-    match word {
-        "-q" => options.quiet = true,
-        "--quiet" => options.quiet = true,
-        "--pre" => options.prereleases = Prereleases::Always,
-        "--no-pre" => options.prereleases = Prereleases::Never,
-        _ => return None,
-    }
-    Some(options)
-}
-
-// The first word is no option that sets some.
-fn parse_match_rest<'a>(
-    options: MatchOptions,
-    word: &'a str,
-    rest: &'a [String],
-    words: &'a [String],
-) -> Command<'a>
-    requires { map string_bytes words.now ≡ word.now ∷ map string_bytes rest.now }
-    ensures { task result ≡ match_rest options word.now (map string_bytes rest.now) }
-{
-    if word == "--" {
-        parse_match_operands(options, rest)
-    } else if is_option(word) {
-        Command::Misused(Misuse::Option(Topic::Match, word))
-    } else {
-        parse_match_operands(options, words)
+    match words {
+        [specifiers, names @ ..] => {
+            let options = FilterOptions {
+                inverted: settings.inverted,
+                prereleases: settings.prereleases,
+                lines: settings.lines,
+            };
+            Command::Filter(options, specifiers.as_str(), names)
+        }
+        _ => Command::Misused(Misuse::Count(Topic::Filter)),
     }
 }
 
-fn parse_match<'a>(words: &'a [String]) -> Command<'a>
-    ensures { task result ≡ match_task no_match_options (map string_bytes words.now) }
+fn parse_sort<'a>(settings: Settings, words: &'a [String]) -> Command<'a>
+    ensures { task result ≡ task_with settings Topic.Sort (map string_bytes words.now) }
 {
-    let mut options = MatchOptions {
-        quiet: false,
-        prereleases: Prereleases::Listed,
+    let options = SortOptions {
+        reversed: settings.reversed,
+        unique: settings.unique,
+        last: settings.last,
+        lines: settings.lines,
     };
-    let mut left = words;
-    while let [word, rest @ ..] = left {
-        if is_help(word.as_str()) {
-            return Command::Help(Topic::Match);
+    Command::Sort(options, words)
+}
+
+fn parse_newest<'a>(settings: Settings, words: &'a [String]) -> Command<'a>
+    ensures { task result ≡ task_with settings Topic.Newest (map string_bytes words.now) }
+{
+    match words {
+        [specifiers, names @ ..] => {
+            let options = NewestOptions {
+                prereleases: settings.prereleases,
+                lines: settings.lines,
+            };
+            Command::Newest(options, specifiers.as_str(), names)
         }
-        match parse_match_option(options, word.as_str()) {
-            Some(taken) => options = taken,
-            None => return parse_match_rest(options, word.as_str(), rest, left),
-        }
-        left = rest;
+        _ => Command::Misused(Misuse::Count(Topic::Newest)),
     }
-    Command::Misused(Misuse::Count(Topic::Match))
+}
+
+fn parse_show<'a>(settings: Settings, words: &'a [String]) -> Command<'a>
+    ensures { task result ≡ task_with settings Topic.Show (map string_bytes words.now) }
+{
+    if words.is_empty() {
+        Command::Misused(Misuse::Count(Topic::Show))
+    } else {
+        Command::Show(settings.format, words)
+    }
+}
+
+fn parse_range<'a>(settings: Settings, words: &'a [String]) -> Command<'a>
+    ensures { task result ≡ task_with settings Topic.Range (map string_bytes words.now) }
+{
+    if words.is_empty() {
+        return Command::Misused(Misuse::Count(Topic::Range));
+    }
+    let options = RangeOptions {
+        cover: settings.cover,
+        json: is_json(settings.format),
+    };
+    Command::Range(options, words)
+}
+
+// Parts, at least one, and then the version.
+fn parse_bump_word<'a>(to: Option<u64>, parts: &'a [String], version: &'a str) -> Command<'a>
+    ensures { task result ≡ bump_word to (map string_bytes parts.now) version.now }
+{
+    if parts.is_empty() {
+        return Command::Misused(Misuse::Count(Topic::Bump));
+    }
+    Command::Bump(to, parts, Some(version))
+}
+
+// The last of the words, and those before it.
+fn parse_bump_last<'a>(
+    to: Option<u64>,
+    words: &'a [String],
+    before: &'a [String],
+    last: &'a str,
+) -> Command<'a>
+    ensures { task result ≡ by_last to (map string_bytes words.now) (Some (map string_bytes before.now, last.now)) }
+{
+    if parse_bump_part(last).is_some() {
+        Command::Bump(to, words, None)
+    } else {
+        parse_bump_word(to, before, last)
+    }
+}
+
+// `bump PART.. [V]`.
+fn parse_bump<'a>(to: Option<u64>, words: &'a [String]) -> Command<'a>
+    ensures { task result ≡ bump_operands to (map string_bytes words.now) }
+{
+    match words.split_last() {
+        Some((last, before)) => parse_bump_last(to, words, before, last.as_str()),
+        None => Command::Misused(Misuse::Count(Topic::Bump)),
+    }
+}
+
+// The command with these settings and operands.
+fn parse_operands<'a>(topic: Topic, settings: Settings, words: &'a [String]) -> Command<'a>
+    ensures { task result ≡ task_with settings topic (map string_bytes words.now) }
+{
+    match topic {
+        Topic::Program => Command::Misused(Misuse::Count(topic)),
+        Topic::Compare => parse_compare(words),
+        Topic::Match => parse_match(settings, words),
+        Topic::Filter => parse_filter(settings, words),
+        Topic::Sort => parse_sort(settings, words),
+        Topic::Newest => parse_newest(settings, words),
+        Topic::Show => parse_show(settings, words),
+        Topic::Bump => parse_bump(settings.to, words),
+        Topic::Range => parse_range(settings, words),
+        Topic::Check => Command::Check(is_json(settings.format), words),
+    }
+}
+
+fn asks_help(options: &[GivenOption]) -> bool
+    ensures { result ≡ asks_help (map (given_of (λ s. s.now) (λ t. t.now) string_bytes) options.now) }
+{
+    for given in options {
+        if given.0.1 == "--help" {
+            return true;
+        }
+    }
+    false
+}
+
+// The command with these options and operands, of which none asks for help.
+fn parse_given<'a>(topic: Topic, options: &'a [GivenOption], operands: &'a [String]) -> Command<'a>
+    ensures { task result ≡ by_effect topic (map string_bytes operands.now) (effect no_settings (map (given_of (λ s. s.now) (λ t. t.now) string_bytes) options.now)) }
+{
+    let mut settings = Settings::none();
+    for given in options {
+        match settings.with_option(given.0.1, given.1.as_str()) {
+            Some(taken) => settings = taken,
+            None => return Command::Misused(Misuse::Value(topic, given.0, given.1.as_str())),
+        }
+    }
+    parse_operands(topic, settings, operands)
+}
+
+fn parse_split<'a>(topic: Topic, split: &'a Split) -> Command<'a>
+    ensures { task result ≡ by_split topic (split_of split.now) }
+{
+    match split {
+        Split::Given(options, operands) => {
+            if asks_help(options.as_slice()) {
+                Command::Help(topic)
+            } else {
+                parse_given(topic, options.as_slice(), operands.as_slice())
+            }
+        }
+        Split::Unknown(word) => Command::Misused(Misuse::Option(topic, word.as_str())),
+        Split::Missing => Command::Misused(Misuse::Count(topic)),
+    }
 }
 
 impl<'a> Command<'a> {
     // The command that the words ask for.
-    pub(crate) fn parse(words: &'a [String]) -> Command<'a>
-        ensures { task result ≡ task_of (map string_bytes words.now) }
+    pub(crate) fn parse(words: &'a Words) -> Command<'a>
+        ensures { task result ≡ words_task words.now }
     {
         match words {
-            [] => Command::Misused(Misuse::Count(Topic::Program)),
-            [word, rest @ ..] => match word.as_str() {
-                "-h" => Command::Help(Topic::Program),
-                "--help" => Command::Help(Topic::Program),
-                "--version" => Command::Version,
-                "compare" => parse_compare(rest),
-                "match" => parse_match(rest),
-                "filter" => parse_filter(rest),
-                "sort" => parse_sort(rest),
-                "newest" => parse_newest(rest),
-                "show" => parse_show(rest),
-                "bump" => parse_bump(rest),
-                "range" => parse_range(rest),
-                "check" => parse_check(rest),
-                other => Command::Misused(Misuse::Command(other)),
-            },
+            Words::Help(topic) => Command::Help(*topic),
+            Words::Version => Command::Version,
+            Words::Command(topic, split) => parse_split(*topic, split),
+            Words::Unknown(word) => Command::Misused(Misuse::Command(word.as_str())),
+            Words::Miscounted => Command::Misused(Misuse::Count(Topic::Program)),
         }
     }
 

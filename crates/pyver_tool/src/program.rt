@@ -13,6 +13,7 @@ use crate::files::Files;
 use crate::filter_sources::filter_sources;
 use crate::stream::{RunFailure, WriteFailure, write_whole};
 use crate::whole_input::answer_input;
+use crate::words::Words;
 use std::alloc::Global;
 use std::io::{Read, Write};
 
@@ -97,7 +98,10 @@ pub fn run<F: Files, R: Read, W: Write, E: Write>(
     ensures command { ¬ IsCheck (task_of (map string_bytes words.now)) → Ends F.known R.remaining W.contents E.contents (map string_bytes words.now) files.old files.new input.old input.new out.old out.new err.old err.new result }
     ensures check { (json : Bool) (names : List (List ℕ)) → task_of (map string_bytes words.now) ≡ Check json names → EndsCheck F.known F.path R.remaining W.contents E.contents json names files.old files.new input.old input.new out.old out.new err.old err.new result }
 {
-    match Command::parse(words).run(alloc) {
+    let Ok(read) = Words::read(alloc, words) else {
+        return refuse(err);
+    };
+    match Command::parse(&read).run(alloc) {
         Ok(Work::Answer(answer)) => write_answer(&answer, out, err),
         Ok(Work::Filter(rule, names)) => {
             match filter_sources(alloc, &rule, names, files, input, out, err) {

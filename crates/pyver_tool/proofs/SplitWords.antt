@@ -1,0 +1,59 @@
+-- The words of a call, one after another.
+use Rattle.std.proofs.Common.{◌≡◌, ◌∙◌, ◌-◌, ◌≤◌, ◌++◌, ℕ, List, [], ◌∷◌, true, false, Some, None, append_assoc, arith, ap, bytes_eq, codes, cond, drop, get_or, length, map, refl, sym, take}
+use Rattle.std.proofs.lemmas.List.{take_all}
+use Rattle.pyver_tool.specs.Options.{Row}
+use Rattle.pyver_tool.specs.Tasks.{Help, NameVersion, help_task, named_task, task_of}
+use Rattle.pyver_tool.specs.declared.help.Topic.TheVariants as topic
+use Rattle.pyver_tool.specs.SplitWords.{Awaits, End, Given, Missing, Split, UnknownWord, Whole, before, by_end, is_option, split_words, word_options}
+
+-- the first word and the others
+pub first_word : {W : Type 0} (f : W → List ℕ) (words : List W) (w : W) (text : List ℕ) → 1 ≤ length words → w ≡ get_or words 0 w → text ≡ f w → map f words ≡ text ∷ map f (take (length words - 1) (drop 1 words))
+first_word f [] w text long is same = absurd (omega arith)
+first_word f (x ∷ rest) w text long is same =
+    let whole : take (length (x ∷ rest) - 1) rest ≡ rest = take_all (length (x ∷ rest) - 1) rest (omega arith) in
+    ap (λ t. t ∷ map f rest) (sym (same ∙ ap f is)) ∙ ap (λ l. text ∷ map f l) (sym whole)
+
+-- options after others
+pub options_before : (options more : List (Row × List ℕ)) (operands : List (List ℕ)) (split : Split) → before (options ++ more) operands split ≡ before options operands (before more [] split)
+options_before options more operands (Given others names) = ap (λ x. Given x (operands ++ names)) (append_assoc options more others)
+options_before options more operands (UnknownWord word) = refl
+options_before options more operands Missing = refl
+
+-- operands after others
+pub operands_before : (options : List (Row × List ℕ)) (operands more : List (List ℕ)) (split : Split) → before options (operands ++ more) split ≡ before options operands (before [] more split)
+operands_before options operands more (Given others names) = ap (λ y. Given (options ++ others) y) (append_assoc operands more names)
+operands_before options operands more (UnknownWord word) = refl
+operands_before options operands more Missing = refl
+
+module _ (rows : List Row) (word : List ℕ) (rest : List (List ℕ)) (goes_on : bytes_eq word (codes "--") ≡ false) where
+  -- the word is an operand
+  pub operand_next : is_option word ≡ false → split_words rows None (word ∷ rest) ≡ before [] (word ∷ []) (split_words rows None rest)
+  operand_next none =
+      let others = by_end word (word_options rows word) (λ awaited. split_words rows awaited rest) in
+      let operand = before [] (word ∷ []) (split_words rows None rest) in
+      ap (λ b. cond b (Given [] rest) (cond (is_option word) others operand)) goes_on ∙ ap (λ b. cond b others operand) none
+
+  -- the word has options
+  pub options_next : is_option word ≡ true → split_words rows None (word ∷ rest) ≡ by_end word (word_options rows word) (λ awaited. split_words rows awaited rest)
+  options_next one =
+      let others = by_end word (word_options rows word) (λ awaited. split_words rows awaited rest) in
+      let operand = before [] (word ∷ []) (split_words rows None rest) in
+      ap (λ b. cond b (Given [] rest) (cond (is_option word) others operand)) goes_on ∙ ap (λ b. cond b others operand) one
+
+  -- it has only options
+  pub whole_next : is_option word ≡ true → Whole ≡ (word_options rows word).1 → split_words rows None (word ∷ rest) ≡ before (word_options rows word).0 [] (split_words rows None rest)
+  whole_next one is = options_next one ∙ ap (λ (e : End). by_end word ((word_options rows word).0, e) (λ awaited. split_words rows awaited rest)) (sym is)
+
+  -- its last option awaits a value
+  pub awaits_next : (row : Row) → is_option word ≡ true → Awaits row ≡ (word_options rows word).1 → split_words rows None (word ∷ rest) ≡ before (word_options rows word).0 [] (split_words rows (Some row) rest)
+  awaits_next row one is = options_next one ∙ ap (λ (e : End). by_end word ((word_options rows word).0, e) (λ awaited. split_words rows awaited rest)) (sym is)
+
+-- a word that neither asks for help nor for the version of the program
+pub named_word : (word : List ℕ) (rest : List (List ℕ)) → bytes_eq word (codes "-h") ≡ false → bytes_eq word (codes "--help") ≡ false → bytes_eq word (codes "-V") ≡ false → bytes_eq word (codes "--version") ≡ false → bytes_eq word (codes "help") ≡ false → task_of (word ∷ rest) ≡ named_task word rest
+named_word word rest no_h no_help no_v no_version no_word =
+    let after_help = cond (bytes_eq word (codes "help")) (help_task rest) (named_task word rest) in
+    let after_v = cond (bytes_eq word (codes "--version")) NameVersion after_help in
+    let after_long = cond (bytes_eq word (codes "-V")) NameVersion after_v in
+    let after_h = cond (bytes_eq word (codes "--help")) (Help topic.Program) after_long in
+    ap (λ b. cond b (Help topic.Program) after_h) no_h ∙ ap (λ b. cond b (Help topic.Program) after_long) no_help ∙ ap (λ b. cond b NameVersion after_v) no_v ∙ ap (λ b. cond b NameVersion after_help) no_version
+    ∙ ap (λ b. cond b (help_task rest) (named_task word rest)) no_word

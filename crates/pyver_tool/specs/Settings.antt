@@ -1,0 +1,69 @@
+-- What options set: of two that contradict each other the last counts.
+use Rattle.std.specs.Prelude.{ℕ, ◌==◌, List, [], ◌∷◌, true, false, Option, Some, None, bytes_eq, codes, if◌then◌else◌}
+use Rattle.std.specs.Option.{option_map}
+use Rattle.pyver_tool.specs.InvalidLines.{invalid_lines_of}
+use Rattle.pyver_tool.specs.LineOptions.{no_line_options}
+use Rattle.pyver_tool.specs.Numbers.{word_number}
+use Rattle.pyver_tool.specs.Options.{Row}
+use Rattle.pyver_tool.specs.Parts.{part_of}
+use Rattle.pyver_tool.specs.declared.line_options.LineOptions.{LineOptions}
+use Rattle.pyver_tool.specs.declared.prerelease_rule.Prereleases.TheVariants as prereleases
+use Rattle.pyver_tool.specs.declared.settings.Settings.{Settings}
+use Rattle.pyver_tool.specs.declared.show.ShowFormat.TheVariants as format
+
+-- the number without 0
+abbrev pub from_one : Option ℕ → Option ℕ
+from_one None = None
+from_one (Some n) = if n == 0 then None else Some n
+
+-- the number of a field that the word writes: 1 or more
+abbrev pub field_number_of : List ℕ → Option ℕ
+field_number_of word = from_one (word_number word)
+
+-- the byte between fields: the word has only this one
+abbrev pub delimiter_of : List ℕ → Option ℕ
+delimiter_of (b ∷ []) = Some b
+delimiter_of _ = None
+
+-- what an option of lines sets, if its value is right
+abbrev pub with_line_option : LineOptions → List ℕ → List ℕ → Option LineOptions
+with_line_option lines name value =
+    if bytes_eq name (codes "--field") then option_map (λ n. record lines { field = Some n }) (field_number_of value)
+    else if bytes_eq name (codes "--delimiter") then option_map (λ b. record lines { delimiter = b }) (delimiter_of value)
+    else if bytes_eq name (codes "--header") then Some (record lines { header = true })
+    else if bytes_eq name (codes "--invalid") then option_map (λ i. record lines { invalid = i }) (invalid_lines_of value)
+    else None
+
+-- what an option sets, if its value is right
+abbrev pub with_option : Settings → List ℕ → List ℕ → Option Settings
+with_option settings name value =
+    if bytes_eq name (codes "--quiet") then Some (record settings { quiet = true })
+    else if bytes_eq name (codes "--pre") then Some (record settings { prereleases = prereleases.Always })
+    else if bytes_eq name (codes "--no-pre") then Some (record settings { prereleases = prereleases.Never })
+    else if bytes_eq name (codes "--invert-match") then Some (record settings { inverted = true })
+    else if bytes_eq name (codes "--reverse") then Some (record settings { reversed = true })
+    else if bytes_eq name (codes "--unique") then Some (record settings { unique = true })
+    else if bytes_eq name (codes "--last") then option_map (λ n. record settings { last = Some n }) (word_number value)
+    else if bytes_eq name (codes "--json") then Some (record settings { format = format.Json })
+    else if bytes_eq name (codes "--part") then option_map (λ part. record settings { format = format.Part part }) (part_of value)
+    else if bytes_eq name (codes "--to") then option_map (λ n. record settings { to = Some n }) (word_number value)
+    else if bytes_eq name (codes "--cover") then Some (record settings { cover = true })
+    else option_map (λ lines. record settings { lines = lines }) (with_line_option settings.lines name value)
+
+-- without an option
+abbrev pub no_settings : Settings
+no_settings = record { quiet = false; prereleases = prereleases.Listed; inverted = false; reversed = false; unique = false; last = None; lines = no_line_options; format = format.Normal; to = None; cover = false }
+
+-- what options set, or the first of them with a wrong value
+pub data Effect : Type 0 where
+  Sets : Settings → Effect
+  WrongValue : Row → List ℕ → Effect
+
+-- what the others set after this one, or its wrong value
+abbrev pub by_option : Row → List ℕ → Option Settings → (Settings → Effect) → Effect
+by_option row value None others = WrongValue row value
+by_option row value (Some settings) others = others settings
+
+abbrev pub effect : Settings → List (Row × List ℕ) → Effect
+effect settings [] = Sets settings
+effect settings (given ∷ rest) = by_option given.0 given.1 (with_option settings given.0.name given.1) (λ taken. effect taken rest)

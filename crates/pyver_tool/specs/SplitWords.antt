@@ -1,0 +1,119 @@
+-- Words as options and operands, by the options that a command has.
+use Rattle.std.specs.Prelude.{ℕ, ◌==◌, ◌&&◌, List, [], ◌∷◌, ◌++◌, length, drop, Bool, false, Option, Some, None, bytes_eq, codes, is_some, nat_eq, nat_lt, if◌then◌else◌}
+use Rattle.std.specs.List.{starts_with}
+use Rattle.std.specs.Option.{option_map}
+use Rattle.pyver_tool.specs.Options.{Row}
+
+-- a dash and at least one more byte
+abbrev pub is_option : List ℕ → Bool
+is_option [] = false
+is_option (b ∷ rest) = (b == 45) && nat_lt 0 (length rest)
+
+-- the rest of the word after this prefix
+abbrev pub value_behind : List ℕ → List ℕ → Option (List ℕ)
+value_behind start word = if starts_with nat_eq word start then Some (drop (length start) word) else None
+
+abbrev pub takes_value : Row → Bool
+takes_value row = nat_lt 0 (length row.value)
+
+-- how a word of options ends: with its last option, with one whose value is the next word, or with what is no option
+pub data End : Type 0 where
+  Whole : End
+  Awaits : Row → End
+  Unknown : End
+
+-- ---- letters, as in `-ru` and `-n2`
+
+-- the option with this letter
+abbrev pub lettered : List Row → ℕ → Option Row
+lettered [] b = None
+lettered (row ∷ rows) b = if bytes_eq row.letter (b ∷ []) then Some row else lettered rows b
+
+-- the option with the first letter, and the other letters
+abbrev pub first_letter : List Row → List ℕ → Option (Row × List ℕ)
+first_letter rows [] = None
+first_letter rows (b ∷ after) = option_map (λ row. (row, after)) (lettered rows b)
+
+-- an option without a value, and then the others
+abbrev pub with_flag : Row → (List (Row × List ℕ) × End) → (List (Row × List ℕ) × End)
+with_flag row others = ((row, []) ∷ others.0, others.1)
+
+-- an option with a value, which is the rest of the word, or the next word if nothing is left
+abbrev pub with_rest : Row → List ℕ → (List (Row × List ℕ) × End)
+with_rest row [] = ([], Awaits row)
+with_rest row (b ∷ rest) = ((row, b ∷ rest) ∷ [], Whole)
+
+abbrev pub by_letter : Option Row → List ℕ → (List (Row × List ℕ) × End) → (List (Row × List ℕ) × End)
+by_letter None after others = ([], Unknown)
+by_letter (Some row) after others = if takes_value row then with_rest row after else with_flag row others
+
+-- each letter is an option, and the first that takes a value is the last
+abbrev pub letter_options : List Row → List ℕ → (List (Row × List ℕ) × End)
+letter_options rows [] = ([], Whole)
+letter_options rows (b ∷ after) = by_letter (lettered rows b) after (letter_options rows after)
+
+-- ---- names, as in `--last` and `--last=2`
+
+abbrev pub value_behind_name : Option (List ℕ) → Option (Option (List ℕ))
+value_behind_name None = None
+value_behind_name (Some rest) = if length rest == 0 then Some None else option_map Some (value_behind (codes "=") rest)
+
+-- the value in the word that names this option, if it has one there
+abbrev pub value_in : Row → List ℕ → Option (Option (List ℕ))
+value_in row word = value_behind_name (value_behind row.name word)
+
+abbrev pub first_named : {A : Type 0} → Option A → Option A → Option A
+first_named None other = other
+first_named (Some x) other = Some x
+
+-- the option that the word names, and the value in it, if it has one
+abbrev pub named : List Row → List ℕ → Option (Row × Option (List ℕ))
+named [] word = None
+named (row ∷ rows) word = first_named (option_map (λ value. (row, value)) (value_in row word)) (named rows word)
+
+abbrev pub by_name : Option (Row × Option (List ℕ)) → (List (Row × List ℕ) × End)
+by_name None = ([], Unknown)
+by_name (Some (row, None)) = if takes_value row then ([], Awaits row) else ((row, []) ∷ [], Whole)
+by_name (Some (row, Some value)) = if takes_value row then ((row, value) ∷ [], Whole) else ([], Unknown)
+
+abbrev pub named_options : List Row → List ℕ → (List (Row × List ℕ) × End)
+named_options rows word = by_name (named rows word)
+
+-- ---- words
+
+abbrev pub behind_dash : List Row → Option (List ℕ) → (List (Row × List ℕ) × End)
+behind_dash rows None = ([], Unknown)
+behind_dash rows (Some rest) = letter_options rows rest
+
+-- the options of a word that begins with a dash
+abbrev pub word_options : List Row → List ℕ → (List (Row × List ℕ) × End)
+word_options rows word = if is_some (value_behind (codes "--") word) then named_options rows word else behind_dash rows (value_behind (codes "-") word)
+
+-- the options with their values and the operands, each in their order; or the first word that names no option; or the value of the
+-- last option is missing
+pub data Split : Type 0 where
+  Given : List (Row × List ℕ) → List (List ℕ) → Split
+  UnknownWord : List ℕ → Split
+  Missing : Split
+
+-- these options and operands, and then those of the other words
+abbrev pub before : List (Row × List ℕ) → List (List ℕ) → Split → Split
+before options operands (Given others names) = Given (options ++ others) (operands ++ names)
+before options operands (UnknownWord word) = UnknownWord word
+before options operands Missing = Missing
+
+-- the options of this word, and then the other words, where an option may await its value
+abbrev pub by_end : List ℕ → (List (Row × List ℕ) × End) → (Option Row → Split) → Split
+by_end word (options, Whole) others = before options [] (others None)
+by_end word (options, Awaits row) others = before options [] (others (Some row))
+by_end word (options, Unknown) others = UnknownWord word
+
+-- what the words are, where the first may be the value of an option: `--` ends the options, which may stand behind operands
+abbrev pub split_words : List Row → Option Row → List (List ℕ) → Split
+split_words rows None [] = Given [] []
+split_words rows (Some row) [] = Missing
+split_words rows (Some row) (value ∷ rest) = before ((row, value) ∷ []) [] (split_words rows None rest)
+split_words rows None (word ∷ rest) =
+    if bytes_eq word (codes "--") then Given [] rest
+    else if is_option word then by_end word (word_options rows word) (λ awaited. split_words rows awaited rest)
+    else before [] (word ∷ []) (split_words rows None rest)

@@ -1,0 +1,102 @@
+// What options set.
+ghost use Rattle.std.specs.Prelude.{◌≡◌};
+ghost use Rattle.pyver_tool.specs.Settings.{delimiter_of, field_number_of, no_settings, with_line_option, with_option};
+
+use crate::invalid_lines::parse_invalid_lines;
+use crate::line_options::LineOptions;
+use crate::part::parse_part;
+use crate::prerelease_rule::Prereleases;
+use crate::show::ShowFormat;
+use crate::word_number::parse_number;
+
+// What the options of any command set; of two that contradict each other the last counts.
+#[derive(Clone, Copy)]
+pub(crate) struct Settings {
+    pub(crate) quiet: bool,
+    pub(crate) prereleases: Prereleases,
+    pub(crate) inverted: bool,
+    pub(crate) reversed: bool,
+    pub(crate) unique: bool,
+    pub(crate) last: Option<u64>,
+    pub(crate) lines: LineOptions,
+    pub(crate) format: ShowFormat,
+    pub(crate) to: Option<u64>,
+    pub(crate) cover: bool,
+}
+
+// A number from 1.
+fn parse_field_number(word: &str) -> Option<u64>
+    ensures { result ≡ field_number_of word.now }
+{
+    match parse_number(word) {
+        Some(0) => None,
+        number => number,
+    }
+}
+
+// A string of one byte, which is ASCII.
+fn parse_delimiter(word: &str) -> Option<u8>
+    ensures { result ≡ delimiter_of word.now }
+{
+    match word.as_bytes() {
+        [byte] => Some(*byte),
+        _ => None,
+    }
+}
+
+// The options of lines with this one, if it is one of them with a right value.
+fn with_line_option(lines: LineOptions, name: &str, value: &str) -> Option<LineOptions>
+    ensures { result ≡ with_line_option lines name.now value.now }
+{
+    let mut lines = lines;
+    match name {
+        "--field" => lines.field = Some(parse_field_number(value)?),
+        "--delimiter" => lines.delimiter = parse_delimiter(value)?,
+        "--header" => lines.header = true,
+        "--invalid" => lines.invalid = parse_invalid_lines(value)?,
+        _ => return None,
+    }
+    Some(lines)
+}
+
+impl Settings {
+    // Those without an option.
+    pub(crate) fn none() -> Settings
+        ensures { result ≡ no_settings }
+    {
+        Settings {
+            quiet: false,
+            prereleases: Prereleases::Listed,
+            inverted: false,
+            reversed: false,
+            unique: false,
+            last: None,
+            lines: LineOptions::none(),
+            format: ShowFormat::Normal,
+            to: None,
+            cover: false,
+        }
+    }
+
+    // With this option, if the value is one of it.
+    pub(crate) fn with_option(self, name: &str, value: &str) -> Option<Settings>
+        ensures { result ≡ with_option self name.now value.now }
+    {
+        let mut settings = self;
+        match name {
+            "--quiet" => settings.quiet = true,
+            "--pre" => settings.prereleases = Prereleases::Always,
+            "--no-pre" => settings.prereleases = Prereleases::Never,
+            "--invert-match" => settings.inverted = true,
+            "--reverse" => settings.reversed = true,
+            "--unique" => settings.unique = true,
+            "--last" => settings.last = Some(parse_number(value)?),
+            "--json" => settings.format = ShowFormat::Json,
+            "--part" => settings.format = ShowFormat::Part(parse_part(value)?),
+            "--to" => settings.to = Some(parse_number(value)?),
+            "--cover" => settings.cover = true,
+            _ => settings.lines = with_line_option(settings.lines, name, value)?,
+        }
+        Some(settings)
+    }
+}
