@@ -26,6 +26,8 @@ static int8_t order;
 #define GIVEN given.bytes, given.length
 #define RIGHT right.bytes, right.length
 #define LIST list.bytes, list.length
+/* (each string is asked of each specifier) */
+#define FEW_OR_MANY (list.length > 4096 ? 100 : MANY)
 #define OUT out, (size_t)LONG * 4, &written
 
 static void *normalize(void *unused) { pep440_normalize(GIVEN, OUT); return unused; }
@@ -84,9 +86,8 @@ static void *compile(void *unused) { pep440_compile(GIVEN, OUT); return unused; 
 static void *compile_specifier(void *unused) { pep440_compile_specifier(LIST, OUT); return unused; }
 static void *compile_list(void *unused) { pep440_compile_list(LIST, OUT); return unused; }
 static void *build_error(void *unused) { pep440_build_error(PEP440_LESS, GIVEN, 0, OUT); return unused; }
-/* (each that is newer than those before it is asked of each specifier) */
-static void *newest(void *unused) { pep440_newest(LIST, batch, list.length > 4096 ? 100 : MANY, &at); return unused; }
-static void *filter(void *unused) { pep440_filter(LIST, batch, MANY, out, MANY); return unused; }
+static void *newest(void *unused) { pep440_newest(LIST, batch, FEW_OR_MANY, &at); return unused; }
+static void *filter(void *unused) { pep440_filter(LIST, batch, FEW_OR_MANY, out, MANY); return unused; }
 static void *sort(void *unused) { pep440_sort(batch, MANY, indices, MANY, &at); return unused; }
 static void *sort_keys(void *unused)
 {
