@@ -204,10 +204,13 @@ uint8_t pep440_allows(const uint8_t *list, size_t list_length, const uint8_t *ve
 uint8_t pep440_any_prerelease(const uint8_t *list, size_t length, uint8_t *any);
 
 /* Writes a version that the list contains, as `1.16` of `>=1.16`, and 0 bytes if it contains none, as
-   of `>1, <1`; `out` and `written` as for pep440_normalize. It decides exactly for each list of a
-   string, where ranges do not: `==1.0+cu1, <=1.0` has no range, yet contains `1.0+cu1`. To know
-   whether two lists have a version in common, ask both strings with a comma between them. The time
-   grows with the square of the number of specifiers. */
+   `>1, <1`; `out` and `written` as for pep440_normalize. So with null and a size of 0 PEP440_NO_ROOM
+   means that there is a version, and PEP440_OK that there is none. Pre-releases count, as for
+   pep440_contains: the version may be one even if the list contains final releases too.
+   For a list given as a string the answer is exact, where a range is not: `==1.0+cu1, <=1.0` has an
+   empty range, yet contains `1.0+cu1`. To know whether two lists have a version in common, join
+   their strings with a comma (if one is empty, ask the other). The time grows with the square of
+   the number of specifiers. */
 uint8_t pep440_version_in(const uint8_t *list, size_t length, uint8_t *out, size_t size,
                           size_t *written);
 
