@@ -246,8 +246,8 @@ class OtherModules(unittest.TestCase):
 
     @staticmethod
     def plainly(said):
-        """Without the reasons that these modules add to messages."""
-        return [it.split("': ")[0].rstrip("'") if isinstance(it, str) and "nvalid" in it else it for it in said] if isinstance(said, list) else said
+        """Without the reasons that these modules add to messages, and the quotes that only some releases of `packaging` write."""
+        return [it.split("': ")[0].replace("'", "") if isinstance(it, str) and "nvalid" in it else it for it in said] if isinstance(said, list) else said
 
 
 class Programs(unittest.TestCase):
