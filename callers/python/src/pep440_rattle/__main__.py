@@ -6,10 +6,10 @@ import sysconfig
 
 
 def _folders() -> list[pathlib.Path]:
-    """Where installers put programs: of this environment, of the user, and beside a folder of packages (`pip install --target`)."""
+    """Where installers put programs: beside this folder of packages (`pip install --target`), of this environment, and of the user."""
     user = sysconfig.get_preferred_scheme("user")
     schemes = [sysconfig.get_path("scripts"), sysconfig.get_path("scripts", scheme=user)]
-    return [*map(pathlib.Path, schemes), pathlib.Path(__file__).resolve().parent.parent / "bin"]
+    return [pathlib.Path(__file__).resolve().parent.parent / "bin", *map(pathlib.Path, schemes)]
 
 
 def _main() -> None:
