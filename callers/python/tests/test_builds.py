@@ -112,6 +112,7 @@ class Made(unittest.TestCase):
 
 
 @unittest.skipUnless(shutil.which("qemu-x86_64-static"), "no qemu-x86_64-static here")
+@unittest.skipIf("asan" in os.environ.get("LD_PRELOAD", ""), "the emulator does not run what is sanitized")
 class Processors(unittest.TestCase):
     def said(self, processor):
         program = "import pep440_rattle; print(pep440_rattle.Version('v1.0+A').public, '1.5' in pep440_rattle.SpecifierSet('>=1'))"
