@@ -1,14 +1,14 @@
 -- What a list allows, of bytes that were read and of compiled bytes as they lie.
 use Rattle.std.proofs.Common.{◌≡◌, ◌∙◌, ◌&&◌, ◌||◌, ℕ, List, Bool, true, false, ap, inr, refl, sym}
 use Rattle.std.specs.Prelude.{not}
-use Rattle.pep440_compiled.specs.PrereleaseRequests.{requests_prereleases}
 use Rattle.pep440_rs.specs.Matching.{any_prerelease, list_matches}
+use Rattle.pep440_rs.specs.Prereleases.{list_allows, requests_prereleases}
 use Rattle.pep440_rs.specs.Specifiers.{Spec}
 use Rattle.pep440_version.specs.Record.{Record}
 use Rattle.pep440_c.proofs.Once.{one_bytes_list, one_version}
 use Rattle.pep440_c.specs.CallResults.{Contains, IsPrerelease}
 use Rattle.pep440_c.specs.Meaning.{MeansBytes, MeansListBytes}
-use Rattle.pep440_c.specs.AllowedVersions.{Allows, list_allows}
+use Rattle.pep440_c.specs.AllowedVersions.{Allows}
 
 no_match : (takes : Bool) (list : List Spec) (r : Record) → list_matches list r ≡ false → list_allows takes list r ≡ false
 no_match true list r none = none

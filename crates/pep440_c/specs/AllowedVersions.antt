@@ -1,17 +1,12 @@
 -- What a list allows where pre-releases are left out unless it asks for them; developmental releases count as pre-releases (PEP 440,
 -- "Handling of pre-releases").
-use Rattle.std.specs.Prelude.{◌≡◌, Bool, ◌&&◌, ◌||◌, ℕ, List, not}
-use Rattle.pep440_compiled.specs.PrereleaseRequests.{requests_prereleases}
-use Rattle.pep440_rs.specs.Matching.{any_prerelease, list_matches}
+use Rattle.std.specs.Prelude.{◌≡◌, Bool, ℕ, List}
+use Rattle.pep440_rs.specs.Prereleases.{list_allows, requests_prereleases}
 use Rattle.pep440_rs.specs.Specifiers.{Spec}
 use Rattle.pep440_version.specs.Record.{Record}
 use Rattle.pep440_c.specs.CallResults.{AreMatchable, RefusesSecond}
 use Rattle.pep440_c.specs.Meaning.{MeansBytes, MeansListBytes, RefusesListBytes}
 use Rattle.pep440_c.specs.Statuses.{IsFlagOf, Puts}
-
--- the list contains the version, and it is no pre-release unless these are taken
-abbrev pub list_allows : Bool → List Spec → Record → Bool
-list_allows takes list v = (takes || not (any_prerelease v)) && list_matches list v
 
 -- whether the list allows the version, if the bytes denote them: pre-releases are taken if the list asks for them
 abbrev pub Allows : List ℕ → List ℕ → Bool → Type 0

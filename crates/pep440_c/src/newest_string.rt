@@ -8,7 +8,6 @@ ghost use Rattle.pep440_c.specs.NewestString.{FindsNewestString, NewestAnswer, N
 ghost use Rattle.pep440_c.specs.Statuses.{Gives, flag};
 
 use crate::buffer::{OK, flag};
-use crate::prereleases::requests_prereleases;
 use crate::texts::{Fault, read, read_list};
 use pep440_rs::{Version, VersionSpecifiers};
 use std::alloc::{AllocError, Global};
@@ -43,7 +42,7 @@ fn find(alloc: Global, list: &[u8], texts: &[&[u8]]) -> Result<Option<usize>, Fa
     ensures { Gives ⊥ (RefusesListBytes list.now) ⊥ (FindsNewestString list.now (map (λ t. t.now) texts.now)) result }
 {
     let specifiers = read_list(alloc, list)?;
-    let takes = requests_prereleases(specifiers.as_slice());
+    let takes = specifiers.requests_prereleases();
     let newest = find_newest(alloc, takes, &specifiers, texts)?;
     Ok(position_of(&newest))
 }

@@ -1,19 +1,16 @@
 //! What a list allows where pre-releases are left out unless it asks for them (PEP 440, "Handling of pre-releases").
-ghost use Rattle.std.specs.Prelude.{◌≡◌, IfOk};
+ghost use Rattle.std.specs.Prelude.{◌≡◌};
 ghost use Rattle.pep440_compiled.specs.Lists.{HasListFormat};
-ghost use Rattle.pep440_compiled.specs.PrereleaseRequests.{requests_prerelease, requests_prereleases};
 ghost use Rattle.pep440_compiled.specs.Version.{HasVersionFormat};
-ghost use Rattle.pep440_rs.specs.Agreement.{is_exclusion};
 ghost use Rattle.pep440_c.specs.CallResults.{RefusesSecond};
 ghost use Rattle.pep440_c.specs.Meaning.{RefusesListBytes};
-ghost use Rattle.pep440_c.specs.AllowedVersions.{Allows, AllowsAnswer, list_allows};
+ghost use Rattle.pep440_c.specs.AllowedVersions.{Allows, AllowsAnswer};
 ghost use Rattle.pep440_c.specs.Statuses.{Gives};
 
 use crate::buffer::{OK, flag};
 use crate::texts::{Fault, contains_compiled, read, read_list};
 use pep440_compiled::{has_list_format, has_version_format};
-use pep440_rs::{Operator, Version, VersionSpecifier, VersionSpecifiers};
-use std::alloc::{AllocError, Global};
+use std::alloc::Global;
 
 /// Whether the list allows the version, 1 or 0 (PEP 440, "Handling of pre-releases"): it contains the version, and this is no
 /// pre-release and no developmental release unless a specifier with another operator than `!=` names one. The list is
@@ -29,41 +26,6 @@ pub extern "C" fn pep440_allows(alloc: Global, list: &[u8], text: &[u8], allowed
         }
         Err(fault) => fault.status(),
     }
-}
-
-// The operator is `!=`, or the star form of it.
-fn is_exclusion(operator: Operator) -> bool
-    ensures { result ≡ is_exclusion operator }
-{
-    matches!(operator, Operator::NotEqual | Operator::NotEqualStar)
-}
-
-fn requests_prerelease(specifier: &VersionSpecifier) -> bool
-    ensures { result ≡ requests_prerelease specifier.now }
-{
-    !is_exclusion(*specifier.operator()) && specifier.any_prerelease()
-}
-
-/// Whether some specifier asks for pre-releases.
-pub(crate) fn requests_prereleases(specifiers: &[VersionSpecifier]) -> bool
-    ensures { result ≡ requests_prereleases specifiers.now }
-{
-    specifiers.iter().any(requests_prerelease)
-}
-
-// Whether the list allows the version; pre-releases only if they are taken.
-fn list_allows(
-    alloc: Global,
-    takes: bool,
-    list: &VersionSpecifiers,
-    version: &Version,
-) -> Result<bool, AllocError>
-    ensures { IfOk result (λ b. b ≡ list_allows takes list.now version.now) }
-{
-    if !takes && version.any_prerelease() {
-        return Ok(false);
-    }
-    list.contains(alloc, version)
 }
 
 // Whether a compiled list allows a compiled version.
@@ -94,6 +56,6 @@ fn allows_bytes(alloc: Global, list: &[u8], bytes: &[u8]) -> Result<bool, Fault>
     }
     let specifiers = read_list(alloc, list)?;
     let version = read(alloc, bytes)?;
-    let takes = requests_prereleases(specifiers.as_slice());
-    Ok(list_allows(alloc, takes, &specifiers, &version)?)
+    let takes = specifiers.requests_prereleases();
+    Ok(specifiers.allows(alloc, takes, &version)?)
 }

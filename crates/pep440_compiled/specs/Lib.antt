@@ -2,4 +2,3 @@ pub mod KeyParts
 pub mod Lists
 pub mod Version
 pub mod KeyViews
-pub mod PrereleaseRequests

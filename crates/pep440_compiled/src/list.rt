@@ -5,13 +5,12 @@ ghost use Rattle.pep440_compiled.specs.KeyParts.{BeginsOtherwise};
 ghost use Rattle.pep440_compiled.specs.Lists.{DenotesList, HasListFormat, IsParsedMember, member_bytes};
 ghost use Rattle.pep440_compiled.specs.Version.{DenotesVersion, HasVersionFormat, IsParsed};
 ghost use Rattle.pep440_compiled.specs.KeyViews.{HasParts};
-ghost use Rattle.pep440_compiled.specs.PrereleaseRequests.{requests_prerelease, requests_prereleases};
 ghost use Rattle.pep440_compiled.specs.declared.error.CompileError.TheVariants.{NotParsed};
 ghost use Rattle.pep440_compiled.specs.declared.error.CompiledError.TheVariants as unread;
-ghost use Rattle.pep440_rs.specs.Agreement.{is_exclusion};
 ghost use Rattle.pep440_rs.specs.Arrangement.{IsArranged};
 ghost use Rattle.pep440_rs.specs.Lists.{list_print};
 ghost use Rattle.pep440_rs.specs.Matching.{list_matches};
+ghost use Rattle.pep440_rs.specs.Prereleases.{requests_prerelease, requests_prereleases};
 ghost use Rattle.pep440_rs.specs.Specifiers.{Spec};
 ghost use Rattle.pep440_version.specs.Record.{Record};
 
@@ -133,17 +132,10 @@ pub fn contains(list: &[u8], version: &[u8]) -> Result<bool, NotCompiled>
     Ok(true)
 }
 
-// The operator is `!=`, or the star form of it.
-fn is_exclusion(operator: Operator) -> bool
-    ensures { result ≡ is_exclusion operator }
-{
-    matches!(operator, Operator::NotEqual | Operator::NotEqualStar)
-}
-
 fn requests_prerelease(member: MemberView<'_>) -> bool
     ensures { (s : Spec) → member.entry.operator ≡ s.operator → HasParts member.entry.parts s.version → result ≡ requests_prerelease s }
 {
-    !is_exclusion(member.operator) && member.parts.suffix.is_prerelease
+    !member.operator.is_exclusion() && member.parts.suffix.is_prerelease
 }
 
 /// Whether the list that the bytes denote asks for pre-releases: some specifier with another operator than `!=` names a

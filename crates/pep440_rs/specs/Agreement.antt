@@ -1,14 +1,14 @@
 -- When the range of a specifier holds exactly the versions that the specifier contains (PEP 440, "Version
 -- specifiers"), and which inclusion holds where it doesn't.
-use Rattle.std.specs.Prelude.{◌≡◌, ◌≢◌, ◌↔◌, ◌+◌, ◌≤◌, Bool, true, false, not, ◌||◌, List, [], Option, Some, None, is_some, IsTrue, count_by, length, if◌then◌else◌}
+use Rattle.std.specs.Prelude.{◌≡◌, ◌≢◌, ◌↔◌, ◌+◌, ◌≤◌, Bool, false, not, ◌||◌, List, [], Option, Some, None, is_some, IsTrue, count_by, length, if◌then◌else◌}
 use Rattle.std.specs.List.{All, Any, list_all}
 use Rattle.std.specs.Option.{option_map_or}
 use Rattle.pep440_rs.specs.Bounds.{Segments, list_range}
 use Rattle.pep440_rs.specs.Matching.{matches, list_matches, same_release, any_prerelease}
-use Rattle.pep440_rs.specs.Operators.{allows_local, is_star}
+use Rattle.pep440_rs.specs.Operators.{allows_local, is_exclusion, is_star}
 use Rattle.pep440_rs.specs.Specifiers.{Spec}
 use Rattle.pep440_rs.specs.declared.specifier.operator.Operator.{Operator}
-use Rattle.pep440_rs.specs.declared.specifier.operator.Operator.TheVariants.{ExactEqual, NotEqual, NotEqualStar, LessThan, GreaterThan}
+use Rattle.pep440_rs.specs.declared.specifier.operator.Operator.TheVariants.{ExactEqual, LessThan, GreaterThan}
 use Rattle.pep440_ranges.specs.RangeSegments.{contains, IsRange}
 use Rattle.pep440_version.specs.Key.{record_cmp}
 use Rattle.pep440_version.specs.Record.{Record, from_release, epoch_and_release}
@@ -73,12 +73,6 @@ abbrev pub HoldsAllMatches : Spec → Segments → Type 0
 HoldsAllMatches s range = s.operator ≡ GreaterThan → (v : Record) → HasNoLocalOrSentinel v → IsTrue (matches s.operator s.version v) → IsTrue (contains record_cmp range v)
 
 -- ---- lists, by either conversion
-
--- `!=` and `!=` star, whose range is a complement
-abbrev pub is_exclusion : Operator → Bool
-is_exclusion NotEqual = true
-is_exclusion NotEqualStar = true
-is_exclusion _ = false
 
 -- the range of a list has at most one segment more than the list has exclusions
 abbrev pub HasFewSegments : List Spec → Segments → Type 0

@@ -26,6 +26,12 @@ is_star EqualStar = true
 is_star NotEqualStar = true
 is_star _ = false
 
+-- `!=` with or without a star
+abbrev pub is_exclusion : Operator → Bool
+is_exclusion NotEqual = true
+is_exclusion NotEqualStar = true
+is_exclusion _ = false
+
 -- the string is this operator, which is no star form
 abbrev pub Spells : List ℕ → Operator → Type 0
 Spells text o = (text ≡ operator_text o) × (is_star o ≡ false)

@@ -15,7 +15,7 @@ use json::{
     json_list, json_specifier, json_version, list_of_json, specifier_of_json, version_of_json,
 };
 use matching::{
-    build, compare, compare_releases, compare_without_local, contains, contains_unchecked,
+    allows, build, compare, compare_releases, compare_without_local, contains, contains_unchecked,
     print_unchecked,
 };
 use operators::{operator, operator_number, operator_of_number};
@@ -55,6 +55,7 @@ fn of_one(alloc: Global, call: &str, text: &str) -> Result<String, CaseError> {
 fn of_two(alloc: Global, call: &str, one: &str, other: &str) -> Result<String, CaseError> {
     match call {
         "contains" => contains(alloc, one, other),
+        "allows" => allows(alloc, one, other),
         "compare" => compare(alloc, one, other),
         "compare-releases" => compare_releases(alloc, one, other),
         "compare-without-local" => compare_without_local(alloc, one, other),

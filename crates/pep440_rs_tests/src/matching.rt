@@ -42,6 +42,18 @@ pub fn contains(alloc: Global, text: &str, version: &str) -> Result<String, Case
     yes_or_no(alloc, contained)
 }
 
+/// Whether the list allows the version, with pre-releases if it asks for them.
+pub fn allows(alloc: Global, text: &str, version: &str) -> Result<String, CaseError> {
+    let list = list_argument(alloc, text)?;
+    let version = version_argument(alloc, version)?;
+    let prereleases = list.requests_prereleases();
+    let allowed = match list.allows(alloc, prereleases, &version) {
+        Ok(allowed) => allowed,
+        Err(_) => list.allows(alloc, prereleases, &version)?,
+    };
+    yes_or_no(alloc, allowed)
+}
+
 fn sign(alloc: Global, order: Ordering) -> Result<String, CaseError> {
     let sign = match order {
         Ordering::Less => "<",

@@ -5,7 +5,8 @@ use Rattle.std.proofs.lemmas.List.Sums.{sum_by-append}
 use Rattle.std.specs.List.{All, Any, list_all}
 use Rattle.std.specs.Option.{option_map_or}
 use Rattle.std.specs.Prelude.{IfOk, count_by}
-use Rattle.pep440_rs.specs.Agreement.{HasOperand, IsCandidate, IsReleaseComparable, ListAgrees, GivesRanges, GivesFew, HoldsInEach, HasFewSegments, RefusedByAMember, is_exclusion}
+use Rattle.pep440_rs.specs.Agreement.{HasOperand, IsCandidate, IsReleaseComparable, ListAgrees, GivesRanges, GivesFew, HoldsInEach, HasFewSegments, RefusedByAMember}
+use Rattle.pep440_rs.specs.Operators.{is_exclusion}
 use Rattle.pep440_rs.specs.Bounds.{Segments, range_of, release_range_of, range_from, list_range, full}
 use Rattle.pep440_rs.specs.Matching.{matches, list_matches}
 use Rattle.pep440_rs.specs.Specifiers.{Spec}

@@ -5,7 +5,8 @@ use Rattle.std.specs.Ordering.{is_le}
 use Rattle.std.specs.declared.ops.Bound.{Bound}
 use Rattle.std.specs.declared.ops.Bound.TheVariants.{Included, Excluded, Unbounded}
 use Rattle.pep440_rs.proofs.Agreement.Prefix.{mapped, some_is}
-use Rattle.pep440_rs.specs.Agreement.{GivesRanges, GivesFew, is_exclusion}
+use Rattle.pep440_rs.specs.Agreement.{GivesRanges, GivesFew}
+use Rattle.pep440_rs.specs.Operators.{is_exclusion}
 use Rattle.pep440_rs.specs.Bounds.{Segments, range_of, release_range_of, release_up_to, alone, less, greater, compatible_end, star, star_end, next_number, raise_last, from_to}
 use Rattle.pep440_rs.specs.Cover.{below_post, cover_of, less_cover, next_public, with_locals}
 use Rattle.pep440_rs.specs.Matching.{any_prerelease, has_local, without_last}

@@ -3,7 +3,7 @@ ghost use Rattle.std.specs.Prelude.{◌≡◌, ◌≢◌, Some, Ok, IfOk, IfErr,
 ghost use Rattle.std.specs.Cmp.{partial_equiv_from_equiv};
 ghost use Rattle.std.specs.Ordering.{as_partial_cmp, eq_by_cmp};
 ghost use Rattle.pep440_rs.specs.Errors.{operator_kind_of, unknown_of};
-ghost use Rattle.pep440_rs.specs.Operators.{Spells, negated, is_star, has_lower_bound, allows_local, operator_rank, operator_cmp, feed_operator, operator_text};
+ghost use Rattle.pep440_rs.specs.Operators.{Spells, negated, is_star, is_exclusion, has_lower_bound, allows_local, operator_rank, operator_cmp, feed_operator, operator_text};
 ghost use Rattle.pep440_rs.specs.declared.specifier.operator.Operator.TheVariants.{Equal, ExactEqual};
 ghost use Rattle.pep440_rs.specs.OperatorLaws.{operator_equiv, operator_po, operator_total, operators_feed_alike};
 
@@ -103,6 +103,13 @@ impl Operator {
         ensures { result ≡ is_star self }
     {
         matches!(self, Operator::EqualStar | Operator::NotEqualStar)
+    }
+
+    /// Whether it is `!=`, with or without a star.
+    pub fn is_exclusion(self) -> bool
+        ensures { result ≡ is_exclusion self }
+    {
+        matches!(self, Operator::NotEqual | Operator::NotEqualStar)
     }
 
     // Whether a specifier with this operator holds nothing below some version.

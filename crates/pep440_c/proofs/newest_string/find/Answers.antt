@@ -1,5 +1,5 @@
 use Rattle.std.proofs.Common.{◌∙◌, Bool, ap, map, subst}
-use Rattle.pep440_compiled.specs.PrereleaseRequests.{requests_prereleases}
+use Rattle.pep440_rs.specs.Prereleases.{requests_prereleases}
 use Rattle.pep440_c.proofs.newest_string.find.Goals as goal
 use Rattle.pep440_c.specs.NewestString.{NewestString}
 
@@ -8,6 +8,6 @@ returns c = (
   c.in_ok-specifiers.specifiers,
   c.in_ok-newest.newest,
   c.in_ok-specifiers.ensures,
-  subst (λ (takes : Bool). NewestString takes c.in_ok-specifiers.specifiers (map (λ t. t.now) c.args.texts.now) c.in_ok-newest.newest) (c.requests_prereleases-takes.ensures ∙ ap requests_prereleases c.as_slice.ensures.value) c.in_ok-newest.ensures,
+  subst (λ (takes : Bool). NewestString takes c.in_ok-specifiers.specifiers (map (λ t. t.now) c.args.texts.now) c.in_ok-newest.newest) c.requests_prereleases-takes.ensures c.in_ok-newest.ensures,
   c.position_of.ensures,
 )

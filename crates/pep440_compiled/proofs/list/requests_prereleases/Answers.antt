@@ -4,7 +4,7 @@ use Rattle.std.specs.Prelude.{Ok}
 use Rattle.pep440_compiled.proofs.Members.{first_member, no_zero_first, none_left}
 use Rattle.pep440_compiled.proofs.list.requests_prereleases.Goals as goal
 use Rattle.pep440_compiled.specs.Lists.{IsParsedMember}
-use Rattle.pep440_compiled.specs.PrereleaseRequests.{requests_prereleases}
+use Rattle.pep440_rs.specs.Prereleases.{requests_prereleases}
 
 pub loop-left-init : goal.loop-left-init
 loop-left-init c l d = (l, recursion_from_All IsParsedMember l d.members, c.in-Some.ensures.found l d, refl)

@@ -2,7 +2,7 @@ use Rattle.std.proofs.Common.{◌≡◌, List, length}
 use Rattle.std.specs.List.{AllByRecursion, flat_map}
 use Rattle.pep440_compiled.proofs.list.requests_prereleases.Given as goal
 use Rattle.pep440_compiled.specs.Lists.{DenotesList, IsParsedMember, member_bytes}
-use Rattle.pep440_compiled.specs.PrereleaseRequests.{requests_prereleases}
+use Rattle.pep440_rs.specs.Prereleases.{requests_prereleases}
 use Rattle.pep440_rs.specs.Specifiers.{Spec}
 
 -- what is left of the list decides
