@@ -32,6 +32,7 @@ ghost use Rattle.pep440_c.specs.PatternCalls.{IsSpecifier, PatternAnswer, Refuse
 ghost use Rattle.pep440_c.specs.Statuses.{IsFlagOf, Puts, PutsBytes};
 ghost use Rattle.pep440_c.specs.VersionsIn.{IsVersionIn};
 
+mod allowed_versions;
 mod batch;
 mod buffer;
 mod compile;
@@ -46,7 +47,6 @@ mod newest_string;
 mod one_specifier;
 mod pattern_errors;
 mod patterns;
-mod prereleases;
 mod range_bounds;
 mod release_range_bounds;
 #[cfg(test)]

@@ -1,10 +1,10 @@
 //! Each call once with a value and once with an error, with too little room, and with each allocation failing in turn.
+mod allowed_versions;
 mod compiled;
 mod edits;
 mod newest_string;
 mod one_specifier;
 mod patterns;
-mod prereleases;
 mod range_bounds;
 mod release_range_bounds;
 

@@ -1,6 +1,6 @@
 //! What lists allow where pre-releases are left out, of strings and of compiled bytes (PEP 440, "Handling of pre-releases").
+use crate::allowed_versions::pep440_allows;
 use crate::compile::{pep440_compile, pep440_compile_list};
-use crate::prereleases::pep440_allows;
 use std::alloc::Global;
 use std::test::Fail;
 

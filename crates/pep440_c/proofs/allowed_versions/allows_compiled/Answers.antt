@@ -2,7 +2,7 @@ use Rattle.std.proofs.Common.{Bool, ap, false}
 use Rattle.std.specs.Prelude.{Err, Ok, Result}
 use Rattle.pep440_c.proofs.Allowed.{allows_early, allows_final, allows_none}
 use Rattle.pep440_c.proofs.Forms.{as_compiled_list, no_compiled_list}
-use Rattle.pep440_c.proofs.prereleases.allows_compiled.Goals as goal
+use Rattle.pep440_c.proofs.allowed_versions.allows_compiled.Goals as goal
 
 value : {E : Type 0} → Result Bool E → Bool
 value (Ok b) = b
