@@ -11,7 +11,9 @@ ghost use Rattle.pep440_c.specs.Statuses.{Gives, fault_of_range, fault_status};
 ghost use Rattle.pep440_c.specs.declared.texts.Fault.TheVariants.{OutOfMemory};
 ghost use Rattle.pep440_version.specs.Errors.{refusal_of};
 
-use pep440_compiled::{CompiledError, has_list_format, has_version_format, read_version};
+use pep440_compiled::{
+    CompiledError, ContainsError, has_list_format, has_version_format, read_version,
+};
 use pep440_keys::sort_key;
 use pep440_rs::{
     ErrorKind, RangeError, RangeLines, SpecifiersErrorKind, Version, VersionSpecifiers,
@@ -215,13 +217,11 @@ pub(crate) fn contains_compiled(list: &[u8], version: &[u8]) -> Result<(bool, bo
     requires version { HasVersionFormat version.now }
     ensures { Gives (RefusesSecond list.now version.now) (RefusesListBytes list.now) ⊥ (λ found. Contains list.now version.now found.0 × IsPrerelease version.now found.1) result }
 {
-    let Ok(is_early) = pep440_compiled::any_prerelease(version) else {
-        return Err(Fault::InvalidVersion);
-    };
-    let Ok(contained) = pep440_compiled::contains(list, version) else {
-        return Err(Fault::InvalidList);
-    };
-    Ok((contained, is_early))
+    match pep440_compiled::contains(list, version) {
+        Ok(found) => Ok(found),
+        Err(ContainsError::NoVersion) => Err(Fault::InvalidVersion),
+        Err(ContainsError::NoList) => Err(Fault::InvalidList),
+    }
 }
 
 /// Whether the list contains the version, and whether this is a pre-release or a developmental release.

@@ -69,6 +69,11 @@ five_in_turn Equal Equal Equal Equal Less o = refl
 five_in_turn Equal Equal Equal Equal Greater o = refl
 five_in_turn Equal Equal Equal Equal Equal o = refl
 
+pub tied_last : (o : Ordering) → ordering_then o Equal ≡ o
+tied_last Less = refl
+tied_last Equal = refl
+tied_last Greater = refl
+
 pub public_in_order : (r q : Record) → IsParsed r → IsParsed q → (u v : List ℕ) → slice_cmp nat_cmp (public_bytes r ++ u) (public_bytes q ++ v) ≡ ordering_then (public_cmp r q) (slice_cmp nat_cmp u v)
 public_in_order r q p o u v =
     let h = keyed r p in
@@ -118,16 +123,13 @@ same_bytes a b e = slice_cmp-IsAntisymmetric nat_cmp-IsAntisymmetric a b e
 pub itself : (a : List ℕ) → slice_cmp nat_cmp a a ≡ Equal
 itself a = tied_itself nat_list_cmp_total a
 
--- bytes that begin with a code begin with the other one exactly if the two tie
-begins_alike : (a b w : List ℕ) (o : Ordering) → ((u v : List ℕ) → slice_cmp nat_cmp (a ++ u) (b ++ v) ≡ ordering_then o (slice_cmp nat_cmp u v)) → starts_with nat_eq (a ++ w) b ≡ is_eq o
-begins_alike a b w o splits = same_tests _ _
-    (λ e. ap is_eq (both_tie o _ (sym (splits w (drop (length b) (a ++ w))) ∙ ap (slice_cmp nat_cmp (a ++ w)) (sym (starts_from (a ++ w) b e)) ∙ itself (a ++ w))).0)
+-- two codes are the same bytes exactly if they tie
+alike : (a b : List ℕ) (o : Ordering) → ((u v : List ℕ) → slice_cmp nat_cmp (a ++ u) (b ++ v) ≡ ordering_then o (slice_cmp nat_cmp u v)) → pointwise nat_eq a b ≡ is_eq o
+alike a b o splits = same_tests _ _
+    (λ e. ap is_eq (both_tie o _ (sym (splits [] []) ∙ ap (λ l. slice_cmp nat_cmp (l ++ []) (b ++ [])) (same_text a b (sym e)) ∙ itself (b ++ []))).0)
     (λ e.
     let same : a ≡ b = sym (append-nil a) ∙ same_bytes (a ++ []) (b ++ []) (splits [] [] ∙ ap (λ x. ordering_then x Equal) (eq_true o e)) ∙ append-nil b in
-    ap (λ l. starts_with nat_eq (l ++ w) b) same ∙ starts b w)
+    ap (λ l. pointwise nat_eq l b) same ∙ same_again b)
 
-pub begins_with_release : (s v : Record) → IsParsed s → IsParsed v → (w : List ℕ) → starts_with nat_eq ((base_bytes v.epoch v.release ++ 0 ∷ []) ++ w) (base_bytes s.epoch s.release ++ 0 ∷ []) ≡ is_eq (base_cmp v s)
-begins_with_release s v p q w = begins_alike (base_bytes v.epoch v.release ++ 0 ∷ []) (base_bytes s.epoch s.release ++ 0 ∷ []) w (base_cmp v s) (base_in_order v s q p)
-
-pub begins_with_public : (s v : Record) → IsParsed s → IsParsed v → (w : List ℕ) → starts_with nat_eq (public_bytes v ++ w) (public_bytes s) ≡ is_eq (public_cmp v s)
-begins_with_public s v p q w = begins_alike (public_bytes v) (public_bytes s) w (public_cmp v s) (public_in_order v s q p)
+pub same_release_bytes : (s v : Record) → IsParsed s → IsParsed v → pointwise nat_eq (base_bytes v.epoch v.release ++ 0 ∷ []) (base_bytes s.epoch s.release ++ 0 ∷ []) ≡ is_eq (base_cmp v s)
+same_release_bytes s v p q = alike (base_bytes v.epoch v.release ++ 0 ∷ []) (base_bytes s.epoch s.release ++ 0 ∷ []) (base_cmp v s) (base_in_order v s q p)

@@ -120,10 +120,10 @@ pub one_before : (bytes left kept : List ℕ) (last k : ℕ) → bytes ≡ left 
 one_before bytes left kept last k e is one =
     e ∙ ap (λ l. l ++ replicate k 1) (is ∙ ap (λ b. kept ++ b ∷ []) one) ∙ append_assoc kept (1 ∷ []) (replicate k 1)
 
-pub view_again : (bytes rest key : List ℕ) (format k : ℕ) → bytes ≡ format ∷ rest → format ≡ 4 → rest ≡ key ++ replicate k 1 → bytes ≡ 4 ∷ (key ++ replicate (length rest - length key) 1)
-view_again bytes rest key format k is f r =
+pub view_again : (bytes rest key : List ℕ) (k : ℕ) → bytes ≡ 4 ∷ rest → rest ≡ key ++ replicate k 1 → bytes ≡ 4 ∷ (key ++ replicate (length rest - length key) 1)
+view_again bytes rest key k is r =
     let count : k ≡ length rest - length key = omega (arith, ap length r, length-append key (replicate k 1), length-replicate {A = ℕ} k 1) in
-    is ∙ (λ i. f i ∷ r i) ∙ ap (λ n. 4 ∷ (key ++ replicate n 1)) count
+    is ∙ ap (λ l. 4 ∷ l) r ∙ ap (λ n. 4 ∷ (key ++ replicate n 1)) count
 
 -- ---- whole versions
 

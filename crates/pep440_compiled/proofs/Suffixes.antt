@@ -1,9 +1,11 @@
 -- What the ranks of stage, post and dev say of a version that a string parses to.
-use Rattle.std.proofs.Common.{◌≡◌, ◌∙◌, ◌==◌, ◌||◌, ℕ, ◌<◌, refl, ap, Bool, true, Option, Some, None, nat_lt, lit<}
-use Rattle.std.specs.Prelude.{is_some}
+use Rattle.std.proofs.Common.{◌≡◌, ◌∙◌, ◌==◌, ◌||◌, ◌+◌, ◌-◌, ◌*◌, ◌++◌, ◌∷◌, [], ℕ, ◌<◌, ◌≤◌, List, refl, sym, ap, arith, Bool, false, true, Option, Some, None, get_or, length, nat_lt, lit<, take, take_all}
+use Rattle.std.specs.Prelude.{drop, is_some}
 use Rattle.pep440_compiled.specs.Version.{IsParsed}
+use Rattle.pep440_keys.proofs.Bytes.{needed_le}
+use Rattle.pep440_keys.specs.SortKeys.{needed_bytes, rank_bytes}
 use Rattle.pep440_rs.specs.Matching.{any_prerelease}
-use Rattle.pep440_version.specs.Key.{DevPart, PostPart, Stage, dev_of, dev_rank, post_of, post_rank, stage_of, stage_rank}
+use Rattle.pep440_version.specs.Key.{DevPart, PostPart, Stage, dev_of, dev_rank, key, post_of, post_rank, stage_of, stage_rank}
 use Rattle.pep440_version.specs.Record.{Record}
 use Rattle.pep440_version.specs.declared.prerelease.Prerelease.{Prerelease}
 use Rattle.pep440_version.specs.declared.prerelease.PrereleaseKind.{PrereleaseKind}
@@ -51,3 +53,36 @@ post_flag (Some n) = refl
 
 pub post_is : (r : Record) → IsParsed r → nat_lt 0 (post_rank (post_of r.max r.post)).0 ≡ is_some r.post
 post_is r p = (λ i. nat_lt 0 (post_rank (post_of (p.round_trips.no_max i) r.post)).0) ∙ post_flag r.post
+
+-- ---- a final release
+
+empty : {A : Type 0} (xs : List A) → length xs ≡ 0 → xs ≡ []
+empty [] e = refl
+empty (x ∷ xs) e = absurd (omega (arith, e))
+
+pub by_three : (bytes : List ℕ) → 3 ≤ length bytes → get_or bytes 0 0 ≡ 80 → get_or bytes 1 0 ≡ 0 → get_or bytes 2 0 ≡ 16 → bytes ≡ 80 ∷ 0 ∷ 16 ∷ take (length bytes - 3) (drop 3 bytes)
+by_three [] some e f g = absurd (omega (arith, some))
+by_three (a ∷ []) some e f g = absurd (omega (arith, some))
+by_three (a ∷ b ∷ []) some e f g = absurd (omega (arith, some))
+by_three (a ∷ b ∷ c ∷ rest) some e f g =
+    let all : length rest ≤ length (a ∷ b ∷ c ∷ rest) - 3 = omega arith in
+    (λ i. e i ∷ f i ∷ g i ∷ sym (take_all (length (a ∷ b ∷ c ∷ rest) - 3) rest all) i)
+
+-- a rank alone
+no_number : (bytes later rest : List ℕ) (base rank n : ℕ) → bytes ≡ (16 * base) ∷ later → bytes ≡ rank_bytes (rank, n) ++ rest → (rank ≡ base) × (later ≡ rest)
+no_number bytes later rest base rank n is e =
+    let at : 16 * base ≡ 16 * rank + length (needed_bytes n) = ap (λ l. get_or l 0 0) (sym is ∙ e) in
+    let few = needed_le n in
+    (omega (arith, at, few), ap (drop 1) (sym is ∙ e) ∙ ap (λ l. l ++ rest) (empty (needed_bytes n) (omega (arith, at, few))))
+
+pub final_parts : (r : Record) (bytes after rest : List ℕ) → IsParsed r → bytes ≡ 80 ∷ 0 ∷ 16 ∷ after
+    → bytes ≡ rank_bytes (stage_rank (key r).stage) ++ (rank_bytes (post_rank (key r).post) ++ (rank_bytes (dev_rank (key r).dev) ++ rest))
+    → (false ≡ any_prerelease r) × (false ≡ is_some r.post) × (after ≡ rest)
+final_parts r bytes after rest p is e =
+    let stage = no_number bytes (0 ∷ 16 ∷ after) _ 5 (stage_rank (key r).stage).0 (stage_rank (key r).stage).1 is e in
+    let post = no_number (0 ∷ 16 ∷ after) (16 ∷ after) _ 0 (post_rank (key r).post).0 (post_rank (key r).post).1 refl stage.1 in
+    let dev = no_number (16 ∷ after) after rest 1 (dev_rank (key r).dev).0 (dev_rank (key r).dev).1 refl post.1 in (
+      sym (λ i. nat_lt (stage.0 i) 5 || (dev.0 i == 0)) ∙ early_is r p,
+      sym (ap (λ n. nat_lt 0 n) post.0) ∙ post_is r p,
+      dev.1,
+    )

@@ -59,3 +59,14 @@ impl From<AllocError> for CompiledError {
 #[derive(Clone, Copy, Debug, PartialEq, Eq, thiserror::Error)]
 #[error("not compiled")]
 pub struct NotCompiled;
+
+/// Which of two compiled forms bytes are not.
+#[derive(Clone, Copy, Debug, PartialEq, Eq, thiserror::Error)]
+pub enum ContainsError {
+    /// The one is to be a version.
+    #[error("not a compiled version")]
+    NoVersion,
+    /// The other is to be a list.
+    #[error("not a compiled list")]
+    NoList,
+}

@@ -56,6 +56,14 @@ pub(crate) fn split_suffix(bytes: &[u8]) -> Option<(Suffix, &[u8])>
     ensures found { (r : Record) (rest : List ℕ) → IsParsed r → bytes.now ≡ suffix_bytes r ++ rest → MatchOption result ⊥ (λ p. (p.0.is_prerelease ≡ any_prerelease r) × (p.0.is_post ≡ is_some r.post) × (p.1.now ≡ rest)) }
     ensures shorter { IfSome result (λ p. length p.1.now < length bytes.now) }
 {
+    // A final release, as most versions are.
+    if let [80, 0, 16, rest @ ..] = bytes {
+        let suffix = Suffix {
+            is_prerelease: false,
+            is_post: false,
+        };
+        return Some((suffix, rest));
+    }
     let (stage, rest) = skip_ranked_number(bytes)?;
     let (post, rest) = skip_ranked_number(rest)?;
     let (dev, rest) = skip_ranked_number(rest)?;
@@ -83,6 +91,7 @@ pub(crate) fn skip_text(bytes: &[u8]) -> Option<&[u8]>
 }
 
 // What follows a local segment, whose first byte this is.
+#[inline(never)]
 fn skip_segment(first: u8, bytes: &[u8]) -> Option<&[u8]>
     requires { 0 < first }
     ensures found { (s : LocalSegmentValue) (rest : List ℕ) → HasNoZero s → first ∷ bytes.now ≡ segment_bytes s ++ rest → MatchOption result ⊥ (λ r. r.now ≡ rest) }
@@ -96,6 +105,7 @@ fn skip_segment(first: u8, bytes: &[u8]) -> Option<&[u8]>
 }
 
 // What follows a local part.
+#[inline(always)]
 pub(crate) fn skip_local(bytes: &[u8]) -> Option<&[u8]>
     ensures found { (local : List LocalSegmentValue) (rest : List ℕ) → All HasNoZero local → bytes.now ≡ local_bytes local ++ rest → MatchOption result ⊥ (λ r. r.now ≡ rest) }
     ensures shorter { IfSome result (λ r. length r.now < length bytes.now) }

@@ -24,7 +24,7 @@ mod parsed;
 mod version;
 mod views;
 
-pub use error::{CompileError, CompiledError, NotCompiled};
+pub use error::{CompileError, CompiledError, ContainsError, NotCompiled};
 pub use list::{
     compile_list, contains, has_list_format, normalize_list, read_list, requests_prereleases,
 };

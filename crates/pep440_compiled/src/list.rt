@@ -1,5 +1,5 @@
 //! Compiled lists of specifiers: made, read, asked.
-ghost use Rattle.std.specs.Prelude.{◌≡◌, ◌↔◌, ◌++◌, ◌<◌, ℕ, List, true, length, Ok, Some, IfErr, IfOk, IfSome, IsOk, MatchOption, OnOk, string_bytes};
+ghost use Rattle.std.specs.Prelude.{◌≡◌, ◌↔◌, ◌++◌, ◌<◌, ℕ, List, true, length, Ok, Some, IfErr, IfOk, IfSome, MatchOption, OnOk, string_bytes};
 ghost use Rattle.std.specs.List.{All, flat_map};
 ghost use Rattle.pep440_compiled.specs.KeyParts.{BeginsOtherwise};
 ghost use Rattle.pep440_compiled.specs.Lists.{DenotesList, HasListFormat, IsParsedMember, member_bytes};
@@ -7,19 +7,20 @@ ghost use Rattle.pep440_compiled.specs.Version.{DenotesVersion, HasVersionFormat
 ghost use Rattle.pep440_compiled.specs.KeyViews.{HasParts};
 ghost use Rattle.pep440_compiled.specs.declared.error.CompileError.TheVariants.{NotParsed};
 ghost use Rattle.pep440_compiled.specs.declared.error.CompiledError.TheVariants as unread;
+ghost use Rattle.pep440_compiled.specs.declared.error.ContainsError.TheVariants.{NoList, NoVersion};
 ghost use Rattle.pep440_rs.specs.Arrangement.{IsArranged};
 ghost use Rattle.pep440_rs.specs.Lists.{list_print};
-ghost use Rattle.pep440_rs.specs.Matching.{list_matches};
+ghost use Rattle.pep440_rs.specs.Matching.{any_prerelease, list_matches};
 ghost use Rattle.pep440_rs.specs.Prereleases.{requests_prerelease, requests_prereleases};
 ghost use Rattle.pep440_rs.specs.Specifiers.{Spec};
 ghost use Rattle.pep440_version.specs.Record.{Record};
 
 use crate::decode::decode_version;
-use crate::error::{CompileError, CompiledError, NotCompiled};
+use crate::error::{CompileError, CompiledError, ContainsError, NotCompiled};
 use crate::matching::matches_bytes;
 use crate::parsed::is_parsed;
 use crate::version::push_version;
-use crate::views::{PartsView, view_parts, view_version};
+use crate::views::{PartsView, view_parts, view_version_parts};
 use pep440_rs::{Operator, VersionSpecifier, VersionSpecifiers};
 use std::alloc::{AllocError, Global};
 
@@ -67,7 +68,8 @@ pub fn compile_list(alloc: Global, list: &VersionSpecifiers) -> Result<Vec<u8>, 
     if !has_parsed_versions(members) {
         return Err(CompileError::NotParsed);
     }
-    let mut bytes = Vec::new(alloc);
+    // An estimate: more bytes allocate again.
+    let mut bytes = Vec::with_capacity(alloc, members.len().saturating_mul(16).saturating_add(1))?;
     bytes.push(LIST)?;
     for member in members {
         push_member(&mut bytes, member)?;
@@ -83,6 +85,7 @@ struct MemberView<'a> {
 }
 
 // The leading member, and the rest.
+#[inline(always)]
 fn view_member(bytes: &[u8]) -> Option<(MemberView<'_>, &[u8])>
     ensures found { (s : Spec) (rest : List ℕ) → IsParsedMember s → BeginsOtherwise 1 rest → bytes.now ≡ member_bytes s ++ rest → MatchOption result ⊥ (λ p. (p.0.operator ≡ s.operator) × HasParts p.0.parts s.version × (p.1.now ≡ rest)) }
     ensures shorter { IfSome result (λ p. length p.1.now < length bytes.now) }
@@ -105,31 +108,34 @@ fn view_members(bytes: &[u8]) -> Option<&[u8]>
 }
 
 /// Whether the list that the one bytes denote contains the version that the others denote, as `VersionSpecifiers::contains`
-/// (PEP 440, "Version specifiers"). If one is of another format, `NotCompiled`; if `list` denotes no list
-/// or `version` no version, `NotCompiled` or either result.
+/// (PEP 440, "Version specifiers"); and whether the version is a pre-release or a developmental release. If one is of another
+/// format, the error names it; if `list` denotes no list or `version` no version, an error or any result.
 ///
 /// Does not allocate.
-pub fn contains(list: &[u8], version: &[u8]) -> Result<bool, NotCompiled>
-    ensures found { (l : List Spec) (r : Record) → DenotesList list.now l → DenotesVersion version.now r → result ≡ Ok (list_matches l r) }
+pub fn contains(list: &[u8], version: &[u8]) -> Result<(bool, bool), ContainsError>
+    ensures found { (l : List Spec) (r : Record) → DenotesList list.now l → DenotesVersion version.now r → result ≡ Ok (list_matches l r, any_prerelease r) }
+    ensures prerelease { (r : Record) → DenotesVersion version.now r → IfOk result (λ found. found.1 ≡ any_prerelease r) }
     ensures format { IfOk result (λ _. HasListFormat list.now × HasVersionFormat version.now) }
-    ensures list { (l : List Spec) → DenotesList list.now l → HasVersionFormat version.now → IsOk result }
+    ensures version { IfErr result (λ e. e ≡ NoVersion → (r : Record) → DenotesVersion version.now r → ⊥) }
+    ensures list { IfErr result (λ e. e ≡ NoList → (l : List Spec) → DenotesList list.now l → ⊥) }
 {
-    let Some(version) = view_version(version) else {
-        return Err(NotCompiled);
+    let Some(version) = view_version_parts(version) else {
+        return Err(ContainsError::NoVersion);
     };
     let Some(mut left) = view_members(list) else {
-        return Err(NotCompiled);
+        return Err(ContainsError::NoList);
     };
+    let is_prerelease = version.suffix.is_prerelease;
     while !left.is_empty() {
         let Some((member, rest)) = view_member(left) else {
-            return Err(NotCompiled);
+            return Err(ContainsError::NoList);
         };
         if !matches_bytes(member.operator, &member.parts, &version) {
-            return Ok(false);
+            return Ok((false, is_prerelease));
         }
         left = rest;
     }
-    Ok(true)
+    Ok((true, is_prerelease))
 }
 
 fn requests_prerelease(member: MemberView<'_>) -> bool

@@ -10,8 +10,8 @@ ghost use Rattle.pep440_version.specs.Key.{record_cmp};
 ghost use Rattle.pep440_version.specs.Record.{Fits, Record};
 ghost use Rattle.std.specs.List.{All, starts_with};
 
-use crate::key_parts::{skip_ranked_number, split_suffix};
-use crate::views::{PartsView, VersionView};
+use crate::key_parts::skip_ranked_number;
+use crate::views::PartsView;
 use pep440_rs::Operator;
 use std::cmp::Ordering;
 
@@ -24,54 +24,40 @@ fn strip_base<'a>(bytes: &'a [u8], base: &[u8]) -> Option<&'a [u8]>
 }
 
 // The order of the candidate, without its local part if the specifier has none, and the specifier.
-fn cmp_candidate(specifier: &PartsView<'_>, version: &[u8]) -> Ordering
-    ensures { (s v : Record) → HasParts specifier.now s → IsParsed v → version.now ≡ key_bytes v → result ≡ record_cmp (candidate s v) s }
+#[inline(always)]
+fn cmp_candidate(specifier: &PartsView<'_>, version: &PartsView<'_>) -> Ordering
+    ensures { (s v : Record) → HasParts specifier.now s → HasParts version.now v → result ≡ record_cmp (candidate s v) s }
 {
     if specifier.has_local {
-        return version.cmp(specifier.version.key);
-    }
-    match version.split_at_checked(specifier.public.len()) {
-        Some((start, _)) => start.cmp(specifier.public),
-        None => version.cmp(specifier.public),
+        version.version.key.cmp(specifier.version.key)
+    } else {
+        version.public.cmp(specifier.public)
     }
 }
 
-// What follows the release of a version, if it is the specifier's.
-fn after_release<'a>(specifier: &PartsView<'_>, version: &'a [u8]) -> Option<&'a [u8]>
-    ensures { (s v : Record) → HasParts specifier.now s → IsParsed v → version.now ≡ key_bytes v → MatchOption result (same_release s v ≡ false) (λ rest. (same_release s v ≡ true) × (rest.now ≡ suffix_bytes v ++ local_bytes v.local)) }
+#[inline(always)]
+fn is_same_release(specifier: &PartsView<'_>, version: &PartsView<'_>) -> bool
+    ensures { (s v : Record) → HasParts specifier.now s → HasParts version.now v → result ≡ same_release s v }
 {
-    strip_base(version, specifier.release)
+    version.release == specifier.release
 }
 
-fn is_early(specifier: &PartsView<'_>, version: &[u8]) -> bool
-    ensures { (s v : Record) → HasParts specifier.now s → IsParsed v → version.now ≡ key_bytes v → result ≡ is_early s v }
+#[inline(always)]
+fn is_early(specifier: &PartsView<'_>, version: &PartsView<'_>) -> bool
+    ensures { (s v : Record) → HasParts specifier.now s → HasParts version.now v → result ≡ is_early s v }
 {
-    let Some(rest) = after_release(specifier, version) else {
-        return false;
-    };
-    let Some((suffix, _)) = split_suffix(rest) else {
-        return false;
-    };
-    !specifier.suffix.is_prerelease && suffix.is_prerelease
+    version.suffix.is_prerelease
+        && !specifier.suffix.is_prerelease
+        && is_same_release(specifier, version)
 }
 
-// A local part that is not empty does not begin with 0.
-fn is_some_local(bytes: &[u8]) -> bool
-    ensures { (v : Record) → bytes.now ≡ local_bytes v.local → result ≡ has_local v }
+#[inline(always)]
+fn is_late(specifier: &PartsView<'_>, version: &PartsView<'_>) -> bool
+    ensures { (s v : Record) → HasParts specifier.now s → HasParts version.now v → result ≡ is_late s v }
 {
-    bytes.len() > 1
-}
-
-fn is_late(specifier: &PartsView<'_>, version: &[u8]) -> bool
-    ensures { (s v : Record) → HasParts specifier.now s → IsParsed v → version.now ≡ key_bytes v → result ≡ is_late s v }
-{
-    let Some(rest) = after_release(specifier, version) else {
-        return false;
-    };
-    let Some((suffix, local)) = split_suffix(rest) else {
-        return false;
-    };
-    (suffix.is_post && !specifier.suffix.is_post) || (specifier.has_local && is_some_local(local))
+    let is_post = version.suffix.is_post && !specifier.suffix.is_post;
+    let is_local = specifier.has_local && version.has_local;
+    (is_post || is_local) && is_same_release(specifier, version)
 }
 
 // The first of these bytes are zeros of a release, a byte 1 each.
@@ -102,6 +88,7 @@ fn has_prefix(base: &[u8], zeros: usize, version: &[u8]) -> bool
 }
 
 // The epoch and the release, without the 0 that ends it.
+#[inline(always)]
 fn base<'a>(specifier: &PartsView<'a>) -> &'a [u8]
     ensures { (s : Record) → HasParts specifier.now s → result.now ≡ base_bytes s.epoch s.release }
 {
@@ -112,6 +99,7 @@ fn base<'a>(specifier: &PartsView<'a>) -> &'a [u8]
 }
 
 // The release of the version begins with that of the specifier.
+#[inline(always)]
 fn has_release(specifier: &PartsView<'_>, version: &[u8]) -> bool
     ensures { (s v : Record) → HasParts specifier.now s → IsParsed v → version.now ≡ key_bytes v → result ≡ has_prefix s s.release v }
 {
@@ -119,6 +107,7 @@ fn has_release(specifier: &PartsView<'_>, version: &[u8]) -> bool
 }
 
 // The base without its last number, and how many zeros then end its numbers.
+#[inline(never)]
 fn without_last(base: &[u8]) -> Option<(&[u8], usize)>
     ensures { (epoch : ℕ) (numbers : List ℕ) → 0 < length numbers → All Fits numbers → ending_zeros numbers ≡ 0 → base.now ≡ base_bytes epoch numbers → MatchOption result ⊥ (λ p. (p.0.now ≡ base_bytes epoch (without_last numbers)) × (p.1 ≡ ending_zeros (without_last numbers))) }
 {
@@ -143,6 +132,7 @@ fn without_last(base: &[u8]) -> Option<(&[u8], usize)>
 }
 
 // The release of the version begins with that of the specifier, but for its last number.
+#[inline(always)]
 fn is_compatible(specifier: &PartsView<'_>, version: &[u8]) -> bool
     ensures { (s v : Record) → HasParts specifier.now s → 1 < length s.release → IsParsed v → version.now ≡ key_bytes v → result ≡ has_prefix s (without_last s.release) v }
 {
@@ -157,30 +147,33 @@ fn is_compatible(specifier: &PartsView<'_>, version: &[u8]) -> bool
 }
 
 // Whether the specifier contains the version.
+#[inline(always)]
 pub(crate) fn matches_bytes(
     operator: Operator,
     specifier: &PartsView<'_>,
-    version: &VersionView<'_>,
+    version: &PartsView<'_>,
 ) -> bool
-    ensures { (s v : Record) → HasParts specifier.now s → IsViewOf version.now v → IsSpec (record { operator = operator; version = s }) → result ≡ matches operator s v }
+    ensures { (s v : Record) → HasParts specifier.now s → HasParts version.now v → IsSpec (record { operator = operator; version = s }) → result ≡ matches operator s v }
 {
-    let key = version.key;
+    let key = version.version.key;
     match operator {
-        Operator::Equal => cmp_candidate(specifier, key).is_eq(),
-        Operator::NotEqual => !cmp_candidate(specifier, key).is_eq(),
-        Operator::GreaterThanEqual => cmp_candidate(specifier, key).is_ge(),
-        Operator::LessThanEqual => cmp_candidate(specifier, key).is_le(),
+        Operator::Equal => cmp_candidate(specifier, version).is_eq(),
+        Operator::NotEqual => !cmp_candidate(specifier, version).is_eq(),
+        Operator::GreaterThanEqual => cmp_candidate(specifier, version).is_ge(),
+        Operator::LessThanEqual => cmp_candidate(specifier, version).is_le(),
         Operator::EqualStar => has_release(specifier, key),
         Operator::NotEqualStar => !has_release(specifier, key),
         Operator::ExactEqual => {
-            key == specifier.version.key && version.zeros == specifier.version.zeros
+            key == specifier.version.key && version.version.zeros == specifier.version.zeros
         }
         Operator::TildeEqual => {
-            is_compatible(specifier, key) && cmp_candidate(specifier, key).is_ge()
+            is_compatible(specifier, key) && cmp_candidate(specifier, version).is_ge()
         }
-        Operator::LessThan => { cmp_candidate(specifier, key).is_lt() && !is_early(specifier, key) }
+        Operator::LessThan => {
+            cmp_candidate(specifier, version).is_lt() && !is_early(specifier, version)
+        }
         Operator::GreaterThan => {
-            cmp_candidate(specifier, key).is_gt() && !is_late(specifier, key)
+            cmp_candidate(specifier, version).is_gt() && !is_late(specifier, version)
         }
     }
 }

@@ -11,9 +11,8 @@ ghost use Rattle.pep440_version.specs.Record.{Record};
 
 use crate::decode::decode_version;
 use crate::error::{CompileError, CompiledError, NotCompiled};
-use crate::key_parts::{split_release, split_suffix};
 use crate::parsed::is_parsed;
-use crate::views::{VERSION, view_version};
+use crate::views::{VERSION, view_version, view_version_parts};
 use pep440_keys::push_sort_key;
 use pep440_version::Version;
 use pep440_version::key::trim_trailing_zeros;
@@ -58,7 +57,7 @@ pub fn compile_version(alloc: Global, version: &Version) -> Result<Vec<u8>, Comp
     if !is_parsed(version) {
         return Err(CompileError::NotParsed);
     }
-    let mut bytes = Vec::with_capacity(alloc, 24)?;
+    let mut bytes = Vec::with_capacity(alloc, 32)?;
     push_compiled_form(&mut bytes, version)?;
     Ok(bytes)
 }
@@ -133,12 +132,8 @@ pub fn any_prerelease(bytes: &[u8]) -> Result<bool, NotCompiled>
     ensures found { (r : Record) → DenotesVersion bytes.now r → result ≡ Ok (any_prerelease r) }
     ensures format { IfOk result (λ _. HasVersionFormat bytes.now) }
 {
-    let key = sort_key(bytes)?;
-    let Some((_, rest)) = split_release(key) else {
-        return Err(NotCompiled);
-    };
-    let Some((suffix, _)) = split_suffix(rest) else {
-        return Err(NotCompiled);
-    };
-    Ok(suffix.is_prerelease)
+    match view_version_parts(bytes) {
+        Some(parts) => Ok(parts.suffix.is_prerelease),
+        None => Err(NotCompiled),
+    }
 }

@@ -35,16 +35,25 @@ pub fn has_version_format(bytes: &[u8]) -> bool
     bytes.first() == Some(&VERSION)
 }
 
+// What follows the format of versions.
+pub(crate) fn strip_format(bytes: &[u8]) -> Option<&[u8]>
+    ensures found { (r : Record) → DenotesVersion bytes.now r → MatchOption result ⊥ (λ rest. rest.now ≡ version_bytes r) }
+    ensures exact { IfSome result (λ rest. bytes.now ≡ 4 ∷ rest.now) }
+    ensures format { MatchOption result (¬ HasVersionFormat bytes.now) (λ _. HasVersionFormat bytes.now) }
+{
+    match bytes.split_first() {
+        Some((&VERSION, rest)) => Some(rest),
+        _ => None,
+    }
+}
+
 // The compiled version.
 pub(crate) fn view_version(bytes: &[u8]) -> Option<VersionView<'_>>
     ensures found { (r : Record) → DenotesVersion bytes.now r → MatchOption result ⊥ (λ view. IsViewOf view r) }
     ensures exact { IfSome result (λ view. bytes.now ≡ 4 ∷ (view.key.now ++ replicate view.zeros 1)) }
     ensures format { MatchOption result (¬ HasVersionFormat bytes.now) (λ _. HasVersionFormat bytes.now) }
 {
-    let (format, rest) = bytes.split_first()?;
-    if *format != VERSION {
-        return None;
-    }
+    let rest = strip_format(bytes)?;
     let key = trim_zeros(rest);
     Some(VersionView {
         key,
@@ -53,6 +62,7 @@ pub(crate) fn view_version(bytes: &[u8]) -> Option<VersionView<'_>>
 }
 
 // The leading version and its parts, and the rest.
+#[inline(always)]
 pub(crate) fn view_parts(bytes: &[u8]) -> Option<(PartsView<'_>, &[u8])>
     ensures found { (r : Record) (rest : List ℕ) → IsParsed r → BeginsOtherwise 1 rest → bytes.now ≡ version_bytes r ++ rest → MatchOption result ⊥ (λ p. HasParts p.0 r × (p.1.now ≡ rest)) }
     ensures shorter { IfSome result (λ p. length p.1.now < length bytes.now) }
@@ -72,4 +82,14 @@ pub(crate) fn view_parts(bytes: &[u8]) -> Option<(PartsView<'_>, &[u8])>
         has_local: local.len() - after.len() > 1,
     };
     Some((parts, rest))
+}
+
+// The parts of the compiled version.
+#[inline(always)]
+pub(crate) fn view_version_parts(bytes: &[u8]) -> Option<PartsView<'_>>
+    ensures found { (r : Record) → DenotesVersion bytes.now r → MatchOption result ⊥ (λ parts. HasParts parts r) }
+    ensures format { IfSome result (λ _. HasVersionFormat bytes.now) }
+{
+    let (parts, _) = view_parts(strip_format(bytes)?)?;
+    Some(parts)
 }

@@ -101,17 +101,18 @@ fn others_are_not_compiled(rt: HostRuntime) -> Result<(), Fail> {
     Ok(())
 }
 
-// PEP 440, "Version specifiers": `1.2.3`, `1.5` and `2`.
-const CONTAINED: [(&[u8], bool); 3] = [
-    (&[4, 0, 2, 1, 2, 2, 2, 3, 0, 80, 0, 16, 0], true),
-    (&[4, 0, 2, 1, 2, 5, 0, 80, 0, 16, 0], false),
-    (&[4, 0, 2, 2, 0, 80, 0, 16, 0], false),
+// PEP 440, "Version specifiers" and "Handling of pre-releases": `1.2.3`, `1.5`, `2` and `1.2rc1`.
+const CONTAINED: [(&[u8], bool, bool); 4] = [
+    (&[4, 0, 2, 1, 2, 2, 2, 3, 0, 80, 0, 16, 0], true, false),
+    (&[4, 0, 2, 1, 2, 5, 0, 80, 0, 16, 0], false, false),
+    (&[4, 0, 2, 2, 0, 80, 0, 16, 0], false, false),
+    (&[4, 0, 2, 1, 2, 2, 0, 65, 1, 0, 16, 0], true, true),
 ];
 
 #[test]
 fn sweep_contains_takes_none(rt: HostRuntime) -> Result<(), Fail> {
-    for (i, (version, want)) in CONTAINED.iter().enumerate() {
-        assert!(rt; contains(THREE, version) == Ok(*want), "{i}");
+    for (i, (version, want, early)) in CONTAINED.iter().enumerate() {
+        assert!(rt; contains(THREE, version) == Ok((*want, *early)), "{i}");
     }
     Ok(())
 }

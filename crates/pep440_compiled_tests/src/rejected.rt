@@ -1,7 +1,7 @@
 //! Test cases: bytes that denote no version and no list.
 use pep440_compiled::{
-    CompiledError, NotCompiled, any_prerelease, compare, contains, normalize, normalize_list,
-    read_list, read_version, sort_key,
+    CompiledError, ContainsError, NotCompiled, any_prerelease, compare, contains, normalize,
+    normalize_list, read_list, read_version, sort_key,
 };
 use std::test::Fail;
 
@@ -119,10 +119,13 @@ fn other_formats_are_rejected(rt: HostRuntime) -> Result<(), Fail> {
         let order = compare(bytes, ONE) == Err(NotCompiled) && compare(ONE, bytes).is_err();
         let alone = sort_key(bytes).is_err() && any_prerelease(bytes).is_err();
         assert!(rt; order && alone, "{i}");
-        assert!(rt; contains(FROM_ONE, bytes) == Err(NotCompiled), "{i}");
+        assert!(rt;
+            contains(FROM_ONE, bytes) == Err(ContainsError::NoVersion),
+            "{i}"
+        );
     }
-    assert!(rt; contains(ONE, ONE) == Err(NotCompiled));
-    assert!(rt; contains(LISTS[0], ONE) == Err(NotCompiled));
-    assert!(rt; contains(LISTS[2], ONE) == Err(NotCompiled));
+    assert!(rt; contains(ONE, ONE) == Err(ContainsError::NoList));
+    assert!(rt; contains(LISTS[0], ONE) == Err(ContainsError::NoList));
+    assert!(rt; contains(LISTS[2], ONE) == Err(ContainsError::NoList));
     Ok(())
 }

@@ -1,7 +1,8 @@
-use Rattle.std.proofs.Common.{◌≡◌, ◌∙◌, ◌==◌, ◌||◌, ◌++◌, ap, arith, append_assoc, sym, List, nat_lt, ℕ}
+use Rattle.std.proofs.Common.{◌≡◌, ◌∙◌, ◌==◌, ◌||◌, ◌++◌, ◌-◌, ap, arith, append_assoc, length, rules, sym, take, List, nat_lt, ℕ}
+use Rattle.std.specs.Prelude.{drop}
 use Rattle.std.proofs.lemmas.Bool.{le-ltb, lt-ltb}
 use Rattle.pep440_compiled.proofs.key_parts.split_suffix.Goals.{else-stage-lt5, then-stage-lt5}
-use Rattle.pep440_compiled.proofs.Suffixes.{dev_small, early_is, post_is, post_small, stage_small}
+use Rattle.pep440_compiled.proofs.Suffixes.{by_three, dev_small, early_is, final_parts, post_is, post_small, stage_small}
 use Rattle.pep440_compiled.proofs.key_parts.split_suffix.Goals as goal
 use Rattle.pep440_compiled.specs.KeyParts.{suffix_bytes}
 use Rattle.pep440_keys.specs.SortKeys.{rank_bytes}
@@ -12,6 +13,12 @@ in_turn : (r : Record) (rest : List ℕ) → suffix_bytes r ++ rest ≡ rank_byt
 in_turn r rest =
     append_assoc (rank_bytes (stage_rank (key r).stage)) _ rest
     ∙ ap (λ l. rank_bytes (stage_rank (key r).stage) ++ l) (append_assoc (rank_bytes (post_rank (key r).post)) (rank_bytes (dev_rank (key r).dev)) rest)
+
+pub returns-in-80-clause-found : goal.returns-in-80-clause-found
+returns-in-80-clause-found c r rest p e =
+    let bytes = c.args.bytes.now in
+    let front = by_three bytes (omega (arith, c.in-80.len_at_least)) (search rules) (search rules) (search rules) in
+    final_parts r bytes (take (length bytes - 3) (drop 3 bytes)) rest p front (e ∙ in_turn r rest)
 
 pub returns-in_err-stage-clause-found : goal.returns-in_err-stage-clause-found
 returns-in_err-stage-clause-found c r rest p e = absurd (c.in_err-stage.ensures.found _ _ _ (stage_small (key r).stage) (e ∙ in_turn r rest))

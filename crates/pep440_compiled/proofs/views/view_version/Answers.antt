@@ -12,7 +12,7 @@ use Rattle.pep440_version.specs.Trim.{trim}
 
 pub returns-clause-found : goal.returns-clause-found
 returns-clause-found c r d =
-    let rest : c.in_ok-format.rest.now ≡ key_bytes r ++ zero_bytes r.release = ap (drop 1) (sym c.in_ok-format.ensures.cases.0 ∙ d.same) in
+    let rest = c.in_ok-rest.ensures.found r d in
     let found = c.trim_zeros-key.ensures.found (public_bytes r ++ flat_map segment_bytes r.local) (drop (length (trim r.release)) r.release) (rest ∙ ap (λ l. l ++ zero_bytes r.release) (key_ends r)) in
     record {
       parsed = d.parsed;
@@ -23,4 +23,4 @@ returns-clause-found c r d =
 pub returns-clause-exact : goal.returns-clause-exact
 returns-clause-exact c =
     let split = c.trim_zeros-key.ensures.exact in
-    view_again c.args.bytes.now c.in_ok-format.rest.now c.trim_zeros-key.result.now c.in_ok-format.format.now split.0 c.in_ok-format.ensures.cases.0 (omega arith) split.1
+    view_again c.args.bytes.now c.in_ok-rest.rest.now c.trim_zeros-key.result.now split.0 c.in_ok-rest.ensures.exact split.1
