@@ -50,6 +50,16 @@ pub(crate) fn put_text(given: Result<String, Fault>, out: &mut [u8], written: &m
     }
 }
 
+/// The same of bytes that a call finds.
+pub(crate) fn put_slice(given: Result<&[u8], Fault>, out: &mut [u8], written: &mut usize) -> u8
+    ensures { PutsGiven (λ bytes. bytes.now) given.entry out.old out.new written.old written.new result }
+{
+    match given {
+        Ok(bytes) => put_and_count(bytes, out, written),
+        Err(fault) => fault.status(),
+    }
+}
+
 /// The same of bytes that a call gives.
 pub(crate) fn put_bytes(given: Result<Vec<u8>, Fault>, out: &mut [u8], written: &mut usize) -> u8
     ensures { PutsGiven (λ bytes. bytes.items) given out.old out.new written.old written.new result }

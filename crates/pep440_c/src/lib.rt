@@ -57,8 +57,9 @@ mod versions_in;
 
 use crate::batch::BatchError;
 use crate::buffer::{
-    NOT_PACKED, OK, flag, put, put_and_count, put_both, put_bytes, put_joined, put_text,
+    NOT_PACKED, OK, flag, put, put_and_count, put_both, put_bytes, put_joined, put_slice, put_text,
 };
+use pep440_compiled::has_version_format;
 use std::alloc::Global;
 use std::cmp::Ordering;
 
@@ -306,7 +307,7 @@ pub extern "C" fn pep440_parts_of(
 }
 
 /// Writes the sort key of the version: `memcmp` orders keys as their versions (PEP 440, "Summary of permitted
-/// suffixes and relative ordering").
+/// suffixes and relative ordering"). Allocates nothing for a compiled version.
 #[unsafe(no_mangle)]
 pub extern "C" fn pep440_sort_key(
     alloc: Global,
@@ -316,6 +317,9 @@ pub extern "C" fn pep440_sort_key(
 ) -> u8
     ensures { PutsBytes (RefusesBytes text.now) ⊥ ⊥ (IsKey text.now) out.old out.new written.old written.new result }
 {
+    if has_version_format(text) {
+        return put_slice(texts::find_key(text), out, written);
+    }
     put_bytes(texts::make_key(alloc, text), out, written)
 }
 

@@ -165,10 +165,25 @@ pub(crate) fn read_list(alloc: Global, bytes: &[u8]) -> Result<VersionSpecifiers
     read_list_string(alloc, bytes)
 }
 
+// The normal form of a compiled version.
+fn normalize_compiled(alloc: Global, bytes: &[u8]) -> Result<String, Fault>
+    requires { HasVersionFormat bytes.now }
+    ensures { Gives (RefusesBytes bytes.now) ⊥ ⊥ (λ text. IsNormal bytes.now (string_bytes text)) result }
+{
+    match pep440_compiled::normalize(alloc, bytes) {
+        Ok(text) => Ok(text),
+        Err(CompiledError::NotCompiled) => Err(Fault::InvalidVersion),
+        Err(CompiledError::OutOfMemory) => Err(Fault::OutOfMemory),
+    }
+}
+
 /// The normal form of a version.
 pub(crate) fn normalize(alloc: Global, bytes: &[u8]) -> Result<String, Fault>
     ensures { Gives (RefusesBytes bytes.now) ⊥ ⊥ (λ text. IsNormal bytes.now (string_bytes text)) result }
 {
+    if has_version_format(bytes) {
+        return normalize_compiled(alloc, bytes);
+    }
     let version = read(alloc, bytes)?;
     Ok(version.to_string(alloc)?)
 }
@@ -250,6 +265,17 @@ pub(crate) fn any_prerelease(alloc: Global, list: &[u8]) -> Result<bool, Fault>
 {
     let specifiers = read_list(alloc, list)?;
     Ok(has_prerelease(&specifiers))
+}
+
+/// The sort key of a compiled version, as it lies in the bytes.
+pub(crate) fn find_key(bytes: &[u8]) -> Result<&[u8], Fault>
+    requires { HasVersionFormat bytes.now }
+    ensures { Gives (RefusesBytes bytes.now) ⊥ ⊥ (λ key. IsKey bytes.now key.now) result }
+{
+    match pep440_compiled::read_sort_key(bytes) {
+        Ok(key) => Ok(key),
+        Err(_) => Err(Fault::InvalidVersion),
+    }
 }
 
 /// The sort key of a version.

@@ -1,3 +1,4 @@
+pub mod Checking
 pub mod Comparing
 pub mod Counts
 pub mod Decoded
@@ -9,6 +10,7 @@ pub mod Loops
 pub mod Members
 pub mod Numbers
 pub mod Prefixes
+pub mod Printing
 pub mod Rewritten
 pub mod Suffixes
 pub mod Zeros

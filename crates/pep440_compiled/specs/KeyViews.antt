@@ -1,12 +1,15 @@
 -- What the views of compiled versions say; no public clause cites it.
 use Rattle.std.specs.Prelude.{◌≡◌, ◌++◌, ◌∷◌, [], is_some}
-use Rattle.pep440_compiled.specs.KeyParts.{ending_zeros, base_bytes, public_bytes}
+use Rattle.std.specs.List.{flat_map}
+use Rattle.pep440_compiled.specs.KeyParts.{ending_zeros, base_bytes, public_bytes, suffix_bytes}
 use Rattle.pep440_compiled.specs.Version.{IsParsed}
+use Rattle.pep440_compiled.specs.declared.checked_version.CheckedVersion.{CheckedVersion}
 use Rattle.pep440_compiled.specs.declared.views.PartsView.{PartsView}
 use Rattle.pep440_compiled.specs.declared.views.VersionView.{VersionView}
-use Rattle.pep440_keys.specs.SortKeys.{key_bytes}
+use Rattle.pep440_keys.specs.SortKeys.{key_bytes, local_bytes, number_bytes}
 use Rattle.pep440_rs.specs.Matching.{any_prerelease, has_local}
 use Rattle.pep440_version.specs.Record.{Record}
+use Rattle.pep440_version.specs.Trim.{trim}
 
 -- the view is of this version
 pub record IsViewOf (view : VersionView) (r : Record) : Type 0 where
@@ -22,3 +25,13 @@ pub record HasParts (view : PartsView) (r : Record) : Type 0 where
   pub is_prerelease : view.suffix.is_prerelease ≡ any_prerelease r
   pub is_post : view.suffix.is_post ≡ is_some r.post
   pub has_local : view.has_local ≡ has_local r
+
+-- the tested parts are those of this version
+pub record HasCheckedParts (version : CheckedVersion) (r : Record) : Type 0 where
+  pub view : IsViewOf version.view r
+  pub epoch : version.epoch ≡ r.epoch
+  pub numbers : version.numbers.now ≡ flat_map (number_bytes 1) (trim r.release) ++ 0 ∷ (suffix_bytes r ++ local_bytes r.local)
+  pub pre : version.suffix.pre ≡ r.pre
+  pub post : version.suffix.post ≡ r.post
+  pub dev : version.suffix.dev ≡ r.dev
+  pub local : version.local.now ≡ local_bytes r.local

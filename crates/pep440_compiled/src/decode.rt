@@ -49,7 +49,7 @@ fn to_number(bytes: &[u8]) -> Option<u64>
 }
 
 // A number of so many bytes, and the rest.
-fn read_number(count: u8, bytes: &[u8]) -> Option<(u64, &[u8])>
+pub(crate) fn read_number(count: u8, bytes: &[u8]) -> Option<(u64, &[u8])>
     ensures found { (n : ℕ) (rest : List ℕ) → Fits n → count ≡ length (needed_bytes n) → bytes.now ≡ needed_bytes n ++ rest → MatchOption result ⊥ (λ p. (p.0 ≡ n) × (p.1.now ≡ rest)) }
     ensures exact { IfSome result (λ p. (count ≡ length (needed_bytes p.0)) × (bytes.now ≡ needed_bytes p.0 ++ p.1.now)) }
     ensures shorter { IfSome result (λ p. length p.1.now ≤ length bytes.now) }
@@ -59,7 +59,7 @@ fn read_number(count: u8, bytes: &[u8]) -> Option<(u64, &[u8])>
 }
 
 // The epoch, and the rest.
-fn read_epoch(bytes: &[u8]) -> Option<(u64, &[u8])>
+pub(crate) fn read_epoch(bytes: &[u8]) -> Option<(u64, &[u8])>
     ensures found { (n : ℕ) (rest : List ℕ) → Fits n → bytes.now ≡ number_bytes 0 n ++ rest → MatchOption result ⊥ (λ p. (p.0 ≡ n) × (p.1.now ≡ rest)) }
     ensures exact { IfSome result (λ p. bytes.now ≡ number_bytes 0 p.0 ++ p.1.now) }
 {
@@ -150,7 +150,7 @@ fn read_release(
 }
 
 // Up to the first 0, and what follows it.
-fn split_text(bytes: &[u8]) -> Option<(&[u8], &[u8])>
+pub(crate) fn split_text(bytes: &[u8]) -> Option<(&[u8], &[u8])>
     ensures found { (text rest : List ℕ) → All (λ b. 0 < b) text → bytes.now ≡ text ++ 0 ∷ rest → MatchOption result ⊥ (λ p. (p.0.now ≡ text) × (p.1.now ≡ rest)) }
     ensures exact { IfSome result (λ p. bytes.now ≡ p.0.now ++ 0 ∷ p.1.now) }
     ensures shorter { IfSome result (λ p. length p.1.now < length bytes.now) }
@@ -265,13 +265,13 @@ fn dev_number(dev: RankAndNumber) -> Option<Option<u64>>
 
 // What stands between release and local part.
 #[derive(Clone, Copy)]
-struct SuffixParts {
-    pre: Option<Prerelease>,
-    post: Option<u64>,
-    dev: Option<u64>,
+pub(crate) struct SuffixParts {
+    pub(crate) pre: Option<Prerelease>,
+    pub(crate) post: Option<u64>,
+    pub(crate) dev: Option<u64>,
 }
 
-fn read_suffix(bytes: &[u8]) -> Option<(SuffixParts, &[u8])>
+pub(crate) fn read_suffix(bytes: &[u8]) -> Option<(SuffixParts, &[u8])>
     ensures found { (r : Record) (rest : List ℕ) → IsParsed r → bytes.now ≡ suffix_bytes r ++ rest → MatchOption result ⊥ (λ p. (p.0.pre ≡ r.pre) × (p.0.post ≡ r.post) × (p.0.dev ≡ r.dev) × (p.1.now ≡ rest)) }
     ensures exact { IfSome result (λ p. bytes.now ≡ suffix_bytes (from_parts 0 [] p.0.pre p.0.post p.0.dev []) ++ p.1.now) }
 {

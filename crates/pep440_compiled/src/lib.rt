@@ -14,6 +14,7 @@
 //! from outside once before they are asked.
 #![tactic(auto)]
 
+mod checked_version;
 mod decode;
 mod error;
 mod key_parts;
@@ -21,6 +22,7 @@ pub mod laws;
 mod list;
 mod matching;
 mod parsed;
+mod print;
 mod version;
 mod views;
 
@@ -29,6 +31,7 @@ pub use list::{
     compile_list, contains, has_list_format, normalize_list, read_list, requests_prereleases,
 };
 pub use version::{
-    any_prerelease, compare, compile_version, normalize, push_compiled_form, read_version, sort_key,
+    any_prerelease, compare, compile_version, normalize, push_compiled_form, read_sort_key,
+    read_version, sort_key,
 };
 pub use views::has_version_format;

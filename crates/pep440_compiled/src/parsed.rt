@@ -4,6 +4,7 @@ ghost use Rattle.std.specs.Char.{is_ascii_digit};
 ghost use Rattle.std.specs.List.{All, list_all};
 ghost use Rattle.pep440_compiled.specs.Version.{IsParsed};
 ghost use Rattle.pep440_version.specs.Grammar.{is_numeral};
+ghost use Rattle.pep440_version.specs.Record.{Text};
 ghost use Rattle.pep440_version.specs.RoundTrip.{SegmentRereads, is_lower};
 ghost use Rattle.pep440_version.specs.Segments.{segment};
 
@@ -32,14 +33,18 @@ fn is_numeral(text: &str) -> bool
     is_digits(text) && (text.is_empty() || text.parse::<u64>().is_ok())
 }
 
+// A string of a local part as parsing gives it.
+pub(crate) fn is_normal_string(text: &str) -> bool
+    ensures { (result ≡ true) ↔ SegmentRereads (Text text.now) }
+{
+    !text.is_empty() && is_lower(text) && !is_numeral(text)
+}
+
 fn is_normal(part: &LocalSegment) -> bool
     ensures { (result ≡ true) ↔ SegmentRereads (segment part.now) }
 {
     match part {
-        LocalSegment::String(text) => {
-            let text = text.as_str();
-            !text.is_empty() && is_lower(text) && !is_numeral(text)
-        }
+        LocalSegment::String(text) => is_normal_string(text.as_str()),
         LocalSegment::Number(_) => true,
     }
 }

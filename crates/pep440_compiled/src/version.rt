@@ -9,9 +9,11 @@ ghost use Rattle.pep440_version.specs.Key.{record_cmp};
 ghost use Rattle.pep440_version.specs.Print.{print};
 ghost use Rattle.pep440_version.specs.Record.{Record};
 
+use crate::checked_version::check_version;
 use crate::decode::decode_version;
 use crate::error::{CompileError, CompiledError, NotCompiled};
 use crate::parsed::is_parsed;
+use crate::print::push_version as push_version_text;
 use crate::views::{VERSION, view_version, view_version_parts};
 use pep440_keys::push_sort_key;
 use pep440_version::Version;
@@ -90,11 +92,12 @@ pub fn normalize(alloc: Global, bytes: &[u8]) -> Result<String, CompiledError>
     ensures ok { IfOk result (λ text. (r : Record) × DenotesVersion bytes.now r × (string_bytes text ≡ print r)) }
     ensures err { IfErr result (λ e. e ≡ unread.NotCompiled → (r : Record) → DenotesVersion bytes.now r → ⊥) }
 {
-    let version = read_version(alloc, bytes)?;
-    match version.to_string(alloc) {
-        Ok(text) => Ok(text),
-        Err(_) => Err(CompiledError::OutOfMemory),
-    }
+    let Some(version) = check_version(bytes) else {
+        return Err(CompiledError::NotCompiled);
+    };
+    let mut text = String::with_capacity(alloc, 32)?;
+    push_version_text(&mut text, version)?;
+    Ok(text)
 }
 
 /// The sort key of the version that the bytes denote (`pep440_keys::sort_key`), as it lies in them. Bytes of another format
@@ -107,6 +110,19 @@ pub fn sort_key(bytes: &[u8]) -> Result<&[u8], NotCompiled>
 {
     match view_version(bytes) {
         Some(view) => Ok(view.key),
+        None => Err(NotCompiled),
+    }
+}
+
+/// The same of bytes that are tested whole: `NotCompiled` if they denote no version.
+///
+/// Does not allocate.
+pub fn read_sort_key(bytes: &[u8]) -> Result<&[u8], NotCompiled>
+    ensures ok { IfOk result (λ key. (r : Record) × DenotesVersion bytes.now r × (key.now ≡ key_bytes r)) }
+    ensures err { IfErr result (λ _. (r : Record) → DenotesVersion bytes.now r → ⊥) }
+{
+    match check_version(bytes) {
+        Some(version) => Ok(version.view.key),
         None => Err(NotCompiled),
     }
 }

@@ -1,7 +1,7 @@
 //! Test cases: bytes that denote no version and no list.
 use pep440_compiled::{
     CompiledError, ContainsError, NotCompiled, any_prerelease, compare, contains, normalize,
-    normalize_list, read_list, read_version, sort_key,
+    normalize_list, read_list, read_sort_key, read_version, sort_key,
 };
 use std::test::Fail;
 
@@ -76,7 +76,8 @@ fn has_no_version(rt: HostRuntime, bytes: &[u8]) -> bool {
         Err(CompiledError::OutOfMemory) => read_version(rt.alloc(), bytes),
         result => result,
     };
-    matches!(read, Err(CompiledError::NotCompiled)) && normalize(rt.alloc(), bytes).is_err()
+    let normal = normalize(rt.alloc(), bytes).is_err() && read_sort_key(bytes).is_err();
+    matches!(read, Err(CompiledError::NotCompiled)) && normal
 }
 
 fn has_no_list(rt: HostRuntime, bytes: &[u8]) -> bool {

@@ -1,7 +1,7 @@
 //! Test cases: versions and their bytes, their order, and failing allocations.
 use pep440_compiled::{
     CompileError, CompiledError, any_prerelease, compare, compile_version, normalize,
-    push_compiled_form, read_version, sort_key,
+    push_compiled_form, read_sort_key, read_version, sort_key,
 };
 use pep440_version::{LocalSegment, Version};
 use std::cmp::Ordering;
@@ -172,7 +172,7 @@ fn sweep_sort_key_takes_none(rt: HostRuntime) -> Result<(), Fail> {
         (LOCAL, &LOCAL[1..]),
         (RISING[3], [0, 2, 1, 0, 80, 0, 16, 0].as_slice()),
     ] {
-        assert!(rt; sort_key(bytes) == Ok(want));
+        assert!(rt; sort_key(bytes) == Ok(want) && read_sort_key(bytes) == Ok(want));
     }
     Ok(())
 }

@@ -1,0 +1,69 @@
+use Rattle.std.proofs.Common.{◌∙◌, ◌-◌, ◌++◌, ◌∷◌, [], arith, refl, sym, true≢false}
+use Rattle.std.proofs.lemmas.List.Elements.{recursion_from_All}
+use Rattle.pep440_compiled.proofs.Checking.{ends_first, ends_next, may_end_there, one_more, release_tested}
+use Rattle.pep440_compiled.proofs.Decoded.{all_read, one_read}
+use Rattle.pep440_compiled.proofs.Loops.{end_of_numbers, next_number, not_nil}
+use Rattle.pep440_compiled.proofs.Rewritten.{coded_again, none_coded, one_coded}
+use Rattle.pep440_compiled.proofs.checked_version.check_release.Goals as goal
+use Rattle.pep440_keys.specs.SortKeys.{number_bytes}
+use Rattle.pep440_version.specs.Record.{Fits}
+use Rattle.pep440_version.specs.Trim.{trim}
+
+pub loop-first-init : goal.loop-first-init
+loop-first-init c = record {
+  seen = [];
+  fit = tt;
+  reads = λ xs rest p e. (xs, p, refl, e);
+  coded = refl;
+  ends = ends_first c.args.zeros;
+}
+
+pub returns-then-not-may_end-clause-found : goal.returns-then-not-may_end-clause-found
+returns-then-not-may_end-clause-found c release rest fit some z e =
+    let s = c.loop-first.invariant in
+    let left = s.reads (trim release) rest (recursion_from_All Fits (trim release) fit) e in
+    let end = end_of_numbers c.in-Some.first.now c.loop-first.left.now c.in-Some.later.now rest left.0 c.in-Some.ensures.cases.0 c.if-first-eq0.true left.3 in
+    absurd (true≢false (sym (may_end_there s.seen release c.args.zeros c.loop-first.may_end s.ends (all_read (trim release) s.seen left.0 left.2 end.0) z some) ∙ c.if-not-may_end.true))
+
+pub returns-then-first-eq0-clause-found : goal.returns-then-first-eq0-clause-found
+returns-then-first-eq0-clause-found c release rest fit some z e =
+    let s = c.loop-first.invariant in
+    let left = s.reads (trim release) rest (recursion_from_All Fits (trim release) fit) e in
+    (end_of_numbers c.in-Some.first.now c.loop-first.left.now c.in-Some.later.now rest left.0 c.in-Some.ensures.cases.0 c.if-first-eq0.true left.3).1
+
+pub returns-then-first-eq0-clause-exact : goal.returns-then-first-eq0-clause-exact
+returns-then-first-eq0-clause-exact c =
+    let s = c.loop-first.invariant in
+    release_tested c.args.bytes.now c.in-Some.later.now s.seen c.args.zeros s.fit (s.ends.trimmed c.if-not-may_end.false) (s.ends.some c.if-not-may_end.false)
+    (none_coded (number_bytes 1) c.args.bytes.now c.loop-first.left.now c.in-Some.later.now s.seen c.in-Some.first.now s.coded c.in-Some.ensures.cases.0 c.if-first-eq0.true)
+
+pub returns-in_err-number-clause-found : goal.returns-in_err-number-clause-found
+returns-in_err-number-clause-found c release rest fit some z e =
+    let left = c.loop-first.invariant.reads (trim release) rest (recursion_from_All Fits (trim release) fit) e in
+    let next = next_number Fits c.in-Some.first.now c.loop-first.left.now c.in-Some.later.now rest left.0 left.1 c.in-Some.ensures.cases.0 c.if-first-eq0.false left.3 in
+    absurd (c.in_err-number.ensures.found next.number _ next.holds (omega (arith, next.count)) next.bytes)
+
+pub loop-first-preserved : goal.loop-first-preserved
+loop-first-preserved c =
+    let s = c.loop-first.invariant in
+    let first = c.in-Some.first.now in
+    let number = c.in_ok-number.number in
+    let fits : Fits number = c.prove_fits.ensures in
+    record {
+      seen = s.seen ++ number ∷ [];
+      fit = one_more Fits s.seen number s.fit fits;
+      reads = λ numbers rest all e.
+          let left = s.reads numbers rest all e in
+          let next = next_number Fits first c.loop-first.left.now c.in-Some.later.now rest left.0 left.1 c.in-Some.ensures.cases.0 c.if-first-eq0.false left.3 in
+          let read = c.in_ok-number.ensures.found next.number _ next.holds (omega (arith, next.count)) next.bytes in
+          (next.more, next.all, one_read numbers s.seen left.0 next.more (s.seen ++ number ∷ []) next.number number left.2 next.split read.0 refl, read.1);
+      coded =
+          let code = coded_again 1 c.loop-first.left.now c.in-Some.later.now c.in_ok-number.rest.now first (first - 1) number c.in-Some.ensures.cases.0 (omega (arith, c.if-first-eq0.false)) c.in_ok-number.ensures.exact.0 c.in_ok-number.ensures.exact.1 in
+          one_coded (number_bytes 1) c.args.bytes.now c.loop-first.left.now c.in_ok-number.rest.now s.seen (s.seen ++ number ∷ []) number s.coded code refl;
+      ends = ends_next c.args.zeros s.seen number;
+    }
+
+pub returns-clause-found : goal.returns-clause-found
+returns-clause-found c release rest fit some z e =
+    let left = c.loop-first.invariant.reads (trim release) rest (recursion_from_All Fits (trim release) fit) e in
+    not_nil (number_bytes 1) c.loop-first.left.now rest left.0 c.in_default.ensures.cases left.3

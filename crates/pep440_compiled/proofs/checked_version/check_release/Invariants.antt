@@ -1,0 +1,9 @@
+use Rattle.std.proofs.Common.{length}
+use Rattle.pep440_compiled.proofs.Checking.{Tested}
+use Rattle.pep440_compiled.proofs.checked_version.check_release.Given as goal
+
+abbrev pub invariant-loop-first : goal.invariant-loop-first
+invariant-loop-first l = Tested l.fn.bytes l.left l.zeros l.may_end
+
+abbrev pub decreases-loop-first : goal.decreases-loop-first
+decreases-loop-first l = length l.left

@@ -1,0 +1,132 @@
+//! Compiled versions tested as they lie: each byte of them, without making a version.
+ghost use Rattle.std.specs.Prelude.{◌≡◌, ◌<◌, ◌≤◌, ◌++◌, ◌∷◌, ℕ, List, length, IfSome, MatchOption, true};
+ghost use Rattle.std.specs.List.{All, flat_map};
+ghost use Rattle.pep440_compiled.specs.KeyParts.{ending_zeros};
+ghost use Rattle.pep440_compiled.specs.KeyViews.{HasCheckedParts};
+ghost use Rattle.pep440_compiled.specs.Version.{DenotesVersion};
+ghost use Rattle.pep440_keys.specs.SortKeys.{local_bytes, number_bytes, segment_bytes};
+ghost use Rattle.pep440_version.specs.Record.{Fits, LocalSegmentValue, Record, SegmentFits};
+ghost use Rattle.pep440_version.specs.RoundTrip.{SegmentRereads};
+ghost use Rattle.pep440_version.specs.Trim.{trim};
+
+use crate::decode::{SuffixParts, read_epoch, read_number, read_suffix, split_text};
+use crate::parsed::is_normal_string;
+use crate::views::{VersionView, view_version};
+use pep440_version::Prerelease;
+
+// A version, all of whose bytes were tested: its epoch, what begins with the numbers of its release and the 0 that ends them, what
+// its suffix says, and its local part.
+#[derive(Clone, Copy)]
+pub(crate) struct CheckedVersion<'a> {
+    pub(crate) view: VersionView<'a>,
+    pub(crate) epoch: u64,
+    pub(crate) numbers: &'a [u8],
+    pub(crate) suffix: SuffixParts,
+    pub(crate) local: &'a [u8],
+}
+
+// A number fits, since it is a `u64`.
+fn prove_fits(number: Option<u64>)
+    ensures { IfSome number Fits }
+{
+    if let Some(number) = number {
+        let _fits = number;
+    }
+}
+
+fn prove_pre_fits(pre: Option<Prerelease>)
+    ensures { IfSome pre (λ p. Fits p.number) }
+{
+    if let Some(pre) = pre {
+        let _fits = pre.number;
+    }
+}
+
+// What follows the release, which ends in so many zeros that the key leaves out. Another zero may not end its numbers, and one number
+// or zero there must be.
+fn check_release(bytes: &[u8], zeros: usize) -> Option<&[u8]>
+    ensures found { (release rest : List ℕ) → All Fits (trim release) → 0 < length release → zeros ≡ ending_zeros release → bytes.now ≡ flat_map (number_bytes 1) (trim release) ++ 0 ∷ rest → MatchOption result ⊥ (λ r. r.now ≡ rest) }
+    ensures exact { IfSome result (λ r. (release : List ℕ) × All Fits release × (0 < length release) × (zeros ≡ ending_zeros release) × (bytes.now ≡ flat_map (number_bytes 1) (trim release) ++ 0 ∷ r.now)) }
+{
+    let mut may_end = zeros > 0;
+    let mut left = bytes;
+    while let Some((first, later)) = left.split_first() {
+        if *first == 0 {
+            if !may_end {
+                return None;
+            }
+            return Some(later);
+        }
+        let (number, rest) = read_number(*first - 1, later)?;
+        prove_fits(Some(number));
+        may_end = number > 0;
+        left = rest;
+    }
+    None
+}
+
+// What follows a local segment, whose first byte this is.
+fn check_segment(first: u8, bytes: &[u8]) -> Option<&[u8]>
+    requires { 0 < first }
+    ensures found { (s : LocalSegmentValue) (rest : List ℕ) → SegmentFits s → SegmentRereads s → first ∷ bytes.now ≡ segment_bytes s ++ rest → MatchOption result ⊥ (λ r. r.now ≡ rest) }
+    ensures exact { IfSome result (λ r. (s : LocalSegmentValue) × SegmentFits s × SegmentRereads s × (first ∷ bytes.now ≡ segment_bytes s ++ r.now)) }
+    ensures shorter { IfSome result (λ r. length r.now ≤ length bytes.now) }
+{
+    if first > 1 {
+        let (number, rest) = read_number(first - 2, bytes)?;
+        prove_fits(Some(number));
+        return Some(rest);
+    }
+    let (text, rest) = split_text(bytes)?;
+    let Ok(text) = str::from_utf8(text) else {
+        return None;
+    };
+    if !is_normal_string(text) {
+        return None;
+    }
+    Some(rest)
+}
+
+// Whether the bytes are a local part, after which nothing follows.
+fn is_local_part(bytes: &[u8]) -> bool
+    ensures found { (local : List LocalSegmentValue) → All SegmentFits local → All SegmentRereads local → bytes.now ≡ local_bytes local → result ≡ true }
+    ensures exact { result ≡ true → (local : List LocalSegmentValue) × All SegmentFits local × All SegmentRereads local × (bytes.now ≡ local_bytes local) }
+{
+    let mut left = bytes;
+    while let Some((first, later)) = left.split_first() {
+        if *first == 0 {
+            return later.is_empty();
+        }
+        let Some(rest) = check_segment(*first, later) else {
+            return false;
+        };
+        left = rest;
+    }
+    false
+}
+
+// The version that the bytes denote. Inlined, since one caller asks only for the key.
+#[inline(always)]
+pub(crate) fn check_version(bytes: &[u8]) -> Option<CheckedVersion<'_>>
+    ensures found { (r : Record) → DenotesVersion bytes.now r → MatchOption result ⊥ (λ version. HasCheckedParts version r) }
+    ensures exact { IfSome result (λ version. (r : Record) × DenotesVersion bytes.now r) }
+{
+    let view = view_version(bytes)?;
+    let (epoch, numbers) = read_epoch(view.key)?;
+    let rest = check_release(numbers, view.zeros)?;
+    let (suffix, local) = read_suffix(rest)?;
+    if !is_local_part(local) {
+        return None;
+    }
+    prove_fits(Some(epoch));
+    prove_pre_fits(suffix.pre);
+    prove_fits(suffix.post);
+    prove_fits(suffix.dev);
+    Some(CheckedVersion {
+        view,
+        epoch,
+        numbers,
+        suffix,
+        local,
+    })
+}
