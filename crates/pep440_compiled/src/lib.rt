@@ -10,7 +10,7 @@
 //! byte 4. The first byte is the format: bytes of another format are rejected, not misread.
 //!
 //! `read_version` and `read_list` reject all bytes that denote nothing. The calls that read bytes as they lie do not test the whole of
-//! them: of bytes that denote nothing they return `NotCompiled` or any result, and never read outside them. Read bytes
+//! them: of bytes that denote nothing they return an error or any result, and never read outside them. Read bytes
 //! from outside once before they are asked.
 #![tactic(auto)]
 
