@@ -1,11 +1,9 @@
 //! What no line of test cases can ask: how often calls allocate, and what callers can prove of equality, of values under trait bounds and of
-//! loops over segments; and the examples of `example_calls`.
+//! loops over segments.
 #![tactic(auto)]
 
 #[cfg(test)]
 mod equal;
-#[cfg(test)]
-mod examples;
 #[cfg(test)]
 mod generic;
 #[cfg(test)]

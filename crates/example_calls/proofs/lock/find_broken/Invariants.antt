@@ -1,6 +1,0 @@
-use Rattle.std.proofs.Common.{◌≡◌, ◌++◌, drop, map, string_bytes}
-use Rattle.example_calls.specs.Lock.{broken_names}
-use Rattle.example_calls.proofs.lock.find_broken.Given as goal
-
-abbrev pub invariant-loop-locked : goal.invariant-loop-locked
-invariant-loop-locked l = map string_bytes l.names.items ++ broken_names (drop l.locked-index l.lock) ≡ broken_names l.lock

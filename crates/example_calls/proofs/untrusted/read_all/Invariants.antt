@@ -1,7 +1,0 @@
-use Rattle.std.proofs.Common.{take}
-use Rattle.std.specs.List.{AllZip}
-use Rattle.example_calls.specs.Verdicts.{Tells}
-use Rattle.example_calls.proofs.untrusted.read_all.Given as goal
-
-abbrev pub invariant-loop-text : goal.invariant-loop-text
-invariant-loop-text l = AllZip (λ text. Tells text.now) (take l.text-index l.texts) l.verdicts.items

@@ -1,0 +1,28 @@
+-- What a line of a lock file holds, `NAME; LIST; VERSION`, and which lines are broken.
+use Rattle.std.specs.Prelude.{ℕ, List, Bool, filter, map, not, string_bytes, IfSome}
+use Rattle.pep440_version.specs.Errors.{error_refusal}
+use Rattle.pep440_version.specs.Refusals.{Refuses}
+use Rattle.pep440_rs.specs.ListAnswers.{list_kind_of}
+use Rattle.pep440_rs.specs.ListErrors.{list_refusal_of}
+use Rattle.pep440_rs.specs.ListGrammar.{DerivesList, RefusesList}
+use Rattle.pep440_rs.specs.Matching.{list_matches}
+use Rattle.pep440_rs.specs.Specifiers.{Spec}
+use Rattle.examples.specs.LockParts.{IsShort, list_part, version_part}
+use Rattle.examples.specs.declared.lock.LockEntry.{LockEntry}
+use Rattle.examples.specs.declared.lock.LockError.{LockError}
+use Rattle.examples.specs.declared.lock.LockError.TheVariants.{Parts, Wanted, Version, OutOfMemory}
+
+-- why the line is rejected: the first fault from the left
+abbrev pub IsFault : List ℕ → LockError → Type 0
+IsFault line Parts = IsShort line
+IsFault line (Wanted e) = (¬ IsShort line) × IfSome (list_refusal_of (list_kind_of e)) (RefusesList (list_part line))
+IsFault line (Version e) = (¬ IsShort line) × ((list : List Spec) × DerivesList (list_part line) list) × IfSome (error_refusal e) (Refuses (version_part line))
+IsFault line OutOfMemory = Unit {0}
+
+-- its list does not contain its version
+abbrev pub is_broken : LockEntry → Bool
+is_broken l = not (list_matches l.wanted l.version)
+
+-- the names of the broken lines, in order
+abbrev pub broken_names : List LockEntry → List (List ℕ)
+broken_names lock = map (λ (l : LockEntry). string_bytes l.name) (filter is_broken lock)
