@@ -81,7 +81,7 @@ pub fn requests(alloc: Global, text: &str) -> Result<String, CaseError> {
     Ok(String::from_str(alloc, text)?)
 }
 
-// Whether the list contains the version, of which is also told whether it is a pre-release.
+// Whether the list contains the version, of which it also reports whether it is a pre-release.
 fn print_contained(alloc: Global, list: &[u8], version: &[u8]) -> Result<String, CaseError> {
     let text = match contains(list, version) {
         Ok((_, is_prerelease)) if any_prerelease(version) != Ok(is_prerelease) => {
