@@ -1,27 +1,25 @@
 -- What a probe is: a version that some string denotes.
-use Rattle.std.proofs.Common.{◌≡◌, ℕ, Bool, true, false, List, [], ◌∷◌, ◌++◌, cond, Option, Some, None, option_map, IfSome, refl, sym, subst}
+use Rattle.std.proofs.Common.{ℕ, Bool, true, false, List, [], ◌∷◌, ◌++◌, cond, Option, Some, None, option_map, IfSome, refl}
 use Rattle.std.proofs.lemmas.List.Elements.{All-head, All-tail}
 use Rattle.std.specs.List.{All, find, flat_map}
-use Rattle.pep440_rs.specs.Cover.{IsCoverable, IsDenoted}
-use Rattle.pep440_rs.specs.Matching.{list_matches}
+use Rattle.pep440_rs.specs.Cover.{IsCoverable}
 use Rattle.pep440_rs.specs.Specifiers.{Spec}
-use Rattle.pep440_version.proofs.RoundTrip.PrintIsRead.{derived_rereads, none_all, reread}
-use Rattle.pep440_version.specs.Print.{print}
-use Rattle.pep440_version.specs.Record.{IsRecord, Record, from_parts, from_release}
+use Rattle.pep440_version.proofs.RoundTrip.PrintIsRead.{derived_rereads, none_all}
+use Rattle.pep440_version.specs.Record.{Record, from_parts, from_release}
 use Rattle.pep440_version.specs.RoundTrip.{RoundTrips, SegmentRereads}
 use Rattle.pep440_version.specs.declared.prerelease.Prerelease.{Prerelease}
-use Rattle.pep440_witness.specs.Probes.{around, beside, first_match, just_above, longest, next_kind, next_post, next_release, points, probes, raised, raised_pre, versions}
+use Rattle.pep440_witness.specs.Probes.{around, beside, just_above, longest, next_kind, next_post, next_release, points, probes, raised, raised_pre, versions}
 
 -- P of each
-abbrev Each : (Record → Type 0) → List Record → Type 0
+abbrev pub Each : (Record → Type 0) → List Record → Type 0
 Each P [] = Unit {0}
 Each P (x ∷ xs) = P x × Each P xs
 
-each_append : (P : Record → Type 0) (xs ys : List Record) → Each P xs → Each P ys → Each P (xs ++ ys)
+pub each_append : (P : Record → Type 0) (xs ys : List Record) → Each P xs → Each P ys → Each P (xs ++ ys)
 each_append P [] ys h k = k
 each_append P (x ∷ xs) ys h k = (h.0, each_append P xs ys h.1 k)
 
-each_of_flat : (P : Record → Type 0) (f : Record → List Record) → ((x : Record) → Each P (f x)) → (xs : List Record) → Each P (flat_map f xs)
+pub each_of_flat : (P : Record → Type 0) (f : Record → List Record) → ((x : Record) → Each P (f x)) → (xs : List Record) → Each P (flat_map f xs)
 each_of_flat P f h [] = tt
 each_of_flat P f h (x ∷ xs) = each_append P (f x) (flat_map f xs) (h x) (each_of_flat P f h xs)
 
@@ -30,7 +28,7 @@ head_is P x rest true one others = one
 head_is P x rest false one others = others
 
 -- so of what is found
-found_is : (P : Record → Type 0) (p : Record → Bool) (xs : List Record) → Each P xs → IfSome (find p xs) P
+pub found_is : (P : Record → Type 0) (p : Record → Bool) (xs : List Record) → Each P xs → IfSome (find p xs) P
 found_is P p [] h = tt
 found_is P p (x ∷ xs) h = head_is P x (find p xs) (p x) h.0 (found_is P p xs h.1)
 
@@ -62,7 +60,7 @@ beside_again s = (
   ),
 )
 
-points_again : (depth : ℕ) (s : Record) → Each RoundTrips (points depth s)
+pub points_again : (depth : ℕ) (s : Record) → Each RoundTrips (points depth s)
 points_again depth s =
     each_append RoundTrips (beside s) (around depth s ++ around depth (next_release s)) (beside_again s)
     (each_append RoundTrips (around depth s) (around depth (next_release s)) (around_again depth s) (around_again depth (next_release s)))
@@ -73,12 +71,8 @@ members_again (m ∷ rest) h =
     let one = All-head IsCoverable m rest h in
     (derived_rereads one.1.0 m.version one.1.1, members_again rest (All-tail IsCoverable m rest h))
 
-first_again : (members : List Spec) → All IsCoverable members → IfSome (first_match members) RoundTrips
-first_again members h =
-    found_is RoundTrips (λ v. list_matches members v) (probes members)
-    (each_append RoundTrips (versions members) (flat_map (points (longest (versions members))) (from_release (0 ∷ []) ∷ versions members)) (members_again members h)
-    (each_of_flat RoundTrips (points (longest (versions members))) (points_again (longest (versions members))) (from_release (0 ∷ []) ∷ versions members)))
-
--- the version that is found, whose numbers fit
-pub is_denoted : (members : List Spec) (v : Record) → Some v ≡ first_match members → IsRecord v → All IsCoverable members → IsDenoted v
-is_denoted members v is fits coverable = (print v, reread v fits (subst (λ o. IfSome o RoundTrips) (sym is) (first_again members coverable)))
+-- each probe
+pub probes_again : (members : List Spec) → All IsCoverable members → Each RoundTrips (probes members)
+probes_again members h =
+    each_append RoundTrips (versions members) (flat_map (points (longest (versions members))) (from_release (0 ∷ []) ∷ versions members)) (members_again members h)
+    (each_of_flat RoundTrips (points (longest (versions members))) (points_again (longest (versions members))) (from_release (0 ∷ []) ∷ versions members))

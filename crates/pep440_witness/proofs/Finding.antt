@@ -1,5 +1,5 @@
 -- The first probe that a list contains, found in turn.
-use Rattle.std.proofs.Common.{◌≡◌, ◌<◌, ◌+◌, ◌∙◌, ℕ, Bool, true, false, List, [], ◌∷◌, ◌++◌, ◌||◌, cond, length, get_or, drop, nat_lt, Option, Some, None, IfSome, IsTrue, refl, sym, ap, subst, arith, if◌then◌else◌}
+use Rattle.std.proofs.Common.{◌≡◌, ◌<◌, ◌+◌, ◌∙◌, ℕ, Bool, true, false, List, [], ◌∷◌, ◌++◌, ◌||◌, cond, length, get_or, drop, nat_lt, Option, Some, None, IfSome, IsTrue, refl, sym, ap, arith, if◌then◌else◌}
 use Rattle.std.proofs.lemmas.List.Folds.{find-append}
 use Rattle.std.proofs.lemmas.List.{drop_more}
 use Rattle.std.specs.Option.{option_or}
@@ -9,7 +9,7 @@ use Rattle.pep440_rs.specs.Matching.{list_matches}
 use Rattle.pep440_rs.specs.Specifiers.{Spec}
 use Rattle.pep440_version.specs.Record.{Record, from_release}
 use Rattle.pep440_witness.proofs.Deciding.{decide}
-use Rattle.pep440_witness.specs.Probes.{first_match, longest, points, probes, versions}
+use Rattle.pep440_witness.specs.Probes.{beside_probes, first_match, longest, points, probes, versions}
 
 -- past a version that does not do, the first one that does is among the others
 pub passed : (p : Record → Bool) (v : Record) (rest : List Record) → p v ≡ false → find p (v ∷ rest) ≡ find p rest
@@ -53,45 +53,34 @@ module _ (p : Record → Bool) (f : Record → List Record) where
       find p (flat_map f (versions (drop i items))) ≡ find p (flat_map f (versions (drop (i + 1) items)))
   none_beside items i m inside is none = flat_step items i m inside is ∙ ap (λ o. option_or o (find p (flat_map f (versions (drop (i + 1) items))))) none
 
--- the members' versions, those beside 0, those beside the members
-pub in_parts : (members : List Spec) → first_match members
-    ≡ option_or (find (λ v. list_matches members v) (versions members))
-    (option_or (find (λ v. list_matches members v) (points (longest (versions members)) (from_release (0 ∷ []))))
-    (find (λ v. list_matches members v) (flat_map (points (longest (versions members))) (versions members))))
-in_parts members =
-    find-append (λ v. list_matches members v) (versions members) (flat_map (points (longest (versions members))) (from_release (0 ∷ []) ∷ versions members))
-    ∙ ap (option_or (find (λ v. list_matches members v) (versions members)))
-    (find-append (λ v. list_matches members v) (points (longest (versions members)) (from_release (0 ∷ []))) (flat_map (points (longest (versions members))) (versions members)))
+-- those beside 0, then those beside the members
+module _ (members : List Spec) where
+  abbrev pub contains : Record → Bool
+  contains v = list_matches members v
 
--- a member's own version is the first
-pub own : (members : List Spec) (v : Record) → find (λ v. list_matches members v) (versions members) ≡ Some v → Some v ≡ first_match members
-own members v found =
-    sym (in_parts members
-    ∙ ap (λ o. option_or o (option_or (find (λ v. list_matches members v) (points (longest (versions members)) (from_release (0 ∷ []))))
-    (find (λ v. list_matches members v) (flat_map (points (longest (versions members))) (versions members))))) found)
+  abbrev pub zero : Record
+  zero = from_release (0 ∷ [])
 
--- one beside 0 is the first, if no member's version does
-pub beside_zero : (members : List Spec) (depth : ℕ) (v : Record) → depth ≡ longest (versions members) → find (λ v. list_matches members v) (versions members) ≡ None →
-    find (λ v. list_matches members v) (points depth (from_release (0 ∷ []))) ≡ Some v → Some v ≡ first_match members
-beside_zero members depth v is none found =
-    sym (in_parts members
-    ∙ ap (λ o. option_or o (option_or (find (λ v. list_matches members v) (points (longest (versions members)) (from_release (0 ∷ []))))
-    (find (λ v. list_matches members v) (flat_map (points (longest (versions members))) (versions members))))) none
-    ∙ ap (λ d. option_or (find (λ v. list_matches members v) (points d (from_release (0 ∷ []))))
-    (find (λ v. list_matches members v) (flat_map (points (longest (versions members))) (versions members)))) (sym is)
-    ∙ ap (λ o. option_or o (find (λ v. list_matches members v) (flat_map (points (longest (versions members))) (versions members)))) found)
+  beside_parts : (depth : ℕ) → depth ≡ longest (versions members) →
+      find contains (beside_probes members) ≡ option_or (find contains (points depth zero)) (find contains (flat_map (points depth) (versions members)))
+  beside_parts depth is =
+      ap (λ d. find contains (flat_map (points d) (zero ∷ versions members))) (sym is) ∙ find-append contains (points depth zero) (flat_map (points depth) (versions members))
 
--- else it is beside a member
-pub beside_members : (members : List Spec) (depth : ℕ) → depth ≡ longest (versions members) → find (λ v. list_matches members v) (versions members) ≡ None →
-    find (λ v. list_matches members v) (points depth (from_release (0 ∷ []))) ≡ None →
-    find (λ v. list_matches members v) (flat_map (points depth) (versions members)) ≡ first_match members
-beside_members members depth is none none_beside_zero =
-    sym (in_parts members
-    ∙ ap (λ o. option_or o (option_or (find (λ v. list_matches members v) (points (longest (versions members)) (from_release (0 ∷ []))))
-    (find (λ v. list_matches members v) (flat_map (points (longest (versions members))) (versions members))))) none
-    ∙ ap (λ d. option_or (find (λ v. list_matches members v) (points d (from_release (0 ∷ []))))
-    (find (λ v. list_matches members v) (flat_map (points d) (versions members)))) (sym is)
-    ∙ ap (λ o. option_or o (find (λ v. list_matches members v) (flat_map (points depth) (versions members)))) none_beside_zero)
+  -- one beside 0 is the first
+  pub zero_first : (depth : ℕ) (v : Record) → depth ≡ longest (versions members) → find contains (points depth zero) ≡ Some v → Some v ≡ find contains (beside_probes members)
+  zero_first depth v is found = sym (beside_parts depth is ∙ ap (λ o. option_or o (find contains (flat_map (points depth) (versions members)))) found)
+
+  -- else it is beside a member
+  pub member_first : (depth : ℕ) → depth ≡ longest (versions members) → find contains (points depth zero) ≡ None →
+      find contains (flat_map (points depth) (versions members)) ≡ find contains (beside_probes members)
+  member_first depth is none = sym (beside_parts depth is ∙ ap (λ o. option_or o (find contains (flat_map (points depth) (versions members)))) none)
+
+  -- a member's own version is the first; if none does, one beside is
+  pub own : (v : Record) → find contains (versions members) ≡ Some v → Some v ≡ first_match members
+  own v found = sym (find-append contains (versions members) (beside_probes members) ∙ ap (λ o. option_or o (find contains (beside_probes members))) found)
+
+  pub beside : find contains (versions members) ≡ None → find contains (beside_probes members) ≡ first_match members
+  beside none = sym (find-append contains (versions members) (beside_probes members) ∙ ap (λ o. option_or o (find contains (beside_probes members))) none)
 
 head_does : (p : Record → Bool) (x : Record) (rest : Option Record) (b : Bool) → p x ≡ b → IfSome rest (λ v. IsTrue (p v)) → IfSome (cond b (Some x) rest) (λ v. IsTrue (p v))
 head_does p x rest true is others = is
@@ -102,8 +91,8 @@ does : (p : Record → Bool) (xs : List Record) → IfSome (find p xs) (λ v. Is
 does p [] = tt
 does p (x ∷ xs) = head_does p x (find p xs) (p x) refl (does p xs)
 
-pub is_contained : (members : List Spec) (v : Record) → Some v ≡ first_match members → IsTrue (list_matches members v)
-is_contained members v is = subst (λ o. IfSome o (λ v. IsTrue (list_matches members v))) (sym is) (does (λ v. list_matches members v) (probes members))
+pub first_contained : (members : List Spec) → IfSome (first_match members) (λ v. IsTrue (list_matches members v))
+first_contained members = does (λ v. list_matches members v) (probes members)
 
 head_not : (x : Record) (rest : Option Record) (any b : Bool) → (rest ≡ None → IsTrue any → ⊥) → cond b (Some x) rest ≡ None → IsTrue (b || any) → ⊥
 head_not x rest any true others none is = cc none

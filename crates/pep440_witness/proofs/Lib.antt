@@ -6,3 +6,7 @@ pub mod Deciding
 pub mod Above
 pub mod Finding
 pub mod Denoted
+pub mod Fitting
+pub mod Outlining
+pub mod Searching
+pub mod Surrounding

@@ -1,1 +1,2 @@
 pub mod Probes
+pub mod Outlines

@@ -88,9 +88,13 @@ longest (s ∷ rest) = if nat_lt (longest rest) (length s.release) then length s
 abbrev pub versions : List Spec → List Record
 versions members = map (λ (m : Spec). m.version) members
 
--- the members' versions themselves, then the probes of release 0 and of each
+-- the probes of release 0 and of the members' versions
+abbrev pub beside_probes : List Spec → List Record
+beside_probes members = flat_map (points (longest (versions members))) (from_release (0 ∷ []) ∷ versions members)
+
+-- the members' versions themselves, then those
 abbrev pub probes : List Spec → List Record
-probes members = versions members ++ flat_map (points (longest (versions members))) (from_release (0 ∷ []) ∷ versions members)
+probes members = versions members ++ beside_probes members
 
 -- the first probe that the list contains
 abbrev pub first_match : List Spec → Option Record

@@ -5,5 +5,9 @@ mod beside;
 mod find;
 pub mod laws;
 mod near;
+mod outlined;
+mod range_around;
+mod search;
+mod surround;
 
 pub use find::find_version;
