@@ -216,9 +216,11 @@ and the exit status is 2. The local part is always dropped.
 PART is major, minor, patch, stable, alpha, beta, rc, post or dev.
   major, minor, patch  raise a number of the release; those after it become 0, and the rest is dropped
   stable               the release that a pre-release or a dev release leads to: 1.0rc2 to 1.0
-  alpha, beta, rc      the next pre-release of the kind; a version that is neither a pre-release nor
-                       a dev release needs a part that names the next release before it
-  post, dev            the next post-release; the next dev release, in the places of alpha
+  alpha, beta, rc      the next pre-release of the kind, or the one that is still in development:
+                       1.0a1.dev2 to 1.0a1; a version that is neither a pre-release nor a dev
+                       release needs a part that names the next release before it
+  post                 the next post-release, or the one that is still in development
+  dev                  the next dev release, in the places of alpha
 
 options:
   --to N  set the number of the last part
