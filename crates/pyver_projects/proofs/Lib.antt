@@ -1,0 +1,3 @@
+pub mod Steps
+pub mod Holding
+pub mod Agreeing

@@ -1,0 +1,63 @@
+-- Lists of values, and strings that are read one after another.
+use Rattle.std.proofs.Common.{◌≡◌, ◌+◌, ◌<◌, ◌≤◌, ◌∙◌, ℕ, List, [], ◌∷◌, ◌++◌, Bool, Option, Some, None, IfOk, IfSome, Result, Ok, Err, ◌⊎◌, true, false, inr, drop, if◌then◌else◌, is_none, length, get_or, take, take_all, map, refl, sym, ap, subst}
+use Rattle.std.proofs.lemmas.Bool.{true≢false}
+use Rattle.std.proofs.lemmas.List.{append-nil, append_assoc, drop_more, map-append, take_more}
+use Rattle.pyver_projects.specs.Places.{before_first, opens_with}
+use Rattle.std.specs.List.{AllZip}
+use Rattle.toml.specs.Data.{Data}
+use Rattle.toml.specs.View.{items_of}
+use Rattle.pyver_projects.specs.Documents.{items_list}
+
+-- a list that was made items is the same
+pub items_list_of : (ds : List Data) → items_list (items_of ds) ≡ ds
+items_list_of [] = refl
+items_list_of (d ∷ ds) = ap (λ rest. d ∷ rest) (items_list_of ds)
+
+all_more : {A B : Type 0} (R : A → B → Type 0) (xs : List A) (ys : List B) (x : A) (y : B) → AllZip R xs ys → R x y → AllZip R (xs ++ x ∷ []) (ys ++ y ∷ [])
+all_more R [] [] x y h r = (r, tt)
+all_more R [] (z ∷ ys) x y h r = absurd h
+all_more R (z ∷ xs) [] x y h r = absurd h
+all_more R (z ∷ xs) (u ∷ ys) x y h r = (h.0, all_more R xs ys x y h.1 r)
+
+-- one more was read
+pub read_more : {L M A B : Type 0} (view : L → A) (show : M → B) (R : A → B → Type 0) (xs : List L) (i : ℕ) (x : L) (old new : List M) (y : M) → i < length xs → x ≡ get_or xs i x
+    → new ≡ old ++ y ∷ [] → R (view x) (show y) → AllZip R (map view (take i xs)) (map show old) → AllZip R (map view (take (i + 1) xs)) (map show new)
+read_more view show R xs i x old new y inside is more reads h =
+    let taken : map view (take (i + 1) xs) ≡ map view (take i xs) ++ view x ∷ [] = ap (map view) (take_more xs i x inside ∙ ap (λ z. take i xs ++ z ∷ []) (sym is)) ∙ map-append view (take i xs) (x ∷ []) in
+    let shown : map show new ≡ map show old ++ show y ∷ [] = ap (map show) more ∙ map-append show old (y ∷ []) in
+    subst (λ ls. AllZip R ls (map show new)) (sym taken) (subst (λ ms. AllZip R (map view (take i xs) ++ view x ∷ []) ms) (sym shown) (all_more R (map view (take i xs)) (map show old) (view x) (show y) h reads))
+
+-- all were read
+pub read_all : {L M A B : Type 0} (view : L → A) (show : M → B) (R : A → B → Type 0) (xs : List L) (i : ℕ) (ys : List M) → length xs ≤ i → AllZip R (map view (take i xs)) (map show ys) → AllZip R (map view xs) (map show ys)
+read_all view show R xs i ys end h = subst (λ ls. AllZip R (map view ls) (map show ys)) (take_all i xs end) h
+
+-- an error that is no want of memory has a reason
+pub refused : {F : Type 0} (o : Option F) (P : F → Type 0) → is_none o ≡ false → IfSome o P → (f : F) × P f
+refused None P e h = absurd (true≢false e)
+refused (Some f) P e h = (f, h)
+
+-- a string is rejected for its reason, or an allocation failed
+pub rejected : {Y E F : Type 0} (r : Result Y E) (o : Option F) (P : F → Type 0) (A Q : Y → Type 0) (b : Bool) → b ≡ is_none o → IfSome o P → IfOk r (λ _. b ≡ false) → IfOk r Q → IfOk r (λ y. A y ⊎ ((f : F) × P f × Q y))
+rejected (Ok y) o P A Q b is h memory q = let (f, reason) = refused o P (sym is ∙ memory) h in inr (f, reason, q)
+rejected (Err e) o P A Q b is h memory q = tt
+
+-- ---- what stands before the first of two strings
+
+module _ (double single : List ℕ) where
+  opened : (text : List ℕ) (b : ℕ) (rest : List ℕ) → text ≡ b ∷ rest → opens_with double single text ≡ true → before_first double single text ≡ []
+  opened text b rest is opens = ap (before_first double single) is ∙ ap (λ (c : Bool). if c then [] else b ∷ before_first double single rest) (ap (opens_with double single) (sym is) ∙ opens)
+
+  passed : (text : List ℕ) (b : ℕ) (rest : List ℕ) → text ≡ b ∷ rest → opens_with double single text ≡ false → before_first double single text ≡ b ∷ before_first double single rest
+  passed text b rest is opens = ap (before_first double single) is ∙ ap (λ (c : Bool). if c then [] else b ∷ before_first double single rest) (ap (opens_with double single) (sym is) ∙ opens)
+
+  pub stops : (text total : List ℕ) (at : ℕ) → at < length text → opens_with double single (drop at text) ≡ true → take at text ++ before_first double single (drop at text) ≡ total → take at text ≡ total
+  stops text total at inside opens so =
+      let none = opened (drop at text) (get_or text at 0) (drop (at + 1) text) (drop_more text at 0 inside) opens in
+      sym (append-nil (take at text)) ∙ ap (λ r. take at text ++ r) (sym none) ∙ so
+
+  pub goes_on : (text total : List ℕ) (at : ℕ) → at < length text → opens_with double single (drop at text) ≡ false → take at text ++ before_first double single (drop at text) ≡ total
+      → take (at + 1) text ++ before_first double single (drop (at + 1) text) ≡ total
+  goes_on text total at inside opens so =
+      let more = passed (drop at text) (get_or text at 0) (drop (at + 1) text) (drop_more text at 0 inside) opens in
+      let rest = before_first double single (drop (at + 1) text) in
+      ap (λ t. t ++ rest) (take_more text at 0 inside) ∙ append_assoc (take at text) (get_or text at 0 ∷ []) rest ∙ ap (λ r. take at text ++ r) (sym more) ∙ so

@@ -1,0 +1,88 @@
+-- What a parsed TOML document has to check: the strings of `pyproject.toml`, and the versions of a lock.
+use Rattle.std.specs.Prelude.{ℕ, List, [], ◌∷◌, ◌++◌, Option, Some, None, codes, option_and_then}
+use Rattle.std.specs.List.{flat_map}
+use Rattle.toml.specs.Data.{Data, Items, Members, as_array, as_str, as_table, get, get_member, item, member, no_items, no_members}
+use Rattle.pyver_projects.specs.ProjectStrings.{Build, Dependencies, Extra, Group, LockedPackage, Section, Python, ProjectString, Version}
+
+-- ---- values
+
+abbrev pub items_list : Items → List Data
+items_list no_items = []
+items_list (item d ds) = d ∷ items_list ds
+
+abbrev pub members_list : Members → List (List ℕ × Data)
+members_list no_members = []
+members_list (member k d ms) = (k, d) ∷ members_list ms
+
+-- the value at a key, if there is a table that has it
+abbrev pub inside : List ℕ → Option Data → Option Data
+inside key value = option_and_then (get key) value
+
+abbrev pub items_or_none : Option Items → List Data
+items_or_none None = []
+items_or_none (Some ds) = items_list ds
+
+-- the items, if there is an array
+abbrev pub listed : Option Data → List Data
+listed value = items_or_none (option_and_then as_array value)
+
+abbrev pub members_or_none : Option Members → List (List ℕ × Data)
+members_or_none None = []
+members_or_none (Some ms) = members_list ms
+
+-- the members, if there is a table
+abbrev pub entries : Option Data → List (List ℕ × Data)
+entries value = members_or_none (option_and_then as_table value)
+
+-- the string, if there is one
+abbrev pub text_in : Option Data → Option (List ℕ)
+text_in value = option_and_then as_str value
+
+-- ---- `pyproject.toml`
+
+-- a source, if there is a string
+abbrev pub source_in : Section → Option (List ℕ) → List ProjectString
+source_in section None = []
+source_in section (Some text) = record { section = section; text = text } ∷ []
+
+-- a source, if the value is a string
+abbrev pub source_from : Section → Data → List ProjectString
+source_from section d = source_in section (as_str d)
+
+-- the strings of an array
+abbrev pub array_sources : Section → Option Data → List ProjectString
+array_sources section value = flat_map (source_from section) (listed value)
+
+-- the strings of the array of an extra or of a group
+abbrev pub extra_sources : List ℕ × Data → List ProjectString
+extra_sources e = array_sources (Extra e.0) (Some e.1)
+
+abbrev pub group_sources : List ℕ × Data → List ProjectString
+group_sources e = array_sources (Group e.0) (Some e.1)
+
+-- the strings in the table `project`
+abbrev pub table_sources : Option Data → List ProjectString
+table_sources project = array_sources Dependencies (inside (codes "dependencies") project)
+    ++ (flat_map extra_sources (entries (inside (codes "optional-dependencies") project))
+    ++ (source_in Python (text_in (inside (codes "requires-python") project))
+    ++ source_in Version (text_in (inside (codes "version") project))))
+
+-- the strings of `pyproject.toml`. A group that includes another has no strings of that one: these are checked where they stand
+abbrev pub sources : Members → List ProjectString
+sources document = table_sources (get_member (codes "project") document)
+    ++ (flat_map group_sources (entries (get_member (codes "dependency-groups") document))
+    ++ array_sources Build (inside (codes "requires") (get_member (codes "build-system") document)))
+
+-- ---- locks
+
+-- a package, if it has a name and a version
+abbrev pub locked_in : Option (List ℕ) → Option (List ℕ) → List LockedPackage
+locked_in (Some name) (Some version) = record { name = name; version = version } ∷ []
+locked_in _ _ = []
+
+abbrev pub locked_from : Data → List LockedPackage
+locked_from d = locked_in (text_in (get (codes "name") d)) (text_in (get (codes "version") d))
+
+-- the packages with a version, in the array of tables at this key
+abbrev pub locked : List ℕ → Members → List LockedPackage
+locked key document = flat_map locked_from (listed (get_member key document))

@@ -1,0 +1,11 @@
+pub mod ProjectStrings
+pub mod Documents
+pub mod ProjectViews
+pub mod Locks
+pub mod Meanings
+pub mod Comparing
+pub mod ProjectLaws
+pub mod ValueViews
+pub mod Places
+pub mod ReadViews
+pub mod DocumentKinds
