@@ -22,51 +22,24 @@ typedef struct {
     PyObject *held; /* the strings that are not items */
     size_t count;
     pep440_string *texts;
-    uint8_t *copies; /* the compiled forms of the items, where the texts are these */
 } Batch;
 
 static void drop(Batch *batch)
 {
     PyMem_Free(batch->texts);
-    PyMem_Free(batch->copies);
     Py_XDECREF(batch->items);
     Py_XDECREF(batch->held);
 }
 
 static PyObject *item(const Batch *batch, size_t place) { return PyTuple_GetItem(batch->items, (Py_ssize_t)place); }
 
-static int is_version(const Batch *batch, size_t place) { return PyObject_TypeCheck(item(batch, place), HeldType); }
-
-/* Lets the texts be copies of the compiled forms; each item is a version. */
-static int copy_compiled(Batch *batch)
-{
-    size_t length = 1;
-    uint8_t *end;
-    for (size_t place = 0; place < batch->count; place++) {
-        if (look_at(place) < 0 || !is_initialised((Held *)item(batch, place)))
-            return -1;
-        length += ((Held *)item(batch, place))->length;
-    }
-    batch->copies = end = PyMem_Malloc(length);
-    for (size_t place = 0; end && place < batch->count; place++) {
-        const Held *version = (Held *)item(batch, place);
-        memcpy(end, version->compiled, version->length);
-        batch->texts[place].bytes = end;
-        batch->texts[place].length = version->length;
-        end += version->length;
-    }
-    if (!end)
-        PyErr_NoMemory();
-    return end ? 0 : -1;
-}
-
 /* Lets the texts be those of the items, which are held where they are others. */
 static int hold_texts(Batch *batch)
 {
     batch->held = PyList_New(0);
     for (size_t place = 0; batch->held && place < batch->count; place++) {
-        PyObject *text = text_of(item(batch, place));
-        int done = text && look_at(place) == 0 ? view_str(text, &batch->texts[place]) : -1;
+        PyObject *text = text_of(item(batch, place), &batch->texts[place]);
+        int done = text ? look_at(place) : -1;
         if (done == 0 && text != item(batch, place))
             done = PyList_Append(batch->held, text);
         Py_XDECREF(text);
@@ -76,21 +49,17 @@ static int hold_texts(Batch *batch)
     return batch->held ? 0 : -1;
 }
 
-/* Takes the compiled form of each item where all are versions and the call is for these, else the string of each. */
-static int gather(PyObject *given, int may_be_compiled, Batch *batch)
+static int gather(PyObject *given, Batch *batch)
 {
-    size_t versions = 0;
     memset(batch, 0, sizeof *batch);
     batch->items = PySequence_Tuple(given);
     if (!batch->items)
         return -1;
     batch->count = (size_t)PyTuple_Size(batch->items);
-    while (may_be_compiled && versions < batch->count && is_version(batch, versions))
-        versions++;
     batch->texts = PyMem_Calloc(batch->count + 1, sizeof *batch->texts); /* never a null pointer, also of no text */
     if (!batch->texts)
         PyErr_NoMemory();
-    else if ((may_be_compiled && versions == batch->count ? copy_compiled(batch) : hold_texts(batch)) == 0)
+    else if (hold_texts(batch) == 0)
         return 0;
     drop(batch);
     return -1;
@@ -149,7 +118,7 @@ static PyObject *keep_contained(PyObject *self, PyObject *const *args, Py_ssize_
     int prereleases, skip;
     PyObject *kept;
     if (!has_count("_kept", count, 3) || !is_compiled((Specifiers *)self) || (prereleases = PyObject_IsTrue(args[1])) < 0 ||
-        (skip = PyObject_IsTrue(args[2])) < 0 || gather(args[0], 0, &batch) < 0)
+        (skip = PyObject_IsTrue(args[2])) < 0 || gather(args[0], &batch) < 0)
         return NULL;
     copy = copy_list((Specifiers *)self, &list);
     if (copy && (marks = PyMem_Calloc(batch.count + 1, 1)))
@@ -177,15 +146,6 @@ static void drop_keys(Keys *keys, size_t count)
     free(keys->spare);
 }
 
-/* Takes the key in compiled bytes: behind the first one, and without those that stand for zeros at the end of the release. */
-static void take_key(Keyed *keyed, const uint8_t *compiled, size_t length)
-{
-    while (compiled[length - 1] == 1)
-        length--;
-    keyed->key = compiled + 1;
-    keyed->length = length - 1;
-}
-
 /* Sets the words of some strings, which are in the order of their versions. PEP440_NOT_PACKED where one has none. */
 static uint8_t read_words(const Batch *batch, size_t start, size_t end, Keyed *keyed, size_t *at)
 {
@@ -211,7 +171,8 @@ static uint8_t read_keys(const Batch *batch, size_t start, size_t end, Keyed *ke
         status = pep440_compile(batch->texts[*at].bytes, batch->texts[*at].length, bytes, room, &length);
         if (status != PEP440_OK)
             return status;
-        take_key(&keyed[*at - start], bytes, length);
+        keyed[*at - start].key = bytes + 1;
+        keyed[*at - start].length = key_length(bytes + 1, length - 1);
         bytes += length;
         room -= length;
     }
@@ -224,10 +185,7 @@ static uint8_t read_all(const Batch *batch, Keys *keys, int by_word, size_t *at,
     uint8_t status = PEP440_OK;
     for (size_t start = 0; status == PEP440_OK && start < batch->count; start += CHUNK) {
         size_t end = batch->count - start < CHUNK ? batch->count : start + CHUNK;
-        if (batch->copies)
-            for (size_t place = start; place < end; place++)
-                take_key(&keys->keyed[place], batch->texts[place].bytes, batch->texts[place].length);
-        else if (by_word)
+        if (by_word)
             status = read_words(batch, start, end, keys->keyed, at);
         else
             status = read_keys(batch, start, end, keys->keyed + start, &keys->blocks[start / CHUNK], at);
@@ -274,7 +232,7 @@ static PyObject *sort(PyObject *module, PyObject *given)
     size_t at = 0;
     uint8_t status;
     PyObject *sorted;
-    if (gather(given, 1, &batch) < 0)
+    if (gather(given, &batch) < 0)
         return NULL;
     status = sort_batch(&batch, &keys, &at);
     sorted = status == PEP440_OK ? in_order(&batch, keys.keyed)
@@ -310,7 +268,7 @@ static PyObject *sort_keys(PyObject *module, PyObject *given)
     Batch batch;
     Keyed *keyed;
     PyObject *list;
-    if (gather(given, 0, &batch) < 0)
+    if (gather(given, &batch) < 0)
         return NULL;
     keyed = PyMem_Calloc(CHUNK, sizeof *keyed);
     list = keyed ? PyList_New(0) : PyErr_NoMemory();

@@ -1,8 +1,8 @@
 /* What the package asks of the proved library (callers/c/pep440.h), and the types that hold what it made of a string: a version, a specifier
-   and a set of specifiers, each with its compiled bytes.
+   and a set of specifiers.
 
-   Nothing here is proved, so it only carries: strings to the library, its results back, a status into an exception. A string is parsed once,
-   where its object is made. Where a list is split and when a pre-release is allowed stands here too, as `packaging` has it. */
+   Nothing here is proved, so it only carries: strings to the library, its results back, a status into an exception. Where a list is split, when a
+   pre-release is allowed, and what a requirement consists of stands here too, as `packaging` has it. */
 #define PY_SSIZE_T_CLEAN
 #define Py_LIMITED_API 0x030A0000
 #include <Python.h>
@@ -14,6 +14,8 @@
 
 #include "pep440.h"
 
+#include "_vectorcall.h"
+
 /* What they share comes first; each is included here alone. */
 #include "_strings.h"
 #include "_versions.h"
@@ -21,6 +23,7 @@
 #include "_sets.h"
 #include "_sorting.h"
 #include "_batches.h"
+#include "_requirements.h"
 
 /* ---- the types of specifiers, and the module */
 
@@ -141,6 +144,8 @@ static PyMethodDef calls[] = {
     {"make_members_of", make_members_of, METH_O, "From now on the members of sets are of this class."},
     {"make_sets_of", make_sets_of, METH_O, "From now on what is made of two sets is of this class."},
     {"read_others_by", read_others_by, METH_O, "From now on this gives the strings of other libraries' versions."},
+    {"read_requirement", CALL(read_requirement), METH_FASTCALL, "The parts of a requirement, or None where its tokens are to be read."},
+    {"read_marker", CALL(read_marker), METH_FASTCALL, "The comparisons of a marker, or None where its tokens are to be read."},
     {"sort", sort, METH_O, "The items in the order of their versions."},
     {"sort_keys", sort_keys, METH_O, "The sort key of each item."},
     {NULL, NULL, 0, NULL}};
@@ -193,6 +198,9 @@ static int execute(PyObject *module)
         add_type(module, &HeldSetType, &set_spec) < 0 ||
         add_error(module, &InvalidVersion, "pep440_rattle.version.InvalidVersion", "A string is no version.") < 0)
         return -1;
+    if (!first_new)
+        first_new = PyType_GetSlot(HeldType, Py_tp_new);
+    set_vectorcall(HeldType, held_call);
     return add_error(module, &InvalidSpecifier, "pep440_rattle.specifiers.InvalidSpecifier", "A string is no specifier.");
 }
 

@@ -15,56 +15,80 @@ static int compare_placed(const void *left, const void *right)
     return order ? order : (one->place > other->place) - (one->place < other->place);
 }
 
-/* The compiled list of the members but those with `===`: theirs, one after the other in the order of their versions. To be freed. */
-static uint8_t *assemble(PyObject *members, size_t *length)
+enum { FEW_MEMBERS = 8, FEW_BYTES = 256 };
+
+/* Places the members in the order of their versions, but for those with `===`, and finds the length of their list. */
+static size_t place_members(PyObject *members, Placed *placed, size_t *length)
 {
-    size_t all = (size_t)PyTuple_Size(members), count = 0;
-    Placed *sorted = PyMem_Calloc(all + 1, sizeof *sorted);
-    uint8_t *list = NULL, *end;
+    size_t count = 0, in_order = 1, all = (size_t)PyTuple_Size(members);
     *length = LIST_HEAD;
-    for (size_t place = 0; sorted && place < all; place++) {
+    for (size_t place = 0; place < all; place++) {
         const Specifiers *member = (Specifiers *)PyTuple_GetItem(members, (Py_ssize_t)place);
         if (is_arbitrary(member))
             continue;
-        sorted[count++] = (Placed){member, place};
+        placed[count++] = (Placed){member, place};
         *length += member->length - LIST_HEAD;
     }
-    if (sorted && (list = PyMem_Malloc(*length))) {
-        qsort(sorted, count, sizeof *sorted, compare_placed);
+    while (in_order < count && compare_placed(placed + in_order - 1, placed + in_order) < 0)
+        in_order++;
+    if (in_order < count)
+        qsort(placed, count, sizeof *placed, compare_placed);
+    return count;
+}
+
+/* Takes the members, a tuple. The compiled list is theirs, one after the other. */
+static int take_members(Specifiers *self, PyObject *members, PyObject *said)
+{
+    size_t all = (size_t)PyTuple_Size(members), count, length = 0;
+    Placed few[FEW_MEMBERS], *placed = all <= FEW_MEMBERS ? few : PyMem_Calloc(all, sizeof *placed);
+    uint8_t few_bytes[FEW_BYTES], *list = NULL, *end;
+    int done = -1;
+    if (placed) {
+        count = place_members(members, placed, &length);
+        list = length <= FEW_BYTES ? few_bytes : PyMem_Malloc(length);
+    }
+    if (list) {
         list[0] = LIST;
         end = list + LIST_HEAD;
         for (size_t turn = 0; turn < count; turn++) {
-            size_t size = sorted[turn].member->length - LIST_HEAD;
-            memcpy(end, sorted[turn].member->compiled + LIST_HEAD, size);
+            size_t size = placed[turn].member->length - LIST_HEAD;
+            memcpy(end, placed[turn].member->compiled + LIST_HEAD, size);
             end += size;
         }
-    }
-    PyMem_Free(sorted);
-    if (!list)
+        done = take(self, NULL, Py_NewRef(members), said, list, length);
+    } else
         PyErr_NoMemory();
-    return list;
+    if (placed != few)
+        PyMem_Free(placed);
+    if (list != few_bytes)
+        PyMem_Free(list);
+    return done;
 }
 
-/* The specifier of a piece of a string, or of another one that is given, which is a member as it is. */
-static PyObject *member_of(PyObject *given)
+/* The specifier of a str. */
+static PyObject *make_member(PyObject *text)
 {
-    PyObject *made;
-    if (PyObject_TypeCheck(given, HeldSpecifierType))
-        return is_compiled((Specifiers *)given) ? Py_NewRef(given) : NULL;
-    if (!PyUnicode_Check(given))
-        return PyObject_CallFunctionObjArgs(member_class, given, NULL);
-    made = PyType_GenericAlloc((PyTypeObject *)member_class, 0);
-    if (made && read_specifier((Specifiers *)made, given, Py_None) < 0)
+    PyObject *made = PyType_GenericAlloc((PyTypeObject *)member_class, 0);
+    if (made && read_specifier((Specifiers *)made, text, Py_None) < 0)
         Py_CLEAR(made);
     return made;
+}
+
+/* The same of a specifier that is given, which is a member as it is. */
+static PyObject *member_of(PyObject *given)
+{
+    if (PyObject_TypeCheck(given, HeldSpecifierType))
+        return is_compiled((Specifiers *)given) ? Py_NewRef(given) : NULL;
+    return PyUnicode_Check(given) ? make_member(given) : PyObject_CallFunctionObjArgs(member_class, given, NULL);
 }
 
 /* Adds the member of a piece of a string, unless this is empty. */
 static int add_piece(PyObject *list, PyObject *given)
 {
-    PyObject *piece = stripped(given), *member = NULL;
+    pep440_string string;
+    PyObject *piece = stripped(given, &string), *member = NULL;
     int done = piece ? 0 : -1;
-    if (piece && PyUnicode_GetLength(piece) && (!(member = member_of(piece)) || PyList_Append(list, member) < 0))
+    if (piece && PyUnicode_GetLength(piece) && (!(member = make_member(piece)) || PyList_Append(list, member) < 0))
         done = -1;
     Py_XDECREF(piece);
     Py_XDECREF(member);
@@ -107,8 +131,6 @@ static int add_members(PyObject *list, PyObject *given)
 static int set_init(Specifiers *self, PyObject *args, PyObject *named)
 {
     PyObject *given = NULL, *said = Py_None, *list, *members = NULL;
-    uint8_t *bytes = NULL;
-    size_t length;
     int done = -1;
     if (init_arguments(args, named, "specifiers", "|OO:SpecifierSet", &given, &said) < 0 || !(list = PyList_New(0)))
         return -1;
@@ -116,10 +138,7 @@ static int set_init(Specifiers *self, PyObject *args, PyObject *named)
         members = PyList_AsTuple(list);
     Py_DECREF(list);
     if (members)
-        bytes = assemble(members, &length);
-    if (bytes)
-        done = take(self, NULL, Py_NewRef(members), said, bytes, length);
-    PyMem_Free(bytes);
+        done = take_members(self, members, said);
     Py_XDECREF(members);
     return done;
 }
@@ -127,7 +146,7 @@ static int set_init(Specifiers *self, PyObject *args, PyObject *named)
 /* The members of both, equal ones too. */
 static PyObject *joined_members(Specifiers *one, Specifiers *two)
 {
-    PyObject *left = PySequence_List(one->members), *right = PySequence_List(two->members), *both = NULL;
+    PyObject *left = PySequence_Tuple(one->members), *right = PySequence_Tuple(two->members), *both = NULL;
     if (left && right)
         both = PySequence_Concat(left, right);
     Py_XDECREF(left);
@@ -138,10 +157,11 @@ static PyObject *joined_members(Specifiers *one, Specifiers *two)
 /* The members of both sets, or of a set and a string, as a plain set: with what one of them says of pre-releases, which the other may not gainsay. */
 static PyObject *set_and(PyObject *left, PyObject *right)
 {
-    PyObject *other, *said, *given = NULL, *made = NULL;
+    PyObject *other, *said, *members = NULL, *made = NULL;
     Specifiers *one = (Specifiers *)left, *two;
     int differ;
-    if (!PyObject_TypeCheck(left, HeldSetType) || !(PyUnicode_Check(right) || PyObject_TypeCheck(right, HeldSetType)))
+    if (Py_TYPE(left) != Py_TYPE(right) && /* of two of one type both are sets, since it has this call */
+        (!PyObject_TypeCheck(left, HeldSetType) || !(PyUnicode_Check(right) || PyObject_TypeCheck(right, HeldSetType))))
         Py_RETURN_NOTIMPLEMENTED;
     other = PyUnicode_Check(right) ? PyObject_CallFunctionObjArgs(set_class, right, NULL) : Py_NewRef(right);
     two = (Specifiers *)other;
@@ -154,10 +174,12 @@ static PyObject *set_and(PyObject *left, PyObject *right)
     if (differ > 0)
         PyErr_SetString(PyExc_ValueError, "Cannot combine SpecifierSets with True and False prerelease overrides.");
     else if (differ == 0)
-        given = joined_members(one, two);
-    if (given)
-        made = PyObject_CallFunctionObjArgs(set_class, given, said, NULL);
-    Py_XDECREF(given);
+        members = joined_members(one, two);
+    if (members)
+        made = PyType_GenericAlloc((PyTypeObject *)set_class, 0);
+    if (made && take_members((Specifiers *)made, members, said) < 0)
+        Py_CLEAR(made);
+    Py_XDECREF(members);
     Py_DECREF(other);
     return made;
 }

@@ -39,7 +39,7 @@ static int is_compiled(const Specifiers *self)
 /* Takes what a string was made into: the references, and a copy of the bytes, which are not its own. Drops what was there before. */
 static int take(Specifiers *self, PyObject *text, PyObject *members, PyObject *said, const uint8_t *bytes, size_t length)
 {
-    uint8_t *old_block = self->compiled == self->few ? NULL : self->compiled, *kept = keep(bytes, length, self->few, sizeof self->few);
+    uint8_t *old_bytes = self->compiled, *kept = keep(bytes, length, self->few, sizeof self->few);
     PyObject *old[] = {self->text, self->members, self->canonical, self->said};
     if (!kept) {
         Py_XDECREF(text);
@@ -51,8 +51,9 @@ static int take(Specifiers *self, PyObject *text, PyObject *members, PyObject *s
     self->length = length;
     self->text = text, self->members = members, self->canonical = NULL, self->said = Py_NewRef(said);
     self->asked_at = -1, self->allows = -1, self->changed = -1;
-    free(old_block);
-    for (int each = 0; each < 4; each++)
+    if (old_bytes && old_bytes != self->few)
+        free(old_bytes);
+    for (int each = 0; old_bytes && each < 4; each++)
         Py_XDECREF(old[each]);
     return 0;
 }
@@ -101,32 +102,38 @@ static void read_head(PyObject *text, pep440_string view, uint8_t head[3])
 /* How many characters the operator in front has; of one to three, all but `<` and `>` have a `=` at their ends. */
 static size_t operator_width(PyObject *text, pep440_string view)
 {
-    uint8_t head[3];
-    read_head(text, view, head);
+    uint8_t few[3];
+    const uint8_t *head = view.bytes;
+    if (view.length < sizeof few || view.bytes == NO_TEXT) {
+        read_head(text, view, few);
+        head = few;
+    }
     if (head[1] != '=')
         return view.length > 0;
     return head[0] == '=' && head[2] == '=' ? ARBITRARY : 2;
 }
 
-/* The specifier as it prints: without white space behind its operator. It stays where this is no operator, which a `=` behind the space makes longer. */
-static PyObject *joined(PyObject *text)
+/* The specifier as it prints, and the view of it and the width of its operator: without white space behind this. It stays where this is no operator,
+   which a `=` behind the space makes longer. */
+static PyObject *joined(PyObject *text, pep440_string *view, size_t *width)
 {
-    pep440_string string;
-    size_t width;
+    pep440_string behind;
     PyObject *operator, *rest, *version, *made = NULL;
-    if (view_str(text, &string) < 0)
-        return NULL;
-    width = operator_width(text, string);
-    if (width == (size_t)PyUnicode_GetLength(text) || (string.bytes != NO_TEXT && string.bytes[width] > ' ' && string.bytes[width] < 127))
+    *width = operator_width(text, *view);
+    if (*width < view->length && view->bytes != NO_TEXT && view->bytes[*width] > ' ' && view->bytes[*width] < 127)
         return Py_NewRef(text);
-    operator = PyUnicode_Substring(text, 0, (Py_ssize_t)width);
-    rest = PyUnicode_Substring(text, (Py_ssize_t)width, PY_SSIZE_T_MAX);
-    version = rest ? stripped(rest) : NULL;
+    if (*width == (size_t)PyUnicode_GetLength(text))
+        return Py_NewRef(text);
+    operator = PyUnicode_Substring(text, 0, (Py_ssize_t)*width);
+    rest = PyUnicode_Substring(text, (Py_ssize_t)*width, PY_SSIZE_T_MAX);
+    version = rest ? stripped(rest, &behind) : NULL;
     if (operator && version)
-        made = width < ARBITRARY && PyUnicode_ReadChar(version, 0) == '=' ? Py_NewRef(text) : PyUnicode_Concat(operator, version);
+        made = *width < ARBITRARY && PyUnicode_ReadChar(version, 0) == '=' ? Py_NewRef(text) : PyUnicode_Concat(operator, version);
     Py_XDECREF(operator);
     Py_XDECREF(rest);
     Py_XDECREF(version);
+    if (made && view_str(made, view) < 0)
+        Py_CLEAR(made);
     return made;
 }
 
@@ -171,9 +178,9 @@ static int is_any_text(PyObject *print)
 /* Compiles a specifier as the list of it alone, and one with `===` as the list of nothing, since any text may stand there: Python compares it. Where a
    version stands behind another operator this is compiled, which takes a third of the time. All else the library compiles as a list: a star, and what
    is none. Both make the same bytes (tested by tests/test_rows.py). */
-static uint8_t compile_specifier(PyObject *print, pep440_string text, Compiled *compiled)
+static uint8_t compile_specifier(PyObject *print, pep440_string text, size_t width, Compiled *compiled)
 {
-    size_t width = operator_width(print, text), place = 0;
+    size_t place = 0;
     pep440_string version = {text.bytes + width, text.length - width};
     int is_any = width == ARBITRARY ? is_any_text(print) : 0;
     uint8_t status;
@@ -212,14 +219,17 @@ static void raise_invalid_specifier(PyObject *given, PyObject *text)
 /* Reads a string, which may be NULL in place of an empty one. */
 static int read_specifier(Specifiers *self, PyObject *given, PyObject *said)
 {
-    PyObject *text = given ? stripped(given) : PyUnicode_FromString(""), *print;
     pep440_string string;
+    PyObject *text = given ? stripped(given, &string) : PyUnicode_FromString(""), *print;
     Compiled compiled;
+    size_t width;
     uint8_t status;
     int done = -1;
-    print = text ? joined(text) : NULL;
-    if (print && view_str(print, &string) == 0) {
-        status = compile_specifier(print, string, &compiled);
+    if (!given)
+        string = (pep440_string){NULL, 0};
+    print = text ? joined(text, &string, &width) : NULL;
+    if (print) {
+        status = compile_specifier(print, string, width, &compiled);
         if (status == PEP440_OK) {
             done = take(self, Py_NewRef(print), NULL, said, compiled.bytes, compiled.length);
             drop_compiled(&compiled);
@@ -287,7 +297,7 @@ static PyObject *key_or_text(Specifiers *self, PyObject *text)
     PyObject *key;
     if (status != PEP440_OK)
         return status == PEP440_INVALID_VERSION ? Py_NewRef(text) : raise_by(status, NULL, NULL);
-    key = made_of(pep440_sort_key, compiled.bytes, compiled.length, PyBytes_FromStringAndSize);
+    key = key_in(compiled.bytes, compiled.length);
     drop_compiled(&compiled);
     return key;
 }
@@ -316,7 +326,7 @@ static int assign_spec(Specifiers *self, PyObject *value, void *unused)
 static PyObject *canonical_of(Specifiers *self)
 {
     PyObject *spec = spec_of(self), *version;
-    const char *key = (const char *)self->compiled + MEMBER_HEAD;
+    const uint8_t *key = self->compiled + MEMBER_HEAD;
     size_t length = self->length - MEMBER_HEAD;
     if (!spec || self->canonical)
         return self->canonical;
@@ -326,9 +336,9 @@ static PyObject *canonical_of(Specifiers *self)
     else if (PyUnicode_ReadChar(version, PyUnicode_GetLength(version) - 1) == '*')
         version = Py_NewRef(version);
     else {
-        while (PyUnicode_ReadChar(self->text, 0) != '~' && key[length - 1] == 1)
-            length--;
-        version = PyBytes_FromStringAndSize(key, (Py_ssize_t)length);
+        if (PyUnicode_ReadChar(self->text, 0) != '~')
+            length = key_length(key, length);
+        version = PyBytes_FromStringAndSize((const char *)key, (Py_ssize_t)length);
     }
     return version ? kept_in(&self->canonical, Py_BuildValue("ON", PyTuple_GetItem(spec, 0), version)) : NULL;
 }
@@ -489,11 +499,11 @@ static PyObject *get_is_by_python(Specifiers *self, void *unused)
 /* Whether the version of a string, or of what has one, is contained: it is compiled first, since of two compiled forms the library answers in place. */
 static uint8_t contains_text(const Specifiers *self, PyObject *item, uint8_t *contained, uint8_t *early)
 {
-    PyObject *text = text_of(item);
     pep440_string string;
+    PyObject *text = text_of(item, &string);
     Compiled compiled;
     uint8_t status = PEP440_OUT_OF_MEMORY;
-    if (text && view_str(text, &string) == 0)
+    if (text)
         status = compile(pep440_compile, string, 0, &compiled);
     if (status == PEP440_OK) {
         status = pep440_contains(self->compiled, self->length, compiled.bytes, compiled.length, contained, early);
@@ -506,11 +516,11 @@ static uint8_t contains_text(const Specifiers *self, PyObject *item, uint8_t *co
 /* 1, 0, or -1 with an error. */
 static int contains(Specifiers *self, PyObject *item, PyObject *prereleases)
 {
-    const Held *version = (Held *)item;
+    Held *version = (Held *)item;
     uint8_t contained, early, status = PEP440_OUT_OF_MEMORY;
     if (!PyObject_TypeCheck(item, HeldType))
         status = contains_text(self, item, &contained, &early);
-    else if (is_initialised(version))
+    else if (version->compiled || compile_held(version) == 0)
         status = pep440_contains(self->compiled, self->length, version->compiled, version->length, &contained, &early);
     if (status != PEP440_OK) {
         raise_by(status, item, NULL);

@@ -3,8 +3,8 @@
 static PyObject *InvalidVersion, *InvalidSpecifier;
 static PyTypeObject *HeldType, *HeldSpecifierType, *HeldSetType;
 
-/* A version: its string as it was given, its compiled form, and what was asked for before: its sort key, its parts, and its prints
-   (normalized, public, base, local). `text` is NULL until `__init__` has read a string. */
+/* A version: its string as it was given, its word where it has one, and what was asked for before: its compiled form, its sort key, its parts, and its
+   prints (normalized, public, base, local). `text` is NULL until `__init__` has read a string. */
 typedef struct {
     PyObject_HEAD
     PyObject *text;
@@ -13,8 +13,10 @@ typedef struct {
     PyObject *prints;
     uint8_t *compiled; /* `few`, or a block of its own */
     size_t length;
-    uint8_t few[32];
-    char has_own_key;  /* a key was set */
+    uint64_t word;
+    char is_by_word;  /* it is compared by its word */
+    char has_own_key; /* a key was set */
+    uint8_t few[38];
 } Held;
 
 /* The forms (docs/PROMISES.md, "Compiled versions"): a version is a byte, its sort key, and a byte 1 for each zero that ends its release; a list is a
@@ -59,14 +61,16 @@ static int view_str(PyObject *given, pep440_string *text)
     return 0;
 }
 
-/* The str without white space at its ends, as str.strip has it. */
-static PyObject *stripped(PyObject *given)
+/* The str without white space at its ends, as str.strip has it, and its bytes. */
+static PyObject *stripped(PyObject *given, pep440_string *view)
 {
     Py_ssize_t length = 0;
-    PyObject *text = PyUnicode_FromObject(given), *made; /* of a subclass of str the plain str */
+    PyObject *text = PyUnicode_CheckExact(given) ? Py_NewRef(given) : PyUnicode_FromObject(given), *made; /* of a subclass of str the plain str */
     const char *bytes = text ? PyUnicode_AsUTF8AndSize(text, &length) : NULL;
-    if (bytes && length && bytes[0] > ' ' && bytes[0] < 127 && bytes[length - 1] > ' ' && bytes[length - 1] < 127)
+    if (bytes && (!length || (bytes[0] > ' ' && bytes[0] < 127 && bytes[length - 1] > ' ' && bytes[length - 1] < 127))) {
+        *view = (pep440_string){(const uint8_t *)bytes, (size_t)length};
         return text;
+    }
     if (!text || (!bytes && !PyErr_ExceptionMatches(PyExc_UnicodeEncodeError))) {
         Py_XDECREF(text);
         return NULL;
@@ -74,22 +78,24 @@ static PyObject *stripped(PyObject *given)
     PyErr_Clear();
     made = PyObject_CallMethod(text, "strip", NULL);
     Py_DECREF(text);
+    if (made && view_str(made, view) < 0)
+        Py_CLEAR(made);
     return made;
 }
 
 /* What gives the string of another library's version, or raises TypeError: set by the module of versions. */
 static PyObject *reader_of_others;
 
-/* The string that is read of what is given for a version. */
-static PyObject *text_of(PyObject *given)
+/* The string that is read of what is given for a version, and its bytes. */
+static PyObject *text_of(PyObject *given, pep440_string *view)
 {
     PyObject *text, *made;
     if (PyUnicode_Check(given))
-        return stripped(given);
+        return stripped(given, view);
     if (PyObject_TypeCheck(given, HeldType))
-        return is_initialised((Held *)given) ? Py_NewRef(((Held *)given)->text) : NULL;
+        return is_initialised((Held *)given) && view_str(((Held *)given)->text, view) == 0 ? Py_NewRef(((Held *)given)->text) : NULL;
     text = PyObject_CallFunctionObjArgs(reader_of_others, given, NULL);
-    made = text ? stripped(text) : NULL;
+    made = text ? stripped(text, view) : NULL;
     Py_XDECREF(text);
     return made;
 }
@@ -178,6 +184,19 @@ static const uint8_t EMPTY_LIST[LIST_HEAD] = {LIST};
 static int compare_forms(const uint8_t *left, size_t left_length, const uint8_t *right, size_t right_length)
 {
     return memcmp(left, right, left_length < right_length ? left_length : right_length);
+}
+
+/* The length of the sort key in what follows a form's first byte: without the bytes that stand for zeros at the end of the release. */
+static size_t key_length(const uint8_t *key, size_t length)
+{
+    while (key[length - 1] == 1)
+        length--;
+    return length;
+}
+
+static PyObject *key_in(const uint8_t *compiled, size_t length)
+{
+    return PyBytes_FromStringAndSize((const char *)compiled + 1, (Py_ssize_t)key_length(compiled + 1, length - 1));
 }
 
 /* What is read in a sort key: how many numbers the release has without the zeros at its end, where the local part lies, and whether it is of a

@@ -1,61 +1,134 @@
 /* The type of versions. */
 
-/* Reads the string, also where one was read before. The old one stays where this one is no version. */
-static int held_init(Held *self, PyObject *args, PyObject *named)
+static void drop_block(Held *self)
 {
-    static char *names[] = {"version", NULL};
-    PyObject *given = NULL, *text = NULL, *old[4];
+    if (self->compiled != self->few)
+        free(self->compiled);
+    self->compiled = NULL;
+}
+
+/* Takes the string in place of the one that was read before, of which nothing stays. */
+static void replace_text(Held *self, PyObject *text)
+{
+    PyObject *old[] = {self->text, self->key, self->parts, self->prints};
+    drop_block(self);
+    self->text = text, self->key = NULL, self->parts = NULL, self->prints = NULL;
+    for (int each = 0; each < 4; each++)
+        Py_XDECREF(old[each]);
+}
+
+/* Reads the string, also where one was read before. The old one stays where this one is no version. */
+static int read_version(Held *self, PyObject *given)
+{
+    PyObject *text;
     pep440_string string;
-    Compiled compiled;
-    uint8_t *kept, *old_block, status;
-    if (!named && PyTuple_Size(args) == 1)
-        given = PyTuple_GetItem(args, 0);
-    else if (!PyArg_ParseTupleAndKeywords(args, named, "O:Version", names, &given))
-        return -1;
-    if (!PyUnicode_Check(given)) {
+    uint64_t word = 0;
+    uint8_t status;
+    if (!PyUnicode_CheckExact(given) && !PyUnicode_Check(given)) {
         PyErr_Format(PyExc_TypeError, "expected a str, not %R", Py_TYPE(given));
         return -1;
     }
-    text = stripped(given);
-    if (!text || view_str(text, &string) < 0) {
-        Py_XDECREF(text);
+    text = stripped(given, &string);
+    if (!text)
         return -1;
-    }
-    status = compile(pep440_compile, string, 0, &compiled);
-    if (status != PEP440_OK) {
+    status = pep440_word(string.bytes, string.length, &word);
+    if (status != PEP440_OK && status != PEP440_NOT_PACKED) {
         Py_DECREF(text);
         raise_by(status, given, NULL);
         return -1;
     }
-    old_block = self->compiled == self->few ? NULL : self->compiled;
-    kept = keep(compiled.bytes, compiled.length, self->few, sizeof self->few);
-    drop_compiled(&compiled);
-    if (!kept) {
-        Py_DECREF(text);
-        PyErr_NoMemory();
-        return -1;
-    }
-    old[0] = self->text, old[1] = self->key, old[2] = self->parts, old[3] = self->prints;
-    self->compiled = kept;
-    self->length = compiled.length;
+    self->word = word;
+    self->is_by_word = status == PEP440_OK;
     self->has_own_key = 0;
-    self->text = text, self->key = NULL, self->parts = NULL, self->prints = NULL;
-    free(old_block);
-    for (int each = 0; each < 4; each++)
-        Py_XDECREF(old[each]);
+    if (self->text)
+        replace_text(self, text);
+    else
+        self->text = text;
     return 0;
+}
+
+static int held_init(Held *self, PyObject *args, PyObject *named)
+{
+    static char *names[] = {"version", NULL};
+    PyObject *given = NULL;
+    if (!named && PyTuple_Size(args) == 1)
+        given = PyTuple_GetItem(args, 0);
+    else if (!PyArg_ParseTupleAndKeywords(args, named, "O:Version", names, &given))
+        return -1;
+    return read_version(self, given);
+}
+
+/* Calls a type as all are called. */
+__attribute__((noinline)) static PyObject *call_type(PyObject *type, PyObject *const *args, Py_ssize_t count, PyObject *names)
+{
+    ternaryfunc call = (ternaryfunc)PyType_GetSlot(&PyType_Type, Py_tp_call);
+    Py_ssize_t more = names ? PyTuple_Size(names) : 0;
+    PyObject *given = PyTuple_New(count), *named = more ? PyDict_New() : NULL, *made = NULL;
+    int done = given && (named || !more) ? 0 : -1;
+    for (Py_ssize_t at = 0; done == 0 && at < count; at++)
+        done = PyTuple_SetItem(given, at, Py_NewRef(args[at]));
+    for (Py_ssize_t at = 0; done == 0 && at < more; at++)
+        done = PyDict_SetItem(named, PyTuple_GetItem(names, at), args[count + at]);
+    if (done == 0)
+        made = call(type, given, named);
+    Py_XDECREF(given);
+    Py_XDECREF(named);
+    return made;
+}
+
+/* `Version.__new__`, as it is unless a program replaces it. */
+static void *first_new;
+
+/* Version(string) without a tuple; subclasses are not called by this. The highest bit of the count is the caller's. */
+static PyObject *held_call(PyObject *type, PyObject *const *args, size_t flagged_count, PyObject *names)
+{
+    size_t count = flagged_count & (SIZE_MAX >> 1);
+    PyTypeObject *own = (PyTypeObject *)type;
+    Held *made;
+    if (count != 1 || names || PyType_GetSlot(own, Py_tp_init) != (void *)held_init || PyType_GetSlot(own, Py_tp_new) != first_new)
+        return call_type(type, args, (Py_ssize_t)count, names);
+    made = PyObject_New(Held, own);
+    if (!made)
+        return NULL;
+    made->text = made->key = made->parts = made->prints = NULL;
+    made->compiled = NULL;
+    made->has_own_key = made->is_by_word = 0;
+    if (read_version(made, args[0]) < 0)
+        Py_CLEAR(made);
+    return (PyObject *)made;
+}
+
+/* Compiles it where it has not been yet; of its word nothing else can be made. 0, or -1 with an error. */
+static int compile_held(Held *self)
+{
+    pep440_string string;
+    Compiled compiled;
+    uint8_t status = PEP440_OUT_OF_MEMORY;
+    if (self->compiled)
+        return 0;
+    if (!is_initialised(self))
+        return -1;
+    if (view_str(self->text, &string) == 0)
+        status = compile(pep440_compile, string, 0, &compiled);
+    if (status == PEP440_OK) {
+        self->compiled = keep(compiled.bytes, compiled.length, self->few, sizeof self->few);
+        self->length = compiled.length;
+        drop_compiled(&compiled);
+    }
+    if (!self->compiled)
+        raise_by(status == PEP440_OK ? PEP440_OUT_OF_MEMORY : status, NULL, NULL);
+    return self->compiled ? 0 : -1;
 }
 
 static void held_free(Held *self)
 {
-    PyTypeObject *type = Py_TYPE(self);
-    freefunc free_it = (freefunc)PyType_GetSlot(type, Py_tp_free);
+    PyTypeObject *type = Py_TYPE((PyObject *)self);
+    freefunc free_it = type == HeldType ? PyObject_Free : (freefunc)PyType_GetSlot(type, Py_tp_free);
     Py_XDECREF(self->text);
     Py_XDECREF(self->key);
     Py_XDECREF(self->parts);
     Py_XDECREF(self->prints);
-    if (self->compiled != self->few)
-        free(self->compiled);
+    drop_block(self);
     free_it(self);
     Py_DECREF(type);
 }
@@ -73,9 +146,9 @@ static PyObject *kept_in(PyObject **where, PyObject *made)
 
 static PyObject *key_of(Held *self)
 {
-    if (self->key || !is_initialised(self))
+    if (self->key || compile_held(self) < 0)
         return self->key;
-    return kept_in(&self->key, made_of(pep440_sort_key, self->compiled, self->length, PyBytes_FromStringAndSize));
+    return kept_in(&self->key, key_in(self->compiled, self->length));
 }
 
 /* Compares what both have of this name. */
@@ -88,7 +161,8 @@ static PyObject *compare_by(const char *name, PyObject *left, PyObject *right, i
     return answer;
 }
 
-static PyObject *held_compare(PyObject *left, PyObject *right, int operation)
+/* Compares where words are not all that counts. Of its own, so that what most comparisons run saves no registers. */
+__attribute__((noinline)) static PyObject *compare_held(PyObject *left, PyObject *right, int operation)
 {
     Held *one = (Held *)left, *other = (Held *)right; /* the left one is a version, since its type has this call */
     int order;
@@ -98,8 +172,18 @@ static PyObject *held_compare(PyObject *left, PyObject *right, int operation)
         return NULL;
     if (one->has_own_key || other->has_own_key)
         return compare_by("_key", left, right, operation);
+    if (compile_held(one) < 0 || compile_held(other) < 0)
+        return NULL;
     order = compare_forms(one->compiled, one->length, other->compiled, other->length);
     Py_RETURN_RICHCOMPARE(order, 0, operation);
+}
+
+static PyObject *held_compare(PyObject *left, PyObject *right, int operation)
+{
+    const Held *one = (Held *)left, *other = (Held *)right;
+    if (Py_TYPE(right) != Py_TYPE(left) || !one->is_by_word || !other->is_by_word)
+        return compare_held(left, right, operation);
+    Py_RETURN_RICHCOMPARE(one->word, other->word, operation);
 }
 
 static Py_hash_t held_hash(Held *self)
@@ -237,7 +321,7 @@ static PyObject *get_number(Held *self, void *place)
 static PyObject *get_key(Held *self, void *unused)
 {
     if (self->has_own_key)
-        return made_of(pep440_sort_key, self->compiled, self->length, PyBytes_FromStringAndSize);
+        return compile_held(self) < 0 ? NULL : key_in(self->compiled, self->length);
     return Py_XNewRef(key_of(self));
 }
 
@@ -252,6 +336,7 @@ static int set_own_key(Held *self, PyObject *value, void *unused)
         return -1;
     kept_in(&self->key, Py_NewRef(value));
     self->has_own_key = 1;
+    self->is_by_word = 0;
     return 0;
 }
 

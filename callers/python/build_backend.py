@@ -29,6 +29,7 @@ import zipfile
 HERE = pathlib.Path(__file__).resolve().parent
 PACKAGE = "pep440_rattle"
 EXTENSION = "_core.abi3.so"
+SOURCES = ("_core.c", "_vectorcall.c")
 # The lowest Python whose stable interface has what _core.c calls.
 PYTHON_TAG = "cp310"
 # What is part of every glibc.
@@ -111,7 +112,7 @@ def programs():
 
 
 def compile_extension(out, libraries):
-    """Compiles and links _core.c with what it includes; of what the libraries define, nothing is left to see from outside."""
+    """Compiles and links the sources in C; of what the libraries define, nothing is left to see from outside."""
     include = [sysconfig.get_path("include"), sysconfig.get_path("platinclude"), str(HEADER.parent)]
     compiler = shlex.split(os.environ.get("CC", "cc"))
     if not shutil.which(compiler[0]):
@@ -123,7 +124,7 @@ def compile_extension(out, libraries):
         *"-std=c11 -O2 -Wall -Werror=implicit-function-declaration -fPIC -fvisibility=hidden -shared -Wl,--exclude-libs,ALL".split(),
         *shlex.split(os.environ.get("CFLAGS", "")),
         *(f"-I{each}" for each in dict.fromkeys(include)),
-        *("-o", str(out), str(HERE / "_core.c")),
+        *("-o", str(out), *(str(HERE / each) for each in SOURCES)),
         *map(str, libraries),
     ]
     if subprocess.run(command, check=False).returncode:

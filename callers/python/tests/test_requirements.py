@@ -7,6 +7,7 @@ import warnings
 
 import pep440_rattle.requirements
 import peer
+from pep440_rattle import _core, _parser as parser
 
 NAMES = ["name", "a.b", "A_b-c", "n1", "-x", "\u00e9", "a-", "x_"]
 VERSIONS = ["1.0", "1.0.*", "2", "v1.0-Beta", "1!2.0.post1", "1.0+loc", "foo", "", "1.0.dev4+a.1", "1,2"]
@@ -18,6 +19,14 @@ VALUES = ["'3.8'", '"3.8"', "'linux'", '"a_B.c"', "'x", '""', "'\\n'", "'\\'", "
 WORDS = ["in", "not in", "not  in", "not", "notin", "is"]
 ENVIRONMENTS = [None, {"extra": "a-b-c"}, {"os_name": "linux", "python_version": "3.8"}, {"python_full_version": "3.8.1+"}, {"extra": None}]
 CONTEXTS = ["metadata", "lock_file", "requirement"]
+# What the extension reads alone.
+PLAIN = [
+    "name",
+    "a.b[x, y]>=1.0,<2;os_name=='nt'",
+    "name (==1.0.*)",
+    " n ~= 1.0 , != 1.5, ; extra == 'x' ",
+    "n[] @ a:b ;(os.name<'\"'or extra not  in \"a\")and('x' in extras)",
+]
 
 
 def rarely(items, usual):
@@ -144,10 +153,10 @@ class Forms(unittest.TestCase):
     """What no other library is needed for."""
 
     def test_plain_and_by_tokens(self):
-        """A requirement has the same parts whether one expression reads it or its tokens."""
-        parser = pep440_rattle.requirements.parse_requirement, pep440_rattle.requirements.parse_plain_requirement
-        for text in ("name", "a.b[x, y]>=1.0,<2;os_name=='nt'", "name (==1.0.*)", " n ~= 1.0 , != 1.5, ; extra == 'x' "):
-            by_tokens, plain = (call(text) for call in parser)
+        """A requirement has the same parts whether the extension reads it or its tokens."""
+        for text in PLAIN:
+            by_tokens = parser.parse_requirement(text)
+            plain = parser.ParsedRequirement(*_core.read_requirement(text, parser.NODES))
             self.assertEqual(by_tokens._replace(specifier="", marker=None), plain._replace(specifier="", marker=None))
             self.assertEqual(repr(by_tokens.marker), repr(plain.marker))
 

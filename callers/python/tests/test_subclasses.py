@@ -6,6 +6,7 @@ import pickle
 import subprocess
 import sys
 import unittest
+import unittest.mock
 import weakref
 
 import pep440_rattle
@@ -139,14 +140,28 @@ class Versions(unittest.TestCase):
         for text, wanted in {"1.0.0": "1", "0.0": "0", "1!1.0.10.0.post1.dev2": "1!1.0.10.post1.dev2"}.items():
             self.assertEqual(canonicalize_version(text), wanted)
 
+    def test_calls_of_the_class(self):
+        self.assertEqual((Version("1.0"), Version(*["1.0"])), (Version(version="1.0"), Version(**{"version": "1.0"})))
+        for given, named in (((), {}), ((1,), {}), (("1", "2"), {}), (("1",), {"other": 1}), (("1",), {"version": "1"})):
+            with self.assertRaises(TypeError):
+                Version(*given, **named)
+        before = Version.__init__
+        with unittest.mock.patch.object(Version, "__init__", lambda version, text: before(version, text + ".1")):
+            self.assertEqual(Version("1").release, (1, 1))
+        self.assertEqual(Version("1").release, (1,))
+
     def test_init_again(self):
         version = Version("1.0")
         self.assertEqual(version.release, (1, 0))
         version.__init__("2.0rc1")
         self.assertEqual((str(version), version.release, version == Version("2.0rc1")), ("2.0rc1", (2, 0), True))
+        for text in ("1!3", "3.0.0.0.0", "3"):
+            version.__init__(text)
+            self.assertEqual((version, hash(version), version.sort_key), (Version(text), hash(Version(text)), Version(text).sort_key))
+            self.assertTrue(Version("2.0rc1") < version and version in SpecifierSet(f"=={text}"))
         with self.assertRaises(InvalidVersion):
             version.__init__("x")
-        self.assertEqual(str(version), "2.0rc1")
+        self.assertEqual(str(version), "3")
 
     def test_without_init(self):
         version = Version.__new__(Version)

@@ -1,8 +1,8 @@
 """Requirements and markers, parsed as `packaging` parses them (PEP 508, with its marker variables of later standards).
 
-One regular expression reads what most requirements are made of, another one a comparison of a marker. What these do not match is read token by token,
-as it is read by `packaging`: it says what is wrong, with the words of `packaging`, or has a form that is rare. No part of this is proved; what a
-version and a specifier is says the library.
+The extension reads what most requirements and markers are made of (_requirements.h). The rest is read here, token by token, as it is read by
+`packaging`: it has a form that is rare, or is none, and the error has the words of `packaging`. No part of this is proved; what a version and a
+specifier is says the library.
 """
 from __future__ import annotations
 
@@ -11,9 +11,11 @@ import functools
 import re
 from typing import Any, NamedTuple, NoReturn, Union
 
+# by its whole name, since copies of `packaging` have this module under theirs (swap.py)
+from pep440_rattle._core import read_marker
+
 from .specifiers import Specifier
 
-_BLANKS = r"[ \t]*"
 _IDENTIFIER = r"\b[a-zA-Z0-9][a-zA-Z0-9._-]*\b"
 # The variables of markers; of two names of one, the older one stands for the other.
 _VARIABLES = {
@@ -25,40 +27,10 @@ _VARIABLES = {
 }
 _VARIABLES |= {name: name.replace(".", "_") for name in "os.name sys.platform platform.version platform.machine platform.python_implementation".split()}
 _VARIABLES["python_implementation"] = "platform_python_implementation"
-_VARIABLES_OR_NONE = {*_VARIABLES, None}
 _VARIABLE = rf"\b(?:{'|'.join(sorted((re.escape(name) for name in _VARIABLES), reverse=True))})\b"
 _QUOTED = r""" '[^']*' | "[^"]*" """
 _OPERATOR = r"===|==|~=|!=|<=|>=|<|>"
-# What stands behind an operator may yet be no version. Behind `===` commas belong to the string, so it is left to the tokens.
-_SPECIFIER = rf"(?: [~!<>]= | ==(?!=) | [<>] ) {_BLANKS} [A-Za-z0-9.+!*_-]+"
-_SPECIFIERS = rf"{_SPECIFIER} (?: {_BLANKS} , {_BLANKS} {_SPECIFIER} )* (?: {_BLANKS} , )?"
 
-_PLAIN_REQUIREMENT = re.compile(
-    rf"""
-    {_BLANKS} (?P<name> {_IDENTIFIER} )
-    {_BLANKS} (?: \[ {_BLANKS} (?P<extras> {_IDENTIFIER} (?: {_BLANKS} , {_BLANKS} {_IDENTIFIER} )* )? {_BLANKS} \] )?
-    {_BLANKS} (?:
-        @ {_BLANKS} (?P<url> [^ \t]+ ) (?! [^ \t] )
-        | (?P<open> \( {_BLANKS} )? (?P<specifiers> {_SPECIFIERS} )? (?(open) {_BLANKS} \) )
-    )
-    {_BLANKS} (?: (?P<semicolon> ; ) | $ )
-    """,
-    re.VERBOSE,
-)
-# A word may be no variable.
-_WORD = r"\b [a-z] [a-z_.]* \b"
-_ITEM = re.compile(
-    rf"""
-    {_BLANKS} (?: ( {_WORD} ) | ( {_QUOTED} ) )
-    {_BLANKS} ( {_OPERATOR} | \b in \b | \b not \b [ \t]+ \b in \b )
-    {_BLANKS} (?: ( {_WORD} ) | ( {_QUOTED} ) )
-    {_BLANKS}
-    """,
-    re.VERBOSE,
-)
-_BOOLEAN = re.compile(r"\b(?:or|and)\b")
-
-# Tokens, for what those do not match.
 _BLANK = re.compile(r"[ \t]+")
 _END = re.compile("$")
 _NAME = re.compile(_IDENTIFIER)
@@ -68,6 +40,7 @@ _LOCAL = re.compile(r"\+[a-z0-9]+(?:[-_\.][a-z0-9]+)*")
 _MARKER_VARIABLE = re.compile(_VARIABLE, re.VERBOSE)
 _MARKER_VALUE = re.compile(_QUOTED, re.VERBOSE)
 _COMPARISON = re.compile(_OPERATOR)
+_BOOLEAN = re.compile(r"\b(?:or|and)\b")
 _IN, _NOT = re.compile(r"\bin\b"), re.compile(r"\bnot\b")
 
 
@@ -116,6 +89,9 @@ class Op(Node):
     def serialize(self) -> str:
         return str(self)
 
+
+# What the extension makes markers of.
+NODES = (Variable, Value, Op, _VARIABLES)
 
 MarkerVar = Union[Variable, Value]
 MarkerItem = tuple[MarkerVar, Op, MarkerVar]
@@ -175,25 +151,6 @@ _BRACKETS = "LEFT_BRACKET", "RIGHT_BRACKET"
 
 
 # ---- requirements
-
-
-def parse_plain_requirement(source: str) -> ParsedRequirement | None:
-    """The parts of a requirement; None where the other function is to say what it is. What its specifiers are is not looked at.
-
-    >>> parse_plain_requirement("name[a, b] >=1.0")
-    ParsedRequirement(name='name', url='', extras=['a', 'b'], specifier='>=1.0', marker=None)
-    """
-    found = _PLAIN_REQUIREMENT.match(source)
-    if not found:
-        return None
-    name, extras, url, _, specifiers, semicolon = found.groups()
-    marker = None
-    if semicolon:
-        try:
-            marker = _parse_marker_to_end(_Cursor(source, found.end()), "")
-        except (ParserSyntaxError, SyntaxError, ValueError):
-            return None
-    return ParsedRequirement(name, url or "", [it.strip(" \t") for it in extras.split(",")] if extras else [], specifiers or "", marker)
 
 
 def parse_requirement(source: str) -> ParsedRequirement:
@@ -296,27 +253,23 @@ def parse_marker(source: str) -> MarkerList:
     >>> parse_marker("os_name == 'nt' and ('a' in extras)")
     [(<Variable('os_name')>, <Op('==')>, <Value('nt')>), 'and', [(<Value('a')>, <Op('in')>, <Variable('extras')>)]]
     """
-    return _parse_marker_to_end(_Cursor(source), "end of marker expression")
+    return read_marker(source, NODES) or _parse_marker_to_end(_Cursor(source), "end of marker expression")
 
 
 def _parse_marker_to_end(cursor: _Cursor, what: str) -> MarkerList:
     marker = _parse_marker(cursor)
-    if cursor.position != len(cursor.source):
-        cursor.expect(_END, what)
+    cursor.expect(_END, what)
     return marker
 
 
 def _parse_marker(cursor: _Cursor) -> MarkerList:
     marker: MarkerList = [_parse_atom(cursor)]
-    while cursor.position < len(cursor.source) and (boolean := cursor.take(_BOOLEAN)) is not None:
+    while (boolean := cursor.take(_BOOLEAN)) is not None:
         marker += boolean, _parse_atom(cursor)
     return marker
 
 
 def _parse_atom(cursor: _Cursor) -> MarkerItem | MarkerList:
-    item = _take_plain_item(cursor)
-    if item:
-        return item
     cursor.take(_BLANK)
     opened = cursor.position
     atom: MarkerItem | MarkerList
@@ -327,21 +280,6 @@ def _parse_atom(cursor: _Cursor) -> MarkerItem | MarkerList:
         atom = _parse_item(cursor)
     cursor.take(_BLANK)
     return atom
-
-
-def _take_plain_item(cursor: _Cursor) -> MarkerItem | None:
-    found = _ITEM.match(cursor.source, cursor.position)
-    if not found:
-        return None
-    left, left_value, operator, right, right_value = found.groups()
-    if left not in _VARIABLES_OR_NONE or right not in _VARIABLES_OR_NONE:
-        return None
-    cursor.position = found.end()
-    return (
-        Variable(_VARIABLES[left]) if left else _make_value(left_value),
-        Op(operator if operator[0] != "n" else "not in"),
-        Variable(_VARIABLES[right]) if right else _make_value(right_value),
-    )
 
 
 def _parse_item(cursor: _Cursor) -> MarkerItem:

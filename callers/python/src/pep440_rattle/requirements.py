@@ -10,7 +10,9 @@ from __future__ import annotations
 from collections.abc import Iterator
 from typing import Any
 
-from ._parser import ParserSyntaxError, parse_plain_requirement, parse_requirement
+from pep440_rattle._core import read_requirement
+
+from ._parser import NODES, ParserSyntaxError, parse_requirement
 from .markers import Marker, _normalize_extra_values
 from .specifiers import InvalidSpecifier, SpecifierSet
 from .utils import canonicalize_name
@@ -35,21 +37,22 @@ class Requirement:
 
     def __init__(self, requirement_string: str) -> None:
         try:
-            parsed = parse_plain_requirement(requirement_string)
-            specifier = parsed and _read_specifiers(parsed.specifier)
+            parsed = read_requirement(requirement_string, NODES)
+            specifier = parsed and _read_specifiers(parsed[3])
             if not parsed or specifier is None:
                 parsed = parse_requirement(requirement_string)
                 specifier = SpecifierSet(parsed.specifier)
         except ParserSyntaxError as error:
             raise InvalidRequirement(str(error)) from error
-        self.name: str = parsed.name
-        self.url: str | None = parsed.url or None
-        self.extras: set[str] = set(parsed.extras)
+        name, url, extras, _, marker = parsed
+        self.name: str = name
+        self.url: str | None = url or None
+        self.extras: set[str] = set(extras)
         self.specifier: SpecifierSet = specifier
         self.marker: Marker | None = None
-        if parsed.marker is not None:
+        if marker is not None:
             self.marker = Marker.__new__(Marker)
-            self.marker._markers = _normalize_extra_values(parsed.marker)
+            self.marker._markers = _normalize_extra_values(marker)
 
     def _parts(self, name: str) -> Iterator[str]:
         yield name

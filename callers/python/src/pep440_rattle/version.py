@@ -209,8 +209,8 @@ for _name, _it in _OF_PYTHON.items():
     setattr(Version, _name, _it)
 Version.__doc__ = """A version, read from a string.
 
-    The string is parsed once: versions hold what the library compiled of it, and by that they are compared, hashed and matched. Parts and
-    prints are held once they were asked for.
+    Versions are compared by a word, a number that most of them have, else by what the library compiles of their strings, by which all are hashed and
+    matched. Compiled forms, parts and prints are made when they are first asked for, and held.
 
     >>> version = Version("1!2.1.0-Beta.3+Ubuntu-01")
     >>> version

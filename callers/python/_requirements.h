@@ -1,0 +1,321 @@
+/* Requirements and markers of the form that most have. What has another one, or is none, is left to Python (_parser.py), which says what is wrong. Each
+   `take` reads what stands at a place of a string with a zero at its end, and moves the place behind it. Where what it reads is not there, it returns NULL
+   or 0 without an exception. */
+
+/* What markers are made of: the classes of variables, values and operators, and a dict of the variables by their spellings. */
+typedef struct {
+    PyObject *variable;
+    PyObject *value;
+    PyObject *operator;
+    PyObject *variables;
+} Nodes;
+
+enum { DEEPEST = 20 };
+
+static int is_letter_or_digit(char it) { return (it >= 'a' && it <= 'z') || (it >= '0' && it <= '9') || (it >= 'A' && it <= 'Z'); }
+
+static int is_of_word(char it) { return is_letter_or_digit(it) || it == '_'; }
+
+static void skip_blanks(const char **at)
+{
+    while (**at == ' ' || **at == '\t')
+        ++*at;
+}
+
+static int take_sign(const char **at, const char *sign)
+{
+    size_t length = strlen(sign);
+    if (strncmp(*at, sign, length))
+        return 0;
+    *at += length;
+    return 1;
+}
+
+/* A word, with no other letter behind it. */
+static int take_word(const char **at, const char *word)
+{
+    const char *here = *at;
+    if (!take_sign(&here, word) || is_of_word(*here))
+        return 0;
+    *at = here;
+    return 1;
+}
+
+static PyObject *take_name(const char **at)
+{
+    const char *start = *at;
+    if (!is_letter_or_digit(*start))
+        return NULL;
+    while (is_of_word(**at) || **at == '.' || **at == '-')
+        ++*at;
+    return is_of_word((*at)[-1]) ? PyUnicode_FromStringAndSize(start, *at - start) : NULL;
+}
+
+/* The names between brackets, if there are any; a list. */
+static PyObject *take_extras(const char **at)
+{
+    PyObject *extras = PyList_New(0), *name;
+    if (!extras || **at != '[')
+        return extras;
+    do {
+        ++*at;
+        skip_blanks(at);
+        if (**at == ']' && PyList_Size(extras) == 0)
+            break;
+        name = take_name(at);
+        if (!name || PyList_Append(extras, name) < 0)
+            Py_CLEAR(extras);
+        Py_XDECREF(name);
+        skip_blanks(at);
+    } while (extras && **at == ',');
+    if (extras && !take_sign(at, "]"))
+        Py_CLEAR(extras);
+    return extras;
+}
+
+/* An operator, and what may yet be no version. Behind `===` commas belong to the string, so it is left to Python. */
+static int take_specifier(const char **at)
+{
+    const char *here = *at, *start;
+    if (*here && strchr("~!<>=", *here) && here[1] == '=')
+        here += 2;
+    else if (*here == '<' || *here == '>')
+        here++;
+    else
+        return 0;
+    skip_blanks(&here);
+    for (start = here; is_of_word(*here) || (*here && strchr(".+!*-", *here));)
+        here++;
+    if (here == start)
+        return 0;
+    *at = here;
+    return 1;
+}
+
+/* Specifiers with commas between them, and maybe one behind the last; a str, empty where there are none. */
+static PyObject *take_specifiers(const char **at)
+{
+    const char *start = *at, *here;
+    int is_more = take_specifier(at);
+    while (is_more) {
+        here = *at;
+        skip_blanks(&here);
+        is_more = take_sign(&here, ",");
+        if (!is_more)
+            break;
+        *at = here;
+        skip_blanks(&here);
+        is_more = take_specifier(&here);
+        if (is_more)
+            *at = here;
+    }
+    return PyUnicode_FromStringAndSize(start, *at - start);
+}
+
+/* The same, maybe in parentheses. */
+static PyObject *take_enclosed_specifiers(const char **at)
+{
+    int is_open = take_sign(at, "(");
+    PyObject *specifiers;
+    skip_blanks(at);
+    specifiers = take_specifiers(at);
+    skip_blanks(at);
+    if (specifiers && is_open && !take_sign(at, ")"))
+        Py_CLEAR(specifiers);
+    return specifiers;
+}
+
+static PyObject *take_url(const char **at)
+{
+    const char *start = *at;
+    while (**at > ' ' && **at <= '~')
+        ++*at;
+    return *at > start && (!**at || **at == ' ' || **at == '\t') ? PyUnicode_FromStringAndSize(start, *at - start) : NULL;
+}
+
+/* ---- markers */
+
+/* An object of the class with this value, which is dropped. */
+static PyObject *make_node(PyObject *class, PyObject *value)
+{
+    static PyObject *name;
+    PyObject *made = value && (name || (name = PyUnicode_InternFromString("value"))) ? PyType_GenericAlloc((PyTypeObject *)class, 0) : NULL;
+    if (made && PyObject_SetAttr(made, name, value) < 0)
+        Py_CLEAR(made);
+    Py_XDECREF(value);
+    return made;
+}
+
+/* What stands between quotes, where it is to Python what it looks like. */
+static PyObject *take_value(const char **at, const Nodes *nodes)
+{
+    const char quote = **at, *start = ++*at;
+    for (; **at != quote; ++*at)
+        if (**at < ' ' || **at > '~' || **at == '\\')
+            return NULL;
+    return make_node(nodes->value, PyUnicode_FromStringAndSize(start, (*at)++ - start));
+}
+
+static PyObject *take_variable(const char **at, const Nodes *nodes)
+{
+    const char *start = *at;
+    PyObject *spelling, *name;
+    while ((**at >= 'a' && **at <= 'z') || **at == '_' || **at == '.')
+        ++*at;
+    if (is_of_word(**at) || !(spelling = PyUnicode_FromStringAndSize(start, *at - start)))
+        return NULL;
+    name = PyDict_GetItemWithError(nodes->variables, spelling);
+    Py_DECREF(spelling);
+    return name ? make_node(nodes->variable, Py_NewRef(name)) : NULL;
+}
+
+static PyObject *take_operand(const char **at, const Nodes *nodes)
+{
+    return **at == '\'' || **at == '"' ? take_value(at, nodes) : take_variable(at, nodes);
+}
+
+static PyObject *take_operator(const char **at, const Nodes *nodes)
+{
+    static const char *const SIGNS[] = {"===", "==", "~=", "!=", "<=", ">=", "<", ">"};
+    int is_not;
+    for (size_t each = 0; each < sizeof SIGNS / sizeof *SIGNS; each++)
+        if (take_sign(at, SIGNS[each]))
+            return make_node(nodes->operator, PyUnicode_FromString(SIGNS[each]));
+    is_not = take_word(at, "not");
+    skip_blanks(at);
+    if (!take_word(at, "in"))
+        return NULL;
+    return make_node(nodes->operator, PyUnicode_FromString(is_not ? "not in" : "in"));
+}
+
+/* (left, operator, right) */
+static PyObject *take_item(const char **at, const Nodes *nodes)
+{
+    PyObject *left = take_operand(at, nodes), *operator = NULL, *right = NULL, *item = NULL;
+    skip_blanks(at);
+    if (left)
+        operator = take_operator(at, nodes);
+    skip_blanks(at);
+    if (operator)
+        right = take_operand(at, nodes);
+    if (right)
+        item = PyTuple_Pack(3, left, operator, right);
+    Py_XDECREF(left);
+    Py_XDECREF(operator);
+    Py_XDECREF(right);
+    return item;
+}
+
+static PyObject *take_marker(const char **at, const Nodes *nodes, int depth);
+
+/* An item, or a marker in parentheses. */
+static PyObject *take_atom(const char **at, const Nodes *nodes, int depth)
+{
+    PyObject *atom;
+    skip_blanks(at);
+    if (!take_sign(at, "("))
+        atom = take_item(at, nodes);
+    else if ((atom = depth < DEEPEST ? take_marker(at, nodes, depth + 1) : NULL) && !take_sign(at, ")"))
+        Py_CLEAR(atom);
+    skip_blanks(at);
+    return atom;
+}
+
+static int append(PyObject *list, PyObject *made)
+{
+    int done = made ? PyList_Append(list, made) : -1;
+    Py_XDECREF(made);
+    return done;
+}
+
+/* Items with "and" and "or" between them; a list for each pair of parentheses. */
+static PyObject *take_marker(const char **at, const Nodes *nodes, int depth)
+{
+    PyObject *marker = PyList_New(0);
+    const char *word = NULL;
+    do {
+        if (!marker || (word && append(marker, PyUnicode_FromString(word)) < 0) || append(marker, take_atom(at, nodes, depth)) < 0) {
+            Py_XDECREF(marker);
+            return NULL;
+        }
+        word = take_word(at, "and") ? "and" : take_word(at, "or") ? "or" : NULL;
+    } while (word);
+    return marker;
+}
+
+/* ---- whole strings */
+
+/* The start of the string and its end, and the nodes, of a call (string, nodes). NULL where the string has no bytes, with an exception or without. */
+static const char *begin(const char *call, PyObject *const *args, Py_ssize_t count, const char **end, Nodes *nodes)
+{
+    Py_ssize_t length = 0;
+    const char *bytes;
+    if (!has_count(call, count, 2))
+        return NULL;
+    *nodes = (Nodes){PyTuple_GetItem(args[1], 0), PyTuple_GetItem(args[1], 1), PyTuple_GetItem(args[1], 2), PyTuple_GetItem(args[1], 3)};
+    if (!nodes->variables || !PyUnicode_Check(args[0]))
+        return NULL;
+    bytes = PyUnicode_AsUTF8AndSize(args[0], &length);
+    *end = bytes ? bytes + length : NULL;
+    return bytes;
+}
+
+/* What was made of a string, or None where it is left to Python: where it has no UTF-8, too. */
+static PyObject *made_or_none(PyObject *made)
+{
+    if (!made && (!PyErr_Occurred() || PyErr_ExceptionMatches(PyExc_UnicodeEncodeError))) {
+        PyErr_Clear();
+        Py_RETURN_NONE;
+    }
+    return made;
+}
+
+/* (name, url, extras, specifiers, marker) */
+static PyObject *take_requirement(const char **at, const char *end, const Nodes *nodes)
+{
+    PyObject *name, *extras = NULL, *url = NULL, *specifiers = NULL, *marker = NULL, *made = NULL;
+    skip_blanks(at);
+    name = take_name(at);
+    skip_blanks(at);
+    if (name)
+        extras = take_extras(at);
+    skip_blanks(at);
+    if (extras && take_sign(at, "@")) {
+        skip_blanks(at);
+        url = take_url(at);
+        specifiers = url ? PyUnicode_FromString("") : NULL;
+    } else if (extras) {
+        url = PyUnicode_FromString("");
+        specifiers = url ? take_enclosed_specifiers(at) : NULL;
+    }
+    skip_blanks(at);
+    if (specifiers)
+        marker = take_sign(at, ";") ? take_marker(at, nodes, 0) : Py_NewRef(Py_None);
+    if (marker && *at == end)
+        made = PyTuple_Pack(5, name, url, extras, specifiers, marker);
+    Py_XDECREF(name);
+    Py_XDECREF(extras);
+    Py_XDECREF(url);
+    Py_XDECREF(specifiers);
+    Py_XDECREF(marker);
+    return made;
+}
+
+/* read_requirement(source, nodes) */
+static PyObject *read_requirement(PyObject *module, PyObject *const *args, Py_ssize_t count)
+{
+    Nodes nodes;
+    const char *end, *at = begin("read_requirement", args, count, &end, &nodes);
+    return made_or_none(at ? take_requirement(&at, end, &nodes) : NULL);
+}
+
+/* read_marker(source, nodes) */
+static PyObject *read_marker(PyObject *module, PyObject *const *args, Py_ssize_t count)
+{
+    Nodes nodes;
+    const char *end, *at = begin("read_marker", args, count, &end, &nodes);
+    PyObject *marker = at ? take_marker(&at, &nodes, 0) : NULL;
+    if (marker && at != end)
+        Py_CLEAR(marker);
+    return made_or_none(marker);
+}
