@@ -9,12 +9,12 @@ use Rattle.std.specs.Ordering.{is_le, is_lt, ordering_reverse}
 use Rattle.std.specs.Prelude.{IsTrue}
 use Rattle.std.specs.declared.cmp.Ordering.{Ordering}
 use Rattle.std.specs.declared.cmp.Ordering.TheVariants.{Less, Equal, Greater}
+use Rattle.pep440_rs.specs.Prereleases.{list_allows}
 use Rattle.pep440_rs.specs.Specifiers.{Spec}
 use Rattle.pep440_version.specs.Key.{record_cmp}
 use Rattle.pep440_version.specs.KeyLaws.{record_total}
 use Rattle.pep440_version.specs.Record.{Record}
 use Rattle.pyver_tool.specs.NewestOutcomes.{IsNewestLine, NewestLine, allowed_lines, or_else}
-use Rattle.pyver_tool.specs.Prereleases.{allows}
 use Rattle.pyver_tool.specs.VersionLines.{VersionLine}
 use Rattle.pyver_tool.specs.VersionLineViews.{version_line_of}
 use Rattle.pyver_tool.specs.declared.prerelease_rule.Prereleases.{Prereleases}
@@ -105,19 +105,19 @@ module _ (takes : Bool) (list : List Spec) where
   allowed_front lines i = allowed_lines takes list (map version_line_of (take i lines))
 
   module _ (lines : List LineInMemory) (i : ℕ) (line : LineInMemory) (inside : i < length lines) (is : line ≡ get_or lines i line) where
-    one_more : allowed_front lines (i + 1) ≡ allowed_front lines i ++ cond (allows takes list line.version) (version_line_of line ∷ []) []
+    one_more : allowed_front lines (i + 1) ≡ allowed_front lines i ++ cond (list_allows takes list line.version) (version_line_of line ∷ []) []
     one_more =
         let front : take (i + 1) lines ≡ take i lines ++ line ∷ [] = take_more lines i line inside ∙ ap (λ (x : LineInMemory). take i lines ++ x ∷ []) (sym is) in
         ap (λ l. allowed_lines takes list (map version_line_of l)) front ∙ ap (allowed_lines takes list) (map-append version_line_of (take i lines) (line ∷ []))
-        ∙ filter-append (λ (x : VersionLine). allows takes list x.version) (map version_line_of (take i lines)) (version_line_of line ∷ [])
+        ∙ filter-append (λ (x : VersionLine). list_allows takes list x.version) (map version_line_of (take i lines)) (version_line_of line ∷ [])
 
-    one_allowed : allows takes list line.version ≡ true → allowed_front lines (i + 1) ≡ allowed_front lines i ++ version_line_of line ∷ []
+    one_allowed : list_allows takes list line.version ≡ true → allowed_front lines (i + 1) ≡ allowed_front lines i ++ version_line_of line ∷ []
     one_allowed allowed = one_more ∙ ap (λ b. allowed_front lines i ++ cond b (version_line_of line ∷ []) []) allowed
 
-    pub out_more : (newest : Option (Bor LineInMemory)) → NewestLine (allowed_front lines i) (newest_value newest) → allows takes list line.version ≡ false → NewestLine (allowed_front lines (i + 1)) (newest_value newest)
+    pub out_more : (newest : Option (Bor LineInMemory)) → NewestLine (allowed_front lines i) (newest_value newest) → list_allows takes list line.version ≡ false → NewestLine (allowed_front lines (i + 1)) (newest_value newest)
     out_more newest n out = subst (λ l. NewestLine l (newest_value newest)) (sym (one_more ∙ ap (λ b. allowed_front lines i ++ cond b (version_line_of line ∷ []) []) out ∙ append-nil (allowed_front lines i))) n
 
-    pub found_more : (newest : Option (Bor LineInMemory)) → NewestLine (allowed_front lines i) (newest_value newest) → is_newer newest line.version ≡ true → allows takes list line.version ≡ true
+    pub found_more : (newest : Option (Bor LineInMemory)) → NewestLine (allowed_front lines i) (newest_value newest) → is_newer newest line.version ≡ true → list_allows takes list line.version ≡ true
         → NewestLine (allowed_front lines (i + 1)) (Some (version_line_of line))
     found_more None n above allowed = subst (λ l. IsNewestLine l (version_line_of line)) (sym (one_allowed allowed ∙ ap (λ l. l ++ version_line_of line ∷ []) n)) (only_one (version_line_of line))
     found_more (Some best) n above allowed =
@@ -125,9 +125,9 @@ module _ (takes : Bool) (list : List Spec) where
 
     pub below_more : (newest : Option (Bor LineInMemory)) → NewestLine (allowed_front lines i) (newest_value newest) → is_newer newest line.version ≡ false → NewestLine (allowed_front lines (i + 1)) (newest_value newest)
     below_more None n above = cc above
-    below_more (Some best) n above = go (allows takes list line.version) refl
+    below_more (Some best) n above = go (list_allows takes list line.version) refl
       where
-        go : (b : Bool) → allows takes list line.version ≡ b → NewestLine (allowed_front lines (i + 1)) (newest_value (Some best))
+        go : (b : Bool) → list_allows takes list line.version ≡ b → NewestLine (allowed_front lines (i + 1)) (newest_value (Some best))
         go true allowed =
             subst (λ l. IsNewestLine l (version_line_of best.now)) (sym (one_allowed allowed))
             (stays (allowed_front lines i) (version_line_of best.now) (version_line_of line) n (not_below line.version best.now.version above))

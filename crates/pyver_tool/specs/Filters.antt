@@ -1,12 +1,13 @@
 -- `filter SPECS [FILE..]`: the lines of the sources whose version the list allows, or the others.
 use Rattle.std.specs.Prelude.{◌≡◌, ℕ, List, ◌++◌, Bool, false, Option, codes, length, not, take, if◌then◌else◌}
 use Rattle.std.specs.List.{AllZip, concat, filter, flat_map}
+use Rattle.pep440_rs.specs.Prereleases.{list_allows}
 use Rattle.pep440_rs.specs.Specifiers.{Spec}
 use Rattle.pyver_tool.specs.InputLines.{filled_lines}
 use Rattle.pyver_tool.specs.InvalidLines.{last_message, lines_status, message_limit}
 use Rattle.pyver_tool.specs.Matches.{DenotesList, ListFails, ReadsSpecifiers, SpecifiersReading, list_fault}
 use Rattle.pyver_tool.specs.Outcomes.{Outcome, followed_by, no_outcome}
-use Rattle.pyver_tool.specs.Prereleases.{allows, takes_prereleases}
+use Rattle.pyver_tool.specs.PrereleaseRules.{takes_prereleases}
 use Rattle.pyver_tool.specs.ReadLines.{Entry, Header, IsRead, LineReading, ReadLine, faults}
 use Rattle.pyver_tool.specs.Readings.{Denotes, Fails}
 use Rattle.pyver_tool.specs.Sources.{Input, UnopenedSource, unopened_message, unopened_status}
@@ -16,7 +17,7 @@ use Rattle.pyver_tool.specs.declared.filter.FilterRule.{FilterRule}
 
 -- the version is printed: the list allows it, or, with `-v`, does not
 abbrev pub is_shown : FilterRule → Record → Bool
-is_shown rule r = if rule.inverted then not (allows rule.takes rule.list r) else allows rule.takes rule.list r
+is_shown rule r = if rule.inverted then not (list_allows rule.takes rule.list r) else list_allows rule.takes rule.list r
 
 -- the line is printed: it is the header of the first source, or its version is printed
 abbrev pub is_printed : FilterRule → Bool → LineReading → Bool

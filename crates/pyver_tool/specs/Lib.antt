@@ -3,7 +3,7 @@ pub mod Messages
 pub mod Outcomes
 pub mod Readings
 pub mod Comparisons
-pub mod Prereleases
+pub mod PrereleaseRules
 pub mod Matches
 pub mod Parts
 pub mod JsonObjects

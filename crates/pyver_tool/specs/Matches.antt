@@ -3,10 +3,11 @@ use Rattle.std.specs.Prelude.{◌≡◌, ℕ, List, [], ◌++◌, Bool, codes, i
 use Rattle.std.specs.List.{AllZip}
 use Rattle.pep440_rs.specs.ListErrorTexts.{list_refusal_text}
 use Rattle.pep440_rs.specs.ListGrammar.{DerivesList, PieceRefusal, RefusesList}
+use Rattle.pep440_rs.specs.Prereleases.{list_allows}
 use Rattle.pep440_rs.specs.Specifiers.{Spec}
 use Rattle.pyver_findings.specs.Escapes.{escaped, escaped_lines}
 use Rattle.pyver_tool.specs.Outcomes.{Outcome, fault, in_turn, followed_by, no_outcome}
-use Rattle.pyver_tool.specs.Prereleases.{allows, takes_prereleases}
+use Rattle.pyver_tool.specs.PrereleaseRules.{takes_prereleases}
 use Rattle.pyver_tool.specs.Readings.{Denotes, Fails, Reading, Reads}
 use Rattle.pyver_tool.specs.declared.allowed.MatchOptions.{MatchOptions}
 
@@ -38,7 +39,7 @@ verdict quiet allowed word = record { output = if quiet then [] else verdict_lin
 
 -- the outcome of a word: its verdict, or its error
 abbrev pub word_outcome : Bool → Bool → List Spec → List ℕ → Reading → Outcome
-word_outcome quiet takes list word (Denotes r) = verdict quiet (allows takes list r) word
+word_outcome quiet takes list word (Denotes r) = verdict quiet (list_allows takes list r) word
 word_outcome quiet takes list word (Fails reason) = fault word reason
 
 -- the outcome of one word

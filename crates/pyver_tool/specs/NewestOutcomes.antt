@@ -2,11 +2,12 @@
 use Rattle.std.specs.Prelude.{◌≡◌, ℕ, List, [], ◌∷◌, ◌++◌, Bool, true, codes, IsTrue, Option, Some, None}
 use Rattle.std.specs.List.{All, filter}
 use Rattle.std.specs.Ordering.{is_le, is_lt}
+use Rattle.pep440_rs.specs.Prereleases.{list_allows}
 use Rattle.pep440_rs.specs.Specifiers.{Spec}
 use Rattle.pep440_version.specs.Key.{record_cmp}
 use Rattle.pyver_tool.specs.Matches.{DenotesList, ListFails, ReadsSpecifiers, SpecifiersReading, list_fault}
 use Rattle.pyver_tool.specs.Outcomes.{Outcome, followed_by, no_outcome}
-use Rattle.pyver_tool.specs.Prereleases.{allows, takes_prereleases}
+use Rattle.pyver_tool.specs.PrereleaseRules.{takes_prereleases}
 use Rattle.pyver_tool.specs.Sources.{Input}
 use Rattle.pyver_tool.specs.VersionLines.{InputParts, OfVersions, VersionLine}
 use Rattle.pyver_tool.specs.declared.newest.NewestOptions.{NewestOptions}
@@ -16,7 +17,7 @@ use Rattle.pyver_tool.specs.declared.prerelease_rule.Prereleases.TheVariants as 
 
 -- the lines whose version the list allows
 abbrev pub allowed_lines : Bool → List Spec → List VersionLine → List VersionLine
-allowed_lines takes list lines = filter (λ (x : VersionLine). allows takes list x.version) lines
+allowed_lines takes list lines = filter (λ (x : VersionLine). list_allows takes list x.version) lines
 
 -- these lines; or, where there are none and no option says which pre-releases are taken, the others
 abbrev pub or_else : Prereleases → List VersionLine → List VersionLine → List VersionLine

@@ -6,7 +6,7 @@ ghost use Rattle.pyver_tool.specs.Matches.{Matches, MatchesWords, ReadsSpecifier
 ghost use Rattle.pyver_tool.specs.Outcomes.{followed_by};
 
 use crate::answer::Answer;
-use crate::prerelease_rule::{Prereleases, allows, takes_prereleases};
+use crate::prerelease_rule::{Prereleases, takes_prereleases};
 use crate::reading::{Reading, parse_version};
 use pep440_rs::{SpecifiersErrorKind, VersionSpecifiers, VersionSpecifiersParseError};
 use pyver_findings::{push_escaped, push_escaped_lines};
@@ -95,7 +95,7 @@ fn push_reading(
 {
     match reading {
         Reading::Version(version) => {
-            let allowed = allows(alloc, takes, list, version)?;
+            let allowed = list.allows(alloc, takes, version)?;
             push_verdict(answer, quiet, allowed, word)?;
             Ok(())
         }

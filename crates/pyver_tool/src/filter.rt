@@ -8,7 +8,7 @@ ghost use Rattle.pyver_tool.specs.SourceViews.{unopened_of};
 use crate::line_options::LineOptions;
 use crate::open_failure::{OpenFailure, push_file_fault};
 use crate::origin::Origin;
-use crate::prerelease_rule::{Prereleases, allows};
+use crate::prerelease_rule::Prereleases;
 use crate::reading::Reading;
 use crate::source_lines::{is_blank, line_text, parse_line};
 use pep440_rs::{Version, VersionSpecifiers};
@@ -40,7 +40,7 @@ impl FilterRule {
     fn shows(&self, alloc: Global, version: &Version) -> Result<bool, AllocError>
         ensures { IfOk result (λ b. b ≡ is_shown self.now version.now) }
     {
-        let allowed = allows(alloc, self.takes, &self.list, version)?;
+        let allowed = self.list.allows(alloc, self.takes, version)?;
         Ok(if self.inverted { !allowed } else { allowed })
     }
 }

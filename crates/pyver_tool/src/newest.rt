@@ -9,7 +9,7 @@ ghost use Rattle.pyver_tool.specs.VersionLineViews.{input_parts_of, version_line
 
 use crate::answer::Answer;
 use crate::line_options::LineOptions;
-use crate::prerelease_rule::{Prereleases, allows, takes_prereleases};
+use crate::prerelease_rule::{Prereleases, takes_prereleases};
 use crate::version_line::{VersionLine, VersionLines};
 use pep440_rs::{Version, VersionSpecifiers};
 use std::alloc::{AllocError, Global};
@@ -49,7 +49,7 @@ fn select_newest<'t, 'a>(
 {
     let mut newest: Option<&VersionLine<'a>> = None;
     for line in lines {
-        if is_newer(newest, &line.version) && allows(alloc, takes, list, &line.version)? {
+        if is_newer(newest, &line.version) && list.allows(alloc, takes, &line.version)? {
             newest = Some(line);
         }
     }
