@@ -1,19 +1,17 @@
 -- Lines that have no version in common: some of them are reported together.
-use Rattle.std.proofs.Common.{arith, ◌≡◌, ◌==◌, ◌<◌, ◌⊎◌, ◌∙◌, ℕ, List, [], ◌∷◌, ◌++◌, ◌&&◌, ◌||◌, Bool, true, false, Option, Some, None, bytes_eq, get_or, is_none, length, map, refl, sym, ap, subst, inl, inr, suc, zero, if◌then◌else◌}
-use Rattle.std.proofs.lemmas.Bool.{eqb-true, true≢false}
+use Rattle.std.proofs.Common.{arith, ◌≡◌, ◌<◌, ◌⊎◌, ◌∙◌, ℕ, List, [], ◌∷◌, ◌++◌, ◌||◌, Bool, true, false, Option, Some, None, bytes_eq, get_or, is_none, length, map, refl, sym, ap, subst, inl, inr, suc, zero, if◌then◌else◌}
+use Rattle.std.proofs.lemmas.Bool.{true≢false}
 use Rattle.std.proofs.lemmas.List.Concat.{flat_map-append}
 use Rattle.std.proofs.lemmas.List.Folds.{list_any-append}
 use Rattle.std.proofs.lemmas.Slice.Eq.{bytes_eq-Decides}
-use Rattle.std.proofs.lemmas.List.Elements.{All-append, All-cons, All-contains_itself, All-head, All-nil, All-tail}
+use Rattle.std.proofs.lemmas.List.Elements.{All-cons, All-contains_itself, All-head, All-nil, All-tail}
 use Rattle.std.specs.List.{All, Any, Contains, filter, flat_map, list_any}
-use Rattle.pyver_findings.proofs.Once.{of_lines}
-use Rattle.pyver_findings.proofs.SmallestLists.{all_smallest, smallest_right}
+use Rattle.pyver_findings.proofs.SmallestLists.{all_smallest, smallest_none}
 use Rattle.pyver_findings.specs.Demands.{Demand}
-use Rattle.pyver_findings.specs.Conflicts.{common_cover, conflict_kind, conflicts, counts_under, first_mentions, is_empty, of_all, of_name, has_same_marker, same_marker, has_same_name, smallest, under}
-use Rattle.pyver_findings.specs.FileLines.{FileLine, all_lines}
-use Rattle.pyver_findings.specs.FindingLaws.{ConflictsHaveFindings, IsAmong}
+use Rattle.pyver_findings.specs.Conflicts.{conflict_kind, conflicts, counts_under, first_mentions, have_none, of_all, of_name, has_same_marker, same_marker, has_same_name, smallest, under}
+use Rattle.pyver_findings.specs.FileLines.{FileLine}
+use Rattle.pyver_findings.specs.FindingLaws.{IsAmong}
 use Rattle.pyver_findings.specs.Findings.{Conflicting, Finding}
-use Rattle.pyver_findings.specs.Reports.{Report, demands_in, invalid_in}
 
 -- ---- some finding
 
@@ -39,7 +37,7 @@ any_is P (f ∷ fs) (inr h) = let r = any_is P fs h in (suc r.0, r.1, omega (ari
 -- ---- what is reported of some lines names no others
 
 -- lines with nothing in common are not none
-some_lines : (some : List Demand) → is_empty (common_cover some) ≡ true → map (λ (a : Demand). a.line) some ≡ [] → ⊥
+some_lines : (some : List Demand) → have_none some ≡ true → map (λ (a : Demand). a.line) some ≡ [] → ⊥
 some_lines [] empty e = true≢false (sym empty)
 some_lines (a ∷ some) empty e =
     let none : length (a.line ∷ map (λ (b : Demand). b.line) some) ≡ 0 = ap length e in
@@ -59,10 +57,10 @@ module _ (lines : List FileLine) where
   unmapped (a ∷ some) k = All-cons IsOne a some (All-head (Contains lines) a.line (map (λ (b : Demand). b.line) some) k) (unmapped some (All-tail (Contains lines) a.line (map (λ (b : Demand). b.line) some) k))
 
   -- of lines with nothing in common some are reported
-  all_found : (some : List Demand) → All IsOne some → is_empty (common_cover some) ≡ true → Some_is (IsAmong lines) (of_all some)
+  all_found : (some : List Demand) → All IsOne some → have_none some ≡ true → Some_is (IsAmong lines) (of_all some)
   all_found some k empty =
       subst (λ e. Some_is (IsAmong lines) (if e then Conflicting (conflict_kind (smallest some)) (map (λ (a : Demand). a.line) (smallest some)) ∷ [] else [])) (sym empty)
-      (inl (some_lines (smallest some) (smallest_right some empty).0, mapped (smallest some) (all_smallest IsOne some k)))
+      (inl (some_lines (smallest some) (smallest_none some empty), mapped (smallest some) (all_smallest IsOne some k)))
 
 -- ---- first mentions
 
@@ -189,47 +187,38 @@ module _ (lines : List Demand) (marker : Option (List ℕ)) where
   all_ones = unmapped (map (λ (a : Demand). a.line) (under marker lines)) (under marker lines) (All-contains_itself (map (λ (a : Demand). a.line) (under marker lines)))
 
   -- the lines without a marker have nothing in common
-  by_none : is_empty (common_cover (under None lines)) ≡ true → Some_is Fits (of_all (under None lines))
+  by_none : have_none (under None lines) ≡ true → Some_is Fits (of_all (under None lines))
   by_none e =
       all_found (map (λ (a : Demand). a.line) (under marker lines)) (under None lines)
       (all_sub (IsOne (map (λ (a : Demand). a.line) (under marker lines))) (counts_under None) (counts_under marker) (λ x. none_counts x.marker marker) lines all_ones) e
 
   -- a line has the marker
-  by_line : is_empty (common_cover (under marker lines)) ≡ true → (a : Demand) → HasKey (λ (x : Demand). x.marker) a.marker lines → a.marker ≡ marker
+  by_line : have_none (under marker lines) ≡ true → (a : Demand) → HasKey (λ (x : Demand). x.marker) a.marker lines → a.marker ≡ marker
       → Some_is Fits (flat_map (λ (b : Demand). of_all (under b.marker lines)) (first_mentions has_same_marker [] lines))
   by_line none a has is =
       reach (λ (x : Demand). x.marker) has_same_marker (λ x y. marker_yes x.marker y.marker) (λ x y. marker_alike x.marker y.marker) Fits (λ (b : Demand). of_all (under b.marker lines)) a
       (λ b e. subst (λ n. Some_is Fits (of_all (under n lines))) (sym (e ∙ is)) (all_found (map (λ (c : Demand). c.line) (under marker lines)) (under marker lines) all_ones none)) [] lines refl has
 
-by_marker : (lines : List Demand) (marker : Option (List ℕ)) → is_empty (common_cover (under marker lines)) ≡ true → is_empty (common_cover (under None lines)) ≡ false
+by_marker : (lines : List Demand) (marker : Option (List ℕ)) → have_none (under marker lines) ≡ true → have_none (under None lines) ≡ false
     → Some_is (Fits lines marker) (flat_map (λ (b : Demand). of_all (under b.marker lines)) (first_mentions has_same_marker [] lines))
 by_marker lines None none e = absurd (true≢false (sym none ∙ e))
 by_marker lines (Some m) none e =
     elim (marked m lines) [
       | inl r ↦ by_line lines (Some m) none r.0 r.1 r.2
-      | inr same ↦ absurd (true≢false (sym none ∙ ap (λ u. is_empty (common_cover u)) same ∙ e))
+      | inr same ↦ absurd (true≢false (sym none ∙ ap have_none same ∙ e))
     ]
 
-by_both : (lines : List Demand) (marker : Option (List ℕ)) (b : Bool) → is_empty (common_cover (under marker lines)) ≡ true → is_empty (common_cover (under None lines)) ≡ b
+by_both : (lines : List Demand) (marker : Option (List ℕ)) (b : Bool) → have_none (under marker lines) ≡ true → have_none (under None lines) ≡ b
     → Some_is (Fits lines marker) (if b then of_all (under None lines) else flat_map (λ (a : Demand). of_all (under a.marker lines)) (first_mentions has_same_marker [] lines))
 by_both lines marker true none e = by_none lines marker e
 by_both lines marker false none e = by_marker lines marker none e
 
-in_name : (lines : List Demand) (marker : Option (List ℕ)) → common_cover (under marker lines) ≡ [] → Some_is (Fits lines marker) (of_name lines)
-in_name lines marker none = by_both lines marker (is_empty (common_cover (under None lines))) (ap is_empty none) refl
+in_name : (lines : List Demand) (marker : Option (List ℕ)) → have_none (under marker lines) ≡ true → Some_is (Fits lines marker) (of_name lines)
+in_name lines marker none = by_both lines marker (have_none (under None lines)) none refl
 
-some_found : (lines : List Demand) (a : Demand) (marker : Option (List ℕ)) → Contains lines a → common_cover (under marker (filter (has_same_name a) lines)) ≡ [] → Some_is (Fits (filter (has_same_name a) lines) marker) (conflicts lines)
+pub some_found : (lines : List Demand) (a : Demand) (marker : Option (List ℕ)) → Contains lines a → have_none (under marker (filter (has_same_name a) lines)) ≡ true → Some_is (Fits (filter (has_same_name a) lines) marker) (conflicts lines)
 some_found lines a marker (k, inside, is) none =
     let P = Fits (filter (has_same_name a) lines) marker in
     reach (λ (x : Demand). x.name) has_same_name name_yes name_alike P (λ (b : Demand). of_name (filter (has_same_name b) lines)) a
     (λ b e. subst (λ n. Some_is P (of_name (filter (λ (c : Demand). bytes_eq n c.name) lines))) (sym e) (in_name (filter (has_same_name a) lines) marker none)) [] lines refl
     (contains_key (λ (x : Demand). x.name) a lines k inside is)
-
-pub conflicts_have_findings : ConflictsHaveFindings
-conflicts_have_findings files r lines a marker (xs, h, is) (ys, k, are) inside none =
-    let P = Fits (filter (has_same_name a) lines) marker in
-    let same : lines ≡ flat_map demands_in xs = are ∙ ap (flat_map demands_in) (of_lines (all_lines files) ys xs k h) in
-    any_is P r.findings
-    (subst (λ (q : Report). Some_is P q.findings) (sym is)
-    (in_right P (flat_map invalid_in xs) (conflicts (flat_map demands_in xs))
-    (subst (λ (demands : List Demand). Some_is P (conflicts demands)) same (some_found lines a marker inside none))))

@@ -2,17 +2,22 @@
 use Rattle.std.proofs.Common.{◌≡◌, ◌+◌, ◌<◌, ◌∙◌, ℕ, List, [], ◌∷◌, ◌++◌, ◌||◌, Bool, true, false, Option, Some, None, bytes_eq, cond, get_or, length, take, map, refl, sym, ap, if◌then◌else◌}
 use Rattle.std.proofs.lemmas.Bool.{true≢false}
 use Rattle.std.proofs.lemmas.List.{append-nil, map-append, take_more}
-use Rattle.std.proofs.lemmas.List.Elements.{filter-append}
+use Rattle.std.proofs.lemmas.List.Elements.{All-filter, All-nil, All-same, filter-append}
 use Rattle.std.proofs.lemmas.List.Folds.{list_any-append}
 use Rattle.std.proofs.lemmas.Slice.Eq.{bytes_eq-Decides}
-use Rattle.std.specs.List.{filter, list_any}
-use Rattle.pyver_findings.specs.Demands.{Demand}
+use Rattle.std.specs.List.{All, filter, list_any}
+use Rattle.pyver_findings.specs.Demands.{Demand, IsSound}
 use Rattle.pyver_findings.specs.Conflicts.{of_name}
 
 -- what is made of a group that is taken: at its first mention all, and later nothing
 pub of_taken : (b : Bool) (lines group : List Demand) → group ≡ (if b then [] else lines) → of_name group ≡ (if b then [] else of_name lines)
 of_taken true lines group is = ap of_name is
 of_taken false lines group is = ap of_name is
+
+-- a group that is taken is sound where all lines are
+pub sound_taken : (b : Bool) (p : Demand → Bool) (lines group : List Demand) → All IsSound lines → group ≡ (if b then [] else filter p lines) → All IsSound group
+sound_taken true p lines group sound is = All-same IsSound group [] is (All-nil IsSound)
+sound_taken false p lines group sound is = All-same IsSound group (filter p lines) is (All-filter p IsSound lines sound)
 
 swap_by : (m n : List ℕ) (b c : Bool) → bytes_eq m n ≡ b → bytes_eq n m ≡ c → b ≡ c
 swap_by m n true true e f = refl

@@ -1,30 +1,26 @@
 -- What is reported: a line by itself is no requirement; lines together count together, and no version is allowed by all.
-use Rattle.std.proofs.Common.{◌≡◌, ◌==◌, ◌⊎◌, ◌∙◌, ℕ, List, [], ◌∷◌, ◌&&◌, ◌||◌, Bool, true, false, IsTrue, Option, Some, None, bytes_eq, fold, is_none, length, map, not, refl, sym, ap, subst, inl, inr, if◌then◌else◌}
+use Rattle.std.proofs.Common.{◌≡◌, ◌==◌, ◌⊎◌, ◌∙◌, ℕ, List, [], ◌∷◌, ◌++◌, ◌&&◌, ◌||◌, Bool, true, false, IsTrue, Option, Some, None, bytes_eq, is_none, length, map, refl, sym, ap, subst, inl, inr, if◌then◌else◌}
 use Rattle.std.proofs.lemmas.Bool.{true≢false}
-use Rattle.std.proofs.lemmas.List.Elements.{All-append, All-cons, All-contains_itself, All-filter, All-head, All-nil, All-tail, filter_passes}
+use Rattle.std.proofs.lemmas.List.{map-append}
+use Rattle.std.proofs.lemmas.List.Elements.{All-append, All-cons, All-contains_itself, All-filter, All-head, All-nil, All-tail, All-weaker, filter_passes}
 use Rattle.std.specs.List.{All, AllZip, Contains, filter, flat_map}
 use Rattle.pep440_pick.proofs.Once.{one_requirement}
 use Rattle.pep440_pick.specs.Names.{normal}
 use Rattle.pep440_pick.specs.RequirementGrammar.{DerivesRequirement, Needed}
-use Rattle.pep440_ranges.proofs.Laws.{overlaps_hold_both}
-use Rattle.pep440_ranges.specs.Intersection.{overlaps}
-use Rattle.pep440_ranges.specs.RangeSegments.{contains}
 use Rattle.pep440_rs.proofs.Agreement.Operands.{list_has_texts}
-use Rattle.pep440_rs.proofs.Covering.Lists.{list_text_covers}
-use Rattle.pep440_rs.specs.Bounds.{Segments, full, list_range}
-use Rattle.pep440_rs.specs.Cover.{IsDenoted, cover_of}
+use Rattle.pep440_rs.proofs.Covering.Lists.{is_coverable}
+use Rattle.pep440_rs.specs.Cover.{IsCoverable}
 use Rattle.pep440_rs.specs.Matching.{list_matches}
-use Rattle.pep440_version.specs.Key.{record_cmp}
-use Rattle.pep440_version.specs.KeyLaws.{record_total}
+use Rattle.pep440_rs.specs.SpecifierGrammar.{HasText}
 use Rattle.pep440_version.specs.Record.{Record}
-use Rattle.pyver_findings.specs.Demands.{Demand, is_pinned, line_demand, or_all}
-use Rattle.pyver_findings.specs.Conflicts.{common_cover, conflict_kind, conflicts, counts_under, first_mentions, is_empty, of_all, of_name, has_same_marker, has_same_name, same_marker, smallest, under}
+use Rattle.pyver_findings.specs.Demands.{Demand, IsSound, is_pinned, line_demand}
+use Rattle.pyver_findings.specs.Conflicts.{conflict_kind, conflicts, counts_under, first_mentions, have_none, of_all, of_name, has_same_marker, has_same_name, same_marker, smallest, under}
 use Rattle.pyver_findings.specs.FileLines.{FileLine, all_lines}
-use Rattle.pyver_findings.specs.FindingLaws.{AsksFor, CountTogether, CountsUnder, FindingsHold, FitsConflict, IsRight, LineAllows, NamesVersion}
+use Rattle.pyver_findings.specs.FindingLaws.{AreNeeded, AsksFor, CountsUnder, FindingsHold, FitsConflict, IsRight, LineAllows, NamesVersion}
 use Rattle.pyver_findings.specs.Findings.{Conflicting, Finding}
 use Rattle.pyver_findings.specs.LineMeanings.{IsNone, LeftOut, LineMeaning, NamesFile, IsKindMeaning, IsMeaning, requirement_meaning, has_scheme, names_file, with_marker, with_url}
 use Rattle.pyver_findings.proofs.Found.{marker_yes}
-use Rattle.pyver_findings.proofs.SmallestLists.{all_smallest, is_nil, smallest_right}
+use Rattle.pyver_findings.proofs.SmallestLists.{Allows, IsSpared, all_smallest, none_allowed, smallest_none, smallest_right}
 use Rattle.pyver_findings.proofs.Rejecting.{invalid_right}
 use Rattle.pyver_findings.specs.Reports.{Report, demands_in, invalid_in}
 use Rattle.pyver_findings.specs.declared.cause.Cause.TheVariants as cause
@@ -34,26 +30,59 @@ use Rattle.pyver_requirements.specs.LineParts.{line_parts}
 
 -- ---- what a line asks for
 
--- the cover holds every version that the line allows
-abbrev pub IsCovered : Demand → Type 0
-IsCovered a = (v : Record) → IsDenoted v → LineAllows v a.line → contains record_cmp a.cover v ≡ true
-
-list_covered : (text : List ℕ) (n : Needed) → DerivesRequirement text n → (o : Option Segments) → list_range cover_of n.specifiers ≡ o → (v : Record) → IsDenoted v → IsTrue (list_matches n.specifiers v) → contains record_cmp (or_all o) v ≡ true
-list_covered text n d None is v denoted holds = refl
-list_covered text n d (Some cover) is v denoted holds = list_text_covers n.specifiers cover is (list_has_texts d.0 n.specifiers d.2) v denoted holds
-
-demand_covered : (l : FileLine) (marker : Option (List ℕ)) (n : Needed) → DerivesRequirement (line_parts l.text).requirement n → IsCovered (line_demand l marker n)
-demand_covered l marker n d v denoted (m, dm, hm) =
-    list_covered (line_parts l.text).requirement n d (list_range cover_of n.specifiers) refl v denoted
-    (subst (λ (q : Needed). IsTrue (list_matches q.specifiers v)) (one_requirement (line_parts l.text).requirement m n dm d) hm)
-
--- the line derives a requirement whose name has the normal form of the demand, and with a pin where it has one
+-- the line derives a requirement whose name has the normal form of the demand, with this list, and with a pin where it has one
 abbrev pub IsDerived : Demand → Type 0
-IsDerived a = (n : Needed) × DerivesRequirement (line_parts a.line.text).requirement n × (normal n.name ≡ a.name) × (is_pinned n.specifiers ≡ a.pinned)
+IsDerived a =
+    (n : Needed) × DerivesRequirement (line_parts a.line.text).requirement n × (normal n.name ≡ a.name) × (is_pinned n.specifiers ≡ a.pinned) × (n.specifiers ≡ a.specifiers)
+
+-- strings give the members of its list
+pub derived_sound : (a : Demand) → IsDerived a → IsSound a
+derived_sound a (n, d, called, pinned, same) =
+    subst (All IsCoverable) same (All-weaker HasText IsCoverable is_coverable n.specifiers (list_has_texts d.0 n.specifiers d.2))
+
+-- the line allows what the list contains
+line_allows : (v : Record) (a : Demand) → IsDerived a → Allows v a → LineAllows v a.line
+line_allows v a (n, d, called, pinned, same) h = (n, d, subst (λ list. IsTrue (list_matches list v)) (sym same) h)
+
+allows_line : (v : Record) (a : Demand) → IsDerived a → LineAllows v a.line → Allows v a
+allows_line v a (n, d, called, pinned, same) (m, dm, h) =
+    subst (λ list. IsTrue (list_matches list v)) (ap (λ (q : Needed). q.specifiers) (one_requirement (line_parts a.line.text).requirement m n dm d) ∙ same) h
+
+pub sound : (lines : List Demand) → All IsDerived lines → All IsSound lines
+sound lines k = All-weaker IsDerived IsSound derived_sound lines k
+
+-- the lists contain what the lines allow, and the lines allow what the lists contain
+all_allow : (v : Record) (lines : List Demand) → All IsDerived lines → All (LineAllows v) (map (λ (a : Demand). a.line) lines) → All (Allows v) lines
+all_allow v [] k all = All-nil (Allows v)
+all_allow v (a ∷ lines) k all =
+    let rest = map (λ (b : Demand). b.line) lines in
+    All-cons (Allows v) a lines (allows_line v a (All-head IsDerived a lines k) (All-head (LineAllows v) a.line rest all)) (all_allow v lines (All-tail IsDerived a lines k) (All-tail (LineAllows v) a.line rest all))
+
+lines_allow : (v : Record) (lines : List Demand) → All IsDerived lines → All (Allows v) lines → All (LineAllows v) (map (λ (a : Demand). a.line) lines)
+lines_allow v [] k all = All-nil (LineAllows v)
+lines_allow v (a ∷ lines) k all =
+    All-cons (LineAllows v) a.line (map (λ (b : Demand). b.line) lines) (line_allows v a (All-head IsDerived a lines k) (All-head (Allows v) a lines all))
+    (lines_allow v lines (All-tail IsDerived a lines k) (All-tail (Allows v) a lines all))
+
+-- without any one of the lines some version is allowed
+needed : (front kept : List Demand) → All IsDerived front → All IsDerived kept → IsSpared front kept [] → AreNeeded (map (λ (a : Demand). a.line) front) (map (λ (a : Demand). a.line) kept)
+needed front [] f k s = tt
+needed front (a ∷ kept) f k ((v, denoted, here, there, behind), more) =
+    let line = λ (b : Demand). b.line in
+    let later = All-tail IsDerived a kept k in (
+      (
+        v,
+        denoted,
+        subst (All (LineAllows v)) (map-append line front kept)
+            (lines_allow v (front ++ kept) (All-append IsDerived front kept f later) (All-append (Allows v) front kept here there)),
+      ),
+      subst (λ before. AreNeeded before (map line kept)) (map-append line front (a ∷ []))
+          (needed (front ++ a ∷ []) kept (All-append IsDerived front (a ∷ []) f (All-cons IsDerived a [] (All-head IsDerived a kept k) (All-nil IsDerived))) later more),
+    )
 
 -- one of these lines asks for it
 abbrev pub IsAsked : List FileLine → Demand → Type 0
-IsAsked read a = IsCovered a × Contains read a.line × IsDerived a × ((line_parts a.line.text).marker ≡ a.marker)
+IsAsked read a = Contains read a.line × IsDerived a × ((line_parts a.line.text).marker ≡ a.marker)
 
 -- ---- what lines ask for
 
@@ -70,7 +99,7 @@ module _ (read : List FileLine) where
   module _ (l : FileLine) (known : Contains read l) where
     module _ (n : Needed) (d : DerivesRequirement (line_parts l.text).requirement n) where
       asked : IsAsked read (line_demand l (line_parts l.text).marker n)
-      asked = (demand_covered l (line_parts l.text).marker n d, known, (n, d, refl, refl), refl)
+      asked = (known, (n, d, refl, refl, refl), refl)
 
       of_url : (url : Option (List ℕ)) → All (IsAsked read) (demands_in (with_url l (line_parts l.text) n url))
       of_url None = All-cons (IsAsked read) (line_demand l (line_parts l.text).marker n) [] asked (All-nil (IsAsked read))
@@ -97,7 +126,7 @@ module _ (read : List FileLine) where
     of_kind Requirement x (inr (text, inl (n, d, is))) = same_reading x (requirement_meaning l (line_parts l.text) n) is (of_marker n d (line_parts l.text).marker)
     of_kind Requirement x (inr (text, inr (f, r, is))) = same_reading x _ is (All-nil (IsAsked read))
 
-  all_asked : (lines : List FileLine) (xs : List LineMeaning) → All (Contains read) lines → AllZip IsMeaning lines xs → All (IsAsked read) (flat_map demands_in xs)
+  pub all_asked : (lines : List FileLine) (xs : List LineMeaning) → All (Contains read) lines → AllZip IsMeaning lines xs → All (IsAsked read) (flat_map demands_in xs)
   all_asked [] [] known h = All-nil (IsAsked read)
   all_asked [] (x ∷ xs) known h = absurd h
   all_asked (l ∷ lines) [] known h = absurd h
@@ -105,14 +134,7 @@ module _ (read : List FileLine) where
       All-append (IsAsked read) (demands_in x) (flat_map demands_in xs) (of_kind l (All-head (Contains read) l lines known) (line_kind l.text) x h.0)
       (all_asked lines xs (All-tail (Contains read) l lines known) h.1)
 
--- ---- ranges, lists and markers
-
--- no version lies in an empty range
-holds_none : (segments : Segments) (v : Record) → is_empty segments ≡ true → contains record_cmp segments v ≡ true → ⊥
-holds_none segments v e holds = true≢false (sym holds ∙ ap (λ s. contains record_cmp s v) (is_nil segments e))
-
-both_hold : (a b : Segments) (v : Record) → contains record_cmp a v ≡ true → contains record_cmp b v ≡ true → contains record_cmp (overlaps record_cmp a b) v ≡ true
-both_hold a b v one other = overlaps_hold_both record_total a b v ∙ (λ j. one j && other j)
+-- ---- lists and markers
 
 -- both hold of each
 both : (P Q : Demand → Type 0) (lines : List Demand) → All P lines → All Q lines → All (λ a. P a × Q a) lines
@@ -151,17 +173,17 @@ module _ (read : List FileLine) where
     IsNamed a = IsAsked read a × (bytes_eq name a.name ≡ true)
 
     asks_for : (a : Demand) → IsNamed a → AsksFor name a.line
-    asks_for a ((covered, known, (n, d, called, pinned), marked), same) = (n, d, ap (bytes_eq name) called ∙ same)
+    asks_for a ((known, (n, d, called, pinned, list), marked), same) = (n, d, ap (bytes_eq name) called ∙ same)
 
     counts_line : (marker : Option (List ℕ)) (a : Demand) → IsNamed a → (a.marker ≡ None) ⊎ (a.marker ≡ marker) → CountsUnder marker a.line
-    counts_line marker a ((covered, known, derived, marked), same) (inl none) = inl (marked ∙ none)
-    counts_line marker a ((covered, known, derived, marked), same) (inr is) = inr (marked ∙ is)
+    counts_line marker a ((known, derived, marked), same) (inl none) = inl (marked ∙ none)
+    counts_line marker a ((known, derived, marked), same) (inr is) = inr (marked ∙ is)
 
     names_version : (a : Demand) → IsNamed a → a.pinned ≡ true → NamesVersion a.line
-    names_version a ((covered, known, (n, d, called, pinned), marked), same) names = (n, d, pinned ∙ names)
+    names_version a ((known, (n, d, called, pinned, list), marked), same) names = (n, d, pinned ∙ names)
 
     names_none : (a : Demand) → IsNamed a → a.pinned ≡ false → NamesVersion a.line → ⊥
-    names_none a ((covered, known, (n, d, called, pinned), marked), same) free (m, e, holds) =
+    names_none a ((known, (n, d, called, pinned, list), marked), same) free (m, e, holds) =
         let one : n ≡ m = one_requirement (line_parts a.line.text).requirement n m d e in
         true≢false (sym holds ∙ sym (ap (λ (q : Needed). is_pinned q.specifiers) one) ∙ pinned ∙ free)
 
@@ -181,14 +203,8 @@ module _ (read : List FileLine) where
 
     -- ---- lines that count together
 
-    all_hold : (v : Record) → IsDenoted v → (cover : Segments) (lines : List Demand) → contains record_cmp cover v ≡ true → All IsNamed lines → All (LineAllows v) (map (λ (a : Demand). a.line) lines)
-        → contains record_cmp (fold (λ c (a : Demand). overlaps record_cmp c a.cover) cover lines) v ≡ true
-    all_hold v denoted cover [] holds k all = holds
-    all_hold v denoted cover (a ∷ lines) holds k all =
-        let one = All-head IsNamed a lines k in
-        all_hold v denoted (overlaps record_cmp cover a.cover) lines
-        (both_hold cover a.cover v holds (one.0.0 v denoted (All-head (LineAllows v) a.line (map (λ (b : Demand). b.line) lines) all)))
-        (All-tail IsNamed a lines k) (All-tail (LineAllows v) a.line (map (λ (b : Demand). b.line) lines) all)
+    derived : (lines : List Demand) → All IsNamed lines → All IsDerived lines
+    derived lines k = All-weaker IsNamed IsDerived (λ a one. one.0.1) lines k
 
     abbrev pub Counts : Option (List ℕ) → Demand → Type 0
     Counts marker a = IsNamed a × (counts_under marker a ≡ true)
@@ -197,11 +213,12 @@ module _ (read : List FileLine) where
     all_right marker lines named k =
         let some = smallest lines in
         let these = all_smallest IsNamed lines named in
-        where_true (IsRight read) (is_empty (common_cover lines)) (Conflicting (conflict_kind some) (map (λ (a : Demand). a.line) some)) (λ e. (
-          mapped (Contains read) IsNamed (λ a one. one.0.1) some these,
+        where_true (IsRight read) (have_none lines) (Conflicting (conflict_kind some) (map (λ (a : Demand). a.line) some)) (λ e. (
+          mapped (Contains read) IsNamed (λ a one. one.0.0) some these,
           (name, marker, mapped (AsksFor name) IsNamed asks_for some these, mapped (CountsUnder marker) (Counts marker) (λ a one. counts_line marker a one.0 (counted_marker a.marker marker one.1)) some (all_smallest (Counts marker) lines k)),
           kind_fits some these,
-          λ v denoted all. holds_none (common_cover some) v (smallest_right lines e).0 (all_hold v denoted full some refl these all),
+          λ v denoted all. none_allowed some (sound some (derived some these)) (smallest_none lines e) v denoted (all_allow v some (derived some these) all),
+          needed [] some (All-nil IsDerived) (derived some these) (smallest_right lines (sound lines (derived lines named)) e).2,
         ))
 
     under_right : (marker : Option (List ℕ)) (lines : List Demand) → All IsNamed lines → All (IsRight read) (of_all (under marker lines))
@@ -211,7 +228,7 @@ module _ (read : List FileLine) where
 
     name_right : (lines : List Demand) → All IsNamed lines → All (IsRight read) (of_name lines)
     name_right lines k =
-        by_empty (IsRight read) (is_empty (common_cover (under None lines))) _ _ (under_right None lines k)
+        by_empty (IsRight read) (have_none (under None lines)) _ _ (under_right None lines k)
         (of_each (IsRight read) (λ (a : Demand). of_all (under a.marker lines)) (λ a. under_right a.marker lines k) (first_mentions has_same_marker [] lines))
 
   conflicts_right : (lines : List Demand) → All (IsAsked read) lines → All (IsRight read) (conflicts lines)

@@ -3,12 +3,11 @@ pub mod Reasons
 pub mod Grouping
 pub mod Readings
 pub mod Rejecting
-pub mod SharedPlaces
 pub mod SmallestLists
-pub mod SmallestReported
 pub mod Scanning
 pub mod Holding
 pub mod Found
+pub mod Complete
 pub mod InvalidFound
 pub mod Once
 pub mod Folders

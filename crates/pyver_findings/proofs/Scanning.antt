@@ -1,85 +1,77 @@
 -- The rounds in which a smallest list of lines is found.
-use Rattle.std.proofs.Common.{◌≡◌, ◌+◌, ◌<◌, ◌⊎◌, ◌∙◌, ℕ, List, [], ◌∷◌, ◌++◌, true, false, drop, fold, get_or, length, map, refl, reverse, sym, ap, subst, take, inl, inr, if◌then◌else◌}
-use Rattle.std.proofs.lemmas.Bool.{true≢false}
+use Rattle.std.proofs.Common.{arith, ◌≡◌, ◌+◌, ◌<◌, ◌∙◌, ℕ, List, [], ◌∷◌, ◌++◌, true, false, drop, get_or, length, map, refl, reverse, sym, ap, subst, take, take_all, if◌then◌else◌}
 use Rattle.std.proofs.lemmas.List.{append_assoc, map-append, reverse-append, reverse-reverse, take-append-drop, take_more}
-use Rattle.std.proofs.lemmas.List.Sums.{fold-append}
-use Rattle.pep440_ranges.specs.Intersection.{overlaps}
-use Rattle.pep440_rs.specs.Bounds.{Segments}
-use Rattle.pep440_version.specs.Key.{record_cmp}
-use Rattle.pyver_findings.specs.Demands.{Demand}
-use Rattle.pyver_findings.specs.Conflicts.{is_empty, keep, shared_cover}
-use Rattle.pyver_findings.proofs.SmallestLists.{is_nil, stays_empty}
-use Rattle.pyver_findings.proofs.Steps.{rest_at}
+use Rattle.std.proofs.lemmas.List.Elements.{All-append, All-cons, All-head, All-nil, All-tail}
+use Rattle.std.specs.List.{All}
+use Rattle.pyver_findings.specs.Demands.{Demand, IsSound}
+use Rattle.pyver_findings.specs.Conflicts.{have_none, keep}
+use Rattle.pyver_findings.proofs.SmallestLists.{Allows, all_reversed, left_all, more_none, right_all}
 
-nothing_shared : (lines : List Demand) → shared_cover [] lines ≡ []
-nothing_shared [] = refl
-nothing_shared (a ∷ lines) = nothing_shared lines
-
-still_empty : (cover : Segments) (first more : List Demand) → is_empty (shared_cover cover first) ≡ true → is_empty (shared_cover cover (first ++ more)) ≡ true
-still_empty cover first more e =
-    ap is_empty (fold-append (λ c (a : Demand). overlaps record_cmp c a.cover) cover first more ∙ ap (λ c. shared_cover c more) (is_nil (shared_cover cover first) e) ∙ nothing_shared more)
-
--- with an empty cover nothing more is kept
-keep_done : (cover : Segments) (kept before : List Demand) → is_empty cover ≡ true → keep cover kept before ≡ kept
-keep_done cover kept [] e = refl
-keep_done cover kept (a ∷ before) e =
-    ap (λ b. if b then keep cover kept before else keep (overlaps record_cmp cover a.cover) (a ∷ kept) before) (still_empty cover [] (reverse before) e) ∙ keep_done cover kept before e
-
--- where the first lines have nothing in common, the later ones are left out
-skipped : (cover : Segments) (kept first : List Demand) → is_empty (shared_cover cover first) ≡ true → (later : List Demand) → keep cover kept (later ++ reverse first) ≡ keep cover kept (reverse first)
-skipped cover kept first e [] = refl
-skipped cover kept first e (x ∷ later) =
+-- where the first lines have no version in common with those that are kept, the later ones are left out
+skipped : (kept first : List Demand) → All IsSound kept → All IsSound first → have_none (first ++ kept) ≡ true → (later : List Demand) → All IsSound later → keep kept (later ++ reverse first) ≡ keep kept (reverse first)
+skipped kept first k f e [] s = refl
+skipped kept first k f e (x ∷ later) s =
     let all = later ++ reverse first in
-    let turned : reverse all ≡ first ++ reverse later = reverse-append later (reverse first) ∙ ap (λ f. f ++ reverse later) (reverse-reverse first) in
-    ap (λ b. if b then keep cover kept all else keep (overlaps record_cmp cover x.cover) (x ∷ kept) all)
-    (subst (λ ls. is_empty (shared_cover cover ls) ≡ true) (sym turned) (still_empty cover first (reverse later) e))
-    ∙ skipped cover kept first e later
+    let rest = All-tail IsSound x later s in
+    let turned : reverse all ≡ first ++ reverse later = reverse-append later (reverse first) ∙ ap (λ r. r ++ reverse later) (reverse-reverse first) in
+    let sound = All-append IsSound first (reverse later) f (all_reversed IsSound later rest) in
+    let none : have_none ((first ++ reverse later) ++ kept) ≡ true =
+    more_none (first ++ kept) ((first ++ reverse later) ++ kept) (All-append IsSound first kept f k) (All-append IsSound (first ++ reverse later) kept sound k)
+    (λ v h. All-append (Allows v) first kept (left_all (Allows v) first (reverse later) (left_all (Allows v) (first ++ reverse later) kept h)) (right_all (Allows v) (first ++ reverse later) kept h)) e in
+    ap (λ b. if b then keep kept all else keep (x ∷ kept) all) (subst (λ ls. have_none (ls ++ kept) ≡ true) (sym turned) none)
+    ∙ skipped kept first k f e later rest
 
--- the line with which those up to it have nothing in common is kept
-keep_found : (cover : Segments) (kept before : List Demand) (a : Demand) (later : List Demand) → is_empty (shared_cover cover (before ++ a ∷ [])) ≡ true → is_empty (shared_cover cover before) ≡ false
-    → keep cover kept (reverse (before ++ (a ∷ later))) ≡ keep (overlaps record_cmp cover a.cover) (a ∷ kept) (reverse before)
-keep_found cover kept before a later none some =
-    let front = before ++ a ∷ [] in
-    let turned : reverse (before ++ (a ∷ later)) ≡ reverse later ++ reverse front = ap reverse (sym (append_assoc before (a ∷ []) later)) ∙ reverse-append front later in
-    ap (keep cover kept) turned ∙ skipped cover kept front none (reverse later) ∙ ap (keep cover kept) (reverse-append before (a ∷ []))
-    ∙ ap (λ b. if b then keep cover kept (reverse before) else keep (overlaps record_cmp cover a.cover) (a ∷ kept) (reverse before))
-    (subst (λ ls. is_empty (shared_cover cover ls) ≡ false) (sym (reverse-reverse before)) some)
+-- those after the first lines are left out
+pub first_enough : (kept first later : List Demand) → All IsSound kept → All IsSound first → All IsSound later → have_none (first ++ kept) ≡ true → keep kept (reverse (first ++ later)) ≡ keep kept (reverse first)
+first_enough kept first later k f s e = ap (keep kept) (reverse-append first later) ∙ skipped kept first k f e (reverse later) (all_reversed IsSound later s)
+
+-- without the last of them they have some in common, so it is kept
+pub last_kept : (kept before : List Demand) (a : Demand) → have_none (before ++ kept) ≡ false → keep kept (reverse (before ++ a ∷ [])) ≡ keep (a ∷ kept) (reverse before)
+last_kept kept before a some =
+    ap (keep kept) (reverse-append before (a ∷ []))
+    ∙ ap (λ b. if b then keep kept (reverse before) else keep (a ∷ kept) (reverse before)) (subst (λ ls. have_none (ls ++ kept) ≡ false) (sym (reverse-reverse before)) some)
+
+-- ---- one round, of items that stand for lines
+
+taken : {X : Type 0} (xs : List X) (n m : ℕ) (x : X) → n ≡ m + 1 → m < length xs → x ≡ get_or xs m x → take n xs ≡ take m xs ++ x ∷ []
+taken xs n m x e inside is = ap (λ k. take k xs) e ∙ take_more xs m x inside ∙ ap (λ y. take m xs ++ y ∷ []) (sym is)
 
 module _ {X : Type 0} (view : X → Demand) where
-  taken : (xs : List X) (i : ℕ) (x : X) → i < length xs → x ≡ get_or xs i x → map view (take (i + 1) xs) ≡ map view (take i xs) ++ view x ∷ []
-  taken xs i x inside is = ap (map view) (take_more xs i x inside ∙ ap (λ y. take i xs ++ y ∷ []) (sym is)) ∙ map-append view (take i xs) (x ∷ [])
+  -- what is known before each round
+  pub record IsRound (total : List Demand) (kept rest : List X) : Type 0 where
+    pub same : keep (map view kept) (reverse (map view rest)) ≡ total
+    pub none : have_none (map view rest ++ map view kept) ≡ true
+    pub kept_sound : All IsSound (map view kept)
+    pub rest_sound : All IsSound (map view rest)
 
-  -- one line more
-  pub shared_more : (cover : Segments) (xs : List X) (i : ℕ) (x : X) → i < length xs → x ≡ get_or xs i x
-      → shared_cover cover (map view (take (i + 1) xs)) ≡ overlaps record_cmp (shared_cover cover (map view (take i xs))) (view x).cover
-  shared_more cover xs i x inside is =
-      ap (shared_cover cover) (taken xs i x inside is) ∙ fold-append (λ c (a : Demand). overlaps record_cmp c a.cover) cover (map view (take i xs)) (view x ∷ [])
+  parts : (rest : List X) (n : ℕ) → map view rest ≡ map view (take n rest) ++ map view (drop n rest)
+  parts rest n = ap (map view) (sym (take-append-drop n rest)) ∙ map-append view (take n rest) (drop n rest)
 
-  -- one round
-  pub round : (total : List Demand) (cover : Segments) (kept rest : List X) (i : ℕ) (x : X) → i < length rest → x ≡ get_or rest i x
-      → is_empty (shared_cover cover (map view (take (i + 1) rest))) ≡ true → is_empty (shared_cover cover (map view (take i rest))) ≡ false
-      → keep cover (reverse (map view kept)) (reverse (map view rest)) ≡ total
-      → (keep (overlaps record_cmp cover (view x).cover) (reverse (map view (kept ++ x ∷ []))) (reverse (map view (take i rest))) ≡ total)
-      × (is_empty (shared_cover (overlaps record_cmp cover (view x).cover) (map view (take i rest))) ≡ true)
-  round total cover kept rest i x inside is none some so =
-      let before = map view (take i rest) in
-      let later = map view (drop (i + 1) rest) in
-      let empty : is_empty (shared_cover cover (before ++ view x ∷ [])) ≡ true = subst (λ ls. is_empty (shared_cover cover ls) ≡ true) (taken rest i x inside is) none in
-      let parts : map view rest ≡ before ++ (view x ∷ later) =
-      ap (map view) (sym (take-append-drop i rest) ∙ ap (λ r. take i rest ++ r) (rest_at rest i x inside is)) ∙ map-append view (take i rest) (x ∷ drop (i + 1) rest) in
-      let more : reverse (map view (kept ++ x ∷ [])) ≡ view x ∷ reverse (map view kept) = ap reverse (map-append view kept (x ∷ [])) ∙ reverse-append (map view kept) (view x ∷ []) in (
-        ap (λ k. keep (overlaps record_cmp cover (view x).cover) k (reverse before)) more ∙ sym (keep_found cover (reverse (map view kept)) before (view x) later empty some)
-            ∙ ap (λ ls. keep cover (reverse (map view kept)) (reverse ls)) (sym parts) ∙ so,
-        stays_empty cover (view x) before empty,
-      )
+  -- the last of the fewest lines is kept
+  pub round : (total : List Demand) (kept rest : List X) (n m : ℕ) (x : X) → n ≡ m + 1 → m < length rest → x ≡ get_or rest m x → have_none (map view (take n rest) ++ map view kept) ≡ true
+      → have_none (map view (take m rest) ++ map view kept) ≡ false → IsRound total kept rest → IsRound total (x ∷ kept) (take m rest)
+  round total kept rest n m x e inside is none some r =
+      let first = map view (take n rest) in
+      let later = map view (drop n rest) in
+      let before = map view (take m rest) in
+      let k = map view kept in
+      let sound = subst (All IsSound) (parts rest n) r.rest_sound in
+      let first_sound = left_all IsSound first later sound in
+      let front : first ≡ before ++ view x ∷ [] = ap (map view) (taken rest n m x e inside is) ∙ map-append view (take m rest) (x ∷ []) in
+      let front_sound = subst (All IsSound) front first_sound in
+      record {
+        same =
+            sym (last_kept k before (view x) some) ∙ ap (λ l. keep k (reverse l)) (sym front) ∙ sym (first_enough k first later r.kept_sound first_sound (right_all IsSound first later sound) none)
+            ∙ ap (λ l. keep k (reverse l)) (sym (parts rest n)) ∙ r.same;
+        none = ap have_none (sym (append_assoc before (view x ∷ []) k)) ∙ ap (λ l. have_none (l ++ k)) (sym front) ∙ none;
+        kept_sound = All-cons IsSound (view x) k (All-head IsSound (view x) [] (right_all IsSound before (view x ∷ []) front_sound)) r.kept_sound;
+        rest_sound = left_all IsSound before (view x ∷ []) front_sound;
+      }
 
-  map_reverse : (xs : List X) → map view (reverse xs) ≡ reverse (map view xs)
-  map_reverse [] = refl
-  map_reverse (x ∷ xs) =
-      ap (map view) (reverse-append (x ∷ []) xs) ∙ map-append view (reverse xs) (x ∷ []) ∙ ap (λ r. r ++ view x ∷ []) (map_reverse xs) ∙ sym (reverse-append (view x ∷ []) (map view xs))
+  -- all of them are enough
+  pub all_enough : (xs : List X) (kept : List Demand) → have_none (map view xs ++ kept) ≡ true → have_none (map view (take (length xs) xs) ++ kept) ≡ true
+  all_enough xs kept none = ap (λ l. have_none (map view l ++ kept)) (take_all (length xs) xs (omega arith)) ∙ none
 
-  -- the last round
-  pub last_round : (total : List Demand) (cover : Segments) (kept rest : List X) → (is_empty cover ≡ true) ⊎ (is_empty (shared_cover cover (map view rest)) ≡ false)
-      → is_empty (shared_cover cover (map view rest)) ≡ true → keep cover (reverse (map view kept)) (reverse (map view rest)) ≡ total → map view (reverse kept) ≡ total
-  last_round total cover kept rest (inl e) none so = map_reverse kept ∙ sym (keep_done cover (reverse (map view kept)) (reverse (map view rest)) e) ∙ so
-  last_round total cover kept rest (inr some) none so = absurd (true≢false (sym none ∙ some))
+  -- those that are kept have none
+  pub last_round : (total : List Demand) (kept rest : List X) → have_none (map view kept) ≡ true → IsRound total kept rest → map view kept ≡ total
+  last_round total kept rest none r = sym (first_enough (map view kept) [] (map view rest) r.kept_sound (All-nil IsSound) r.rest_sound none) ∙ r.same

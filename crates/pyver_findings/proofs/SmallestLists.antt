@@ -1,31 +1,31 @@
--- A smallest list of lines that have nothing in common: it has nothing in common, and without any one of its lines it has.
-use Rattle.std.proofs.Common.{arith, ◌≡◌, ◌==◌, ◌∙◌, List, [], ◌∷◌, ◌++◌, ◌&&◌, Bool, true, false, fold, length, refl, sym, ap, reverse, subst, if◌then◌else◌}
+-- A smallest list of lines that have no version in common: it has none, and without any one of its lines it has some.
+use Rattle.std.proofs.Common.{arith, ◌≡◌, ◌==◌, ◌∙◌, ℕ, List, [], ◌∷◌, ◌++◌, ◌&&◌, Bool, true, false, IsTrue, Option, Some, None, IfSome, is_none, length, refl, sym, ap, reverse, if◌then◌else◌}
 use Rattle.std.proofs.lemmas.Bool.{eqb-true, true≢false}
-use Rattle.std.proofs.lemmas.List.{reverse-append, reverse-reverse}
-use Rattle.std.proofs.lemmas.List.Elements.{All-append, All-cons, All-head, All-nil, All-same, All-tail}
-use Rattle.std.specs.List.{All}
+use Rattle.std.proofs.lemmas.List.{append_assoc, reverse-append, reverse-reverse}
+use Rattle.std.proofs.lemmas.List.Elements.{All-append, All-cons, All-filter, All-head, All-nil, All-same, All-tail}
+use Rattle.std.proofs.lemmas.List.Concat.{flat_map-append}
+use Rattle.std.proofs.lemmas.List.Folds.{list_all-append}
+use Rattle.std.specs.List.{All, flat_map}
 use Rattle.std.specs.Prelude.{⊤}
-use Rattle.pep440_ranges.proofs.Places.{Place}
-use Rattle.pep440_ranges.specs.Intersection.{overlaps}
-use Rattle.pep440_rs.specs.Bounds.{Segments, full}
-use Rattle.pep440_version.specs.Key.{record_cmp}
-use Rattle.pep440_version.specs.KeyLaws.{record_total}
+use Rattle.pep440_rs.specs.Cover.{IsCoverable, IsDenoted}
+use Rattle.pep440_rs.specs.Matching.{list_matches, matches}
+use Rattle.pep440_rs.specs.Specifiers.{Spec}
 use Rattle.pep440_version.specs.Record.{Record}
-use Rattle.pyver_findings.specs.Demands.{Demand}
-use Rattle.pyver_findings.specs.Conflicts.{common_cover, is_empty, keep, shared_cover, smallest}
-use Rattle.pyver_findings.specs.FindingLaws.{IsNeeded, IsSmallest}
-use Rattle.pyver_findings.proofs.SharedPlaces.{are_valid, first_place, lies, lies_overlaps, valid_overlaps}
+use Rattle.pep440_witness.proofs.Finding.{first_contained, is_none as none_contained}
+use Rattle.pep440_witness.proofs.Fitting.{found_denoted}
+use Rattle.pep440_witness.specs.Probes.{first_match}
+use Rattle.pyver_findings.specs.Demands.{Demand, IsSound}
+use Rattle.pyver_findings.specs.Conflicts.{counts_under, first_mentions, has_same_marker, have_none, keep, of_all, of_name, smallest, specifiers_of, under}
 
--- a list of no length is empty
 pub is_nil : {X : Type 0} (xs : List X) → (length xs == 0) ≡ true → xs ≡ []
 is_nil [] e = refl
 is_nil (x ∷ xs) e = let none : length (x ∷ xs) ≡ 0 = eqb-true (length (x ∷ xs)) 0 e in absurd (omega (arith, none))
 
--- ---- places of covers
+-- ---- versions and lines
 
--- the place lies in the cover of the line
-abbrev pub IsIn : Place Record → Demand → Type 0
-IsIn p a = lies record_cmp p a.cover ≡ true
+-- the list of the line contains the version
+abbrev pub Allows : Record → Demand → Type 0
+Allows v a = IsTrue (list_matches a.specifiers v)
 
 left_of : (a b : Bool) → (a && b) ≡ true → a ≡ true
 left_of true b e = refl
@@ -35,53 +35,61 @@ right_of : (a b : Bool) → (a && b) ≡ true → b ≡ true
 right_of true b e = e
 right_of false b e = absurd (true≢false (sym e))
 
-not_empty_by : (p : Place Record) (ss : Segments) (b : Bool) → is_empty ss ≡ b → lies record_cmp p ss ≡ true → is_empty ss ≡ false
-not_empty_by p ss true e h = absurd (true≢false (sym h ∙ ap (λ s. lies record_cmp p s) (is_nil ss e)))
-not_empty_by p ss false e h = e
+parts : (v : Record) (xs ys : List Spec) → list_matches (xs ++ ys) v ≡ list_matches xs v && list_matches ys v
+parts v xs ys = list_all-append (λ (m : Spec). matches m.operator m.version v) xs ys
 
-not_empty : (p : Place Record) (ss : Segments) → lies record_cmp p ss ≡ true → is_empty ss ≡ false
-not_empty p ss h = not_empty_by p ss (is_empty ss) refl h
+allowed : (v : Record) (lines : List Demand) → All (Allows v) lines → IsTrue (list_matches (specifiers_of lines) v)
+allowed v [] k = refl
+allowed v (a ∷ lines) k = parts v a.specifiers (specifiers_of lines) ∙ (λ j. All-head (Allows v) a lines k j && allowed v lines (All-tail (Allows v) a lines k) j)
 
-shared_lies : (p : Place Record) (cover : Segments) (lines : List Demand) → lies record_cmp p cover ≡ true → All (IsIn p) lines → lies record_cmp p (shared_cover cover lines) ≡ true
-shared_lies p cover [] here k = here
-shared_lies p cover (a ∷ lines) here k =
-    shared_lies p (overlaps record_cmp cover a.cover) lines (lies_overlaps record_total p cover a.cover ∙ (λ j. here j && All-head (IsIn p) a lines k j)) (All-tail (IsIn p) a lines k)
+allow : (v : Record) (lines : List Demand) → IsTrue (list_matches (specifiers_of lines) v) → All (Allows v) lines
+allow v [] h = All-nil (Allows v)
+allow v (a ∷ lines) h =
+    let both = sym (parts v a.specifiers (specifiers_of lines)) ∙ h in
+    All-cons (Allows v) a lines (left_of (list_matches a.specifiers v) (list_matches (specifiers_of lines) v) both) (allow v lines (right_of (list_matches a.specifiers v) (list_matches (specifiers_of lines) v) both))
 
-lies_shared : (p : Place Record) (cover : Segments) (lines : List Demand) → lies record_cmp p (shared_cover cover lines) ≡ true → (lies record_cmp p cover ≡ true) × All (IsIn p) lines
-lies_shared p cover [] h = (h, All-nil (IsIn p))
-lies_shared p cover (a ∷ lines) h =
-    let r = lies_shared p (overlaps record_cmp cover a.cover) lines h in
-    let both = sym (lies_overlaps record_total p cover a.cover) ∙ r.0 in
-    (left_of (lies record_cmp p cover) (lies record_cmp p a.cover) both, All-cons (IsIn p) a lines (right_of (lies record_cmp p cover) (lies record_cmp p a.cover) both) r.1)
+sound_members : (lines : List Demand) → All IsSound lines → All IsCoverable (specifiers_of lines)
+sound_members [] k = All-nil IsCoverable
+sound_members (a ∷ lines) k = All-append IsCoverable a.specifiers (specifiers_of lines) (All-head IsSound a lines k) (sound_members lines (All-tail IsSound a lines k))
 
-valid_shared : (cover : Segments) (lines : List Demand) → are_valid record_total cover ≡ true → are_valid record_total (shared_cover cover lines) ≡ true
-valid_shared cover [] v = v
-valid_shared cover (a ∷ lines) v = valid_shared (overlaps record_cmp cover a.cover) lines (valid_overlaps record_total cover a.cover)
+-- ---- what the test decides
 
-some_place : (ss : Segments) → are_valid record_total ss ≡ true → is_empty ss ≡ false → (p : Place Record) × (lies record_cmp p ss ≡ true)
-some_place [] v e = absurd (true≢false e)
-some_place (s ∷ ss) v e = first_place record_total s ss v
+no_version : (o : Option Record) → is_none o ≡ true → o ≡ None
+no_version None e = refl
+no_version (Some v) e = absurd (true≢false (sym e))
 
--- if the intersection is not empty, a place lies in all
-shared_place : (cover : Segments) (lines : List Demand) → are_valid record_total cover ≡ true → is_empty (shared_cover cover lines) ≡ false → (p : Place Record) × (lies record_cmp p cover ≡ true) × All (IsIn p) lines
-shared_place cover lines v e =
-    let found = some_place (shared_cover cover lines) (valid_shared cover lines v) e in
-    let both = lies_shared found.0 cover lines found.1 in
-    (found.0, both.0, both.1)
+pub none_allowed : (lines : List Demand) → All IsSound lines → have_none lines ≡ true → (v : Record) → IsDenoted v → All (Allows v) lines → ⊥
+none_allowed lines sound none v denoted all =
+    none_contained (specifiers_of lines) (sym (no_version (first_match (specifiers_of lines)) none)) (sound_members lines sound) v denoted (allowed v lines all)
 
--- a list is empty if it cannot be otherwise
-empty_by : (ss : Segments) (b : Bool) → is_empty ss ≡ b → (is_empty ss ≡ false → ⊥) → is_empty ss ≡ true
-empty_by ss true e never = e
-empty_by ss false e never = absurd (never e)
+-- a version that a string denotes, and that all these lines allow
+abbrev pub HasShared : List Demand → Type 0
+HasShared lines = (v : Record) × IsDenoted v × All (Allows v) lines
+
+pub some_allowed : (lines : List Demand) → All IsSound lines → have_none lines ≡ false → HasShared lines
+some_allowed lines sound some = go (first_match (specifiers_of lines)) some (found_denoted (specifiers_of lines) (sound_members lines sound)) (first_contained (specifiers_of lines))
+  where
+    go : (o : Option Record) → is_none o ≡ false → IfSome o IsDenoted → IfSome o (λ v. IsTrue (list_matches (specifiers_of lines) v)) → HasShared lines
+    go None e d h = absurd (true≢false e)
+    go (Some v) e d h = (v, d, allow v lines h)
+
+pub none_by : (lines : List Demand) (b : Bool) → have_none lines ≡ b → (have_none lines ≡ false → ⊥) → have_none lines ≡ true
+none_by lines true e never = e
+none_by lines false e never = absurd (never e)
+
+-- what all of more lines allow, all of these do
+pub more_none : (lines more : List Demand) → All IsSound lines → All IsSound more → ((v : Record) → All (Allows v) more → All (Allows v) lines) → have_none lines ≡ true → have_none more ≡ true
+more_none lines more sound all into none =
+    none_by more (have_none more) refl (λ some. let found = some_allowed more all some in none_allowed lines sound none found.0 found.1 (into found.0 found.2))
 
 -- ---- parts of lists
 
 module _ (P : Demand → Type 0) where
-  left_all : (xs ys : List Demand) → All P (xs ++ ys) → All P xs
+  pub left_all : (xs ys : List Demand) → All P (xs ++ ys) → All P xs
   left_all [] ys k = All-nil P
   left_all (x ∷ xs) ys k = All-cons P x xs (All-head P x (xs ++ ys) k) (left_all xs ys (All-tail P x (xs ++ ys) k))
 
-  right_all : (xs ys : List Demand) → All P (xs ++ ys) → All P ys
+  pub right_all : (xs ys : List Demand) → All P (xs ++ ys) → All P ys
   right_all [] ys k = k
   right_all (x ∷ xs) ys k = right_all xs ys (All-tail P x (xs ++ ys) k)
 
@@ -91,112 +99,100 @@ module _ (P : Demand → Type 0) where
       All-same P (reverse (x ∷ xs)) (reverse xs ++ x ∷ []) (reverse-append (x ∷ []) xs)
       (All-append P (reverse xs) (x ∷ []) (all_reversed xs (All-tail P x xs k)) (All-cons P x [] (All-head P x xs k) (All-nil P)))
 
-  all_back : (xs : List Demand) → All P (reverse xs) → All P xs
+  pub all_back : (xs : List Demand) → All P (reverse xs) → All P xs
   all_back xs k = All-same P xs (reverse (reverse xs)) (sym (reverse-reverse xs)) (all_reversed (reverse xs) k)
 
   kept_by : (b : Bool) (one other : List Demand) → All P one → All P other → All P (if b then one else other)
   kept_by true one other k m = k
   kept_by false one other k m = m
 
-  all_kept : (cover : Segments) (kept before : List Demand) → All P kept → All P before → All P (keep cover kept before)
-  all_kept cover kept [] k m = k
-  all_kept cover kept (a ∷ before) k m =
-      kept_by (is_empty (shared_cover cover (reverse before))) (keep cover kept before) (keep (overlaps record_cmp cover a.cover) (a ∷ kept) before) (all_kept cover kept before k (All-tail P a before m))
-      (all_kept (overlaps record_cmp cover a.cover) (a ∷ kept) before (All-cons P a kept (All-head P a before m) k) (All-tail P a before m))
+  all_kept : (kept before : List Demand) → All P kept → All P before → All P (keep kept before)
+  all_kept kept [] k m = k
+  all_kept kept (a ∷ before) k m =
+      kept_by (have_none (reverse before ++ kept)) (keep kept before) (keep (a ∷ kept) before) (all_kept kept before k (All-tail P a before m))
+      (all_kept (a ∷ kept) before (All-cons P a kept (All-head P a before m) k) (All-tail P a before m))
 
   pub all_smallest : (lines : List Demand) → All P lines → All P (smallest lines)
-  all_smallest lines k = all_kept full [] (reverse lines) (All-nil P) (all_reversed lines k)
+  all_smallest lines k = all_kept [] (reverse lines) (All-nil P) (all_reversed lines k)
 
 -- ---- what is kept
 
--- a place lies in the cover exactly if it lies in those of the lines
-abbrev pub IsShared : Segments → List Demand → Type 0
-IsShared cover kept =
-    ((p : Place Record) → lies record_cmp p cover ≡ true → (lies record_cmp p full ≡ true) × All (IsIn p) kept)
-    × ((p : Place Record) → lies record_cmp p full ≡ true → All (IsIn p) kept → lies record_cmp p cover ≡ true)
-
--- without any one of the lines `kept`, all have a place
+-- without any one of the lines `kept`, all others allow some version
 abbrev pub IsSpared : List Demand → List Demand → List Demand → Type 0
 IsSpared front [] rest = ⊤
-IsSpared front (a ∷ kept) rest =
-    ((p : Place Record) × (lies record_cmp p full ≡ true) × All (IsIn p) front × All (IsIn p) kept × All (IsIn p) rest) × IsSpared (front ++ a ∷ []) kept rest
+IsSpared front (a ∷ kept) rest = ((v : Record) × IsDenoted v × All (Allows v) front × All (Allows v) kept × All (Allows v) rest) × IsSpared (front ++ a ∷ []) kept rest
 
 -- one line of the rest is left out, or stands in front
-moved : (front other kept : List Demand) (a : Demand) (rest : List Demand) → ((p : Place Record) → All (IsIn p) front → IsIn p a → All (IsIn p) other) → IsSpared front kept (a ∷ rest) → IsSpared other kept rest
+moved : (front other kept : List Demand) (a : Demand) (rest : List Demand) → ((v : Record) → All (Allows v) front → Allows v a → All (Allows v) other) → IsSpared front kept (a ∷ rest) → IsSpared other kept rest
 moved front other [] a rest into s = tt
-moved front other (k ∷ kept) a rest into ((p, inside, here, there, behind), more) = (
-  (p, inside, into p here (All-head (IsIn p) a rest behind), there, All-tail (IsIn p) a rest behind),
-  moved (front ++ k ∷ []) (other ++ k ∷ []) kept a rest (λ q both is. All-append (IsIn q) other (k ∷ []) (into q (left_all (IsIn q) front (k ∷ []) both) is) (right_all (IsIn q) front (k ∷ []) both)) more,
+moved front other (k ∷ kept) a rest into ((v, denoted, here, there, behind), more) = (
+  (v, denoted, into v here (All-head (Allows v) a rest behind), there, All-tail (Allows v) a rest behind),
+  moved (front ++ k ∷ []) (other ++ k ∷ []) kept a rest (λ w both is. All-append (Allows w) other (k ∷ []) (into w (left_all (Allows w) front (k ∷ []) both) is) (right_all (Allows w) front (k ∷ []) both)) more,
 )
-
-needed : (front kept : List Demand) → IsSpared front kept [] → IsNeeded front kept
-needed front [] s = tt
-needed front (a ∷ kept) ((p, inside, here, there, behind), more) = (
-  not_empty p (common_cover (front ++ kept)) (shared_lies p full (front ++ kept) inside (All-append (IsIn p) front kept here there)),
-  needed (front ++ a ∷ []) kept more,
-)
-
--- lines with nothing in common have nothing with one of them in front
-pub stays_empty : (cover : Segments) (a : Demand) (before : List Demand) → is_empty (shared_cover cover (before ++ a ∷ [])) ≡ true → is_empty (shared_cover (overlaps record_cmp cover a.cover) before) ≡ true
-stays_empty cover a before e =
-    let more = overlaps record_cmp cover a.cover in
-    empty_by (shared_cover more before) (is_empty (shared_cover more before)) refl (λ some.
-    let found = shared_place more before (valid_overlaps record_total cover a.cover) some in
-    let both = sym (lies_overlaps record_total found.0 cover a.cover) ∙ found.1 in
-    let here = left_of (lies record_cmp found.0 cover) (lies record_cmp found.0 a.cover) both in
-    let there = right_of (lies record_cmp found.0 cover) (lies record_cmp found.0 a.cover) both in
-    true≢false (sym e
-    ∙ not_empty found.0 (shared_cover cover (before ++ a ∷ [])) (shared_lies found.0 cover (before ++ a ∷ []) here (All-append (IsIn found.0) before (a ∷ []) found.2 (All-cons (IsIn found.0) a [] there (All-nil (IsIn found.0))))))
-    )
-
--- the same of lines from the last to the first
-stays_reversed : (cover : Segments) (a : Demand) (before : List Demand) → is_empty (shared_cover cover (reverse (a ∷ before))) ≡ true → is_empty (shared_cover (overlaps record_cmp cover a.cover) (reverse before)) ≡ true
-stays_reversed cover a before e = stays_empty cover a (reverse before) (subst (λ ls. is_empty (shared_cover cover ls) ≡ true) (reverse-append (a ∷ []) before) e)
 
 -- what is known of lines that are kept, and of those before them
-abbrev pub Keeping : Segments → List Demand → List Demand → Type 0
-Keeping cover kept before = (are_valid record_total cover ≡ true) × IsShared cover kept × (is_empty (shared_cover cover (reverse before)) ≡ true) × IsSpared [] kept before
+abbrev pub Keeping : List Demand → List Demand → Type 0
+Keeping kept before = All IsSound kept × All IsSound before × (have_none (reverse before ++ kept) ≡ true) × IsSpared [] kept before
 
-one_kept : (cover : Segments) (kept : List Demand) (a : Demand) (before : List Demand) → is_empty (shared_cover cover (reverse before)) ≡ false → Keeping cover kept (a ∷ before)
-    → Keeping (overlaps record_cmp cover a.cover) (a ∷ kept) before
-one_kept cover kept a before some (valid, (into, from), none, spared) =
-    let found = shared_place cover (reverse before) valid some in
-    let inside = into found.0 found.1 in (
-      valid_overlaps record_total cover a.cover,
+-- none are left before these
+abbrev pub IsSmallestOf : List Demand → Type 0
+IsSmallestOf kept = All IsSound kept × (have_none kept ≡ true) × IsSpared [] kept []
+
+one_more : (kept : List Demand) (a : Demand) (before : List Demand) → reverse (a ∷ before) ++ kept ≡ reverse before ++ (a ∷ kept)
+one_more kept a before = ap (λ r. r ++ kept) (reverse-append (a ∷ []) before) ∙ append_assoc (reverse before) (a ∷ []) kept
+
+one_kept : (kept : List Demand) (a : Demand) (before : List Demand) → have_none (reverse before ++ kept) ≡ false → Keeping kept (a ∷ before) → Keeping (a ∷ kept) before
+one_kept kept a before some (sound, ahead, none, spared) =
+    let others = All-tail IsSound a before ahead in
+    let found = some_allowed (reverse before ++ kept) (All-append IsSound (reverse before) kept (all_reversed IsSound before others) sound) some in (
+      All-cons IsSound a kept (All-head IsSound a before ahead) sound,
+      others,
+      sym (ap have_none (one_more kept a before)) ∙ none,
       (
-        λ p h.
-            let both = sym (lies_overlaps record_total p cover a.cover) ∙ h in
-            let k = into p (left_of (lies record_cmp p cover) (lies record_cmp p a.cover) both) in
-            (k.0, All-cons (IsIn p) a kept (right_of (lies record_cmp p cover) (lies record_cmp p a.cover) both) k.1),
-        λ p within k. lies_overlaps record_total p cover a.cover ∙ (λ j. from p within (All-tail (IsIn p) a kept k) j && All-head (IsIn p) a kept k j),
-      ),
-      stays_reversed cover a before none,
-      (
-        (found.0, inside.0, All-nil (IsIn found.0), inside.1, all_back (IsIn found.0) before found.2),
-        moved [] (a ∷ []) kept a before (λ p here is. All-cons (IsIn p) a [] is (All-nil (IsIn p))) spared,
+        (found.0, found.1, All-nil (Allows found.0), right_all (Allows found.0) (reverse before) kept found.2, all_back (Allows found.0) before (left_all (Allows found.0) (reverse before) kept found.2)),
+        moved [] (a ∷ []) kept a before (λ v here is. All-cons (Allows v) a [] is (All-nil (Allows v))) spared,
       ),
     )
 
-step : (cover : Segments) (kept : List Demand) (a : Demand) (before : List Demand) (b : Bool) → is_empty (shared_cover cover (reverse before)) ≡ b → Keeping cover kept (a ∷ before)
-    → ((c : Segments) (k : List Demand) → Keeping c k before → IsSmallest (keep c k before))
-    → IsSmallest (if b then keep cover kept before else keep (overlaps record_cmp cover a.cover) (a ∷ kept) before)
-step cover kept a before true e (valid, shares, none, spared) next = next cover kept (valid, shares, e, moved [] [] kept a before (λ p here is. All-nil (IsIn p)) spared)
-step cover kept a before false e k next = next (overlaps record_cmp cover a.cover) (a ∷ kept) (one_kept cover kept a before e k)
+step : (kept : List Demand) (a : Demand) (before : List Demand) (b : Bool) → have_none (reverse before ++ kept) ≡ b → Keeping kept (a ∷ before) → ((k : List Demand) → Keeping k before → IsSmallestOf (keep k before))
+    → IsSmallestOf (if b then keep kept before else keep (a ∷ kept) before)
+step kept a before true e (sound, ahead, none, spared) next = next kept (sound, All-tail IsSound a before ahead, e, moved [] [] kept a before (λ v here is. All-nil (Allows v)) spared)
+step kept a before false e k next = next (a ∷ kept) (one_kept kept a before e k)
 
-all_left : (cover : Segments) (kept : List Demand) → Keeping cover kept [] → IsSmallest kept
-all_left cover kept (valid, (into, from), none, spared) = (
-  empty_by (common_cover kept) (is_empty (common_cover kept)) refl (λ some.
-      let found = shared_place full kept refl some in
-      true≢false (sym none ∙ not_empty found.0 cover (from found.0 found.1 found.2))
-      ),
-  needed [] kept spared,
-)
+keeps : (kept before : List Demand) → Keeping kept before → IsSmallestOf (keep kept before)
+keeps kept [] (sound, ahead, none, spared) = (sound, none, spared)
+keeps kept (a ∷ before) k = step kept a before (have_none (reverse before ++ kept)) refl k (λ more m. keeps more before m)
 
-keeps : (cover : Segments) (kept before : List Demand) → Keeping cover kept before → IsSmallest (keep cover kept before)
-keeps cover kept [] k = all_left cover kept k
-keeps cover kept (a ∷ before) k = step cover kept a before (is_empty (shared_cover cover (reverse before))) refl k (λ c more m. keeps c more before m)
+nothing_after : (xs : List Demand) → xs ++ [] ≡ xs
+nothing_after [] = refl
+nothing_after (x ∷ xs) = ap (λ r. x ∷ r) (nothing_after xs)
 
-pub smallest_right : (lines : List Demand) → is_empty (common_cover lines) ≡ true → IsSmallest (smallest lines)
-smallest_right lines e =
-    keeps full [] (reverse lines)
-    (refl, (λ p h. (h, All-nil (IsIn p)), λ p within k. within), subst (λ ls. is_empty (shared_cover full ls) ≡ true) (sym (reverse-reverse lines)) e, tt)
+pub smallest_right : (lines : List Demand) → All IsSound lines → have_none lines ≡ true → IsSmallestOf (smallest lines)
+smallest_right lines sound e =
+    keeps [] (reverse lines) (All-nil IsSound, all_reversed IsSound lines sound, ap have_none (nothing_after (reverse (reverse lines)) ∙ reverse-reverse lines) ∙ e, tt)
+
+-- with no premise on the lists: those that are kept have none
+still_by : (kept : List Demand) (a : Demand) (before : List Demand) (b : Bool) → have_none (reverse before ++ kept) ≡ b → have_none (reverse (a ∷ before) ++ kept) ≡ true
+    → ((k : List Demand) → have_none (reverse before ++ k) ≡ true → have_none (keep k before) ≡ true) → have_none (if b then keep kept before else keep (a ∷ kept) before) ≡ true
+still_by kept a before true is e next = next kept is
+still_by kept a before false is e next = next (a ∷ kept) (sym (ap have_none (one_more kept a before)) ∙ e)
+
+still_none : (kept before : List Demand) → have_none (reverse before ++ kept) ≡ true → have_none (keep kept before) ≡ true
+still_none kept [] e = e
+still_none kept (a ∷ before) e = still_by kept a before (have_none (reverse before ++ kept)) refl e (λ k m. still_none k before m)
+
+pub smallest_none : (lines : List Demand) → have_none lines ≡ true → have_none (smallest lines) ≡ true
+smallest_none lines e = still_none [] (reverse lines) (ap have_none (nothing_after (reverse (reverse lines)) ∙ reverse-reverse lines) ∙ e)
+
+pub members_of : (xs ys : List Demand) → specifiers_of (xs ++ ys) ≡ specifiers_of xs ++ specifiers_of ys
+members_of xs ys = flat_map-append (λ (a : Demand). a.specifiers) xs ys
+
+-- the lines under a marker are sound where all are
+pub sound_under : (marker : Option (List ℕ)) (lines : List Demand) → All IsSound lines → All IsSound (under marker lines)
+sound_under marker lines k = All-filter (counts_under marker) IsSound lines k
+
+-- where the lines without a marker have nothing in common, they decide
+pub of_always : (lines one other : List Demand) → one ≡ under None lines → other ≡ under None lines → have_none (one ++ []) ≡ true → of_all other ≡ of_name lines
+of_always lines one other is same none =
+    let always : have_none (under None lines) ≡ true = sym (ap have_none (nothing_after one ∙ is)) ∙ none in
+    ap of_all same ∙ sym (ap (λ b. if b then of_all (under None lines) else flat_map (λ (a : Demand). of_all (under a.marker lines)) (first_mentions has_same_marker [] lines)) always)

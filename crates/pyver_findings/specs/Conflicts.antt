@@ -1,10 +1,9 @@
 -- Lines that no version can satisfy together. Two lines count together where they have one name, and the same marker or not both
 -- a marker.
-use Rattle.std.specs.Prelude.{ℕ, ◌==◌, ◌&&◌, ◌||◌, List, [], ◌∷◌, ◌++◌, Bool, true, false, Option, Some, None, bytes_eq, fold, is_none, length, map, reverse, if◌then◌else◌}
+use Rattle.std.specs.Prelude.{ℕ, ◌&&◌, ◌||◌, List, [], ◌∷◌, ◌++◌, Bool, true, false, Option, Some, None, bytes_eq, is_none, map, reverse, if◌then◌else◌}
 use Rattle.std.specs.List.{filter, flat_map, list_any}
-use Rattle.pep440_ranges.specs.Intersection.{overlaps}
-use Rattle.pep440_rs.specs.Bounds.{Segments, full}
-use Rattle.pep440_version.specs.Key.{record_cmp}
+use Rattle.pep440_rs.specs.Specifiers.{Spec}
+use Rattle.pep440_witness.specs.Probes.{first_match}
 use Rattle.pyver_findings.specs.Demands.{Demand}
 use Rattle.pyver_findings.specs.Findings.{Conflicting, Finding}
 use Rattle.pyver_findings.specs.declared.finding.Conflict.{Conflict}
@@ -38,28 +37,23 @@ first_mentions same before (a ∷ rest) = (if list_any (same a) before then [] e
 
 -- ---- lines that count together
 
-abbrev pub is_empty : Segments → Bool
-is_empty segments = length segments == 0
+-- the members of the lists of the lines
+abbrev pub specifiers_of : List Demand → List Spec
+specifiers_of lines = flat_map (λ (a : Demand). a.specifiers) lines
 
--- the intersection of this cover and of those of the lines
-abbrev pub shared_cover : Segments → List Demand → Segments
-shared_cover cover lines = fold (λ c (a : Demand). overlaps record_cmp c a.cover) cover lines
+-- no version is found that the lists of all these lines contain
+abbrev pub have_none : List Demand → Bool
+have_none lines = is_none (first_match (specifiers_of lines))
 
--- the intersection of the covers
-abbrev pub common_cover : List Demand → Segments
-common_cover lines = shared_cover full lines
+-- of lines from the last to the first those to keep: one is left out if without it those before it and those that are kept have no
+-- version in common
+abbrev pub keep : List Demand → List Demand → List Demand
+keep kept [] = kept
+keep kept (a ∷ before) = if have_none (reverse before ++ kept) then keep kept before else keep (a ∷ kept) before
 
--- of lines from the last to the first those to keep: a line is left out if the lines before it and those that are kept, whose covers have
--- this intersection, have nothing in common
-abbrev pub keep : Segments → List Demand → List Demand → List Demand
-keep cover kept [] = kept
-keep cover kept (a ∷ before) =
-    if is_empty (shared_cover cover (reverse before)) then keep cover kept before
-    else keep (overlaps record_cmp cover a.cover) (a ∷ kept) before
-
--- of lines that have nothing in common a smallest list that has nothing in common
+-- of lines that have no version in common a smallest list that has none
 abbrev pub smallest : List Demand → List Demand
-smallest lines = keep full [] (reverse lines)
+smallest lines = keep [] (reverse lines)
 
 -- both lines name a version, or one does, or none
 abbrev pub pin_conflict : Demand → Demand → Conflict
@@ -70,17 +64,17 @@ abbrev pub conflict_kind : List Demand → Conflict
 conflict_kind (a ∷ (b ∷ [])) = pin_conflict a b
 conflict_kind _ = NoVersion
 
--- the intersection is empty
+-- they have no version in common
 abbrev pub of_all : List Demand → List Finding
-of_all lines = if is_empty (common_cover lines) then Conflicting (conflict_kind (smallest lines)) (map (λ (a : Demand). a.line) (smallest lines)) ∷ [] else []
+of_all lines = if have_none lines then Conflicting (conflict_kind (smallest lines)) (map (λ (a : Demand). a.line) (smallest lines)) ∷ [] else []
 
 -- the lines without a marker, and those with this one
 abbrev pub under : Option (List ℕ) → List Demand → List Demand
 under marker lines = filter (counts_under marker) lines
 
--- of the lines of one name: those without a marker decide where their intersection is empty, and otherwise those of each marker
+-- of the lines of one name: those without a marker decide where they have no version in common, and otherwise those of each marker
 abbrev pub of_name : List Demand → List Finding
-of_name lines = if is_empty (common_cover (under None lines)) then of_all (under None lines)
+of_name lines = if have_none (under None lines) then of_all (under None lines)
     else flat_map (λ (a : Demand). of_all (under a.marker lines)) (first_mentions has_same_marker [] lines)
 
 -- ---- all names

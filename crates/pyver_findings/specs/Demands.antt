@@ -1,10 +1,9 @@
--- What a line asks for that is a requirement: a name in its normal form, under a marker, a pin or none, and the cover of its list.
-use Rattle.std.specs.Prelude.{ℕ, List, Bool, true, false, Option, Some, None}
-use Rattle.std.specs.List.{list_any}
+-- What a line asks for that is a requirement: a name in its normal form, under a marker, a pin or none, and its list.
+use Rattle.std.specs.Prelude.{ℕ, List, Bool, true, false, Option}
+use Rattle.std.specs.List.{All, list_any}
 use Rattle.pep440_pick.specs.Names.{normal}
 use Rattle.pep440_pick.specs.RequirementGrammar.{Needed}
-use Rattle.pep440_rs.specs.Bounds.{Segments, full, list_range}
-use Rattle.pep440_rs.specs.Cover.{cover_of}
+use Rattle.pep440_rs.specs.Cover.{IsCoverable}
 use Rattle.pep440_rs.specs.Specifiers.{Spec}
 use Rattle.pep440_rs.specs.declared.specifier.operator.Operator.{Operator}
 use Rattle.pep440_rs.specs.declared.specifier.operator.Operator.TheVariants.{Equal, ExactEqual}
@@ -15,7 +14,7 @@ pub record Demand : Type 0 where
   pub name : List ℕ
   pub marker : Option (List ℕ)
   pub pinned : Bool
-  pub cover : Segments
+  pub specifiers : List Spec
 
 -- `==` and `===`
 abbrev pub is_pin_operator : Operator → Bool
@@ -27,15 +26,10 @@ is_pin_operator _ = false
 abbrev pub is_pinned : List Spec → Bool
 is_pinned list = list_any (λ m. is_pin_operator m.operator) list
 
--- the cover, or all versions where a number cannot be raised
-abbrev pub or_all : Option Segments → Segments
-or_all None = full
-or_all (Some cover) = cover
-
--- the cover of a list, which holds every version that the list contains
-abbrev pub cover_or_all : List Spec → Segments
-cover_or_all list = or_all (list_range cover_of list)
-
 -- what the line asks for
 abbrev pub line_demand : FileLine → Option (List ℕ) → Needed → Demand
-line_demand line marker n = record { line = line; name = normal n.name; marker = marker; pinned = is_pinned n.specifiers; cover = cover_or_all n.specifiers }
+line_demand line marker n = record { line = line; name = normal n.name; marker = marker; pinned = is_pinned n.specifiers; specifiers = n.specifiers }
+
+-- strings can give the members of its list
+abbrev pub IsSound : Demand → Type 0
+IsSound a = All IsCoverable a.specifiers

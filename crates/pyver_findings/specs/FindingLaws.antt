@@ -1,7 +1,7 @@
 -- What holds of findings: a line that is reported by itself is no requirement, and each that is none is reported; lines that are
 -- reported together count together and cannot be satisfied, and none of them can be left out; those that have no version in common are
 -- reported; there is one report.
-use Rattle.std.specs.Prelude.{◌≡◌, ◌⊎◌, ⊤, ℕ, List, [], ◌∷◌, ◌++◌, false, true, IsTrue, Option, Some, None, bytes_eq, map}
+use Rattle.std.specs.Prelude.{◌≡◌, ◌⊎◌, ⊤, ℕ, List, [], ◌∷◌, ◌++◌, IsTrue, Option, Some, None, bytes_eq, map}
 use Rattle.std.specs.List.{All, AllZip, Any, Contains, filter, flat_map}
 use Rattle.std.specs.Str.{IsUtf8}
 use Rattle.pep440_pick.specs.Names.{normal}
@@ -9,7 +9,7 @@ use Rattle.pep440_pick.specs.RequirementGrammar.{DerivesRequirement, Needed}
 use Rattle.pep440_rs.specs.Cover.{IsDenoted}
 use Rattle.pep440_rs.specs.Matching.{list_matches}
 use Rattle.pep440_version.specs.Record.{Record}
-use Rattle.pyver_findings.specs.Conflicts.{common_cover, conflicts, has_same_name, is_empty, under}
+use Rattle.pyver_findings.specs.Conflicts.{has_same_name, under}
 use Rattle.pyver_findings.specs.Demands.{Demand, is_pinned}
 use Rattle.pyver_findings.specs.FileLines.{File, FileLine, all_lines}
 use Rattle.pyver_findings.specs.Findings.{Conflicting, Finding, NoRequirement}
@@ -55,12 +55,21 @@ FitsConflict NoVersion together = ⊤
 FitsConflict TwoPins together = (a : FileLine) × (b : FileLine) × (together ≡ a ∷ (b ∷ [])) × NamesVersion a × NamesVersion b
 FitsConflict PinOutside together = (a : FileLine) × (b : FileLine) × (together ≡ a ∷ (b ∷ [])) × (NamesVersion a ⊎ NamesVersion b) × (¬ (NamesVersion a × NamesVersion b))
 
+-- some version is allowed by all these lines
+abbrev pub HaveSome : List FileLine → Type 0
+HaveSome lines = (v : Record) × IsDenoted v × All (LineAllows v) lines
+
+-- the others have one without any one of `lines`, where `front` stands before them
+abbrev pub AreNeeded : List FileLine → List FileLine → Type 0
+AreNeeded front [] = ⊤
+AreNeeded front (l ∷ lines) = HaveSome (front ++ lines) × AreNeeded (front ++ l ∷ []) lines
+
 -- a line that is reported by itself is one of these lines and no requirement, and has this reason and column; lines that are reported
--- together are some of these, count together, and no version is allowed by all
+-- together are some of these, count together, no version is allowed by all, and without any one of them some version is
 abbrev pub IsRight : List FileLine → Finding → Type 0
 IsRight lines (NoRequirement l reason column) = Contains lines l × (¬ IsRequirementLine l) × IsMeaning l (IsNone (NoRequirement l reason column))
 IsRight lines (Conflicting conflict together) =
-    All (Contains lines) together × CountTogether together × FitsConflict conflict together × ((v : Record) → IsDenoted v → ¬ All (LineAllows v) together)
+    All (Contains lines) together × CountTogether together × FitsConflict conflict together × ((v : Record) → IsDenoted v → ¬ All (LineAllows v) together) × AreNeeded [] together
 
 -- each finding of a report is right
 abbrev pub FindingsHold : Type 0
@@ -88,28 +97,14 @@ IsAmong lines (Conflicting conflict reported) = (¬ (reported ≡ [])) × All (C
 abbrev pub AreDemands : List File → List Demand → Type 0
 AreDemands files demands = (xs : List LineMeaning) × AllZip IsMeaning (all_lines files) xs × (demands ≡ flat_map demands_in xs)
 
--- where the covers of the lines of a name that count under a marker have nothing in common, some of these lines are reported together
+-- no version is contained in the lists of all these lines
+abbrev pub HaveNone : List Demand → Type 0
+HaveNone lines = (v : Record) → IsDenoted v → ¬ All (λ a. IsTrue (list_matches a.specifiers v)) lines
+
+-- where the lines of a name that count under a marker have no version in common, some of these lines are reported together
 abbrev pub ConflictsHaveFindings : Type 0
 ConflictsHaveFindings = (files : List File) (r : Report) (lines : List Demand) (a : Demand) (marker : Option (List ℕ)) → IsReport files r → AreDemands files lines → Contains lines a
-    → common_cover (under marker (filter (has_same_name a) lines)) ≡ [] → Any (IsAmong (map (λ (b : Demand). b.line) (under marker (filter (has_same_name a) lines)))) r.findings
-
--- the others have something in common without any one of `lines`, where `front` stands before them
-abbrev pub IsNeeded : List Demand → List Demand → Type 0
-IsNeeded front [] = ⊤
-IsNeeded front (a ∷ lines) = (is_empty (common_cover (front ++ lines)) ≡ false) × IsNeeded (front ++ a ∷ []) lines
-
--- the covers of the lines have nothing in common, and without any one of them they have
-abbrev pub IsSmallest : List Demand → Type 0
-IsSmallest lines = (is_empty (common_cover lines) ≡ true) × IsNeeded [] lines
-
--- the lines that are reported together are some of these, and a smallest list
-abbrev pub ReportsSmallest : List Demand → Finding → Type 0
-ReportsSmallest lines (NoRequirement l reason column) = ⊤
-ReportsSmallest lines (Conflicting conflict reported) = (some : List Demand) × All (Contains lines) some × (reported ≡ map (λ (a : Demand). a.line) some) × IsSmallest some
-
--- no line can be left out of those that are reported together
-abbrev pub ConflictsAreSmallest : Type 0
-ConflictsAreSmallest = (lines : List Demand) → All (ReportsSmallest lines) (conflicts lines)
+    → HaveNone (under marker (filter (has_same_name a) lines)) → Any (IsAmong (map (λ (b : Demand). b.line) (under marker (filter (has_same_name a) lines)))) r.findings
 
 -- a line has at most one meaning
 abbrev pub MeaningsOnce : Type 0

@@ -21,7 +21,7 @@ abbrev pub file_line_of : FileLineValue → FileLine
 file_line_of l = record { file = l.file.items; number = l.number; text = l.text.items }
 
 abbrev pub demand_of : DemandValue → Demand
-demand_of a = record { line = file_line_of a.line; name = a.name.items; marker = option_map (λ m. m.items) a.marker; pinned = a.pinned; cover = a.cover }
+demand_of a = record { line = file_line_of a.line; name = a.name.items; marker = option_map (λ m. m.items) a.marker; pinned = a.pinned; specifiers = a.specifiers }
 
 abbrev pub finding_of : FindingValue → Finding
 finding_of (finding.NoRequirement line reason column) = NoRequirement (file_line_of line) (string_bytes reason) column

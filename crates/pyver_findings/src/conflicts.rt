@@ -1,9 +1,10 @@
 // The names in requirements files, and what is wrong with the lines of each.
 ghost use Rattle.std.specs.Prelude.{◌≡◌, ◌∷◌, ◌++◌, [], IfOk, List, bytes_eq, map, ℕ, if◌then◌else◌};
 ghost use Rattle.std.specs.HashMap.{get_by};
-ghost use Rattle.std.specs.List.{filter};
+ghost use Rattle.std.specs.List.{All, filter};
 ghost use Rattle.std.specs.Option.{option_map_or};
 ghost use Rattle.pyver_findings.specs.Conflicts.{conflicts, of_name};
+ghost use Rattle.pyver_findings.specs.Demands.{IsSound};
 ghost use Rattle.pyver_findings.specs.Views.{demand_of, finding_of};
 
 use crate::demand::Demand;
@@ -57,6 +58,7 @@ fn push_group(
     findings: &mut Vec<Finding>,
     group: Option<Vec<&Demand>>,
 ) -> Result<(), AllocError>
+    requires { All IsSound (map (λ x. demand_of x.now) (option_map_or (λ g. g.items) group [])) }
     ensures { IfOk result (λ _. map finding_of findings.new.items ≡ map finding_of findings.old.items ++ of_name (map (λ x. demand_of x.now) (option_map_or (λ g. g.items) group.entry []))) }
 {
     match group {
@@ -71,6 +73,7 @@ pub(crate) fn push_conflicts(
     findings: &mut Vec<Finding>,
     lines: &[Demand],
 ) -> Result<(), AllocError>
+    requires { All IsSound (map demand_of lines.now) }
     ensures { IfOk result (λ _. map finding_of findings.new.items ≡ map finding_of findings.old.items ++ conflicts (map demand_of lines.now)) }
 {
     let mut groups = group_by_name(alloc, lines)?;

@@ -1,15 +1,13 @@
 // What a line asks for that is a requirement.
 ghost use Rattle.std.specs.Prelude.{◌≡◌, IfOk, option_map};
 ghost use Rattle.pep440_pick.specs.Requirements.{needed};
-ghost use Rattle.pyver_findings.specs.Demands.{line_demand, cover_or_all, is_pin_operator, is_pinned};
+ghost use Rattle.pyver_findings.specs.Demands.{line_demand, is_pin_operator, is_pinned};
 ghost use Rattle.pyver_findings.specs.Views.{demand_of, file_line_of};
 
 use crate::file_line::FileLine;
 use crate::normal_name::normalize_name;
 use pep440_pick::Requirement;
-use pep440_rs::{
-    Operator, RangeError, Ranges, Version, VersionSpecifier, VersionSpecifiers, specifiers_to_cover,
-};
+use pep440_rs::{Operator, VersionSpecifier, VersionSpecifiers};
 use std::alloc::{AllocError, Global};
 
 // What a line asks for: versions of a package, under a marker or always.
@@ -21,8 +19,7 @@ pub(crate) struct Demand {
     pub(crate) marker: Option<Vec<u8>>,
     // Whether some member of the list names one version.
     pub(crate) pinned: bool,
-    // A range that holds every version that the list contains.
-    pub(crate) cover: Ranges<Version>,
+    pub(crate) specifiers: VersionSpecifiers,
 }
 
 fn is_pin_operator(operator: Operator) -> bool
@@ -37,17 +34,6 @@ fn is_pinned(members: &[VersionSpecifier]) -> bool
     members
         .iter()
         .any(|member| is_pin_operator(*member.operator()))
-}
-
-// The cover of the list; all versions where a number in it cannot be raised.
-fn cover_or_all(alloc: Global, list: VersionSpecifiers) -> Result<Ranges<Version>, AllocError>
-    ensures { IfOk result (λ cover. cover ≡ cover_or_all list) }
-{
-    match specifiers_to_cover(alloc, list) {
-        Ok(cover) => Ok(cover),
-        Err(RangeError::NumberAtMax) => Ranges::full(alloc),
-        Err(RangeError::OutOfMemory) => Err(AllocError),
-    }
 }
 
 fn copy_marker(alloc: Global, marker: Option<&[u8]>) -> Result<Option<Vec<u8>>, AllocError>
@@ -70,7 +56,6 @@ impl Demand {
         ensures { IfOk result (λ a. demand_of a ≡ line_demand (file_line_of line.now) (option_map (λ m. m.now) marker.entry) (needed requirement.now)) }
     {
         let pinned = is_pinned(requirement.specifiers.as_slice());
-        let cover = cover_or_all(alloc, requirement.specifiers.clone()?)?;
         let name = normalize_name(alloc, requirement.name.as_str())?;
         let marker = copy_marker(alloc, marker)?;
         Ok(Demand {
@@ -78,7 +63,7 @@ impl Demand {
             name,
             marker,
             pinned,
-            cover,
+            specifiers: requirement.specifiers.clone()?,
         })
     }
 }

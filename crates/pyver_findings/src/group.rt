@@ -1,7 +1,8 @@
 // What is wrong with the lines of one name.
 ghost use Rattle.std.specs.Prelude.{◌≡◌, ◌∷◌, ◌++◌, [], IfOk, map, if◌then◌else◌};
-ghost use Rattle.std.specs.List.{flat_map, list_any};
+ghost use Rattle.std.specs.List.{All, flat_map, list_any};
 ghost use Rattle.pyver_findings.specs.Conflicts.{conflict_kind, first_mentions, has_same_marker, of_all, of_name, pin_conflict, under};
+ghost use Rattle.pyver_findings.specs.Demands.{IsSound};
 ghost use Rattle.pyver_findings.specs.Findings.{Conflicting};
 ghost use Rattle.pyver_findings.specs.Views.{demand_of, file_line_of, finding_of};
 
@@ -9,7 +10,7 @@ use crate::demand::Demand;
 use crate::file_line::FileLine;
 use crate::finding::{Conflict, Finding};
 use crate::marker::{has_marker, under};
-use crate::smallest::{common_cover, find_smallest};
+use crate::smallest::{find_smallest, have_none};
 use std::alloc::{AllocError, Global};
 
 fn pin_conflict(one: &Demand, other: &Demand) -> Conflict
@@ -63,9 +64,10 @@ fn push_of_all(
     findings: &mut Vec<Finding>,
     lines: &[&Demand],
 ) -> Result<(), AllocError>
+    requires { All IsSound (map (λ x. demand_of x.now) lines.now) }
     ensures { IfOk result (λ _. map finding_of findings.new.items ≡ map finding_of findings.old.items ++ of_all (map (λ x. demand_of x.now) lines.now)) }
 {
-    if !common_cover(alloc, lines)?.is_empty() {
+    if !have_none(alloc, lines, &[])? {
         return Ok(());
     }
     let kept = find_smallest(alloc, lines)?;
@@ -77,6 +79,7 @@ fn push_of_all(
     )
 }
 
+#[tactic(auto, using(crate::proofs::SmallestLists::sound_under))]
 // Of the lines that count under the marker of this one, if none before has the same.
 fn push_of_marker(
     alloc: Global,
@@ -85,6 +88,7 @@ fn push_of_marker(
     before: &[&Demand],
     line: &Demand,
 ) -> Result<(), AllocError>
+    requires { All IsSound (map (λ x. demand_of x.now) lines.now) }
     ensures { IfOk result (λ _. map finding_of findings.new.items ≡ map finding_of findings.old.items ++ (if list_any (has_same_marker (demand_of line.now)) (map (λ x. demand_of x.now) before.now) then [] else of_all (under (demand_of line.now).marker (map (λ x. demand_of x.now) lines.now)))) }
 {
     if has_marker(before, line) {
@@ -99,6 +103,7 @@ fn push_of_each_marker(
     findings: &mut Vec<Finding>,
     lines: &[&Demand],
 ) -> Result<(), AllocError>
+    requires { All IsSound (map (λ x. demand_of x.now) lines.now) }
     ensures { IfOk result (λ _. map finding_of findings.new.items ≡ map finding_of findings.old.items ++ flat_map (λ a. of_all (under a.marker (map (λ x. demand_of x.now) lines.now))) (first_mentions has_same_marker [] (map (λ x. demand_of x.now) lines.now))) }
 {
     for (at, line) in lines.iter().enumerate() {
@@ -107,16 +112,18 @@ fn push_of_each_marker(
     Ok(())
 }
 
+#[tactic(auto, using(crate::proofs::SmallestLists::sound_under))]
 // What is wrong with the lines of one name.
 pub(crate) fn push_of_name(
     alloc: Global,
     findings: &mut Vec<Finding>,
     lines: &[&Demand],
 ) -> Result<(), AllocError>
+    requires { All IsSound (map (λ x. demand_of x.now) lines.now) }
     ensures { IfOk result (λ _. map finding_of findings.new.items ≡ map finding_of findings.old.items ++ of_name (map (λ x. demand_of x.now) lines.now)) }
 {
     let always = under(alloc, &None, lines)?;
-    if common_cover(alloc, always.as_slice())?.is_empty() {
+    if have_none(alloc, always.as_slice(), &[])? {
         return push_of_all(alloc, findings, always.as_slice());
     }
     push_of_each_marker(alloc, findings, lines)

@@ -1,9 +1,9 @@
 //! What holds of findings, as the contract of a function that does nothing.
-ghost use Rattle.pyver_findings.specs.FindingLaws.{ConflictsAreSmallest, ConflictsHaveFindings, FindingsHold, InvalidLinesHaveFindings, MeaningsOnce, ReportsOnce};
+ghost use Rattle.pyver_findings.specs.FindingLaws.{ConflictsHaveFindings, FindingsHold, InvalidLinesHaveFindings, MeaningsOnce, ReportsOnce};
 
 /// A line that is reported by itself is a line of the files and no requirement, for the reason and at the column that are
 /// reported. Lines that are reported together are lines of the files, ask for one name and have no two markers; no
-/// version is allowed by all; and one or two of them name a version if that is reported.
+/// version is allowed by all, and without any one of them some version is; and one or two of them name a version if that is reported.
 pub fn findings_hold()
     ensures { FindingsHold }
 {}
@@ -13,15 +13,9 @@ pub fn invalid_lines_have_findings()
     ensures { InvalidLinesHaveFindings }
 {}
 
-/// If the covers of the lines of a name that count under a marker have nothing in common, some of these lines are
-/// reported together.
+/// If no version is allowed by all lines of a name that count under a marker, some of these lines are reported together.
 pub fn conflicts_have_findings()
     ensures { ConflictsHaveFindings }
-{}
-
-/// No line can be left out of those that are reported together: the covers of the others have something in common.
-pub fn conflicts_are_smallest()
-    ensures { ConflictsAreSmallest }
 {}
 
 /// A line has at most one meaning, and files have at most one report.

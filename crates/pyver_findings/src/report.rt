@@ -69,9 +69,8 @@ fn parse_lines(alloc: Global, lines: &[FileLine]) -> Result<Readings, AllocError
 /// smallest list, from which no line can be left out. Lines with different markers do not count together, and lines without a marker count
 /// with the lines of each; if the lines without a marker have no version in common, some of them are reported, and no line with a marker.
 ///
-/// A list stands for its cover, or for all versions if a number in it cannot be raised. A line names a version if a member of its list is
-/// `==` without a star, or `===`; a finding of two lines says whether one or both do. Takes time for each line and marker of a name, and for
-/// each line of a finding.
+/// A line names a version if a member of its list is `==` without a star, or `===`; a finding of two lines says whether one or both do.
+/// Takes time for each line and marker of a name, and for each line of a finding.
 ///
 /// Allocates.
 pub fn find_problems(alloc: Global, files: &[SourceFile]) -> Result<Report, AllocError>

@@ -1,64 +1,98 @@
 // A smallest list of lines that have no version in common.
-ghost use Rattle.std.specs.Prelude.{◌≡◌, ◌+◌, ◌<◌, ◌⊎◌, IfOk, IfSome, false, length, map, take, true, IfNone};
-ghost use Rattle.pyver_findings.specs.Conflicts.{common_cover, is_empty, shared_cover, smallest};
+ghost use Rattle.std.specs.Prelude.{◌≡◌, ◌++◌, ◌-◌, ◌<◌, ◌≤◌, IfOk, false, length, map, take, true};
+ghost use Rattle.std.specs.List.{All};
+ghost use Rattle.pyver_findings.specs.Conflicts.{have_none, smallest, specifiers_of};
+ghost use Rattle.pyver_findings.specs.Demands.{IsSound};
 ghost use Rattle.pyver_findings.specs.Views.{demand_of};
 
 use crate::demand::Demand;
-use pep440_rs::{Ranges, Version};
+use pep440_rs::VersionSpecifier;
+use pep440_witness::find_version;
 use std::alloc::{AllocError, Global};
 
-// The intersection of the covers.
-pub(crate) fn common_cover(alloc: Global, lines: &[&Demand]) -> Result<Ranges<Version>, AllocError>
-    ensures { IfOk result (λ cover. cover ≡ common_cover (map (λ x. demand_of x.now) lines.now)) }
+fn push_copies(
+    members: &mut Vec<VersionSpecifier>,
+    list: &[VersionSpecifier],
+) -> Result<(), AllocError>
+    ensures { IfOk result (λ _. members.new.items ≡ members.old.items ++ list.now) }
 {
-    let mut cover = Ranges::full(alloc)?;
-    for line in lines {
-        cover = cover.intersection(alloc, &line.cover)?;
+    for member in list {
+        members.push(member.clone()?)?;
     }
-    Ok(cover)
+    Ok(())
 }
 
-// The index of the first line with which the lines up to it have nothing in common with this cover, unless the cover is empty.
-fn find_apart(
-    alloc: Global,
-    cover: &Ranges<Version>,
-    lines: &[&Demand],
-) -> Result<Option<usize>, AllocError>
-    ensures inside { IfOk result (λ found. IfSome found (λ at. at < length lines.now)) }
-    ensures empty { IfOk result (λ found. IfSome found (λ at. is_empty (shared_cover cover.now (map (λ x. demand_of x.now) (take (at + 1) lines.now))) ≡ true)) }
-    ensures first { IfOk result (λ found. IfSome found (λ at. is_empty (shared_cover cover.now (map (λ x. demand_of x.now) (take at lines.now))) ≡ false)) }
-    ensures none { IfOk result (λ found. IfNone found ((is_empty cover.now ≡ true) ⊎ (is_empty (shared_cover cover.now (map (λ x. demand_of x.now) lines.now)) ≡ false))) }
+fn push_members(members: &mut Vec<VersionSpecifier>, lines: &[&Demand]) -> Result<(), AllocError>
+    ensures { IfOk result (λ _. members.new.items ≡ members.old.items ++ specifiers_of (map (λ x. demand_of x.now) lines.now)) }
 {
-    let mut shared = cover.clone(alloc)?;
-    if shared.is_empty() {
-        return Ok(None);
+    for line in lines {
+        push_copies(members, line.specifiers.as_slice())?;
     }
-    for (at, line) in lines.iter().enumerate() {
-        shared = shared.intersection(alloc, &line.cover)?;
-        if shared.is_empty() {
-            return Ok(Some(at));
+    Ok(())
+}
+
+#[tactic(auto, using(crate::proofs::SmallestLists::members_of))]
+// Whether there is no version that the lists of all these lines contain.
+pub(crate) fn have_none(
+    alloc: Global,
+    lines: &[&Demand],
+    kept: &[&Demand],
+) -> Result<bool, AllocError>
+    ensures { IfOk result (λ none. none ≡ have_none (map (λ x. demand_of x.now) lines.now ++ map (λ x. demand_of x.now) kept.now)) }
+{
+    let mut members = Vec::new(alloc);
+    push_members(&mut members, lines)?;
+    push_members(&mut members, kept)?;
+    Ok(find_version(alloc, members.as_slice())?.is_none())
+}
+
+// The number to try next: twice as many, at most halfway.
+fn next_try(low: usize, high: usize) -> usize
+    requires { low < high }
+    ensures from { low ≤ result }
+    ensures below { result < high }
+{
+    let middle = low + (high - low) / 2;
+    middle.min(low.saturating_mul(2))
+}
+
+// How many of the lines, from the first on, it takes to have no version in common with those that are kept.
+fn count_apart(alloc: Global, lines: &[&Demand], kept: &[&Demand]) -> Result<usize, AllocError>
+    requires { have_none (map (λ x. demand_of x.now) lines.now ++ map (λ x. demand_of x.now) kept.now) ≡ true }
+    ensures inside { IfOk result (λ n. n ≤ length lines.now) }
+    ensures enough { IfOk result (λ n. have_none (map (λ x. demand_of x.now) (take n lines.now) ++ map (λ x. demand_of x.now) kept.now) ≡ true) }
+    ensures fewest { IfOk result (λ n. 0 < n → have_none (map (λ x. demand_of x.now) (take (n - 1) lines.now) ++ map (λ x. demand_of x.now) kept.now) ≡ false) }
+{
+    let (mut low, mut high) = (0, lines.len());
+    while low < high {
+        let count = next_try(low, high);
+        if have_none(alloc, &lines[..count], kept)? {
+            high = count;
+        } else {
+            low = count + 1;
         }
     }
-    Ok(None)
+    Ok(high)
 }
 
-// A smallest list of the lines, which have nothing in common. Takes a pass over the lines for each line of it.
+// A smallest list of the lines, which have no version in common. Asks for each line of it about twice as often as the number of lines
+// has binary digits whether some of them have one.
 pub(crate) fn find_smallest<'a>(
     alloc: Global,
     lines: &[&'a Demand],
 ) -> Result<Vec<&'a Demand>, AllocError>
-    requires { is_empty (common_cover (map (λ x. demand_of x.now) lines.now)) ≡ true }
+    requires none { have_none (map (λ x. demand_of x.now) lines.now) ≡ true }
+    requires sound { All IsSound (map (λ x. demand_of x.now) lines.now) }
     ensures { IfOk result (λ kept. map (λ x. demand_of x.now) kept.items ≡ smallest (map (λ x. demand_of x.now) lines.now)) }
 {
     let mut kept = Vec::new(alloc);
-    let mut cover = Ranges::full(alloc)?;
     let mut rest = lines;
-    while let Some(at) = find_apart(alloc, &cover, rest)? {
-        let line = rest[at];
-        kept.push(line)?;
-        cover = cover.intersection(alloc, &line.cover)?;
-        rest = &rest[..at];
+    'rounds: loop {
+        let count = count_apart(alloc, rest, &kept)?;
+        if count == 0 {
+            return Ok(kept);
+        }
+        kept.insert(0, rest[count - 1])?;
+        rest = &rest[..count - 1];
     }
-    kept.reverse();
-    Ok(kept)
 }

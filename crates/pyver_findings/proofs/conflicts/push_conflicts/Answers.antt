@@ -7,9 +7,17 @@ use Rattle.pyver_findings.specs.Demands.{Demand}
 use Rattle.pyver_findings.specs.Conflicts.{of_name, has_same_name}
 use Rattle.pyver_findings.specs.Views.{demand_of, finding_of}
 use Rattle.pyver_findings.specs.declared.demand.Demand.{Demand as DemandValue}
-use Rattle.pyver_findings.proofs.Grouping.{of_taken, taken_more}
+use Rattle.pyver_findings.proofs.Grouping.{of_taken, sound_taken, taken_more}
 use Rattle.pyver_findings.proofs.Steps.{first_more}
 use Rattle.pyver_findings.proofs.conflicts.push_conflicts.Goals as goal
+
+pub push_group-requires : goal.push_group-requires
+push_group-requires c =
+    let lines = c.args.lines.now in
+    let name = c.line-item.result.name.items in
+    sound_taken (list_any (λ (a : Demand). bytes_eq name a.name) (map demand_of (take c.loop-line.line-index lines))) (λ (a : Demand). bytes_eq name a.name) (map demand_of lines) _ c.requires
+    (ap (λ g. map (λ (x : Bor DemandValue). demand_of x.now) (option_map_or (λ v. v.items) g []))
+    (c.remove-group.ensures.value ∙ ap (λ n. get_by (λ k. bytes_eq n k.now) c.loop-line.groups) c.as_slice.ensures.value) ∙ c.loop-line.invariant.1 name)
 
 pub loop-line-preserved : goal.loop-line-preserved
 loop-line-preserved c =

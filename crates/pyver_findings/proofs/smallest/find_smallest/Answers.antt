@@ -1,34 +1,30 @@
-use Rattle.std.proofs.Common.{◌≡◌, ◌+◌, ◌<◌, ◌≤◌, ◌⊎◌, ◌∙◌, ◌++◌, ◌∷◌, [], Bor, ap, arith, false, length, map, reverse, take, true}
-use Rattle.std.proofs.lemmas.Grind.{common_steps}
-use Rattle.pep440_ranges.specs.Intersection.{overlaps}
-use Rattle.pep440_version.specs.Key.{record_cmp}
-use Rattle.pyver_findings.specs.Conflicts.{is_empty, keep, shared_cover, smallest}
+use Rattle.std.proofs.Common.{◌≡◌, ◌++◌, ◌-◌, ◌∙◌, Bor, ap, arith, map, subst, sym, take, true}
+use Rattle.std.proofs.lemmas.List.{length-take-le}
+use Rattle.pyver_findings.proofs.Scanning.{IsRound, last_round, round}
+use Rattle.pyver_findings.specs.Conflicts.{have_none, smallest}
 use Rattle.pyver_findings.specs.Views.{demand_of}
 use Rattle.pyver_findings.specs.declared.demand.Demand.{Demand as DemandValue}
-use Rattle.pyver_findings.proofs.Scanning.{last_round, round}
 use Rattle.pyver_findings.proofs.smallest.find_smallest.Goals as goal
 
-pub loop-cover-preserved : goal.loop-cover-preserved
-loop-cover-preserved c =
+pub returns-then-count-eq0 : goal.returns-then-count-eq0
+returns-then-count-eq0 c =
     let view = λ (x : Bor DemandValue). demand_of x.now in
-    let rest = c.loop-cover.rest.now in
-    let at = c.in-Some.at in
-    let line = c.index-rest-at.result in
-    let inside : at < length rest = grind (arith, c.in_ok-at.ensures.inside) in
-    let none : is_empty (shared_cover c.loop-cover.cover (map view (take (at + 1) rest))) ≡ true = grind (arith, c.in_ok-at.ensures.empty) in
-    let some : is_empty (shared_cover c.loop-cover.cover (map view (take at rest))) ≡ false = grind (arith, c.in_ok-at.ensures.first) in
-    let pushed : c.push.new.self.items ≡ c.loop-cover.kept.items ++ line ∷ [] = grind (arith) in
-    let cover : c.in_ok-cover-2.cover ≡ overlaps record_cmp c.loop-cover.cover (view line).cover = c.in_ok-cover-2.ensures.segments in
-    let r = round view (smallest (map view c.args.lines.now)) c.loop-cover.cover c.loop-cover.kept.items rest at line inside c.index-rest-at.is none some c.loop-cover.invariant.0 in (
-      (λ j. keep (cover j) (reverse (map view (pushed j))) (reverse (map view (take at rest)))) ∙ r.0,
-      ap (λ s. is_empty (shared_cover s (map view (take at rest)))) cover ∙ r.1,
-      grind (arith, common_steps, c.loop-cover.invariant.2),
-    )
+    let kept = c.rounds.kept.items in
+    let rest = c.rounds.rest.now in
+    let none = ap (λ k. have_none (map view (take c.in_ok-count.count rest) ++ map view k)) (sym c.deref.ensures.value) ∙ c.in_ok-count.ensures.enough in
+    last_round view (smallest (map view c.args.lines.now)) kept rest (subst (λ n. have_none (map view (take n rest) ++ map view kept) ≡ true) c.if-count-eq0.true none) c.rounds.invariant.1
 
-pub returns : goal.returns
-returns c =
+pub rounds-preserved : goal.rounds-preserved
+rounds-preserved c =
     let view = λ (x : Bor DemandValue). demand_of x.now in
-    let rest = c.loop-cover.rest.now in
-    let either : (is_empty c.loop-cover.cover ≡ true) ⊎ (is_empty (shared_cover c.loop-cover.cover (map view rest)) ≡ false) = grind (arith, c.in_ok-at.ensures.none) in
-    let turned : c.reverse.new.self.items ≡ reverse c.loop-cover.kept.items = grind (arith) in
-    ap (map view) turned ∙ last_round view (smallest (map view c.args.lines.now)) c.loop-cover.cover c.loop-cover.kept.items rest either c.loop-cover.invariant.1 c.loop-cover.invariant.0
+    let total = smallest (map view c.args.lines.now) in
+    let kept = c.rounds.kept.items in
+    let rest = c.rounds.rest.now in
+    let count = c.in_ok-count.count in
+    let line = c.index-rest-count.result in
+    let inside = c.in_ok-count.ensures.inside in
+    let none = ap (λ k. have_none (map view (take count rest) ++ map view k)) (sym c.deref.ensures.value) ∙ c.in_ok-count.ensures.enough in
+    let some = ap (λ k. have_none (map view (take (count - 1) rest) ++ map view k)) (sym c.deref.ensures.value) ∙ c.in_ok-count.ensures.fewest (omega arith) in (
+      omega (arith, inside, c.rounds.invariant.0, length-take-le (count - 1) rest (omega (arith, inside))),
+      subst (λ k. IsRound view total k (take (count - 1) rest)) (sym c.in_ok-insert.ensures.items) (round view total kept rest count (count - 1) line (omega arith) (omega (arith, inside)) c.index-rest-count.is none some c.rounds.invariant.1),
+    )
