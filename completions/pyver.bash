@@ -51,7 +51,7 @@ _pyver() {
             ;;
         *,range) words='--help --cover --json' ;;
         *,check)
-            words='--help --json'
+            words='--help -q --quiet --each --json'
             compopt -o default 2> /dev/null
             ;;
     esac
