@@ -30,7 +30,7 @@ returns-in_err-read_named-clause-stopped g c =
     let here = c.loop-index in
     let named = named_file_of c.in_ok-named.named in
     let front = map named_file_of (take here.index here.self.names.items) in
-    let split = names_split named_file_of here.self.names.items here.index c.index.result.now _ named (omega (arith, c.loop-index-test.true, here.invariant.5)) c.index.ensures c.in_ok-named.ensures in
+    let split = names_split named_file_of here.self.names.items here.index c.index.result.now _ named (omega (arith, c.loop-index-test.true, here.invariant.5)) c.index.ensures c.in_ok-named.ensures.cases in
     let each = subst (λ f. ReadsFilesInTurn known paths g.R.Read.remaining f none_read (read_of here.self) c.args.input.now here.input) (take-map named_file_of here.index here.self.names.items) here.invariant.0 in
     rw (p.1, p.2) (ends_stopped known paths g.R.Read.remaining (names_of_files c.args.self.now) here.self c.args.input.now here.input c.read_named.new.input front _ named split each here.invariant.1 why
     (subst (λ f. StopsInFile f g.R.Read.remaining named.name here.input c.read_named.new.input why) here.invariant.2 c.in_err-read_named.ensures.stopped))
@@ -45,7 +45,7 @@ loop-index-preserved g c =
     let front = map named_file_of (take here.index here.self.names.items) in
     let rest = map named_file_of (drop (here.index + 1) here.self.names.items) in
     let split : names_of_files here.self ≡ front ++ named ∷ rest =
-    names_split named_file_of here.self.names.items here.index c.index.result.now _ named (omega (arith, c.loop-index-test.true, here.invariant.5)) c.index.ensures c.in_ok-named.ensures in
+    names_split named_file_of here.self.names.items here.index c.index.result.now _ named (omega (arith, c.loop-index-test.true, here.invariant.5)) c.index.ensures c.in_ok-named.ensures.cases in
     let each = subst (λ f. ReadsFilesInTurn known paths g.R.Read.remaining f none_read (read_of here.self) c.args.input.now here.input) (take-map named_file_of here.index here.self.names.items) here.invariant.0 in
     let kept = subst (λ k. ReadsStep k (g.F.Files.path here.files) g.R.Read.remaining named here.self new here.input c.read_named.new.input) here.invariant.2 c.in_ok-read_named.ensures.read in
     let step : ReadsStep known paths g.R.Read.remaining named here.self new here.input c.read_named.new.input = subst (λ p. ReadsStep known p g.R.Read.remaining named here.self new here.input c.read_named.new.input) here.invariant.3 kept in

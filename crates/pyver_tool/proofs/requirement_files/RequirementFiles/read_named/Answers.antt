@@ -10,4 +10,4 @@ returns-in_ok-push_unopened-in-Some-clause-read g c =
     let paths = g.F.Files.path c.args.files.now in
     let step = rw c.in-Some.is at c.in_ok-read_next.ensures.read in
     step_refused known paths g.R.Read.remaining (named_file_of c.args.named) c.in-Some.failure c.args.self.now c.read_next.new.self c.push_unopened.new.self c.args.input.now c.read_next.new.input c.requires
-    (subst (λ n. StepsOrRefused known paths g.R.Read.remaining n c.args.self.now c.read_next.new.self c.args.input.now c.read_next.new.input (Some c.in-Some.failure)) c.as_slice.ensures.value step) c.in_ok-push_unopened.ensures
+    (subst (λ n. StepsOrRefused known paths g.R.Read.remaining n c.args.self.now c.read_next.new.self c.args.input.now c.read_next.new.input (Some c.in-Some.failure)) c.as_slice.ensures.value step) c.in_ok-push_unopened-in-Some.ensures
