@@ -1,5 +1,5 @@
 -- What is written of a list as a version in it is one, and nothing is written if there is none.
-use Rattle.std.proofs.Common.{◌≡◌, ◌⊎◌, ◌∙◌, ℕ, List, [], Option, Some, None, IsTrue, refl, sym, ap, inl, inr, subst}
+use Rattle.std.proofs.Common.{◌≡◌, ◌⊎◌, ◌∙◌, ℕ, List, [], Option, Some, None, IfSome, IsTrue, refl, sym, ap, inl, inr, subst}
 use Rattle.std.specs.List.{All}
 use Rattle.std.specs.Option.{option_map_or}
 use Rattle.pep440_rs.proofs.Agreement.Operands.{list_has_texts}
@@ -9,7 +9,7 @@ use Rattle.pep440_rs.specs.Matching.{list_matches}
 use Rattle.pep440_rs.specs.Specifiers.{Spec}
 use Rattle.pep440_version.specs.Print.{print}
 use Rattle.pep440_version.specs.Record.{Record}
-use Rattle.pep440_witness.proofs.Finding.{is_contained, is_none}
+use Rattle.pep440_witness.proofs.Finding.{first_contained, is_none}
 use Rattle.pep440_witness.specs.Probes.{first_match}
 use Rattle.pep440_c.proofs.Once.{one_bytes_list}
 use Rattle.pep440_c.specs.Meaning.{MeansListBytes, MeansListString}
@@ -17,7 +17,7 @@ use Rattle.pep440_c.specs.VersionsIn.{IsVersionIn}
 
 of_found : (l : List Spec) (words : List ℕ) (found : Option Record) → found ≡ first_match l → words ≡ option_map_or print found [] → (words ≡ []) ⊎ ((v : Record) × (words ≡ print v) × IsTrue (list_matches l v))
 of_found l words None first is = inl is
-of_found l words (Some v) first is = inr (v, is, is_contained l v first)
+of_found l words (Some v) first is = inr (v, is, subst (λ o. IfSome o (λ w. IsTrue (list_matches l w))) (sym first) (first_contained l))
 
 pub contained : (bytes words : List ℕ) (l : List Spec) → IsVersionIn bytes words → MeansListBytes bytes l → (words ≡ []) ⊎ ((v : Record) × (words ≡ print v) × IsTrue (list_matches l v))
 contained bytes words l (m, means, is) list =

@@ -1,5 +1,5 @@
 -- What lists have in common, and that `no version` is printed exactly where no version is in all of them.
-use Rattle.std.proofs.Common.{◌≡◌, ◌+◌, ◌<◌, ◌≤◌, ◌∙◌, ℕ, List, [], ◌∷◌, ◌++◌, ◌&&◌, Bool, true, false, IsTrue, Option, Some, None, fold, length, get_or, take, take_all, map, refl, sym, ap, subst, if◌then◌else◌}
+use Rattle.std.proofs.Common.{◌≡◌, ◌+◌, ◌<◌, ◌≤◌, ◌∙◌, ℕ, List, [], ◌∷◌, ◌++◌, ◌&&◌, Bool, true, false, IfSome, IsTrue, Option, Some, None, fold, length, get_or, take, take_all, map, refl, sym, ap, subst, if◌then◌else◌}
 use Rattle.std.proofs.lemmas.List.{append-nil, map-append, take_more}
 use Rattle.std.proofs.lemmas.List.Concat.{flat_map-append}
 use Rattle.std.proofs.lemmas.List.Elements.{All-append, All-cons, All-head, All-tail}
@@ -25,7 +25,7 @@ use Rattle.pyver_tool.specs.Matches.{DenotesList, ListFails}
 use Rattle.pyver_tool.specs.Outcomes.{Outcome}
 use Rattle.pyver_tool.specs.RangeLaws.{AllowsVersion, CommonIsInEach, NoVersionIsCommon, VersionIsCommon}
 use Rattle.pep440_version.proofs.RoundTrip.PrintIsRead.{none_all}
-use Rattle.pep440_witness.proofs.Finding.{is_contained, is_none}
+use Rattle.pep440_witness.proofs.Finding.{first_contained, is_none}
 use Rattle.pep440_witness.specs.Probes.{first_match}
 use Rattle.pyver_tool.specs.declared.common_range.RangeOptions.{RangeOptions}
 use Rattle.pyver_tool.proofs.InTurn.{all_more}
@@ -171,7 +171,7 @@ no_version_is_common options words o (xs, h, is) ended v d all =
 pub version_is_common : VersionIsCommon
 version_is_common options words o (xs, h, is) ended =
     let e = some_left options (flat_map message_in xs) (common (flat_map ranges_in xs)) (common (flat_map covers_in xs)) (flat_map members_in xs) (sym (ap (λ (q : Outcome). q.status) is) ∙ ended) in
-    (e.1.0, each_contains e.1.0 words xs h e.0 (is_contained (flat_map members_in xs) e.1.0 e.1.1))
+    (e.1.0, each_contains e.1.0 words xs h e.0 (subst (λ o. IfSome o (λ w. IsTrue (list_matches (flat_map members_in xs) w))) (sym e.1.1) (first_contained (flat_map members_in xs))))
 
 -- ---- what is printed
 
