@@ -1,9 +1,10 @@
 -- How `check` ends.
-use Rattle.std.proofs.Common.{◌≡◌, ◌∙◌, ℕ, List, [], ◌∷◌, ◌++◌, Bool, true, false, Option, inl, inr, map, refl, sym, ap, subst, if◌then◌else◌}
+use Rattle.std.proofs.Common.{◌≡◌, ◌∙◌, ℕ, List, [], ◌∷◌, ◌++◌, Bool, true, false, Option, inl, inr, map, refl, sym, ap, subst, append_assoc, if◌then◌else◌}
 use Rattle.std.specs.List.{flat_map}
+use Rattle.std.specs.Prelude.{Err, IfOk, Ok, Result, is_ok}
 use Rattle.pyver_tool.proofs.FileReads.{stops_at_once}
 use Rattle.pyver_tool.proofs.RunEnds.{some_source}
-use Rattle.pyver_tool.specs.Checks.{CheckResult, Checks, ChecksGroup, ChecksGroups, EndsCheck, GainsReport, StopsCheck, StopsGroup, StopsGroups, check_outcome, check_status, findings_text, none_checked, summary, unopened_text, word_groups}
+use Rattle.pyver_tool.specs.Checks.{CheckResult, Checks, ChecksGroup, ChecksGroups, EndsCheck, GainsReport, StopsCheck, StopsGroup, StopsGroups, check_outcome, check_status, findings_text, none_checked, summary, together_note, unopened_text, word_groups}
 use Rattle.pyver_tool.specs.Outcomes.{Outcome}
 use Rattle.pyver_tool.specs.RequirementFiles.{StopsInFiles, word_file}
 use Rattle.pyver_tool.specs.Runs.{WritesAnswer, WroteBeginning, memory_message}
@@ -13,6 +14,8 @@ use Rattle.pyver_tool.specs.Tasks.{Check, IsOutcome, NeedsInput, Task}
 use Rattle.pyver_tool.specs.declared.check.CheckOptions.{CheckOptions}
 use Rattle.pyver_tool.specs.declared.stream.RunFailure.{RunFailure}
 use Rattle.pyver_tool.specs.declared.stream.RunFailure.TheVariants as run_failure
+use Rattle.pyver_findings.specs.ReportTexts.{summary_text}
+use Rattle.pyver_findings.specs.Reports.{Report}
 
 -- ---- groups of words
 
@@ -78,3 +81,16 @@ module _ {F R W E : Type 0} (known : F → List ℕ → KnownFile) (path : F →
 pub outcome_is : (output errors : List ℕ) (status : ℕ) (options : CheckOptions) (words : List (List ℕ)) (c : CheckResult) → output ≡ (if options.quiet then [] else findings_text options.json c.report)
     → errors ≡ flat_map unopened_text c.unopened ++ summary options words c.report → status ≡ check_status c.unopened c.report.findings → record { output = output; errors = errors; status = status } ≡ check_outcome options words c
 outcome_is output errors status options words c x y z = rw (x, y, z) refl
+
+-- a last write, of which this comes
+pub written_last : {T E : Type 0} (r : Result T E) (new old more all : List ℕ) → new ≡ (if is_ok r then old ++ more else old) → old ++ more ≡ all → IfOk r (λ _. new ≡ all)
+written_last (Ok x) new old more all e k = e ∙ k
+written_last (Err x) new old more all e k = tt
+
+-- the note and the counts were written
+pub summary_is : (options : CheckOptions) (words : List (List ℕ)) (r : Report) (old now note counts : List ℕ) → options.quiet ≡ false → now ≡ old ++ note → note ≡ together_note options words r.findings → counts ≡ summary_text r
+    → now ++ counts ≡ old ++ summary options words r
+summary_is options words r old now note counts loud noted is counted =
+    let both : note ++ counts ≡ together_note options words r.findings ++ summary_text r = ap (λ n. n ++ counts) is ∙ ap (λ s. together_note options words r.findings ++ s) counted in
+    ap (λ b. b ++ counts) noted ∙ append_assoc old note counts
+    ∙ ap (λ t. old ++ t) (subst (λ q. note ++ counts ≡ (if q then [] else together_note options words r.findings ++ summary_text r)) (sym loud) both)

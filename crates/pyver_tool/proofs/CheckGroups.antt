@@ -1,15 +1,19 @@
 -- Groups of words that `check` checks in turn.
-use Rattle.std.proofs.Common.{arith, ◌≡◌, ◌≤◌, ◌<◌, ◌==◌, ℕ, List, [], ◌∷◌, Bool, true, false, Option, drop, inl, inr, length, map, refl, subst, sym, take}
+use Rattle.std.proofs.Common.{arith, ◌≡◌, ◌≤◌, ◌<◌, ◌-◌, ◌==◌, ℕ, List, [], ◌∷◌, Bool, true, false, Option, ap, drop, inl, inr, length, map, refl, subst, sym, take, take_all}
 use Rattle.pyver_tool.specs.Checks.{CheckResult, ChecksGroup, ChecksGroups, StopsGroup, StopsGroups, word_groups}
 use Rattle.pyver_tool.specs.Sources.{KnownFile, source_names}
 use Rattle.pyver_tool.specs.declared.stream.RunFailure.{RunFailure}
 
+-- all words but the first
+later_words : {X : Type 0} (x : X) (words : List X) → words ≡ take (length (x ∷ words) - 1) words
+later_words x words = sym (take_all (length (x ∷ words) - 1) words (omega arith))
+
 -- the first of the words is a group, and then come the others
 pub first_group : {X : Type 0} (f : X → List ℕ) (words : List X) → 1 ≤ length words
-    → map (λ word. word ∷ []) (map f words) ≡ source_names (map f (take 1 words)) ∷ map (λ word. word ∷ []) (map f (drop 1 words))
+    → map (λ word. word ∷ []) (map f words) ≡ source_names (map f (take 1 words)) ∷ map (λ word. word ∷ []) (map f (take (length words - 1) (drop 1 words)))
 first_group f [] some = absurd (omega (arith, some))
-first_group f (x ∷ []) some = refl
-first_group f (x ∷ (y ∷ words)) some = refl
+first_group f (x ∷ []) some = ap (λ l. (f x ∷ []) ∷ map (λ word. word ∷ []) (map f l)) (later_words x [])
+first_group f (x ∷ (y ∷ words)) some = ap (λ l. (f x ∷ []) ∷ map (λ word. word ∷ []) (map f l)) (later_words x (y ∷ words))
 
 -- no word is left
 pub no_group : {X : Type 0} (f : X → List ℕ) (words : List X) → length words < 1 → [] ≡ map (λ word. word ∷ []) (map f words)

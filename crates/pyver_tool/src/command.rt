@@ -48,7 +48,7 @@ pub(crate) enum Command<'a> {
     // The number of the last part, the names of the parts, and the version if it is among the words.
     Bump(Option<u64>, &'a [String], Option<&'a str>),
     Range(RangeOptions, &'a [String]),
-    // Whether JSON is asked for, and the names of the files.
+    // How, and the names of the files.
     Check(CheckOptions, &'a [String]),
     Misused(Misuse<'a>),
 }
@@ -62,7 +62,7 @@ pub(crate) enum Work<'a> {
     Filter(FilterRule, &'a [String]),
     // To read the sources with these names to their ends, of which this is asked.
     Whole(Question, &'a [String]),
-    // To check the files with these names, and to print JSON or not.
+    // To check the files with these names so.
     Check(CheckOptions, &'a [String]),
 }
 

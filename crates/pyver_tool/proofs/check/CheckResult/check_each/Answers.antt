@@ -1,4 +1,4 @@
-use Rattle.std.proofs.Common.{◌∷◌, ◌∙◌, [], drop, map, string_bytes, subst, take}
+use Rattle.std.proofs.Common.{◌∷◌, ◌∙◌, ◌-◌, [], drop, length, map, string_bytes, subst, take}
 use Rattle.std.proofs.lemmas.Result.{err_from_is_err_and}
 use Rattle.pyver_tool.proofs.CheckGroups.{continues_more, continues_stop, first_group}
 use Rattle.pyver_tool.specs.CheckViews.{check_result_of}
@@ -14,7 +14,7 @@ returns-in_err-check_group-clause-stopped g c =
     let here = c.loop-rest in
     let first = source_names (map string_bytes (take 1 here.rest.now)) in
     let stops = subst (λ k. StopsGroup k (g.F.Files.path here.files) g.R.Read.remaining first here.input c.check_group.new.input c.in_err-check_group.field-0.0) here.invariant.1 c.in_err-check_group.ensures.stopped in
-    rw (p.1, p.2) (continues_stop known paths g.R.Read.remaining _ _ (map (λ word. word ∷ []) (map string_bytes (drop 1 here.rest.now))) first (check_result_of c.args.self.now) (check_result_of here.self) c.args.input.now here.input
+    rw (p.1, p.2) (continues_stop known paths g.R.Read.remaining _ _ (map (λ word. word ∷ []) (map string_bytes (take (length here.rest.now - 1) (drop 1 here.rest.now)))) first (check_result_of c.args.self.now) (check_result_of here.self) c.args.input.now here.input
     (first_group string_bytes here.rest.now c.in-len1-up.len_at_least) here.invariant.0 _ c.check_group.new.input
     (subst (λ q. StopsGroup known q g.R.Read.remaining first here.input c.check_group.new.input c.in_err-check_group.field-0.0) here.invariant.2 stops))
 
@@ -26,7 +26,7 @@ loop-rest-preserved g c =
     let new = check_result_of c.check_group.new.self in
     let first = source_names (map string_bytes (take 1 here.rest.now)) in
     let step = subst (λ k. ChecksGroup k (g.F.Files.path here.files) g.R.Read.remaining first (check_result_of here.self) new here.input c.check_group.new.input) here.invariant.1 c.in_ok-check_group.ensures.checked in (
-      continues_more known paths g.R.Read.remaining _ _ (map (λ word. word ∷ []) (map string_bytes (drop 1 here.rest.now))) first (check_result_of c.args.self.now) (check_result_of here.self) c.args.input.now here.input
+      continues_more known paths g.R.Read.remaining _ _ (map (λ word. word ∷ []) (map string_bytes (take (length here.rest.now - 1) (drop 1 here.rest.now)))) first (check_result_of c.args.self.now) (check_result_of here.self) c.args.input.now here.input
           (first_group string_bytes here.rest.now c.in-len1-up.len_at_least) here.invariant.0 new c.check_group.new.input
           (subst (λ q. ChecksGroup known q g.R.Read.remaining first (check_result_of here.self) new here.input c.check_group.new.input) here.invariant.2 step),
       c.in_ok-check_group.ensures.kept ∙ here.invariant.1,
