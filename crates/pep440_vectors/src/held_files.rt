@@ -32,7 +32,7 @@ pub const VERSIONS: [(&str, HeldFile<'static>); 10] = [
 ];
 
 /// Files of requirements.
-pub const REQUIREMENTS: [(&str, HeldFile<'static>); 8] = [
+pub const REQUIREMENTS: [(&str, HeldFile<'static>); 9] = [
     (
         "a.txt",
         HeldFile::Text(b"a==1.0\n-r sub/b.txt\n-c ./c.txt\n"),
@@ -44,6 +44,7 @@ pub const REQUIREMENTS: [(&str, HeldFile<'static>); 8] = [
     ("c.txt", HeldFile::Text(b"\xEF\xBB\xBFb<1\r\na==1.0.0")),
     ("lost.txt", HeldFile::Text(b"a b\n-r gone.txt\n")),
     ("bytes.txt", HeldFile::Text(b"-r \xFF.txt\n")),
+    ("utf16.txt", HeldFile::Text(b"\xFF\xFEa\0\n\0b\0")),
     ("damaged", HeldFile::Damaged(b"a==1")),
     ("folder", HeldFile::NotOpened(OpenFailure::IsDirectory)),
     ("full", HeldFile::NotOpened(OpenFailure::OutOfMemory)),

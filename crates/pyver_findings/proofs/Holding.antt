@@ -25,7 +25,7 @@ use Rattle.pyver_findings.proofs.Rejecting.{invalid_right}
 use Rattle.pyver_findings.specs.Reports.{Report, demands_in, invalid_in}
 use Rattle.pyver_findings.specs.declared.cause.Cause.TheVariants as cause
 use Rattle.pyver_findings.specs.declared.finding.Conflict.TheVariants.{NoVersion, PinOutside, TwoPins}
-use Rattle.pyver_requirements.specs.LineKinds.{ConstraintsFile, Editable, LineKind, Location, MissingPath, PipOption, Requirement, RequirementsFile, Variable, has_variable, line_kind}
+use Rattle.pyver_requirements.specs.LineKinds.{ConstraintsFile, Editable, Invalid, LineKind, Location, PipOption, Requirement, RequirementsFile, Variable, has_variable, line_kind}
 use Rattle.pyver_requirements.specs.LineParts.{line_parts}
 
 -- ---- what a line asks for
@@ -117,7 +117,7 @@ module _ (read : List FileLine) where
     of_kind : (kind : LineKind) (x : LineMeaning) → IsKindMeaning l kind x → All (IsAsked read) (demands_in x)
     of_kind (RequirementsFile path) x is = same_reading x (names_file path) is (of_file (has_variable path) (has_scheme path))
     of_kind (ConstraintsFile path) x is = same_reading x (names_file path) is (of_file (has_variable path) (has_scheme path))
-    of_kind MissingPath x is = same_reading x _ is (All-nil (IsAsked read))
+    of_kind (Invalid f) x is = same_reading x _ is (All-nil (IsAsked read))
     of_kind Editable x is = same_reading x _ is (All-nil (IsAsked read))
     of_kind PipOption x is = same_reading x _ is (All-nil (IsAsked read))
     of_kind Variable x is = same_reading x _ is (All-nil (IsAsked read))

@@ -9,10 +9,11 @@ use Rattle.pyver_findings.specs.Conflicts.{conflicts}
 use Rattle.pyver_findings.specs.FileLines.{FileLine, all_lines}
 use Rattle.pyver_findings.specs.FindingLaws.{InvalidLinesHaveFindings, IsAlone, IsRequirementLine, LacksRequirement}
 use Rattle.pyver_findings.specs.Findings.{NoRequirement}
-use Rattle.pyver_findings.specs.LineMeanings.{IsNone, LeftOut, LineMeaning, IsKindMeaning, IsMeaning, not_utf8, refusal_meaning, requirement_meaning, with_marker, with_url, without_path}
+use Rattle.pyver_findings.specs.LineMeanings.{IsNone, LeftOut, LineMeaning, IsKindMeaning, IsMeaning, not_utf8, refusal_meaning, requirement_meaning, invalid_line, with_marker, with_url}
 use Rattle.pyver_findings.specs.Reports.{Report, demands_in, invalid_in}
 use Rattle.pyver_findings.specs.declared.cause.Cause.TheVariants as cause
-use Rattle.pyver_requirements.specs.LineKinds.{ConstraintsFile, Editable, LineKind, Location, MissingPath, PipOption, Requirement, RequirementsFile, Variable, line_kind}
+use Rattle.pyver_requirements.specs.LineKinds.{ConstraintsFile, Editable, Invalid, LineKind, Location, PipOption, Requirement, RequirementsFile, Variable, line_kind}
+use Rattle.pyver_requirements.specs.declared.line_fault.LineFault.{LineFault}
 use Rattle.pyver_requirements.specs.LineParts.{line_parts}
 
 module _ (l : FileLine) where
@@ -37,19 +38,19 @@ module _ (l : FileLine) where
   same_found x y is k = subst (λ (z : LineMeaning). Some_is (IsAlone l) (invalid_in z)) (sym is) k
 
   -- a line of another kind is none of those that ought to be requirements
-  other : {X : Type 0} (kind : LineKind) → (kind ≡ MissingPath → ⊥) → (kind ≡ Requirement → ⊥) → line_kind l.text ≡ kind → LacksRequirement l → X
-  other kind path requirement is (inl missing) = absurd (path (sym is ∙ missing))
-  other kind path requirement is (inr lacks) = absurd (requirement (sym is ∙ lacks.0))
+  other : {X : Type 0} (kind : LineKind) → ((f : LineFault) → kind ≡ Invalid f → ⊥) → (kind ≡ Requirement → ⊥) → line_kind l.text ≡ kind → LacksRequirement l → X
+  other kind invalid requirement is (inl (f, found)) = absurd (invalid f (sym is ∙ found))
+  other kind invalid requirement is (inr lacks) = absurd (requirement (sym is ∙ lacks.0))
 
   by_kind : (kind : LineKind) (x : LineMeaning) → line_kind l.text ≡ kind → LacksRequirement l → IsKindMeaning l kind x → Some_is (IsAlone l) (invalid_in x)
-  by_kind (RequirementsFile path) x kind lacks is = other (RequirementsFile path) (λ e. cc e) (λ e. cc e) kind lacks
-  by_kind (ConstraintsFile path) x kind lacks is = other (ConstraintsFile path) (λ e. cc e) (λ e. cc e) kind lacks
-  by_kind MissingPath x kind lacks is = same_found x (without_path l) is (inl refl)
-  by_kind Editable x kind lacks is = other Editable (λ e. cc e) (λ e. cc e) kind lacks
-  by_kind PipOption x kind lacks is = other PipOption (λ e. cc e) (λ e. cc e) kind lacks
-  by_kind Variable x kind lacks is = other Variable (λ e. cc e) (λ e. cc e) kind lacks
-  by_kind Location x kind lacks is = other Location (λ e. cc e) (λ e. cc e) kind lacks
-  by_kind Requirement x kind (inl missing) is = let same : Requirement ≡ MissingPath = sym kind ∙ missing in cc same
+  by_kind (RequirementsFile path) x kind lacks is = other (RequirementsFile path) (λ f e. cc e) (λ e. cc e) kind lacks
+  by_kind (ConstraintsFile path) x kind lacks is = other (ConstraintsFile path) (λ f e. cc e) (λ e. cc e) kind lacks
+  by_kind (Invalid f) x kind lacks is = same_found x (invalid_line l f) is (inl refl)
+  by_kind Editable x kind lacks is = other Editable (λ f e. cc e) (λ e. cc e) kind lacks
+  by_kind PipOption x kind lacks is = other PipOption (λ f e. cc e) (λ e. cc e) kind lacks
+  by_kind Variable x kind lacks is = other Variable (λ f e. cc e) (λ e. cc e) kind lacks
+  by_kind Location x kind lacks is = other Location (λ f e. cc e) (λ e. cc e) kind lacks
+  by_kind Requirement x kind (inl (f, found)) is = let same : Requirement ≡ Invalid f = sym kind ∙ found in cc same
   by_kind Requirement x kind (inr lacks) (inl (none, is)) = same_found x (not_utf8 l) is (inl refl)
   by_kind Requirement x kind (inr lacks) (inr (text, inl (n, d, is))) = same_found x (requirement_meaning l (line_parts l.text) n) is (by_marker kind text n d lacks.1 (line_parts l.text).marker refl)
   by_kind Requirement x kind (inr lacks) (inr (text, inr (f, r, is))) = same_found x (refusal_meaning l (line_parts l.text) f) is (inl refl)

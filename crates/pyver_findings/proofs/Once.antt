@@ -7,13 +7,13 @@ use Rattle.pyver_findings.specs.FileLines.{FileLine, all_lines}
 use Rattle.pyver_findings.specs.FindingLaws.{MeaningsOnce, ReportsOnce}
 use Rattle.pyver_findings.specs.LineMeanings.{IsKindMeaning, IsMeaning, LineMeaning, refusal_meaning, requirement_meaning}
 use Rattle.pyver_findings.specs.Reports.{found_in, left_out_in}
-use Rattle.pyver_requirements.specs.LineKinds.{ConstraintsFile, Editable, LineKind, Location, MissingPath, PipOption, Requirement, RequirementsFile, Variable, line_kind}
+use Rattle.pyver_requirements.specs.LineKinds.{ConstraintsFile, Editable, Invalid, LineKind, Location, PipOption, Requirement, RequirementsFile, Variable, line_kind}
 use Rattle.pyver_requirements.specs.LineParts.{line_parts}
 
 of_kind : (l : FileLine) (kind : LineKind) (x y : LineMeaning) → IsKindMeaning l kind x → IsKindMeaning l kind y → x ≡ y
 of_kind l (RequirementsFile path) x y a b = a ∙ sym b
 of_kind l (ConstraintsFile path) x y a b = a ∙ sym b
-of_kind l MissingPath x y a b = a ∙ sym b
+of_kind l (Invalid f) x y a b = a ∙ sym b
 of_kind l Editable x y a b = a ∙ sym b
 of_kind l PipOption x y a b = a ∙ sym b
 of_kind l Variable x y a b = a ∙ sym b

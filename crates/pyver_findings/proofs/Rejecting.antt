@@ -9,17 +9,18 @@ use Rattle.pep440_pick.specs.RequirementGrammar.{DerivesRequirement, Needed, Ref
 use Rattle.pyver_findings.specs.FileLines.{FileLine}
 use Rattle.pyver_findings.specs.FindingLaws.{IsRequirementLine, IsRight}
 use Rattle.pyver_findings.specs.Findings.{NoRequirement}
-use Rattle.pyver_findings.specs.LineMeanings.{IsNone, LeftOut, LineMeaning, NamesFile, IsKindMeaning, IsMeaning, has_scheme, names_file, not_utf8, refusal_meaning, requirement_meaning, with_marker, with_url, without_path}
+use Rattle.pyver_findings.specs.LineMeanings.{IsNone, LeftOut, LineMeaning, NamesFile, IsKindMeaning, IsMeaning, has_scheme, names_file, not_utf8, refusal_meaning, requirement_meaning, invalid_line, with_marker, with_url}
 use Rattle.pyver_findings.specs.Reports.{invalid_in}
 use Rattle.pyver_findings.specs.declared.cause.Cause.TheVariants as cause
-use Rattle.pyver_requirements.specs.LineKinds.{ConstraintsFile, Editable, LineKind, Location, MissingPath, PipOption, Requirement, RequirementsFile, Variable, has_variable, line_kind}
+use Rattle.pyver_requirements.specs.LineKinds.{ConstraintsFile, Editable, Invalid, LineKind, Location, PipOption, Requirement, RequirementsFile, Variable, has_variable, line_kind}
+use Rattle.pyver_requirements.specs.declared.line_fault.LineFault.{LineFault}
 use Rattle.pyver_requirements.specs.LineParts.{line_parts}
 
 -- ---- why a line is no requirement
 
 module _ (l : FileLine) where
-  missing_path : line_kind l.text ≡ MissingPath → IsRequirementLine l → ⊥
-  missing_path is (kind, text, (m, e, (marker, url, either))) = let same : MissingPath ≡ Requirement = sym is ∙ kind in cc same
+  not_invalid : (f : LineFault) → line_kind l.text ≡ Invalid f → IsRequirementLine l → ⊥
+  not_invalid f is (kind, text, (m, e, (marker, url, either))) = let same : Invalid f ≡ Requirement = sym is ∙ kind in cc same
 
   no_text : (IsUtf8 (line_parts l.text).requirement → ⊥) → IsRequirementLine l → ⊥
   no_text none (kind, text, (m, e, (marker, url, either))) = none text
@@ -75,7 +76,7 @@ module _ (read : List FileLine) where
     of_kind : (kind : LineKind) (x : LineMeaning) → line_kind l.text ≡ kind → IsKindMeaning l kind x → IsMeaning l x → All (IsRight read) (invalid_in x)
     of_kind (RequirementsFile path) x kind is means = same_invalid x (names_file path) is means (λ _. of_file (has_variable path) (has_scheme path))
     of_kind (ConstraintsFile path) x kind is means = same_invalid x (names_file path) is means (λ _. of_file (has_variable path) (has_scheme path))
-    of_kind MissingPath x kind is means = same_invalid x (without_path l) is means (λ m. one_invalid _ _ (missing_path l kind) m)
+    of_kind (Invalid f) x kind is means = same_invalid x (invalid_line l f) is means (λ m. one_invalid _ _ (not_invalid l f kind) m)
     of_kind Editable x kind is means = same_invalid x _ is means (λ _. All-nil (IsRight read))
     of_kind PipOption x kind is means = same_invalid x _ is means (λ _. All-nil (IsRight read))
     of_kind Variable x kind is means = same_invalid x _ is means (λ _. All-nil (IsRight read))

@@ -1,11 +1,12 @@
 -- Where a requirement is invalid: what stands from there on, and its column.
-use Rattle.std.specs.Prelude.{ℕ, ◌-◌, List, [], drop, length, if◌then◌else◌}
+use Rattle.std.specs.Prelude.{ℕ, ◌-◌, ◌==◌, ◌||◌, List, [], ◌∷◌, Bool, bytes_eq, codes, drop, length, if◌then◌else◌}
 use Rattle.std.specs.Char.{is_ascii_whitespace}
+use Rattle.std.specs.List.{list_any}
 use Rattle.std.specs.Option.{option_map_or}
 use Rattle.pep440_rs.specs.Blanks.{opens}
 use Rattle.pep440_pick.specs.RequirementGrammar.{InvalidExtras, RequirementRefusal, Specifiers, Unclosed}
 use Rattle.pep440_pick.specs.RequirementReading.{behind_name}
-use Rattle.pep440_version.specs.Reading.{past}
+use Rattle.pep440_version.specs.Reading.{lead, past}
 use Rattle.pyver_requirements.specs.LineParts.{behind_byte}
 
 -- what stands after the first `]`
@@ -28,11 +29,24 @@ in_parenthesis text = if opens 40 text then past is_ascii_whitespace (drop 1 tex
 abbrev pub from_list : List ℕ → List ℕ
 from_list text = in_parenthesis (behind_front text)
 
--- what stands from the position on at which the requirement is invalid: the extras, the parenthesis, or the invalid specifier
+-- `<`, `=`, `>`, `!` and `~`
+abbrev pub is_operator_byte : ℕ → Bool
+is_operator_byte b = (b == 60) || ((b == 61) || ((b == 62) || ((b == 33) || (b == 126))))
+
+-- the operators
+abbrev pub operators : List (List ℕ)
+operators = codes "~=" ∷ (codes "==" ∷ (codes "!=" ∷ (codes "<=" ∷ (codes ">=" ∷ (codes "<" ∷ (codes ">" ∷ (codes "===" ∷ [])))))))
+
+-- what stands after the operator that the string begins with, and after the blanks behind it; the whole string where it is none
+abbrev pub behind_operator : List ℕ → List ℕ
+behind_operator text = if list_any (bytes_eq (lead is_operator_byte text)) operators then past is_ascii_whitespace (past is_operator_byte text) else text
+
+-- what stands from the position on at which the requirement is invalid: the extras, the parenthesis, or the invalid specifier behind its
+-- operator
 abbrev pub rest_at : List ℕ → RequirementRefusal → List ℕ
 rest_at text InvalidExtras = behind_name text
 rest_at text Unclosed = behind_front text
-rest_at text (Specifiers list f) = past is_ascii_whitespace (drop f.start (from_list text))
+rest_at text (Specifiers list f) = behind_operator (past is_ascii_whitespace (drop f.start (from_list text)))
 rest_at text _ = text
 
 -- the column of that position, in bytes from 0

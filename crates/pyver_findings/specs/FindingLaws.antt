@@ -17,8 +17,9 @@ use Rattle.pyver_findings.specs.LineMeanings.{IsMeaning, IsNone, LineMeaning}
 use Rattle.pyver_findings.specs.Reports.{IsReport, Report, demands_in}
 use Rattle.pyver_findings.specs.declared.finding.Conflict.{Conflict}
 use Rattle.pyver_findings.specs.declared.finding.Conflict.TheVariants.{NoVersion, PinOutside, TwoPins}
-use Rattle.pyver_requirements.specs.LineKinds.{MissingPath, Requirement, line_kind}
+use Rattle.pyver_requirements.specs.LineKinds.{Invalid, Requirement, line_kind}
 use Rattle.pyver_requirements.specs.LineParts.{LineParts, line_parts}
+use Rattle.pyver_requirements.specs.declared.line_fault.LineFault.{LineFault}
 
 -- the line is a requirement whose list contains the version
 abbrev pub LineAllows : Record → FileLine → Type 0
@@ -80,9 +81,9 @@ abbrev pub IsAlone : FileLine → Finding → Type 0
 IsAlone line (NoRequirement l reason column) = l ≡ line
 IsAlone line (Conflicting conflict reported) = ⊥
 
--- a line that ought to be a requirement, and is none
+-- a line that ought to be a requirement or an option of pip, and is neither
 abbrev pub LacksRequirement : FileLine → Type 0
-LacksRequirement l = (line_kind l.text ≡ MissingPath) ⊎ ((line_kind l.text ≡ Requirement) × (¬ IsRequirementLine l))
+LacksRequirement l = ((fault : LineFault) × (line_kind l.text ≡ Invalid fault)) ⊎ ((line_kind l.text ≡ Requirement) × (¬ IsRequirementLine l))
 
 -- each line that ought to be a requirement and is none is reported
 abbrev pub InvalidLinesHaveFindings : Type 0

@@ -5,8 +5,10 @@ use Rattle.std.specs.Str.{IsUtf8}
 use Rattle.pep440_pick.specs.RequirementGrammar.{DerivesRequirement, Needed, RefusesRequirement, RequirementRefusal, Specifiers}
 use Rattle.pep440_pick.specs.RequirementTexts.{requirement_refusal_text}
 use Rattle.pep440_rs.specs.ErrorTexts.{specifier_refusal_text}
-use Rattle.pyver_requirements.specs.LineKinds.{ConstraintsFile, Editable, LineKind, Location, MissingPath, PipOption, Requirement, RequirementsFile, Variable, has_variable, line_kind}
+use Rattle.pyver_requirements.specs.LineKinds.{ConstraintsFile, Editable, Invalid, LineKind, Location, PipOption, Requirement, RequirementsFile, Variable, has_variable, line_kind}
 use Rattle.pyver_requirements.specs.LineParts.{LineParts, line_parts}
+use Rattle.pyver_requirements.specs.declared.line_fault.LineFault.{LineFault}
+use Rattle.pyver_requirements.specs.declared.line_fault.LineFault.TheVariants as fault
 use Rattle.pyver_findings.specs.Demands.{Demand, line_demand}
 use Rattle.pyver_findings.specs.Columns.{column}
 use Rattle.pyver_findings.specs.FileLines.{FileLine}
@@ -32,9 +34,23 @@ has_scheme (b ∷ rest) = starts_with nat_eq (b ∷ rest) (codes "://") || has_s
 abbrev pub names_file : List ℕ → LineMeaning
 names_file path = if has_variable path then LeftOut cause.Variable else (if has_scheme path then LeftOut cause.Url else NamesFile)
 
--- the line that has no path after the option of a file
-abbrev pub without_path : FileLine → LineMeaning
-without_path line = IsNone (NoRequirement line (codes "no path follows the option") (length line.text))
+-- ---- neither a requirement nor an option
+
+abbrev pub fault_reason : LineFault → List ℕ
+fault_reason fault.MissingPath = codes "no path follows the option"
+fault_reason fault.UnknownOption = codes "pip 23.2 has no such option"
+fault_reason fault.AmbiguousOption = codes "several options of pip begin so"
+fault_reason fault.ConflictMark = codes "the mark of a merge conflict"
+fault_reason fault.Utf16 = codes "the file is UTF-16, which is not read"
+
+-- the column of the fault: a path is missing at the end
+abbrev pub fault_column : LineFault → List ℕ → ℕ
+fault_column fault.MissingPath text = length text
+fault_column _ text = 0
+
+-- the line that is neither, for this reason
+abbrev pub invalid_line : FileLine → LineFault → LineMeaning
+invalid_line line f = IsNone (NoRequirement line (fault_reason f) (fault_column f line.text))
 
 -- ---- a requirement
 
@@ -82,7 +98,7 @@ IsPartsMeaning line p x = ((¬ IsUtf8 p.requirement) × (x ≡ not_utf8 line))
 abbrev pub IsKindMeaning : FileLine → LineKind → LineMeaning → Type 0
 IsKindMeaning line (RequirementsFile path) x = x ≡ names_file path
 IsKindMeaning line (ConstraintsFile path) x = x ≡ names_file path
-IsKindMeaning line MissingPath x = x ≡ without_path line
+IsKindMeaning line (Invalid f) x = x ≡ invalid_line line f
 IsKindMeaning line Editable x = x ≡ LeftOut cause.Editable
 IsKindMeaning line PipOption x = x ≡ LeftOut cause.PipOption
 IsKindMeaning line Variable x = x ≡ LeftOut cause.Variable

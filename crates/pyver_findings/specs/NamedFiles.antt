@@ -1,9 +1,10 @@
 -- The files that the lines of a requirements file name (pip, "Requirements File Format").
-use Rattle.std.specs.Prelude.{ℕ, ◌==◌, ◌||◌, List, [], ◌∷◌, ◌++◌, Option, Some, None, if◌then◌else◌}
+use Rattle.std.specs.Prelude.{ℕ, ◌+◌, ◌==◌, ◌||◌, List, [], ◌∷◌, ◌++◌, Option, Some, None, if◌then◌else◌}
 use Rattle.std.specs.List.{flat_map, list_any}
 use Rattle.pep440_rs.specs.Blanks.{opens}
 use Rattle.pyver_requirements.specs.LineKinds.{ConstraintsFile, LineKind, RequirementsFile, has_variable, line_kind}
 use Rattle.pyver_requirements.specs.LogicalLines.{Line, logical_lines}
+use Rattle.pyver_requirements.specs.OptionValues.{value_column}
 use Rattle.pyver_findings.specs.FileLines.{File}
 use Rattle.pyver_findings.specs.LineMeanings.{has_scheme}
 
@@ -22,11 +23,30 @@ path_in (RequirementsFile path) = Some path
 path_in (ConstraintsFile path) = Some path
 path_in _ = None
 
--- the file that a path in the file with this name denotes; none where it has a variable or is a URL
-abbrev pub named_by : List ℕ → Option (List ℕ) → List (List ℕ)
-named_by name None = []
-named_by name (Some path) = if has_variable path || has_scheme path then [] else path_from name path ∷ []
+-- where a line names a file: the name of the file that the line is in, the number of the line, and the column of the path, from 1
+pub record Position : Type 0 where
+  pub file : List ℕ
+  pub line : ℕ
+  pub column : ℕ
+
+-- a file by its name, and the position of the line that names it; none where a word does
+pub record NamedFile : Type 0 where
+  pub name : List ℕ
+  pub position : Option Position
+
+-- the position in this line of the file with this name
+abbrev pub path_position : List ℕ → Line → Position
+path_position file l = record { file = file; line = l.number; column = value_column l.text + 1 }
+
+-- the file that the path in this line of the file denotes; none where it has a variable or is a URL
+abbrev pub named_by : List ℕ → Line → Option (List ℕ) → List NamedFile
+named_by file l None = []
+named_by file l (Some path) = if has_variable path || has_scheme path then [] else record { name = path_from file path; position = Some (path_position file l) } ∷ []
+
+-- the files that this line of the file names
+abbrev pub named_in : List ℕ → Line → List NamedFile
+named_in file l = named_by file l (path_in (line_kind l.text))
 
 -- the files that the lines of a file name, in order
-abbrev pub named_files : File → List (List ℕ)
-named_files f = flat_map (λ (l : Line). named_by f.name (path_in (line_kind l.text))) (logical_lines f.text)
+abbrev pub named_files : File → List NamedFile
+named_files f = flat_map (named_in f.name) (logical_lines f.text)

@@ -1,5 +1,5 @@
 -- The findings of a report as lines for people, and its counts; what is quoted is escaped.
-use Rattle.std.specs.Prelude.{ℕ, ◌-◌, ◌==◌, List, [], ◌∷◌, ◌++◌, Bool, true, false, codes, count_by, length, map, take, if◌then◌else◌}
+use Rattle.std.specs.Prelude.{ℕ, ◌+◌, ◌-◌, ◌==◌, List, [], ◌∷◌, ◌++◌, Bool, true, false, codes, count_by, length, map, take, if◌then◌else◌}
 use Rattle.std.specs.Fmt.{decimal}
 use Rattle.std.specs.List.{flat_map}
 use Rattle.pyver_findings.specs.FileLines.{FileLine}
@@ -16,6 +16,10 @@ use Rattle.pyver_findings.specs.Escapes.{escaped}
 -- the file and the number of the line
 abbrev pub place_text : FileLine → List ℕ
 place_text l = escaped l.file ++ (codes ":" ++ (decimal l.number ++ codes ": "))
+
+-- the same with the column, from 1
+abbrev pub column_place : FileLine → ℕ → List ℕ
+column_place l column = escaped l.file ++ (codes ":" ++ (decimal l.number ++ (codes ":" ++ (decimal (column + 1) ++ codes ": "))))
 
 -- the file and line number of the first line
 abbrev pub first_place : List FileLine → List ℕ
@@ -47,9 +51,9 @@ more_text count = if count == 0 then [] else codes "    and " ++ (decimal count 
 abbrev pub quoted_lines : List FileLine → List ℕ
 quoted_lines lines = flat_map quoted_line (take 20 lines) ++ more_text (length lines - 20)
 
--- the file, the line number and the reason, and then the line, with a caret where it is none, or the lines
+-- the file, the line number, the column and the reason, and then the line, with a caret where it is none, or the lines
 abbrev pub finding_text : Finding → List ℕ
-finding_text (NoRequirement l reason column) = place_text l ++ (escaped reason ++ marked_line l.text column)
+finding_text (NoRequirement l reason column) = column_place l column ++ (escaped reason ++ marked_line l.text column)
 finding_text (Conflicting conflict lines) = first_place lines ++ (conflict_text conflict ++ quoted_lines lines)
 
 -- one finding after another
@@ -86,6 +90,14 @@ abbrev pub left_out_texts : List Cause → List ℕ
 left_out_texts causes = left_out_text causes cause.Editable ++ (left_out_text causes cause.PipOption ++ (left_out_text causes cause.Variable
     ++ (left_out_text causes cause.Location ++ left_out_text causes cause.Url)))
 
--- how many files and lines were read, and how many lines were left out
+-- so many of this noun
+abbrev pub counted : ℕ → List ℕ → List ℕ
+counted count noun = decimal count ++ (codes " " ++ (noun ++ (if count == 1 then [] else codes "s")))
+
+-- how many findings there are, and how many files were read
+abbrev pub problems_text : ℕ → ℕ → List ℕ
+problems_text found files = codes "pyver: " ++ (counted found (codes "problem") ++ (codes " in " ++ (counted files (codes "file") ++ codes "\n")))
+
+-- how many lines were read, how many were left out, and how many findings there are in how many files
 abbrev pub summary_text : Report → List ℕ
-summary_text r = count_text (codes "pyver: files read: ") r.files ++ (count_text (codes "pyver: lines read: ") r.lines ++ left_out_texts r.left_out)
+summary_text r = count_text (codes "pyver: lines read: ") r.lines ++ (left_out_texts r.left_out ++ problems_text (length r.findings) r.files)

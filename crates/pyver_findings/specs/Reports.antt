@@ -1,10 +1,10 @@
 -- What the check of requirements files reports.
-use Rattle.std.specs.Prelude.{◌≡◌, ℕ, List, [], ◌∷◌, ◌++◌, length}
-use Rattle.std.specs.List.{AllZip, flat_map}
+use Rattle.std.specs.Prelude.{◌≡◌, ℕ, ◌+◌, ◌-◌, ◌^◌, List, [], ◌∷◌, ◌++◌, Bool, false, bytes_eq, length, min, not}
+use Rattle.std.specs.List.{AllZip, flat_map, list_any}
 use Rattle.pyver_findings.specs.Demands.{Demand}
 use Rattle.pyver_findings.specs.Conflicts.{conflicts}
-use Rattle.pyver_findings.specs.FileLines.{File, all_lines}
-use Rattle.pyver_findings.specs.Findings.{Finding}
+use Rattle.pyver_findings.specs.FileLines.{File, FileLine, all_lines}
+use Rattle.pyver_findings.specs.Findings.{Conflicting, Finding, NoRequirement}
 use Rattle.pyver_findings.specs.LineMeanings.{Asks, IsNone, LeftOut, LineMeaning, NamesFile, IsMeaning}
 use Rattle.pyver_findings.specs.declared.cause.Cause.{Cause}
 
@@ -44,3 +44,25 @@ found_in xs = flat_map invalid_in xs ++ conflicts (flat_map demands_in xs)
 abbrev pub IsReport : List File → Report → Type 0
 IsReport files r = (xs : List LineMeaning) × AllZip IsMeaning (all_lines files) xs
     × (r ≡ record { findings = found_in xs; lines = length (all_lines files); files = length files; left_out = flat_map left_out_in xs })
+
+-- the report of no files
+abbrev pub empty_report : Report
+empty_report = record { findings = []; lines = 0; files = 0; left_out = [] }
+
+-- both counts together, up to 2^64 - 1
+abbrev pub both_counts : ℕ → ℕ → ℕ
+both_counts a b = min (a + b) (2 ^ 64 - 1)
+
+-- two reports as one, the first one's findings first
+abbrev pub joined_report : Report → Report → Report
+joined_report a b = record { findings = a.findings ++ b.findings; lines = both_counts a.lines b.lines; files = both_counts a.files b.files; left_out = a.left_out ++ b.left_out }
+
+-- the lines are of two files, or more
+abbrev pub are_of_several : List FileLine → Bool
+are_of_several [] = false
+are_of_several (l ∷ rest) = list_any (λ (m : FileLine). not (bytes_eq m.file l.file)) rest
+
+-- lines of two files, or more, are reported together
+abbrev pub spans_files : Finding → Bool
+spans_files (NoRequirement l reason column) = false
+spans_files (Conflicting conflict lines) = are_of_several lines

@@ -4,6 +4,7 @@ use Rattle.pyver_findings.specs.Demands.{Demand}
 use Rattle.pyver_findings.specs.FileLines.{File, FileLine}
 use Rattle.pyver_findings.specs.Findings.{Conflicting, Finding, NoRequirement}
 use Rattle.pyver_findings.specs.LineMeanings.{Asks, IsNone, LeftOut, LineMeaning, NamesFile}
+use Rattle.pyver_findings.specs.NamedFiles.{NamedFile, Position}
 use Rattle.pyver_findings.specs.Reports.{Report}
 use Rattle.pyver_findings.specs.declared.demand.Demand.{Demand as DemandValue}
 use Rattle.pyver_findings.specs.declared.file_line.FileLine.{FileLine as FileLineValue}
@@ -12,6 +13,8 @@ use Rattle.pyver_findings.specs.declared.finding.Finding.{Finding as FindingValu
 use Rattle.pyver_findings.specs.declared.finding.Finding.TheVariants as finding
 use Rattle.pyver_findings.specs.declared.line_meaning.LineMeaning.{LineMeaning as LineMeaningValue}
 use Rattle.pyver_findings.specs.declared.line_meaning.LineMeaning.TheVariants as reading
+use Rattle.pyver_findings.specs.declared.named_files.NamedFile.{NamedFile as NamedFileValue}
+use Rattle.pyver_findings.specs.declared.named_files.Position.{Position as PositionValue}
 use Rattle.pyver_findings.specs.declared.report.Report.{Report as ReportValue}
 
 abbrev pub file_of : SourceFile → File
@@ -19,6 +22,12 @@ file_of f = record { name = f.name.items; text = f.text.items }
 
 abbrev pub file_line_of : FileLineValue → FileLine
 file_line_of l = record { file = l.file.items; number = l.number; text = l.text.items }
+
+abbrev pub position_of : PositionValue → Position
+position_of p = record { file = p.file.items; line = p.line; column = p.column }
+
+abbrev pub named_file_of : NamedFileValue → NamedFile
+named_file_of f = record { name = f.name.items; position = option_map position_of f.position }
 
 abbrev pub demand_of : DemandValue → Demand
 demand_of a = record { line = file_line_of a.line; name = a.name.items; marker = option_map (λ m. m.items) a.marker; pinned = a.pinned; specifiers = a.specifiers }

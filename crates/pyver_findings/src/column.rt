@@ -1,12 +1,12 @@
 // The column at which a requirement is invalid.
-ghost use Rattle.std.specs.Prelude.{◌≡◌, ◌≤◌, ◌==◌, drop, length, not, IfSome};
+ghost use Rattle.std.specs.Prelude.{◌≡◌, ◌≤◌, ◌==◌, bytes_eq, drop, length, not, IfSome};
 ghost use Rattle.std.specs.Char.{is_ascii_whitespace};
-ghost use Rattle.std.specs.List.{prefix_len};
+ghost use Rattle.std.specs.List.{list_any, prefix_len};
 ghost use Rattle.pep440_pick.specs.Names.{is_name_byte};
 ghost use Rattle.pep440_pick.specs.RequirementReading.{behind_name};
 ghost use Rattle.pep440_pick.specs.Requirements.{requirement_refusal_of};
 ghost use Rattle.pep440_version.specs.Reading.{past};
-ghost use Rattle.pyver_findings.specs.Columns.{behind_bracket, behind_extras, behind_front, column, in_parenthesis, from_list, rest_at};
+ghost use Rattle.pyver_findings.specs.Columns.{behind_operator, behind_bracket, behind_extras, behind_front, column, in_parenthesis, from_list, is_operator_byte, operators, rest_at};
 ghost use Rattle.pep440_rs.specs.ListAnswers.{list_kind_of};
 ghost use Rattle.pep440_rs.specs.ListErrors.{list_refusal_of};
 
@@ -104,6 +104,46 @@ fn skip_bytes(text: &[u8], count: usize) -> &[u8]
     }
 }
 
+fn is_operator_byte(byte: u8) -> bool
+    ensures { result ≡ is_operator_byte byte }
+{
+    matches!(byte, b'<' | b'=' | b'>' | b'!' | b'~')
+}
+
+fn count_operator_bytes(text: &[u8]) -> usize
+    ensures count { result ≡ prefix_len is_operator_byte text.now }
+    ensures inside { result ≤ length text.now }
+{
+    text.iter()
+        .take_while(|byte| is_operator_byte(**byte))
+        .count()
+}
+
+fn is_operator(text: &[u8]) -> bool
+    ensures { result ≡ list_any (bytes_eq text.now) operators }
+{
+    text == "~=".as_bytes()
+        || text == "==".as_bytes()
+        || text == "!=".as_bytes()
+        || text == "<=".as_bytes()
+        || text == ">=".as_bytes()
+        || text == "<".as_bytes()
+        || text == ">".as_bytes()
+        || text == "===".as_bytes()
+}
+
+// What stands after the operator, if the text begins with one.
+fn behind_operator(text: &[u8]) -> &[u8]
+    ensures { result.now ≡ behind_operator text.now }
+{
+    let count = count_operator_bytes(text);
+    if is_operator(&text[..count]) {
+        skip_blanks(&text[count..])
+    } else {
+        text
+    }
+}
+
 fn piece_start(error: &VersionSpecifiersParseError) -> usize
     ensures { IfSome (list_refusal_of (list_kind_of error.now)) (λ f. result ≡ f.start) }
 {
@@ -121,7 +161,7 @@ fn rest_at<'a>(text: &'a [u8], error: &RequirementError) -> &'a [u8]
         RequirementError::InvalidExtras => behind_name(text),
         RequirementError::Unclosed => behind_front(text),
         RequirementError::Specifiers(error) => {
-            skip_blanks(skip_bytes(from_list(text), piece_start(error)))
+            behind_operator(skip_blanks(skip_bytes(from_list(text), piece_start(error))))
         }
         _ => text,
     }

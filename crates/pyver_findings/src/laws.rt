@@ -8,7 +8,7 @@ pub fn findings_hold()
     ensures { FindingsHold }
 {}
 
-/// Each line that ought to be a requirement and is none, or that has no path after `-r` or `-c`, is reported.
+/// Each line that ought to be a requirement or an option of pip, and is neither, is reported.
 pub fn invalid_lines_have_findings()
     ensures { InvalidLinesHaveFindings }
 {}

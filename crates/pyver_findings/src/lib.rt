@@ -26,5 +26,5 @@ pub use escape::{push_escaped, push_escaped_lines};
 pub use file_line::{FileLine, SourceFile};
 pub use finding::{Conflict, Finding};
 pub use json_string::push_json_string;
-pub use named_files::push_named_files;
+pub use named_files::{NamedFile, Position, push_named_files};
 pub use report::{Report, find_problems};

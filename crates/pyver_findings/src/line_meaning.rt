@@ -1,6 +1,6 @@
 // What a line of a requirements file is to the check.
 ghost use Rattle.std.specs.Prelude.{◌≡◌, IfOk};
-ghost use Rattle.pyver_findings.specs.LineMeanings.{IsKindMeaning, IsMeaning, has_scheme, names_file};
+ghost use Rattle.pyver_findings.specs.LineMeanings.{IsKindMeaning, IsMeaning, fault_column, fault_reason, has_scheme, invalid_line, names_file};
 ghost use Rattle.pyver_findings.specs.Views.{file_line_of, line_meaning_of};
 ghost use Rattle.pyver_requirements.specs.LineKindViews.{line_kind_of};
 
@@ -9,7 +9,7 @@ use crate::demand::Demand;
 use crate::file_line::FileLine;
 use crate::finding::Finding;
 use crate::requirement_line::{parse_requirement, reject};
-use pyver_requirements::{LineKind, classify, has_variable};
+use pyver_requirements::{LineFault, LineKind, classify, has_variable};
 use std::alloc::{AllocError, Global};
 
 // What a line is.
@@ -51,6 +51,35 @@ fn name_file(path: &[u8]) -> LineMeaning
     }
 }
 
+fn fault_reason(fault: LineFault) -> &'static str
+    ensures { result.now ≡ fault_reason fault }
+{
+    match fault {
+        LineFault::MissingPath => "no path follows the option",
+        LineFault::UnknownOption => "pip 23.2 has no such option",
+        LineFault::AmbiguousOption => "several options of pip begin so",
+        LineFault::ConflictMark => "the mark of a merge conflict",
+        LineFault::Utf16 => "the file is UTF-16, which is not read",
+    }
+}
+
+// A path is missing at the end.
+fn fault_column(fault: LineFault, text: &[u8]) -> usize
+    ensures { result ≡ fault_column fault text.now }
+{
+    match fault {
+        LineFault::MissingPath => text.len(),
+        _ => 0,
+    }
+}
+
+fn reject_line(alloc: Global, line: &FileLine, fault: LineFault) -> Result<LineMeaning, AllocError>
+    ensures { IfOk result (λ x. line_meaning_of x ≡ invalid_line (file_line_of line.now) fault) }
+{
+    let column = fault_column(fault, line.text.as_slice());
+    reject(alloc, line, fault_reason(fault), column)
+}
+
 fn interpret_kind(
     alloc: Global,
     line: &FileLine,
@@ -61,7 +90,7 @@ fn interpret_kind(
     match kind {
         LineKind::RequirementsFile(path) => Ok(name_file(path)),
         LineKind::ConstraintsFile(path) => Ok(name_file(path)),
-        LineKind::MissingPath => reject(alloc, line, "no path follows the option", line.text.len()),
+        LineKind::Invalid(fault) => reject_line(alloc, line, fault),
         LineKind::Editable => Ok(LineMeaning::LeftOut(Cause::Editable)),
         LineKind::PipOption => Ok(LineMeaning::LeftOut(Cause::PipOption)),
         LineKind::Variable => Ok(LineMeaning::LeftOut(Cause::Variable)),

@@ -1,7 +1,7 @@
 //! The report of requirements files.
 ghost use Rattle.std.specs.Prelude.{◌≡◌, ◌++◌, IfOk, map};
 ghost use Rattle.pyver_findings.specs.ReadingViews.{KeepsReadings};
-ghost use Rattle.pyver_findings.specs.Reports.{IsReport, demands_in, invalid_in, left_out_in};
+ghost use Rattle.pyver_findings.specs.Reports.{IsReport, demands_in, empty_report, invalid_in, joined_report, left_out_in};
 ghost use Rattle.pyver_findings.specs.Views.{demand_of, file_line_of, file_of, finding_of, line_meaning_of, report_of};
 
 use crate::cause::Cause;
@@ -86,4 +86,35 @@ pub fn find_problems(alloc: Global, files: &[SourceFile]) -> Result<Report, Allo
         files: files.len(),
         left_out: readings.left_out,
     })
+}
+
+impl Report {
+    /// The report of no files.
+    ///
+    /// Allocates nothing.
+    pub fn empty(alloc: Global) -> Report
+        ensures { report_of result ≡ empty_report }
+    {
+        Report {
+            findings: Vec::new(alloc),
+            lines: 0,
+            files: 0,
+            left_out: Vec::new(alloc),
+        }
+    }
+
+    /// Appends the report of other files, whose findings follow. Counts stop at 2^64 - 1. Fails if memory runs out; then only a part of it
+    /// may have been appended.
+    ///
+    /// Allocates.
+    pub fn append(&mut self, other: Report) -> Result<(), AllocError>
+        ensures { IfOk result (λ _. report_of self.new ≡ joined_report (report_of self.old) (report_of other)) }
+    {
+        let mut other = other;
+        self.findings.append(&mut other.findings)?;
+        self.left_out.append(&mut other.left_out)?;
+        self.lines = self.lines.saturating_add(other.lines);
+        self.files = self.files.saturating_add(other.files);
+        Ok(())
+    }
 }

@@ -1,9 +1,9 @@
 //! A report as lines for people.
-ghost use Rattle.std.specs.Prelude.{◌≡◌, ◌++◌, IfOk, count_by, map, take};
+ghost use Rattle.std.specs.Prelude.{◌≡◌, ◌+◌, ◌++◌, IfOk, count_by, map, take};
 ghost use Rattle.std.specs.Fmt.{decimal};
 ghost use Rattle.std.specs.List.{flat_map};
 ghost use Rattle.pyver_findings.specs.Findings.{Conflicting, NoRequirement};
-ghost use Rattle.pyver_findings.specs.ReportTexts.{caret_text, cause_text, conflict_text, count_text, finding_text, first_place, left_out_text, left_out_texts, marked_line, more_text, place_text, quoted_line, quoted_lines, report_text, same_cause, summary_text};
+ghost use Rattle.pyver_findings.specs.ReportTexts.{caret_text, cause_text, column_place, conflict_text, count_text, counted, finding_text, first_place, left_out_text, left_out_texts, marked_line, more_text, place_text, problems_text, quoted_line, quoted_lines, report_text, same_cause, summary_text};
 ghost use Rattle.pyver_findings.specs.Views.{file_line_of, finding_of, report_of};
 
 use crate::cause::Cause;
@@ -33,6 +33,29 @@ fn push_place(alloc: Global, bytes: &mut Vec<u8>, line: &FileLine) -> Result<(),
     push_escaped(bytes, line.file.as_slice())?;
     push_text(bytes, ":")?;
     push_number(alloc, bytes, line.number)?;
+    push_text(bytes, ": ")
+}
+
+// The number that counts from 1 where this counts from 0.
+fn push_from_one(alloc: Global, bytes: &mut Vec<u8>, number: usize) -> Result<(), AllocError>
+    ensures { IfOk result (λ _. bytes.new.items ≡ bytes.old.items ++ decimal (number + 1)) }
+{
+    push_text(bytes, (number as u128 + 1).to_string(alloc)?.as_str())
+}
+
+fn push_column_place(
+    alloc: Global,
+    bytes: &mut Vec<u8>,
+    line: &FileLine,
+    column: usize,
+) -> Result<(), AllocError>
+    ensures { IfOk result (λ _. bytes.new.items ≡ bytes.old.items ++ column_place (file_line_of line.now) column) }
+{
+    push_escaped(bytes, line.file.as_slice())?;
+    push_text(bytes, ":")?;
+    push_number(alloc, bytes, line.number)?;
+    push_text(bytes, ":")?;
+    push_from_one(alloc, bytes, column)?;
     push_text(bytes, ": ")
 }
 
@@ -187,7 +210,7 @@ fn push_no_requirement(
 ) -> Result<(), AllocError>
     ensures { IfOk result (λ _. bytes.new.items ≡ bytes.old.items ++ finding_text (NoRequirement (file_line_of line.now) reason.now column)) }
 {
-    push_place(alloc, bytes, line)?;
+    push_column_place(alloc, bytes, line, column)?;
     push_escaped(bytes, reason.as_bytes())?;
     push_marked_line(alloc, bytes, line.text.as_slice(), column)
 }
@@ -286,8 +309,37 @@ fn push_all_left_out(alloc: Global, bytes: &mut Vec<u8>, causes: &[Cause]) -> Re
     push_left_out(alloc, bytes, causes, Cause::Url)
 }
 
+fn push_counted(
+    alloc: Global,
+    bytes: &mut Vec<u8>,
+    count: usize,
+    noun: &str,
+) -> Result<(), AllocError>
+    ensures { IfOk result (λ _. bytes.new.items ≡ bytes.old.items ++ counted count noun.now) }
+{
+    push_number(alloc, bytes, count as u64)?;
+    push_text(bytes, " ")?;
+    push_text(bytes, noun)?;
+    push_text(bytes, if count == 1 { "" } else { "s" })
+}
+
+fn push_problems(
+    alloc: Global,
+    bytes: &mut Vec<u8>,
+    found: usize,
+    files: usize,
+) -> Result<(), AllocError>
+    ensures { IfOk result (λ _. bytes.new.items ≡ bytes.old.items ++ problems_text found files) }
+{
+    push_text(bytes, "pyver: ")?;
+    push_counted(alloc, bytes, found, "problem")?;
+    push_text(bytes, " in ")?;
+    push_counted(alloc, bytes, files, "file")?;
+    push_text(bytes, "\n")
+}
+
 impl Report {
-    /// The findings as lines: for each its file and its line and the reason, and then the line with a caret under the position at
+    /// The findings as lines: for each its file, its line, the column from 1 and the reason, and then the line with a caret under the position at
     /// which it is no requirement, or the lines that cannot be satisfied together. What is quoted is escaped: a byte that is not
     /// printable ASCII is written as `\x` and two digits.
     ///
@@ -300,16 +352,16 @@ impl Report {
         Ok(bytes)
     }
 
-    /// How many files and lines were read, and how many lines were left out, by cause, each on a line.
+    /// How many lines were read, how many were left out, by cause, and how many findings there are in how many files, each on a line.
     ///
     /// Allocates.
     pub fn summarize(&self, alloc: Global) -> Result<Vec<u8>, AllocError>
         ensures { IfOk result (λ bytes. bytes.items ≡ summary_text (report_of self.now)) }
     {
         let mut bytes = Vec::new(alloc);
-        push_count(alloc, &mut bytes, "pyver: files read: ", self.files)?;
         push_count(alloc, &mut bytes, "pyver: lines read: ", self.lines)?;
         push_all_left_out(alloc, &mut bytes, self.left_out.as_slice())?;
+        push_problems(alloc, &mut bytes, self.findings.len(), self.files)?;
         Ok(bytes)
     }
 }

@@ -1,5 +1,5 @@
 //! The lines of a file, and what each is.
-use pyver_requirements::{LineKind, classify, logical_lines, split_requirement};
+use pyver_requirements::{LineFault, LineKind, classify, logical_lines, split_requirement};
 use std::alloc::Global;
 use std::str;
 use testing::CaseError;
@@ -20,11 +20,21 @@ pub fn print_lines(alloc: Global, file: &str) -> Result<String, CaseError> {
     Ok(printed)
 }
 
+fn fault_word(fault: LineFault) -> &'static str {
+    match fault {
+        LineFault::MissingPath => "no path",
+        LineFault::UnknownOption => "unknown option",
+        LineFault::AmbiguousOption => "ambiguous option",
+        LineFault::ConflictMark => "conflict mark",
+        LineFault::Utf16 => "UTF-16",
+    }
+}
+
 fn word_and_path(kind: LineKind<'_>) -> (&'static str, &[u8]) {
     match kind {
         LineKind::RequirementsFile(path) => ("requirements ", path),
         LineKind::ConstraintsFile(path) => ("constraints ", path),
-        LineKind::MissingPath => ("no path", &[]),
+        LineKind::Invalid(fault) => (fault_word(fault), &[]),
         LineKind::Editable => ("editable", &[]),
         LineKind::PipOption => ("option", &[]),
         LineKind::Variable => ("variable", &[]),

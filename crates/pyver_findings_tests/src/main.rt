@@ -7,7 +7,8 @@ mod reports;
 
 use lines::{print_kind, print_lines, print_parts};
 use reports::{
-    Form, print_findings, print_named_files, print_report, print_report_of, print_string,
+    Form, print_each, print_findings, print_named_files, print_report, print_report_of,
+    print_spans, print_string,
 };
 use std::alloc::Global;
 use std::io;
@@ -21,6 +22,8 @@ fn answer_files(alloc: Global, call: &str, files: &str) -> Result<String, CaseEr
         "text" => print_report(alloc, files, Form::Text),
         "json" => print_report(alloc, files, Form::Json),
         "counts" => print_report(alloc, files, Form::Counts),
+        "each" => print_each(alloc, files),
+        "spans" => print_spans(alloc, files),
         _ => Err(CaseError::Unreadable),
     }
 }

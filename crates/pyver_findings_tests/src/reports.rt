@@ -1,7 +1,8 @@
 //! What is found in files, and how it is printed.
 use crate::lines::text;
 use pyver_findings::{
-    Conflict, Finding, Report, SourceFile, find_problems, push_json_string, push_named_files,
+    Conflict, Finding, NamedFile, Report, SourceFile, find_problems, push_json_string,
+    push_named_files,
 };
 use std::alloc::{AllocError, Global};
 use testing::{CaseError, copy};
@@ -96,16 +97,57 @@ pub fn print_findings(alloc: Global, texts: &str) -> Result<String, CaseError> {
     Ok(printed)
 }
 
-/// The names of the files that the lines of the file name, after one that was there, with a bar after each.
+/// The reports of the files between bars, each by itself, as one: its findings and its counts.
+pub fn print_each(alloc: Global, texts: &str) -> Result<String, CaseError> {
+    let mut report = Report::empty(alloc);
+    let names = ["a.txt", "b.txt", "c.txt", "d.txt"];
+    for (at, text) in texts.split('|').enumerate() {
+        let file = [source_file(alloc, names[at % 4], text)?];
+        report.append(find_problems(alloc, &file)?)?;
+    }
+    let mut printed = print_form(alloc, &report, Form::Text)?;
+    printed.push_str(print_form(alloc, &report, Form::Counts)?.as_str())?;
+    Ok(printed)
+}
+
+/// Of each finding whether it spans files, with a bar after each.
+pub fn print_spans(alloc: Global, texts: &str) -> Result<String, CaseError> {
+    let report = report_of(alloc, texts)?;
+    let mut printed = String::new(alloc);
+    for finding in &report.findings {
+        write!(printed, "{}|", finding.spans_files())?;
+    }
+    Ok(printed)
+}
+
+fn push_named_file(printed: &mut String, file: &NamedFile) -> Result<(), CaseError> {
+    let file = copy(file)?;
+    if let Some(position) = &file.position {
+        write!(
+            printed,
+            "{}:{}:{}: ",
+            text(position.file.as_slice())?,
+            position.line,
+            position.column
+        )?;
+    }
+    printed.push_str(text(file.name.as_slice())?)?;
+    printed.push('|')?;
+    Ok(())
+}
+
+/// The files that the lines of the file name, each after its position, after one that was there, with a bar after each.
 pub fn print_named_files(alloc: Global, name: &str, lines: &str) -> Result<String, CaseError> {
     let file = source_file(alloc, name, lines)?;
     let mut names = Vec::new(alloc);
-    names.push(Vec::from_slice(alloc, b"first")?)?;
+    names.push(NamedFile {
+        name: Vec::from_slice(alloc, b"first")?,
+        position: None,
+    })?;
     push_named_files(alloc, &mut names, &file)?;
     let mut printed = String::new(alloc);
-    for name in &names {
-        printed.push_str(text(name.as_slice())?)?;
-        printed.push('|')?;
+    for file in &names {
+        push_named_file(&mut printed, file)?;
     }
     Ok(printed)
 }

@@ -6,3 +6,4 @@ pub mod LineKinds
 pub mod LineKindViews
 pub mod LineParts
 pub mod LinePartViews
+pub mod ConflictMarks

@@ -6,15 +6,19 @@ use Rattle.std.specs.Option.{option_map_or}
 use Rattle.pep440_rs.specs.Blanks.{opens, trim_blanks}
 use Rattle.pep440_version.specs.Grammar.{starts}
 use Rattle.pep440_version.specs.Reading.{lead, past}
-use Rattle.pyver_requirements.specs.OptionNames.{abbreviates, behind_long_name, long_name}
+use Rattle.pyver_requirements.specs.ConflictMarks.{is_conflict_mark}
+use Rattle.pyver_requirements.specs.LogicalLines.{is_utf16}
+use Rattle.pyver_requirements.specs.OptionNames.{abbreviates, behind_long_name, long_name, option_fault}
 use Rattle.pyver_requirements.specs.OptionValues.{first_value, long_value}
+use Rattle.pyver_requirements.specs.declared.line_fault.LineFault.{LineFault}
+use Rattle.pyver_requirements.specs.declared.line_fault.LineFault.TheVariants.{ConflictMark, MissingPath, Utf16}
 
--- another file of requirements, and one of constraints, each with its path; the option of such a file without a path; an editable;
+-- another file of requirements, and one of constraints, each with its path; neither a requirement nor an option; an editable;
 -- another option of pip; a line with a variable; a URL, a path or an archive; a requirement
 pub data LineKind : Type 0 where
   RequirementsFile : (path : List ℕ) → LineKind
   ConstraintsFile : (path : List ℕ) → LineKind
-  MissingPath : LineKind
+  Invalid : LineFault → LineKind
   Editable : LineKind
   PipOption : LineKind
   Variable : LineKind
@@ -34,19 +38,24 @@ option_value option short text = if starts_with nat_eq text (codes "--") then lo
 
 -- the file of requirements with this path
 abbrev pub requirements_file : List ℕ → LineKind
-requirements_file [] = MissingPath
+requirements_file [] = Invalid MissingPath
 requirements_file (b ∷ path) = RequirementsFile (b ∷ path)
 
 -- the file of constraints with this path
 abbrev pub constraints_file : List ℕ → LineKind
-constraints_file [] = MissingPath
+constraints_file [] = Invalid MissingPath
 constraints_file (b ∷ path) = ConstraintsFile (b ∷ path)
+
+-- another option of pip, or none
+abbrev pub other_option : Option LineFault → LineKind
+other_option None = PipOption
+other_option (Some fault) = Invalid fault
 
 -- what a line is that begins with `-`
 abbrev pub option_kind : List ℕ → LineKind
 option_kind text = option_map_or requirements_file (option_value (codes "--requirement") (codes "-r") text)
     (option_map_or constraints_file (option_value (codes "--constraint") (codes "-c") text)
-    (option_map_or (λ _. Editable) (option_value (codes "--editable") (codes "-e") text) PipOption))
+    (option_map_or (λ _. Editable) (option_value (codes "--editable") (codes "-e") text) (other_option (option_fault text))))
 
 -- ---- variables
 
@@ -97,5 +106,10 @@ is_location word = opens 46 word || (list_any (λ b. b == 47) word || is_archive
 
 -- what the line is: the first of these that holds
 abbrev pub line_kind : List ℕ → LineKind
-line_kind text = if opens 45 text then option_kind text
-    else (if has_variable text then Variable else (if is_location (first_word text) then Location else Requirement))
+line_kind text =
+    if is_conflict_mark text then Invalid ConflictMark
+    else if is_utf16 text then Invalid Utf16
+    else if opens 45 text then option_kind text
+    else if has_variable text then Variable
+    else if is_location (first_word text) then Location
+    else Requirement

@@ -1,5 +1,5 @@
 -- The logical lines of a requirements file (pip, "Requirements File Format").
-use Rattle.std.specs.Prelude.{ℕ, zero, suc, ◌+◌, ◌-◌, ◌==◌, ◌&&◌, ◌||◌, List, [], ◌∷◌, ◌++◌, Bool, true, length, map, nat_le, not, take, if◌then◌else◌}
+use Rattle.std.specs.Prelude.{ℕ, zero, suc, ◌+◌, ◌-◌, ◌==◌, ◌&&◌, ◌||◌, List, [], ◌∷◌, ◌++◌, Bool, true, false, length, map, nat_le, not, take, if◌then◌else◌}
 use Rattle.std.specs.Char.{is_ascii_whitespace}
 use Rattle.std.specs.List.{filter, slice_split, suffix_len}
 use Rattle.pep440_rs.specs.Blanks.{opens, trim_blanks}
@@ -18,6 +18,11 @@ pub record Line : Type 0 where
 abbrev pub after_mark : List ℕ → List ℕ
 after_mark (a ∷ b ∷ c ∷ rest) = if (a == 239) && ((b == 187) && (c == 191)) then rest else a ∷ (b ∷ (c ∷ rest))
 after_mark text = text
+
+-- the bytes begin with the mark of UTF-16, in either order of bytes
+abbrev pub is_utf16 : List ℕ → Bool
+is_utf16 (a ∷ (b ∷ rest)) = ((a == 255) && (b == 254)) || ((a == 254) && (b == 255))
+is_utf16 _ = false
 
 -- a line feed, a vertical tab, a form feed, a carriage return, and a separator of files, of groups or of records
 abbrev pub is_line_end : ℕ → Bool
@@ -89,6 +94,10 @@ content text = trim_blanks (before_comment true text)
 abbrev pub filled : List Line → List Line
 filled lines = filter (λ (l : Line). not (length l.text == 0)) (map (λ (l : Line). record { number = l.number; text = content l.text }) lines)
 
--- the logical lines of a file
+-- the logical lines of a string in UTF-8
+abbrev pub joined_lines : List ℕ → List Line
+joined_lines text = filled (joined_from 1 (physical_lines (after_mark text)))
+
+-- the logical lines of a file; of one in UTF-16 only its mark
 abbrev pub logical_lines : List ℕ → List Line
-logical_lines text = filled (joined_from 1 (physical_lines (after_mark text)))
+logical_lines text = if is_utf16 text then record { number = 1; text = take 2 text } ∷ [] else joined_lines text

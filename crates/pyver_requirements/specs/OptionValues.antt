@@ -1,9 +1,12 @@
 -- Values of options in a requirements file, as Python's `shlex` splits them.
-use Rattle.std.specs.Prelude.{ℕ, ◌==◌, ◌&&◌, ◌||◌, List, [], ◌∷◌, Bool, Option, Some, None, not, if◌then◌else◌}
+use Rattle.std.specs.Prelude.{ℕ, ◌-◌, ◌==◌, ◌&&◌, ◌||◌, List, [], ◌∷◌, Bool, Option, Some, None, codes, drop, length, nat_eq, not, if◌then◌else◌}
 use Rattle.std.specs.Char.{is_ascii_whitespace}
+use Rattle.std.specs.List.{starts_with}
 use Rattle.std.specs.Option.{is_some}
 use Rattle.pep440_rs.specs.Blanks.{trim_blanks}
+use Rattle.pep440_version.specs.Reading.{past}
 use Rattle.pyver_requirements.specs.LineParts.{before_byte, behind_byte}
+use Rattle.pyver_requirements.specs.OptionNames.{behind_long_name}
 
 -- a single or a double quote
 abbrev pub is_quote : ℕ → Bool
@@ -37,3 +40,16 @@ first_value text = without_quotes (quoted_word None text)
 abbrev pub long_value : List ℕ → List ℕ
 long_value [] = []
 long_value (b ∷ rest) = if b == 61 then first_value rest else first_value (trim_blanks rest)
+
+-- what stands from the value of a long option on, behind `=` or blanks
+abbrev pub from_long_value : List ℕ → List ℕ
+from_long_value [] = []
+from_long_value (b ∷ rest) = if b == 61 then rest else past is_ascii_whitespace rest
+
+-- what stands from the value on of the option that the line begins with
+abbrev pub from_value : List ℕ → List ℕ
+from_value text = if starts_with nat_eq text (codes "--") then from_long_value (behind_long_name text) else past is_ascii_whitespace (drop 2 text)
+
+-- the column of that value, in bytes from 0
+abbrev pub value_column : List ℕ → ℕ
+value_column text = length text - length (from_value text)

@@ -2,6 +2,7 @@
 #![tactic(auto)]
 
 mod comment;
+mod line_fault;
 mod line_kind;
 mod line_parts;
 mod logical_line;
@@ -9,6 +10,8 @@ mod option_name;
 mod option_value;
 mod physical_line;
 
+pub use line_fault::LineFault;
 pub use line_kind::{LineKind, classify, has_variable};
 pub use line_parts::{LineParts, split_requirement};
 pub use logical_line::{LogicalLine, logical_lines};
+pub use option_value::value_column;

@@ -3,12 +3,15 @@ ghost use Rattle.std.specs.Prelude.{◌≡◌, ◌≤◌, ◌==◌, ◌||◌, Is
 ghost use Rattle.std.specs.Char.{eq_ignore_ascii_case, is_ascii_whitespace};
 ghost use Rattle.std.specs.List.{ends_with, list_any, prefix_len};
 ghost use Rattle.pep440_rs.specs.Blanks.{opens, trim_blanks};
-ghost use Rattle.pyver_requirements.specs.LineKinds.{closes_variable, constraints_file, ends_as, first_word, has_variable, is_archive, is_location, is_variable_byte, line_kind, long_option_value, opens_variable, option_kind, option_value, requirements_file, short_endings, tar_endings};
+ghost use Rattle.pyver_requirements.specs.LineKinds.{closes_variable, constraints_file, ends_as, first_word, has_variable, is_archive, is_location, is_variable_byte, line_kind, long_option_value, opens_variable, option_kind, option_value, other_option, requirements_file, short_endings, tar_endings};
 ghost use Rattle.pyver_requirements.specs.LineKindViews.{line_kind_of};
+ghost use Rattle.pyver_requirements.specs.OptionNames.{option_fault};
 
 use crate::comment::trim_blanks;
-use crate::option_name::{abbreviates, count_name_bytes};
+use crate::line_fault::{LineFault, is_conflict_mark};
+use crate::option_name::{abbreviates, count_name_bytes, option_fault};
 use crate::option_value::{first_value, long_value};
+use crate::physical_line::opens_with_mark;
 
 /// What a logical line is.
 #[derive(Clone, Copy, Debug)]
@@ -17,8 +20,8 @@ pub enum LineKind<'a> {
     RequirementsFile(&'a [u8]),
     /// `-c FILE` or `--constraint FILE`: a file of constraints, and its path.
     ConstraintsFile(&'a [u8]),
-    /// `-r`, `--requirement`, `-c` or `--constraint` without a path.
-    MissingPath,
+    /// Neither a requirement nor an option of pip.
+    Invalid(LineFault),
     /// `-e` or `--editable`.
     Editable,
     /// Another option of pip.
@@ -69,7 +72,7 @@ fn requirements_file(path: &[u8]) -> LineKind<'_>
     ensures { line_kind_of result ≡ requirements_file path.now }
 {
     match path {
-        [] => LineKind::MissingPath,
+        [] => LineKind::Invalid(LineFault::MissingPath),
         [_, ..] => LineKind::RequirementsFile(path),
     }
 }
@@ -78,8 +81,18 @@ fn constraints_file(path: &[u8]) -> LineKind<'_>
     ensures { line_kind_of result ≡ constraints_file path.now }
 {
     match path {
-        [] => LineKind::MissingPath,
+        [] => LineKind::Invalid(LineFault::MissingPath),
         [_, ..] => LineKind::ConstraintsFile(path),
+    }
+}
+
+// Another option of pip, or none.
+fn other_option(text: &[u8]) -> LineKind<'_>
+    ensures { line_kind_of result ≡ other_option (option_fault text.now) }
+{
+    match option_fault(text) {
+        None => LineKind::PipOption,
+        Some(fault) => LineKind::Invalid(fault),
     }
 }
 
@@ -95,7 +108,7 @@ fn option_kind(text: &[u8]) -> LineKind<'_>
     }
     match option_value(text, "--editable".as_bytes(), "-e".as_bytes()) {
         Some(_) => LineKind::Editable,
-        None => LineKind::PipOption,
+        None => other_option(text),
     }
 }
 
@@ -216,7 +229,7 @@ fn is_location(word: &[u8]) -> bool
     opens_with(word, b'.') || has_slash(word) || is_archive(word)
 }
 
-/// What the logical line is: the first that holds of an option, a line with a variable, a location and a requirement.
+/// What the logical line is: the first that holds of the mark of a merge conflict, the mark of UTF-16, an option, a line with a variable, a location and a requirement.
 ///
 /// The first option of a line decides, and a long one may be abbreviated if no other that pip knows begins so. A path ends at a blank
 /// that stands in no quotes, and quotes around the whole path are left out. The first word, up to a blank,
@@ -226,7 +239,11 @@ fn is_location(word: &[u8]) -> bool
 pub fn classify(text: &[u8]) -> LineKind<'_>
     ensures { line_kind_of result ≡ line_kind text.now }
 {
-    if opens_with(text, b'-') {
+    if is_conflict_mark(text) {
+        LineKind::Invalid(LineFault::ConflictMark)
+    } else if opens_with_mark(text) {
+        LineKind::Invalid(LineFault::Utf16)
+    } else if opens_with(text, b'-') {
         option_kind(text)
     } else if has_variable(text) {
         LineKind::Variable

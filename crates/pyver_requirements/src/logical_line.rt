@@ -1,10 +1,10 @@
 // The logical lines of a requirements file.
-ghost use Rattle.std.specs.Prelude.{◌≡◌, ◌∷◌, ◌++◌, ◌+◌, ◌≤◌, ◌^◌, [], List, ℕ, IfOk, map};
+ghost use Rattle.std.specs.Prelude.{◌≡◌, ◌∷◌, ◌++◌, ◌+◌, ◌≤◌, ◌^◌, [], List, ℕ, IfOk, map, take};
 ghost use Rattle.pyver_requirements.specs.LineViews.{logical_line_of, lines_with};
-ghost use Rattle.pyver_requirements.specs.LogicalLines.{filled, joined_from, logical_lines};
+ghost use Rattle.pyver_requirements.specs.LogicalLines.{filled, joined_from, joined_lines, logical_lines};
 
 use crate::comment::content;
-use crate::physical_line::{after_mark, split_continuation, split_line};
+use crate::physical_line::{after_mark, opens_with_mark, split_continuation, split_line};
 use std::alloc::{AllocError, Global};
 
 /// A line of a requirements file: physical lines joined, without comment and without blanks at both ends.
@@ -81,16 +81,27 @@ impl LineJoiner {
     }
 }
 
-/// The logical lines of a requirements file: lines that end with `\` are joined with the next one, comments are left out, and so
-/// are blanks at both ends, a byte order mark at the start and lines that are then empty.
-///
-/// This is how pip reads, if its page is silent: lines end as for Python's `splitlines`, in UTF-8; a line that continues loses all `\`
-/// at both ends; a comment line never continues, and ends the line that it is joined with; a comment begins only at the start or after
-/// a blank, so `demo#1` has none. Blanks are ASCII, and bytes are not decoded.
-///
-/// Allocates.
-pub fn logical_lines(alloc: Global, text: &[u8]) -> Result<Vec<LogicalLine>, AllocError>
-    ensures { IfOk result (λ lines. map logical_line_of lines.items ≡ logical_lines text.now) }
+// Only the mark that the text begins with.
+fn mark_line(alloc: Global, text: &[u8]) -> Result<Vec<LogicalLine>, AllocError>
+    ensures { IfOk result (λ lines. map logical_line_of lines.items ≡ record { number = 1; text = take 2 text.now } ∷ []) }
+{
+    let mut lines = Vec::new(alloc);
+    lines.push(LogicalLine {
+        number: 1,
+        text: Vec::from_slice(alloc, first_two(text))?,
+    })?;
+    Ok(lines)
+}
+
+fn first_two(text: &[u8]) -> &[u8]
+    ensures { result.now ≡ take 2 text.now }
+{
+    if text.len() > 2 { &text[..2] } else { text }
+}
+
+// The logical lines of a string that is no UTF-16.
+fn join_lines(alloc: Global, text: &[u8]) -> Result<Vec<LogicalLine>, AllocError>
+    ensures { IfOk result (λ lines. map logical_line_of lines.items ≡ joined_lines text.now) }
 {
     let mut joiner = LineJoiner::new(alloc);
     let mut rest = Some(after_mark(text));
@@ -100,4 +111,22 @@ pub fn logical_lines(alloc: Global, text: &[u8]) -> Result<Vec<LogicalLine>, All
         rest = later;
     }
     joiner.finish(alloc)
+}
+
+/// The logical lines of a requirements file: lines that end with `\` are joined with the next one, comments are left out, and so
+/// are blanks at both ends, a byte order mark at the start and lines that are then empty.
+///
+/// This is how pip reads, if its page is silent: lines end as for Python's `splitlines`, in UTF-8; a line that continues loses all `\`
+/// at both ends; a comment line never continues, and ends the line that it is joined with; a comment begins only at the start or after
+/// a blank, so `demo#1` has none. Blanks are ASCII, and bytes are not decoded: of a file in UTF-16 only its mark is a line.
+///
+/// Allocates.
+pub fn logical_lines(alloc: Global, text: &[u8]) -> Result<Vec<LogicalLine>, AllocError>
+    ensures { IfOk result (λ lines. map logical_line_of lines.items ≡ logical_lines text.now) }
+{
+    if opens_with_mark(text) {
+        mark_line(alloc, text)
+    } else {
+        join_lines(alloc, text)
+    }
 }

@@ -1,9 +1,12 @@
 // Values of options, as a shell splits them.
-ghost use Rattle.std.specs.Prelude.{◌≡◌, ◌==◌, None, option_map};
-ghost use Rattle.pyver_requirements.specs.OptionValues.{first_value, is_quote, long_value, next_quote, quoted_word, without_quotes};
+ghost use Rattle.std.specs.Prelude.{◌≡◌, ◌==◌, None, drop, option_map};
+ghost use Rattle.std.specs.Char.{is_ascii_whitespace};
+ghost use Rattle.pep440_version.specs.Reading.{past};
+ghost use Rattle.pyver_requirements.specs.OptionValues.{first_value, from_long_value, from_value, is_quote, long_value, next_quote, quoted_word, value_column, without_quotes};
 
 use crate::comment::trim_blanks;
 use crate::line_parts::split_at_first;
+use crate::option_name::count_name_bytes;
 
 fn is_quote(byte: u8) -> bool
     ensures { result ≡ is_quote byte }
@@ -67,4 +70,49 @@ pub(crate) fn long_value(text: &[u8]) -> &[u8]
         [b'=', value @ ..] => first_value(value),
         [_, value @ ..] => first_value(trim_blanks(value)),
     }
+}
+
+fn skip_blanks(text: &[u8]) -> &[u8]
+    ensures { result.now ≡ past is_ascii_whitespace text.now }
+{
+    text.trim_ascii_start()
+}
+
+// Where the name of a long option ends.
+fn from_long_value(text: &[u8]) -> &[u8]
+    ensures { result.now ≡ from_long_value text.now }
+{
+    match text {
+        [] => text,
+        [b'=', value @ ..] => value,
+        [_, value @ ..] => skip_blanks(value),
+    }
+}
+
+fn behind_short_name(text: &[u8]) -> &[u8]
+    ensures { result.now ≡ drop 2 text.now }
+{
+    match text {
+        [_, _, rest @ ..] => rest,
+        _ => &[],
+    }
+}
+
+fn from_value(text: &[u8]) -> &[u8]
+    ensures { result.now ≡ from_value text.now }
+{
+    if text.starts_with("--".as_bytes()) {
+        from_long_value(&text[count_name_bytes(text)..])
+    } else {
+        skip_blanks(behind_short_name(text))
+    }
+}
+
+/// The column, in bytes from 0, at which the value begins of the option that the line begins with, its quote included.
+///
+/// Allocates nothing.
+pub fn value_column(text: &[u8]) -> usize
+    ensures { result ≡ value_column text.now }
+{
+    text.len().saturating_sub(from_value(text).len())
 }

@@ -5,7 +5,7 @@ ghost use Rattle.std.specs.Option.{option_map_or};
 ghost use Rattle.pep440_rs.specs.Blanks.{opens};
 ghost use Rattle.pep440_version.specs.Grammar.{starts};
 ghost use Rattle.pep440_version.specs.Refusals.{ends};
-ghost use Rattle.pyver_requirements.specs.LogicalLines.{added, after_mark, continues, ends_separator, is_comment_line, is_line_end, line_end, physical_lines, trim_backslashes};
+ghost use Rattle.pyver_requirements.specs.LogicalLines.{added, after_mark, continues, ends_separator, is_comment_line, is_line_end, is_utf16, line_end, physical_lines, trim_backslashes};
 
 // The text without a byte order mark at the start.
 pub(crate) fn after_mark(text: &[u8]) -> &[u8]
@@ -15,6 +15,13 @@ pub(crate) fn after_mark(text: &[u8]) -> &[u8]
         [0xEF, 0xBB, 0xBF, rest @ ..] => rest,
         _ => text,
     }
+}
+
+// The text begins with the mark of UTF-16, in either order of bytes.
+pub(crate) fn opens_with_mark(text: &[u8]) -> bool
+    ensures { result ≡ is_utf16 text.now }
+{
+    matches!(text, [0xFF, 0xFE, ..] | [0xFE, 0xFF, ..])
 }
 
 fn is_line_end(byte: u8) -> bool

@@ -1,12 +1,12 @@
 -- Requirements files that are read one after another.
-use Rattle.std.proofs.Common.{◌≡◌, ◌⊎◌, ◌∙◌, ◌+◌, ◌-◌, ◌*◌, ◌≤◌, ◌<◌, ℕ, List, [], ◌∷◌, ◌++◌, true, false, Option, None, Some, inl, inr, length, take, refl, sym, ap, subst, arith, append_assoc, append-nil, length-append}
+use Rattle.std.proofs.Common.{◌≡◌, ◌⊎◌, ◌∙◌, ◌+◌, ◌-◌, ◌*◌, ◌≤◌, ◌<◌, ℕ, List, [], ◌∷◌, ◌++◌, true, false, Option, None, Some, inl, inr, length, map, take, refl, sym, ap, subst, arith, append_assoc, append-nil, length-append}
 use Rattle.std.proofs.Math.Seq.{take-append_seam}
 use Rattle.std.proofs.lemmas.Grind.{flat_map-append}
 use Rattle.std.specs.Io.KnownBytes.{Consumes}
 use Rattle.std.specs.List.{flat_map}
 use Rattle.std.specs.Str.{IsUtf8}
-use Rattle.pyver_tool.specs.FileSteps.{GainsFile, HasNames, HasReads, OpensOrRefused, ReadsStep, GainsText, StepsOrRefused, names_of_files, read_of}
-use Rattle.pyver_tool.specs.RequirementFiles.{FilesRead, HasPath, ReadsFilesInTurn, ReadsFiles, ReadsNext, StopsInFile, StopsInFiles, has_path, none_read}
+use Rattle.pyver_tool.specs.FileSteps.{GainsFile, GainsText, GainsUnopened, HasNames, HasReads, OpensOrRefused, OpensStep, ReadsStep, StepsOrRefused, names_of_files, read_of}
+use Rattle.pyver_tool.specs.RequirementFiles.{FilesRead, HasPath, ReadsFilesInTurn, ReadsNames, ReadsNext, StopsInFile, StopsInNames, has_path, none_read, with_unopened}
 use Rattle.pyver_tool.specs.SourceViews.{IsReadingFailure}
 use Rattle.pyver_tool.specs.Sources.{KnownFile, MayOpen, is_input}
 use Rattle.pyver_tool.specs.Sources.{ReadsText as ReadsSourceText}
@@ -15,7 +15,8 @@ use Rattle.pyver_tool.specs.declared.requirement_files.RequirementFiles.{Require
 use Rattle.pyver_tool.specs.declared.stream.RunFailure.{RunFailure}
 use Rattle.pyver_tool.specs.declared.stream.RunFailure.TheVariants as run_failure
 use Rattle.pyver_findings.specs.FileLines.{File}
-use Rattle.pyver_findings.specs.NamedFiles.{named_files}
+use Rattle.pyver_findings.specs.NamedFiles.{NamedFile, named_files}
+use Rattle.pyver_findings.specs.Views.{named_file_of}
 
 -- ---- one source
 
@@ -77,14 +78,14 @@ module _ {R : Type 0} (files : List ℕ → KnownFile) (remaining : R → Option
 
 -- ---- the names of the files
 
-pub names_gain : (first : List (List ℕ)) (a b : RequirementFiles) (file : File) (path : List ℕ) → HasNames first a → GainsFile a b file path → HasNames first b
+pub names_gain : (first : List NamedFile) (a b : RequirementFiles) (file : File) (path : List ℕ) → HasNames first a → GainsFile a b file path → HasNames first b
 names_gain first a b file path h k =
     k.names ∙ ap (λ n. n ++ named_files file) h ∙ append_assoc first (flat_map named_files (read_of a).files) (named_files file)
     ∙ ap (λ n. first ++ n) (ap (λ n. flat_map named_files (read_of a).files ++ n) (sym (append-nil (named_files file))) ∙ sym (flat_map-append named_files (read_of a).files (file ∷ [])) ∙ ap (λ (r : FilesRead). flat_map named_files r.files) (sym k.read))
 
 module _ {R : Type 0} (files : List ℕ → KnownFile) (paths : List ℕ → Option (List ℕ)) (remaining : R → Option (List ℕ)) where
   -- a source with the path had been read
-  pub step_known : (name path : List ℕ) (a : RequirementFiles) (reader : R) → IsUtf8 name → HasPath files paths remaining name path → has_path (read_of a) path ≡ true → HasReads a → ReadsStep files paths remaining name a a reader reader
+  pub step_known : (name path : List ℕ) (a : RequirementFiles) (reader : R) → IsUtf8 name → HasPath files paths remaining name path → has_path (read_of a) path ≡ true → HasReads a → OpensStep files paths remaining name a a reader reader
   step_known name path a reader utf8 is has reads = record {
     next = (utf8, path, is, inl (has, refl, refl));
     names = λ first h. h;
@@ -106,35 +107,47 @@ module _ {R : Type 0} (files : List ℕ → KnownFile) (paths : List ℕ → Opt
   }
   step_opened name path a b reader reader' (Some why) utf8 is new (other, refuses, same, kept) = (inr (utf8, other, refuses), same, kept)
 
+  -- the source was read unless it had been before, or it was not opened
+  pub step_read : (named : NamedFile) (a b : RequirementFiles) (reader reader' : R) → StepsOrRefused files paths remaining named.name a b reader reader' None → ReadsStep files paths remaining named a b reader reader'
+  step_read named a b reader reader' step = record { next = inl step.next; names = step.names; more = step.more; behind = step.behind; advances = step.advances; reads = step.reads }
+
+  pub step_refused : (named : NamedFile) (why : OpenFailure) (a b c : RequirementFiles) (reader reader' : R) → HasReads a → StepsOrRefused files paths remaining named.name a b reader reader' (Some why) → GainsUnopened b c named why
+      → ReadsStep files paths remaining named a c reader reader'
+  step_refused named why a b c reader reader' reads (refuses, same, kept) gains =
+      let names : c.names ≡ a.names = gains.names ∙ ap (λ (x : RequirementFiles). x.names) same in
+      let count : c.read_count ≡ a.read_count = gains.count ∙ ap (λ (x : RequirementFiles). x.read_count) same in
+      let are : names_of_files c ≡ names_of_files a = ap (λ n. map named_file_of n.items) names in
+      let read : read_of c ≡ with_unopened (read_of a) named why = gains.read ∙ ap (λ (x : RequirementFiles). with_unopened (read_of x) named why) same in
+      record {
+        next = inr (why, refuses, read, kept);
+        names = λ first h. are ∙ h ∙ ap (λ (r : FilesRead). first ++ flat_map named_files r.files) (sym read);
+        more = [];
+        behind = are ∙ sym (append-nil (names_of_files a));
+        advances = inr (count, ap (λ n. length n.items) names);
+        reads = subst (λ n. n ≤ 562949953421312) (sym count) reads;
+      }
+
+  -- an allocation failed after it was not opened
+  pub stops_refused : (name : List ℕ) (why : OpenFailure) (a b : RequirementFiles) (reader reader' : R) → StepsOrRefused files paths remaining name a b reader reader' (Some why) → StopsInFile files remaining name reader reader' run_failure.OutOfMemory
+  stops_refused name why a b reader reader' (refuses, same, kept) = inl (refl, kept)
+
   -- ---- one source after another
 
-  pub each_last : (done : List (List ℕ)) (name : List ℕ) (a c b : FilesRead) (reader middle reader' : R) → ReadsFilesInTurn files paths remaining done a c reader middle → ReadsNext files paths remaining name c b middle reader'
-      → ReadsFilesInTurn files paths remaining (done ++ name ∷ []) a b reader reader'
-  each_last [] name a c b reader middle reader' (same, kept) next =
-      (b, reader', subst (λ r. ReadsNext files paths remaining name a b r reader') kept (subst (λ (x : FilesRead). ReadsNext files paths remaining name x b middle reader') same next), (refl, refl))
-  each_last (n ∷ done) name a c b reader middle reader' (x, r, step, rest) next = (x, r, step, each_last done name x c b r middle reader' rest next)
+  pub each_last : (done : List NamedFile) (named : NamedFile) (a c b : FilesRead) (reader middle reader' : R) → ReadsFilesInTurn files paths remaining done a c reader middle → ReadsNext files paths remaining named c b middle reader'
+      → ReadsFilesInTurn files paths remaining (done ++ named ∷ []) a b reader reader'
+  each_last [] named a c b reader middle reader' (same, kept) next =
+      (b, reader', subst (λ r. ReadsNext files paths remaining named a b r reader') kept (subst (λ (x : FilesRead). ReadsNext files paths remaining named x b middle reader') same next), (refl, refl))
+  each_last (n ∷ done) named a c b reader middle reader' (x, r, step, rest) next = (x, r, step, each_last done named x c b r middle reader' rest next)
 
-  module _ (first : List (List ℕ)) (a b : RequirementFiles) (reader middle reader' : R) (front rest : List (List ℕ)) (name : List ℕ) (split : names_of_files a ≡ front ++ name ∷ rest) (k : ReadsFilesInTurn files paths remaining front none_read (read_of a) reader middle) where
-    pub each_more : ReadsStep files paths remaining name a b middle reader' → ReadsFilesInTurn files paths remaining (front ++ name ∷ []) none_read (read_of b) reader reader'
-    each_more step = each_last front name none_read (read_of a) (read_of b) reader middle reader' k step.next
+  module _ (first : List NamedFile) (a : RequirementFiles) (reader middle reader' : R) (front rest : List NamedFile) (named : NamedFile) (split : names_of_files a ≡ front ++ named ∷ rest)
+      (k : ReadsFilesInTurn files paths remaining front none_read (read_of a) reader middle) where
+    pub each_more : (b : RequirementFiles) → ReadsStep files paths remaining named a b middle reader' → ReadsFilesInTurn files paths remaining (front ++ named ∷ []) none_read (read_of b) reader reader'
+    each_more b step = each_last front named none_read (read_of a) (read_of b) reader middle reader' k step.next
 
-    -- the file with the next name was not opened
-    pub ends_refused : HasNames first a → (why : OpenFailure) → StepsOrRefused files paths remaining name a b middle reader' (Some why)
-        → ReadsFiles files paths remaining first reader reader' (record { files = (read_of b).files; unopened = Some (record { name = name; failure = why }) })
-    ends_refused h why (refuses, same, kept) = record {
-      done = front;
-      left = name ∷ rest;
-      read = read_of a;
-      split = sym h ∙ split;
-      each = subst (λ r. ReadsFilesInTurn files paths remaining front none_read (read_of a) reader r) (sym kept) k;
-      are = ap (λ (x : RequirementFiles). (read_of x).files) same;
-      ends = (refl, refuses);
-    }
-
-    pub ends_stopped : HasNames first a → (why : RunFailure) → StopsInFile files remaining name middle reader' why → StopsInFiles files paths remaining first reader reader' why
+    pub ends_stopped : HasNames first a → (why : RunFailure) → StopsInFile files remaining named.name middle reader' why → StopsInNames files paths remaining first reader reader' why
     ends_stopped h why part = record {
       done = front;
-      name = name;
+      named = named;
       left = rest;
       read = read_of a;
       split = sym h ∙ split;
@@ -144,33 +157,25 @@ module _ {R : Type 0} (files : List ℕ → KnownFile) (paths : List ℕ → Opt
     }
 
   -- all names were read
-  pub ends_whole : (first : List (List ℕ)) (a : RequirementFiles) (reader reader' : R) → HasNames first a → ReadsFilesInTurn files paths remaining (names_of_files a) none_read (read_of a) reader reader'
-      → ReadsFiles files paths remaining first reader reader' (record { files = (read_of a).files; unopened = None })
-  ends_whole first a reader reader' h k = record {
-    done = names_of_files a;
-    left = [];
-    read = read_of a;
-    split = sym h ∙ sym (append-nil (names_of_files a));
-    each = k;
-    are = refl;
-    ends = tt;
-  }
+  pub ends_whole : (first : List NamedFile) (a : RequirementFiles) (reader reader' : R) → HasNames first a → ReadsFilesInTurn files paths remaining (names_of_files a) none_read (read_of a) reader reader'
+      → ReadsNames files paths remaining first reader reader' (read_of a)
+  ends_whole first a reader reader' h k = subst (λ n. ReadsFilesInTurn files paths remaining n none_read (read_of a) reader reader') h k
 
   -- an allocation failed before anything was read
-  pub stops_at_once : (first : List (List ℕ)) (name : List ℕ) (left : List (List ℕ)) (reader : R) → first ≡ name ∷ left → StopsInFiles files paths remaining first reader reader run_failure.OutOfMemory
-  stops_at_once first name left reader is = record {
+  pub stops_at_once : (first : List NamedFile) (named : NamedFile) (left : List NamedFile) (reader : R) → first ≡ named ∷ left → StopsInNames files paths remaining first reader reader run_failure.OutOfMemory
+  stops_at_once first named left reader is = record {
     done = [];
-    name = name;
+    named = named;
     left = left;
     read = none_read;
     split = append-nil first ∙ is;
     middle = reader;
     each = (refl, refl);
-    part = stops_before files remaining name reader;
+    part = stops_before files remaining named.name reader;
   }
 
 -- the names up to the next one, of which more follow
-pub taken : (all more front rest : List (List ℕ)) (name : List ℕ) (i : ℕ) → all ≡ front ++ name ∷ rest → length front ≡ i → take (i + 1) (all ++ more) ≡ front ++ name ∷ []
+pub taken : {A : Type 0} (all more front rest : List A) (name : A) (i : ℕ) → all ≡ front ++ name ∷ rest → length front ≡ i → take (i + 1) (all ++ more) ≡ front ++ name ∷ []
 taken all more front rest name i is long =
     let size : length (front ++ name ∷ []) ≡ i + 1 = search (length-append, long, arith) in
     ap (λ l. take (i + 1) (l ++ more)) is ∙ ap (λ l. take (i + 1) (l ++ more)) (sym (append_assoc front (name ∷ []) rest)) ∙ ap (take (i + 1)) (append_assoc (front ++ name ∷ []) rest more)

@@ -14,6 +14,7 @@ pub mod OneOutcome
 pub mod CommonRanges
 pub mod RunEnds
 pub mod FileReads
+pub mod CheckGroups
 pub mod CheckEnds
 pub mod Starts
 pub mod SplitWords

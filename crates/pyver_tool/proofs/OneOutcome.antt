@@ -21,7 +21,7 @@ use Rattle.pyver_tool.specs.LineOptions.{is_header, no_line_options}
 use Rattle.pyver_tool.specs.Matches.{Matches, MatchesBy, MatchesWord, MatchesWords, ReadsSpecifiers, SpecifiersReading, DenotesList, ListFails, word_outcome}
 use Rattle.pyver_tool.specs.NewestOutcomes.{FindsNewest, FindsNewestBy, FindsNewestLine, candidates, newest_outcome, newest_rule}
 use Rattle.pyver_tool.specs.CheckLaws.{ChecksOnce}
-use Rattle.pyver_tool.specs.Checks.{report_outcome}
+use Rattle.pyver_tool.specs.Checks.{with_report}
 use Rattle.pyver_findings.proofs.Once.{reports_once}
 use Rattle.pyver_tool.specs.OneOutcome.{OutcomesOnce}
 use Rattle.pyver_tool.specs.Outcomes.{Outcome, in_turn}
@@ -177,9 +177,8 @@ outcomes_once (Show format words) input a b h k = show_once format words a b h k
 outcomes_once (Bump to parts None) input a b h k = of_versions_once no_line_options (BumpsOnly to parts) (λ lines a b is so. is ∙ sym so) input a b h k
 outcomes_once (Bump to parts (Some word)) input a b h k = bump_once to parts word a b h k
 outcomes_once (Range options words) input a b h k = common_once options words a b h k
-outcomes_once (Check json names) input a b h k = absurd h
+outcomes_once (Check options names) input a b h k = absurd h
 outcomes_once (Misused message) input a b h k = h ∙ sym k
 
 pub checks_once : ChecksOnce
-checks_once json files None a b (r, hr, is) (s, hs, so) = is ∙ ap (report_outcome json) (reports_once files r s hr hs) ∙ sym so
-checks_once json files (Some file) a b h k = h ∙ sym k
+checks_once read a b c (r, hr, is) (s, hs, so) = is ∙ ap (with_report read a) (reports_once read.files r s hr hs) ∙ sym so

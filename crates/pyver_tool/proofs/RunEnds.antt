@@ -33,7 +33,7 @@ first_source (Show asked words) n = absurd n
 first_source (Bump to parts None) n = (input_name, [], refl)
 first_source (Bump to parts (Some word)) n = absurd n
 first_source (Range options words) n = absurd n
-first_source (Check json names) n = absurd n
+first_source (Check options names) n = absurd n
 first_source (Misused message) n = absurd n
 
 -- ---- how a run that stopped ends

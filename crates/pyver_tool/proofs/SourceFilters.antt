@@ -31,7 +31,7 @@ pub names_more : {X : Type 0} (f : X → List ℕ) (xs : List X) (i : ℕ) (x d 
 names_more f xs i x d text inside is same =
     ap (map f) (take_more xs i d inside) ∙ map-append f (take i xs) (get_or xs i d ∷ []) ∙ ap (λ t. map f (take i xs) ++ t ∷ []) (ap f (sym is) ∙ sym same)
 
-pub names_split : {X : Type 0} (f : X → List ℕ) (xs : List X) (i : ℕ) (x d : X) (text : List ℕ) → i < length xs → x ≡ get_or xs i d → text ≡ f x → map f xs ≡ map f (take i xs) ++ text ∷ map f (drop (i + 1) xs)
+pub names_split : {X Y : Type 0} (f : X → Y) (xs : List X) (i : ℕ) (x d : X) (text : Y) → i < length xs → x ≡ get_or xs i d → text ≡ f x → map f xs ≡ map f (take i xs) ++ text ∷ map f (drop (i + 1) xs)
 names_split f xs i x d text inside is same =
     ap (map f) (sym (take-append-drop i xs) ∙ ap (λ ys. take i xs ++ ys) (drop_more xs i d inside)) ∙ map-append f (take i xs) (get_or xs i d ∷ drop (i + 1) xs) ∙ ap (λ t. map f (take i xs) ++ t ∷ map f (drop (i + 1) xs)) (ap f (sym is) ∙ sym same)
 

@@ -1,10 +1,8 @@
 -- That `check` prints one thing of the same files.
-use Rattle.std.specs.Prelude.{◌≡◌, List, Bool, Option}
-use Rattle.pyver_tool.specs.Checks.{ChecksFiles}
-use Rattle.pyver_tool.specs.Outcomes.{Outcome}
-use Rattle.pyver_tool.specs.Sources.{UnopenedSource}
-use Rattle.pyver_findings.specs.FileLines.{File}
+use Rattle.std.specs.Prelude.{◌≡◌}
+use Rattle.pyver_tool.specs.Checks.{CheckResult, GainsReport}
+use Rattle.pyver_tool.specs.RequirementFiles.{FilesRead}
 
--- what is written of files is one thing
+-- what is found in files is one thing
 abbrev pub ChecksOnce : Type 0
-ChecksOnce = (json : Bool) (files : List File) (unopened : Option UnopenedSource) (a b : Outcome) → ChecksFiles json files unopened a → ChecksFiles json files unopened b → a ≡ b
+ChecksOnce = (read : FilesRead) (a b c : CheckResult) → GainsReport read a b → GainsReport read a c → b ≡ c

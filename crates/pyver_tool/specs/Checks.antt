@@ -1,68 +1,135 @@
 -- The command `check`: what is wrong in requirements files.
-use Rattle.std.specs.Prelude.{◌≡◌, ◌⊎◌, ℕ, List, [], ◌∷◌, Bool, Option, Some, None, if◌then◌else◌}
+use Rattle.std.specs.Prelude.{◌≡◌, ◌⊎◌, ℕ, List, [], ◌∷◌, ◌++◌, Bool, true, false, Option, Some, None, codes, map, if◌then◌else◌}
+use Rattle.std.specs.Fmt.{decimal}
+use Rattle.std.specs.List.{flat_map, list_any}
 use Rattle.pyver_tool.specs.Outcomes.{Outcome}
-use Rattle.pyver_tool.specs.RequirementFiles.{FilesFound, ReadsFiles, StopsInFiles}
+use Rattle.pyver_tool.specs.RequirementFiles.{FilesRead, ReadsFiles, StopsInFiles, UnopenedFile}
 use Rattle.pyver_tool.specs.Runs.{WritesAnswer, WroteBeginning}
 use Rattle.pyver_tool.specs.SourceViews.{Reports}
-use Rattle.pyver_tool.specs.Sources.{KnownFile, UnopenedSource, source_names}
-use Rattle.pyver_tool.specs.VersionLines.{unopened_outcome}
+use Rattle.pyver_tool.specs.Sources.{KnownFile, failure_reason, source_names}
+use Rattle.pyver_tool.specs.declared.check.CheckOptions.{CheckOptions}
 use Rattle.pyver_tool.specs.declared.stream.RunFailure.{RunFailure}
 use Rattle.pyver_tool.specs.declared.stream.RunFailure.TheVariants as run_failure
-use Rattle.pyver_findings.specs.FileLines.{File}
+use Rattle.pyver_findings.specs.Escapes.{escaped}
 use Rattle.pyver_findings.specs.Findings.{Finding}
+use Rattle.pyver_findings.specs.NamedFiles.{Position}
 use Rattle.pyver_findings.specs.ReportObjects.{report_object}
 use Rattle.pyver_findings.specs.ReportTexts.{report_text, summary_text}
-use Rattle.pyver_findings.specs.Reports.{IsReport, Report}
+use Rattle.pyver_findings.specs.Reports.{IsReport, Report, empty_report, joined_report, spans_files}
 
--- 1 where something was found
-abbrev pub findings_status : List Finding → ℕ
-findings_status [] = 0
-findings_status (f ∷ rest) = 1
+-- ---- what is found
+
+-- what was found of the files that were read, and the files that were not opened
+pub record CheckResult : Type 0 where
+  pub report : Report
+  pub unopened : List UnopenedFile
+
+abbrev pub none_checked : CheckResult
+none_checked = record { report = empty_report; unopened = [] }
+
+-- the words by groups, which are checked each by itself: one group, or a group for each
+abbrev pub word_groups : Bool → List (List ℕ) → List (List (List ℕ))
+word_groups each words = if each then map (λ word. word ∷ []) (source_names words) else source_names words ∷ []
+
+-- this report of these files follows
+abbrev pub with_report : FilesRead → CheckResult → Report → CheckResult
+with_report read a r = record { report = joined_report a.report r; unopened = a.unopened ++ read.unopened }
+
+-- the report of these files follows
+abbrev pub GainsReport : FilesRead → CheckResult → CheckResult → Type 0
+GainsReport read a b = (r : Report) × IsReport read.files r × (b ≡ with_report read a r)
+
+module _ {R : Type 0} (files : List ℕ → KnownFile) (paths : List ℕ → Option (List ℕ)) (remaining : R → Option (List ℕ)) where
+  -- the files that the words name were read, and their report follows
+  abbrev pub ChecksGroup : List (List ℕ) → CheckResult → CheckResult → R → R → Type 0
+  ChecksGroup words a b reader reader' = (read : FilesRead) × ReadsFiles files paths remaining words reader reader' read × GainsReport read a b
+
+  -- the groups, each in turn
+  abbrev pub ChecksGroups : List (List (List ℕ)) → CheckResult → CheckResult → R → R → Type 0
+  ChecksGroups [] a b reader reader' = (b ≡ a) × (reader' ≡ reader)
+  ChecksGroups (words ∷ groups) a b reader reader' = (c : CheckResult) × (middle : R) × ChecksGroup words a c reader middle × ChecksGroups groups c b middle reader'
+
+  -- reading the files that the words name stopped, or an allocation failed after it
+  abbrev pub StopsGroup : List (List ℕ) → R → R → RunFailure → Type 0
+  StopsGroup words reader reader' why = StopsInFiles files paths remaining words reader reader' why
+      ⊎ ((why ≡ run_failure.OutOfMemory) × ((read : FilesRead) × ReadsFiles files paths remaining words reader reader' read))
+
+  -- some groups were checked, and the next one stopped
+  abbrev pub StopsGroups : List (List (List ℕ)) → CheckResult → R → R → RunFailure → Type 0
+  StopsGroups [] a reader reader' why = ⊥
+  StopsGroups (words ∷ groups) a reader reader' why = StopsGroup words reader reader' why
+      ⊎ ((c : CheckResult) × (middle : R) × ChecksGroup words a c reader middle × StopsGroups groups c middle reader' why)
+
+-- ---- what is written
+
+-- 2 where a file was not opened, and otherwise 1 where something was found
+abbrev pub check_status : List UnopenedFile → List Finding → ℕ
+check_status [] [] = 0
+check_status [] (f ∷ rest) = 1
+check_status (file ∷ others) found = 2
 
 -- the findings, as JSON or as lines
 abbrev pub findings_text : Bool → Report → List ℕ
 findings_text json r = if json then report_object r else report_text r
 
--- the findings, and how much was read
-abbrev pub report_outcome : Bool → Report → Outcome
-report_outcome json r = record { output = findings_text json r; errors = summary_text r; status = findings_status r.findings }
+-- the file, the line and the column of the path that a line names, if one does
+abbrev pub position_text : Option Position → List ℕ
+position_text None = []
+position_text (Some p) = escaped p.file ++ (codes ":" ++ (decimal p.line ++ (codes ":" ++ (decimal p.column ++ codes ": "))))
 
--- what is written of these files
-abbrev pub ReportsFiles : Bool → List File → Outcome → Type 0
-ReportsFiles json files o = (r : Report) × IsReport files r × (o ≡ report_outcome json r)
+-- the message of a file that was not opened
+abbrev pub unopened_text : UnopenedFile → List ℕ
+unopened_text file = codes "pyver: " ++ (position_text file.named.position ++ (escaped file.named.name ++ (codes ": " ++ (failure_reason file.failure ++ codes "\n"))))
 
--- the same, or the message of the file that was not opened and nothing else
-abbrev pub ChecksFiles : Bool → List File → Option UnopenedSource → Outcome → Type 0
-ChecksFiles json files None o = ReportsFiles json files o
-ChecksFiles json files (Some file) o = o ≡ unopened_outcome file
+-- there are two words, or more
+abbrev pub are_several : List (List ℕ) → Bool
+are_several (a ∷ (b ∷ rest)) = true
+are_several _ = false
+
+-- that files are taken together, where lines of several are reported together and the words could have been taken one by one
+abbrev pub together_note : CheckOptions → List (List ℕ) → List Finding → List ℕ
+together_note options words found =
+    if options.each then [] else if are_several words then (if list_any spans_files found then codes "pyver: files are taken together; --each takes them one by one\n" else []) else []
+
+-- how much was read, and how
+abbrev pub summary : CheckOptions → List (List ℕ) → Report → List ℕ
+summary options words r = if options.quiet then [] else together_note options words r.findings ++ summary_text r
+
+-- the findings, the files that were not opened, and how much was read
+abbrev pub check_outcome : CheckOptions → List (List ℕ) → CheckResult → Outcome
+check_outcome options words c = record {
+  output = if options.quiet then [] else findings_text options.json c.report;
+  errors = flat_map unopened_text c.unopened ++ summary options words c.report;
+  status = check_status c.unopened c.report.findings;
+}
 
 module _ {R : Type 0} (files : List ℕ → KnownFile) (paths : List ℕ → Option (List ℕ)) (remaining : R → Option (List ℕ)) where
   -- all files were read, and this is to be written
-  abbrev pub Checks : Bool → List (List ℕ) → R → R → Outcome → Type 0
-  Checks json names reader reader' o = (found : FilesFound) × ReadsFiles files paths remaining (source_names names) reader reader' found × ChecksFiles json found.files found.unopened o
+  abbrev pub Checks : CheckOptions → List (List ℕ) → R → R → Outcome → Type 0
+  Checks options words reader reader' o = (c : CheckResult) × ChecksGroups files paths remaining (word_groups options.each words) none_checked c reader reader' × (o ≡ check_outcome options words c)
 
   -- nothing is to be written: reading stopped, or an allocation failed after it
-  abbrev pub StopsCheck : List (List ℕ) → R → R → RunFailure → Type 0
-  StopsCheck names reader reader' why = StopsInFiles files paths remaining (source_names names) reader reader' why
-      ⊎ ((why ≡ run_failure.OutOfMemory) × ((found : FilesFound) × ReadsFiles files paths remaining (source_names names) reader reader' found))
+  abbrev pub StopsCheck : CheckOptions → List (List ℕ) → R → R → RunFailure → Type 0
+  StopsCheck options words reader reader' why = StopsGroups files paths remaining (word_groups options.each words) none_checked reader reader' why
+      ⊎ ((why ≡ run_failure.OutOfMemory) × ((c : CheckResult) × ChecksGroups files paths remaining (word_groups options.each words) none_checked c reader reader'))
 
 module _ {F R W E : Type 0} (known : F → List ℕ → KnownFile) (path : F → List ℕ → Option (List ℕ)) (remaining : R → Option (List ℕ)) (contents : W → Option (List ℕ)) (error_contents : E → Option (List ℕ)) where
   -- nothing was written but a beginning of the message of why reading stopped, or that an allocation failed
-  pub record EndsUnchecked (names : List (List ℕ)) (files : F) (reader reader' : R) (out out' : W) (err err' : E) (status : ℕ) : Type 0 where
+  pub record EndsUnchecked (options : CheckOptions) (words : List (List ℕ)) (files : F) (reader reader' : R) (out out' : W) (err err' : E) (status : ℕ) : Type 0 where
     pub why : RunFailure
-    pub stops : StopsCheck (known files) (path files) remaining names reader reader' why
+    pub stops : StopsCheck (known files) (path files) remaining options words reader reader' why
     pub message : List ℕ
     pub reports : Reports why status message
     pub silent : out' ≡ out
     pub errors : WroteBeginning (error_contents err) (error_contents err') message
 
   -- all was read and this was written, or a beginning of it where a write failed
-  pub record EndsChecked (json : Bool) (names : List (List ℕ)) (files : F) (reader reader' : R) (out out' : W) (err err' : E) (status : ℕ) : Type 0 where
+  pub record EndsChecked (options : CheckOptions) (words : List (List ℕ)) (files : F) (reader reader' : R) (out out' : W) (err err' : E) (status : ℕ) : Type 0 where
     pub outcome : Outcome
-    pub is : Checks (known files) (path files) remaining json names reader reader' outcome
+    pub is : Checks (known files) (path files) remaining options words reader reader' outcome
     pub written : WritesAnswer contents error_contents outcome out out' err err' status
 
   -- how `check` may end
-  abbrev pub EndsCheck : Bool → List (List ℕ) → F → F → R → R → W → W → E → E → ℕ → Type 0
-  EndsCheck json names files files' reader reader' out out' err err' status = (known files' ≡ known files)
-      × (EndsChecked json names files reader reader' out out' err err' status ⊎ EndsUnchecked names files reader reader' out out' err err' status)
+  abbrev pub EndsCheck : CheckOptions → List (List ℕ) → F → F → R → R → W → W → E → E → ℕ → Type 0
+  EndsCheck options words files files' reader reader' out out' err err' status = (known files' ≡ known files)
+      × (EndsChecked options words files reader reader' out out' err err' status ⊎ EndsUnchecked options words files reader reader' out out' err err' status)

@@ -2,28 +2,34 @@
 use Rattle.std.specs.Prelude.{◌≡◌, ◌⊎◌, ◌≤◌, ◌<◌, ℕ, List, ◌++◌, false, Option, Some, None, length, map, string_bytes}
 use Rattle.std.specs.Io.KnownBytes.{Consumes, IsAtEnd}
 use Rattle.std.specs.List.{flat_map}
-use Rattle.pyver_tool.specs.RequirementFiles.{FilesRead, IsRefused, ReadsFile, ReadsNext, with_file}
-use Rattle.pyver_tool.specs.Sources.{KnownFile, MayRefuse, UnopenedSource, is_input}
+use Rattle.pyver_tool.specs.RequirementFiles.{FilesRead, IsRefused, OpensNext, ReadsFile, ReadsNext, UnopenedFile, with_file, with_unopened}
+use Rattle.pyver_tool.specs.Sources.{KnownFile, MayRefuse, is_input}
 use Rattle.pyver_tool.specs.declared.open_failure.OpenFailure.{OpenFailure}
 use Rattle.pyver_tool.specs.declared.requirement_files.RequirementFiles.{RequirementFiles}
-use Rattle.pyver_tool.specs.declared.requirement_files.UnopenedFile.{UnopenedFile}
+use Rattle.pyver_tool.specs.declared.requirement_files.UnopenedFile.{UnopenedFile as UnopenedFileValue}
 use Rattle.pyver_findings.specs.FileLines.{File}
-use Rattle.pyver_findings.specs.NamedFiles.{named_files}
-use Rattle.pyver_findings.specs.Views.{file_of}
+use Rattle.pyver_findings.specs.NamedFiles.{NamedFile, named_files}
+use Rattle.pyver_findings.specs.Views.{file_of, named_file_of}
+
+abbrev pub unopened_file_of : UnopenedFileValue → UnopenedFile
+unopened_file_of file = record { named = named_file_of file.named; failure = file.failure }
 
 abbrev pub read_of : RequirementFiles → FilesRead
-read_of state = record { files = map file_of state.files.items; paths = map string_bytes state.paths.items }
+read_of state = record { files = map file_of state.files.items; paths = map string_bytes state.paths.items; unopened = map unopened_file_of state.unopened.items }
 
-abbrev pub names_of_files : RequirementFiles → List (List ℕ)
-names_of_files state = map (λ name. name.items) state.names.items
-
-abbrev pub unopened_file_of : UnopenedFile → UnopenedSource
-unopened_file_of file = record { name = file.name.items; failure = file.failure }
+abbrev pub names_of_files : RequirementFiles → List NamedFile
+names_of_files state = map named_file_of state.names.items
 
 -- a file more, and the names in it
 pub record GainsFile (a b : RequirementFiles) (file : File) (path : List ℕ) : Type 0 where
   pub read : read_of b ≡ with_file (read_of a) file path
   pub names : names_of_files b ≡ names_of_files a ++ named_files file
+
+-- one more that was not opened
+pub record GainsUnopened (a b : RequirementFiles) (named : NamedFile) (why : OpenFailure) : Type 0 where
+  pub read : read_of b ≡ with_unopened (read_of a) named why
+  pub names : b.names ≡ a.names
+  pub count : b.read_count ≡ a.read_count
 
 -- a file more, whose text was read to its end
 pub record GainsText {R : Type 0} (remaining : R → Option (List ℕ)) (name path : List ℕ) (a b : RequirementFiles) (reader reader' : R) : Type 0 where
@@ -33,7 +39,7 @@ pub record GainsText {R : Type 0} (remaining : R → Option (List ℕ)) (name pa
   pub gains : GainsFile a b (record { name = name; text = text }) path
 
 -- the names are these, and those in the files that were read
-abbrev pub HasNames : List (List ℕ) → RequirementFiles → Type 0
+abbrev pub HasNames : List NamedFile → RequirementFiles → Type 0
 HasNames first state = names_of_files state ≡ first ++ flat_map named_files (read_of state).files
 
 -- more was read than before, or there are no more names
@@ -44,6 +50,15 @@ Advances a b = (a.read_count < b.read_count) ⊎ ((b.read_count ≡ a.read_count
 abbrev pub HasReads : RequirementFiles → Type 0
 HasReads state = state.read_count ≤ 562949953421312
 
+-- this was done with a name, and then names may follow
+pub record StepsTo (Next : Type 0) (a b : RequirementFiles) : Type 0 where
+  pub next : Next
+  pub names : (first : List NamedFile) → HasNames first a → HasNames first b
+  pub more : List NamedFile
+  pub behind : names_of_files b ≡ names_of_files a ++ more
+  pub advances : Advances a b
+  pub reads : HasReads b
+
 module _ {R : Type 0} (files : List ℕ → KnownFile) (remaining : R → Option (List ℕ)) where
   -- the source was read to its end, a file more; or its file was not opened
   abbrev pub OpensOrRefused : List ℕ → List ℕ → RequirementFiles → RequirementFiles → R → R → Option OpenFailure → Type 0
@@ -51,16 +66,15 @@ module _ {R : Type 0} (files : List ℕ → KnownFile) (remaining : R → Option
   OpensOrRefused name path a b reader reader' (Some why) = (is_input name ≡ false) × MayRefuse (files name) why × (b ≡ a) × (reader' ≡ reader)
 
 module _ {R : Type 0} (files : List ℕ → KnownFile) (paths : List ℕ → Option (List ℕ)) (remaining : R → Option (List ℕ)) where
-  -- the source was read unless it had been before, and then names may follow
-  pub record ReadsStep (name : List ℕ) (a b : RequirementFiles) (reader reader' : R) : Type 0 where
-    pub next : ReadsNext files paths remaining name (read_of a) (read_of b) reader reader'
-    pub names : (first : List (List ℕ)) → HasNames first a → HasNames first b
-    pub more : List (List ℕ)
-    pub behind : names_of_files b ≡ names_of_files a ++ more
-    pub advances : Advances a b
-    pub reads : HasReads b
+  -- the source with this name was read unless it had been before
+  abbrev pub OpensStep : List ℕ → RequirementFiles → RequirementFiles → R → R → Type 0
+  OpensStep name a b reader reader' = StepsTo (OpensNext files paths remaining name (read_of a) (read_of b) reader reader') a b
+
+  -- the same, or it was not opened
+  abbrev pub ReadsStep : NamedFile → RequirementFiles → RequirementFiles → R → R → Type 0
+  ReadsStep named a b reader reader' = StepsTo (ReadsNext files paths remaining named (read_of a) (read_of b) reader reader') a b
 
   -- a source was read so; or its file was not opened
   abbrev pub StepsOrRefused : List ℕ → RequirementFiles → RequirementFiles → R → R → Option OpenFailure → Type 0
-  StepsOrRefused name a b reader reader' None = ReadsStep name a b reader reader'
+  StepsOrRefused name a b reader reader' None = OpensStep name a b reader reader'
   StepsOrRefused name a b reader reader' (Some why) = IsRefused (files name) name why × (b ≡ a) × (reader' ≡ reader)

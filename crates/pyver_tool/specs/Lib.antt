@@ -39,6 +39,7 @@ pub mod SourceTexts
 pub mod RequirementFiles
 pub mod FileSteps
 pub mod Checks
+pub mod CheckViews
 pub mod CheckLaws
 pub mod FilterSteps
 pub mod VersionLineViews

@@ -1,27 +1,40 @@
 -- The requirements files that `check` reads: those that the words name, and those that their lines name.
-use Rattle.std.specs.Prelude.{◌≡◌, ◌⊎◌, ⊤, ℕ, List, [], ◌∷◌, ◌++◌, Bool, true, false, Option, Some, None, bytes_eq}
+use Rattle.std.specs.Prelude.{◌≡◌, ◌⊎◌, ⊤, ℕ, List, [], ◌∷◌, ◌++◌, Bool, true, false, Option, Some, None, bytes_eq, map}
 use Rattle.std.specs.Io.KnownBytes.{IsAtEnd}
 use Rattle.std.specs.List.{flat_map, list_any}
 use Rattle.std.specs.Str.{IsUtf8}
 use Rattle.pyver_tool.specs.SourceViews.{IsReadingFailure}
-use Rattle.pyver_tool.specs.Sources.{KnownFile, MayRefuse, ReadsByName, UnopenedSource, is_input}
+use Rattle.pyver_tool.specs.Sources.{KnownFile, MayRefuse, ReadsByName, is_input}
 use Rattle.pyver_tool.specs.declared.open_failure.OpenFailure.{OpenFailure}
 use Rattle.pyver_tool.specs.declared.open_failure.OpenFailure.TheVariants as failure
 use Rattle.pyver_tool.specs.declared.stream.RunFailure.{RunFailure}
 use Rattle.pyver_tool.specs.declared.stream.RunFailure.TheVariants as run_failure
 use Rattle.pyver_findings.specs.FileLines.{File}
-use Rattle.pyver_findings.specs.NamedFiles.{named_files}
+use Rattle.pyver_findings.specs.NamedFiles.{NamedFile, named_files}
 
--- files that were read, and their paths
+-- a file that was not opened, and why
+pub record UnopenedFile : Type 0 where
+  pub named : NamedFile
+  pub failure : OpenFailure
+
+-- files that were read, and their paths; and those that were not opened
 pub record FilesRead : Type 0 where
   pub files : List File
   pub paths : List (List ℕ)
+  pub unopened : List UnopenedFile
 
 abbrev pub none_read : FilesRead
-none_read = record { files = []; paths = [] }
+none_read = record { files = []; paths = []; unopened = [] }
 
 abbrev pub with_file : FilesRead → File → List ℕ → FilesRead
-with_file a file path = record { files = a.files ++ file ∷ []; paths = a.paths ++ path ∷ [] }
+with_file a file path = record { files = a.files ++ file ∷ []; paths = a.paths ++ path ∷ []; unopened = a.unopened }
+
+abbrev pub with_unopened : FilesRead → NamedFile → OpenFailure → FilesRead
+with_unopened a named why = record { files = a.files; paths = a.paths; unopened = a.unopened ++ record { named = named; failure = why } ∷ [] }
+
+-- the file that a word names
+abbrev pub word_file : List ℕ → NamedFile
+word_file name = record { name = name; position = None }
 
 -- a file with this path was read
 abbrev pub has_path : FilesRead → List ℕ → Bool
@@ -37,14 +50,9 @@ abbrev pub IsSourcePath : Bool → Option (List ℕ) → List ℕ → List ℕ �
 IsSourcePath true known name path = path ≡ name
 IsSourcePath false known name path = IsKnownPath known path
 
--- the file at which reading ended was not opened, because of this: its name is no UTF-8, or the system does not open it
+-- the file was not opened, because of this: its name is no UTF-8, or the system does not open it
 abbrev pub IsRefused : KnownFile → List ℕ → OpenFailure → Type 0
 IsRefused file name why = ((¬ IsUtf8 name) × (why ≡ failure.Other)) ⊎ (IsUtf8 name × (is_input name ≡ false) × MayRefuse file why)
-
--- the files that were read, and the one at which reading ended, if one was not opened
-pub record FilesFound : Type 0 where
-  pub files : List File
-  pub unopened : Option UnopenedSource
 
 -- `files` is what is known of each file, `remaining` are the bytes that standard input has left
 module _ {R : Type 0} (files : List ℕ → KnownFile) (remaining : R → Option (List ℕ)) where
@@ -75,41 +83,39 @@ module _ {R : Type 0} (files : List ℕ → KnownFile) (paths : List ℕ → Opt
   HasPath name path = IsSourcePath (is_input name) (paths name) name path
 
   -- a source with the path of this name, which is UTF-8, had been read; or the source was read
-  abbrev pub ReadsNext : List ℕ → FilesRead → FilesRead → R → R → Type 0
-  ReadsNext name a b reader reader' = IsUtf8 name × (path : List ℕ) × HasPath name path
+  abbrev pub OpensNext : List ℕ → FilesRead → FilesRead → R → R → Type 0
+  OpensNext name a b reader reader' = IsUtf8 name × (path : List ℕ) × HasPath name path
       × (((has_path a path ≡ true) × (b ≡ a) × (reader' ≡ reader))
       ⊎ ((has_path a path ≡ false) × ((file : File) × ReadsFile files remaining name reader reader' file × (b ≡ with_file a file path))))
 
+  -- the same; or the file was not opened
+  abbrev pub ReadsNext : NamedFile → FilesRead → FilesRead → R → R → Type 0
+  ReadsNext named a b reader reader' = OpensNext named.name a b reader reader'
+      ⊎ ((why : OpenFailure) × IsRefused (files named.name) named.name why × (b ≡ with_unopened a named why) × (reader' ≡ reader))
+
   -- the sources with these names, each in turn
-  abbrev pub ReadsFilesInTurn : List (List ℕ) → FilesRead → FilesRead → R → R → Type 0
+  abbrev pub ReadsFilesInTurn : List NamedFile → FilesRead → FilesRead → R → R → Type 0
   ReadsFilesInTurn [] a b reader reader' = (b ≡ a) × (reader' ≡ reader)
-  ReadsFilesInTurn (name ∷ names) a b reader reader' = (c : FilesRead) × (middle : R) × ReadsNext name a c reader middle × ReadsFilesInTurn names c b middle reader'
+  ReadsFilesInTurn (named ∷ names) a b reader reader' = (c : FilesRead) × (middle : R) × ReadsNext named a c reader middle × ReadsFilesInTurn names c b middle reader'
 
-  -- no name is left; or the file with the first of them was not opened
-  abbrev pub EndsFiles : List (List ℕ) → Option UnopenedSource → Type 0
-  EndsFiles [] None = ⊤
-  EndsFiles [] (Some file) = ⊥
-  EndsFiles (name ∷ names) None = ⊥
-  EndsFiles (name ∷ names) (Some file) = (file.name ≡ name) × IsRefused (files name) name file.failure
-
-  -- Of all names, first these and then those that the lines of each file name, in the order of the files, each was read in turn, or
-  -- each before one that was not opened.
-  pub record ReadsFiles (names : List (List ℕ)) (reader reader' : R) (found : FilesFound) : Type 0 where
-    pub done : List (List ℕ)
-    pub left : List (List ℕ)
-    pub read : FilesRead
-    pub split : names ++ flat_map named_files read.files ≡ done ++ left
-    pub each : ReadsFilesInTurn done none_read read reader reader'
-    pub are : found.files ≡ read.files
-    pub ends : EndsFiles left found.unopened
+  -- of all names, first these and then those that the lines of each file name, in the order of the files, each was read in turn
+  abbrev pub ReadsNames : List NamedFile → R → R → FilesRead → Type 0
+  ReadsNames first reader reader' read = ReadsFilesInTurn (first ++ flat_map named_files read.files) none_read read reader reader'
 
   -- some names were read so, and a part of the source with the next one, or, where an allocation failed, nothing
-  pub record StopsInFiles (names : List (List ℕ)) (reader reader' : R) (why : RunFailure) : Type 0 where
-    pub done : List (List ℕ)
-    pub name : List ℕ
-    pub left : List (List ℕ)
+  pub record StopsInNames (first : List NamedFile) (reader reader' : R) (why : RunFailure) : Type 0 where
+    pub done : List NamedFile
+    pub named : NamedFile
+    pub left : List NamedFile
     pub read : FilesRead
-    pub split : names ++ flat_map named_files read.files ≡ done ++ name ∷ left
+    pub split : first ++ flat_map named_files read.files ≡ done ++ named ∷ left
     pub middle : R
     pub each : ReadsFilesInTurn done none_read read reader middle
-    pub part : StopsInFile files remaining name middle reader' why
+    pub part : StopsInFile files remaining named.name middle reader' why
+
+  -- the same of the files that words name
+  abbrev pub ReadsFiles : List (List ℕ) → R → R → FilesRead → Type 0
+  ReadsFiles words reader reader' read = ReadsNames (map word_file words) reader reader' read
+
+  abbrev pub StopsInFiles : List (List ℕ) → R → R → RunFailure → Type 0
+  StopsInFiles words reader reader' why = StopsInNames (map word_file words) reader reader' why

@@ -48,11 +48,12 @@ with_option settings name value =
     else if bytes_eq name (codes "--part") then option_map (λ part. record settings { format = format.Part part }) (part_of value)
     else if bytes_eq name (codes "--to") then option_map (λ n. record settings { to = Some n }) (word_number value)
     else if bytes_eq name (codes "--cover") then Some (record settings { cover = true })
+    else if bytes_eq name (codes "--each") then Some (record settings { each = true })
     else option_map (λ lines. record settings { lines = lines }) (with_line_option settings.lines name value)
 
 -- without an option
 abbrev pub no_settings : Settings
-no_settings = record { quiet = false; prereleases = prereleases.Listed; inverted = false; reversed = false; unique = false; last = None; lines = no_line_options; format = format.Normal; to = None; cover = false }
+no_settings = record { quiet = false; prereleases = prereleases.Listed; inverted = false; reversed = false; unique = false; last = None; lines = no_line_options; format = format.Normal; to = None; cover = false; each = false }
 
 -- what options set, or the first of them with a wrong value
 pub data Effect : Type 0 where

@@ -30,7 +30,7 @@ task (command.Newest options specifiers names) = Newest options specifiers.now (
 task (command.Show asked versions) = Show asked (map string_bytes versions.now)
 task (command.Bump to parts version) = bump_from_words to [] (map string_bytes parts.now) (option_map (λ v. v.now) version)
 task (command.Range options lists) = Range options (map string_bytes lists.now)
-task (command.Check json names) = Check json (map string_bytes names.now)
+task (command.Check options names) = Check options (map string_bytes names.now)
 task (command.Misused why) = Misused (misuse_message why)
 
 -- the task of what the words are

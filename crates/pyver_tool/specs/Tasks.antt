@@ -20,6 +20,7 @@ use Rattle.pyver_tool.specs.SplitWords.{Given, Missing, Split, UnknownWord, spli
 use Rattle.pyver_tool.specs.Sources.{Input, input_name, source_names}
 use Rattle.pyver_tool.specs.declared.allowed.MatchOptions.{MatchOptions}
 use Rattle.pyver_tool.specs.declared.bump.BumpPart.{BumpPart}
+use Rattle.pyver_tool.specs.declared.check.CheckOptions.{CheckOptions}
 use Rattle.pyver_tool.specs.declared.comparison.Comparison.{Comparison}
 use Rattle.pyver_tool.specs.declared.filter.FilterOptions.{FilterOptions}
 use Rattle.pyver_tool.specs.declared.help.Topic.{Topic}
@@ -45,7 +46,7 @@ pub data Task : Type 0 where
   Show : ShowFormat → List (List ℕ) → Task
   Bump : Option ℕ → List BumpPart → Option (List ℕ) → Task
   Range : RangeOptions → List (List ℕ) → Task
-  Check : Bool → List (List ℕ) → Task
+  Check : CheckOptions → List (List ℕ) → Task
   Misused : List ℕ → Task
 
 -- ---- the names of the program
@@ -173,6 +174,10 @@ abbrev pub is_json : ShowFormat → Bool
 is_json format.Json = true
 is_json _ = false
 
+-- what the settings say of `check`
+abbrev pub check_options : Settings → CheckOptions
+check_options settings = record { json = is_json settings.format; each = settings.each; quiet = settings.quiet }
+
 -- the task of a command with these settings and operands
 abbrev pub task_with : Settings → Topic → List (List ℕ) → Task
 task_with settings topic.Compare (left ∷ word ∷ right ∷ []) = compare_by left word right (comparison_of word)
@@ -183,7 +188,7 @@ task_with settings topic.Newest (specifiers ∷ names) = Newest (record { prerel
 task_with settings topic.Show (word ∷ words) = Show settings.format (word ∷ words)
 task_with settings topic.Bump words = bump_operands settings.to words
 task_with settings topic.Range (word ∷ words) = Range (record { cover = settings.cover; json = is_json settings.format }) (word ∷ words)
-task_with settings topic.Check names = Check (is_json settings.format) names
+task_with settings topic.Check names = Check (check_options settings) names
 task_with settings topic _ = Misused (wrong_count topic)
 
 -- ---- words
@@ -246,12 +251,12 @@ IsOutcome (Show asked words) input o = Shows asked words o
 IsOutcome (Bump to parts None) input o = BumpsInput to parts input o
 IsOutcome (Bump to parts (Some word)) input o = Bumps to parts word o
 IsOutcome (Range options words) input o = FindsCommon options words o
-IsOutcome (Check json names) input o = ⊥
+IsOutcome (Check options names) input o = ⊥
 IsOutcome (Misused message) input o = o ≡ message_outcome message
 
 -- the task is to check files
 abbrev pub IsCheck : Task → Type 0
-IsCheck task = (json : Bool) × (names : List (List ℕ)) × (task ≡ Check json names)
+IsCheck task = (options : CheckOptions) × (names : List (List ℕ)) × (task ≡ Check options names)
 
 -- of the others only `sort`, `filter` and `newest` with a valid list, and `bump` without a version, read sources
 abbrev pub NeedsInput : Task → Type 0

@@ -17,4 +17,4 @@ IsWork task (work.Filter rule names) =
     NeedsInput task × IsStream task × (names_of task ≡ source_names (map string_bytes names.now)) × ((input : Input) (o : Outcome) → Filters rule input o → IsOutcome task input o)
 IsWork task (work.Whole question names) =
     NeedsInput task × (¬ IsStream task) × (names_of task ≡ source_names (map string_bytes names.now)) × ((input : Input) (o : Outcome) → AnswersInput question input o → IsOutcome task input o)
-IsWork task (work.Check json names) = task ≡ Check json (map string_bytes names.now)
+IsWork task (work.Check options names) = task ≡ Check options (map string_bytes names.now)

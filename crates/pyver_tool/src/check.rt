@@ -1,79 +1,311 @@
 // The command `check`: what is wrong in requirements files.
-ghost use Rattle.std.specs.Prelude.{◌≡◌, ◌≤◌, IfErr, IfOk, map, string_bytes};
-ghost use Rattle.std.specs.Option.{option_map};
+ghost use Rattle.std.specs.Prelude.{◌≡◌, ◌≤◌, ◌∷◌, ◌++◌, [], IfErr, IfOk, map, option_map, string_bytes, if◌then◌else◌};
+ghost use Rattle.std.specs.Fmt.{decimal};
+ghost use Rattle.std.specs.List.{flat_map, list_any};
 ghost use Rattle.pyver_tool.specs.AnswerViews.{outcome_of};
-ghost use Rattle.pyver_tool.specs.Checks.{Checks, ChecksFiles, ReportsFiles, StopsCheck, findings_status, findings_text};
-ghost use Rattle.pyver_tool.specs.FileSteps.{unopened_file_of};
-ghost use Rattle.pyver_findings.specs.Views.{file_of, finding_of, report_of};
+ghost use Rattle.pyver_tool.specs.CheckViews.{check_result_of};
+ghost use Rattle.pyver_tool.specs.Checks.{Checks, ChecksGroup, ChecksGroups, StopsCheck, StopsGroup, StopsGroups, are_several, check_outcome, check_status, findings_text, none_checked, position_text, summary, together_note, unopened_text, with_report, word_groups};
+ghost use Rattle.pyver_tool.specs.FileSteps.{read_of, unopened_file_of};
+ghost use Rattle.pyver_tool.specs.Sources.{source_names};
+ghost use Rattle.pyver_findings.specs.Reports.{spans_files};
+ghost use Rattle.pyver_findings.specs.Views.{finding_of, position_of, report_of};
 
 use crate::answer::Answer;
 use crate::files::Files;
-use crate::open_failure::report_open_failure;
-use crate::requirement_files::{UnopenedFile, read_files};
+use crate::requirement_files::{RequirementFiles, UnopenedFile, read_files};
 use crate::stream::RunFailure;
-use pyver_findings::{Finding, Report, SourceFile, find_problems};
+use pyver_findings::{Finding, Position, Report, find_problems, push_escaped};
 use std::alloc::{AllocError, Global};
 use std::io::Read;
 
-fn findings_status(findings: &[Finding]) -> u8
-    ensures is { result ≡ findings_status (map finding_of findings.now) }
-    ensures low { result ≤ 1 }
+// How files are checked, and what is written of them.
+#[derive(Clone, Copy)]
+pub(crate) struct CheckOptions {
+    // The findings are written as JSON.
+    pub(crate) json: bool,
+    // Each file that a word names is checked by itself, with those that its lines name.
+    pub(crate) each: bool,
+    // No finding is written.
+    pub(crate) quiet: bool,
+}
+
+// What was found so far.
+#[derive(Drop)]
+pub(crate) struct CheckResult {
+    report: Report,
+    unopened: Vec<UnopenedFile>,
+}
+
+fn check_status(unopened: &[UnopenedFile], findings: &[Finding]) -> u8
+    ensures is { result ≡ check_status (map unopened_file_of unopened.now) (map finding_of findings.now) }
+    ensures low { result ≤ 2 }
 {
-    match findings {
-        [] => 0,
-        [_, ..] => 1,
+    match (unopened, findings) {
+        ([], []) => 0,
+        ([], [_, ..]) => 1,
+        ([_, ..], _) => 2,
     }
 }
 
-// The findings, as JSON or as lines.
-fn print_findings(alloc: Global, json: bool, report: &Report) -> Result<Vec<u8>, AllocError>
-    ensures { IfOk result (λ output. output.items ≡ findings_text json (report_of report.now)) }
+fn push_text(bytes: &mut Vec<u8>, text: &str) -> Result<(), AllocError>
+    ensures { IfOk result (λ _. bytes.new.items ≡ bytes.old.items ++ text.now) }
 {
-    if json {
+    bytes.extend_from_slice(text.as_bytes())
+}
+
+fn push_number(alloc: Global, bytes: &mut Vec<u8>, number: u64) -> Result<(), AllocError>
+    ensures { IfOk result (λ _. bytes.new.items ≡ bytes.old.items ++ decimal number) }
+{
+    push_text(bytes, number.to_string(alloc)?.as_str())
+}
+
+fn push_position(
+    alloc: Global,
+    bytes: &mut Vec<u8>,
+    position: &Option<Position>,
+) -> Result<(), AllocError>
+    ensures { IfOk result (λ _. bytes.new.items ≡ bytes.old.items ++ position_text (option_map position_of position.now)) }
+{
+    let Some(position) = position else {
+        return Ok(());
+    };
+    push_escaped(bytes, position.file.as_slice())?;
+    push_text(bytes, ":")?;
+    push_number(alloc, bytes, position.line)?;
+    push_text(bytes, ":")?;
+    push_number(alloc, bytes, position.column as u64)?;
+    push_text(bytes, ": ")
+}
+
+fn push_unopened(alloc: Global, bytes: &mut Vec<u8>, file: &UnopenedFile) -> Result<(), AllocError>
+    ensures { IfOk result (λ _. bytes.new.items ≡ bytes.old.items ++ unopened_text (unopened_file_of file.now)) }
+{
+    push_text(bytes, "pyver: ")?;
+    push_position(alloc, bytes, &file.named.position)?;
+    push_escaped(bytes, file.named.name.as_slice())?;
+    push_text(bytes, ": ")?;
+    push_text(bytes, file.failure.reason())?;
+    push_text(bytes, "\n")
+}
+
+fn push_all_unopened(
+    alloc: Global,
+    bytes: &mut Vec<u8>,
+    unopened: &[UnopenedFile],
+) -> Result<(), AllocError>
+    ensures { IfOk result (λ _. bytes.new.items ≡ bytes.old.items ++ flat_map unopened_text (map unopened_file_of unopened.now)) }
+{
+    for file in unopened {
+        push_unopened(alloc, bytes, file)?;
+    }
+    Ok(())
+}
+
+fn spans_files(findings: &[Finding]) -> bool
+    ensures { result ≡ list_any spans_files (map finding_of findings.now) }
+{
+    for finding in findings {
+        if finding.spans_files() {
+            return true;
+        }
+    }
+    false
+}
+
+fn are_several(words: &[String]) -> bool
+    ensures { result ≡ are_several (map string_bytes words.now) }
+{
+    matches!(words, [_, _, ..])
+}
+
+// That files are taken together, if that matters.
+fn together_note(options: CheckOptions, words: &[String], findings: &[Finding]) -> &'static str
+    ensures { result.now ≡ together_note options (map string_bytes words.now) (map finding_of findings.now) }
+{
+    if options.each {
+        return "";
+    }
+    if !are_several(words) {
+        return "";
+    }
+    if spans_files(findings) {
+        "pyver: files are taken together; --each takes them one by one\n"
+    } else {
+        ""
+    }
+}
+
+// How much was read, and how.
+fn push_summary(
+    alloc: Global,
+    bytes: &mut Vec<u8>,
+    options: CheckOptions,
+    words: &[String],
+    report: &Report,
+) -> Result<(), AllocError>
+    ensures { IfOk result (λ _. bytes.new.items ≡ bytes.old.items ++ summary options (map string_bytes words.now) (report_of report.now)) }
+{
+    if options.quiet {
+        return Ok(());
+    }
+    push_text(
+        bytes,
+        together_note(options, words, report.findings.as_slice()),
+    )?;
+    bytes.extend_from_slice(report.summarize(alloc)?.as_slice())
+}
+
+// The findings, as JSON or as lines.
+fn print_findings(
+    alloc: Global,
+    options: CheckOptions,
+    report: &Report,
+) -> Result<Vec<u8>, AllocError>
+    ensures { IfOk result (λ output. output.items ≡ (if options.quiet then [] else findings_text options.json (report_of report.now))) }
+{
+    if options.quiet {
+        Ok(Vec::new(alloc))
+    } else if options.json {
         report.to_json(alloc)
     } else {
         report.to_text(alloc)
     }
 }
 
-// What is to be written of these files.
-fn report_files(alloc: Global, json: bool, files: &[SourceFile]) -> Result<Answer, AllocError>
-    ensures { IfOk result (λ a. ReportsFiles json (map file_of files.now) (outcome_of a)) }
-{
-    let report = find_problems(alloc, files)?;
-    Ok(Answer {
-        output: print_findings(alloc, json, &report)?,
-        errors: report.summarize(alloc)?,
-        status: findings_status(report.findings.as_slice()),
-    })
-}
+impl CheckResult {
+    // Nothing yet.
+    fn new(alloc: Global) -> CheckResult
+        ensures { check_result_of result ≡ none_checked }
+    {
+        CheckResult {
+            report: Report::empty(alloc),
+            unopened: Vec::new(alloc),
+        }
+    }
 
-fn answer_check(
-    alloc: Global,
-    json: bool,
-    files: &[SourceFile],
-    unopened: Option<&UnopenedFile>,
-) -> Result<Answer, AllocError>
-    ensures { IfOk result (λ a. ChecksFiles json (map file_of files.now) (option_map (λ file. unopened_file_of file.now) unopened.entry) (outcome_of a)) }
-{
-    match unopened {
-        Some(file) => report_open_failure(alloc, file.name.as_slice(), file.failure),
-        None => report_files(alloc, json, files),
+    // One more report, and the files that were not opened for it.
+    fn push(&mut self, report: Report, read: RequirementFiles) -> Result<(), AllocError>
+        ensures { IfOk result (λ _. check_result_of self.new ≡ with_report (read_of read) (check_result_of self.old) (report_of report)) }
+    {
+        let mut unopened = read.unopened;
+        self.report.append(report)?;
+        self.unopened.append(&mut unopened)?;
+        Ok(())
+    }
+
+    // Reads the files that the words name and those that their lines name, and finds what is wrong in them.
+    fn check_group<F: Files, R: Read>(
+        &mut self,
+        alloc: Global,
+        words: &[String],
+        files: &mut F,
+        input: &mut R,
+    ) -> Result<(), RunFailure>
+        ensures checked { IfOk result (λ _. ChecksGroup (F.known files.old) (F.path files.old) R.remaining (source_names (map string_bytes words.now)) (check_result_of self.old) (check_result_of self.new) input.old input.new) }
+        ensures stopped { IfErr result (StopsGroup (F.known files.old) (F.path files.old) R.remaining (source_names (map string_bytes words.now)) input.old input.new) }
+        ensures kept { F.known files.new ≡ F.known files.old }
+        ensures kept_paths { F.path files.new ≡ F.path files.old }
+    {
+        let read = read_files(alloc, words, files, input)?;
+        let report = find_problems(alloc, read.files.as_slice())?;
+        Ok(self.push(report, read)?)
+    }
+
+    // The same for each word by itself.
+    fn check_each<F: Files, R: Read>(
+        &mut self,
+        alloc: Global,
+        words: &[String],
+        files: &mut F,
+        input: &mut R,
+    ) -> Result<(), RunFailure>
+        ensures checked { IfOk result (λ _. ChecksGroups (F.known files.old) (F.path files.old) R.remaining (map (λ word. word ∷ []) (map string_bytes words.now)) (check_result_of self.old) (check_result_of self.new) input.old input.new) }
+        ensures stopped { IfErr result (StopsGroups (F.known files.old) (F.path files.old) R.remaining (map (λ word. word ∷ []) (map string_bytes words.now)) (check_result_of self.old) input.old input.new) }
+        ensures kept { F.known files.new ≡ F.known files.old }
+        ensures kept_paths { F.path files.new ≡ F.path files.old }
+    {
+        let mut rest = words;
+        while let [_, later @ ..] = rest {
+            self.check_group(alloc, &rest[..1], files, input)?;
+            rest = later;
+        }
+        Ok(())
+    }
+
+    // The same for all words together, or for each by itself.
+    fn check_words<F: Files, R: Read>(
+        &mut self,
+        alloc: Global,
+        each: bool,
+        words: &[String],
+        files: &mut F,
+        input: &mut R,
+    ) -> Result<(), RunFailure>
+        ensures checked { IfOk result (λ _. ChecksGroups (F.known files.old) (F.path files.old) R.remaining (word_groups each (map string_bytes words.now)) (check_result_of self.old) (check_result_of self.new) input.old input.new) }
+        ensures stopped { IfErr result (StopsGroups (F.known files.old) (F.path files.old) R.remaining (word_groups each (map string_bytes words.now)) (check_result_of self.old) input.old input.new) }
+        ensures kept { F.known files.new ≡ F.known files.old }
+    {
+        if !each {
+            return self.check_group(alloc, words, files, input);
+        }
+        match words {
+            [] => self.check_group(alloc, words, files, input),
+            [_, ..] => self.check_each(alloc, words, files, input),
+        }
+    }
+
+    fn status(&self) -> u8
+        ensures is { result ≡ check_status (check_result_of self.now).unopened (check_result_of self.now).report.findings }
+        ensures low { result ≤ 2 }
+    {
+        check_status(self.unopened.as_slice(), self.report.findings.as_slice())
+    }
+
+    // The files that were not opened, and how much was read.
+    fn print_errors(
+        &self,
+        alloc: Global,
+        options: CheckOptions,
+        words: &[String],
+    ) -> Result<Vec<u8>, AllocError>
+        ensures { IfOk result (λ errors. errors.items ≡ flat_map unopened_text (check_result_of self.now).unopened ++ summary options (map string_bytes words.now) (check_result_of self.now).report) }
+    {
+        let mut errors = Vec::new(alloc);
+        push_all_unopened(alloc, &mut errors, self.unopened.as_slice())?;
+        push_summary(alloc, &mut errors, options, words, &self.report)?;
+        Ok(errors)
+    }
+
+    // What is to be written.
+    fn print(
+        &self,
+        alloc: Global,
+        options: CheckOptions,
+        words: &[String],
+    ) -> Result<Answer, AllocError>
+        ensures { IfOk result (λ a. outcome_of a ≡ check_outcome options (map string_bytes words.now) (check_result_of self.now)) }
+    {
+        Ok(Answer {
+            output: print_findings(alloc, options, &self.report)?,
+            errors: self.print_errors(alloc, options, words)?,
+            status: self.status(),
+        })
     }
 }
 
-// Reads the files with these names and those that their lines name, and returns what is to be written.
+// Reads the files that the words name and those that their lines name, and returns what is to be written.
 pub(crate) fn check_files<F: Files, R: Read>(
     alloc: Global,
-    json: bool,
-    names: &[String],
+    options: CheckOptions,
+    words: &[String],
     files: &mut F,
     input: &mut R,
 ) -> Result<Answer, RunFailure>
-    ensures finished { IfOk result (λ a. Checks (F.known files.old) (F.path files.old) R.remaining json (map string_bytes names.now) input.old input.new (outcome_of a)) }
-    ensures stopped { IfErr result (StopsCheck (F.known files.old) (F.path files.old) R.remaining (map string_bytes names.now) input.old input.new) }
+    ensures finished { IfOk result (λ a. Checks (F.known files.old) (F.path files.old) R.remaining options (map string_bytes words.now) input.old input.new (outcome_of a)) }
+    ensures stopped { IfErr result (StopsCheck (F.known files.old) (F.path files.old) R.remaining options (map string_bytes words.now) input.old input.new) }
     ensures kept { F.known files.new ≡ F.known files.old }
 {
-    let (read, unopened) = read_files(alloc, names, files, input)?;
-    Ok(answer_check(alloc, json, read.as_slice(), unopened.as_ref())?)
+    let mut found = CheckResult::new(alloc);
+    found.check_words(alloc, options.each, words, files, input)?;
+    Ok(found.print(alloc, options, words)?)
 }

@@ -5,7 +5,7 @@ ghost use Rattle.pyver_tool.specs.TaskViews.{task, words_task};
 ghost use Rattle.pyver_tool.specs.Outcomes.{message_outcome};
 ghost use Rattle.pyver_tool.specs.Settings.{effect, no_settings};
 ghost use Rattle.pyver_tool.specs.SplitViews.{given_of, split_of};
-ghost use Rattle.pyver_tool.specs.Tasks.{Filter, Newest, asks_help, bump_from_words, bump_operands, bump_word, by_effect, by_last, by_split, is_json, printed, task_with};
+ghost use Rattle.pyver_tool.specs.Tasks.{Check, Filter, Newest, asks_help, bump_from_words, bump_operands, bump_word, by_effect, by_last, by_split, check_options, is_json, printed, task_with};
 ghost use Rattle.pyver_tool.specs.TaskViews.{misuse_message};
 ghost use Rattle.pyver_tool.specs.WorkViews.{IsWork};
 
@@ -15,6 +15,7 @@ use crate::allowed::{
 use crate::answer::Answer;
 use crate::bump::{bump_version, parse_bump_part};
 use crate::bump_input::BumpRule;
+use crate::check::CheckOptions;
 use crate::common_range::{RangeOptions, find_common};
 use crate::comparison::{Comparison, compare, parse_comparison};
 use crate::filter::{FilterOptions, FilterRule};
@@ -47,8 +48,8 @@ pub(crate) enum Command<'a> {
     // The number of the last part, the names of the parts, and the version if it is among the words.
     Bump(Option<u64>, &'a [String], Option<&'a str>),
     Range(RangeOptions, &'a [String]),
-    // Whether JSON is asked for, and the names of the files.
-    Check(bool, &'a [String]),
+    // How, and the names of the files.
+    Check(CheckOptions, &'a [String]),
     Misused(Misuse<'a>),
 }
 
@@ -61,8 +62,8 @@ pub(crate) enum Work<'a> {
     Filter(FilterRule, &'a [String]),
     // To read the sources with these names to their ends, of which this is asked.
     Whole(Question, &'a [String]),
-    // To check the files with these names, and to print JSON or not.
-    Check(bool, &'a [String]),
+    // To check the files with these names so.
+    Check(CheckOptions, &'a [String]),
 }
 
 fn is_json(format: ShowFormat) -> bool
@@ -200,6 +201,17 @@ fn parse_bump<'a>(to: Option<u64>, words: &'a [String]) -> Command<'a>
     }
 }
 
+fn parse_check<'a>(settings: Settings, words: &'a [String]) -> Command<'a>
+    ensures { task result ≡ Check (check_options settings) (map string_bytes words.now) }
+{
+    let options = CheckOptions {
+        json: is_json(settings.format),
+        each: settings.each,
+        quiet: settings.quiet,
+    };
+    Command::Check(options, words)
+}
+
 // The command with these settings and operands.
 fn parse_operands<'a>(topic: Topic, settings: Settings, words: &'a [String]) -> Command<'a>
     ensures { task result ≡ task_with settings topic (map string_bytes words.now) }
@@ -214,7 +226,7 @@ fn parse_operands<'a>(topic: Topic, settings: Settings, words: &'a [String]) -> 
         Topic::Show => parse_show(settings, words),
         Topic::Bump => parse_bump(settings.to, words),
         Topic::Range => parse_range(settings, words),
-        Topic::Check => Command::Check(is_json(settings.format), words),
+        Topic::Check => parse_check(settings, words),
     }
 }
 
@@ -300,7 +312,7 @@ impl<'a> Command<'a> {
             Command::Range(options, words) => {
                 Ok(Work::Answer(find_common(alloc, options, words)?))
             }
-            Command::Check(json, names) => Ok(Work::Check(json, names)),
+            Command::Check(options, names) => Ok(Work::Check(options, names)),
             Command::Misused(misuse) => Ok(Work::Answer(report_misuse(alloc, misuse)?)),
         }
     }

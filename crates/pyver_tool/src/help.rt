@@ -38,7 +38,7 @@ const BUMP_USAGE: &str = "pyver bump [--to N] PART.. [V]";
 
 const RANGE_USAGE: &str = "pyver range [--cover] [--json] SPECS..";
 
-const CHECK_USAGE: &str = "pyver check [--json] [FILE..]";
+const CHECK_USAGE: &str = "pyver check [-q] [--each] [--json] [FILE..]";
 
 pub(crate) const VERSION_LINE: &str = "pyver 0.3.0\n";
 
@@ -256,23 +256,26 @@ examples:
   pyver range '>=1.16,!=1.18' '<2' '~=1.17'
 ";
 
-const CHECK_HELP: &str = "usage: pyver check [--json] [FILE..]
+const CHECK_HELP: &str = "usage: pyver check [-q] [--each] [--json] [FILE..]
 
 Prints what is wrong in requirements files: lines that are no requirements, lines that no version
 satisfies together, and versions that one line names and another excludes. '-' and no file mean
 standard input. Files that lines name after -r and -c are read too, each once; their paths are
 relative to the file that names them. Lines with different markers do not count together.
 Standard error says how much was read, and how much was left out: options of pip, editables, paths,
-archives, URLs, and lines with a variable. The exit status is 0 if nothing is wrong, and 1 if
-something is. If a file cannot be opened, only that is reported, and the exit status is 2.
+archives, URLs, and lines with a variable. The exit status is 0 if nothing is wrong, 1 if something
+is, and 2 if a file cannot be opened; the other files are checked all the same.
 
 options:
-  --json  print an array of what is wrong
-  --      end of options
+  -q, --quiet  print nothing; files that cannot be opened are named
+  --each       check each file by itself, with those that its lines name
+  --json       print an array of what is wrong
+  --           end of options
 
 examples:
   pyver check requirements.txt
   pyver check lock.txt constraints.txt
+  pyver check --each */requirements.txt
   pip freeze | pyver check --json
 ";
 

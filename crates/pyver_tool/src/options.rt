@@ -133,6 +133,14 @@ const RANGE_JSON: OptionRow = (
 
 const CHECK_JSON: OptionRow = ("", "--json", "", &[], "print an array of what is wrong");
 
+const EACH: OptionRow = (
+    "",
+    "--each",
+    "",
+    &[],
+    "check each file by itself, with those that its lines name",
+);
+
 const COMPARE_OPTIONS: &[OptionRow] = &[HELP];
 
 const MATCH_OPTIONS: &[OptionRow] = &[HELP, QUIET, PRE, NO_PRE];
@@ -160,7 +168,7 @@ const BUMP_OPTIONS: &[OptionRow] = &[HELP, TO];
 
 const RANGE_OPTIONS: &[OptionRow] = &[HELP, COVER, RANGE_JSON];
 
-const CHECK_OPTIONS: &[OptionRow] = &[HELP, CHECK_JSON];
+const CHECK_OPTIONS: &[OptionRow] = &[HELP, QUIET, EACH, CHECK_JSON];
 
 // The options of the command.
 pub(crate) fn options(topic: Topic) -> &'static [OptionRow]

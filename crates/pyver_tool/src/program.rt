@@ -1,10 +1,11 @@
 // The program over any reader and any writers.
-ghost use Rattle.std.specs.Prelude.{◌≡◌, ◌⊎◌, ◌≤◌, Bool, List, ℕ, map, string_bytes};
+ghost use Rattle.std.specs.Prelude.{◌≡◌, ◌⊎◌, ◌≤◌, List, ℕ, map, string_bytes};
 ghost use Rattle.pyver_tool.specs.AnswerViews.{outcome_of};
 ghost use Rattle.pyver_tool.specs.Checks.{EndsCheck};
 ghost use Rattle.pyver_tool.specs.Runs.{Ends, IsWriteFailure, WritesAnswer, WroteBeginning, memory_message};
 ghost use Rattle.pyver_tool.specs.SourceViews.{Reports};
 ghost use Rattle.pyver_tool.specs.Tasks.{Check, IsCheck, task_of};
+ghost use Rattle.pyver_tool.specs.declared.check.CheckOptions.{CheckOptions};
 
 use crate::answer::Answer;
 use crate::check::check_files;
@@ -83,7 +84,7 @@ fn report_run_failure<E: Write>(failure: RunFailure, err: &mut E) -> u8
 /// with a valid list, read `input` and open files, and `bump` without a version reads `input`.
 ///
 /// With 0, 1 or 2 both outputs are those of the outcome, and a command that reads has read all, or all before a file that is
-/// not opened. If such a command ends with 3, 4 or 141, `out` got a prefix of the outcome of the first lines read, and `err` a
+/// not opened, where `check` goes on. If such a command ends with 3, 4 or 141, `out` got a prefix of the outcome of the first lines read, and `err` a
 /// prefix of its errors and of the last message, which names the source if a read failed; `sort`, `newest` and `bump` wrote a prefix of the
 /// outcome of all input, or nothing; `check` a prefix of its report, or only of a message. A command that reads nothing wrote with 3 a prefix
 /// of the message; with 4 or 141 a prefix of its output and, with 4, of a message, or all output and a prefix of its errors.
@@ -96,7 +97,7 @@ pub fn run<F: Files, R: Read, W: Write, E: Write>(
     err: &mut E,
 ) -> u8
     ensures command { ¬ IsCheck (task_of (map string_bytes words.now)) → Ends F.known R.remaining W.contents E.contents (map string_bytes words.now) files.old files.new input.old input.new out.old out.new err.old err.new result }
-    ensures check { (json : Bool) (names : List (List ℕ)) → task_of (map string_bytes words.now) ≡ Check json names → EndsCheck F.known F.path R.remaining W.contents E.contents json names files.old files.new input.old input.new out.old out.new err.old err.new result }
+    ensures check { (options : CheckOptions) (names : List (List ℕ)) → task_of (map string_bytes words.now) ≡ Check options names → EndsCheck F.known F.path R.remaining W.contents E.contents options names files.old files.new input.old input.new out.old out.new err.old err.new result }
 {
     let Ok(read) = Words::read(alloc, words) else {
         return refuse(err);
@@ -115,7 +116,7 @@ pub fn run<F: Files, R: Read, W: Write, E: Write>(
                 Err(failure) => report_run_failure(failure, err),
             }
         }
-        Ok(Work::Check(json, names)) => match check_files(alloc, json, names, files, input) {
+        Ok(Work::Check(options, names)) => match check_files(alloc, options, names, files, input) {
             Ok(answer) => write_answer(&answer, out, err),
             Err(failure) => report_run_failure(failure, err),
         },

@@ -1,17 +1,16 @@
 // The requirements files that `check` reads, those that the words name and those that their lines name.
-ghost use Rattle.std.specs.Prelude.{◌≡◌, IfErr, IfOk, map, string_bytes};
-ghost use Rattle.std.specs.Option.{option_map};
-ghost use Rattle.pyver_tool.specs.FileSteps.{unopened_file_of};
-ghost use Rattle.pyver_tool.specs.RequirementFiles.{IsSourcePath, ReadsFiles, StopsInFiles};
+ghost use Rattle.std.specs.Prelude.{◌≡◌, ◌∷◌, ◌++◌, [], IfErr, IfOk, map, string_bytes};
+ghost use Rattle.pyver_tool.specs.FileSteps.{read_of};
+ghost use Rattle.pyver_tool.specs.RequirementFiles.{IsSourcePath, ReadsFiles, StopsInFiles, word_file};
 ghost use Rattle.pyver_tool.specs.Sources.{is_input, source_names};
-ghost use Rattle.pyver_findings.specs.Views.{file_of};
+ghost use Rattle.pyver_findings.specs.Views.{named_file_of};
 
 use crate::files::Files;
 use crate::open_failure::OpenFailure;
 use crate::origin::is_input;
 use crate::source_texts::read_text;
 use crate::stream::RunFailure;
-use pyver_findings::{SourceFile, push_named_files};
+use pyver_findings::{NamedFile, SourceFile, push_named_files};
 use std::alloc::{AllocError, Global};
 use std::io::Read;
 use std::str;
@@ -19,41 +18,53 @@ use std::str;
 // Requirements files that were read, and the names that were met.
 #[derive(Drop)]
 pub(crate) struct RequirementFiles {
-    files: Vec<SourceFile>,
+    pub(crate) files: Vec<SourceFile>,
     // The path of each of them.
     paths: Vec<String>,
     // First those of the words, and then those that the lines of each file name.
-    names: Vec<Vec<u8>>,
+    names: Vec<NamedFile>,
+    pub(crate) unopened: Vec<UnopenedFile>,
     read_count: u64,
 }
 
 // A file that was not opened.
 #[derive(Drop)]
 pub(crate) struct UnopenedFile {
-    pub(crate) name: Vec<u8>,
+    pub(crate) named: NamedFile,
     pub(crate) failure: OpenFailure,
 }
 
-fn copy_all(alloc: Global, names: &[String]) -> Result<Vec<Vec<u8>>, AllocError>
-    ensures { IfOk result (λ copies. map (λ name. name.items) copies.items ≡ map string_bytes names.now) }
+fn push_word(alloc: Global, names: &mut Vec<NamedFile>, word: &[u8]) -> Result<(), AllocError>
+    ensures { IfOk result (λ _. map named_file_of names.new.items ≡ map named_file_of names.old.items ++ word_file word.now ∷ []) }
 {
-    let mut copies = Vec::new(alloc);
-    for name in names {
-        copies.push(Vec::from_slice(alloc, name.as_bytes())?)?;
-    }
-    Ok(copies)
+    names.push(NamedFile {
+        name: Vec::from_slice(alloc, word)?,
+        position: None,
+    })?;
+    Ok(())
 }
 
-// The names that the words denote: these, or standard input where there are none.
-fn copy_names(alloc: Global, names: &[String]) -> Result<Vec<Vec<u8>>, AllocError>
-    ensures { IfOk result (λ copies. map (λ name. name.items) copies.items ≡ source_names (map string_bytes names.now)) }
+fn push_words(alloc: Global, names: &mut Vec<NamedFile>, words: &[String]) -> Result<(), AllocError>
+    ensures { IfOk result (λ _. map named_file_of names.new.items ≡ map named_file_of names.old.items ++ map word_file (map string_bytes words.now)) }
 {
-    if !names.is_empty() {
-        return copy_all(alloc, names);
+    for word in words {
+        push_word(alloc, names, word.as_bytes())?;
     }
-    let mut copies = Vec::new(alloc);
-    copies.push(Vec::from_slice(alloc, b"-")?)?;
-    Ok(copies)
+    Ok(())
+}
+
+// The files that the words name, or standard input where there are none.
+fn push_sources(
+    alloc: Global,
+    names: &mut Vec<NamedFile>,
+    words: &[String],
+) -> Result<(), AllocError>
+    ensures { IfOk result (λ _. map named_file_of names.new.items ≡ map named_file_of names.old.items ++ map word_file (source_names (map string_bytes words.now))) }
+{
+    match words {
+        [] => push_word(alloc, names, b"-"),
+        [_, ..] => push_words(alloc, names, words),
+    }
 }
 
 // The path of the source: of standard input its name.
@@ -72,20 +83,21 @@ fn source_path<F: Files>(alloc: Global, name: &str, files: &mut F) -> Result<Str
 impl RequirementFiles {
     ghost use Rattle.std.specs.Prelude.{◌<◌, List, ℕ};
     ghost use Rattle.std.specs.Io.KnownBytes.{Consumes};
-    ghost use Rattle.pyver_tool.specs.FileSteps.{GainsFile, HasReads, OpensOrRefused, GainsText, StepsOrRefused, names_of_files, read_of};
-    ghost use Rattle.pyver_tool.specs.RequirementFiles.{StopsInFile, has_path, none_read};
+    ghost use Rattle.pyver_tool.specs.FileSteps.{GainsFile, GainsUnopened, HasReads, OpensOrRefused, GainsText, ReadsStep, StepsOrRefused, names_of_files};
+    ghost use Rattle.pyver_tool.specs.RequirementFiles.{ReadsNames, StopsInFile, StopsInNames, has_path, none_read};
     ghost use Rattle.pyver_tool.specs.SourceViews.{IsReadingFailure};
 
     // Nothing was read yet.
-    fn new(alloc: Global, names: Vec<Vec<u8>>) -> RequirementFiles
+    fn new(alloc: Global, names: Vec<NamedFile>) -> RequirementFiles
         ensures read { read_of result ≡ none_read }
-        ensures names { names_of_files result ≡ map (λ name. name.items) names.items }
+        ensures names { names_of_files result ≡ map named_file_of names.items }
         ensures count { result.read_count ≡ 0 }
     {
         RequirementFiles {
             files: Vec::new(alloc),
             paths: Vec::new(alloc),
             names,
+            unopened: Vec::new(alloc),
             read_count: 0,
         }
     }
@@ -209,45 +221,74 @@ impl RequirementFiles {
         }
     }
 
-    // Reads the sources with the names in turn, up to one that is not opened.
+    // One more that was not opened.
+    fn push_unopened(&mut self, named: NamedFile, failure: OpenFailure) -> Result<(), AllocError>
+        ensures { IfOk result (λ _. GainsUnopened self.old self.new (named_file_of named) failure) }
+    {
+        self.unopened.push(UnopenedFile { named, failure })?;
+        Ok(())
+    }
+
+    // Reads the source with this name, unless it was read before or is not opened.
+    fn read_named<F: Files, R: Read>(
+        &mut self,
+        alloc: Global,
+        named: NamedFile,
+        files: &mut F,
+        input: &mut R,
+    ) -> Result<(), RunFailure>
+        requires { HasReads self.old }
+        ensures read { IfOk result (λ _. ReadsStep (F.known files.old) (F.path files.old) R.remaining (named_file_of named) self.old self.new input.old input.new) }
+        ensures stopped { IfErr result (StopsInFile (F.known files.old) R.remaining (named_file_of named).name input.old input.new) }
+        ensures kept { F.known files.new ≡ F.known files.old }
+        ensures kept_paths { F.path files.new ≡ F.path files.old }
+    {
+        match self.read_next(alloc, named.name.as_slice(), files, input)? {
+            None => Ok(()),
+            Some(failure) => Ok(self.push_unopened(named, failure)?),
+        }
+    }
+
+    // Reads the sources with the names in turn, and those that are named on the way.
     fn read_all<F: Files, R: Read>(
         &mut self,
         alloc: Global,
         files: &mut F,
         input: &mut R,
-    ) -> Result<Option<UnopenedFile>, RunFailure>
+    ) -> Result<(), RunFailure>
         requires new { (read_of self.old ≡ none_read) × (self.old.read_count ≡ 0) }
-        ensures read { IfOk result (λ unopened. ReadsFiles (F.known files.old) (F.path files.old) R.remaining (names_of_files self.old) input.old input.new (record { files = map file_of self.new.files.items; unopened = option_map unopened_file_of unopened })) }
-        ensures stopped { IfErr result (StopsInFiles (F.known files.old) (F.path files.old) R.remaining (names_of_files self.old) input.old input.new) }
+        ensures read { IfOk result (λ _. ReadsNames (F.known files.old) (F.path files.old) R.remaining (names_of_files self.old) input.old input.new (read_of self.new)) }
+        ensures stopped { IfErr result (StopsInNames (F.known files.old) (F.path files.old) R.remaining (names_of_files self.old) input.old input.new) }
         ensures kept { F.known files.new ≡ F.known files.old }
+        ensures kept_paths { F.path files.new ≡ F.path files.old }
     {
         let mut index = 0;
         let mut count = self.names.len();
         while index < count {
-            let name = Vec::from_slice(alloc, self.names[index].as_slice())?;
-            match self.read_next(alloc, name.as_slice(), files, input)? {
-                None => index += 1,
-                Some(failure) => return Ok(Some(UnopenedFile { name, failure })),
-            }
+            let named = self.names[index].clone()?;
+            self.read_named(alloc, named, files, input)?;
+            index += 1;
             count = self.names.len();
         }
-        Ok(None)
+        Ok(())
     }
 }
 
-// Reads the files with these names, and then those that their lines name, each once, up to one that is not opened.
+// Reads the files that the words name, and then those that their lines name, each once.
 pub(crate) fn read_files<F: Files, R: Read>(
     alloc: Global,
-    names: &[String],
+    words: &[String],
     files: &mut F,
     input: &mut R,
-) -> Result<(Vec<SourceFile>, Option<UnopenedFile>), RunFailure>
-    ensures read { IfOk result (λ found. ReadsFiles (F.known files.old) (F.path files.old) R.remaining (source_names (map string_bytes names.now)) input.old input.new (record { files = map file_of found.0.items; unopened = option_map unopened_file_of found.1 })) }
-    ensures stopped { IfErr result (StopsInFiles (F.known files.old) (F.path files.old) R.remaining (source_names (map string_bytes names.now)) input.old input.new) }
+) -> Result<RequirementFiles, RunFailure>
+    ensures read { IfOk result (λ state. ReadsFiles (F.known files.old) (F.path files.old) R.remaining (source_names (map string_bytes words.now)) input.old input.new (read_of state)) }
+    ensures stopped { IfErr result (StopsInFiles (F.known files.old) (F.path files.old) R.remaining (source_names (map string_bytes words.now)) input.old input.new) }
     ensures kept { F.known files.new ≡ F.known files.old }
+    ensures kept_paths { F.path files.new ≡ F.path files.old }
 {
-    let names = copy_names(alloc, names)?;
+    let mut names = Vec::new(alloc);
+    push_sources(alloc, &mut names, words)?;
     let mut state = RequirementFiles::new(alloc, names);
-    let unopened = state.read_all(alloc, files, input)?;
-    Ok((state.files, unopened))
+    state.read_all(alloc, files, input)?;
+    Ok(state)
 }

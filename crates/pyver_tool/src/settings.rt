@@ -22,6 +22,7 @@ pub(crate) struct Settings {
     pub(crate) format: ShowFormat,
     pub(crate) to: Option<u64>,
     pub(crate) cover: bool,
+    pub(crate) each: bool,
 }
 
 // A number from 1.
@@ -75,6 +76,7 @@ impl Settings {
             format: ShowFormat::Normal,
             to: None,
             cover: false,
+            each: false,
         }
     }
 
@@ -95,6 +97,7 @@ impl Settings {
             "--part" => settings.format = ShowFormat::Part(parse_part(value)?),
             "--to" => settings.to = Some(parse_number(value)?),
             "--cover" => settings.cover = true,
+            "--each" => settings.each = true,
             _ => settings.lines = with_line_option(settings.lines, name, value)?,
         }
         Some(settings)

@@ -17,7 +17,7 @@ returns-in-Ok-Answer-clause-command g c =
 pub returns-in-Ok-Answer-clause-check : goal.returns-in-Ok-Answer-clause-check
 returns-in-Ok-Answer-clause-check g c =
     let is = subst (λ t. IsWork t (work.Answer c.in-Ok-Answer.answer)) (c.parse.ensures ∙ c.in-Ok.ensures) (subst (λ w. IsWork (task c.parse.result) w) c.in-Ok-Answer.field-0-is c.in-Ok-Answer.ensures) in
-    λ json names so. no_outcome_of_check _ json names _ so (is.1 no_input)
+    λ options names so. no_outcome_of_check _ options names _ so (is.1 no_input)
 
 pub returns-in-Ok-Filter-clause-command : goal.returns-in-Ok-Filter-clause-command
 returns-in-Ok-Filter-clause-command g c =
@@ -37,8 +37,8 @@ returns-in-Ok-Whole-clause-command g c =
 
 pub returns-in-Ok-Check-clause-check : goal.returns-in-Ok-Check-clause-check
 returns-in-Ok-Check-clause-check g c =
-    let is = subst (λ t. IsWork t (work.Check c.in-Ok-Check.json c.in-Ok-Check.names)) (c.parse.ensures ∙ c.in-Ok.ensures) (subst (λ w. IsWork (task c.parse.result) w) c.in-Ok-Check.field-0-is c.in-Ok-Check.ensures) in
-    λ json names so. ends_unchecked _ _ _ _ _ _ json c.in-Ok-Check.json names (map string_bytes c.in-Ok-Check.names.now) c.args.files.now c.check_files.new.files c.args.input.now c.check_files.new.input c.args.out.now c.args.out.now c.args.err.now c.report_run_failure-in-Err-check_files.new.err c.report_run_failure-in-Err-check_files.result so
+    let is = subst (λ t. IsWork t (work.Check c.in-Ok-Check.options c.in-Ok-Check.names)) (c.parse.ensures ∙ c.in-Ok.ensures) (subst (λ w. IsWork (task c.parse.result) w) c.in-Ok-Check.field-0-is c.in-Ok-Check.ensures) in
+    λ options names so. ends_unchecked _ _ _ _ _ _ options c.in-Ok-Check.options names (map string_bytes c.in-Ok-Check.names.now) c.args.files.now c.check_files.new.files c.args.input.now c.check_files.new.input c.args.out.now c.args.out.now c.args.err.now c.report_run_failure-in-Err-check_files.new.err c.report_run_failure-in-Err-check_files.result so
     c.in-Err-check_files.failure c.report_run_failure-in-Err-check_files.ensures.0 is c.in-Err-check_files.ensures.kept c.in-Err-check_files.ensures.stopped refl c.report_run_failure-in-Err-check_files.ensures.1 c.report_run_failure-in-Err-check_files.ensures.2
 
 pub returns-clause-command : goal.returns-clause-command
@@ -47,7 +47,7 @@ returns-clause-command g c =
 
 pub returns-clause-check : goal.returns-clause-check
 returns-clause-check g c =
-    λ json names so. ends_unread _ _ _ _ _ json names c.args.files.now c.args.input.now c.args.out.now c.args.err.now c.refuse-in-Err.new.err c.refuse-in-Err.result c.refuse-in-Err.ensures.status c.refuse-in-Err.ensures.written
+    λ options names so. ends_unread _ _ _ _ _ options names c.args.files.now c.args.input.now c.args.out.now c.args.err.now c.refuse-in-Err.new.err c.refuse-in-Err.result c.refuse-in-Err.ensures.status c.refuse-in-Err.ensures.written
 
 pub returns-in_default-clause-command : goal.returns-in_default-clause-command
 returns-in_default-clause-command g c =
@@ -55,4 +55,4 @@ returns-in_default-clause-command g c =
 
 pub returns-in_default-clause-check : goal.returns-in_default-clause-check
 returns-in_default-clause-check g c =
-    λ json names so. ends_unread _ _ _ _ _ json names c.args.files.now c.args.input.now c.args.out.now c.args.err.now c.refuse.new.err c.refuse.result c.refuse.ensures.status c.refuse.ensures.written
+    λ options names so. ends_unread _ _ _ _ _ options names c.args.files.now c.args.input.now c.args.out.now c.args.err.now c.refuse.new.err c.refuse.result c.refuse.ensures.status c.refuse.ensures.written

@@ -3,7 +3,7 @@ use Rattle.std.proofs.lemmas.Result.{IfOk-weaker}
 use Rattle.pyver_requirements.proofs.Joining.{lines_left, room_more, room_none}
 use Rattle.pyver_requirements.specs.LineViews.{lines_with}
 use Rattle.pyver_requirements.specs.LogicalLines.{filled, joined_from, physical_lines}
-use Rattle.pyver_requirements.proofs.logical_line.logical_lines.Goals as goal
+use Rattle.pyver_requirements.proofs.logical_line.join_lines.Goals as goal
 
 pub loop-rest-init : goal.loop-rest-init
 loop-rest-init c = record {

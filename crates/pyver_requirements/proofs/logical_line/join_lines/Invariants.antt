@@ -2,12 +2,12 @@ use Rattle.std.proofs.Common.{◌≡◌, ◌+◌, length}
 use Rattle.std.specs.Option.{option_map_or}
 use Rattle.pyver_requirements.proofs.Joining.{HasRoom, lines_left}
 use Rattle.pyver_requirements.specs.LineViews.{lines_with}
-use Rattle.pyver_requirements.specs.LogicalLines.{logical_lines}
-use Rattle.pyver_requirements.proofs.logical_line.logical_lines.Given as goal
+use Rattle.pyver_requirements.specs.LogicalLines.{joined_lines}
+use Rattle.pyver_requirements.proofs.logical_line.join_lines.Given as goal
 
 abbrev pub invariant-loop-rest : goal.invariant-loop-rest
 invariant-loop-rest l = record {
-  lines : lines_with l.joiner (lines_left l.rest) ≡ logical_lines l.text;
+  lines : lines_with l.joiner (lines_left l.rest) ≡ joined_lines l.text;
   room : HasRoom l.joiner.next l.rest;
 }
 
