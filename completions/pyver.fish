@@ -62,5 +62,7 @@ complete -c pyver -n '__fish_seen_subcommand_from range' -l json -d 'print an ar
 
 complete -c pyver -n __fish_use_subcommand -a check -d 'check requirements files'
 complete -c pyver -n '__fish_seen_subcommand_from check' -s h -l help -d 'print this help'
+complete -c pyver -n '__fish_seen_subcommand_from check' -s q -l quiet -d 'print nothing; files that cannot be opened are named'
+complete -c pyver -n '__fish_seen_subcommand_from check' -l each -d 'check each file by itself, with those that its lines name'
 complete -c pyver -n '__fish_seen_subcommand_from check' -l json -d 'print an array of what is wrong'
 complete -c pyver -n '__fish_seen_subcommand_from check' -F

@@ -1,5 +1,5 @@
 use Rattle.std.proofs.Common.{◌∙◌, map, refl, string_bytes, subst}
-use Rattle.pyver_tool.proofs.CheckEnds.{ends_unchecked, ends_unread, no_outcome_of_check}
+use Rattle.pyver_tool.proofs.CheckEnds.{ends_checked, ends_unchecked, ends_unread, no_outcome_of_check}
 use Rattle.pyver_tool.proofs.RunEnds.{ends_at_once, ends_by_answer, ends_by_stop, ends_by_whole_stop, filter_began}
 use Rattle.pyver_tool.specs.AnswerViews.{outcome_of}
 use Rattle.pyver_tool.specs.Sources.{no_input}
@@ -40,6 +40,12 @@ returns-in-Ok-Check-clause-check g c =
     let is = subst (λ t. IsWork t (work.Check c.in-Ok-Check.options c.in-Ok-Check.names)) (c.parse.ensures ∙ c.in-Ok.ensures) (subst (λ w. IsWork (task c.parse.result) w) c.in-Ok-Check.field-0-is c.in-Ok-Check.ensures) in
     λ options names so. ends_unchecked _ _ _ _ _ _ options c.in-Ok-Check.options names (map string_bytes c.in-Ok-Check.names.now) c.args.files.now c.check_files.new.files c.args.input.now c.check_files.new.input c.args.out.now c.args.out.now c.args.err.now c.report_run_failure-in-Err-check_files.new.err c.report_run_failure-in-Err-check_files.result so
     c.in-Err-check_files.failure c.report_run_failure-in-Err-check_files.ensures.0 is c.in-Err-check_files.ensures.kept c.in-Err-check_files.ensures.stopped refl c.report_run_failure-in-Err-check_files.ensures.1 c.report_run_failure-in-Err-check_files.ensures.2
+
+pub returns-in-Ok-check_files-clause-check : goal.returns-in-Ok-check_files-clause-check
+returns-in-Ok-check_files-clause-check g c =
+    let is = subst (λ t. IsWork t (work.Check c.in-Ok-Check.options c.in-Ok-Check.names)) (c.parse.ensures ∙ c.in-Ok.ensures) (subst (λ w. IsWork (task c.parse.result) w) c.in-Ok-Check.field-0-is c.in-Ok-Check.ensures) in
+    λ options names so. ends_checked _ _ _ _ _ _ options c.in-Ok-Check.options names (map string_bytes c.in-Ok-Check.names.now) c.args.files.now c.check_files.new.files c.args.input.now c.check_files.new.input c.args.out.now c.write_answer-in-Ok-check_files.new.out c.args.err.now c.write_answer-in-Ok-check_files.new.err c.write_answer-in-Ok-check_files.result so
+    (outcome_of c.in-Ok-check_files.answer) is c.in-Ok-check_files.ensures.kept c.in-Ok-check_files.ensures.finished c.write_answer-in-Ok-check_files.ensures
 
 pub returns-clause-command : goal.returns-clause-command
 returns-clause-command g c =
