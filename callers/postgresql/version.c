@@ -119,6 +119,17 @@ struct varlena *read_version(Bytes text, Node *context)
     return make_version((Bytes){buffer.bytes, length});
 }
 
+/* Most numbers have one or two digits. */
+static char *put_number(char *out, uint64 number)
+{
+    if (number >= 100)
+        return out + pg_ulltoa_n(number, out);
+    if (number >= 10)
+        *out++ = (char)('0' + number / 10);
+    *out++ = (char)('0' + number % 10);
+    return out;
+}
+
 /* The normal form of a release alone, whose epoch is 0: the numbers of its key with dots between them, and the zeros at its end. The library would parse
    the key again, in ten times the instructions. */
 static char *release_text(const Version *version)
@@ -130,7 +141,7 @@ static char *release_text(const Version *version)
         uint64 number = 0;
         for (int left = *at++ - 1; left > 0; left--)
             number = number << 8 | *at++;
-        out += pg_ulltoa_n(number, out);
+        out = put_number(out, number);
         *out++ = '.';
     }
     for (; zeros > 0; zeros--)
