@@ -1,16 +1,19 @@
-//! Test cases of specifiers, lists, ranges, bounds and JSON strings, read from standard input; `stdin` beside `src/` says what each call
-//! prints.
+//! Test cases of specifiers, lists, ranges, bounds and JSON strings, of the version that a list contains, of requirements and of
+//! the newest candidate, read from standard input; `stdin` beside `src/` says what each call prints.
 #![tactic(auto)]
 
 mod bounds;
+mod choices;
 mod json;
 mod matching;
 mod operators;
 mod parsers;
 mod ranges;
+mod requirements;
 mod witness;
 
 use bounds::{lower_bound, pairs, upper_bound};
+use choices::{allowed_range, newest_candidate};
 use json::{
     json_list, json_specifier, json_version, list_of_json, specifier_of_json, version_of_json,
 };
@@ -21,6 +24,7 @@ use matching::{
 use operators::{operator, operator_number, operator_of_number};
 use parsers::{list, list_of, members, specifier};
 use ranges::{beside, cover, cover_beside, intersection, range, release_range, unchecked_range};
+use requirements::{is_name, requirement, same_names, specifiers_for};
 use std::alloc::Global;
 use std::io;
 use testing::{Calls, CaseError, run_cases};
@@ -48,6 +52,8 @@ fn of_one(alloc: Global, call: &str, text: &str) -> Result<String, CaseError> {
         "version-of-json" => version_of_json(alloc, text),
         "specifier-of-json" => specifier_of_json(alloc, text),
         "list-of-json" => list_of_json(alloc, text),
+        "is-name" => is_name(alloc, text),
+        "requirement" => requirement(alloc, text),
         _ => Err(CaseError::Unreadable),
     }
 }
@@ -64,6 +70,9 @@ fn of_two(alloc: Global, call: &str, one: &str, other: &str) -> Result<String, C
         "unchecked-range" => unchecked_range(alloc, one, other),
         "beside" => beside(alloc, one, other),
         "cover-beside" => cover_beside(alloc, one, other),
+        "same-names" => same_names(alloc, one, other),
+        "specifiers-for" => specifiers_for(alloc, one, other),
+        "newest" => newest_candidate(alloc, one, other),
         _ => Err(CaseError::Unreadable),
     }
 }
@@ -80,6 +89,7 @@ impl Calls for SpecifierCalls {
                 version.as_str(),
             ),
             ("intersection", sides) => intersection(alloc, sides),
+            ("allowed", [name, lines @ ..]) => allowed_range(alloc, name.as_str(), lines),
             (_, [text]) => of_one(alloc, call, text.as_str()),
             (_, [one, other]) => of_two(alloc, call, one.as_str(), other.as_str()),
             _ => Err(CaseError::Unreadable),

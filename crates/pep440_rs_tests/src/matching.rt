@@ -9,7 +9,8 @@ use std::alloc::{AllocError, Global};
 use std::cmp::Ordering;
 use testing::{CaseError, equals_copy, print_value, version_argument};
 
-fn yes_or_no(alloc: Global, answer: bool) -> Result<String, CaseError> {
+/// `yes` or `no`.
+pub fn yes_or_no(alloc: Global, answer: bool) -> Result<String, CaseError> {
     Ok(String::from_str(alloc, if answer { "yes" } else { "no" })?)
 }
 

@@ -1,7 +1,22 @@
-//! Requirements.
+//! Requirements and their names.
+use crate::matching::yes_or_no;
 use pep440_pick::{Requirement, RequirementError};
 use std::alloc::Global;
 use testing::{CaseError, copy, equals_copy, print_value};
+
+/// Whether the text is a name.
+pub fn is_name(alloc: Global, text: &str) -> Result<String, CaseError> {
+    yes_or_no(alloc, pep440_pick::is_name(text))
+}
+
+/// Whether the names are the same, either way round.
+pub fn same_names(alloc: Global, one: &str, other: &str) -> Result<String, CaseError> {
+    let answer = pep440_pick::same_name(one, other);
+    if pep440_pick::same_name(other, one) != answer {
+        return Err(CaseError::Disagreement);
+    }
+    yes_or_no(alloc, answer)
+}
 
 // The error's name and its message.
 fn error_text(alloc: Global, error: &RequirementError) -> Result<String, CaseError> {
