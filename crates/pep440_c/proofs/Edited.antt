@@ -2,7 +2,7 @@
 use Rattle.std.proofs.Common.{Bor, String, Global, ◌≡◌, ◌<◌, ◌+◌, ◌∙◌, ℕ, List, [], ◌∷◌, ◌++◌, Ok, Err, Result, length, get_or, take, map, refl, ap, subst, inl, inr, string_bytes}
 use Rattle.std.proofs.lemmas.List.{get_or_default, map-append}
 use Rattle.std.specs.List.{AllZip}
-use Rattle.pep440_change_words.specs.ErrorTexts.{not_a_change_text}
+use Rattle.pep440_version.specs.ChangeWords.{not_a_change_text}
 use Rattle.pep440_version.specs.Sentinels.{print_with_sentinels}
 use Rattle.pep440_version.specs.Changes.{edit}
 use Rattle.pep440_version.specs.ErrorTexts.{change_error_text}

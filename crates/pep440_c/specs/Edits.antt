@@ -2,8 +2,7 @@
 use Rattle.std.specs.Prelude.{◌≡◌, ◌⊎◌, ◌+◌, ℕ, List, [], length, Some, None, Result, Ok, Err, IsSomeAnd, slice_get, take}
 use Rattle.std.specs.List.{All, AllZip}
 use Rattle.std.specs.Str.{IsUtf8}
-use Rattle.pep440_change_words.specs.ChangeWords.{change_of}
-use Rattle.pep440_change_words.specs.ErrorTexts.{not_a_change_text}
+use Rattle.pep440_version.specs.ChangeWords.{change_of, not_a_change_text}
 use Rattle.pep440_version.specs.Sentinels.{print_with_sentinels}
 use Rattle.pep440_version.specs.Changes.{Edit, apply_edits}
 use Rattle.pep440_version.specs.ErrorTexts.{change_error_text}

@@ -1,8 +1,8 @@
 //! A version and changes of it, as words.
 ghost use Rattle.std.specs.Prelude.{◌≡◌, List, map, Err, IfErr, IfOk, Ok, string_bytes};
 ghost use Rattle.std.specs.List.{AllZip};
-ghost use Rattle.pep440_change_words.specs.ErrorTexts.{not_a_change_text};
-ghost use Rattle.pep440_change_words.specs.declared.error.ChangeWordError.TheVariants.{NotAChange};
+ghost use Rattle.pep440_version.specs.ChangeWords.{not_a_change_text};
+ghost use Rattle.pep440_version.specs.declared.change_word.ChangeWordError.TheVariants.{NotAChange};
 ghost use Rattle.pep440_version.specs.Changes.{edit};
 ghost use Rattle.pep440_version.specs.Record.{Record};
 ghost use Rattle.pep440_c.specs.Edits.{MeansChange, RefusesChange, ChangesTo, GivesEdit, GivesEdited, IsEditError, IsEdited, RefusesChangeAt, OfVersion, edit_status};
@@ -12,8 +12,8 @@ ghost use Rattle.pep440_c.specs.declared.edits.EditError.TheVariants.{OutOfMemor
 
 use crate::messages::explain_version;
 use crate::texts::{Fault, read};
-use pep440_change_words::{ChangeWordError, parse_change};
 use pep440_rs::{Change, ChangeError, Version, WithSentinels};
+use pep440_version::{ChangeWordError, parse_change};
 use std::alloc::{AllocError, AllocFailed, Global};
 
 /// Why there is no edited version.

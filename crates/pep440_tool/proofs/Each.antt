@@ -21,7 +21,7 @@ use Rattle.pep440_version.specs.Record.{Record}
 use Rattle.pep440_tool.specs.Lines.{LineMeans, ShowsContained, numbered_lines}
 use Rattle.pep440_tool.specs.Picks.{CandidateMeans, PickAnswer}
 use Rattle.pep440_tool.specs.Texts.{line}
-use Rattle.pep440_change_words.proofs.Items.{rest_is}
+use Rattle.pep440_version.proofs.ChangeWords.Items.{rest_is}
 use Rattle.pep440_tool.specs.Answers.{RejectsFirst, ToolAnswer, shown}
 
 all_more : {A B : Type 0} (R : A → B → Type 0) (xs : List A) (ys : List B) (x : A) (y : B) → AllZip R xs ys → R x y → AllZip R (xs ++ x ∷ []) (ys ++ y ∷ [])

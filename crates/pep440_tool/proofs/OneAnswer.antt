@@ -2,7 +2,7 @@
 use Rattle.std.proofs.Common.{◌≡◌, inl, inr, ℕ, ◌∙◌, List, [], ◌∷◌, ◌++◌, map, Option, Some, refl, sym, ap, subst}
 use Rattle.std.proofs.lemmas.Bool.{both_ways}
 use Rattle.std.specs.List.{AllZip, filter}
-use Rattle.pep440_change_words.specs.ChangeWords.{change_of}
+use Rattle.pep440_version.specs.ChangeWords.{change_of}
 use Rattle.pep440_pick.proofs.Once.{not_both_requirement, one_newest, one_requirement}
 use Rattle.pep440_pick.proofs.Once as pick
 use Rattle.pep440_pick.specs.Allowed.{lists_of}

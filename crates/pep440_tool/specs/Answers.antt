@@ -4,8 +4,7 @@ use Rattle.std.specs.Fmt.{decimal}
 use Rattle.std.specs.List.{AllZip, enumerate_from}
 use Rattle.std.specs.declared.cmp.Ordering.{Ordering}
 use Rattle.std.specs.declared.cmp.Ordering.TheVariants.{Less, Equal, Greater}
-use Rattle.pep440_change_words.specs.ChangeWords.{change_of}
-use Rattle.pep440_change_words.specs.ErrorTexts.{not_a_change_text}
+use Rattle.pep440_version.specs.ChangeWords.{change_of, not_a_change_text}
 use Rattle.pep440_version.specs.Sentinels.{print_with_sentinels}
 use Rattle.pep440_rs.specs.Bounds.{Segments, range_of, list_range}
 use Rattle.pep440_rs.specs.ErrorTexts.{range_error_text}

@@ -9,8 +9,8 @@ ghost use Rattle.pep440_version.specs.Changes.{apply_edits, edit};
 use crate::error::CommandError;
 use crate::operands::parse_version;
 use crate::output::Answer;
-use pep440_change_words::{ChangeWordError, parse_change};
 use pep440_rs::{Change, Version, WithSentinels};
+use pep440_version::{ChangeWordError, parse_change};
 use std::alloc::Global;
 
 // The changes that the words ask for.

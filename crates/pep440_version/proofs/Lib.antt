@@ -5,3 +5,4 @@ pub mod Reading
 pub mod Rows
 pub mod Refusals
 pub mod Words
+pub mod ChangeWords

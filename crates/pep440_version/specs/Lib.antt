@@ -16,6 +16,8 @@ pub mod Suffixes
 pub mod Locals
 pub mod Whole
 pub mod Changes
+pub mod ChangeWords
+pub mod ChangeWordResults
 pub mod Feed
 pub mod Patterns
 pub mod Ties

@@ -18,12 +18,13 @@
 //! - `parse`, `pattern`, `error`, `error_text`: strings, and why they are rejected;
 //! - `print`, `sentinels`: the normalized form, and what no string has;
 //! - `key`, `order`, `hash`: comparing versions;
-//! - `setters`, `change`: changing one part, or several;
+//! - `setters`, `change`, `change_word`: changing one part, or several; changes as words, as `post=2`;
 //! - `word`, `packed`, `release`, `unpacked`: how a version is stored;
 //! - `laws`: what is proved of strings, words and orders together.
 #![tactic(auto)]
 
 mod change;
+mod change_word;
 mod error;
 mod error_text;
 mod hash;
@@ -44,6 +45,7 @@ mod version;
 mod word;
 
 pub use change::{Change, ChangeError};
+pub use change_word::{ChangeWordError, parse_change};
 pub use error::{ErrorKind, PatternErrorKind, VersionParseError, VersionPatternParseError};
 pub use order::{cmp_releases, cmp_without_local};
 pub use pattern::VersionPattern;

@@ -1,8 +1,17 @@
 //! Lists of changes.
 use crate::errors::message;
-use pep440_version::{Change, ChangeError, WithSentinels};
+use pep440_version::{Change, ChangeError, ChangeWordError, WithSentinels, parse_change};
 use std::alloc::Global;
 use testing::{CaseError, change_argument, copy, has_debug, parse_version, print_value};
+
+/// The debug form of the change that the word asks for.
+pub fn print_change(alloc: Global, word: &str) -> Result<String, CaseError> {
+    match parse_change(alloc, word) {
+        Ok(change) => Ok(format!(in alloc; "{change:?}")?),
+        Err(ChangeWordError::NotAChange) => Ok(String::from_str(alloc, "no change")?),
+        Err(ChangeWordError::OutOfMemory) => Err(CaseError::OutOfMemory),
+    }
+}
 
 // Copies of the changes that the words ask for, with blanks between them.
 fn changes(alloc: Global, words: &str) -> Result<Vec<Change>, CaseError> {

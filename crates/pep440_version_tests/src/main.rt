@@ -10,7 +10,7 @@ mod parts;
 mod printing;
 mod recorder;
 
-use edits::edit;
+use edits::{edit, print_change};
 use errors::out_of_memory;
 use hashing::{hash_parts, hash_pattern, hash_version};
 use order::{are_ascending, compare, compare_patterns, sort};
@@ -41,6 +41,7 @@ fn of_one(alloc: Global, call: &str, text: &str) -> Result<String, CaseError> {
         "stable" => is_stable(alloc, text),
         "word" => word(alloc, text),
         "new" => from_release(alloc, text),
+        "change" => print_change(alloc, text),
         "show" => show(alloc, text),
         "local" => show_local(alloc, text),
         "parts" => show_parts(alloc, text),

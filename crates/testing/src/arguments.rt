@@ -1,7 +1,6 @@
 //! Versions as arguments: a version, and the changes to make to it, each after a `~`, as `1.0~min=0`.
 use crate::error::CaseError;
-use pep440_change_words::{ChangeWordError, parse_change};
-use pep440_version::{Change, ErrorKind, Version};
+use pep440_version::{Change, ChangeWordError, ErrorKind, Version, parse_change};
 use std::alloc::Global;
 use std::ops::Bound;
 

@@ -1,7 +1,6 @@
 use Rattle.std.proofs.Common.{◌≡◌, ◌+◌, ◌∷◌, ◌++◌, ◌∙◌, [], List, ap, map, refl, string_bytes, sym}
 use Rattle.std.proofs.lemmas.List.{map-append}
-use Rattle.pep440_change_words.specs.ChangeWords.{change_of}
-use Rattle.pep440_change_words.specs.ErrorTexts.{not_a_change_text}
+use Rattle.pep440_version.specs.ChangeWords.{change_of, not_a_change_text}
 use Rattle.pep440_version.specs.Changes.{Edit, edit}
 use Rattle.pep440_tool.specs.Answers.{AsksChange, RejectsChange}
 use Rattle.pep440_tool.proofs.Each.{found_more, found_rejected, word_left, words_left}

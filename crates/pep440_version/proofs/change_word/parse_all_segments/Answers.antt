@@ -1,10 +1,10 @@
 use Rattle.std.proofs.Common.{[], ◌∷◌, get_or, map, refl}
 use Rattle.std.proofs.lemmas.List.{map-append}
 use Rattle.pep440_version.specs.Segments.{segment}
-use Rattle.pep440_change_words.proofs.Items.{more, no_text, stop}
-use Rattle.pep440_change_words.proofs.NotRead.{not_read}
-use Rattle.pep440_change_words.specs.ChangeWords.{local_segment_of}
-use Rattle.pep440_change_words.proofs.change_word.parse_all_segments.Goals as goal
+use Rattle.pep440_version.proofs.ChangeWords.Items.{more, no_text, stop}
+use Rattle.pep440_version.proofs.ChangeWords.NotRead.{not_read}
+use Rattle.pep440_version.specs.ChangeWords.{local_segment_of}
+use Rattle.pep440_version.proofs.change_word.parse_all_segments.Goals as goal
 
 pub returns-in_err-segment : goal.returns-in_err-segment
 returns-in_err-segment c =

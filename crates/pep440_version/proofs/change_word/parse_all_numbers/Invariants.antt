@@ -1,7 +1,7 @@
 use Rattle.std.proofs.Common.{◌≡◌, drop, map}
-use Rattle.pep440_change_words.proofs.Items.{before}
-use Rattle.pep440_change_words.specs.ChangeWords.{all_of, number_of}
-use Rattle.pep440_change_words.proofs.change_word.parse_all_numbers.Given as goal
+use Rattle.pep440_version.proofs.ChangeWords.Items.{before}
+use Rattle.pep440_version.specs.ChangeWords.{all_of, number_of}
+use Rattle.pep440_version.proofs.change_word.parse_all_numbers.Given as goal
 
 abbrev pub invariant-loop-i : goal.invariant-loop-i
 invariant-loop-i l =

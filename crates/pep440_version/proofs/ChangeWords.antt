@@ -1,3 +1,4 @@
+-- Lemmas of the parser of change words.
 pub mod Items
 pub mod NotRead
 pub mod Numbers

@@ -1,7 +1,7 @@
 use Rattle.std.proofs.Common.{◌∙◌, get_or, refl, sym}
-use Rattle.pep440_change_words.proofs.Items.{more, no_text, stop}
-use Rattle.pep440_change_words.specs.ChangeWords.{number_of}
-use Rattle.pep440_change_words.proofs.change_word.parse_all_numbers.Goals as goal
+use Rattle.pep440_version.proofs.ChangeWords.Items.{more, no_text, stop}
+use Rattle.pep440_version.specs.ChangeWords.{number_of}
+use Rattle.pep440_version.proofs.change_word.parse_all_numbers.Goals as goal
 
 pub returns-in_default : goal.returns-in_default
 returns-in_default c =

@@ -1,5 +1,6 @@
 -- The change that a word denotes: a field, `=` and the field's new value, or one of two words without a value.
-use Rattle.std.specs.Prelude.{ℕ, ◌^◌, ◌==◌, ◌&&◌, List, [], ◌∷◌, Bool, length, drop, codes, bytes_eq, nat_lt, Option, Some, None, option_and_then, if◌then◌else◌}
+use Rattle.std.specs.Prelude.{ℕ, ◌^◌, ◌==◌, ◌&&◌, ◌++◌, List, [], ◌∷◌, Bool, length, drop, codes, bytes_eq, nat_lt, Option, Some, None, option_and_then, if◌then◌else◌}
+use Rattle.std.specs.Fmt.{decimal}
 use Rattle.std.specs.Option.{option_map, option_or}
 use Rattle.std.specs.Char.{is_ascii_digit, is_ascii_alphanumeric}
 use Rattle.std.specs.List.{list_all, position_or_len, before_first, after_first, slice_split, starts_with}
@@ -80,3 +81,7 @@ is_equals b = b == 61
 -- the change of a word, split at its first `=` if it has one
 abbrev pub change_of : List ℕ → Option Edit
 change_of word = if nat_lt (position_or_len is_equals word) (length word) then field_change (before_first is_equals word) (after_first is_equals word) else bare_change word
+
+-- the message of a word that is no change, with its number
+abbrev pub not_a_change_text : ℕ → List ℕ
+not_a_change_text number = codes "change " ++ (decimal number ++ codes ": not a change")

@@ -1,7 +1,7 @@
 -- What the parser of change words returns, unless out of memory.
 use Rattle.std.specs.Prelude.{◌≡◌, Option, Some, None, Result, Ok, Err}
-use Rattle.pep440_change_words.specs.declared.error.ChangeWordError.{ChangeWordError}
-use Rattle.pep440_change_words.specs.declared.error.ChangeWordError.TheVariants as no
+use Rattle.pep440_version.specs.declared.change_word.ChangeWordError.{ChangeWordError}
+use Rattle.pep440_version.specs.declared.change_word.ChangeWordError.TheVariants as no
 
 -- what holds of an error: this of `NotAChange`, nothing of `OutOfMemory`
 abbrev pub Lacks : Type 0 → ChangeWordError → Type 0

@@ -1,9 +1,9 @@
 -- A part that is not read leaves the whole unread.
 use Rattle.std.proofs.Common.{◌≡◌, Option, None, Result, Ok, Err, sym, subst}
 use Rattle.std.specs.Prelude.{IsErrAnd}
-use Rattle.pep440_change_words.specs.Reads.{Lacks, ReadsAs}
-use Rattle.pep440_change_words.specs.declared.error.ChangeWordError.{ChangeWordError}
-use Rattle.pep440_change_words.specs.declared.error.ChangeWordError.TheVariants as no
+use Rattle.pep440_version.specs.ChangeWordResults.{Lacks, ReadsAs}
+use Rattle.pep440_version.specs.declared.change_word.ChangeWordError.{ChangeWordError}
+use Rattle.pep440_version.specs.declared.change_word.ChangeWordError.TheVariants as no
 
 lacks_weaker : (P Q : Type 0) → (P → Q) → (e : ChangeWordError) → Lacks P e → Lacks Q e
 lacks_weaker P Q all no.NotAChange h = all h

@@ -1,16 +1,43 @@
 //! The parser of change words: a field, `=` and its new value, or one of two words without a value.
 ghost use Rattle.std.specs.Prelude.{◌≡◌, ◌==◌, map, IfOk};
-ghost use Rattle.pep440_change_words.specs.Reads.{ReadsAs};
+ghost use Rattle.pep440_version.specs.ChangeWordResults.{ReadsAs};
 ghost use Rattle.std.specs.List.{slice_split};
 ghost use Rattle.std.specs.Char.{is_ascii_digit, is_ascii_alphanumeric};
 ghost use Rattle.std.specs.Option.{option_map, option_copied};
-ghost use Rattle.pep440_change_words.specs.ChangeWords.{is_run, number_of, after, parse_prerelease_of_kind, prerelease_of, local_segment_of, or_none, pieces_of, all_of, dotted_of, field_change, bare_change, change_of};
+ghost use Rattle.pep440_version.specs.ChangeWords.{is_run, number_of, after, parse_prerelease_of_kind, prerelease_of, local_segment_of, or_none, pieces_of, all_of, dotted_of, field_change, bare_change, change_of};
 ghost use Rattle.pep440_version.specs.Changes.{edit};
 ghost use Rattle.pep440_version.specs.Segments.{segment};
+ghost use Rattle.pep440_version.specs.declared.change_word.ChangeWordError.TheVariants.{OutOfMemory};
 
-use crate::error::ChangeWordError;
-use pep440_version::{Change, LocalSegment, Prerelease, PrereleaseKind};
-use std::alloc::{AllocError, Global};
+use crate::change::Change;
+use crate::prerelease::{Prerelease, PrereleaseKind};
+use crate::segment::LocalSegment;
+use std::alloc::{AllocError, AllocFailed, Global};
+
+/// Why a word is not a change.
+#[derive(Clone, Copy, Debug, PartialEq, Eq)]
+pub enum ChangeWordError {
+    /// There is no such change, or the field cannot have its value.
+    NotAChange,
+    /// Out of memory; the word may be valid or not.
+    OutOfMemory,
+}
+
+impl From<AllocError> for ChangeWordError {
+    ghost from_gives = { λ _ error. error ≡ OutOfMemory };
+
+    fn from(_: AllocError) -> ChangeWordError {
+        ChangeWordError::OutOfMemory
+    }
+}
+
+impl<T: Drop> From<AllocFailed<T>> for ChangeWordError {
+    ghost from_gives = { λ _ error. error ≡ OutOfMemory };
+
+    fn from(_: AllocFailed<T>) -> ChangeWordError {
+        ChangeWordError::OutOfMemory
+    }
+}
 
 fn is_digits(text: &str) -> bool
     ensures { result ≡ is_run is_ascii_digit text.now }

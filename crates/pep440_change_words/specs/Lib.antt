@@ -1,3 +1,0 @@
-pub mod ChangeWords
-pub mod ErrorTexts
-pub mod Reads
