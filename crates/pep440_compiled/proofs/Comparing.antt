@@ -39,6 +39,13 @@ without_local s v h =
     ap (λ (l : List LocalSegmentValue). record_cmp (record v { local = [] }) (record s { local = l })) (sym (empty s.local h))
     ∙ sym (ap (λ (b : Bool). record_cmp (if b then v else record v { local = [] }) s) h)
 
+without : (s v : Record) (b : Bool) → v.local ≡ [] → v ≡ (if b then v else record v { local = [] })
+without s v true e = refl
+without s v false e = ap (λ (l : List LocalSegmentValue). record v { local = l }) e
+
+pub no_locals : (s v : Record) → IsParsed s → IsParsed v → has_local v ≡ false → slice_cmp nat_cmp (key_bytes v) (key_bytes s) ≡ record_cmp (candidate s v) s
+no_locals s v p q h = keys_in_order v s (keyed v q) (keyed s p) ∙ ap (λ r. record_cmp r s) (without s v (has_local s) (empty v.local h))
+
 -- ---- the release
 
 eq_then : (a b : ℕ) (o : Ordering) → is_eq (ordering_then (nat_cmp a b) o) ≡ (a == b) && is_eq o

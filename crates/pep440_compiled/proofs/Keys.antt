@@ -5,7 +5,7 @@ use Rattle.std.proofs.lemmas.List.{length-append, length-map}
 use Rattle.std.specs.List.{flat_map}
 use Rattle.std.specs.Prelude.{drop}
 use Rattle.pep440_compiled.specs.KeyParts.{ending_zeros, base_bytes, public_bytes, suffix_bytes}
-use Rattle.pep440_compiled.specs.Version.{zero_bytes}
+use Rattle.pep440_compiled.specs.Version.{version_bytes, zero_bytes}
 use Rattle.pep440_keys.proofs.Codes.{segment_opens}
 use Rattle.pep440_keys.specs.SortKeys.{key_bytes, local_bytes, number_bytes, rank_bytes, segment_bytes}
 use Rattle.pep440_version.specs.Key.{dev_rank, key, post_rank, stage_rank}
@@ -21,6 +21,9 @@ regroup_public n f s p d l = simp append_assoc
 pub key_split : (r : Record) (w : List ℕ) → key_bytes r ++ w ≡ base_bytes r.epoch r.release ++ 0 ∷ (suffix_bytes r ++ (local_bytes r.local ++ w))
 key_split r w =
     regroup (number_bytes 0 r.epoch) (flat_map (number_bytes 1) (trim r.release)) (rank_bytes (stage_rank (key r).stage)) (rank_bytes (post_rank (key r).post)) (rank_bytes (dev_rank (key r).dev)) (local_bytes r.local) w
+
+pub version_split : (r : Record) (rest : List ℕ) → version_bytes r ++ rest ≡ base_bytes r.epoch r.release ++ 0 ∷ (suffix_bytes r ++ (local_bytes r.local ++ (zero_bytes r.release ++ rest)))
+version_split r rest = append_assoc (key_bytes r) (zero_bytes r.release) rest ∙ key_split r (zero_bytes r.release ++ rest)
 
 pub key_public : (r : Record) → key_bytes r ≡ public_bytes r ++ local_bytes r.local
 key_public r =

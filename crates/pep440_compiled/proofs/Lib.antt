@@ -1,3 +1,4 @@
+pub mod ByteOrder
 pub mod Checking
 pub mod Comparing
 pub mod Counts

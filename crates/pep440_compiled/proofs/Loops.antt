@@ -86,6 +86,11 @@ pub end_of_numbers : (first : ℕ) (left later rest ys : List ℕ) → left ≡ 
 end_of_numbers first left later rest [] e z f = (refl, ap (drop 1) (sym e ∙ f))
 end_of_numbers first left later rest (y ∷ ys) e z f = absurd (let same : first ≡ 1 + length (needed_bytes y) = ap (λ l. get_or l 0 0) (sym e ∙ f) in omega (arith, same, z))
 
+-- a number with the byte that counts its bytes
+pub whole_number : {P : ℕ → Type 0} (first : ℕ) (left later rest ys : List ℕ) (next : Next P first later rest ys) → left ≡ first ∷ later
+    → left ≡ number_bytes 1 next.number ++ (flat_map (number_bytes 1) next.more ++ 0 ∷ rest)
+whole_number first left later rest ys next e = e ∙ (λ i. next.count i ∷ next.bytes i)
+
 -- what stands behind so many bytes
 pub behind : (count : ℕ) (later front back u v : List ℕ) → count ≡ length u → later ≡ u ++ v → back ≡ drop count later → back ≡ v
 behind count later front back u v n e f = f ∙ (λ i. drop (n i) (e i)) ∙ drop-append_seam u v

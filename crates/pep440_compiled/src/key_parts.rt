@@ -28,7 +28,8 @@ fn skip_numbers(bytes: &[u8]) -> Option<&[u8]>
         if *first == 0 {
             return Some(later);
         }
-        let (_, rest) = later.split_at_checked(usize::from(*first - 1))?;
+        // The count of a release number is one more than the bytes that follow it.
+        let (_, rest) = left.split_at_checked(usize::from(*first))?;
         left = rest;
     }
     None
@@ -52,6 +53,7 @@ pub(crate) struct Suffix {
 }
 
 // Stage, post and dev; and the rest. A stage below that of a final release, 5, is a pre-release or a dev release.
+#[inline(always)]
 pub(crate) fn split_suffix(bytes: &[u8]) -> Option<(Suffix, &[u8])>
     ensures found { (r : Record) (rest : List ℕ) → IsParsed r → bytes.now ≡ suffix_bytes r ++ rest → MatchOption result ⊥ (λ p. (p.0.is_prerelease ≡ any_prerelease r) × (p.0.is_post ≡ is_some r.post) × (p.1.now ≡ rest)) }
     ensures shorter { IfSome result (λ p. length p.1.now < length bytes.now) }
@@ -91,7 +93,7 @@ pub(crate) fn skip_text(bytes: &[u8]) -> Option<&[u8]>
 }
 
 // What follows a local segment, whose first byte this is.
-#[inline(never)]
+#[inline(always)]
 fn skip_segment(first: u8, bytes: &[u8]) -> Option<&[u8]>
     requires { 0 < first }
     ensures found { (s : LocalSegmentValue) (rest : List ℕ) → HasNoZero s → first ∷ bytes.now ≡ segment_bytes s ++ rest → MatchOption result ⊥ (λ r. r.now ≡ rest) }

@@ -14,6 +14,7 @@
 //! from outside once before they are asked.
 #![tactic(auto)]
 
+mod byte_order;
 mod checked_version;
 mod decode;
 mod error;
@@ -26,6 +27,7 @@ mod print;
 mod version;
 mod views;
 
+pub use byte_order::cmp_bytes;
 pub use error::{CompileError, CompiledError, ContainsError, NotCompiled};
 pub use list::{
     compile_list, contains, has_list_format, normalize_list, read_list, requests_prereleases,

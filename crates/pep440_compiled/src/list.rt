@@ -1,5 +1,5 @@
 //! Compiled lists of specifiers: made, read, asked.
-ghost use Rattle.std.specs.Prelude.{◌≡◌, ◌↔◌, ◌++◌, ◌<◌, ℕ, List, true, length, Ok, Some, IfErr, IfOk, IfSome, MatchOption, OnOk, string_bytes};
+ghost use Rattle.std.specs.Prelude.{◌≡◌, ◌↔◌, ◌+◌, ◌++◌, ◌∷◌, ◌<◌, ℕ, List, true, length, Ok, Some, IfErr, IfOk, IfSome, MatchOption, OnOk, string_bytes};
 ghost use Rattle.std.specs.List.{All, flat_map};
 ghost use Rattle.pep440_compiled.specs.KeyParts.{BeginsOtherwise};
 ghost use Rattle.pep440_compiled.specs.Lists.{DenotesList, HasListFormat, IsParsedMember, member_bytes};
@@ -11,6 +11,7 @@ ghost use Rattle.pep440_compiled.specs.declared.error.ContainsError.TheVariants.
 ghost use Rattle.pep440_rs.specs.Arrangement.{IsArranged};
 ghost use Rattle.pep440_rs.specs.Lists.{list_print};
 ghost use Rattle.pep440_rs.specs.Matching.{any_prerelease, list_matches};
+ghost use Rattle.pep440_rs.specs.Operators.{operator_rank};
 ghost use Rattle.pep440_rs.specs.Prereleases.{requests_prerelease, requests_prereleases};
 ghost use Rattle.pep440_rs.specs.Specifiers.{Spec};
 ghost use Rattle.pep440_version.specs.Record.{Record};
@@ -20,7 +21,9 @@ use crate::error::{CompileError, CompiledError, ContainsError, NotCompiled};
 use crate::matching::matches_bytes;
 use crate::parsed::is_parsed;
 use crate::version::push_version;
-use crate::views::{PartsView, view_parts, view_version_parts};
+use crate::views::{
+    PartsView, view_final_parts, view_final_version, view_parts, view_version_parts,
+};
 use pep440_rs::{Operator, VersionSpecifier, VersionSpecifiers};
 use std::alloc::{AllocError, Global};
 
@@ -84,15 +87,35 @@ struct MemberView<'a> {
     parts: PartsView<'a>,
 }
 
+// The operator of the leading member, and the rest.
+#[inline(always)]
+fn split_operator(bytes: &[u8]) -> Option<(Operator, &[u8])>
+    ensures found { (o : Operator) (rest : List ℕ) → bytes.now ≡ (16 + operator_rank o) ∷ rest → MatchOption result ⊥ (λ p. (p.0 ≡ o) × (p.1.now ≡ rest)) }
+    ensures shorter { IfSome result (λ p. length p.1.now < length bytes.now) }
+{
+    let (first, rest) = bytes.split_first()?;
+    Some((Operator::from_number(first.checked_sub(OPERATOR)?)?, rest))
+}
+
 // The leading member, and the rest.
 #[inline(always)]
 fn view_member(bytes: &[u8]) -> Option<(MemberView<'_>, &[u8])>
     ensures found { (s : Spec) (rest : List ℕ) → IsParsedMember s → BeginsOtherwise 1 rest → bytes.now ≡ member_bytes s ++ rest → MatchOption result ⊥ (λ p. (p.0.operator ≡ s.operator) × HasParts p.0.parts s.version × (p.1.now ≡ rest)) }
     ensures shorter { IfSome result (λ p. length p.1.now < length bytes.now) }
 {
-    let (first, rest) = bytes.split_first()?;
-    let operator = Operator::from_number(first.checked_sub(OPERATOR)?)?;
+    let (operator, rest) = split_operator(bytes)?;
     let (parts, rest) = view_parts(rest)?;
+    Some((MemberView { operator, parts }, rest))
+}
+
+// The same, if the version of the leading member is a final release without a local part.
+#[inline(always)]
+fn view_final_member(bytes: &[u8]) -> Option<(MemberView<'_>, &[u8])>
+    ensures found { (s : Spec) (rest : List ℕ) → IsParsedMember s → BeginsOtherwise 1 rest → bytes.now ≡ member_bytes s ++ rest → IfSome result (λ p. (p.0.operator ≡ s.operator) × HasParts p.0.parts s.version × (p.1.now ≡ rest)) }
+    ensures shorter { IfSome result (λ p. length p.1.now < length bytes.now) }
+{
+    let (operator, rest) = split_operator(bytes)?;
+    let (parts, rest) = view_final_parts(rest)?;
     Some((MemberView { operator, parts }, rest))
 }
 
@@ -107,12 +130,28 @@ fn view_members(bytes: &[u8]) -> Option<&[u8]>
     }
 }
 
-/// Whether the list that the one bytes denote contains the version that the others denote, as `VersionSpecifiers::contains`
-/// (PEP 440, "Version specifiers"); and whether the version is a pre-release or a developmental release. If one is of another
-/// format, the error names it; if `list` denotes no list or `version` no version, an error or any result.
-///
-/// Does not allocate.
-pub fn contains(list: &[u8], version: &[u8]) -> Result<(bool, bool), ContainsError>
+// As `contains`, if each version is a final release without a local part, as most are.
+#[inline(always)]
+fn contains_final(list: &[u8], version: &[u8]) -> Option<(bool, bool)>
+    ensures found { (l : List Spec) (r : Record) → DenotesList list.now l → DenotesVersion version.now r → IfSome result (λ found. found ≡ (list_matches l r, any_prerelease r)) }
+    ensures prerelease { (r : Record) → DenotesVersion version.now r → IfSome result (λ found. found.1 ≡ any_prerelease r) }
+    ensures format { IfSome result (λ _. HasListFormat list.now × HasVersionFormat version.now) }
+{
+    let parts = view_final_version(version)?;
+    let mut left = view_members(list)?;
+    while !left.is_empty() {
+        let (member, rest) = view_final_member(left)?;
+        if !matches_bytes(member.operator, &member.parts, &parts) {
+            return Some((false, parts.suffix.is_prerelease));
+        }
+        left = rest;
+    }
+    Some((true, parts.suffix.is_prerelease))
+}
+
+// As `contains`, of any versions.
+#[inline(never)]
+fn contains_any(list: &[u8], version: &[u8]) -> Result<(bool, bool), ContainsError>
     ensures found { (l : List Spec) (r : Record) → DenotesList list.now l → DenotesVersion version.now r → result ≡ Ok (list_matches l r, any_prerelease r) }
     ensures prerelease { (r : Record) → DenotesVersion version.now r → IfOk result (λ found. found.1 ≡ any_prerelease r) }
     ensures format { IfOk result (λ _. HasListFormat list.now × HasVersionFormat version.now) }
@@ -136,6 +175,24 @@ pub fn contains(list: &[u8], version: &[u8]) -> Result<(bool, bool), ContainsErr
         left = rest;
     }
     Ok((true, is_prerelease))
+}
+
+/// Whether the list that the one bytes denote contains the version that the others denote, as `VersionSpecifiers::contains`
+/// (PEP 440, "Version specifiers"); and whether the version is a pre-release or a developmental release. If one is of another
+/// format, the error names it; if `list` denotes no list or `version` no version, an error or any result.
+///
+/// Does not allocate.
+pub fn contains(list: &[u8], version: &[u8]) -> Result<(bool, bool), ContainsError>
+    ensures found { (l : List Spec) (r : Record) → DenotesList list.now l → DenotesVersion version.now r → result ≡ Ok (list_matches l r, any_prerelease r) }
+    ensures prerelease { (r : Record) → DenotesVersion version.now r → IfOk result (λ found. found.1 ≡ any_prerelease r) }
+    ensures format { IfOk result (λ _. HasListFormat list.now × HasVersionFormat version.now) }
+    ensures version { IfErr result (λ e. e ≡ NoVersion → (r : Record) → DenotesVersion version.now r → ⊥) }
+    ensures list { IfErr result (λ e. e ≡ NoList → (l : List Spec) → DenotesList list.now l → ⊥) }
+{
+    match contains_final(list, version) {
+        Some(found) => Ok(found),
+        None => contains_any(list, version),
+    }
 }
 
 fn requests_prerelease(member: MemberView<'_>) -> bool

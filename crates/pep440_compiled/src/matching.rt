@@ -10,6 +10,7 @@ ghost use Rattle.pep440_version.specs.Key.{record_cmp};
 ghost use Rattle.pep440_version.specs.Record.{Fits, Record};
 ghost use Rattle.std.specs.List.{All, starts_with};
 
+use crate::byte_order::cmp_bytes;
 use crate::key_parts::skip_ranked_number;
 use crate::views::PartsView;
 use pep440_rs::Operator;
@@ -28,10 +29,10 @@ fn strip_base<'a>(bytes: &'a [u8], base: &[u8]) -> Option<&'a [u8]>
 fn cmp_candidate(specifier: &PartsView<'_>, version: &PartsView<'_>) -> Ordering
     ensures { (s v : Record) → HasParts specifier.now s → HasParts version.now v → result ≡ record_cmp (candidate s v) s }
 {
-    if specifier.has_local {
-        version.version.key.cmp(specifier.version.key)
+    if specifier.has_local || !version.has_local {
+        cmp_bytes(version.version.key, specifier.version.key)
     } else {
-        version.public.cmp(specifier.public)
+        cmp_bytes(version.public, specifier.public)
     }
 }
 

@@ -9,6 +9,7 @@ ghost use Rattle.pep440_version.specs.Key.{record_cmp};
 ghost use Rattle.pep440_version.specs.Print.{print};
 ghost use Rattle.pep440_version.specs.Record.{Record};
 
+use crate::byte_order::cmp_bytes;
 use crate::checked_version::check_version;
 use crate::decode::decode_version;
 use crate::error::{CompileError, CompiledError, NotCompiled};
@@ -137,7 +138,7 @@ pub fn compare(a: &[u8], b: &[u8]) -> Result<Ordering, NotCompiled>
 {
     let left = sort_key(a)?;
     let right = sort_key(b)?;
-    Ok(left.cmp(right))
+    Ok(cmp_bytes(left, right))
 }
 
 /// Whether the version that the bytes denote is a pre-release or a developmental release (PEP 440, "Handling of

@@ -1,7 +1,8 @@
 //! Compiled versions as they lie: where their parts are.
-ghost use Rattle.std.specs.Prelude.{◌≡◌, ◌↔◌, ◌<◌, ◌++◌, ◌∷◌, List, ℕ, true, length, replicate, IfSome, MatchOption};
-ghost use Rattle.pep440_compiled.specs.KeyParts.{BeginsOtherwise};
-ghost use Rattle.pep440_compiled.specs.Version.{DenotesVersion, HasVersionFormat, IsParsed, version_bytes};
+ghost use Rattle.std.specs.Prelude.{◌≡◌, ◌↔◌, ◌<◌, ◌++◌, ◌∷◌, [], List, ℕ, true, length, replicate, IfSome, MatchOption};
+ghost use Rattle.pep440_compiled.specs.KeyParts.{BeginsOtherwise, base_bytes, suffix_bytes};
+ghost use Rattle.pep440_compiled.specs.Version.{DenotesVersion, HasVersionFormat, IsParsed, version_bytes, zero_bytes};
+ghost use Rattle.pep440_keys.specs.SortKeys.{local_bytes};
 ghost use Rattle.pep440_compiled.specs.KeyViews.{HasParts, IsViewOf};
 ghost use Rattle.pep440_version.specs.Record.{Record};
 
@@ -61,13 +62,17 @@ pub(crate) fn view_version(bytes: &[u8]) -> Option<VersionView<'_>>
     })
 }
 
-// The leading version and its parts, and the rest.
+// What follows the release, and the rest after it.
 #[inline(always)]
-pub(crate) fn view_parts(bytes: &[u8]) -> Option<(PartsView<'_>, &[u8])>
-    ensures found { (r : Record) (rest : List ℕ) → IsParsed r → BeginsOtherwise 1 rest → bytes.now ≡ version_bytes r ++ rest → MatchOption result ⊥ (λ p. HasParts p.0 r × (p.1.now ≡ rest)) }
+fn view_suffix<'a>(
+    bytes: &'a [u8],
+    release: &'a [u8],
+    rest: &'a [u8],
+) -> Option<(PartsView<'a>, &'a [u8])>
+    requires { length rest.now < length bytes.now }
+    ensures found { (r : Record) (more : List ℕ) → IsParsed r → BeginsOtherwise 1 more → bytes.now ≡ version_bytes r ++ more → release.now ≡ base_bytes r.epoch r.release ++ 0 ∷ [] → rest.now ≡ suffix_bytes r ++ (local_bytes r.local ++ (zero_bytes r.release ++ more)) → MatchOption result ⊥ (λ p. HasParts p.0 r × (p.1.now ≡ more)) }
     ensures shorter { IfSome result (λ p. length p.1.now < length bytes.now) }
 {
-    let (release, rest) = split_release(bytes)?;
     let (suffix, local) = split_suffix(rest)?;
     let after = skip_local(local)?;
     let rest = skip_zeros(after);
@@ -84,6 +89,30 @@ pub(crate) fn view_parts(bytes: &[u8]) -> Option<(PartsView<'_>, &[u8])>
     Some((parts, rest))
 }
 
+// The leading version and its parts, and the rest.
+#[inline(always)]
+pub(crate) fn view_parts(bytes: &[u8]) -> Option<(PartsView<'_>, &[u8])>
+    ensures found { (r : Record) (rest : List ℕ) → IsParsed r → BeginsOtherwise 1 rest → bytes.now ≡ version_bytes r ++ rest → MatchOption result ⊥ (λ p. HasParts p.0 r × (p.1.now ≡ rest)) }
+    ensures shorter { IfSome result (λ p. length p.1.now < length bytes.now) }
+{
+    let (release, rest) = split_release(bytes)?;
+    view_suffix(bytes, release, rest)
+}
+
+// The same, if the leading version is a final release without a local part, as most are.
+#[inline(always)]
+pub(crate) fn view_final_parts(bytes: &[u8]) -> Option<(PartsView<'_>, &[u8])>
+    ensures found { (r : Record) (rest : List ℕ) → IsParsed r → BeginsOtherwise 1 rest → bytes.now ≡ version_bytes r ++ rest → IfSome result (λ p. HasParts p.0 r × (p.1.now ≡ rest)) }
+    ensures shorter { IfSome result (λ p. length p.1.now < length bytes.now) }
+{
+    let (release, rest) = split_release(bytes)?;
+    let [80, 0, 16, 0, ..] = rest else {
+        return None;
+    };
+    let (parts, rest) = view_suffix(bytes, release, rest)?;
+    Some((parts, rest))
+}
+
 // The parts of the compiled version.
 #[inline(always)]
 pub(crate) fn view_version_parts(bytes: &[u8]) -> Option<PartsView<'_>>
@@ -91,5 +120,15 @@ pub(crate) fn view_version_parts(bytes: &[u8]) -> Option<PartsView<'_>>
     ensures format { IfSome result (λ _. HasVersionFormat bytes.now) }
 {
     let (parts, _) = view_parts(strip_format(bytes)?)?;
+    Some(parts)
+}
+
+// The same, if the version is a final release without a local part.
+#[inline(always)]
+pub(crate) fn view_final_version(bytes: &[u8]) -> Option<PartsView<'_>>
+    ensures found { (r : Record) → DenotesVersion bytes.now r → IfSome result (λ parts. HasParts parts r) }
+    ensures format { IfSome result (λ _. HasVersionFormat bytes.now) }
+{
+    let (parts, _) = view_final_parts(strip_format(bytes)?)?;
     Some(parts)
 }

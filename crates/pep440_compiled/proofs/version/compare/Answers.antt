@@ -8,4 +8,4 @@ use Rattle.pep440_keys.proofs.Order.{keys_in_order}
 
 pub returns-clause-found : goal.returns-clause-found
 returns-clause-found c r q d e =
-    ap Ok (c.cmp.ensures ∙ (λ i. slice_cmp nat_cmp (c.in_ok-left.ensures.found r d i) (c.in_ok-right.ensures.found q e i)) ∙ keys_in_order r q (keyed r d.parsed) (keyed q e.parsed))
+    ap Ok (c.cmp_bytes.ensures ∙ (λ i. slice_cmp nat_cmp (c.in_ok-left.ensures.found r d i) (c.in_ok-right.ensures.found q e i)) ∙ keys_in_order r q (keyed r d.parsed) (keyed q e.parsed))

@@ -1,0 +1,42 @@
+//! The order of bytes, eight at a time.
+ghost use Rattle.std.specs.Prelude.{◌≡◌, ◌≤◌, length, take};
+ghost use Rattle.std.specs.Cmp.Lexicographic.{slice_cmp};
+ghost use Rattle.std.specs.Ordering.{nat_cmp};
+ghost use Rattle.std.specs.Slice.Scan.{big_endian};
+
+use std::cmp::Ordering;
+
+// The first eight bytes as a number, which is read in one piece.
+#[inline(always)]
+fn read_word(bytes: &[u8]) -> u64
+    requires { 8 ≤ length bytes.now }
+    ensures { result ≡ big_endian 0 (take 8 bytes.now) }
+{
+    u64::from_be_bytes([
+        bytes[0], bytes[1], bytes[2], bytes[3], bytes[4], bytes[5], bytes[6], bytes[7],
+    ])
+}
+
+/// The order of bytes as `cmp` of slices has it, in fewer instructions for few bytes. Of sort keys it is the order of the versions.
+///
+/// Does not allocate.
+#[inline(always)]
+pub fn cmp_bytes(a: &[u8], b: &[u8]) -> Ordering
+    ensures { result ≡ slice_cmp nat_cmp a.now b.now }
+{
+    let mut left = a;
+    let mut right = b;
+    while left.len() >= 8 && right.len() >= 8 {
+        let x = read_word(left);
+        let y = read_word(right);
+        if x != y {
+            return x.cmp(&y);
+        }
+        left = &left[8..];
+        right = &right[8..];
+    }
+    if left.is_empty() {
+        return 0.cmp(&right.len());
+    }
+    left.cmp(right)
+}
