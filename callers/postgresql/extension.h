@@ -16,8 +16,7 @@ typedef struct {
 typedef struct {
     Bytes key;
     Bytes bytes;
-    bool is_plain; /* epoch 0 and a release alone, */
-    size_t numbers_length; /* whose numbers take so many bytes of the key, behind the epoch */
+    bool is_plain; /* epoch 0 and a release alone */
 } Version;
 
 /* The keys of a cover, as pep440_cover_keys writes them. */
@@ -29,6 +28,9 @@ typedef struct {
 
 /* A call of the library that reads a string and writes bytes. */
 typedef uint8_t (*Writer)(const uint8_t *, size_t, uint8_t *, size_t, size_t *);
+
+/* A value of a type that a text is; if it is none, the error that says why. If errors are to be kept in the node, it is kept there, and NULL returned. */
+typedef struct varlena *(*Reader)(Bytes text, Node *context);
 
 /* The most bytes of a value of type pep440, with its header: an index entry has room for 2,704 with its own header, and more columns beside. */
 enum { MOST_BYTES = 2680, MOST_COMPILED = MOST_BYTES - VARHDRSZ };
@@ -44,20 +46,20 @@ typedef struct {
 /* The first byte of compiled versions and lists. */
 enum { VERSION_FORMAT = 4, LIST_FORMAT = 5 };
 
-/* The text in UTF-8, which the library reads: the server may have another encoding. The library would take bytes that begin with a format as compiled: a text
-   is none, so another one stands for it that is no version and no list either. */
-Bytes utf8_of(const char *text, int length);
 /* The argument of a function that takes a text. */
 Bytes utf8_argument(FunctionCallInfo fcinfo);
-/* The binary form of a value, and the text of one that is received. */
-bytea *send_text(const char *normal);
-Bytes receive_text(StringInfo message, const char *type);
+/* What the input functions of a type do, by the call that reads its text: of a C string, of the binary form, and of a text. */
+Datum read_cstring(FunctionCallInfo fcinfo, Reader read);
+Datum read_binary(FunctionCallInfo fcinfo, Reader read);
+Datum read_text(FunctionCallInfo fcinfo, Reader read);
+/* The binary form of a value. */
+Datum binary_of(const char *normal);
+/* Keeps the error that says why the text is no value of the type, or raises it. */
+struct varlena *fail_text(Bytes text, const char *type, Writer reason, Node *context);
 /* What the call writes, however long, in memory of the server's. Where it is not PEP440_OK, nothing is written. */
 uint8_t write_all(Writer call, Bytes read, Bytes *out);
 /* The normal form that the call writes of a value, or the error of its status. It is ASCII, and so the same in each encoding of a server. */
 char *normal_text(Writer call, Bytes value);
-/* A text of the server's: a copy in its encoding, with a zero at the end. */
-char *server_text(Bytes utf8);
 /* The error of a status that has no other: memory that was refused, or stored bytes that are no value. */
 _Noreturn void fail(uint8_t status);
 
@@ -69,15 +71,15 @@ Version version_of(const struct varlena *stored, VersionBuffer *buffer);
 int compare_versions(const struct varlena *left, const struct varlena *right);
 /* A number that is not above that of a greater version: nearly all versions have epoch 0, and their keys a first byte 0; the eight bytes behind it. */
 uint64 first_of_key(const struct varlena *stored);
+/* The normal form of a version that is a release alone, and stored as such; else NULL. */
+char *release_text(const struct varlena *stored);
 /* The normal form of a version that is the first argument. */
 char *normal_argument(FunctionCallInfo fcinfo);
 /* What the library takes as the list: compiled bytes, or the normal form where an older release stored the value. */
 Bytes list_of(const struct varlena *stored);
 /* The value of a compiled version. */
 struct varlena *make_version(Bytes compiled);
-/* A value of the type; if the text is none, the error that says why. If errors are to be kept in `context`, it is kept there, and NULL returned. */
 struct varlena *read_version(Bytes text, Node *context);
-struct varlena *read_list(Bytes text, Node *context);
 
 /* The keys of the cover of a list; or PEP440_NUMBER_AT_MAX. Any other failure is an error. */
 uint8_t cover_of(Bytes list, Cover *cover);
@@ -86,18 +88,20 @@ Bytes cover_key(const Cover *cover, size_t place);
 /* The lowest key of a cover, and the one above all of it; no bytes where there is no such bound. Nothing lies in an empty cover. */
 void ends_of_cover(const Cover *cover, Bytes *low, Bytes *high);
 struct varlena *make_bytea(Bytes bytes);
+/* The hash of the bytes; with a seed, which is the second argument, the extended one. */
+Datum hash_of(Bytes bytes, FunctionCallInfo fcinfo);
 /* As keys are compared: byte by byte, then the shorter one first. -1, 0 or 1. */
 int compare_bytes(Bytes left, Bytes right);
 
 #define GET_STORED(number) ((struct varlena *)PG_DETOAST_DATUM_PACKED(PG_GETARG_DATUM(number)))
 #define GET_LIST(number) list_of(GET_STORED(number))
 
-/* A function of SQL that returns whether the test holds. */
-#define ORDER_FUNCTION(name, test) \
+/* A function of SQL that returns the datum. */
+#define SQL_FUNCTION(name, datum) \
     PG_FUNCTION_INFO_V1(name); \
     Datum name(PG_FUNCTION_ARGS) \
     { \
-        PG_RETURN_BOOL(test); \
+        return datum; \
     } \
     extern int no_such_variable
 

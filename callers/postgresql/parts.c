@@ -24,11 +24,7 @@ static pep440_parts parts_of(FunctionCallInfo fcinfo)
     return parts;
 }
 
-PG_FUNCTION_INFO_V1(version_epoch);
-Datum version_epoch(PG_FUNCTION_ARGS)
-{
-    return make_numeric(parts_of(fcinfo).epoch);
-}
+SQL_FUNCTION(version_epoch, make_numeric(parts_of(fcinfo).epoch));
 
 PG_FUNCTION_INFO_V1(version_release);
 Datum version_release(PG_FUNCTION_ARGS)

@@ -32,10 +32,10 @@ CREATE OPERATOR * (LEFTARG = pep440_specs, RIGHTARG = pep440_specs, FUNCTION = p
 
 -- ---- whether there is a version in a list, or in two at once
 
-CREATE FUNCTION isempty(pep440_specs) RETURNS boolean AS 'MODULE_PATHNAME', 'specs_isempty' LANGUAGE C IMMUTABLE STRICT PARALLEL SAFE;
-CREATE FUNCTION pep440_version_in(pep440_specs) RETURNS pep440 AS 'MODULE_PATHNAME', 'specs_version' LANGUAGE C IMMUTABLE STRICT PARALLEL SAFE;
-CREATE FUNCTION pep440_specs_overlap(pep440_specs, pep440_specs) RETURNS boolean AS 'MODULE_PATHNAME', 'specs_overlap' LANGUAGE C IMMUTABLE STRICT PARALLEL SAFE;
-CREATE OPERATOR && (LEFTARG = pep440_specs, RIGHTARG = pep440_specs, FUNCTION = pep440_specs_overlap, COMMUTATOR = &&, RESTRICT = contsel, JOIN = contjoinsel);
+CREATE FUNCTION isempty(pep440_specs) RETURNS boolean AS 'MODULE_PATHNAME', 'specs_isempty' LANGUAGE C IMMUTABLE STRICT PARALLEL SAFE COST 20;
+CREATE FUNCTION pep440_version_in(pep440_specs) RETURNS pep440 AS 'MODULE_PATHNAME', 'specs_version' LANGUAGE C IMMUTABLE STRICT PARALLEL SAFE COST 20;
+CREATE FUNCTION pep440_specs_overlap(pep440_specs, pep440_specs) RETURNS boolean AS 'MODULE_PATHNAME', 'specs_overlap' LANGUAGE C IMMUTABLE STRICT PARALLEL SAFE COST 20;
+CREATE OPERATOR && (LEFTARG = pep440_specs, RIGHTARG = pep440_specs, FUNCTION = pep440_specs_overlap, COMMUTATOR = &&, RESTRICT = matchingsel, JOIN = matchingjoinsel);
 
 -- ---- the columns: values of release 0.2 are read as they are, but take more room
 
@@ -48,7 +48,7 @@ BEGIN
         SELECT c.oid::regclass AS name, pg_get_userbyid(c.relowner) = current_user AND current_user = session_user AS is_own,
             format('ALTER TABLE %s %s', c.oid::regclass, string_agg(format('ALTER COLUMN %I TYPE %s USING %I::text::%2$s', a.attname, a.atttypid::regtype, a.attname), ', ')) AS command
         FROM pg_attribute a JOIN pg_class c ON c.oid = a.attrelid
-        WHERE a.atttypid IN ('pep440'::regtype::oid, 'pep440_specs'::regtype::oid) AND c.relkind IN ('r', 'p') AND a.attnum > 0 AND NOT a.attisdropped AND a.attinhcount = 0
+        WHERE a.atttypid IN ('pep440'::regtype::oid, 'pep440_specs'::regtype::oid) AND c.relkind IN ('r', 'p') AND a.attnum > 0 AND NOT a.attisdropped AND a.attinhcount = 0 AND a.attgenerated = ''
         GROUP BY c.oid, c.relowner
     LOOP
         IF NOT t.is_own THEN

@@ -94,17 +94,8 @@ static Node *support(FunctionCallInfo fcinfo, bool version_is_first)
     return (Node *)index_conditions(request, version_is_first);
 }
 
-PG_FUNCTION_INFO_V1(specs_contains_support);
-Datum specs_contains_support(PG_FUNCTION_ARGS)
-{
-    PG_RETURN_POINTER(support(fcinfo, false));
-}
-
-PG_FUNCTION_INFO_V1(version_contained_by_support);
-Datum version_contained_by_support(PG_FUNCTION_ARGS)
-{
-    PG_RETURN_POINTER(support(fcinfo, true));
-}
+SQL_FUNCTION(specs_contains_support, PointerGetDatum(support(fcinfo, false)));
+SQL_FUNCTION(version_contained_by_support, PointerGetDatum(support(fcinfo, true)));
 
 /* ---- how many rows: the sum over the intervals of the cover, by what is known of the column */
 
@@ -117,7 +108,8 @@ static double intervals_selectivity(PlannerInfo *root, int relation, VariableSta
     Oid type = exprType(variable->var);
     Oid family = lookup_type_cache(type, TYPECACHE_BTREE_OPFAMILY)->btree_opf;
     double sum = 0, least = 1 / get_variable_numdistinct(variable, &is_guess);
-    for (size_t each = 0; each < cover->count; each += 2) {
+    for (size_t each = 0; each < cover->count && sum < 1; each += 2) {
+        CHECK_FOR_INTERRUPTS();
         List *conditions = interval_conditions(family, variable->var, type, cover_key(cover, each), cover_key(cover, each + 1));
         sum += conditions == NIL ? 1 : Max(least, clauselist_selectivity(root, conditions, relation, JOIN_INNER, NULL));
     }
@@ -156,14 +148,5 @@ static Datum selectivity(FunctionCallInfo fcinfo, bool version_is_first)
     PG_RETURN_FLOAT8(found);
 }
 
-PG_FUNCTION_INFO_V1(specs_contains_selectivity);
-Datum specs_contains_selectivity(PG_FUNCTION_ARGS)
-{
-    return selectivity(fcinfo, false);
-}
-
-PG_FUNCTION_INFO_V1(version_contained_by_selectivity);
-Datum version_contained_by_selectivity(PG_FUNCTION_ARGS)
-{
-    return selectivity(fcinfo, true);
-}
+SQL_FUNCTION(specs_contains_selectivity, selectivity(fcinfo, false));
+SQL_FUNCTION(version_contained_by_selectivity, selectivity(fcinfo, true));

@@ -110,12 +110,15 @@ def milliseconds(db, query):
     return float(re.search(r"Execution Time: ([\d.]+)", "\n".join(line for (line,) in db.rows("EXPLAIN (ANALYZE, TIMING OFF) " + query)))[1])
 
 
-def processor_time(db, query):
-    """Of the backend, in nanoseconds: on a loaded machine it waits longer, and takes no more."""
-    file = pathlib.Path(f"/proc/{db.value('SELECT pg_backend_pid()')}/schedstat")
-    before = int(file.read_text().split()[0])
+def processor_time(db):
+    """What the backend has taken, in seconds: on a loaded machine it waits longer, and takes no more."""
+    return int(pathlib.Path(f"/proc/{db.value('SELECT pg_backend_pid()')}/schedstat").read_text().split()[0]) / 1e9
+
+
+def time_of(db, query):
+    before = processor_time(db)
     db.rows(query)
-    return int(file.read_text().split()[0]) - before
+    return processor_time(db) - before
 
 
 def instructions(server, query):

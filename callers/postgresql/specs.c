@@ -4,35 +4,22 @@
 /* Above each key: the first byte of a key is at most 8. */
 static const uint8_t ABOVE_ALL[] = {0xff};
 
-/* The most bytes of a list in which a version is sought. */
+/* The most bytes of the normal form of a list in which a version is sought. */
 enum { MOST_DECIDED = 4096 };
 
 /* ---- values */
-
-/* Keeps the error that says why the text is no list, or raises it. */
-static struct varlena *fail_list(Bytes text, Node *context)
-{
-    Bytes why;
-    uint8_t status = write_all(pep440_list_error, text, &why);
-    if (status != PEP440_OK)
-        fail(status);
-    while (why.length > 0 && why.bytes[why.length - 1] == '\n')
-        why.length--;
-    ereturn(context, NULL, (errcode(ERRCODE_INVALID_TEXT_REPRESENTATION),
-                            errmsg("invalid input syntax for type %s: \"%s\"", "pep440_specs", server_text(text)), errdetail("%s", server_text(why))));
-}
 
 static uint8_t compile_list(Bytes text, Bytes *compiled)
 {
     return text.length > MOST_TEXT ? PEP440_NO_ROOM : write_all(pep440_compile_list, text, compiled);
 }
 
-struct varlena *read_list(Bytes text, Node *context)
+static struct varlena *read_list(Bytes text, Node *context)
 {
     Bytes compiled;
     uint8_t status = compile_list(text, &compiled);
     if (status == PEP440_INVALID_LIST)
-        return fail_list(text, context);
+        return fail_text(text, "pep440_specs", pep440_list_error, context);
     if (status == PEP440_NO_ROOM)
         ereturn(context, NULL, (errcode(ERRCODE_PROGRAM_LIMIT_EXCEEDED), errmsg("list is too long for type %s", "pep440_specs"),
                                 errdetail("Its text has more than %d bytes.", MOST_TEXT)));
@@ -46,42 +33,12 @@ static char *normal_list(FunctionCallInfo fcinfo, int number)
     return normal_text(pep440_normalize_list, GET_LIST(number));
 }
 
-PG_FUNCTION_INFO_V1(specs_in);
-Datum specs_in(PG_FUNCTION_ARGS)
-{
-    const char *text = PG_GETARG_CSTRING(0);
-    PG_RETURN_POINTER(read_list(utf8_of(text, (int)strlen(text)), fcinfo->context));
-}
-
-PG_FUNCTION_INFO_V1(specs_out);
-Datum specs_out(PG_FUNCTION_ARGS)
-{
-    PG_RETURN_CSTRING(normal_list(fcinfo, 0));
-}
-
-PG_FUNCTION_INFO_V1(specs_send);
-Datum specs_send(PG_FUNCTION_ARGS)
-{
-    PG_RETURN_BYTEA_P(send_text(normal_list(fcinfo, 0)));
-}
-
-PG_FUNCTION_INFO_V1(specs_recv);
-Datum specs_recv(PG_FUNCTION_ARGS)
-{
-    PG_RETURN_POINTER(read_list(receive_text((StringInfo)PG_GETARG_POINTER(0), "pep440_specs"), NULL));
-}
-
-PG_FUNCTION_INFO_V1(specs_from_text);
-Datum specs_from_text(PG_FUNCTION_ARGS)
-{
-    PG_RETURN_POINTER(read_list(utf8_argument(fcinfo), NULL));
-}
-
-PG_FUNCTION_INFO_V1(specs_to_text);
-Datum specs_to_text(PG_FUNCTION_ARGS)
-{
-    PG_RETURN_TEXT_P(cstring_to_text(normal_list(fcinfo, 0)));
-}
+SQL_FUNCTION(specs_in, read_cstring(fcinfo, read_list));
+SQL_FUNCTION(specs_out, CStringGetDatum(normal_list(fcinfo, 0)));
+SQL_FUNCTION(specs_recv, read_binary(fcinfo, read_list));
+SQL_FUNCTION(specs_send, binary_of(normal_list(fcinfo, 0)));
+SQL_FUNCTION(specs_from_text, read_text(fcinfo, read_list));
+SQL_FUNCTION(specs_to_text, PointerGetDatum(cstring_to_text(normal_list(fcinfo, 0))));
 
 PG_FUNCTION_INFO_V1(specs_valid);
 Datum specs_valid(PG_FUNCTION_ARGS)
@@ -93,20 +50,20 @@ Datum specs_valid(PG_FUNCTION_ARGS)
     PG_RETURN_BOOL(status == PEP440_OK);
 }
 
+static Bytes bytes_of_text(const char *text)
+{
+    return (Bytes){(const uint8_t *)text, strlen(text)};
+}
+
 /* The members of both lists. */
 static Bytes join_lists(FunctionCallInfo fcinfo)
 {
     const char *left = normal_list(fcinfo, 0), *right = normal_list(fcinfo, 1);
-    char *both = psprintf("%s%s%s", left, *left != 0 && *right != 0 ? "," : "", right);
-    return (Bytes){(const uint8_t *)both, strlen(both)};
+    return bytes_of_text(psprintf("%s%s%s", left, *left != 0 && *right != 0 ? "," : "", right));
 }
 
 /* The list of the members of both: a version is in it if it is in both. */
-PG_FUNCTION_INFO_V1(specs_both);
-Datum specs_both(PG_FUNCTION_ARGS)
-{
-    PG_RETURN_POINTER(read_list(join_lists(fcinfo), NULL));
-}
+SQL_FUNCTION(specs_both, PointerGetDatum(read_list(join_lists(fcinfo), NULL)));
 
 /* A version that the list contains, no bytes if there is none. The time grows with the square of the length, and nothing can stop the call. */
 static Bytes find_version(Bytes list)
@@ -114,30 +71,21 @@ static Bytes find_version(Bytes list)
     Bytes version;
     if (list.length > MOST_DECIDED)
         ereport(ERROR, (errcode(ERRCODE_PROGRAM_LIMIT_EXCEEDED), errmsg("list is too long to find a version in it"),
-                        errdetail("It has more than %d bytes.", MOST_DECIDED)));
+                        errdetail("Its normal form has more than %d bytes.", MOST_DECIDED)));
     uint8_t status = write_all(pep440_version_in, list, &version);
     if (status != PEP440_OK)
         fail(status);
     return version;
 }
 
-PG_FUNCTION_INFO_V1(specs_isempty);
-Datum specs_isempty(PG_FUNCTION_ARGS)
-{
-    PG_RETURN_BOOL(find_version(GET_LIST(0)).length == 0);
-}
-
-PG_FUNCTION_INFO_V1(specs_overlap);
-Datum specs_overlap(PG_FUNCTION_ARGS)
-{
-    PG_RETURN_BOOL(find_version(join_lists(fcinfo)).length != 0);
-}
+SQL_FUNCTION(specs_isempty, BoolGetDatum(find_version(bytes_of_text(normal_list(fcinfo, 0))).length == 0));
+SQL_FUNCTION(specs_overlap, BoolGetDatum(find_version(join_lists(fcinfo)).length != 0));
 
 /* A version that the list contains, or null. */
 PG_FUNCTION_INFO_V1(specs_version);
 Datum specs_version(PG_FUNCTION_ARGS)
 {
-    Bytes version = find_version(GET_LIST(0));
+    Bytes version = find_version(bytes_of_text(normal_list(fcinfo, 0)));
     if (version.length == 0)
         PG_RETURN_NULL();
     PG_RETURN_POINTER(read_version(version, NULL));
@@ -174,38 +122,26 @@ static int order_of_lists(FunctionCallInfo fcinfo)
     return order;
 }
 
-ORDER_FUNCTION(specs_lt, order_of_lists(fcinfo) < 0);
-ORDER_FUNCTION(specs_le, order_of_lists(fcinfo) <= 0);
-ORDER_FUNCTION(specs_eq, order_of_lists(fcinfo) == 0);
-ORDER_FUNCTION(specs_ge, order_of_lists(fcinfo) >= 0);
-ORDER_FUNCTION(specs_gt, order_of_lists(fcinfo) > 0);
-ORDER_FUNCTION(specs_ne, order_of_lists(fcinfo) != 0);
+SQL_FUNCTION(specs_lt, BoolGetDatum(order_of_lists(fcinfo) < 0));
+SQL_FUNCTION(specs_le, BoolGetDatum(order_of_lists(fcinfo) <= 0));
+SQL_FUNCTION(specs_eq, BoolGetDatum(order_of_lists(fcinfo) == 0));
+SQL_FUNCTION(specs_ge, BoolGetDatum(order_of_lists(fcinfo) >= 0));
+SQL_FUNCTION(specs_gt, BoolGetDatum(order_of_lists(fcinfo) > 0));
+SQL_FUNCTION(specs_ne, BoolGetDatum(order_of_lists(fcinfo) != 0));
 
-PG_FUNCTION_INFO_V1(specs_cmp);
-Datum specs_cmp(PG_FUNCTION_ARGS)
-{
-    PG_RETURN_INT32(order_of_lists(fcinfo));
-}
+SQL_FUNCTION(specs_cmp, Int32GetDatum(order_of_lists(fcinfo)));
 
-PG_FUNCTION_INFO_V1(specs_hash);
-Datum specs_hash(PG_FUNCTION_ARGS)
+static Datum hash_of_list(FunctionCallInfo fcinfo)
 {
     struct varlena *stored = GET_STORED(0);
     Bytes list = compiled_list(stored);
-    Datum hash = hash_any(list.bytes, (int)list.length);
+    Datum hash = hash_of(list, fcinfo);
     free_list(fcinfo, 0, stored, list);
     return hash;
 }
 
-PG_FUNCTION_INFO_V1(specs_hash_extended);
-Datum specs_hash_extended(PG_FUNCTION_ARGS)
-{
-    struct varlena *stored = GET_STORED(0);
-    Bytes list = compiled_list(stored);
-    Datum hash = hash_any_extended(list.bytes, (int)list.length, (uint64)PG_GETARG_INT64(1));
-    free_list(fcinfo, 0, stored, list);
-    return hash;
-}
+SQL_FUNCTION(specs_hash, hash_of_list(fcinfo));
+SQL_FUNCTION(specs_hash_extended, hash_of_list(fcinfo));
 
 /* ---- covers */
 
@@ -216,25 +152,33 @@ static Cover whole_cover(void)
     return (Cover){palloc0(1), ends, 2};
 }
 
+static void free_cover(const Cover *cover)
+{
+    pfree(unconstify(uint8_t *, cover->keys));
+    pfree(unconstify(size_t *, cover->ends));
+}
+
 /* A call that writes keys of intervals. */
 typedef uint8_t (*Intervals)(const uint8_t *, size_t, uint8_t *, size_t, size_t *, size_t, size_t *, size_t *);
 
+/* A first call has what nearly all lists need; where that is not enough, a second one has the room that the first told. */
 static uint8_t intervals_of(Intervals call, Bytes list, Cover *cover)
 {
-    uint8_t nothing[1];
-    size_t none[1], room, keys;
-    uint8_t status = call(list.bytes, list.length, nothing, 0, none, 0, &room, &keys);
-    if (status == PEP440_NUMBER_AT_MAX)
-        return status;
-    if (status != PEP440_OK && status != PEP440_NO_ROOM)
-        fail(status);
-    uint8_t *written = palloc(room + 1);
-    size_t *ends = palloc(keys * sizeof *ends + 1);
-    status = call(list.bytes, list.length, written, room, ends, keys, &room, &keys);
-    if (status != PEP440_OK)
-        fail(status);
-    *cover = (Cover){written, ends, keys};
-    return status;
+    size_t room = 64 + 2 * list.length, keys = 4 + list.length / 2;
+    for (;;) {
+        uint8_t *written = palloc(room + 1);
+        size_t *ends = palloc((keys + 1) * sizeof *ends);
+        CHECK_FOR_INTERRUPTS();
+        uint8_t status = call(list.bytes, list.length, written, room, ends, keys, &room, &keys);
+        *cover = (Cover){written, ends, keys};
+        if (status == PEP440_OK)
+            return status;
+        free_cover(cover);
+        if (status == PEP440_NUMBER_AT_MAX)
+            return status;
+        if (status != PEP440_NO_ROOM)
+            fail(status);
+    }
 }
 
 uint8_t cover_of(Bytes list, Cover *cover)
@@ -266,12 +210,6 @@ typedef struct {
     Cover cover;
     Cover contained;
 } Kept;
-
-static void free_cover(const Cover *cover)
-{
-    pfree(unconstify(uint8_t *, cover->keys));
-    pfree(unconstify(size_t *, cover->ends));
-}
 
 static void keep_list(FmgrInfo *function, Bytes list)
 {
@@ -366,17 +304,8 @@ static bool contains(FmgrInfo *function, Bytes list, const struct varlena *store
     return contained != 0;
 }
 
-PG_FUNCTION_INFO_V1(specs_contains);
-Datum specs_contains(PG_FUNCTION_ARGS)
-{
-    PG_RETURN_BOOL(contains(fcinfo->flinfo, GET_LIST(0), GET_STORED(1)));
-}
-
-PG_FUNCTION_INFO_V1(version_contained_by);
-Datum version_contained_by(PG_FUNCTION_ARGS)
-{
-    PG_RETURN_BOOL(contains(fcinfo->flinfo, GET_LIST(1), GET_STORED(0)));
-}
+SQL_FUNCTION(specs_contains, BoolGetDatum(contains(fcinfo->flinfo, GET_LIST(0), GET_STORED(1))));
+SQL_FUNCTION(version_contained_by, BoolGetDatum(contains(fcinfo->flinfo, GET_LIST(1), GET_STORED(0))));
 
 /* Whether the list names a pre-release or a developmental release. */
 PG_FUNCTION_INFO_V1(specs_any_prerelease);
@@ -405,17 +334,8 @@ static Datum end_of(FunctionCallInfo fcinfo, bool upper)
     PG_RETURN_BYTEA_P(make_bytea(upper ? high : low));
 }
 
-PG_FUNCTION_INFO_V1(specs_cover_start);
-Datum specs_cover_start(PG_FUNCTION_ARGS)
-{
-    return end_of(fcinfo, false);
-}
-
-PG_FUNCTION_INFO_V1(specs_cover_end);
-Datum specs_cover_end(PG_FUNCTION_ARGS)
-{
-    return end_of(fcinfo, true);
-}
+SQL_FUNCTION(specs_cover_start, end_of(fcinfo, false));
+SQL_FUNCTION(specs_cover_end, end_of(fcinfo, true));
 
 /* A row for each interval; the high key is null where there is no bound. */
 PG_FUNCTION_INFO_V1(specs_cover);

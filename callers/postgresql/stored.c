@@ -58,14 +58,50 @@ static size_t write_key(Bytes value, uint8_t *out, size_t most)
     return before + rest;
 }
 
+static size_t zeros_of(Bytes value)
+{
+    return value.bytes[0] >> ZEROS_SHIFT & MOST_ZEROS;
+}
+
 static Version short_version(Bytes value, VersionBuffer *buffer)
 {
-    size_t zeros = value.bytes[0] >> ZEROS_SHIFT & MOST_ZEROS, numbers = write_key(value, buffer->bytes + 2, MOST_SHORT);
-    size_t length = 2 + numbers + ENDS[end_of(value)].length;
+    size_t zeros = zeros_of(value), length = 2 + write_key(value, buffer->bytes + 2, MOST_SHORT) + ENDS[end_of(value)].length;
     buffer->bytes[0] = VERSION_FORMAT;
     buffer->bytes[1] = 0;
     memset(buffer->bytes + length, ZERO, MOST_ZEROS);
-    return (Version){.key = {buffer->bytes + 1, length - 1}, .bytes = {buffer->bytes, length + zeros}, .is_plain = end_of(value) == RELEASE_ALONE, .numbers_length = numbers};
+    return (Version){.key = {buffer->bytes + 1, length - 1}, .bytes = {buffer->bytes, length + zeros}, .is_plain = end_of(value) == RELEASE_ALONE};
+}
+
+/* Most numbers have one or two digits. */
+static char *put_number(char *out, uint64 number)
+{
+    if (number >= 100)
+        return out + pg_ulltoa_n(number, out);
+    if (number >= 10)
+        *out++ = (char)('0' + number / 10);
+    *out++ = (char)('0' + number % 10);
+    return out;
+}
+
+/* The numbers with dots between them, and the zeros at the end. The library would parse the key again, in ten times the instructions. */
+char *release_text(const struct varlena *stored)
+{
+    Bytes value = bytes_of(stored);
+    if (!is_short(value) || end_of(value) != RELEASE_ALONE)
+        return NULL;
+    const uint8_t *at = value.bytes + 1, *end = value.bytes + value.length;
+    char *text = palloc(4 * value.length + 2 * MOST_ZEROS + 1), *out = text;
+    for (int length = value.bytes[0] & MOST_FIRST; length > 0; length = at < end ? *at++ : 0) {
+        uint64 number = 0;
+        while (--length > 0)
+            number = number << 8 | *at++;
+        out = put_number(out, number);
+        *out++ = '.';
+    }
+    for (size_t zeros = zeros_of(value); zeros > 0; zeros--)
+        *out++ = '0', *out++ = '.';
+    out[-1] = 0;
+    return text;
 }
 
 /* Of releases before 0.3: two lengths, the sort key, compiled bytes and the normal form. A key of no bytes is in the compiled bytes. */

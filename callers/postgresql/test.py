@@ -15,7 +15,7 @@ import sys
 import test_values
 from libpq import Refused
 from server import (FOLDER, HERE, INVALID_REGULAR_EXPRESSION, LISTS, NARROW, NO_INDEX, NO_TABLE, OUT_OF_MEMORY, PREFIX, PROGRAM, ROWS, SMALL, STRINGS, USER, Server, copied, fill,
-                    instructions, milliseconds, plan_of, processor_time, version)
+                    instructions, milliseconds, plan_of, time_of, version)
 
 # ---- what a running server is asked
 
@@ -281,7 +281,7 @@ def test_speed(server):
     for specs in (">=1.0", ">=1.0,<2.0,!=1.5.*", "~=1.4.2"):
         match, like = (f"SELECT count(*) FROM releases WHERE {condition}" for condition in (f"'{specs}' @> version", "written LIKE '%a%'"))
         # The median, since a processor is slow while its neighbour works.
-        matches.append(statistics.median(processor_time(db, match) / processor_time(db, like) for _ in range(15)))
+        matches.append(statistics.median(time_of(db, match) / time_of(db, like) for _ in range(15)))
         ratios.append(f"`{specs}` over all rows {matches[-1]:.2f} of a LIKE")
     db.close()
     assert without / by_index >= 1000 and max(matches) <= 2, ratios

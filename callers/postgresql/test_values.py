@@ -7,7 +7,7 @@ import time
 import unittest
 
 from libpq import Connection, Refused
-from server import FOLDER, HERE, LISTS, NO_TABLE, ROWS, SMALL, instructions, plan_of, version
+from server import FOLDER, HERE, LISTS, NO_TABLE, ROWS, SMALL, instructions, plan_of, processor_time, version
 
 UNIQUE_VIOLATION, CANCELED, NO_PRIVILEGE = "23505", "57014", "42501"
 SPELLINGS = [">=1.0,<2.0", "<2.0 , >=1.0", ">=v1.0, <2.0"]  # of one list
@@ -125,7 +125,7 @@ def test_replica(server):
 
 
 def test_estimates(server):
-    """How many of many stored lists a version is in."""
+    """How many of many stored lists a version is in, and how many have one in common with another list."""
     db, rng = server.connect("listed"), random.Random(653)
     rows = ROWS // 5
     lists = [f">={rng.randrange(6)}.{rng.randrange(20)}" + rng.choice(["", f",<{rng.randrange(3, 9)}", f",!={rng.randrange(6)}.*"]) for _ in range(2000)]
@@ -133,7 +133,7 @@ def test_estimates(server):
     db.rows(f"INSERT INTO required SELECT specs FROM choice, generate_series(1, {rows // 2000}) ORDER BY random()")
     db.rows("ANALYZE required")
     told = []
-    for condition in ("specs @> '1.5'", "'3.2' <@ specs", "specs @> '0.1'", "specs @> '7'"):
+    for condition in ("specs @> '1.5'", "'3.2' <@ specs", "specs @> '0.1'", "specs @> '7'", "specs && '>=1.5,<2'", "'==7' && specs"):
         found = int(db.value(f"SELECT count(*) FROM required WHERE {condition}"))
         estimate = int(re.search(r"Seq Scan.*rows=(\d+)", "\n".join(line for (line,) in db.rows(f"SET max_parallel_workers_per_gather = 0; EXPLAIN SELECT * FROM required WHERE {condition}")))[1])
         assert abs(estimate - found) < 0.15 * rows, (condition, estimate, found)
@@ -159,6 +159,7 @@ def test_packaging(server):
         wanted = sum(int(count) for string, count in strings if those.contains(parsed[string]))
         found = int(db.value(f"SELECT count(*) FROM releases WHERE '{specs}' @> version"))
         assert found == wanted, (specs, found, wanted)
+    assert not specifiers_of.SpecifierSet(">1.0rc1", prereleases=True).contains("1.0+cpu") and db.value("SELECT '>1.0rc1' @> '1.0+cpu'::pep440") == "t"
     db.close()
     return f"{ROWS} rows, {len(in_order)} versions in order, {len(LISTS)} lists as in {name}"
 
@@ -216,7 +217,7 @@ def test_update(server):
     rows = db.rows("SELECT id, version, encode(pep440_key(version), 'hex') FROM fresh")
     values = ",".join(f"({number}, '\\x{stored_by_0_2(normal, bytes.fromhex(key)).hex()}'::bytea::pep440)" for number, normal, key in rows)
     for table in ("old", "seen", "other"):
-        db.rows(f"CREATE TABLE {table} (id int, version pep440); INSERT INTO {table} VALUES {values}; CREATE INDEX ON {table} (version)")
+        db.rows(f"CREATE TABLE {table} (id int, version pep440, made pep440 GENERATED ALWAYS AS (pep440(id::text)) STORED); INSERT INTO {table} VALUES {values}; CREATE INDEX ON {table} (version)")
     db.rows("CREATE VIEW on_seen AS SELECT version FROM seen; CREATE ROLE owner; ALTER TABLE other OWNER TO owner")
     server.run("pg_dump", "-Fc", "-h", server.folder, "-U", "tester", "-f", server.folder / "dump_0_2", "-t", "old", "-e", "pep440", "older_release")
     sizes = {table: int(db.value(f"SELECT sum(pg_column_size(version)) FROM {table}")) for table in ("fresh", "old")}
@@ -270,24 +271,28 @@ def test_soft_errors(server):
     return "valid and invalid versions and lists"
 
 
-LONG = [  # what takes the longest of the texts that a server takes
+GAPS = ">=1" + "".join(f",!={number % 300}.{number}" for number in range(80_000))
+LONG = [  # what takes the longest of the texts that a server takes, and of the plans that it makes for them
     "('1' || repeat('.1', 50000000))::pep440", "repeat('0', 100000000)::pep440", "(repeat(' ', 100000000) || '1')::pep440", "('>=1' || repeat(',!=1.5.*', 10000000))::pep440_specs",
     "(repeat('>=1,', 20000000) || 'x')::pep440_specs", "pep440_valid(repeat('1', 100000000))", "pep440_specs_valid(repeat('>=1,', 20000000) || '>1')",
+    f"(SELECT count(*) FROM releases WHERE version <@ '{GAPS}')", f"(SELECT count(*) FROM releases, pep440_specs('{GAPS}') AS specs WHERE version <@ specs)",
+    f"(SELECT count(*) FROM generate_series(1, 100), pep440_cover('{GAPS}'))", f"isempty('{','.join(f'!=1.{number}' for number in range(440))}')",
 ]
 
 
 def test_interrupts(server):
-    """A statement that reads a long text ends soon after its time is over."""
+    """A statement that reads a long text ends soon after its time is over: what counts is the processor's time, since on a loaded machine all waits."""
     if SMALL:
         return "left out"
     db, longest = server.connect(), 0
     db.rows("SET statement_timeout = '1s'")
     for text in LONG:
-        begun = time.monotonic()
+        begun = processor_time(db)
         try:
             db.rows(f"SELECT length({text}::text)")
         except Refused as error:
             assert error.code in (CANCELED, "54000", "22P02"), error
-        longest = max(longest, time.monotonic() - begun)
+        longest = max(longest, processor_time(db) - begun)
     db.close()
-    return f"{len(LONG)} long texts, the longest {longest:.1f} s under a limit of 1 s"
+    assert longest < 3, longest
+    return f"{len(LONG)} long texts, the longest {longest:.1f} s of processor under a limit of 1 s"

@@ -12,7 +12,9 @@ void fail(uint8_t status)
     ereport(ERROR, (errcode(ERRCODE_DATA_CORRUPTED), errmsg("stored bytes are no value of this type")));
 }
 
-Bytes utf8_of(const char *text, int length)
+/* The text in UTF-8, which the library reads: the server may have another encoding. The library would take bytes that begin with a format as compiled: a text
+   is none, so another one stands for it that is no version and no list either. */
+static Bytes utf8_of(const char *text, int length)
 {
     const char *utf8 = pg_server_to_any(text, length, PG_UTF8);
     if (length > 0 && (utf8[0] == VERSION_FORMAT || utf8[0] == LIST_FORMAT))
@@ -20,7 +22,8 @@ Bytes utf8_of(const char *text, int length)
     return (Bytes){(const uint8_t *)utf8, utf8 == text ? (size_t)length : strlen(utf8)};
 }
 
-char *server_text(Bytes utf8)
+/* A text of the server's: a copy in its encoding, with a zero at the end. */
+static char *server_text(Bytes utf8)
 {
     char *text = pnstrdup((const char *)utf8.bytes, utf8.length);
     return pg_any_to_server(text, (int)utf8.length, PG_UTF8);
@@ -32,24 +35,36 @@ Bytes utf8_argument(FunctionCallInfo fcinfo)
     return utf8_of((const char *)given.bytes, (int)given.length);
 }
 
+Datum read_cstring(FunctionCallInfo fcinfo, Reader read)
+{
+    const char *text = PG_GETARG_CSTRING(0);
+    return PointerGetDatum(read(utf8_of(text, (int)strlen(text)), fcinfo->context));
+}
+
+Datum read_text(FunctionCallInfo fcinfo, Reader read)
+{
+    return PointerGetDatum(read(utf8_argument(fcinfo), NULL));
+}
+
 /* The binary form of both types is a byte that says which form it is, 1, and the normal form as a text. So what is received is read like any
    other text, and nothing in it is trusted. */
-bytea *send_text(const char *normal)
+Datum binary_of(const char *normal)
 {
     StringInfoData buffer;
     pq_begintypsend(&buffer);
     pq_sendbyte(&buffer, 1);
     pq_sendtext(&buffer, normal, (int)strlen(normal));
-    return pq_endtypsend(&buffer);
+    return PointerGetDatum(pq_endtypsend(&buffer));
 }
 
-Bytes receive_text(StringInfo message, const char *type)
+Datum read_binary(FunctionCallInfo fcinfo, Reader read)
 {
+    StringInfo message = (StringInfo)PG_GETARG_POINTER(0);
     int length, form = pq_getmsgbyte(message);
     if (form != 1)
-        ereport(ERROR, (errcode(ERRCODE_INVALID_BINARY_REPRESENTATION), errmsg("unknown binary form %d of type %s", form, type)));
-    char *text = pq_getmsgtext(message, message->len - message->cursor, &length);
-    return utf8_of(text, length);
+        ereport(ERROR, (errcode(ERRCODE_INVALID_BINARY_REPRESENTATION), errmsg("unknown binary form %d", form)));
+    const char *text = pq_getmsgtext(message, message->len - message->cursor, &length);
+    return PointerGetDatum(read(utf8_of(text, length), NULL));
 }
 
 uint8_t write_all(Writer call, Bytes read, Bytes *out)
@@ -86,18 +101,26 @@ struct varlena *make_bytea(Bytes bytes)
     return made;
 }
 
-/* ---- values */
+Datum hash_of(Bytes bytes, FunctionCallInfo fcinfo)
+{
+    if (PG_NARGS() == 1)
+        return hash_any(bytes.bytes, (int)bytes.length);
+    return hash_any_extended(bytes.bytes, (int)bytes.length, (uint64)PG_GETARG_INT64(1));
+}
 
-/* Keeps the error that says why the text is no version, or raises it. */
-static struct varlena *fail_version(Bytes text, Node *context)
+struct varlena *fail_text(Bytes text, const char *type, Writer reason, Node *context)
 {
     Bytes why;
-    uint8_t status = write_all(pep440_version_error, text, &why);
+    uint8_t status = write_all(reason, text, &why);
     if (status != PEP440_OK)
         fail(status);
+    while (why.length > 0 && why.bytes[why.length - 1] == '\n')
+        why.length--;
     ereturn(context, NULL, (errcode(ERRCODE_INVALID_TEXT_REPRESENTATION),
-                            errmsg("invalid input syntax for type %s: \"%s\"", "pep440", server_text(text)), errdetail("%s", server_text(why))));
+                            errmsg("invalid input syntax for type %s: \"%s\"", type, server_text(text)), errdetail("%s", server_text(why))));
 }
+
+/* ---- values */
 
 static uint8_t compile_version(Bytes text, VersionBuffer *buffer, size_t *length)
 {
@@ -110,7 +133,7 @@ struct varlena *read_version(Bytes text, Node *context)
     size_t length;
     uint8_t status = compile_version(text, &buffer, &length);
     if (status == PEP440_INVALID_VERSION)
-        return fail_version(text, context);
+        return fail_text(text, "pep440", pep440_version_error, context);
     if (status == PEP440_NO_ROOM)
         ereturn(context, NULL, (errcode(ERRCODE_PROGRAM_LIMIT_EXCEEDED), errmsg("version is too long for type %s", "pep440"),
                                 errdetail("It takes more than %d bytes, and no index could keep it; or its text has more than %d.", MOST_BYTES, MOST_TEXT)));
@@ -119,80 +142,20 @@ struct varlena *read_version(Bytes text, Node *context)
     return make_version((Bytes){buffer.bytes, length});
 }
 
-/* Most numbers have one or two digits. */
-static char *put_number(char *out, uint64 number)
-{
-    if (number >= 100)
-        return out + pg_ulltoa_n(number, out);
-    if (number >= 10)
-        *out++ = (char)('0' + number / 10);
-    *out++ = (char)('0' + number % 10);
-    return out;
-}
-
-/* The normal form of a release alone, whose epoch is 0: the numbers of its key with dots between them, and the zeros at its end. The library would parse
-   the key again, in ten times the instructions. */
-static char *release_text(const Version *version)
-{
-    const uint8_t *at = version->key.bytes + 1, *end = at + version->numbers_length;
-    size_t zeros = version->bytes.length - 1 - version->key.length;
-    char *text = palloc(4 * version->numbers_length + 2 * zeros + 1), *out = text;
-    while (at < end) {
-        uint64 number = 0;
-        for (int left = *at++ - 1; left > 0; left--)
-            number = number << 8 | *at++;
-        out = put_number(out, number);
-        *out++ = '.';
-    }
-    for (; zeros > 0; zeros--)
-        *out++ = '0', *out++ = '.';
-    out[-1] = 0;
-    return text;
-}
-
 char *normal_argument(FunctionCallInfo fcinfo)
 {
+    const struct varlena *stored = GET_STORED(0);
     VersionBuffer buffer;
-    Version version = version_of(GET_STORED(0), &buffer);
-    return version.is_plain ? release_text(&version) : normal_text(pep440_normalize, version.bytes);
+    char *text = release_text(stored);
+    return text != NULL ? text : normal_text(pep440_normalize, version_of(stored, &buffer).bytes);
 }
 
-PG_FUNCTION_INFO_V1(version_in);
-Datum version_in(PG_FUNCTION_ARGS)
-{
-    const char *text = PG_GETARG_CSTRING(0);
-    PG_RETURN_POINTER(read_version(utf8_of(text, (int)strlen(text)), fcinfo->context));
-}
-
-PG_FUNCTION_INFO_V1(version_out);
-Datum version_out(PG_FUNCTION_ARGS)
-{
-    PG_RETURN_CSTRING(normal_argument(fcinfo));
-}
-
-PG_FUNCTION_INFO_V1(version_send);
-Datum version_send(PG_FUNCTION_ARGS)
-{
-    PG_RETURN_BYTEA_P(send_text(normal_argument(fcinfo)));
-}
-
-PG_FUNCTION_INFO_V1(version_recv);
-Datum version_recv(PG_FUNCTION_ARGS)
-{
-    PG_RETURN_POINTER(read_version(receive_text((StringInfo)PG_GETARG_POINTER(0), "pep440"), NULL));
-}
-
-PG_FUNCTION_INFO_V1(version_from_text);
-Datum version_from_text(PG_FUNCTION_ARGS)
-{
-    PG_RETURN_POINTER(read_version(utf8_argument(fcinfo), NULL));
-}
-
-PG_FUNCTION_INFO_V1(version_to_text);
-Datum version_to_text(PG_FUNCTION_ARGS)
-{
-    PG_RETURN_TEXT_P(cstring_to_text(normal_argument(fcinfo)));
-}
+SQL_FUNCTION(version_in, read_cstring(fcinfo, read_version));
+SQL_FUNCTION(version_out, CStringGetDatum(normal_argument(fcinfo)));
+SQL_FUNCTION(version_recv, read_binary(fcinfo, read_version));
+SQL_FUNCTION(version_send, binary_of(normal_argument(fcinfo)));
+SQL_FUNCTION(version_from_text, read_text(fcinfo, read_version));
+SQL_FUNCTION(version_to_text, PointerGetDatum(cstring_to_text(normal_argument(fcinfo))));
 
 PG_FUNCTION_INFO_V1(version_valid);
 Datum version_valid(PG_FUNCTION_ARGS)
@@ -234,76 +197,42 @@ static int order_of_key(FunctionCallInfo fcinfo, int version_at)
     return version_at == 0 ? order : -order;
 }
 
-ORDER_FUNCTION(version_lt, order_of(fcinfo) < 0);
-ORDER_FUNCTION(version_le, order_of(fcinfo) <= 0);
-ORDER_FUNCTION(version_eq, order_of(fcinfo) == 0);
-ORDER_FUNCTION(version_ge, order_of(fcinfo) >= 0);
-ORDER_FUNCTION(version_gt, order_of(fcinfo) > 0);
-ORDER_FUNCTION(version_ne, order_of(fcinfo) != 0);
-ORDER_FUNCTION(version_lt_key, order_of_key(fcinfo, 0) < 0);
-ORDER_FUNCTION(key_lt_version, order_of_key(fcinfo, 1) < 0);
-ORDER_FUNCTION(version_le_key, order_of_key(fcinfo, 0) <= 0);
-ORDER_FUNCTION(key_le_version, order_of_key(fcinfo, 1) <= 0);
-ORDER_FUNCTION(version_eq_key, order_of_key(fcinfo, 0) == 0);
-ORDER_FUNCTION(key_eq_version, order_of_key(fcinfo, 1) == 0);
-ORDER_FUNCTION(version_ge_key, order_of_key(fcinfo, 0) >= 0);
-ORDER_FUNCTION(key_ge_version, order_of_key(fcinfo, 1) >= 0);
-ORDER_FUNCTION(version_gt_key, order_of_key(fcinfo, 0) > 0);
-ORDER_FUNCTION(key_gt_version, order_of_key(fcinfo, 1) > 0);
+SQL_FUNCTION(version_lt, BoolGetDatum(order_of(fcinfo) < 0));
+SQL_FUNCTION(version_le, BoolGetDatum(order_of(fcinfo) <= 0));
+SQL_FUNCTION(version_eq, BoolGetDatum(order_of(fcinfo) == 0));
+SQL_FUNCTION(version_ge, BoolGetDatum(order_of(fcinfo) >= 0));
+SQL_FUNCTION(version_gt, BoolGetDatum(order_of(fcinfo) > 0));
+SQL_FUNCTION(version_ne, BoolGetDatum(order_of(fcinfo) != 0));
+SQL_FUNCTION(version_lt_key, BoolGetDatum(order_of_key(fcinfo, 0) < 0));
+SQL_FUNCTION(key_lt_version, BoolGetDatum(order_of_key(fcinfo, 1) < 0));
+SQL_FUNCTION(version_le_key, BoolGetDatum(order_of_key(fcinfo, 0) <= 0));
+SQL_FUNCTION(key_le_version, BoolGetDatum(order_of_key(fcinfo, 1) <= 0));
+SQL_FUNCTION(version_eq_key, BoolGetDatum(order_of_key(fcinfo, 0) == 0));
+SQL_FUNCTION(key_eq_version, BoolGetDatum(order_of_key(fcinfo, 1) == 0));
+SQL_FUNCTION(version_ge_key, BoolGetDatum(order_of_key(fcinfo, 0) >= 0));
+SQL_FUNCTION(key_ge_version, BoolGetDatum(order_of_key(fcinfo, 1) >= 0));
+SQL_FUNCTION(version_gt_key, BoolGetDatum(order_of_key(fcinfo, 0) > 0));
+SQL_FUNCTION(key_gt_version, BoolGetDatum(order_of_key(fcinfo, 1) > 0));
 
-PG_FUNCTION_INFO_V1(version_cmp);
-Datum version_cmp(PG_FUNCTION_ARGS)
-{
-    PG_RETURN_INT32(order_of(fcinfo));
-}
-
-PG_FUNCTION_INFO_V1(version_cmp_key);
-Datum version_cmp_key(PG_FUNCTION_ARGS)
-{
-    PG_RETURN_INT32(order_of_key(fcinfo, 0));
-}
-
-PG_FUNCTION_INFO_V1(key_cmp_version);
-Datum key_cmp_version(PG_FUNCTION_ARGS)
-{
-    PG_RETURN_INT32(order_of_key(fcinfo, 1));
-}
-
-PG_FUNCTION_INFO_V1(version_smaller);
-Datum version_smaller(PG_FUNCTION_ARGS)
-{
-    PG_RETURN_DATUM(PG_GETARG_DATUM(order_of(fcinfo) <= 0 ? 0 : 1));
-}
-
-PG_FUNCTION_INFO_V1(version_larger);
-Datum version_larger(PG_FUNCTION_ARGS)
-{
-    PG_RETURN_DATUM(PG_GETARG_DATUM(order_of(fcinfo) >= 0 ? 0 : 1));
-}
+SQL_FUNCTION(version_cmp, Int32GetDatum(order_of(fcinfo)));
+SQL_FUNCTION(version_cmp_key, Int32GetDatum(order_of_key(fcinfo, 0)));
+SQL_FUNCTION(key_cmp_version, Int32GetDatum(order_of_key(fcinfo, 1)));
+SQL_FUNCTION(version_smaller, PG_GETARG_DATUM(order_of(fcinfo) <= 0 ? 0 : 1));
+SQL_FUNCTION(version_larger, PG_GETARG_DATUM(order_of(fcinfo) >= 0 ? 0 : 1));
 
 /* ---- hashes: equal versions have equal keys */
 
-PG_FUNCTION_INFO_V1(version_hash);
-Datum version_hash(PG_FUNCTION_ARGS)
+static Datum hash_of_version(FunctionCallInfo fcinfo)
 {
     struct varlena *stored = GET_STORED(0);
     VersionBuffer buffer;
-    Bytes key = version_of(stored, &buffer).key;
-    Datum hash = hash_any(key.bytes, (int)key.length);
+    Datum hash = hash_of(version_of(stored, &buffer).key, fcinfo);
     PG_FREE_IF_COPY(stored, 0);
     return hash;
 }
 
-PG_FUNCTION_INFO_V1(version_hash_extended);
-Datum version_hash_extended(PG_FUNCTION_ARGS)
-{
-    struct varlena *stored = GET_STORED(0);
-    VersionBuffer buffer;
-    Bytes key = version_of(stored, &buffer).key;
-    Datum hash = hash_any_extended(key.bytes, (int)key.length, (uint64)PG_GETARG_INT64(1));
-    PG_FREE_IF_COPY(stored, 0);
-    return hash;
-}
+SQL_FUNCTION(version_hash, hash_of_version(fcinfo));
+SQL_FUNCTION(version_hash_extended, hash_of_version(fcinfo));
 
 /* ---- sorts: a number that is made of the first bytes of the key, and the whole keys where these are equal */
 

@@ -73,65 +73,50 @@ static void fail_list(sqlite3_context *context, Text list)
     release(&why);
 }
 
-/* The result of a call that reads a version: `blob` or text; NULL where it is no version. */
-static void give_written(sqlite3_context *context, sqlite3_value *value, Writer call, int blob)
+/* A function of SQL; of those that are one call of the library, the call, and whether it writes bytes that are no text. */
+typedef struct {
+    const char *name;
+    int arguments;
+    void (*run)(sqlite3_context *, int, sqlite3_value **);
+    Writer call;
+    int is_blob;
+} Function;
+
+/* pep440_key(v), pep440_normalize(v): what the call writes; NULL where v is no version. */
+static void give_written(sqlite3_context *context, int count, sqlite3_value **values)
 {
+    const Function *function = sqlite3_user_data(context);
     Text text;
     Written out;
-    if (!is_text(value, &text))
+    (void)count;
+    if (!is_text(values[0], &text))
         return;
-    uint8_t status = write_all(call, text, &out);
+    uint8_t status = write_all(function->call, text, &out);
     if (status == PEP440_OUT_OF_MEMORY)
         sqlite3_result_error_nomem(context);
-    else if (status == PEP440_OK && blob)
+    else if (status == PEP440_OK && function->is_blob)
         sqlite3_result_blob64(context, out.bytes, out.length, SQLITE_TRANSIENT);
     else if (status == PEP440_OK)
         sqlite3_result_text64(context, (const char *)out.bytes, out.length, SQLITE_TRANSIENT, SQLITE_UTF8);
     release(&out);
 }
 
-/* pep440_key(v): bytes that sort as the versions do, and are equal exactly where the versions are. */
-static void key(sqlite3_context *context, int count, sqlite3_value **values)
+/* pep440_valid(v), pep440_specs_valid(specs): whether the call takes the value, 1 or 0; NULL of NULL. */
+static void is_valid(sqlite3_context *context, int count, sqlite3_value **values)
 {
-    (void)count;
-    give_written(context, values[0], pep440_sort_key, 1);
-}
-
-/* pep440_normalize(v): the normal form. */
-static void normalize(sqlite3_context *context, int count, sqlite3_value **values)
-{
-    (void)count;
-    give_written(context, values[0], pep440_normalize, 0);
-}
-
-/* Whether the call takes the value, 1 or 0; NULL of NULL. */
-static void test(sqlite3_context *context, sqlite3_value *value, Writer call)
-{
+    const Function *function = sqlite3_user_data(context);
     Text text;
     size_t length;
     uint8_t nothing[1], status = PEP440_INVALID_VERSION;
-    if (sqlite3_value_type(value) == SQLITE_NULL)
+    (void)count;
+    if (sqlite3_value_type(values[0]) == SQLITE_NULL)
         return;
-    if (is_text(value, &text))
-        status = call(text.bytes, text.length, nothing, 0, &length);
+    if (is_text(values[0], &text))
+        status = function->call(text.bytes, text.length, nothing, 0, &length);
     if (status == PEP440_OUT_OF_MEMORY)
         sqlite3_result_error_nomem(context);
     else
         sqlite3_result_int(context, status == PEP440_OK || status == PEP440_NO_ROOM);
-}
-
-/* pep440_valid(v): whether v is a version. */
-static void valid(sqlite3_context *context, int count, sqlite3_value **values)
-{
-    (void)count;
-    test(context, values[0], pep440_normalize);
-}
-
-/* pep440_specs_valid(specs): whether specs is a list of specifiers. */
-static void specs_valid(sqlite3_context *context, int count, sqlite3_value **values)
-{
-    (void)count;
-    test(context, values[0], pep440_normalize_list);
 }
 
 /* pep440_compare(a, b): -1, 0 or 1 where a is below b, equal to it or above it. */
@@ -435,25 +420,21 @@ static const sqlite3_module COVER = {
 /* SQLite finds this name for a file pep440.so: it drops digits. */
 __attribute__((visibility("default"))) int sqlite3_pep_init(sqlite3 *db, char **error, const sqlite3_api_routines *api)
 {
-    static const struct {
-        const char *name;
-        int arguments;
-        void (*call)(sqlite3_context *, int, sqlite3_value **);
-    } functions[] = {
-        {"pep440_key", 1, key},
-        {"pep440_normalize", 1, normalize},
-        {"pep440_valid", 1, valid},
-        {"pep440_specs_valid", 1, specs_valid},
-        {"pep440_compare", 2, compare},
-        {"pep440_is_prerelease", 1, is_prerelease},
-        {"pep440_match", 2, match},
+    static Function functions[] = {
+        {"pep440_key", 1, give_written, pep440_sort_key, 1},
+        {"pep440_normalize", 1, give_written, pep440_normalize, 0},
+        {"pep440_valid", 1, is_valid, pep440_normalize, 0},
+        {"pep440_specs_valid", 1, is_valid, pep440_normalize_list, 0},
+        {"pep440_compare", 2, compare, NULL, 0},
+        {"pep440_is_prerelease", 1, is_prerelease, NULL, 0},
+        {"pep440_match", 2, match, NULL, 0},
     };
     const int flags = SQLITE_UTF8 | SQLITE_DETERMINISTIC | SQLITE_INNOCUOUS;
     int status = SQLITE_OK;
     (void)error;
     SQLITE_EXTENSION_INIT2(api);
-    for (size_t each = 0; each < sizeof functions / sizeof *functions && status == SQLITE_OK; each++)
-        status = sqlite3_create_function_v2(db, functions[each].name, functions[each].arguments, flags, NULL, functions[each].call, NULL, NULL, NULL);
+    for (Function *each = functions; each < functions + sizeof functions / sizeof *functions && status == SQLITE_OK; each++)
+        status = sqlite3_create_function_v2(db, each->name, each->arguments, flags, each, each->run, NULL, NULL, NULL);
     if (status == SQLITE_OK)
         status = sqlite3_create_collation_v2(db, "pep440", SQLITE_UTF8, db, collate, NULL);
     return status == SQLITE_OK ? sqlite3_create_module_v2(db, "pep440_cover", &COVER, NULL, NULL) : status;

@@ -34,7 +34,7 @@ SELECT pep440_epoch(v), pep440_release(v), pep440_pre_kind(v), pep440_pre(v), pe
 -- matching: "Version specifiers"
 SELECT specs, version, specs::pep440_specs @> version::pep440, version::pep440 <@ specs::pep440_specs FROM (VALUES ('~=2.2', '2.3'), ('~=2.2', '3.0'), ('~=2.2.post3', '2.2'),
     ('==1.1', '1.1.post1'), ('==1.1.*', '1.1.post1'), ('==1.1', '1.1+local'), ('==1.1+local', '1.1'), ('!=1.1.*', '1.1a1'), ('<=1.1', '1.1+local'), ('>1.7', '1.7.0.post1'),
-    ('>1.7', '1.7.1'), ('<1.7', '1.7rc1'), ('===1.0', '1.0.0'), ('>=1,!=1.5', '1.5'), ('', '0'), ('>2,<1', '1.5')) AS t(specs, version);
+    ('>1.7', '1.7.1'), ('<1.7', '1.7rc1'), ('===1.0', '1.0.0'), ('>=1,!=1.5', '1.5'), ('', '0'), ('>2,<1', '1.5'), ('>1.0rc1', '1.0+cpu')) AS t(specs, version);
 SELECT pep440_any_prerelease('>=1.0rc1'), pep440_any_prerelease('>=1.0');
 SELECT count(*), count(high), bool_and(high IS NULL OR low < high) FROM pep440_cover('!=1.5,!=1.7.*');
 SELECT count(*) FROM pep440_cover('>2,<1');
