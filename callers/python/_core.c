@@ -6,8 +6,10 @@
 #define PY_SSIZE_T_CLEAN
 #define Py_LIMITED_API 0x030A0000
 #include <Python.h>
+#include <stddef.h>
 #include <stdlib.h>
 #include <string.h>
+#include <structmember.h>
 #ifdef __x86_64__
 #include <cpuid.h>
 #endif
@@ -51,13 +53,13 @@ static PyObject *compile_list(PyObject *module, PyObject *list)
 
 static PyObject *make_members_of(PyObject *module, PyObject *class)
 {
-    kept_in(&member_class, Py_NewRef(class));
+    call_quickly((PyTypeObject *)kept_in(&member_class, Py_NewRef(class)), specifier_call, (destructor)specifiers_free);
     Py_RETURN_NONE;
 }
 
 static PyObject *make_sets_of(PyObject *module, PyObject *class)
 {
-    kept_in(&set_class, Py_NewRef(class));
+    call_quickly((PyTypeObject *)kept_in(&set_class, Py_NewRef(class)), set_call, (destructor)specifiers_free);
     Py_RETURN_NONE;
 }
 
@@ -88,7 +90,8 @@ static PyMethodDef set_calls[] = {
     {"prereleases", (getter)get_prereleases, (setter)set_prereleases, "Whether pre-releases are allowed. May be set.", NULL}, \
     {"_prereleases", (getter)get_said, (setter)set_prereleases, "What was said of pre-releases, or None.", NULL}, \
     {"_is_by_python", (getter)get_is_by_python, NULL, "Whether Python is to compare.", NULL}, \
-    {"_compiled", (getter)get_compiled, NULL, "The compiled list, of all but what Python is to compare.", NULL}
+    {"_compiled", (getter)get_compiled, NULL, "The compiled list, of all but what Python is to compare.", NULL}, \
+    {"__dict__", PyObject_GenericGetDict, PyObject_GenericSetDict, NULL, NULL}
 
 static PyGetSetDef specifier_values[] = {
     PRERELEASES,
@@ -103,6 +106,11 @@ static PyGetSetDef set_values[] = {
     {"_specs", (getter)get_members, (setter)assign_members, "The members.", NULL},
     {NULL, NULL, NULL, NULL, NULL}};
 
+/* Their attributes and weak references, for which a class in Python would take blocks of its own. */
+static PyMemberDef places[] = {{"__dictoffset__", T_PYSSIZET, offsetof(Specifiers, attributes), READONLY, NULL},
+                               {"__weaklistoffset__", T_PYSSIZET, offsetof(Specifiers, references), READONLY, NULL},
+                               {NULL, 0, 0, 0, NULL}};
+
 /* None has a `tp_new` of its own, so that `object.__new__` makes one, as copyreg does for pickles. */
 static PyType_Slot specifier_slots[] = {{Py_tp_init, specifier_init},
                                         {Py_tp_dealloc, specifiers_free},
@@ -114,6 +122,7 @@ static PyType_Slot specifier_slots[] = {{Py_tp_init, specifier_init},
                                         {Py_sq_contains, has},
                                         {Py_tp_methods, specifier_calls},
                                         {Py_tp_getset, specifier_values},
+                                        {Py_tp_members, places},
                                         {Py_tp_doc, "HeldSpecifier(spec='', prereleases=None)\n--\n\nA specifier, compiled."},
                                         {0, NULL}};
 
@@ -129,6 +138,7 @@ static PyType_Slot set_slots[] = {{Py_tp_init, set_init},
                                   {Py_sq_contains, has},
                                   {Py_tp_methods, set_calls},
                                   {Py_tp_getset, set_values},
+                                  {Py_tp_members, places},
                                   {Py_tp_doc, "HeldSet(specifiers='', prereleases=None)\n--\n\nSpecifiers, compiled as one list."},
                                   {0, NULL}};
 
@@ -198,9 +208,8 @@ static int execute(PyObject *module)
         add_type(module, &HeldSetType, &set_spec) < 0 ||
         add_error(module, &InvalidVersion, "pep440_rattle.version.InvalidVersion", "A string is no version.") < 0)
         return -1;
-    if (!first_new)
-        first_new = PyType_GetSlot(HeldType, Py_tp_new);
-    set_vectorcall(HeldType, held_call);
+    call_quickly(HeldType, held_call, (destructor)held_free);
+    first_new = PyType_GetSlot(HeldType, Py_tp_new);
     return add_error(module, &InvalidSpecifier, "pep440_rattle.specifiers.InvalidSpecifier", "A string is no specifier.");
 }
 
