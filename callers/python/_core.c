@@ -29,43 +29,30 @@
 
 /* ---- the types of specifiers, and the module */
 
-static PyObject *ranges(PyObject *module, PyObject *list)
+/* What the call writes of a list of specifiers. */
+static PyObject *made_of_list(Writer call, PyObject *list, Maker make)
 {
     pep440_string text;
     uint8_t status;
     PyObject *made;
     if (view(list, &text) < 0)
         return NULL;
-    made = written_by(pep440_ranges, text, PyUnicode_FromStringAndSize, &status);
+    made = written_by(call, text, make, &status);
     return made ? made : raise_by(status, NULL, list);
 }
 
-static PyObject *compile_list(PyObject *module, PyObject *list)
+static PyObject *ranges(PyObject *module, PyObject *list) { return made_of_list(pep440_ranges, list, PyUnicode_FromStringAndSize); }
+
+static PyObject *compile_list(PyObject *module, PyObject *list) { return made_of_list(pep440_compile_list, list, PyBytes_FromStringAndSize); }
+
+/* use(member_class, set_class, reader_of_others) */
+static PyObject *use(PyObject *module, PyObject *const *args, Py_ssize_t count)
 {
-    pep440_string text;
-    uint8_t status;
-    PyObject *made;
-    if (view(list, &text) < 0)
+    if (!has_count("use", count, 3))
         return NULL;
-    made = written_by(pep440_compile_list, text, PyBytes_FromStringAndSize, &status);
-    return made ? made : raise_by(status, NULL, list);
-}
-
-static PyObject *make_members_of(PyObject *module, PyObject *class)
-{
-    call_quickly((PyTypeObject *)kept_in(&member_class, Py_NewRef(class)), specifier_call, (destructor)specifiers_free);
-    Py_RETURN_NONE;
-}
-
-static PyObject *make_sets_of(PyObject *module, PyObject *class)
-{
-    call_quickly((PyTypeObject *)kept_in(&set_class, Py_NewRef(class)), set_call, (destructor)specifiers_free);
-    Py_RETURN_NONE;
-}
-
-static PyObject *read_others_by(PyObject *module, PyObject *reader)
-{
-    kept_in(&reader_of_others, Py_NewRef(reader));
+    call_quickly((PyTypeObject *)kept_in(&member_class, Py_NewRef(args[0])), specifier_call, (destructor)specifiers_free);
+    call_quickly((PyTypeObject *)kept_in(&set_class, Py_NewRef(args[1])), set_call, (destructor)specifiers_free);
+    kept_in(&reader_of_others, Py_NewRef(args[2]));
     Py_RETURN_NONE;
 }
 
@@ -151,9 +138,7 @@ static PyType_Spec set_spec = {"pep440_rattle._core.HeldSet", sizeof(Specifiers)
 static PyMethodDef calls[] = {
     {"ranges", ranges, METH_O, "The range of a list, a segment a line."},
     {"compile_list", compile_list, METH_O, "The compiled list, of the string at once."},
-    {"make_members_of", make_members_of, METH_O, "From now on the members of sets are of this class."},
-    {"make_sets_of", make_sets_of, METH_O, "From now on what is made of two sets is of this class."},
-    {"read_others_by", read_others_by, METH_O, "From now on this gives the strings of other libraries' versions."},
+    {"use", CALL(use), METH_FASTCALL, "use(member, set, reader): the classes of members and of sets, and what gives the strings of other libraries' versions."},
     {"read_requirement", CALL(read_requirement), METH_FASTCALL, "The parts of a requirement, or None where its tokens are to be read."},
     {"read_marker", CALL(read_marker), METH_FASTCALL, "The comparisons of a marker, or None where its tokens are to be read."},
     {"sort", sort, METH_O, "The items in the order of their versions."},

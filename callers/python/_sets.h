@@ -15,7 +15,7 @@ static int compare_placed(const void *left, const void *right)
     return order ? order : (one->place > other->place) - (one->place < other->place);
 }
 
-enum { FEW_MEMBERS = 8, FEW_BYTES = 256 };
+enum { FEW_MEMBERS = 8 };
 
 /* Places the members in the order of their versions, but for those with `===`, and finds the length of their list. -1 with an error. */
 static Py_ssize_t place_members(PyObject *members, Placed *placed, size_t *length)
@@ -41,22 +41,21 @@ static Py_ssize_t place_members(PyObject *members, Placed *placed, size_t *lengt
 /* The compiled list of members that are placed: theirs, one after the other. */
 static int join_lists(Specifiers *self, const Placed *placed, size_t count, size_t length)
 {
-    uint8_t few[FEW_BYTES], *list = length <= FEW_BYTES ? few : PyMem_Malloc(length), *end = list + LIST_HEAD;
-    int done;
-    if (!list) {
+    uint8_t *end = room_for(length, self->few, sizeof self->few);
+    if (!end) {
         PyErr_NoMemory();
         return -1;
     }
-    list[0] = LIST;
+    self->compiled = end;
+    self->length = length;
+    *end = LIST;
+    end += LIST_HEAD;
     for (size_t turn = 0; turn < count; turn++) {
         size_t size = placed[turn].member->length - LIST_HEAD;
         memcpy(end, placed[turn].member->compiled + LIST_HEAD, size);
         end += size;
     }
-    done = hold_list(self, list, length);
-    if (list != few)
-        PyMem_Free(list);
-    return done;
+    return 0;
 }
 
 static int compile_members(Specifiers *self)

@@ -52,11 +52,12 @@ static inline void drop_read(Specifiers *self)
     Py_CLEAR(self->canonical);
 }
 
-/* Holds a copy of a compiled list. 0, or -1 with an error. */
-static int hold_list(Specifiers *self, const uint8_t *bytes, size_t length)
+/* Holds a copy of what was compiled, and drops this. 0, or -1 with an error. */
+static int hold(Specifiers *self, Compiled *compiled)
 {
-    self->compiled = keep(bytes, length, self->few, sizeof self->few);
-    self->length = self->compiled ? length : 0;
+    self->compiled = keep(compiled->bytes, compiled->length, self->few, sizeof self->few);
+    self->length = self->compiled ? compiled->length : 0;
+    drop_compiled(compiled);
     if (!self->compiled)
         PyErr_NoMemory();
     return self->compiled ? 0 : -1;
@@ -137,51 +138,32 @@ static int init_with(Specifiers *self, PyObject *args, PyObject *named, char *fi
     return done;
 }
 
-/* The first bytes of a str, of which the view is given, with zeros behind its end. Of one that has no UTF-8 those of its first characters. */
-static void read_head(PyObject *text, pep440_string view, uint8_t head[3])
-{
-    for (size_t at = 0; at < 3; at++)
-        head[at] = at < view.length ? view.bytes[at] : 0;
-    if (view.bytes == NO_TEXT)
-        for (Py_ssize_t at = 0; at < 3; at++)
-            head[at] = at < PyUnicode_GetLength(text) && PyUnicode_ReadChar(text, at) < 128 ? (uint8_t)PyUnicode_ReadChar(text, at) : 0;
-}
+/* A character, or 0 behind the end. */
+static Py_UCS4 char_at(PyObject *text, Py_ssize_t at) { return at < PyUnicode_GetLength(text) ? PyUnicode_ReadChar(text, at) : 0; }
 
 /* How many characters the operator in front has; of one to three, all but `<` and `>` have a `=` at their ends. */
-static size_t operator_width(PyObject *text, pep440_string view)
+static Py_ssize_t operator_width(PyObject *text)
 {
-    uint8_t few[3];
-    const uint8_t *head = view.bytes;
-    if (view.length < sizeof few || view.bytes == NO_TEXT) {
-        read_head(text, view, few);
-        head = few;
-    }
-    if (head[1] != '=')
-        return view.length > 0;
-    return head[0] == '=' && head[2] == '=' ? ARBITRARY : 2;
+    if (char_at(text, 1) != '=')
+        return PyUnicode_GetLength(text) > 0;
+    return char_at(text, 0) == '=' && char_at(text, 2) == '=' ? ARBITRARY : 2;
 }
 
-/* The specifier as it prints, and the view of it and the width of its operator: without white space behind this. It stays where this is no operator,
-   which a `=` behind the space makes longer. */
-static PyObject *joined(PyObject *text, pep440_string *view, size_t *width)
+/* The specifier as it prints: without white space behind its operator. This stays where there is no operator, which a `=` behind it makes longer. */
+static PyObject *joined(PyObject *text, Py_ssize_t width)
 {
     pep440_string behind;
     PyObject *operator, *rest, *version, *made = NULL;
-    *width = operator_width(text, *view);
-    if (*width < view->length && view->bytes != NO_TEXT && view->bytes[*width] > ' ' && view->bytes[*width] < 127)
+    if (char_at(text, width) > ' ' && char_at(text, width) < 127)
         return Py_NewRef(text);
-    if (*width == (size_t)PyUnicode_GetLength(text))
-        return Py_NewRef(text);
-    operator = PyUnicode_Substring(text, 0, (Py_ssize_t)*width);
-    rest = PyUnicode_Substring(text, (Py_ssize_t)*width, PY_SSIZE_T_MAX);
+    operator = PyUnicode_Substring(text, 0, width);
+    rest = PyUnicode_Substring(text, width, PY_SSIZE_T_MAX);
     version = rest ? stripped(rest, &behind) : NULL;
     if (operator && version)
-        made = *width < ARBITRARY && PyUnicode_ReadChar(version, 0) == '=' ? Py_NewRef(text) : PyUnicode_Concat(operator, version);
+        made = width < ARBITRARY && char_at(version, 0) == '=' ? Py_NewRef(text) : PyUnicode_Concat(operator, version);
     Py_XDECREF(operator);
     Py_XDECREF(rest);
     Py_XDECREF(version);
-    if (made && view_str(made, view) < 0)
-        Py_CLEAR(made);
     return made;
 }
 
@@ -207,43 +189,35 @@ static inline int has_word(pep440_string text)
 }
 
 /* Compiles a specifier as the list of it alone, and one with `===` as the list of nothing, since any text may stand there: Python compares it. */
-static uint8_t compile_specifier(PyObject *print, pep440_string text, size_t width, Compiled *compiled)
+static uint8_t compile_specifier(PyObject *print, Compiled *compiled)
 {
-    int is_any = width == ARBITRARY ? is_any_text(print) : 0;
+    pep440_string text;
+    int is_any = operator_width(print) == ARBITRARY ? is_any_text(print) : 0;
+    if (is_any < 0 || view_str(print, &text) < 0)
+        return PEP440_OUT_OF_MEMORY;
     if (!is_any)
-        return compile(pep440_compile_specifier, text, 0, compiled);
+        return compile(pep440_compile_specifier, text, compiled);
     compiled->bytes = memcpy(compiled->few, EMPTY_LIST, LIST_HEAD);
     compiled->length = LIST_HEAD;
-    return is_any < 0 ? PEP440_OUT_OF_MEMORY : PEP440_OK;
-}
-
-/* Raises what a status says of a string that was given, without white space at its ends. */
-static void raise_by_text(uint8_t status, PyObject *given, PyObject *text)
-{
-    if (status == PEP440_INVALID_LIST && !PyErr_Occurred())
-        raise_invalid(InvalidSpecifier, INVALID_SPECIFIER, given, text, pep440_specifier_error);
-    else
-        raise_by(status, NULL, NULL);
+    return PEP440_OK;
 }
 
 /* Reads a specifier of a string without white space at its ends, and compiles it. */
-static int read_compiled(Specifiers *self, PyObject *given, PyObject *text, pep440_string string, PyObject *said)
+static int read_compiled(Specifiers *self, PyObject *given, PyObject *text, PyObject *said)
 {
-    PyObject *print;
+    PyObject *print = joined(text, operator_width(text));
     Compiled compiled;
-    size_t width;
-    uint8_t status;
-    int done = -1;
-    print = joined(text, &string, &width);
-    status = print ? compile_specifier(print, string, width, &compiled) : PEP440_OUT_OF_MEMORY;
+    uint8_t status = print ? compile_specifier(print, &compiled) : PEP440_OUT_OF_MEMORY;
     if (status == PEP440_OK) {
-        take(self, Py_NewRef(print), NULL, said);
-        done = hold_list(self, compiled.bytes, compiled.length);
-        drop_compiled(&compiled);
-    } else
-        raise_by_text(status, given, text);
+        take(self, print, NULL, said);
+        return hold(self, &compiled);
+    }
     Py_XDECREF(print);
-    return done;
+    if (status == PEP440_INVALID_LIST)
+        raise_invalid(InvalidSpecifier, INVALID_SPECIFIER, given, text, pep440_specifier_error);
+    else
+        raise_by(status, NULL, NULL);
+    return -1;
 }
 
 /* Reads a specifier. One that is known to be one by a word is compiled when it is asked for. */
@@ -259,7 +233,7 @@ static inline int read_specifier(Specifiers *self, PyObject *given, PyObject *sa
         take(self, text, NULL, said);
         return 0;
     }
-    done = text ? read_compiled(self, given, text, string, said) : -1;
+    done = text ? read_compiled(self, given, text, said) : -1;
     Py_XDECREF(text);
     return done;
 }
@@ -279,23 +253,17 @@ static int compile_members(Specifiers *self);
 /* Compiles a specifier or a set, where it has not been yet. 0, or -1 with an error. */
 static int compile_list_of(Specifiers *self)
 {
-    pep440_string text;
     Compiled compiled;
-    uint8_t status = PEP440_OUT_OF_MEMORY;
-    int done = -1;
+    uint8_t status;
     if (self->compiled || !is_read(self))
         return self->compiled ? 0 : -1;
     if (!is_specifier(self))
         return compile_members(self);
-    if (view_str(self->text, &text) == 0)
-        status = compile(pep440_compile_specifier, text, 0, &compiled);
-    if (status != PEP440_OK)
-        raise_by(status, NULL, NULL);
-    else {
-        done = hold_list(self, compiled.bytes, compiled.length);
-        drop_compiled(&compiled);
-    }
-    return done;
+    status = compile_specifier(self->text, &compiled);
+    if (status == PEP440_OK)
+        return hold(self, &compiled);
+    raise_by(status, NULL, NULL);
+    return -1;
 }
 
 /* ---- what is asked of a specifier */
@@ -305,11 +273,10 @@ static PyObject *specifier_str(Specifiers *self) { return is_read(self) ? Py_New
 /* (operator, version), borrowed. */
 static PyObject *spec_of(Specifiers *self)
 {
-    pep440_string text;
     Py_ssize_t width;
-    if (self->members || !is_read(self) || view_str(self->text, &text) < 0)
+    if (self->members || !is_read(self))
         return self->members;
-    width = (Py_ssize_t)operator_width(self->text, text);
+    width = operator_width(self->text);
     return kept_in(&self->members, Py_BuildValue("NN", PyUnicode_Substring(self->text, 0, width),
                                                  PyUnicode_Substring(self->text, width, PY_SSIZE_T_MAX)));
 }
@@ -329,7 +296,7 @@ static uint8_t compile_behind(Specifiers *self, Compiled *compiled)
     pep440_string text;
     if (!spec || view_str(PyTuple_GetItem(spec, 1), &text) < 0)
         return PEP440_OUT_OF_MEMORY;
-    return compile(pep440_compile, text, 0, compiled);
+    return compile(pep440_compile, text, compiled);
 }
 
 /* The sort key of the version behind `===`, or the text where it is none. */
@@ -552,7 +519,7 @@ static uint8_t contains_text(const Specifiers *self, PyObject *item, uint8_t *co
     Compiled compiled;
     uint8_t status = PEP440_OUT_OF_MEMORY;
     if (text)
-        status = compile(pep440_compile, string, 0, &compiled);
+        status = compile(pep440_compile, string, &compiled);
     if (status == PEP440_OK) {
         status = pep440_contains(self->compiled, self->length, compiled.bytes, compiled.length, contained, early);
         drop_compiled(&compiled);

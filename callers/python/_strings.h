@@ -243,32 +243,32 @@ static void drop_compiled(Compiled *compiled)
         free(compiled->bytes);
 }
 
-/* Compiles a string in one call, and leaves room in front. To be dropped where the status is PEP440_OK. */
-static uint8_t compile(Writer call, pep440_string text, size_t front, Compiled *compiled)
+/* Compiles a string in one call. To be dropped where the status is PEP440_OK. */
+static uint8_t compile(Writer call, pep440_string text, Compiled *compiled)
 {
     size_t room = sizeof compiled->few;
     uint8_t status;
     compiled->bytes = compiled->few;
-    if (text.length > (room - PEP440_COMPILED_BOUND(0) - MEMBER_HEAD) / 3) {
-        room = MEMBER_HEAD + PEP440_COMPILED_BOUND(text.length);
+    if (text.length > (room - PEP440_COMPILED_BOUND(0)) / 3) {
+        room = PEP440_COMPILED_BOUND(text.length);
         compiled->bytes = text.length <= SIZE_MAX / 4 ? malloc(room) : NULL;
         if (!compiled->bytes)
             return PEP440_OUT_OF_MEMORY;
     }
-    status = call(text.bytes, text.length, compiled->bytes + front, room - front, &compiled->length);
-    compiled->length += front;
+    status = call(text.bytes, text.length, compiled->bytes, room, &compiled->length);
     if (status != PEP440_OK)
         drop_compiled(compiled);
     return status;
 }
 
-/* A copy of the bytes: in `few`, or where they are more than `room`, in a block of its own. NULL where there is no memory. */
+/* Room for bytes: `few`, or where they are more than `room`, a block of its own. NULL where there is no memory. */
+static uint8_t *room_for(size_t length, uint8_t *few, size_t room) { return length <= room ? few : malloc(length); }
+
+/* A copy of the bytes. NULL where there is no memory. */
 static uint8_t *keep(const uint8_t *bytes, size_t length, uint8_t *few, size_t room)
 {
-    uint8_t *kept = length <= room ? few : malloc(length);
-    if (kept)
-        memcpy(kept, bytes, length);
-    return kept;
+    uint8_t *kept = room_for(length, few, room);
+    return kept ? memcpy(kept, bytes, length) : NULL;
 }
 
 /* What the call writes of compiled bytes, made into a bytes or a str. */

@@ -115,7 +115,7 @@ static int compile_held(Held *self)
     if (!is_initialised(self))
         return -1;
     if (view_str(self->text, &string) == 0)
-        status = compile(pep440_compile, string, 0, &compiled);
+        status = compile(pep440_compile, string, &compiled);
     if (status == PEP440_OK) {
         self->compiled = keep(compiled.bytes, compiled.length, self->few, sizeof self->few);
         self->length = compiled.length;

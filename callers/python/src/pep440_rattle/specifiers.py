@@ -306,9 +306,6 @@ class Specifier(_core.HeldSpecifier, BaseSpecifier, metaclass=_Called):
         return str(prospective).lower() == spec.lower()
 
 
-_core.make_members_of(Specifier)
-
-
 class SpecifierSet(_core.HeldSet, BaseSpecifier, metaclass=_Called):
     """Specifiers that all are to hold, as `>=1.0, !=1.5.*`; a string with commas, or an iterable of `Specifier`.
 
@@ -388,4 +385,4 @@ class SpecifierSet(_core.HeldSet, BaseSpecifier, metaclass=_Called):
         return iter(iterable)
 
 
-_core.make_sets_of(SpecifierSet)
+_core.use(Specifier, SpecifierSet, _text_of_other)

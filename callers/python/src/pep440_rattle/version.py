@@ -11,7 +11,6 @@ from __future__ import annotations
 import copyreg
 from collections import namedtuple
 
-from . import _core
 from ._core import InvalidVersion, Version
 
 # As that of `typing`, whose import takes longer than all else here.
@@ -328,6 +327,3 @@ def _text_of_other(item: object) -> str:
         if each.__qualname__ == "Version" and each.__module__.endswith("packaging.version"):
             return each.__str__(item)  # type: ignore[call-arg]
     raise TypeError(f"expected a str or a Version, not {type(item)!r}")
-
-
-_core.read_others_by(_text_of_other)
