@@ -117,7 +117,7 @@ static PyObject *keep_contained(PyObject *self, PyObject *const *args, Py_ssize_
     uint8_t *marks = NULL, *copy = NULL, status = PEP440_OUT_OF_MEMORY;
     int prereleases, skip;
     PyObject *kept;
-    if (!has_count("_kept", count, 3) || !is_compiled((Specifiers *)self) || (prereleases = PyObject_IsTrue(args[1])) < 0 ||
+    if (!has_count("_kept", count, 3) || compile_list_of((Specifiers *)self) < 0 || (prereleases = PyObject_IsTrue(args[1])) < 0 ||
         (skip = PyObject_IsTrue(args[2])) < 0 || gather(args[0], &batch) < 0)
         return NULL;
     copy = copy_list((Specifiers *)self, &list);

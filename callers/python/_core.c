@@ -6,8 +6,10 @@
 #define PY_SSIZE_T_CLEAN
 #define Py_LIMITED_API 0x030A0000
 #include <Python.h>
+#include <stddef.h>
 #include <stdlib.h>
 #include <string.h>
+#include <structmember.h>
 #ifdef __x86_64__
 #include <cpuid.h>
 #endif
@@ -27,43 +29,30 @@
 
 /* ---- the types of specifiers, and the module */
 
-static PyObject *ranges(PyObject *module, PyObject *list)
+/* What the call writes of a list of specifiers. */
+static PyObject *made_of_list(Writer call, PyObject *list, Maker make)
 {
     pep440_string text;
     uint8_t status;
     PyObject *made;
     if (view(list, &text) < 0)
         return NULL;
-    made = written_by(pep440_ranges, text, PyUnicode_FromStringAndSize, &status);
+    made = written_by(call, text, make, &status);
     return made ? made : raise_by(status, NULL, list);
 }
 
-static PyObject *compile_list(PyObject *module, PyObject *list)
+static PyObject *ranges(PyObject *module, PyObject *list) { return made_of_list(pep440_ranges, list, PyUnicode_FromStringAndSize); }
+
+static PyObject *compile_list(PyObject *module, PyObject *list) { return made_of_list(pep440_compile_list, list, PyBytes_FromStringAndSize); }
+
+/* use(member_class, set_class, reader_of_others) */
+static PyObject *use(PyObject *module, PyObject *const *args, Py_ssize_t count)
 {
-    pep440_string text;
-    uint8_t status;
-    PyObject *made;
-    if (view(list, &text) < 0)
+    if (!has_count("use", count, 3))
         return NULL;
-    made = written_by(pep440_compile_list, text, PyBytes_FromStringAndSize, &status);
-    return made ? made : raise_by(status, NULL, list);
-}
-
-static PyObject *make_members_of(PyObject *module, PyObject *class)
-{
-    kept_in(&member_class, Py_NewRef(class));
-    Py_RETURN_NONE;
-}
-
-static PyObject *make_sets_of(PyObject *module, PyObject *class)
-{
-    kept_in(&set_class, Py_NewRef(class));
-    Py_RETURN_NONE;
-}
-
-static PyObject *read_others_by(PyObject *module, PyObject *reader)
-{
-    kept_in(&reader_of_others, Py_NewRef(reader));
+    call_quickly((PyTypeObject *)kept_in(&member_class, Py_NewRef(args[0])), specifier_call, (destructor)specifiers_free);
+    call_quickly((PyTypeObject *)kept_in(&set_class, Py_NewRef(args[1])), set_call, (destructor)specifiers_free);
+    kept_in(&reader_of_others, Py_NewRef(args[2]));
     Py_RETURN_NONE;
 }
 
@@ -88,7 +77,8 @@ static PyMethodDef set_calls[] = {
     {"prereleases", (getter)get_prereleases, (setter)set_prereleases, "Whether pre-releases are allowed. May be set.", NULL}, \
     {"_prereleases", (getter)get_said, (setter)set_prereleases, "What was said of pre-releases, or None.", NULL}, \
     {"_is_by_python", (getter)get_is_by_python, NULL, "Whether Python is to compare.", NULL}, \
-    {"_compiled", (getter)get_compiled, NULL, "The compiled list, of all but what Python is to compare.", NULL}
+    {"_compiled", (getter)get_compiled, NULL, "The compiled list, of all but what Python is to compare.", NULL}, \
+    {"__dict__", PyObject_GenericGetDict, PyObject_GenericSetDict, NULL, NULL}
 
 static PyGetSetDef specifier_values[] = {
     PRERELEASES,
@@ -103,6 +93,11 @@ static PyGetSetDef set_values[] = {
     {"_specs", (getter)get_members, (setter)assign_members, "The members.", NULL},
     {NULL, NULL, NULL, NULL, NULL}};
 
+/* Their attributes and weak references, for which a class in Python would take blocks of its own. */
+static PyMemberDef places[] = {{"__dictoffset__", T_PYSSIZET, offsetof(Specifiers, attributes), READONLY, NULL},
+                               {"__weaklistoffset__", T_PYSSIZET, offsetof(Specifiers, references), READONLY, NULL},
+                               {NULL, 0, 0, 0, NULL}};
+
 /* None has a `tp_new` of its own, so that `object.__new__` makes one, as copyreg does for pickles. */
 static PyType_Slot specifier_slots[] = {{Py_tp_init, specifier_init},
                                         {Py_tp_dealloc, specifiers_free},
@@ -114,6 +109,7 @@ static PyType_Slot specifier_slots[] = {{Py_tp_init, specifier_init},
                                         {Py_sq_contains, has},
                                         {Py_tp_methods, specifier_calls},
                                         {Py_tp_getset, specifier_values},
+                                        {Py_tp_members, places},
                                         {Py_tp_doc, "HeldSpecifier(spec='', prereleases=None)\n--\n\nA specifier, compiled."},
                                         {0, NULL}};
 
@@ -129,6 +125,7 @@ static PyType_Slot set_slots[] = {{Py_tp_init, set_init},
                                   {Py_sq_contains, has},
                                   {Py_tp_methods, set_calls},
                                   {Py_tp_getset, set_values},
+                                  {Py_tp_members, places},
                                   {Py_tp_doc, "HeldSet(specifiers='', prereleases=None)\n--\n\nSpecifiers, compiled as one list."},
                                   {0, NULL}};
 
@@ -141,9 +138,7 @@ static PyType_Spec set_spec = {"pep440_rattle._core.HeldSet", sizeof(Specifiers)
 static PyMethodDef calls[] = {
     {"ranges", ranges, METH_O, "The range of a list, a segment a line."},
     {"compile_list", compile_list, METH_O, "The compiled list, of the string at once."},
-    {"make_members_of", make_members_of, METH_O, "From now on the members of sets are of this class."},
-    {"make_sets_of", make_sets_of, METH_O, "From now on what is made of two sets is of this class."},
-    {"read_others_by", read_others_by, METH_O, "From now on this gives the strings of other libraries' versions."},
+    {"use", CALL(use), METH_FASTCALL, "use(member, set, reader): the classes of members and of sets, and what gives the strings of other libraries' versions."},
     {"read_requirement", CALL(read_requirement), METH_FASTCALL, "The parts of a requirement, or None where its tokens are to be read."},
     {"read_marker", CALL(read_marker), METH_FASTCALL, "The comparisons of a marker, or None where its tokens are to be read."},
     {"sort", sort, METH_O, "The items in the order of their versions."},
@@ -198,9 +193,8 @@ static int execute(PyObject *module)
         add_type(module, &HeldSetType, &set_spec) < 0 ||
         add_error(module, &InvalidVersion, "pep440_rattle.version.InvalidVersion", "A string is no version.") < 0)
         return -1;
-    if (!first_new)
-        first_new = PyType_GetSlot(HeldType, Py_tp_new);
-    set_vectorcall(HeldType, held_call);
+    call_quickly(HeldType, held_call, (destructor)held_free);
+    first_new = PyType_GetSlot(HeldType, Py_tp_new);
     return add_error(module, &InvalidSpecifier, "pep440_rattle.specifiers.InvalidSpecifier", "A string is no specifier.");
 }
 

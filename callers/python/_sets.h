@@ -15,15 +15,17 @@ static int compare_placed(const void *left, const void *right)
     return order ? order : (one->place > other->place) - (one->place < other->place);
 }
 
-enum { FEW_MEMBERS = 8, FEW_BYTES = 256 };
+enum { FEW_MEMBERS = 8 };
 
-/* Places the members in the order of their versions, but for those with `===`, and finds the length of their list. */
-static size_t place_members(PyObject *members, Placed *placed, size_t *length)
+/* Places the members in the order of their versions, but for those with `===`, and finds the length of their list. -1 with an error. */
+static Py_ssize_t place_members(PyObject *members, Placed *placed, size_t *length)
 {
     size_t count = 0, in_order = 1, all = (size_t)PyTuple_Size(members);
     *length = LIST_HEAD;
     for (size_t place = 0; place < all; place++) {
-        const Specifiers *member = (Specifiers *)PyTuple_GetItem(members, (Py_ssize_t)place);
+        Specifiers *member = (Specifiers *)PyTuple_GetItem(members, (Py_ssize_t)place);
+        if (compile_list_of(member) < 0)
+            return -1;
         if (is_arbitrary(member))
             continue;
         placed[count++] = (Placed){member, place};
@@ -33,52 +35,61 @@ static size_t place_members(PyObject *members, Placed *placed, size_t *length)
         in_order++;
     if (in_order < count)
         qsort(placed, count, sizeof *placed, compare_placed);
-    return count;
+    return (Py_ssize_t)count;
 }
 
-/* Takes the members, a tuple. The compiled list is theirs, one after the other. */
-static int take_members(Specifiers *self, PyObject *members, PyObject *said)
+/* The compiled list of members that are placed: theirs, one after the other. */
+static int join_lists(Specifiers *self, const Placed *placed, size_t count, size_t length)
 {
-    size_t all = (size_t)PyTuple_Size(members), count, length = 0;
-    Placed few[FEW_MEMBERS], *placed = all <= FEW_MEMBERS ? few : PyMem_Calloc(all, sizeof *placed);
-    uint8_t few_bytes[FEW_BYTES], *list = NULL, *end;
-    int done = -1;
-    if (placed) {
-        count = place_members(members, placed, &length);
-        list = length <= FEW_BYTES ? few_bytes : PyMem_Malloc(length);
-    }
-    if (list) {
-        list[0] = LIST;
-        end = list + LIST_HEAD;
-        for (size_t turn = 0; turn < count; turn++) {
-            size_t size = placed[turn].member->length - LIST_HEAD;
-            memcpy(end, placed[turn].member->compiled + LIST_HEAD, size);
-            end += size;
-        }
-        done = take(self, NULL, Py_NewRef(members), said, list, length);
-    } else
+    uint8_t *end = room_for(length, self->few, sizeof self->few);
+    if (!end) {
         PyErr_NoMemory();
+        return -1;
+    }
+    self->compiled = end;
+    self->length = length;
+    *end = LIST;
+    end += LIST_HEAD;
+    for (size_t turn = 0; turn < count; turn++) {
+        size_t size = placed[turn].member->length - LIST_HEAD;
+        memcpy(end, placed[turn].member->compiled + LIST_HEAD, size);
+        end += size;
+    }
+    return 0;
+}
+
+static int compile_members(Specifiers *self)
+{
+    PyObject *members = PySequence_Tuple(self->members);
+    size_t all = members ? (size_t)PyTuple_Size(members) : 0, length;
+    Placed few[FEW_MEMBERS], *placed = all <= FEW_MEMBERS ? few : PyMem_Calloc(all, sizeof *placed);
+    Py_ssize_t count = -1;
+    if (!placed)
+        PyErr_NoMemory();
+    else if (members)
+        count = place_members(members, placed, &length);
+    if (count >= 0 && join_lists(self, placed, (size_t)count, length) < 0)
+        count = -1;
     if (placed != few)
         PyMem_Free(placed);
-    if (list != few_bytes)
-        PyMem_Free(list);
-    return done;
+    Py_XDECREF(members);
+    return count < 0 ? -1 : 0;
 }
 
 /* The specifier of a str. */
 static PyObject *make_member(PyObject *text)
 {
-    PyObject *made = PyType_GenericAlloc((PyTypeObject *)member_class, 0);
-    if (made && read_specifier((Specifiers *)made, text, Py_None) < 0)
+    Specifiers *made = new_specifiers(member_class);
+    if (made && read_specifier(made, text, Py_None) < 0)
         Py_CLEAR(made);
-    return made;
+    return (PyObject *)made;
 }
 
 /* The same of a specifier that is given, which is a member as it is. */
 static PyObject *member_of(PyObject *given)
 {
     if (PyObject_TypeCheck(given, HeldSpecifierType))
-        return is_compiled((Specifiers *)given) ? Py_NewRef(given) : NULL;
+        return is_read((Specifiers *)given) ? Py_NewRef(given) : NULL;
     return PyUnicode_Check(given) ? make_member(given) : PyObject_CallFunctionObjArgs(member_class, given, NULL);
 }
 
@@ -128,19 +139,26 @@ static int add_members(PyObject *list, PyObject *given)
     return PyErr_Occurred() ? -1 : 0;
 }
 
+/* Reads a string with commas, or members. */
+static int read_set(Specifiers *self, PyObject *given, PyObject *said)
+{
+    PyObject *list = PyList_New(0), *members = NULL;
+    if (list && (PyUnicode_Check(given) ? add_pieces(list, given) : add_members(list, given)) == 0)
+        members = PyList_AsTuple(list);
+    Py_XDECREF(list);
+    if (members)
+        take(self, NULL, members, said);
+    return members ? 0 : -1;
+}
+
 static int set_init(Specifiers *self, PyObject *args, PyObject *named)
 {
-    PyObject *given = NULL, *said = Py_None, *list, *members = NULL;
-    int done = -1;
-    if (init_arguments(args, named, "specifiers", "|OO:SpecifierSet", &given, &said) < 0 || !(list = PyList_New(0)))
-        return -1;
-    if (!given || (PyUnicode_Check(given) ? add_pieces(list, given) : add_members(list, given)) == 0)
-        members = PyList_AsTuple(list);
-    Py_DECREF(list);
-    if (members)
-        done = take_members(self, members, said);
-    Py_XDECREF(members);
-    return done;
+    return init_with(self, args, named, "specifiers", "|OO:SpecifierSet", read_set);
+}
+
+static PyObject *set_call(PyObject *type, PyObject *const *args, size_t flagged_count, PyObject *names)
+{
+    return call_with(type, args, flagged_count, names, set_init, read_set);
 }
 
 /* The members of both, equal ones too. */
@@ -157,15 +175,15 @@ static PyObject *joined_members(Specifiers *one, Specifiers *two)
 /* The members of both sets, or of a set and a string, as a plain set: with what one of them says of pre-releases, which the other may not gainsay. */
 static PyObject *set_and(PyObject *left, PyObject *right)
 {
-    PyObject *other, *said, *members = NULL, *made = NULL;
-    Specifiers *one = (Specifiers *)left, *two;
+    PyObject *other, *said, *members = NULL;
+    Specifiers *one = (Specifiers *)left, *two, *made = NULL;
     int differ;
     if (Py_TYPE(left) != Py_TYPE(right) && /* of two of one type both are sets, since it has this call */
         (!PyObject_TypeCheck(left, HeldSetType) || !(PyUnicode_Check(right) || PyObject_TypeCheck(right, HeldSetType))))
         Py_RETURN_NOTIMPLEMENTED;
     other = PyUnicode_Check(right) ? PyObject_CallFunctionObjArgs(set_class, right, NULL) : Py_NewRef(right);
     two = (Specifiers *)other;
-    if (!other || !is_compiled(one) || !is_compiled(two)) {
+    if (!other || !is_read(one) || !is_read(two)) {
         Py_XDECREF(other);
         return NULL;
     }
@@ -175,27 +193,25 @@ static PyObject *set_and(PyObject *left, PyObject *right)
         PyErr_SetString(PyExc_ValueError, "Cannot combine SpecifierSets with True and False prerelease overrides.");
     else if (differ == 0)
         members = joined_members(one, two);
-    if (members)
-        made = PyType_GenericAlloc((PyTypeObject *)set_class, 0);
-    if (made && take_members((Specifiers *)made, members, said) < 0)
-        Py_CLEAR(made);
+    if (members && (made = new_specifiers(set_class)))
+        take(made, NULL, Py_NewRef(members), said);
     Py_XDECREF(members);
     Py_DECREF(other);
-    return made;
+    return (PyObject *)made;
 }
 
 static int assign_members(Specifiers *self, PyObject *value, void *unused)
 {
     if (!value)
         PyErr_SetString(PyExc_AttributeError, "_specs cannot be deleted");
-    return make_of(self, value, set_init);
+    return assign(self, value, read_set);
 }
 
 /* The members as a frozenset, borrowed: of equal ones the first. */
 static PyObject *members_of(Specifiers *self)
 {
-    if (!is_compiled(self) || !PyTuple_Check(self->members))
-        return self->compiled ? self->members : NULL;
+    if (!is_read(self) || !PyTuple_Check(self->members))
+        return self->said ? self->members : NULL;
     return kept_in(&self->members, PyFrozenSet_New(self->members));
 }
 

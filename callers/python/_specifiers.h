@@ -3,14 +3,16 @@
 /* The class of the members that a set makes of its string, `Specifier`, and that of the sets that are made of two, once their module has named them. */
 static PyObject *member_class, *set_class;
 
-/* A specifier, or a set of them: its compiled list, which is NULL until `__init__` has read a string, and what was said of pre-releases. */
+/* A specifier, or a set of them, and once it was asked for its compiled list. */
 typedef struct {
     PyObject_HEAD
-    PyObject *text;      /* of a specifier as it prints */
-    PyObject *members;   /* of a set: a tuple until they are asked for, then a frozenset; of a specifier: (operator, version) once asked for */
-    PyObject *canonical; /* of a specifier, once asked for: what equal ones share */
-    PyObject *said;
-    uint8_t *compiled;
+    PyObject *attributes; /* `__dict__`, once asked for */
+    PyObject *references; /* the weak ones */
+    PyObject *text;       /* of a specifier as it prints, else NULL */
+    PyObject *members;    /* of a set: a tuple until they are asked for, then a frozenset; of a specifier: (operator, version) once asked for */
+    PyObject *canonical;  /* of a specifier, once asked for: what equal ones share */
+    PyObject *said;       /* of pre-releases; NULL until `__init__` has read a string */
+    uint8_t *compiled;    /* `few`, or a block of its own */
     size_t length;
     long asked_at;       /* `times_set` when `allows` was found */
     signed char allows;  /* whether it allows pre-releases where nobody says so; -1: not asked yet */
@@ -24,43 +26,56 @@ static long times_set;
 /* How many characters `===` has, alone of all operators. */
 enum { ARBITRARY = 3 };
 
-static int is_specifier(const Specifiers *self) { return PyObject_TypeCheck((PyObject *)self, HeldSpecifierType); }
+static int is_specifier(const Specifiers *self) { return self->text != NULL; }
 
 /* Whether it is a specifier with `===`, of which nothing is compiled. */
 static int is_arbitrary(const Specifiers *self) { return is_specifier(self) && self->length == LIST_HEAD; }
 
-static int is_compiled(const Specifiers *self)
+/* Whether `__init__` has read a string; else an exception is set. */
+static int is_read(const Specifiers *self)
 {
-    if (!self->compiled)
+    if (!self->said)
         PyErr_Format(PyExc_AttributeError, "%R was made without its __init__", Py_TYPE((PyObject *)self));
-    return self->compiled != NULL;
+    return self->said != NULL;
 }
 
-/* Takes what a string was made into: the references, and a copy of the bytes, which are not its own. Drops what was there before. */
-static int take(Specifiers *self, PyObject *text, PyObject *members, PyObject *said, const uint8_t *bytes, size_t length)
+/* Drops what was read, and what was made of it; `said` first, so that whom this wakes finds nothing read. */
+static inline void drop_read(Specifiers *self)
 {
-    uint8_t *old_bytes = self->compiled, *kept = keep(bytes, length, self->few, sizeof self->few);
-    PyObject *old[] = {self->text, self->members, self->canonical, self->said};
-    if (!kept) {
-        Py_XDECREF(text);
-        Py_XDECREF(members);
+    Py_CLEAR(self->said);
+    if (self->compiled && self->compiled != self->few)
+        free(self->compiled);
+    self->compiled = NULL;
+    self->length = 0;
+    Py_CLEAR(self->text);
+    Py_CLEAR(self->members);
+    Py_CLEAR(self->canonical);
+}
+
+/* Holds a copy of what was compiled, and drops this. 0, or -1 with an error. */
+static int hold(Specifiers *self, Compiled *compiled)
+{
+    self->compiled = keep(compiled->bytes, compiled->length, self->few, sizeof self->few);
+    self->length = self->compiled ? compiled->length : 0;
+    drop_compiled(compiled);
+    if (!self->compiled)
         PyErr_NoMemory();
-        return -1;
-    }
-    self->compiled = kept;
-    self->length = length;
-    self->text = text, self->members = members, self->canonical = NULL, self->said = Py_NewRef(said);
+    return self->compiled ? 0 : -1;
+}
+
+/* Takes these references in place of those that it had. */
+static inline void take(Specifiers *self, PyObject *text, PyObject *members, PyObject *said)
+{
+    if (self->said)
+        drop_read(self);
+    self->text = text, self->members = members, self->said = Py_NewRef(said);
     self->asked_at = -1, self->allows = -1, self->changed = -1;
-    if (old_bytes && old_bytes != self->few)
-        free(old_bytes);
-    for (int each = 0; old_bytes && each < 4; each++)
-        Py_XDECREF(old[each]);
-    return 0;
 }
 
 static int specifiers_traverse(Specifiers *self, visitproc visit, void *arg)
 {
     Py_VISIT(Py_TYPE((PyObject *)self));
+    Py_VISIT(self->attributes);
     Py_VISIT(self->members);
     Py_VISIT(self->said);
     return 0;
@@ -68,100 +83,88 @@ static int specifiers_traverse(Specifiers *self, visitproc visit, void *arg)
 
 static int specifiers_clear(Specifiers *self)
 {
-    /* a set without members contains all, so its bytes go too */
-    if (self->compiled != self->few)
-        free(self->compiled);
-    self->compiled = NULL;
-    Py_CLEAR(self->members);
-    Py_CLEAR(self->said);
+    Py_CLEAR(self->attributes);
+    drop_read(self);
     return 0;
 }
 
 static void specifiers_free(Specifiers *self)
 {
     PyTypeObject *type = Py_TYPE((PyObject *)self);
-    freefunc free_it = (freefunc)PyType_GetSlot(type, Py_tp_free);
     PyObject_GC_UnTrack(self);
-    specifiers_clear(self);
-    Py_XDECREF(self->text);
-    Py_XDECREF(self->canonical);
-    free_it(self);
+    if (self->references)
+        PyObject_ClearWeakRefs((PyObject *)self);
+    Py_CLEAR(self->attributes);
+    drop_read(self);
+    PyObject_GC_Del(self);
     Py_DECREF(type);
 }
 
-/* The first bytes of a str, of which the view is given, with zeros behind its end. Of one that has no UTF-8 those of its first characters. */
-static void read_head(PyObject *text, pep440_string view, uint8_t head[3])
+/* One of a class without fields of its own, of which nothing is read yet. */
+static Specifiers *new_specifiers(PyObject *class)
 {
-    for (size_t at = 0; at < 3; at++)
-        head[at] = at < view.length ? view.bytes[at] : 0;
-    if (view.bytes == NO_TEXT)
-        for (Py_ssize_t at = 0; at < 3; at++)
-            head[at] = at < PyUnicode_GetLength(text) && PyUnicode_ReadChar(text, at) < 128 ? (uint8_t)PyUnicode_ReadChar(text, at) : 0;
-}
-
-/* How many characters the operator in front has; of one to three, all but `<` and `>` have a `=` at their ends. */
-static size_t operator_width(PyObject *text, pep440_string view)
-{
-    uint8_t few[3];
-    const uint8_t *head = view.bytes;
-    if (view.length < sizeof few || view.bytes == NO_TEXT) {
-        read_head(text, view, few);
-        head = few;
+    Specifiers *made = PyObject_GC_New(Specifiers, (PyTypeObject *)class);
+    if (made) {
+        memset(&made->attributes, 0, offsetof(Specifiers, few) - offsetof(Specifiers, attributes));
+        PyObject_GC_Track(made);
     }
-    if (head[1] != '=')
-        return view.length > 0;
-    return head[0] == '=' && head[2] == '=' ? ARBITRARY : 2;
-}
-
-/* The specifier as it prints, and the view of it and the width of its operator: without white space behind this. It stays where this is no operator,
-   which a `=` behind the space makes longer. */
-static PyObject *joined(PyObject *text, pep440_string *view, size_t *width)
-{
-    pep440_string behind;
-    PyObject *operator, *rest, *version, *made = NULL;
-    *width = operator_width(text, *view);
-    if (*width < view->length && view->bytes != NO_TEXT && view->bytes[*width] > ' ' && view->bytes[*width] < 127)
-        return Py_NewRef(text);
-    if (*width == (size_t)PyUnicode_GetLength(text))
-        return Py_NewRef(text);
-    operator = PyUnicode_Substring(text, 0, (Py_ssize_t)*width);
-    rest = PyUnicode_Substring(text, (Py_ssize_t)*width, PY_SSIZE_T_MAX);
-    version = rest ? stripped(rest, &behind) : NULL;
-    if (operator && version)
-        made = *width < ARBITRARY && PyUnicode_ReadChar(version, 0) == '=' ? Py_NewRef(text) : PyUnicode_Concat(operator, version);
-    Py_XDECREF(operator);
-    Py_XDECREF(rest);
-    Py_XDECREF(version);
-    if (made && view_str(made, view) < 0)
-        Py_CLEAR(made);
     return made;
 }
 
-/* Arguments of an `__init__`: a first one by this name, and `prereleases`; what is not given stays. */
-static int init_arguments(PyObject *args, PyObject *named, char *first, const char *form, PyObject **given, PyObject **said)
+/* Reads what is given, in place of what was read before, which stays where this fails; with what is said of pre-releases. 0, or -1 with an error. */
+typedef int (*Reader)(Specifiers *, PyObject *, PyObject *);
+
+/* Specifier(spec) or SpecifierSet(specifiers) without a tuple; subclasses are not called by this. */
+static inline PyObject *call_with(PyObject *type, PyObject *const *args, size_t flagged_count, PyObject *names, void *init, Reader read)
 {
-    char *names[] = {first, "prereleases", NULL};
-    if (!named && PyTuple_Size(args) == 1) {
-        *given = PyTuple_GetItem(args, 0);
-        return 0;
-    }
-    return PyArg_ParseTupleAndKeywords(args, named, form, names, given, said) ? 0 : -1;
+    Specifiers *made;
+    if (!takes_one(type, flagged_count, names, init))
+        return call_type(type, args, flagged_count, names);
+    made = new_specifiers(type);
+    if (made && read(made, args[0], Py_None) < 0)
+        Py_CLEAR(made);
+    return (PyObject *)made;
 }
 
-/* The operators that a version alone stands behind, and their numbers in a compiled list (docs/PROMISES.md, "Compiled versions"). */
-static const struct {
-    char bytes[3];
-    uint8_t code;
-} OPERATORS[] = {{">=", 9}, {"==", 0}, {"<=", 7}, {"!=", 3}, {"~=", 5}, {"<", 6}, {">", 8}, {"", 0}};
-
-/* Whether the version may stand behind the operator that begins so: one with a local part behind `==` and `!=` alone, one of a single number
-   not behind `~=`. */
-static int may_follow(uint8_t operator, const uint8_t *key, size_t length)
+/* Reads the arguments of an `__init__`: the first one, by this name, and `prereleases`. */
+static int init_with(Specifiers *self, PyObject *args, PyObject *named, char *first, const char *form, Reader read)
 {
-    KeyView view = view_key(key);
-    if (key[view.local])
-        return operator == '=' || operator == '!';
-    return operator != '~' || view.numbers + length - view.local > 2;
+    char *names[] = {first, "prereleases", NULL};
+    PyObject *given = NULL, *said = Py_None, *nothing = NULL;
+    int done = -1;
+    if (PyArg_ParseTupleAndKeywords(args, named, form, names, &given, &said) && (given || (nothing = PyUnicode_FromString(""))))
+        done = read(self, given ? given : nothing, said);
+    Py_XDECREF(nothing);
+    return done;
+}
+
+/* A character, or 0 behind the end. */
+static Py_UCS4 char_at(PyObject *text, Py_ssize_t at) { return at < PyUnicode_GetLength(text) ? PyUnicode_ReadChar(text, at) : 0; }
+
+/* How many characters the operator in front has; of one to three, all but `<` and `>` have a `=` at their ends. */
+static Py_ssize_t operator_width(PyObject *text)
+{
+    if (char_at(text, 1) != '=')
+        return PyUnicode_GetLength(text) > 0;
+    return char_at(text, 0) == '=' && char_at(text, 2) == '=' ? ARBITRARY : 2;
+}
+
+/* The specifier as it prints: without white space behind its operator. This stays where there is no operator, which a `=` behind it makes longer. */
+static PyObject *joined(PyObject *text, Py_ssize_t width)
+{
+    pep440_string behind;
+    PyObject *operator, *rest, *version, *made = NULL;
+    if (char_at(text, width) > ' ' && char_at(text, width) < 127)
+        return Py_NewRef(text);
+    operator = PyUnicode_Substring(text, 0, width);
+    rest = PyUnicode_Substring(text, width, PY_SSIZE_T_MAX);
+    version = rest ? stripped(rest, &behind) : NULL;
+    if (operator && version)
+        made = width < ARBITRARY && char_at(version, 0) == '=' ? Py_NewRef(text) : PyUnicode_Concat(operator, version);
+    Py_XDECREF(operator);
+    Py_XDECREF(rest);
+    Py_XDECREF(version);
+    return made;
 }
 
 /* Whether the text behind `===` has no white space, `;` or `)`, and so is any that may stand there. 1, 0, or -1 with an error. */
@@ -175,98 +178,105 @@ static int is_any_text(PyObject *print)
     return found;
 }
 
-/* Compiles a specifier as the list of it alone, and one with `===` as the list of nothing, since any text may stand there: Python compares it. Where a
-   version stands behind another operator this is compiled, which takes a third of the time. All else the library compiles as a list: a star, and what
-   is none. Both make the same bytes (tested by tests/test_rows.py). */
-static uint8_t compile_specifier(PyObject *print, pep440_string text, size_t width, Compiled *compiled)
+/* Whether behind an operator that any version without a local part may stand behind a version stands that has a word: then it is a specifier. */
+static inline int has_word(pep440_string text)
 {
-    size_t place = 0;
-    pep440_string version = {text.bytes + width, text.length - width};
-    int is_any = width == ARBITRARY ? is_any_text(print) : 0;
-    uint8_t status;
-    if (is_any) {
-        compiled->bytes = memcpy(compiled->few, EMPTY_LIST, LIST_HEAD);
-        compiled->length = LIST_HEAD;
-        return is_any < 0 ? PEP440_OUT_OF_MEMORY : PEP440_OK;
-    }
-    if (!text.length || memchr(text.bytes, ',', text.length))
-        return PEP440_INVALID_LIST;
-    while (OPERATORS[place].bytes[0] && (OPERATORS[place].bytes[0] != text.bytes[0] || (OPERATORS[place].bytes[1] ? 2 : 1) != width))
-        place++;
-    if (!OPERATORS[place].bytes[0] || text.bytes[text.length - 1] == '*')
-        return compile(pep440_compile_list, text, 0, compiled);
-    status = compile(pep440_compile, version, LIST_HEAD, compiled);
-    if (status == PEP440_OK && may_follow(text.bytes[0], compiled->bytes + MEMBER_HEAD, compiled->length - MEMBER_HEAD)) {
-        compiled->bytes[0] = LIST;
-        compiled->bytes[LIST_HEAD] = OPERATOR + OPERATORS[place].code;
-        return PEP440_OK;
-    }
-    if (status == PEP440_OK)
-        drop_compiled(compiled);
-    return status == PEP440_OUT_OF_MEMORY ? status : compile(pep440_compile_list, text, 0, compiled);
+    const uint8_t *at = text.bytes;
+    size_t width = text.length > 2 && at[1] == '=' ? 2 : 1;
+    uint64_t word;
+    return text.length > width && (at[0] == '>' || at[0] == '<' || (width == 2 && (at[0] == '=' || at[0] == '!'))) && at[width] > ' ' &&
+           pep440_word(at + width, text.length - width, &word) == PEP440_OK;
 }
 
-/* Raises the error of a string that is no specifier. */
-static void raise_invalid_specifier(PyObject *given, PyObject *text)
+/* Compiles a specifier as the list of it alone, and one with `===` as the list of nothing, since any text may stand there: Python compares it. */
+static uint8_t compile_specifier(PyObject *print, Compiled *compiled)
 {
-    pep440_string string;
-    if (view_str(text, &string) == 0 && (!string.length || memchr(string.bytes, ',', string.length)))
-        PyErr_Format(InvalidSpecifier, "Invalid specifier: %R: it is not one specifier", given);
-    else if (!PyErr_Occurred())
-        raise_invalid(InvalidSpecifier, INVALID_SPECIFIER, given, text, pep440_list_error);
+    pep440_string text;
+    int is_any = operator_width(print) == ARBITRARY ? is_any_text(print) : 0;
+    if (is_any < 0 || view_str(print, &text) < 0)
+        return PEP440_OUT_OF_MEMORY;
+    if (!is_any)
+        return compile(pep440_compile_specifier, text, compiled);
+    compiled->bytes = memcpy(compiled->few, EMPTY_LIST, LIST_HEAD);
+    compiled->length = LIST_HEAD;
+    return PEP440_OK;
 }
 
-/* Reads a string, which may be NULL in place of an empty one. */
-static int read_specifier(Specifiers *self, PyObject *given, PyObject *said)
+/* Reads a specifier of a string without white space at its ends, and compiles it. */
+static int read_compiled(Specifiers *self, PyObject *given, PyObject *text, PyObject *said)
 {
-    pep440_string string;
-    PyObject *text = given ? stripped(given, &string) : PyUnicode_FromString(""), *print;
+    PyObject *print = joined(text, operator_width(text));
     Compiled compiled;
-    size_t width;
-    uint8_t status;
-    int done = -1;
-    if (!given)
-        string = (pep440_string){NULL, 0};
-    print = text ? joined(text, &string, &width) : NULL;
-    if (print) {
-        status = compile_specifier(print, string, width, &compiled);
-        if (status == PEP440_OK) {
-            done = take(self, Py_NewRef(print), NULL, said, compiled.bytes, compiled.length);
-            drop_compiled(&compiled);
-        } else if (status == PEP440_INVALID_LIST)
-            raise_invalid_specifier(given ? given : text, text);
-        else
-            raise_by(status, NULL, text);
+    uint8_t status = print ? compile_specifier(print, &compiled) : PEP440_OUT_OF_MEMORY;
+    if (status == PEP440_OK) {
+        take(self, print, NULL, said);
+        return hold(self, &compiled);
     }
-    Py_XDECREF(text);
     Py_XDECREF(print);
+    if (status == PEP440_INVALID_LIST)
+        raise_invalid(InvalidSpecifier, INVALID_SPECIFIER, given, text, pep440_specifier_error);
+    else
+        raise_by(status, NULL, NULL);
+    return -1;
+}
+
+/* Reads a specifier. One that is known to be one by a word is compiled when it is asked for. */
+static inline int read_specifier(Specifiers *self, PyObject *given, PyObject *said)
+{
+    pep440_string string;
+    PyObject *text;
+    int done;
+    if (!PyUnicode_CheckExact(given) && !PyUnicode_Check(given))
+        return raise_no_str(given);
+    text = stripped(given, &string);
+    if (text && has_word(string)) {
+        take(self, text, NULL, said);
+        return 0;
+    }
+    done = text ? read_compiled(self, given, text, said) : -1;
+    Py_XDECREF(text);
     return done;
 }
 
 static int specifier_init(Specifiers *self, PyObject *args, PyObject *named)
 {
-    PyObject *given = NULL, *said = Py_None;
-    if (init_arguments(args, named, "spec", "|OO:Specifier", &given, &said) < 0)
-        return -1;
-    if (given && !PyUnicode_Check(given)) {
-        PyErr_Format(PyExc_TypeError, "expected a str, not %R", Py_TYPE(given));
-        return -1;
-    }
-    return read_specifier(self, given, said);
+    return init_with(self, args, named, "spec", "|OO:Specifier", read_specifier);
+}
+
+static PyObject *specifier_call(PyObject *type, PyObject *const *args, size_t flagged_count, PyObject *names)
+{
+    return call_with(type, args, flagged_count, names, specifier_init, read_specifier);
+}
+
+static int compile_members(Specifiers *self);
+
+/* Compiles a specifier or a set, where it has not been yet. 0, or -1 with an error. */
+static int compile_list_of(Specifiers *self)
+{
+    Compiled compiled;
+    uint8_t status;
+    if (self->compiled || !is_read(self))
+        return self->compiled ? 0 : -1;
+    if (!is_specifier(self))
+        return compile_members(self);
+    status = compile_specifier(self->text, &compiled);
+    if (status == PEP440_OK)
+        return hold(self, &compiled);
+    raise_by(status, NULL, NULL);
+    return -1;
 }
 
 /* ---- what is asked of a specifier */
 
-static PyObject *specifier_str(Specifiers *self) { return is_compiled(self) ? Py_NewRef(self->text) : NULL; }
+static PyObject *specifier_str(Specifiers *self) { return is_read(self) ? Py_NewRef(self->text) : NULL; }
 
 /* (operator, version), borrowed. */
 static PyObject *spec_of(Specifiers *self)
 {
-    pep440_string text;
     Py_ssize_t width;
-    if (self->members || !is_compiled(self) || view_str(self->text, &text) < 0)
+    if (self->members || !is_read(self))
         return self->members;
-    width = (Py_ssize_t)operator_width(self->text, text);
+    width = operator_width(self->text);
     return kept_in(&self->members, Py_BuildValue("NN", PyUnicode_Substring(self->text, 0, width),
                                                  PyUnicode_Substring(self->text, width, PY_SSIZE_T_MAX)));
 }
@@ -286,7 +296,7 @@ static uint8_t compile_behind(Specifiers *self, Compiled *compiled)
     pep440_string text;
     if (!spec || view_str(PyTuple_GetItem(spec, 1), &text) < 0)
         return PEP440_OUT_OF_MEMORY;
-    return compile(pep440_compile, text, 0, compiled);
+    return compile(pep440_compile, text, compiled);
 }
 
 /* The sort key of the version behind `===`, or the text where it is none. */
@@ -302,19 +312,19 @@ static PyObject *key_or_text(Specifiers *self, PyObject *text)
     return key;
 }
 
-/* Makes it of other strings or members, with what was said of pre-releases. */
-static int make_of(Specifiers *self, PyObject *given, int (*init)(Specifiers *, PyObject *, PyObject *))
+/* Reads other strings or members, with what was said of pre-releases. */
+static int assign(Specifiers *self, PyObject *given, Reader read)
 {
-    PyObject *args = given ? PyTuple_Pack(2, given, self->said ? self->said : Py_None) : NULL;
-    int done = args ? init(self, args, NULL) : -1;
-    Py_XDECREF(args);
+    PyObject *said = Py_NewRef(self->said ? self->said : Py_None);
+    int done = given ? read(self, given, said) : -1;
+    Py_DECREF(said);
     return done;
 }
 
 static int assign_spec(Specifiers *self, PyObject *value, void *unused)
 {
     PyObject *nothing = PyUnicode_FromString(""), *text = nothing && value ? PyUnicode_Join(nothing, value) : NULL;
-    int done = make_of(self, text, specifier_init);
+    int done = assign(self, text, read_specifier);
     if (!value)
         PyErr_SetString(PyExc_AttributeError, "_spec cannot be deleted");
     Py_XDECREF(nothing);
@@ -325,20 +335,23 @@ static int assign_spec(Specifiers *self, PyObject *value, void *unused)
 /* What tells two specifiers apart: versions that are equal are one, but for `~=`, where zeros at the end count, and those with a star. */
 static PyObject *canonical_of(Specifiers *self)
 {
-    PyObject *spec = spec_of(self), *version;
-    const uint8_t *key = self->compiled + MEMBER_HEAD;
-    size_t length = self->length - MEMBER_HEAD;
-    if (!spec || self->canonical)
+    PyObject *spec, *version;
+    size_t length;
+    if (self->canonical)
         return self->canonical;
+    spec = spec_of(self);
+    if (!spec || compile_list_of(self) < 0)
+        return NULL;
     version = PyTuple_GetItem(spec, 1);
+    length = self->length - MEMBER_HEAD;
     if (is_arbitrary(self))
         version = key_or_text(self, version);
     else if (PyUnicode_ReadChar(version, PyUnicode_GetLength(version) - 1) == '*')
         version = Py_NewRef(version);
     else {
         if (PyUnicode_ReadChar(self->text, 0) != '~')
-            length = key_length(key, length);
-        version = PyBytes_FromStringAndSize((const char *)key, (Py_ssize_t)length);
+            length = key_length(self->compiled + MEMBER_HEAD, length);
+        version = PyBytes_FromStringAndSize((const char *)self->compiled + MEMBER_HEAD, (Py_ssize_t)length);
     }
     return version ? kept_in(&self->canonical, Py_BuildValue("ON", PyTuple_GetItem(spec, 0), version)) : NULL;
 }
@@ -385,6 +398,8 @@ static int names_prerelease(Specifiers *self)
     Compiled compiled;
     if (self->allows >= 0)
         return self->allows;
+    if (compile_list_of(self) < 0)
+        return -1;
     if (is_arbitrary(self)) {
         if ((status = compile_behind(self, &compiled)) == PEP440_OK) {
             early = view_key(compiled.bytes + 1).is_early;
@@ -433,7 +448,7 @@ static int allows_prereleases(Specifiers *self)
 static PyObject *get_prereleases(Specifiers *self, void *unused)
 {
     int allows;
-    if (!is_compiled(self))
+    if (!is_read(self))
         return NULL;
     if (self->said != Py_None)
         return Py_NewRef(self->said);
@@ -445,17 +460,17 @@ static PyObject *get_prereleases(Specifiers *self, void *unused)
 
 static PyObject *get_compiled(Specifiers *self, void *unused)
 {
-    return is_compiled(self) ? PyBytes_FromStringAndSize((const char *)self->compiled, (Py_ssize_t)self->length) : NULL;
+    return compile_list_of(self) < 0 ? NULL : PyBytes_FromStringAndSize((const char *)self->compiled, (Py_ssize_t)self->length);
 }
 
-static PyObject *get_said(Specifiers *self, void *unused) { return is_compiled(self) ? Py_NewRef(self->said) : NULL; }
+static PyObject *get_said(Specifiers *self, void *unused) { return is_read(self) ? Py_NewRef(self->said) : NULL; }
 
 static int set_prereleases(Specifiers *self, PyObject *value, void *unused)
 {
     PyObject *old = self->said;
     if (!value)
         PyErr_SetString(PyExc_AttributeError, "prereleases cannot be deleted");
-    if (!value || !is_compiled(self))
+    if (!value || !is_read(self))
         return -1;
     self->said = Py_NewRef(value);
     times_set += is_specifier(self);
@@ -492,7 +507,7 @@ static int is_changed(Specifiers *self)
 
 static PyObject *get_is_by_python(Specifiers *self, void *unused)
 {
-    int changed = is_compiled(self) ? is_changed(self) : -1;
+    int changed = is_read(self) ? is_changed(self) : -1;
     return changed < 0 ? NULL : PyBool_FromLong(changed);
 }
 
@@ -504,7 +519,7 @@ static uint8_t contains_text(const Specifiers *self, PyObject *item, uint8_t *co
     Compiled compiled;
     uint8_t status = PEP440_OUT_OF_MEMORY;
     if (text)
-        status = compile(pep440_compile, string, 0, &compiled);
+        status = compile(pep440_compile, string, &compiled);
     if (status == PEP440_OK) {
         status = pep440_contains(self->compiled, self->length, compiled.bytes, compiled.length, contained, early);
         drop_compiled(&compiled);
@@ -557,7 +572,7 @@ static PyObject *contains_of(Specifiers *self, PyObject *const *args, Py_ssize_t
     static const char *const NAMES[] = {"item", "prereleases", "installed"};
     PyObject *given[] = {NULL, Py_None, Py_None};
     int by_python;
-    if (!is_compiled(self))
+    if (!self->compiled && compile_list_of(self) < 0)
         return NULL;
     if (count == 1 && !named)
         given[0] = args[0];

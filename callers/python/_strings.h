@@ -3,20 +3,21 @@
 static PyObject *InvalidVersion, *InvalidSpecifier;
 static PyTypeObject *HeldType, *HeldSpecifierType, *HeldSetType;
 
-/* A version: its string as it was given, its word where it has one, and what was asked for before: its compiled form, its sort key, its parts, and its
-   prints (normalized, public, base, local). `text` is NULL until `__init__` has read a string. */
+/* A version: its string as it was given, its word where it has one, and what was asked for before: its sort key, its parts, its normalized form, what
+   is cut from this, and its compiled form. `text` is NULL until `__init__` has read a string. */
 typedef struct {
     PyObject_HEAD
     PyObject *text;
     PyObject *key; /* its sort key, or what was set in its place */
     PyObject *parts;
-    PyObject *prints;
+    PyObject *normal;
+    PyObject *prints; /* (public, base, local), or None where all of it is the base */
     uint8_t *compiled; /* `few`, or a block of its own */
     size_t length;
     uint64_t word;
-    char is_by_word;  /* it is compared by its word */
+    char is_by_word;  /* it is compared and hashed by its word */
     char has_own_key; /* a key was set */
-    uint8_t few[38];
+    uint8_t few[30];  /* so that it takes 112 bytes */
 } Held;
 
 /* The forms (docs/PROMISES.md, "Compiled versions"): a version is a byte, its sort key, and a byte 1 for each zero that ends its release; a list is a
@@ -61,26 +62,34 @@ static int view_str(PyObject *given, pep440_string *text)
     return 0;
 }
 
-/* The str without white space at its ends, as str.strip has it, and its bytes. */
-static PyObject *stripped(PyObject *given, pep440_string *view)
+/* Whether at both ends stand characters of ASCII that are no white space. */
+static inline int has_plain_ends(const char *bytes, Py_ssize_t length)
 {
-    Py_ssize_t length = 0;
-    PyObject *text = PyUnicode_CheckExact(given) ? Py_NewRef(given) : PyUnicode_FromObject(given), *made; /* of a subclass of str the plain str */
-    const char *bytes = text ? PyUnicode_AsUTF8AndSize(text, &length) : NULL;
-    if (bytes && (!length || (bytes[0] > ' ' && bytes[0] < 127 && bytes[length - 1] > ' ' && bytes[length - 1] < 127))) {
-        *view = (pep440_string){(const uint8_t *)bytes, (size_t)length};
-        return text;
-    }
-    if (!text || (!bytes && !PyErr_ExceptionMatches(PyExc_UnicodeEncodeError))) {
-        Py_XDECREF(text);
-        return NULL;
-    }
+    return !length || ((unsigned char)(bytes[0] - '!') < 94 && (unsigned char)(bytes[length - 1] - '!') < 94);
+}
+
+/* The str without white space at its ends, as str.strip has it, and its bytes. */
+static PyObject *strip(PyObject *given, pep440_string *view)
+{
+    PyObject *text, *made;
     PyErr_Clear();
-    made = PyObject_CallMethod(text, "strip", NULL);
-    Py_DECREF(text);
+    text = PyUnicode_FromObject(given); /* of a subclass of str the plain str */
+    made = text ? PyObject_CallMethod(text, "strip", NULL) : NULL;
+    Py_XDECREF(text);
     if (made && view_str(made, view) < 0)
         Py_CLEAR(made);
     return made;
+}
+
+/* The same, quick where there is none. */
+static inline PyObject *stripped(PyObject *given, pep440_string *view)
+{
+    Py_ssize_t length = 0;
+    const char *bytes = PyUnicode_CheckExact(given) ? PyUnicode_AsUTF8AndSize(given, &length) : NULL;
+    if (!bytes || !has_plain_ends(bytes, length))
+        return strip(given, view);
+    *view = (pep440_string){(const uint8_t *)bytes, (size_t)length};
+    return Py_NewRef(given);
 }
 
 /* What gives the string of another library's version, or raises TypeError: set by the module of versions. */
@@ -234,32 +243,32 @@ static void drop_compiled(Compiled *compiled)
         free(compiled->bytes);
 }
 
-/* Compiles a string in one call, and leaves room in front. To be dropped where the status is PEP440_OK. */
-static uint8_t compile(Writer call, pep440_string text, size_t front, Compiled *compiled)
+/* Compiles a string in one call. To be dropped where the status is PEP440_OK. */
+static uint8_t compile(Writer call, pep440_string text, Compiled *compiled)
 {
     size_t room = sizeof compiled->few;
     uint8_t status;
     compiled->bytes = compiled->few;
-    if (text.length > (room - PEP440_COMPILED_BOUND(0) - MEMBER_HEAD) / 3) {
-        room = MEMBER_HEAD + PEP440_COMPILED_BOUND(text.length);
+    if (text.length > (room - PEP440_COMPILED_BOUND(0)) / 3) {
+        room = PEP440_COMPILED_BOUND(text.length);
         compiled->bytes = text.length <= SIZE_MAX / 4 ? malloc(room) : NULL;
         if (!compiled->bytes)
             return PEP440_OUT_OF_MEMORY;
     }
-    status = call(text.bytes, text.length, compiled->bytes + front, room - front, &compiled->length);
-    compiled->length += front;
+    status = call(text.bytes, text.length, compiled->bytes, room, &compiled->length);
     if (status != PEP440_OK)
         drop_compiled(compiled);
     return status;
 }
 
-/* A copy of the bytes: in `few`, or where they are more than `room`, in a block of its own. NULL where there is no memory. */
+/* Room for bytes: `few`, or where they are more than `room`, a block of its own. NULL where there is no memory. */
+static uint8_t *room_for(size_t length, uint8_t *few, size_t room) { return length <= room ? few : malloc(length); }
+
+/* A copy of the bytes. NULL where there is no memory. */
 static uint8_t *keep(const uint8_t *bytes, size_t length, uint8_t *few, size_t room)
 {
-    uint8_t *kept = length <= room ? few : malloc(length);
-    if (kept)
-        memcpy(kept, bytes, length);
-    return kept;
+    uint8_t *kept = room_for(length, few, room);
+    return kept ? memcpy(kept, bytes, length) : NULL;
 }
 
 /* What the call writes of compiled bytes, made into a bytes or a str. */

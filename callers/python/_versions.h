@@ -1,33 +1,32 @@
 /* The type of versions. */
 
-static void drop_block(Held *self)
+/* Drops what was made of the string. */
+__attribute__((noinline)) static void drop_made(Held *self)
 {
-    if (self->compiled != self->few)
+    PyObject *old[] = {self->key, self->parts, self->normal, self->prints};
+    if (self->compiled && self->compiled != self->few)
         free(self->compiled);
     self->compiled = NULL;
-}
-
-/* Takes the string in place of the one that was read before, of which nothing stays. */
-static void replace_text(Held *self, PyObject *text)
-{
-    PyObject *old[] = {self->text, self->key, self->parts, self->prints};
-    drop_block(self);
-    self->text = text, self->key = NULL, self->parts = NULL, self->prints = NULL;
+    self->key = self->parts = self->normal = self->prints = NULL;
     for (int each = 0; each < 4; each++)
         Py_XDECREF(old[each]);
 }
 
+static int raise_no_str(PyObject *given)
+{
+    PyErr_Format(PyExc_TypeError, "expected a str, not %R", Py_TYPE(given));
+    return -1;
+}
+
 /* Reads the string, also where one was read before. The old one stays where this one is no version. */
-static int read_version(Held *self, PyObject *given)
+static inline int read_version(Held *self, PyObject *given)
 {
     PyObject *text;
     pep440_string string;
     uint64_t word = 0;
     uint8_t status;
-    if (!PyUnicode_CheckExact(given) && !PyUnicode_Check(given)) {
-        PyErr_Format(PyExc_TypeError, "expected a str, not %R", Py_TYPE(given));
-        return -1;
-    }
+    if (!PyUnicode_CheckExact(given) && !PyUnicode_Check(given))
+        return raise_no_str(given);
     text = stripped(given, &string);
     if (!text)
         return -1;
@@ -40,10 +39,11 @@ static int read_version(Held *self, PyObject *given)
     self->word = word;
     self->is_by_word = status == PEP440_OK;
     self->has_own_key = 0;
-    if (self->text)
-        replace_text(self, text);
-    else
-        self->text = text;
+    if (self->text) {
+        drop_made(self);
+        Py_DECREF(self->text);
+    }
+    self->text = text;
     return 0;
 }
 
@@ -58,11 +58,24 @@ static int held_init(Held *self, PyObject *args, PyObject *named)
     return read_version(self, given);
 }
 
+/* The highest bit of a count of arguments is the caller's. */
+static const size_t COUNT = SIZE_MAX >> 1;
+
+/* `__new__` of a class that has none of its own. */
+static void *first_new;
+
+/* Whether a type is called with one argument alone, and by its call this `__init__` is all that runs. */
+static inline int takes_one(PyObject *type, size_t flagged_count, PyObject *names, void *init)
+{
+    const char *start = (const char *)type;
+    return (flagged_count & COUNT) == 1 && !names && *(void *const *)(start + INIT_PLACE) == init && *(void *const *)(start + NEW_PLACE) == first_new;
+}
+
 /* Calls a type as all are called. */
-__attribute__((noinline)) static PyObject *call_type(PyObject *type, PyObject *const *args, Py_ssize_t count, PyObject *names)
+__attribute__((noinline)) static PyObject *call_type(PyObject *type, PyObject *const *args, size_t flagged_count, PyObject *names)
 {
     ternaryfunc call = (ternaryfunc)PyType_GetSlot(&PyType_Type, Py_tp_call);
-    Py_ssize_t more = names ? PyTuple_Size(names) : 0;
+    Py_ssize_t count = (Py_ssize_t)(flagged_count & COUNT), more = names ? PyTuple_Size(names) : 0;
     PyObject *given = PyTuple_New(count), *named = more ? PyDict_New() : NULL, *made = NULL;
     int done = given && (named || !more) ? 0 : -1;
     for (Py_ssize_t at = 0; done == 0 && at < count; at++)
@@ -76,23 +89,16 @@ __attribute__((noinline)) static PyObject *call_type(PyObject *type, PyObject *c
     return made;
 }
 
-/* `Version.__new__`, as it is unless a program replaces it. */
-static void *first_new;
-
-/* Version(string) without a tuple; subclasses are not called by this. The highest bit of the count is the caller's. */
+/* Version(string) without a tuple; subclasses are not called by this. */
 static PyObject *held_call(PyObject *type, PyObject *const *args, size_t flagged_count, PyObject *names)
 {
-    size_t count = flagged_count & (SIZE_MAX >> 1);
-    PyTypeObject *own = (PyTypeObject *)type;
     Held *made;
-    if (count != 1 || names || PyType_GetSlot(own, Py_tp_init) != (void *)held_init || PyType_GetSlot(own, Py_tp_new) != first_new)
-        return call_type(type, args, (Py_ssize_t)count, names);
-    made = PyObject_New(Held, own);
+    if (!takes_one(type, flagged_count, names, held_init))
+        return call_type(type, args, flagged_count, names);
+    made = PyObject_New(Held, (PyTypeObject *)type);
     if (!made)
         return NULL;
-    made->text = made->key = made->parts = made->prints = NULL;
-    made->compiled = NULL;
-    made->has_own_key = made->is_by_word = 0;
+    memset(&made->text, 0, offsetof(Held, few) - offsetof(Held, text));
     if (read_version(made, args[0]) < 0)
         Py_CLEAR(made);
     return (PyObject *)made;
@@ -109,7 +115,7 @@ static int compile_held(Held *self)
     if (!is_initialised(self))
         return -1;
     if (view_str(self->text, &string) == 0)
-        status = compile(pep440_compile, string, 0, &compiled);
+        status = compile(pep440_compile, string, &compiled);
     if (status == PEP440_OK) {
         self->compiled = keep(compiled.bytes, compiled.length, self->few, sizeof self->few);
         self->length = compiled.length;
@@ -123,13 +129,13 @@ static int compile_held(Held *self)
 static void held_free(Held *self)
 {
     PyTypeObject *type = Py_TYPE((PyObject *)self);
-    freefunc free_it = type == HeldType ? PyObject_Free : (freefunc)PyType_GetSlot(type, Py_tp_free);
+    if (self->key || self->parts || self->normal || self->compiled)
+        drop_made(self);
     Py_XDECREF(self->text);
-    Py_XDECREF(self->key);
-    Py_XDECREF(self->parts);
-    Py_XDECREF(self->prints);
-    drop_block(self);
-    free_it(self);
+    if (type == HeldType)
+        PyObject_Free(self);
+    else
+        ((freefunc)PyType_GetSlot(type, Py_tp_free))(self);
     Py_DECREF(type);
 }
 
@@ -186,59 +192,86 @@ static PyObject *held_compare(PyObject *left, PyObject *right, int operation)
     Py_RETURN_RICHCOMPARE(one->word, other->word, operation);
 }
 
+/* The word of the version, or of an equal one with fewer zeros at the end of its release. 1, 0 where none has one, or -1 with an error. */
+static int equal_word(Held *self, uint64_t *word)
+{
+    const uint8_t *key;
+    uint8_t status;
+    *word = self->word;
+    if (self->is_by_word)
+        return 1;
+    if (compile_held(self) < 0)
+        return -1;
+    key = self->compiled + 1;
+    /* a release of zeros keeps one */
+    status = pep440_word(self->compiled, 1 + key_length(key, self->length - 1) + !view_key(key).numbers, word);
+    if (status != PEP440_OK && status != PEP440_NOT_PACKED)
+        raise_by(status, NULL, NULL);
+    return PyErr_Occurred() ? -1 : status == PEP440_OK;
+}
+
+/* Of a version that is equal to one with a word it is the hash of this, so that most need no key. */
 static Py_hash_t held_hash(Held *self)
 {
-    PyObject *key = key_of(self);
-    return key ? PyObject_Hash(key) : -1;
+    uint64_t word;
+    int is_by_word = self->has_own_key ? 0 : equal_word(self, &word);
+    if (is_by_word == 0)
+        return key_of(self) ? PyObject_Hash(self->key) : -1;
+    word = (word ^ word >> 32) * 0x9E3779B97F4A7C15u;
+    word ^= word >> 32;
+    return is_by_word < 0 ? -1 : word == (uint64_t)-1 ? -2 : (Py_hash_t)word;
 }
 
-/* The part of a normalized form up to the end, or None where there is none; the form itself where it is the whole of it. */
-static PyObject *piece(PyObject *normal, const char *start, size_t length, size_t whole)
+/* The normalized form, borrowed: the string that was given, where it is the same. */
+static PyObject *normal_of(Held *self)
 {
-    return length == whole ? Py_NewRef(normal) : PyUnicode_FromStringAndSize(start, (Py_ssize_t)length);
+    pep440_string text;
+    PyObject *normal = NULL;
+    if (self->normal || !is_initialised(self) || view_str(self->text, &text) < 0)
+        return self->normal;
+    /* of the string it takes a third of what it takes of the compiled form */
+    normal = made_of(pep440_normalize, text.bytes, text.length, PyUnicode_FromStringAndSize);
+    if (normal && PyUnicode_Compare(normal, self->text) == 0) {
+        Py_DECREF(normal);
+        normal = Py_NewRef(self->text);
+    }
+    return kept_in(&self->normal, normal);
 }
 
-/* (normalized, public, base, local): before the first `+` stands the public one, behind it the local part; epoch and release end before the
-   first letter, and before the point of a `.post` or a `.dev`. */
+enum { PUBLIC, BASE, LOCAL };
+
+/* (public, base, local) of a normalized form, or None where all of it is the base: before the first `+` stands the public one, behind it the local
+   part; epoch and release end before the first letter, and before the point of a `.post` or a `.dev`. */
 static PyObject *prints_of(PyObject *normal)
 {
     Py_ssize_t size = 0;
     const char *bytes = PyUnicode_AsUTF8AndSize(normal, &size), *plus;
-    size_t length = (size_t)size, public_length, base = 0;
+    Py_ssize_t public_length, base = 0;
     if (!bytes)
         return NULL;
-    plus = memchr(bytes, '+', length);
-    public_length = plus ? (size_t)(plus - bytes) : length;
+    plus = memchr(bytes, '+', (size_t)size);
+    public_length = plus ? plus - bytes : size;
     while (base < public_length && (bytes[base] == '.' || bytes[base] == '!' || (bytes[base] >= '0' && bytes[base] <= '9')))
         base++;
+    if (base == size)
+        return Py_NewRef(Py_None);
     while (base && bytes[base - 1] == '.')
         base--;
-    return Py_BuildValue("ONNN", normal, piece(normal, bytes, public_length, length), piece(normal, bytes, base, length),
-                         plus ? PyUnicode_FromStringAndSize(plus + 1, (Py_ssize_t)(length - public_length - 1)) : Py_NewRef(Py_None));
+    return Py_BuildValue("Ns#s#", plus ? PyUnicode_FromStringAndSize(bytes, public_length) : Py_NewRef(normal), bytes, base, plus ? plus + 1 : NULL,
+                         plus ? size - public_length - 1 : 0);
 }
-
-static PyObject *read_prints(Held *self)
-{
-    pep440_string text;
-    PyObject *normal = NULL, *prints = NULL;
-    if (view_str(self->text, &text) == 0) /* of the string it takes a third of what it takes of the compiled form */
-        normal = made_of(pep440_normalize, text.bytes, text.length, PyUnicode_FromStringAndSize);
-    if (normal) /* the string that was given, where it is the same */
-        prints = prints_of(PyUnicode_Compare(normal, self->text) == 0 ? self->text : normal);
-    Py_XDECREF(normal);
-    return prints;
-}
-
-enum { NORMAL, PUBLIC, BASE, LOCAL };
 
 static PyObject *get_print(Held *self, void *place)
 {
-    if (!self->prints && !(is_initialised(self) && kept_in(&self->prints, read_prints(self))))
+    PyObject *normal = normal_of(self);
+    if (!normal || !(self->prints || kept_in(&self->prints, prints_of(normal))))
         return NULL;
-    return Py_XNewRef(PyTuple_GetItem(self->prints, (Py_ssize_t)(intptr_t)place));
+    if (self->prints != Py_None)
+        return Py_XNewRef(PyTuple_GetItem(self->prints, (Py_ssize_t)(intptr_t)place));
+    return Py_NewRef((intptr_t)place == LOCAL ? Py_None : normal);
 }
 
-static PyObject *held_str(Held *self) { return get_print(self, (void *)NORMAL); }
+static PyObject *held_str(Held *self) { return Py_XNewRef(normal_of(self)); }
 
 static PyObject *held_repr(PyObject *self) { return PyUnicode_FromFormat("<Version('%S')>", self); }
 

@@ -53,6 +53,15 @@ class Versions(unittest.TestCase):
         self.assertEqual(sort_texts(reversed(ASCENDING)), ASCENDING)
         self.assertEqual(sorted(sort_keys(ASCENDING)), [it.sort_key for it in held])
 
+    def test_hash(self):
+        # PEP 440, "Final releases": releases are compared with as many zeros at the end; and all of a row of such ones are one key of a dict
+        for text in ("0", "1", "7.8.9.10", "1.2.3.4.5", "1!2", "65535.255.255.255", "65536", "1.256"):
+            for suffix in ("", "a1", "rc2097151", "rc2097152", ".post1", ".dev1", "a1.post2.dev3", "+u.1"):
+                several = [Version(text + ".0" * zeros + suffix) for zeros in range(7)]
+                self.assertEqual((len(set(several)), len({it.sort_key for it in several})), (1, 1), several[0])
+        many = [f"{first}.{second}{suffix}" for first in range(100) for second in range(100) for suffix in ("", ".1", "rc1", ".post1", ".dev1")]
+        self.assertEqual(len({hash(Version(it)) for it in many}), len(many))
+
     def test_database(self):
         shuffled = random.Random(440).sample(ASCENDING, len(ASCENDING))
         table = sqlite3.connect(":memory:")
@@ -92,6 +101,7 @@ class Versions(unittest.TestCase):
         version = (b"\4" + Version("1.0").sort_key + b"\1").decode()
         several = _core.compile_list(">=1.0").decode()
         calls = [lambda: Version(version), lambda: "1.0" in SpecifierSet(several), lambda: version in SpecifierSet(">=1.0"), lambda: Specifier(several)]
+        calls += [lambda: Specifier(">=" + version), lambda: Specifier(">= " + version), lambda: SpecifierSet("<3,!=" + version)]
         calls += [lambda: sort_texts([version]), lambda: sort_keys([version]), lambda: filter_texts(">=1.0", [version])]
         for call in calls:
             with self.assertRaises((InvalidVersion, InvalidSpecifier)):

@@ -272,10 +272,18 @@ class Specifiers(unittest.TestCase):
         one.several, several.note = several, "mine"
         for again in (copy.deepcopy(several), *(pickle.loads(pickle.dumps(several, it)) for it in range(pickle.HIGHEST_PROTOCOL + 1))):
             self.assertEqual((again, again.note, next(iter(again)).several), (several, "mine", several))
-        gone = weakref.ref(several)
+        gone = [weakref.ref(several), weakref.ref(one)]
+        self.assertEqual((one.__dict__, gone[1]()), ({"several": several}, one))
         del one, several, again
         gc.collect()
-        self.assertIsNone(gone())
+        self.assertEqual([it() for it in gone], [None, None])
+
+    def test_init_replaced(self):
+        for kind in (Specifier, SpecifierSet):
+            before = kind.__init__
+            with unittest.mock.patch.object(kind, "__init__", lambda it, text: before(it, text + ".1")):
+                self.assertEqual(str(kind(">=1")), ">=1.1")
+            self.assertEqual(str(kind(">=1")), ">=1")
 
     def test_parts_that_a_tool_sets(self):
         one, several = Specifier(">=1.0", prereleases=True), SpecifierSet(">=1.0", prereleases=True)

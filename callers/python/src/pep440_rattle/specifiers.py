@@ -12,22 +12,39 @@ True
 from __future__ import annotations
 
 import abc
-import re
-from collections.abc import Callable, Iterable, Iterator
-from typing import NamedTuple, TypeVar, Union
+from collections import namedtuple
 
 from . import _core
 from ._core import InvalidSpecifier
-from .version import InvalidVersion, Version, _set_attributes, _split_state, _State, _state_of, _text_of_other
+from .version import InvalidVersion, Version, _set_attributes, _split_state, _state_of, _text_of_other
 
 __all__ = ["BaseSpecifier", "Bound", "InvalidSpecifier", "Specifier", "SpecifierSet"]
 
-UnparsedVersion = Union[Version, str]
-UnparsedVersionVar = TypeVar("UnparsedVersionVar", bound=UnparsedVersion)
+UnparsedVersion = Version | str
 
-class Bound(NamedTuple):
+TYPE_CHECKING = False
+if TYPE_CHECKING:
+    import re
+    from collections.abc import Callable, Iterable, Iterator
+    from typing import TypeVar
+
+    from .version import _State
+
+    UnparsedVersionVar = TypeVar("UnparsedVersionVar", bound=UnparsedVersion)
+else:
+
+    def __getattr__(name):
+        if name != "UnparsedVersionVar":
+            raise AttributeError(f"module {__name__!r} has no attribute {name!r}")
+        from typing import TypeVar
+
+        return globals().setdefault(name, TypeVar(name, bound=UnparsedVersion))
+
+
+class Bound(namedtuple("Bound", "version included sentinel")):
     """An end of a segment of versions."""
 
+    __slots__ = ()
     version: Version
     included: bool
     sentinel: str
@@ -68,6 +85,8 @@ class _WholeSpecifier:
     """A regular expression that is compiled when it is first read, since that takes longer than all else here."""
 
     def __get__(self, _: object, kind: type[Specifier]) -> re.Pattern[str]:
+        import re
+
         return re.compile(rf"^\s*{kind._operator_regex_str}{kind._version_regex_str}\s*\Z", re.VERBOSE | re.IGNORECASE)
 
 
@@ -167,7 +186,11 @@ def _contains_by_name(self: Specifier | SpecifierSet, item: UnparsedVersion) -> 
     return self.contains(item)
 
 
-class Specifier(_core.HeldSpecifier, BaseSpecifier):
+class _Called(abc.ABCMeta):
+    """The class of those that `_core` makes without a tuple of arguments."""
+
+
+class Specifier(_core.HeldSpecifier, BaseSpecifier, metaclass=_Called):
     """One specifier, as `>=1.0`.
 
     Raises `InvalidSpecifier`, with the reason, where the string is none. `prereleases` says whether pre-releases are allowed; None leaves it to
@@ -283,10 +306,7 @@ class Specifier(_core.HeldSpecifier, BaseSpecifier):
         return str(prospective).lower() == spec.lower()
 
 
-_core.make_members_of(Specifier)
-
-
-class SpecifierSet(_core.HeldSet, BaseSpecifier):
+class SpecifierSet(_core.HeldSet, BaseSpecifier, metaclass=_Called):
     """Specifiers that all are to hold, as `>=1.0, !=1.5.*`; a string with commas, or an iterable of `Specifier`.
 
     Raises `InvalidSpecifier`, with the reason, where a piece of the string is no specifier; empty pieces are passed over. `prereleases` says whether
@@ -365,4 +385,4 @@ class SpecifierSet(_core.HeldSet, BaseSpecifier):
         return iter(iterable)
 
 
-_core.make_sets_of(SpecifierSet)
+_core.use(Specifier, SpecifierSet, _text_of_other)

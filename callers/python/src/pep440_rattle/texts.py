@@ -4,11 +4,15 @@ Each takes an iterable of texts, or of versions, and gives back what it was give
 """
 from __future__ import annotations
 
-from collections.abc import Iterable
-
 from . import _core
-from .specifiers import Specifier, SpecifierSet, UnparsedVersion, UnparsedVersionVar
+from .specifiers import Specifier, SpecifierSet
 from .version import InvalidVersion
+
+TYPE_CHECKING = False
+if TYPE_CHECKING:
+    from collections.abc import Iterable
+
+    from .specifiers import UnparsedVersion, UnparsedVersionVar
 
 __all__ = ["filter_texts", "sort_keys", "sort_texts"]
 

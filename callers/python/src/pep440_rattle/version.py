@@ -9,19 +9,20 @@ True
 from __future__ import annotations
 
 import copyreg
-import functools
-import importlib
-import re
-from collections.abc import Callable
-from typing import Any, NamedTuple, Union
+from collections import namedtuple
 
-from . import _core
 from ._core import InvalidVersion, Version
 
-__all__ = ["VERSION_PATTERN", "InvalidVersion", "Version", "parse"]
+# As that of `typing`, whose import takes longer than all else here.
+TYPE_CHECKING = False
+if TYPE_CHECKING:
+    from collections.abc import Callable
+    from typing import Any, Union
 
-_LocalSegments = tuple[Union[int, str], ...]
-_State = Union[dict[str, Any], tuple[Union[dict[str, Any], None], dict[str, Any]]]
+    _LocalSegments = tuple[Union[int, str], ...]
+    _State = Union[dict[str, Any], tuple[Union[dict[str, Any], None], dict[str, Any]]]
+
+__all__ = ["VERSION_PATTERN", "InvalidVersion", "Version", "parse"]
 
 # The name by which tools annotate what is compared.
 _BaseVersion = Version
@@ -40,9 +41,10 @@ VERSION_PATTERN = r"""
 Nothing here uses it: what a version is says the proved library."""
 
 
-class _Version(NamedTuple):
+class _Version(namedtuple("_Version", "epoch release dev pre post local")):
     """The parts of a version, as `Version._version` has them, for tools that read or set it."""
 
+    __slots__ = ()
     epoch: int
     release: tuple[int, ...]
     dev: tuple[str, int] | None
@@ -251,7 +253,7 @@ def _parse_local_version(local: str | None) -> _LocalSegments | None:
     """The segments of a local part."""
     if local is None:
         return None
-    return tuple(int(it) if it.isdigit() else it.lower() for it in re.split(r"[-_.]", local))
+    return tuple(int(it) if it.isdigit() else it.lower() for it in local.replace("-", ".").replace("_", ".").split("."))
 
 
 def _text_of(
@@ -266,7 +268,6 @@ def _text_of(
     return f"{epoch}!{'.'.join(map(str, release))}{''.join(suffixes)}{'+' + '.'.join(map(str, local)) if local else ''}"
 
 
-@functools.total_ordering
 class _Extreme:
     """What lies above all else in a key, or below."""
 
@@ -275,6 +276,15 @@ class _Extreme:
 
     def __lt__(self, other: object) -> bool:
         return not self.is_above and self is not other
+
+    def __gt__(self, other: object) -> bool:
+        return self.is_above and self is not other
+
+    def __le__(self, other: object) -> bool:
+        return not self > other
+
+    def __ge__(self, other: object) -> bool:
+        return not self < other
 
     def __reduce__(self) -> str:
         return "_ABOVE" if self.is_above else "_BELOW"
@@ -287,6 +297,8 @@ def _extremes() -> tuple[Any, Any]:
     """What lies above all else and below; where these modules stand in place of `packaging`, what it has."""
     if Version.__module__ == __name__:
         return _ABOVE, _BELOW
+    import importlib
+
     structures = importlib.import_module(Version.__module__.rpartition(".")[0] + "._structures")
     return structures.Infinity, structures.NegativeInfinity
 
@@ -315,6 +327,3 @@ def _text_of_other(item: object) -> str:
         if each.__qualname__ == "Version" and each.__module__.endswith("packaging.version"):
             return each.__str__(item)  # type: ignore[call-arg]
     raise TypeError(f"expected a str or a Version, not {type(item)!r}")
-
-
-_core.read_others_by(_text_of_other)
