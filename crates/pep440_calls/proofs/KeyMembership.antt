@@ -1,7 +1,7 @@
 -- A version's key lies in an interval of the range, or of the cover, of a list that bytes denote.
 use Rattle.std.proofs.Common.{◌≡◌, ◌∙◌, ◌||◌, ℕ, Bool, List, [], ◌∷◌, true, Some, map, ap, refl, inl, inr}
 use Rattle.std.specs.List.{list_any}
-use Rattle.pep440_keys.proofs.KeyMembership.{in_range as tells_membership}
+use Rattle.pep440_keys.proofs.Membership.{in_range as tells_membership}
 use Rattle.pep440_keys.specs.RangeKeys.{HasKeys, is_within, segment_interval}
 use Rattle.pep440_ranges.specs.RangeSegments.{contains}
 use Rattle.pep440_rs.proofs.Agreement.Operands.{list_has_texts}

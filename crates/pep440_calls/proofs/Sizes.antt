@@ -348,5 +348,6 @@ key_bound bytes r d = omega (arith, key_and_zeros bytes r d)
 
 pub compiled_bound : (bytes : List ℕ) (r : Record) → Derives bytes r → length (compiled_bytes r) ≤ 8 + 3 * length bytes / 2
 compiled_bound bytes r d =
-    let zeros = drop (length (trim r.release)) r.release in
-    omega (arith, length-append (key_bytes r) (zero_bytes r.release), length-map zeros (λ n. 1), key_and_zeros bytes r d)
+    let zeros : List ℕ = drop (length (trim r.release)) r.release in
+    let count : length (zero_bytes r.release) ≡ length zeros = length-map zeros (λ (n : ℕ). 1) in
+    omega (arith, length-append (key_bytes r) (zero_bytes r.release), count, key_and_zeros bytes r d)
