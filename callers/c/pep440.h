@@ -337,8 +337,10 @@ uint8_t pep440_release_range_bounds(const uint8_t *list, size_t length, uint8_t 
    one. All other calls reject such bytes. So give bytes of unknown origin to pep440_normalize or
    pep440_normalize_list once. */
 
-/* How many bytes suffice for the compiled form of a version or a list, and so for a sort key, by
-   the length of its string. */
+/* How many bytes suffice, by the length of a string: for the normal form of a version, for its sort
+   key, and for the compiled form of a version or a list. */
+#define PEP440_NORMAL_BOUND(length) (9 + (size_t)(length))
+#define PEP440_SORT_KEY_BOUND(length) (7 + 3 * (size_t)(length) / 2)
 #define PEP440_COMPILED_BOUND(length) (10 + 3 * (size_t)(length))
 
 /* Writes the compiled form of a version; `out` and `written` as for pep440_normalize. */

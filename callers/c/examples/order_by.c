@@ -14,7 +14,7 @@
 int main(void)
 {
     char line[4096], version[4096];
-    uint8_t key[PEP440_COMPILED_BOUND(4096)];
+    uint8_t key[PEP440_SORT_KEY_BOUND(4096)];
     size_t length, each;
     puts("CREATE TABLE releases (version TEXT, key BLOB);\nCREATE INDEX by_key ON releases (key);\nBEGIN;");
     while (fgets(line, sizeof line, stdin)) {

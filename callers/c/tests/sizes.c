@@ -1,5 +1,5 @@
 /* Each call with strings, compiled forms, lists and batches of many sizes, and buffers that are big enough: with memory there it must return
-   PEP440_OK. No compiled form and no sort key is longer than PEP440_COMPILED_BOUND. */
+   PEP440_OK. No form is longer than its bound by the length of the string. */
 #include <stdio.h>
 #include <stdlib.h>
 #include <string.h>
@@ -92,6 +92,10 @@ static void of_versions(const char *before, const char *part, size_t size)
     pep440_string specifier = repeat("===", (const char *)version.bytes, "", 1);
     pep440_string compiled = compile(pep440_compile, version, part, size), only = compile(pep440_compile_specifier, specifier, part, size);
     pep440_string compiled_few = compile(pep440_compile_list, few, part, size);
+    CHECK(pep440_normalize(PARSED(version), OUT));
+    check(written > PEP440_NORMAL_BOUND(version.length), "PEP440_NORMAL_BOUND", part, size);
+    CHECK(pep440_sort_key(PARSED(version), OUT));
+    check(written > PEP440_SORT_KEY_BOUND(version.length), "PEP440_SORT_KEY_BOUND", part, size);
     CHECK(pep440_error(PEP440_A_VERSION, PARSED(invalid), OUT));
     CHECK(pep440_pattern(PARSED(version), OUT, &is));
     CHECK(pep440_error(PEP440_A_PATTERN, PARSED(invalid), OUT));

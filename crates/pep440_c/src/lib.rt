@@ -1,67 +1,35 @@
 //! PEP 440 for C: versions and lists of specifiers, as bytes in the caller's memory.
 //!
-//! A version or a list is bytes and how many there are: a string, or its compiled form, which begins with a byte that no string begins
-//! with. Each call takes either, but for the five that take an operator, a pattern or one specifier as a string. No call keeps a
-//! pointer, and none has a condition beyond its types. Each returns a status: 0 ok, 1 a version is invalid, 2 a list is invalid, or an
-//! operator or a specifier, 3 out of memory, 4 too little room, 5 a bound of a range lies above the greatest number, 6 the right one of
-//! two versions is invalid, 7 a version is not packed, 8 a version cannot be changed so, 9 bytes are to be nothing known, 10 none is found.
-//!
-//! `pep440_compare` of two compiled versions, and `pep440_contains` and `pep440_allows` of a compiled list and a compiled version, read them as
-//! they lie, without allocating. They do not test the whole of them: of bytes that begin as a compiled form and are none they return an error or any
-//! result, and never read outside them.
-//! The header `callers/c/pep440.h` says what each call writes.
-//!
-//! With 0 the result is at the start of the buffer, whose rest is unchanged. With 4 all is valid, but the result does not fit: the
-//! buffer is unchanged, and what the header names is written. 3 may take the place of any other status. With any other
-//! nothing is written, except `at` by a batch that stops.
+//! Each function is the one of `pep440_calls` that it calls, which says what is written and each status. The header `callers/c/pep440.h`
+//! says it in C's words.
 //!
 //! A call may allocate from `malloc`, and frees what it allocated before it returns. If `malloc` fails it returns 3, and may be made
 //! again.
 #![tactic(auto)]
 
-ghost use Rattle.std.specs.Prelude.{◌≡◌, map};
-ghost use Rattle.pep440_rs.specs.Bounds.{range_of};
+ghost use Rattle.std.specs.Prelude.{map, not, ◌==◌, ◌≡◌};
+ghost use Rattle.pep440_rs.specs.Bounds.{range_of, release_range_of};
 ghost use Rattle.pep440_rs.specs.Cover.{cover_of};
-ghost use Rattle.pep440_c.specs.CallResults.{ContainsAnswer, HasNoRange, IsKey, IsNormal, IsNormalList, IsRangeText, NamesPrerelease, OrderAnswer, PartsAnswer, TellsMembers, WordAnswer, order_number};
-ghost use Rattle.pep440_c.specs.Batches.{FilterMarks, KeysAnswer, SortAnswer};
-ghost use Rattle.pep440_c.specs.Edits.{PutsEdited, IsEditError};
-ghost use Rattle.pep440_c.specs.Intervals.{LacksRange, TellsIntervals};
-ghost use Rattle.pep440_c.specs.JoinedStrings.{PutsJoined};
-ghost use Rattle.pep440_c.specs.Meaning.{RefusesBytes, RefusesListBytes};
-ghost use Rattle.pep440_c.specs.PatternCalls.{IsSpecifier, PatternAnswer, RefusesOperand, RefusesOperator};
-ghost use Rattle.pep440_c.specs.Statuses.{IsFlagOf, Puts, PutsBytes};
-ghost use Rattle.pep440_c.specs.VersionsIn.{IsVersionIn};
+ghost use Rattle.pep440_calls.specs.Batches.{FilterMarks, KeysAnswer, SortAnswer};
+ghost use Rattle.pep440_calls.specs.CallResults.{AllowsAnswer, ContainsAnswer, HasNoRange, IsCompiled, IsCompiledList, IsKey, IsNormal, IsNormalList, IsRangeText, IsVersionIn, NamesPrerelease, OrderAnswer, PartsAnswer, TellsMembers, WordAnswer};
+ghost use Rattle.pep440_calls.specs.Edits.{IsEditError, PutsEdited};
+ghost use Rattle.pep440_calls.specs.Explanations.{ErrorAnswer, IsBuildError, IsNoOperator, RefusesNumbered};
+ghost use Rattle.pep440_calls.specs.JoinedStrings.{PutsJoined};
+ghost use Rattle.pep440_calls.specs.Meaning.{RefusesBytes, RefusesListBytes};
+ghost use Rattle.pep440_calls.specs.NewestString.{NewestAnswer};
+ghost use Rattle.pep440_calls.specs.PatternCalls.{IsCompiledSpecifier, IsSpecifier, PatternAnswer, RefusesOperand, RefusesOperator, RefusesSpecifierBytes};
+ghost use Rattle.pep440_calls.specs.Ranges.{LacksRange, TellsBounds, TellsIntervals};
+ghost use Rattle.pep440_calls.specs.Statuses.{IsFlagOf, Puts, PutsBytes};
 
-mod allowed_versions;
-mod batch;
-mod buffer;
-mod compile;
-mod edits;
-mod explanations;
-mod intervals;
-mod joined_strings;
-pub mod laws;
-mod list_members;
-mod messages;
-mod newest_string;
-mod one_specifier;
-mod pattern_errors;
-mod patterns;
-mod range_bounds;
-mod release_range_bounds;
-#[cfg(test)]
-mod tests;
-mod texts;
-mod version_parts;
-mod versions_in;
-
-use crate::batch::BatchError;
-use crate::buffer::{
-    NOT_PACKED, OK, flag, put, put_and_count, put_both, put_bytes, put_joined, put_slice, put_text,
+use pep440_calls::{
+    Parts, write_allowed, write_build_error, write_compiled, write_compiled_list,
+    write_compiled_specifier, write_cover_keys, write_edit_error, write_edited, write_error,
+    write_marks, write_match, write_members, write_newest, write_normal_form, write_normal_list,
+    write_order, write_parts, write_pattern, write_positions, write_prerelease_flag, write_range,
+    write_range_bounds, write_range_keys, write_release_range_bounds, write_sort_key,
+    write_sort_keys, write_specifier, write_version_in, write_word,
 };
-use pep440_compiled::has_version_format;
 use std::alloc::Global;
-use std::cmp::Ordering;
 
 const VERSION_OF_LIBRARY: u32 = 0x00_03_00;
 
@@ -73,7 +41,7 @@ pub extern "C" fn pep440_version_of_library() -> u32
     VERSION_OF_LIBRARY
 }
 
-/// Writes the normal form of the version (PEP 440, "Normalization").
+/// Writes the normal form of the version.
 #[unsafe(no_mangle)]
 pub extern "C" fn pep440_normalize(
     alloc: Global,
@@ -83,7 +51,7 @@ pub extern "C" fn pep440_normalize(
 ) -> u8
     ensures { PutsBytes (RefusesBytes text.now) ⊥ ⊥ (IsNormal text.now) out.old out.new written.old written.new result }
 {
-    put_text(texts::normalize(alloc, text), out, written)
+    write_normal_form(alloc, text, out, written)
 }
 
 /// Writes the normal form of the list.
@@ -96,11 +64,10 @@ pub extern "C" fn pep440_normalize_list(
 ) -> u8
     ensures { PutsBytes ⊥ (RefusesListBytes list.now) ⊥ (IsNormalList list.now) out.old out.new written.old written.new result }
 {
-    put_text(texts::normalize_list(alloc, list), out, written)
+    write_normal_list(alloc, list, out, written)
 }
 
-/// Writes operator and version of each member of the list, as its normal form has them, in their order, and the end of
-/// each. Reports how many bytes and how many strings there are.
+/// Writes operator and version of each member of the list, as its normal form has them, in their order, and the end of each.
 #[unsafe(no_mangle)]
 pub extern "C" fn pep440_specifiers_of(
     alloc: Global,
@@ -112,18 +79,10 @@ pub extern "C" fn pep440_specifiers_of(
 ) -> u8
     ensures { PutsJoined ⊥ (RefusesListBytes list.now) ⊥ (TellsMembers list.now) out.old out.new ends.old ends.new written.old written.new count.old count.new result }
 {
-    put_joined(
-        list_members::to_members(alloc, list),
-        out,
-        ends,
-        written,
-        count,
-    )
+    write_members(alloc, list, out, ends, written, count)
 }
 
-/// Writes the specifier of an operator and a version, as its list prints it; the version may end with `.*` for `==` and
-/// `!=` (PEP 440, "Version specifiers"). The operator is parsed first. Status 2 if it is none, or does not go with the
-/// version: `.*` or a local part if it allows none, or `~=` before a single release number.
+/// Writes the specifier of an operator and a version, as its list prints it; the version may end with `.*` for `==` and `!=`.
 #[unsafe(no_mangle)]
 pub extern "C" fn pep440_specifier(
     alloc: Global,
@@ -134,14 +93,10 @@ pub extern "C" fn pep440_specifier(
 ) -> u8
     ensures { PutsBytes (RefusesOperand operator.now version.now) (RefusesOperator operator.now version.now) ⊥ (IsSpecifier operator.now version.now) out.old out.new written.old written.new result }
 {
-    put_text(
-        patterns::to_specifier(alloc, operator, version),
-        out,
-        written,
-    )
+    write_specifier(alloc, operator, version, out, written)
 }
 
-/// Writes the normal form of the version of a pattern, and whether `.*` follows it, 1 or 0 (PEP 440, "Version matching").
+/// Writes the normal form of the version of a pattern, and whether `.*` follows it, 1 or 0.
 #[unsafe(no_mangle)]
 pub extern "C" fn pep440_pattern(
     alloc: Global,
@@ -152,17 +107,10 @@ pub extern "C" fn pep440_pattern(
 ) -> u8
     ensures { PatternAnswer pattern.now out.old out.new written.old written.new star.old star.new result }
 {
-    match patterns::normalize(alloc, pattern) {
-        Ok((text, is_wildcard)) => {
-            *star = flag(is_wildcard);
-            put_and_count(text.as_bytes(), out, written)
-        }
-        Err(fault) => fault.status(),
-    }
+    write_pattern(alloc, pattern, out, written, star)
 }
 
-/// Writes the version after the changes, one after the other, with its sentinels; the program's command `edit` takes the same
-/// words. The version is parsed first, then all words. Status 8 if one is no change word, or a change cannot be made.
+/// Writes the version after the changes, one after the other, with its sentinels; the program's command `edit` takes the same words.
 #[unsafe(no_mangle)]
 pub extern "C" fn pep440_edit(
     alloc: Global,
@@ -173,10 +121,7 @@ pub extern "C" fn pep440_edit(
 ) -> u8
     ensures { PutsEdited text.now (map (λ t. t.now) changes.now) out.old out.new written.old written.new result }
 {
-    match edits::edit_version(alloc, text, changes) {
-        Ok(edited) => put_and_count(edited.as_bytes(), out, written),
-        Err(error) => error.status(),
-    }
+    write_edited(alloc, text, changes, out, written)
 }
 
 /// Writes why the version cannot be changed so, or why the string is none; nothing if it can.
@@ -190,38 +135,32 @@ pub extern "C" fn pep440_edit_error(
 ) -> u8
     ensures { PutsBytes ⊥ ⊥ ⊥ (IsEditError text.now (map (λ t. t.now) changes.now)) out.old out.new written.old written.new result }
 {
-    put_text(edits::explain_edit(alloc, text, changes), out, written)
+    write_edit_error(alloc, text, changes, out, written)
 }
 
-/// The number that stands for an order.
-pub(crate) fn order_number(order: Ordering) -> i8
-    ensures { result ≡ order_number order }
+/// Writes why the bytes are no version, no pattern, no specifier or no list, as `kind` is 0, 1, 2 or 3; nothing if they are one.
+#[unsafe(no_mangle)]
+pub extern "C" fn pep440_error(
+    alloc: Global,
+    kind: u8,
+    bytes: &[u8],
+    out: &mut [u8],
+    written: &mut usize,
+) -> u8
+    ensures { ErrorAnswer kind bytes.now out.old out.new written.old written.new result }
 {
-    match order {
-        Ordering::Less => -1,
-        Ordering::Equal => 0,
-        Ordering::Greater => 1,
-    }
+    write_error(alloc, kind, bytes, out, written)
 }
 
-/// How the left version compares with the right one: -1 below, 0 equal, 1 above (PEP 440, "Summary of permitted
-/// suffixes and relative ordering"). Status 6 if only the right one is invalid. Allocates nothing for two compiled versions.
+/// How the left version compares with the right one: -1 below, 0 equal, 1 above.
 #[unsafe(no_mangle)]
 pub extern "C" fn pep440_compare(alloc: Global, left: &[u8], right: &[u8], order: &mut i8) -> u8
     ensures { OrderAnswer left.now right.now order.old order.new result }
 {
-    match texts::compare(alloc, left, right) {
-        Ok(found) => {
-            *order = order_number(found);
-            OK
-        }
-        Err(fault) => fault.status(),
-    }
+    write_order(alloc, left, right, order)
 }
 
-/// Whether the list contains the version, 1 or 0 (PEP 440, "Version specifiers"); and whether the version is a pre-release or
-/// a developmental release, 1 or 0 (PEP 440, "Handling of pre-releases"). The list is read first, unless both
-/// are compiled: then nothing is allocated.
+/// Whether the list contains the version, 1 or 0; and whether the version is a pre-release or a developmental release, 1 or 0.
 #[unsafe(no_mangle)]
 pub extern "C" fn pep440_contains(
     alloc: Global,
@@ -232,17 +171,26 @@ pub extern "C" fn pep440_contains(
 ) -> u8
     ensures { ContainsAnswer list.now text.now contained.old contained.new prerelease.old prerelease.new result }
 {
-    match texts::contains(alloc, list, text) {
-        Ok((found, is_early)) => {
-            *contained = flag(found);
-            *prerelease = flag(is_early);
-            OK
-        }
-        Err(fault) => fault.status(),
-    }
+    write_match(alloc, list, text, contained, prerelease)
 }
 
-/// Writes a version that the list contains, and nothing if it contains none that a string denotes (PEP 440, "Version specifiers").
+/// Whether the list allows the version, 1 or 0: it contains the version, and this is no pre-release and no developmental release unless a specifier with another operator than `!=` names one.
+#[unsafe(no_mangle)]
+pub extern "C" fn pep440_allows(alloc: Global, list: &[u8], text: &[u8], allowed: &mut u8) -> u8
+    ensures { AllowsAnswer list.now text.now allowed.old allowed.new result }
+{
+    write_allowed(alloc, list, text, allowed)
+}
+
+/// Whether a version of the list's specifiers is a pre-release or a developmental release, 1 or 0.
+#[unsafe(no_mangle)]
+pub extern "C" fn pep440_any_prerelease(alloc: Global, list: &[u8], any: &mut u8) -> u8
+    ensures { Puts ⊥ (RefusesListBytes list.now) ⊥ (IsFlagOf (NamesPrerelease list.now)) any.old any.new result }
+{
+    write_prerelease_flag(alloc, list, any)
+}
+
+/// Writes a version that the list contains, and nothing if it contains none that a string denotes.
 #[unsafe(no_mangle)]
 pub extern "C" fn pep440_version_in(
     alloc: Global,
@@ -252,42 +200,10 @@ pub extern "C" fn pep440_version_in(
 ) -> u8
     ensures { PutsBytes ⊥ (RefusesListBytes list.now) ⊥ (IsVersionIn list.now) out.old out.new written.old written.new result }
 {
-    put_text(versions_in::find_in(alloc, list), out, written)
+    write_version_in(alloc, list, out, written)
 }
 
-/// Whether a version of the list's specifiers is a pre-release or a developmental release, 1 or 0 (PEP 440, "Handling of pre-releases").
-#[unsafe(no_mangle)]
-pub extern "C" fn pep440_any_prerelease(alloc: Global, list: &[u8], any: &mut u8) -> u8
-    ensures { Puts ⊥ (RefusesListBytes list.now) ⊥ (IsFlagOf (NamesPrerelease list.now)) any.old any.new result }
-{
-    match texts::any_prerelease(alloc, list) {
-        Ok(found) => {
-            *any = flag(found);
-            OK
-        }
-        Err(fault) => fault.status(),
-    }
-}
-
-/// The numbers of a version, 0 if it has no such part.
-#[repr(C)]
-#[derive(Clone, Copy, Debug)]
-pub struct Parts {
-    pub epoch: u64,
-    pub pre: u64,
-    pub post: u64,
-    pub dev: u64,
-    /// How many numbers the release has.
-    pub release_length: usize,
-    /// 0 no pre-release, 1 alpha, 2 beta, 3 release candidate.
-    pub pre_kind: u8,
-    /// 1 or 0, as the next two.
-    pub has_post: u8,
-    pub has_dev: u8,
-    pub has_local: u8,
-}
-
-/// Writes the parts of the version, and the numbers of its release (PEP 440, "Public version identifiers").
+/// Writes the parts of the version, and the numbers of its release.
 #[unsafe(no_mangle)]
 pub extern "C" fn pep440_parts_of(
     alloc: Global,
@@ -297,17 +213,10 @@ pub extern "C" fn pep440_parts_of(
 ) -> u8
     ensures { PartsAnswer text.now parts.old parts.new release.old release.new result }
 {
-    match texts::read(alloc, text) {
-        Ok(version) => {
-            *parts = version_parts::parts_of(&version);
-            put(version.release(), release)
-        }
-        Err(fault) => fault.status(),
-    }
+    write_parts(alloc, text, parts, release)
 }
 
-/// Writes the sort key of the version: `memcmp` orders keys as their versions (PEP 440, "Summary of permitted
-/// suffixes and relative ordering"). Allocates nothing for a compiled version.
+/// Writes the sort key of the version: `memcmp` orders keys as their versions.
 #[unsafe(no_mangle)]
 pub extern "C" fn pep440_sort_key(
     alloc: Global,
@@ -317,29 +226,18 @@ pub extern "C" fn pep440_sort_key(
 ) -> u8
     ensures { PutsBytes (RefusesBytes text.now) ⊥ ⊥ (IsKey text.now) out.old out.new written.old written.new result }
 {
-    if has_version_format(text) {
-        return put_slice(texts::find_key(text), out, written);
-    }
-    put_bytes(texts::make_key(alloc, text), out, written)
+    write_sort_key(alloc, text, out, written)
 }
 
-/// Writes the word of the version: words are numbers in the order of their versions (PEP 440, "Summary of permitted
-/// suffixes and relative ordering"). Status 7 if the version is not packed: then it has no word.
+/// Writes the word of the version: words are numbers in the order of their versions.
 #[unsafe(no_mangle)]
 pub extern "C" fn pep440_word(alloc: Global, text: &[u8], word: &mut u64) -> u8
     ensures { WordAnswer text.now word.old word.new result }
 {
-    match texts::to_word(alloc, text) {
-        Ok(Some(found)) => {
-            *word = found;
-            OK
-        }
-        Ok(None) => NOT_PACKED,
-        Err(fault) => fault.status(),
-    }
+    write_word(alloc, text, word)
 }
 
-/// Writes the range of the list, a segment a line. Status 5 if a bound of it would need a number above the greatest.
+/// Writes the range of the list, a segment a line.
 #[unsafe(no_mangle)]
 pub extern "C" fn pep440_ranges(
     alloc: Global,
@@ -349,12 +247,10 @@ pub extern "C" fn pep440_ranges(
 ) -> u8
     ensures { PutsBytes ⊥ (RefusesListBytes list.now) (HasNoRange list.now) (IsRangeText list.now) out.old out.new written.old written.new result }
 {
-    put_text(texts::to_range_lines(alloc, list), out, written)
+    write_range(alloc, list, out, written)
 }
 
-/// Writes the range of the list as sort keys, two a segment, and where each of them ends: a version is in the range
-/// if its key is at least the first of a segment and below the second. No bytes stand for no bound. Reports how many
-/// bytes and how many keys there are. Status 5 as above.
+/// Writes the range of the list as sort keys, two a segment, and where each of them ends: a version is in the range if its key is at least the first of a segment and below the second.
 #[unsafe(no_mangle)]
 pub extern "C" fn pep440_range_keys(
     alloc: Global,
@@ -366,13 +262,7 @@ pub extern "C" fn pep440_range_keys(
 ) -> u8
     ensures { PutsJoined ⊥ (RefusesListBytes list.now) (LacksRange range_of list.now) (TellsIntervals range_of list.now) out.old out.new ends.old ends.new written.old written.new count.old count.new result }
 {
-    put_joined(
-        intervals::to_range_keys(alloc, list),
-        out,
-        ends,
-        written,
-        count,
-    )
+    write_range_keys(alloc, list, out, ends, written, count)
 }
 
 /// Writes the cover of the list as sort keys, as `pep440_range_keys`; a cover has each version that the list contains.
@@ -387,29 +277,115 @@ pub extern "C" fn pep440_cover_keys(
 ) -> u8
     ensures { PutsJoined ⊥ (RefusesListBytes list.now) (LacksRange cover_of list.now) (TellsIntervals cover_of list.now) out.old out.new ends.old ends.new written.old written.new count.old count.new result }
 {
-    put_joined(
-        intervals::to_cover_keys(alloc, list),
-        out,
-        ends,
-        written,
-        count,
-    )
+    write_cover_keys(alloc, list, out, ends, written, count)
 }
 
-/// Writes a mark for each string, in order: 1 the list contains its version, 3 it does and this is a pre-release or a
-/// developmental release, 0 it doesn't, 2 it is no version.
+/// Writes the range of the list as bounds, two a segment, and where each of them ends: only 0 for no bound, else 1 for an included or 2 for an excluded version, and its compiled form; for one with a sentinel 4 and its sort key and zeros, as of other versions.
+#[unsafe(no_mangle)]
+pub extern "C" fn pep440_range_bounds(
+    alloc: Global,
+    list: &[u8],
+    out: &mut [u8],
+    ends: &mut [usize],
+    written: &mut usize,
+    count: &mut usize,
+) -> u8
+    ensures { PutsJoined ⊥ (RefusesListBytes list.now) (LacksRange range_of list.now) (TellsBounds range_of list.now) out.old out.new ends.old ends.new written.old written.new count.old count.new result }
+{
+    write_range_bounds(alloc, list, out, ends, written, count)
+}
+
+/// Writes the release-only range of the list, in the form of `pep440_range_bounds`.
+#[unsafe(no_mangle)]
+pub extern "C" fn pep440_release_range_bounds(
+    alloc: Global,
+    list: &[u8],
+    out: &mut [u8],
+    ends: &mut [usize],
+    written: &mut usize,
+    count: &mut usize,
+) -> u8
+    ensures { PutsJoined ⊥ (RefusesListBytes list.now) (LacksRange release_range_of list.now) (TellsBounds release_range_of list.now) out.old out.new ends.old ends.new written.old written.new count.old count.new result }
+{
+    write_release_range_bounds(alloc, list, out, ends, written, count)
+}
+
+/// Writes the compiled form of the version.
+#[unsafe(no_mangle)]
+pub extern "C" fn pep440_compile(
+    alloc: Global,
+    text: &[u8],
+    out: &mut [u8],
+    written: &mut usize,
+) -> u8
+    ensures { PutsBytes (RefusesBytes text.now) ⊥ ⊥ (IsCompiled text.now) out.old out.new written.old written.new result }
+{
+    write_compiled(alloc, text, out, written)
+}
+
+/// Writes the compiled form of the list.
+#[unsafe(no_mangle)]
+pub extern "C" fn pep440_compile_list(
+    alloc: Global,
+    list: &[u8],
+    out: &mut [u8],
+    written: &mut usize,
+) -> u8
+    ensures { PutsBytes ⊥ (RefusesListBytes list.now) ⊥ (IsCompiledList list.now) out.old out.new written.old written.new result }
+{
+    write_compiled_list(alloc, list, out, written)
+}
+
+/// Writes the compiled form of the list of the one specifier that the string denotes.
+#[unsafe(no_mangle)]
+pub extern "C" fn pep440_compile_specifier(
+    alloc: Global,
+    specifier: &[u8],
+    out: &mut [u8],
+    written: &mut usize,
+) -> u8
+    ensures { PutsBytes ⊥ (RefusesSpecifierBytes specifier.now) ⊥ (IsCompiledSpecifier specifier.now) out.old out.new written.old written.new result }
+{
+    write_compiled_specifier(alloc, specifier, out, written)
+}
+
+/// Writes why the operator of this number, its position in `Operator`, and the version make no specifier; nothing if they do.
+#[unsafe(no_mangle)]
+pub extern "C" fn pep440_build_error(
+    alloc: Global,
+    operator: u8,
+    text: &[u8],
+    star: u8,
+    out: &mut [u8],
+    written: &mut usize,
+) -> u8
+    ensures { PutsBytes (RefusesNumbered operator text.now) (IsNoOperator operator) ⊥ (IsBuildError operator text.now (not (star == 0))) out.old out.new written.old written.new result }
+{
+    write_build_error(alloc, operator, text, star, out, written)
+}
+
+/// Writes a mark for each string, in order: 1 the list contains its version, 3 it does and this is a pre-release or a developmental release, 0 it doesn't, 2 it is no version.
 #[unsafe(no_mangle)]
 pub extern "C" fn pep440_filter(alloc: Global, list: &[u8], texts: &[&[u8]], marks: &mut [u8]) -> u8
     ensures { FilterMarks list.now (map (λ t. t.now) texts.now) marks.old marks.new result }
 {
-    match batch::filter(alloc, list, texts) {
-        Ok(found) => put(found.as_slice(), marks),
-        Err(fault) => fault.status(),
-    }
+    write_marks(alloc, list, texts, marks)
 }
 
-/// Writes the positions of the strings in the order of their versions, equal ones in the order given. With status 1
-/// `at` is the position of the first that is no version.
+/// Writes the index of the newest version that the list contains, and of equal ones the first; strings that are no version are passed over.
+#[unsafe(no_mangle)]
+pub extern "C" fn pep440_newest(
+    alloc: Global,
+    list: &[u8],
+    texts: &[&[u8]],
+    index: &mut usize,
+) -> u8
+    ensures { NewestAnswer list.now (map (λ t. t.now) texts.now) index.old index.new result }
+{
+    write_newest(alloc, list, texts, index)
+}
+
+/// Writes the positions of the strings in the order of their versions, equal ones in the order given.
 #[unsafe(no_mangle)]
 pub extern "C" fn pep440_sort(
     alloc: Global,
@@ -419,13 +395,10 @@ pub extern "C" fn pep440_sort(
 ) -> u8
     ensures { SortAnswer (map (λ t. t.now) texts.now) places.old places.new at.old at.new result }
 {
-    match batch::sort(alloc, texts) {
-        Ok(found) => put(found.as_slice(), places),
-        Err(stop) => batch::report_batch_error(stop, at),
-    }
+    write_positions(alloc, texts, places, at)
 }
 
-/// Writes the sort keys of the strings, one after the other, and the end of each. `at` as above.
+/// Writes the sort keys of the strings, one after the other, and the end of each.
 #[unsafe(no_mangle)]
 pub extern "C" fn pep440_sort_keys(
     alloc: Global,
@@ -437,11 +410,5 @@ pub extern "C" fn pep440_sort_keys(
 ) -> u8
     ensures { KeysAnswer (map (λ t. t.now) texts.now) out.old out.new ends.old ends.new written.old written.new at.old at.new result }
 {
-    match batch::sort_keys(alloc, texts) {
-        Ok(found) => {
-            *written = found.bytes.len();
-            put_both(found.bytes.as_slice(), found.ends.as_slice(), out, ends)
-        }
-        Err(stop) => batch::report_batch_error(stop, at),
-    }
+    write_sort_keys(alloc, texts, out, ends, written, at)
 }

@@ -1,19 +1,25 @@
-//! Test cases of ranges, of sort keys and intervals of them, and of compiled versions and lists; `stdin` beside `src/` has them.
+//! Test cases of ranges, of sort keys and intervals of them, of compiled versions and lists, and of the calls of the C library; `stdin` beside
+//! `src/` has them.
 #![tactic(auto)]
 
 mod bytes;
 mod compiled_lists;
 mod compiled_versions;
+mod given;
 mod intervals;
 mod kinds;
 mod numbers;
 mod sort_keys;
 mod versions;
+mod written_bytes;
+mod written_numbers;
+mod written_strings;
 
 use compiled_lists::{
     compile_list_of, compile_unchecked, contains_bytes, denotes_list, list_contains, requests,
 };
 use compiled_versions::{compile, compile_local, denotes};
+use given::given_arguments;
 use intervals::{is_outside, range_intervals, segment_interval};
 use numbers::{between, complement, contains, intersection, of_number, segments};
 use sort_keys::{are_rising, key};
@@ -21,6 +27,9 @@ use std::alloc::Global;
 use std::io;
 use testing::{Calls, CaseError, run_cases};
 use versions::{between_versions, of_version, without};
+use written_bytes::print_written;
+use written_numbers::print_call;
+use written_strings::print_joined;
 
 struct CompiledCalls;
 
@@ -57,8 +66,39 @@ fn of_two(alloc: Global, call: &str, one: &str, other: &str) -> Result<String, C
     }
 }
 
+// A call of the C library, whose name begins with `write_`.
+fn of_library(alloc: Global, call: &str, arguments: &[String]) -> Result<String, CaseError> {
+    let arguments = given_arguments(alloc, arguments)?;
+    let mut given = Vec::new(alloc);
+    for argument in &arguments {
+        given.push(argument.as_slice())?;
+    }
+    let given = given.as_slice();
+    match call {
+        "write_members"
+        | "write_range_keys"
+        | "write_cover_keys"
+        | "write_range_bounds"
+        | "write_release_range_bounds"
+        | "write_sort_keys" => print_joined(alloc, call, given),
+        "write_order"
+        | "write_match"
+        | "write_allowed"
+        | "write_prerelease_flag"
+        | "write_word"
+        | "write_newest"
+        | "write_marks"
+        | "write_positions"
+        | "write_parts" => { print_call(alloc, call, given) }
+        _ => print_written(alloc, call, given),
+    }
+}
+
 impl Calls for CompiledCalls {
     fn answer(&self, alloc: Global, call: &str, arguments: &[String]) -> Result<String, CaseError> {
+        if call.starts_with("write_") {
+            return of_library(alloc, call, arguments);
+        }
         match (call, arguments) {
             ("rising", texts) => are_rising(alloc, texts),
             ("outside", [start, end, version]) => {

@@ -1,8 +1,0 @@
-use Rattle.pep440_c.proofs.VersionsIn.{contained, none}
-use Rattle.pep440_c.proofs.laws.versions_in_lists.Goals as goal
-
-pub returns-clause-contained : goal.returns-clause-contained
-returns-clause-contained c = contained
-
-pub returns-clause-none : goal.returns-clause-none
-returns-clause-none c = none

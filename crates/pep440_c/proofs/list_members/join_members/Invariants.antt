@@ -1,8 +1,0 @@
-use Rattle.std.proofs.Common.{take}
-use Rattle.std.specs.List.{flat_map}
-use Rattle.pep440_c.specs.CallResults.{member_texts}
-use Rattle.pep440_c.specs.JoinedStrings.{Joins}
-use Rattle.pep440_c.proofs.list_members.join_members.Given as goal
-
-abbrev pub invariant-loop-member : goal.invariant-loop-member
-invariant-loop-member l = Joins (flat_map member_texts (take l.member-index l.members)) l.found.bytes.items l.found.ends.items

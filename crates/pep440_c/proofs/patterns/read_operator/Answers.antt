@@ -1,5 +1,0 @@
-use Rattle.pep440_c.proofs.Refused.{no_operator}
-use Rattle.pep440_c.proofs.patterns.read_operator.Goals as goal
-
-pub returns-in_default : goal.returns-in_default
-returns-in_default c = no_operator c.args.bytes.now c.in_default.ensures.cases.0

@@ -1,0 +1,46 @@
+-- Compiled forms: one of each version and list, which denotes what the bytes denote that it was made of.
+use Rattle.std.proofs.Common.{◌≡◌, ◌∙◌, ℕ, List, sym, ap, inr, subst}
+use Rattle.std.specs.Prelude.{◌↔◌}
+use Rattle.pep440_compiled.proofs.Exact.{one_denoted}
+use Rattle.pep440_compiled.proofs.Listed.{one_denoted_list}
+use Rattle.pep440_compiled.specs.Lists.{DenotesList, list_bytes}
+use Rattle.pep440_compiled.specs.Version.{DenotesVersion, compiled_bytes}
+use Rattle.pep440_rs.specs.Specifiers.{Spec}
+use Rattle.pep440_version.specs.Record.{Record}
+use Rattle.pep440_calls.proofs.Once.{one_bytes_list, one_version}
+use Rattle.pep440_calls.specs.CallResults.{IsCompiled, IsCompiledList}
+use Rattle.pep440_calls.specs.Meaning.{MeansBytes, MeansListBytes}
+
+pub same_compiled : (s t a b : List ℕ) (r q : Record) → IsCompiled s a → IsCompiled t b → MeansBytes s r → MeansBytes t q → (a ≡ b) ↔ (r ≡ q)
+same_compiled s t a b r q (v, v_means, v_denotes) (w, w_means, w_denotes) means also =
+    let left : v ≡ r = one_version s v r v_means means in
+    let right : w ≡ q = one_version t w q w_means also in (
+      λ p. sym left ∙ one_denoted b v w (subst (λ x. DenotesVersion x v) p v_denotes) w_denotes ∙ right,
+      λ p. v_denotes.same ∙ (ap compiled_bytes (left ∙ p ∙ sym right) ∙ sym w_denotes.same),
+    )
+
+pub one_form : (text a b : List ℕ) → IsCompiled text a → IsCompiled text b → a ≡ b
+one_form text a b (r, means, denotes) (q, also, again) = denotes.same ∙ (ap compiled_bytes (one_version text r q means also) ∙ sym again.same)
+
+pub same_version : (text compiled : List ℕ) (q : Record) → IsCompiled text compiled → MeansBytes text q ↔ MeansBytes compiled q
+same_version text compiled q (r, means, denotes) = (
+  λ also. inr (subst (DenotesVersion compiled) (one_version text r q means also) denotes),
+  λ also. subst (MeansBytes text) (one_version compiled r q (inr denotes) also) means,
+)
+
+pub same_compiled_list : (s t a b : List ℕ) (l m : List Spec) → IsCompiledList s a → IsCompiledList t b → MeansListBytes s l → MeansListBytes t m → (a ≡ b) ↔ (l ≡ m)
+same_compiled_list s t a b l m (v, v_means, v_denotes) (w, w_means, w_denotes) means also =
+    let left : v ≡ l = one_bytes_list s v l v_means means in
+    let right : w ≡ m = one_bytes_list t w m w_means also in (
+      λ p. sym left ∙ one_denoted_list b v w (subst (λ x. DenotesList x v) p v_denotes) w_denotes ∙ right,
+      λ p. v_denotes.same ∙ (ap list_bytes (left ∙ p ∙ sym right) ∙ sym w_denotes.same),
+    )
+
+pub one_list_form : (text a b : List ℕ) → IsCompiledList text a → IsCompiledList text b → a ≡ b
+one_list_form text a b (l, means, denotes) (m, also, again) = denotes.same ∙ (ap list_bytes (one_bytes_list text l m means also) ∙ sym again.same)
+
+pub same_list : (text compiled : List ℕ) (m : List Spec) → IsCompiledList text compiled → MeansListBytes text m ↔ MeansListBytes compiled m
+same_list text compiled m (l, means, denotes) = (
+  λ also. inr (subst (DenotesList compiled) (one_bytes_list text l m means also) denotes),
+  λ also. subst (MeansListBytes text) (one_bytes_list compiled l m (inr denotes) also) means,
+)

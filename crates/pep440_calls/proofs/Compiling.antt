@@ -1,0 +1,37 @@
+-- Each version and each list that a string denotes has a compiled form.
+use Rattle.std.proofs.Common.{◌≡◌, ℕ, List, inl, inr, refl, subst, sym}
+use Rattle.std.proofs.lemmas.List.Elements.{All-weaker}
+use Rattle.std.specs.List.{All}
+use Rattle.pep440_compiled.proofs.Exact.{parsed}
+use Rattle.pep440_compiled.specs.Lists.{IsParsedMember}
+use Rattle.pep440_compiled.specs.Version.{IsParsed}
+use Rattle.pep440_compiled.specs.declared.error.CompileError.{CompileError}
+use Rattle.pep440_compiled.specs.declared.error.CompileError.TheVariants.{NotParsed, OutOfMemory}
+use Rattle.pep440_rs.proofs.Agreement.Operands.{list_has_texts}
+use Rattle.pep440_rs.proofs.Covering.Lists.{is_coverable}
+use Rattle.pep440_rs.specs.SpecifierGrammar.{DerivesSpecifier, HasText}
+use Rattle.pep440_rs.specs.Specifiers.{Spec}
+use Rattle.pep440_version.specs.Record.{Record}
+use Rattle.pep440_calls.specs.Meaning.{MeansBytes, MeansListBytes}
+use Rattle.pep440_calls.specs.PatternCalls.{MeansSpecifierBytes}
+use Rattle.pep440_calls.specs.Statuses.{Faults, fault_of_compile}
+use Rattle.pep440_calls.specs.declared.fault.Fault.{Fault}
+
+abbrev pub IsParsedSpec : Spec → Type 0
+IsParsedSpec s = IsParsed s.version
+
+pub specifier_parsed : (s : Spec) → HasText s → IsParsedSpec s
+specifier_parsed s has = let denoted = (is_coverable s has).1 in parsed denoted.0 s.version denoted.1
+
+pub means_parsed : (bytes : List ℕ) (r : Record) → MeansBytes bytes r → IsParsed r
+means_parsed bytes r (inl (plain, (utf8, d))) = parsed bytes r d
+means_parsed bytes r (inr d) = d.parsed
+
+pub members_parsed : (bytes : List ℕ) (list : List Spec) → MeansListBytes bytes list → All IsParsedSpec list
+members_parsed bytes list (inl (plain, (utf8, means))) = All-weaker HasText IsParsedSpec specifier_parsed list (list_has_texts bytes list means)
+members_parsed bytes list (inr d) = All-weaker IsParsedMember IsParsedSpec (λ s p. p.version) list d.members
+
+-- so an error is out of memory
+pub only_memory : (version list range : Type 0) (f : Fault) (e : CompileError) → f ≡ fault_of_compile e → (e ≡ NotParsed → ⊥) → Faults version list range f
+only_memory version list range f NotParsed is never = absurd (never refl)
+only_memory version list range f OutOfMemory is never = subst (Faults version list range) (sym is) tt

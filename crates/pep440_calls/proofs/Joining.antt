@@ -1,0 +1,32 @@
+-- Strings one after the other: one more of them, and two.
+use Rattle.std.proofs.Common.{◌≡◌, ◌+◌, ◌∙◌, ℕ, List, [], ◌∷◌, ◌++◌, length, sym, ap, subst, append-nil, append_assoc, arith}
+use Rattle.std.proofs.lemmas.List.Concat.{flat_map-append}
+use Rattle.std.proofs.lemmas.List.{length-append}
+use Rattle.std.specs.List.{flat_map}
+use Rattle.pep440_calls.specs.JoinedStrings.{Joins, ends_from}
+
+-- where one more string ends
+ends_push : (start : ℕ) (strings : List (List ℕ)) (s : List ℕ) → ends_from start (strings ++ s ∷ []) ≡ ends_from start strings ++ (start + (length (flat_map (λ (t : List ℕ). t) strings) + length s)) ∷ []
+ends_push start [] s = ap (λ (n : ℕ). n ∷ []) (omega arith)
+ends_push start (t ∷ rest) s =
+    let all : length (t ++ flat_map (λ (u : List ℕ). u) rest) ≡ length t + length (flat_map (λ (u : List ℕ). u) rest) = length-append t (flat_map (λ (u : List ℕ). u) rest) in
+    ap (λ (l : List ℕ). (start + length t) ∷ l) (ends_push (start + length t) rest s
+    ∙ ap (λ (n : ℕ). ends_from (start + length t) rest ++ n ∷ []) (omega (arith, all)))
+
+pub joined_more : (strings : List (List ℕ)) (s bytes new ends new_ends : List ℕ) → new ≡ bytes ++ s → new_ends ≡ ends ++ length new ∷ [] → Joins strings bytes ends → Joins (strings ++ s ∷ []) new new_ends
+joined_more strings s bytes new ends new_ends more ended joins =
+    let long : length (bytes ++ s) ≡ length bytes + length s = length-append bytes s in
+    let count : length new ≡ length (bytes ++ s) = ap length more in
+    let same : length bytes ≡ length (flat_map (λ (t : List ℕ). t) strings) = ap length joins.joined in record {
+      joined = more ∙ ap (λ (l : List ℕ). l ++ s) joins.joined ∙ ap (λ (l : List ℕ). flat_map (λ (t : List ℕ). t) strings ++ l) (sym (append-nil s))
+          ∙ sym (flat_map-append (λ (t : List ℕ). t) strings (s ∷ []));
+      ended = ended ∙ ap (λ (l : List ℕ). l ++ length new ∷ []) joins.ended ∙ ap (λ (n : ℕ). ends_from 0 strings ++ n ∷ []) (omega (arith, long, count, same)) ∙ sym (ends_push 0 strings s);
+    }
+
+-- two strings more
+pub pushed : (k l : List ℕ) (strings : List (List ℕ)) (s t b m n e f g : List ℕ) → s ≡ k → t ≡ l → m ≡ b ++ s → f ≡ e ++ length m ∷ []
+    → n ≡ m ++ t → g ≡ f ++ length n ∷ [] → Joins strings b e → Joins (strings ++ k ∷ l ∷ []) n g
+pushed k l strings s t b m n e f g is_k is_l more ended again behind joins =
+    let first : Joins (strings ++ s ∷ []) m f = joined_more strings s b m e f more ended joins in
+    let second : Joins ((strings ++ s ∷ []) ++ t ∷ []) n g = joined_more (strings ++ s ∷ []) t m n f g again behind first in
+    subst (λ (p : List (List ℕ)). Joins p n g) (append_assoc strings (s ∷ []) (t ∷ []) ∙ (λ j. strings ++ (is_k j ∷ (is_l j ∷ [])))) second

@@ -1,0 +1,30 @@
+use Rattle.std.proofs.Common.{◌≡◌, ap, inl}
+use Rattle.std.specs.Prelude.{Ok}
+use Rattle.pep440_calls.proofs.Forms.{as_compiled, as_compiled_list, no_compiled, no_compiled_list}
+use Rattle.pep440_calls.proofs.membership.contains_compiled.Goals as goal
+use Rattle.pep440_rs.specs.Matching.{any_prerelease, list_matches}
+
+pub returns-in-Ok : goal.returns-in-Ok
+returns-in-Ok c =
+    let list = c.args.list.now in
+    let version = c.args.version.now in
+    let early = rw c.in-Ok.is at c.contains.ensures.prerelease in (
+      (
+        inl (c.requires.list, c.requires.version),
+        λ l r means also.
+            let whole = c.contains.ensures.found l r (as_compiled_list list l c.requires.list means) (as_compiled version r c.requires.version also) in
+            let same : c.in-Ok.found ≡ (list_matches l r, any_prerelease r) = cc in
+            ap (λ p. p.0) same,
+      ),
+      λ r also. early r (as_compiled version r c.requires.version also),
+    )
+
+pub returns-in-Err-NoVersion : goal.returns-in-Err-NoVersion
+returns-in-Err-NoVersion c =
+    let none = rw c.in-Err-NoVersion.is at c.contains.ensures.version in
+    (inl (c.requires.list, c.requires.version), no_compiled c.args.version.now c.requires.version (none c.in-Err-NoVersion.field-0-is))
+
+pub returns-in-Err-NoList : goal.returns-in-Err-NoList
+returns-in-Err-NoList c =
+    let none = rw c.in-Err-NoList.is at c.contains.ensures.list in
+    no_compiled_list c.args.list.now c.requires.list (none c.in-Err-NoList.field-0-is)

@@ -1,0 +1,13 @@
+use Rattle.std.proofs.Common.{◌∙◌, Bool, ap, map, subst}
+use Rattle.pep440_rs.specs.Prereleases.{requests_prereleases}
+use Rattle.pep440_calls.proofs.newest_string.find.Goals as goal
+use Rattle.pep440_calls.specs.NewestString.{NewestString}
+
+pub returns : goal.returns
+returns c = (
+  c.in_ok-specifiers.specifiers,
+  c.in_ok-newest.newest,
+  c.in_ok-specifiers.ensures,
+  subst (λ (takes : Bool). NewestString takes c.in_ok-specifiers.specifiers (map (λ t. t.now) c.args.texts.now) c.in_ok-newest.newest) c.requests_prereleases-takes.ensures c.in_ok-newest.ensures,
+  c.position_of.ensures,
+)

@@ -1,0 +1,11 @@
+pub mod Meaning
+pub mod Statuses
+pub mod JoinedStrings
+pub mod CallResults
+pub mod Ranges
+pub mod Batches
+pub mod Buffers
+pub mod PatternCalls
+pub mod Edits
+pub mod Explanations
+pub mod NewestString

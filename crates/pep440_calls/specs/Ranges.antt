@@ -1,0 +1,50 @@
+-- The range of a list: as sort keys, two for each segment, between which those of its versions lie; and as bounds, two for each segment, whose
+-- versions are written as compiled ones are, with their sentinels.
+use Rattle.std.specs.List.{flat_map}
+use Rattle.std.specs.Prelude.{◌≡◌, ℕ, List, [], ◌∷◌, Option, Some, None, unwrap_or}
+use Rattle.std.specs.declared.ops.Bound.{Bound}
+use Rattle.std.specs.declared.ops.Bound.TheVariants.{Excluded, Included, Unbounded}
+use Rattle.pep440_compiled.specs.Version.{compiled_bytes}
+use Rattle.pep440_keys.specs.RangeKeys.{Interval, segment_interval}
+use Rattle.pep440_ranges.specs.RangeSegments.{Segment}
+use Rattle.pep440_rs.specs.Bounds.{Segments, list_range}
+use Rattle.pep440_rs.specs.Specifiers.{Spec}
+use Rattle.pep440_rs.specs.declared.specifier.operator.Operator.{Operator}
+use Rattle.pep440_version.specs.Record.{Record}
+use Rattle.pep440_calls.specs.JoinedStrings.{Joins}
+use Rattle.pep440_calls.specs.Meaning.{MeansListBytes}
+
+-- the low and the high key of an interval; no bytes for a missing bound, since no sort key is empty
+abbrev pub interval_keys : Interval → List (List ℕ)
+interval_keys interval = unwrap_or interval.0 [] ∷ unwrap_or interval.1 [] ∷ []
+
+-- the bytes of a bound: 0 alone where there is none, else 1 for an included or 2 for an excluded version, and its bytes
+abbrev pub bound_bytes : Bound Record → List ℕ
+bound_bytes Unbounded = 0 ∷ []
+bound_bytes (Included r) = 1 ∷ compiled_bytes r
+bound_bytes (Excluded r) = 2 ∷ compiled_bytes r
+
+-- the lower and the upper bound of a segment
+abbrev pub segment_bounds : Segment Record → List (List ℕ)
+segment_bounds s = bound_bytes s.0 ∷ bound_bytes s.1 ∷ []
+
+-- the bounds of each segment of the range, joined in order, and where each bound ends
+abbrev pub JoinsBounds : Segments → List ℕ → List ℕ → Type 0
+JoinsBounds range bytes ends = Joins (flat_map segment_bounds range) bytes ends
+
+module _ (conversion : Operator → Record → Option Segments) where
+  -- the bytes denote a list, whose conversion returns this range
+  abbrev pub HasRange : List ℕ → Segments → Type 0
+  HasRange text range = (list : List Spec) × MeansListBytes text list × (list_range conversion list ≡ Some range)
+
+  -- the bytes denote a list, whose conversion fails, since a number to be raised is the greatest
+  abbrev pub LacksRange : List ℕ → Type 0
+  LacksRange text = (list : List Spec) × MeansListBytes text list × (list_range conversion list ≡ None)
+
+  -- the keys of the segments of that range, joined in order, and where each key ends
+  abbrev pub TellsIntervals : List ℕ → List ℕ → List ℕ → Type 0
+  TellsIntervals text bytes ends = (range : Segments) × HasRange text range × Joins (flat_map (λ s. interval_keys (segment_interval s)) range) bytes ends
+
+  -- the bounds of the segments of that range, joined in order, and where each bound ends
+  abbrev pub TellsBounds : List ℕ → List ℕ → List ℕ → Type 0
+  TellsBounds text bytes ends = (range : Segments) × HasRange text range × JoinsBounds range bytes ends

@@ -1,0 +1,77 @@
+-- How a call ends: its status, and what it leaves in the caller's memory. 0 ok, 1 a version is invalid, 2 a list is invalid, 3 out of
+-- memory, 4 too little room, 5 a bound lies above the greatest number, 6 the right one of two versions is invalid, 7 a version is not
+-- packed, 8 it cannot be changed so, 9 bytes are to be nothing known, 10 none is found.
+use Rattle.std.specs.Prelude.{◌≡◌, ◌⊎◌, ◌≤◌, ◌<◌, ℕ, Bool, List, ◌++◌, drop, length, Result, Ok, Err, if◌then◌else◌}
+use Rattle.pep440_compiled.specs.declared.error.CompileError.{CompileError}
+use Rattle.pep440_rs.specs.declared.range.error.RangeError.{RangeError}
+use Rattle.pep440_calls.specs.declared.fault.Fault.{Fault}
+use Rattle.pep440_compiled.specs.declared.error.CompileError.TheVariants as compile
+use Rattle.pep440_rs.specs.declared.range.error.RangeError.TheVariants as range_error
+use Rattle.pep440_calls.specs.declared.fault.Fault.TheVariants as fault
+
+-- the status of a failure
+abbrev pub fault_status : Fault → ℕ
+fault_status fault.InvalidVersion = 1
+fault_status fault.InvalidList = 2
+fault_status fault.OutOfMemory = 3
+fault_status fault.NumberAtMax = 5
+fault_status fault.InvalidRight = 6
+
+-- why there is no compiled form
+abbrev pub fault_of_compile : CompileError → Fault
+fault_of_compile compile.NotParsed = fault.InvalidVersion
+fault_of_compile compile.OutOfMemory = fault.OutOfMemory
+
+-- why there is no range
+abbrev pub fault_of_range : RangeError → Fault
+fault_of_range range_error.NumberAtMax = fault.NumberAtMax
+fault_of_range range_error.OutOfMemory = fault.OutOfMemory
+
+-- a truth value as a number: 0 or 1
+abbrev pub flag : Bool → ℕ
+flag truth = if truth then 1 else 0
+
+-- the number is the flag of a truth value of which this holds
+abbrev pub IsFlagOf : (Bool → Type 0) → ℕ → Type 0
+IsFlagOf P number = (truth : Bool) × P truth × (number ≡ flag truth)
+
+module _ (version list range : Type 0) where
+  -- the cause of a failure other than memory: an invalid version, an invalid list, or a list without a range
+  abbrev pub Faults : Fault → Type 0
+  Faults fault.InvalidVersion = version
+  Faults fault.InvalidList = list
+  Faults fault.OutOfMemory = Unit {0}
+  Faults fault.NumberAtMax = range
+  Faults fault.InvalidRight = ⊥
+
+  -- what holds of what is given, or why nothing is
+  abbrev pub Gives : {X : Type 0} → (X → Type 0) → Result X Fault → Type 0
+  Gives P (Ok x) = P x
+  Gives P (Err f) = Faults f
+
+  -- the status names the cause of the failure, which may be memory
+  abbrev pub Fails : ℕ → Type 0
+  Fails status = (f : Fault) × Faults f × (status ≡ fault_status f)
+
+  -- a value of which this holds is written; or the call fails and the caller's value is unchanged
+  abbrev pub Puts : {X : Type 0} → (X → Type 0) → X → X → ℕ → Type 0
+  Puts P old new status = ((status ≡ 0) × P new) ⊎ ((new ≡ old) × Fails status)
+
+-- the items are written at the start of the caller's buffer, whose rest is unchanged; or it is too small, and unchanged
+abbrev pub PutsFront : {X : Type 0} → List X → List X → List X → ℕ → Type 0
+PutsFront items old new status =
+    ((status ≡ 0) × (length items ≤ length old) × (new ≡ items ++ drop (length items) old))
+    ⊎ ((status ≡ 4) × (length old < length items) × (new ≡ old))
+
+-- items of two kinds are written so, where both buffers have room
+abbrev pub PutsBoth : {X Y : Type 0} → List X → List Y → List X → List X → List Y → List Y → ℕ → Type 0
+PutsBoth first second old new old_second new_second status =
+    ((status ≡ 0) × (length first ≤ length old) × (length second ≤ length old_second) × (new ≡ first ++ drop (length first) old) × (new_second ≡ second ++ drop (length second) old_second))
+    ⊎ ((status ≡ 4) × ((length old < length first) ⊎ (length old_second < length second)) × (new ≡ old) × (new_second ≡ old_second))
+
+-- bytes of which this holds are written at the start of the caller's buffer, or the buffer is too small; how many bytes are
+-- needed is written. Otherwise nothing is written
+abbrev pub PutsBytes : Type 0 → Type 0 → Type 0 → (List ℕ → Type 0) → List ℕ → List ℕ → ℕ → ℕ → ℕ → Type 0
+PutsBytes version list range P old new old_written written status =
+    ((bytes : List ℕ) × P bytes × (written ≡ length bytes) × PutsFront bytes old new status)
+    ⊎ ((new ≡ old) × (written ≡ old_written) × Fails version list range status)

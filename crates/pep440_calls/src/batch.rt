@@ -1,0 +1,219 @@
+//! Many strings in one call.
+ghost use Rattle.std.specs.List.{AllZip};
+ghost use Rattle.std.specs.Prelude.{IfOk, map, ◌≡◌};
+ghost use Rattle.pep440_version.specs.Key.{record_cmp};
+ghost use Rattle.pep440_calls.specs.Batches.{ArrangesPlaces, FilterMarks, GivesAll, IsMark, KeysAnswer, Marks, MeansKeys, MeansPlaced, SortAnswer, Sorts, TellsStop, stop_at};
+ghost use Rattle.pep440_calls.specs.Meaning.{RefusesListBytes};
+ghost use Rattle.pep440_calls.specs.Statuses.{Gives};
+ghost use Rattle.pep440_calls.specs.declared.batch.BatchError.TheVariants.{OutOfMemory};
+
+use crate::buffer::{put, put_both};
+use crate::fault::Fault;
+use crate::joined_strings::JoinedStrings;
+use crate::read::{read, read_list};
+use pep440_rs::{Version, VersionSpecifiers};
+use std::alloc::{AllocError, AllocFailed, Global};
+use std::cmp::Ordering;
+
+const NO_MATCH: u8 = 0;
+
+const MATCH: u8 = 1;
+
+const NOT_A_VERSION: u8 = 2;
+
+const PRERELEASE_MATCH: u8 = 3;
+
+// Why a batch is rejected.
+#[derive(Clone, Copy, Debug)]
+enum BatchError {
+    /// The string at this position is the first that is no version.
+    InvalidAt(usize),
+    /// Out of memory.
+    OutOfMemory,
+}
+
+impl From<AllocError> for BatchError {
+    ghost from_gives = { λ _ stop. stop ≡ OutOfMemory };
+
+    fn from(_refused: AllocError) -> BatchError {
+        BatchError::OutOfMemory
+    }
+}
+
+impl<T: Drop> From<AllocFailed<T>> for BatchError {
+    ghost from_gives = { λ _ stop. stop ≡ OutOfMemory };
+
+    fn from(_refused: AllocFailed<T>) -> BatchError {
+        BatchError::OutOfMemory
+    }
+}
+
+impl BatchError {
+    // Why a batch is rejected, where the string at this position was not read.
+    fn from_fault(position: usize, fault: Fault) -> BatchError
+        ensures { result ≡ stop_at position fault }
+    {
+        match fault {
+            Fault::InvalidVersion | Fault::InvalidList | Fault::NumberAtMax | Fault::InvalidRight =>
+                BatchError::InvalidAt(position),
+            Fault::OutOfMemory => BatchError::OutOfMemory,
+        }
+    }
+}
+
+/// Writes a mark for each string, in order: 1 the list contains its version, 3 it does and this is a pre-release or a
+/// developmental release, 0 it doesn't, 2 it is no version.
+pub fn write_marks(alloc: Global, list: &[u8], texts: &[&[u8]], marks: &mut [u8]) -> u8
+    ensures { FilterMarks list.now (map (λ t. t.now) texts.now) marks.old marks.new result }
+{
+    match filter(alloc, list, texts) {
+        Ok(found) => put(found.as_slice(), marks),
+        Err(fault) => fault.status(),
+    }
+}
+
+// What the list says of the string.
+fn mark(alloc: Global, list: &VersionSpecifiers, text: &[u8]) -> Result<u8, AllocError>
+    ensures { IfOk result (IsMark list.now text.now) }
+{
+    match read(alloc, text) {
+        Ok(version) => {
+            if !list.contains(alloc, &version)? {
+                Ok(NO_MATCH)
+            } else if version.any_prerelease() {
+                Ok(PRERELEASE_MATCH)
+            } else {
+                Ok(MATCH)
+            }
+        }
+        Err(Fault::OutOfMemory) => Err(AllocError),
+        Err(_) => Ok(NOT_A_VERSION),
+    }
+}
+
+// Of each string, what the list says of it.
+fn mark_all(alloc: Global, list: &VersionSpecifiers, texts: &[&[u8]]) -> Result<Vec<u8>, AllocError>
+    ensures { IfOk result (λ found. AllZip (IsMark list.now) (map (λ t. t.now) texts.now) found.items) }
+{
+    let mut found = Vec::with_capacity(alloc, texts.len())?;
+    for text in texts {
+        let said = mark(alloc, list, text)?;
+        found.push(said)?;
+    }
+    Ok(found)
+}
+
+// Of each string, whether the list contains it.
+fn filter(alloc: Global, list: &[u8], texts: &[&[u8]]) -> Result<Vec<u8>, Fault>
+    ensures { Gives ⊥ (RefusesListBytes list.now) ⊥ (λ found. Marks list.now (map (λ t. t.now) texts.now) found.items) result }
+{
+    let specifiers = read_list(alloc, list)?;
+    Ok(mark_all(alloc, &specifiers, texts)?)
+}
+
+/// Writes the positions of the strings in the order of their versions, equal ones in the order given. With status 1
+/// `at` is the position of the first that is no version.
+pub fn write_positions(alloc: Global, texts: &[&[u8]], places: &mut [usize], at: &mut usize) -> u8
+    ensures { SortAnswer (map (λ t. t.now) texts.now) places.old places.new at.old at.new result }
+{
+    match sort(alloc, texts) {
+        Ok(found) => put(found.as_slice(), places),
+        Err(stop) => report_batch_error(stop, at),
+    }
+}
+
+// The versions that the strings denote, with their positions.
+fn read_all(alloc: Global, texts: &[&[u8]]) -> Result<Vec<(usize, Version)>, BatchError>
+    ensures { GivesAll (map (λ t. t.now) texts.now) (λ pairs. MeansPlaced (map (λ t. t.now) texts.now) pairs.items) result }
+{
+    let mut pairs = Vec::with_capacity(alloc, texts.len())?;
+    for (position, text) in texts.iter().enumerate() {
+        match read(alloc, text) {
+            Ok(version) => pairs.push((position, version))?,
+            Err(fault) => return Err(BatchError::from_fault(position, fault)),
+        }
+    }
+    Ok(pairs)
+}
+
+// By version alone.
+fn cmp_versions(a: &(usize, Version), b: &(usize, Version)) -> Ordering
+    ensures { result ≡ record_cmp a.now.1 b.now.1 }
+{
+    a.1.cmp(&b.1)
+}
+
+// The positions, without the versions.
+fn collect_positions(alloc: Global, pairs: &[(usize, Version)]) -> Result<Vec<usize>, AllocError>
+    ensures { IfOk result (λ found. found.items ≡ map (λ p. p.0) pairs.now) }
+{
+    let mut found = Vec::with_capacity(alloc, pairs.len())?;
+    for pair in pairs {
+        found.push(pair.0)?;
+    }
+    Ok(found)
+}
+
+// The positions of the versions in order, equal ones in the order given.
+fn sort_pairs(alloc: Global, pairs: Vec<(usize, Version)>) -> Result<Vec<usize>, AllocError>
+    ensures { IfOk result (λ found. ArrangesPlaces pairs.items found.items) }
+{
+    let mut sorted = pairs;
+    sorted.sort_by(|a, b| cmp_versions(a, b))?;
+    collect_positions(alloc, sorted.as_slice())
+}
+
+// The positions of the strings in the order of their versions.
+fn sort(alloc: Global, texts: &[&[u8]]) -> Result<Vec<usize>, BatchError>
+    ensures { GivesAll (map (λ t. t.now) texts.now) (λ found. Sorts (map (λ t. t.now) texts.now) found.items) result }
+{
+    let pairs = read_all(alloc, texts)?;
+    Ok(sort_pairs(alloc, pairs)?)
+}
+
+/// Writes the sort keys of the strings, one after the other, and the end of each. `at` as above.
+pub fn write_sort_keys(
+    alloc: Global,
+    texts: &[&[u8]],
+    out: &mut [u8],
+    ends: &mut [usize],
+    written: &mut usize,
+    at: &mut usize,
+) -> u8
+    ensures { KeysAnswer (map (λ t. t.now) texts.now) out.old out.new ends.old ends.new written.old written.new at.old at.new result }
+{
+    match sort_keys(alloc, texts) {
+        Ok(found) => {
+            *written = found.bytes.len();
+            put_both(found.bytes.as_slice(), found.ends.as_slice(), out, ends)
+        }
+        Err(stop) => report_batch_error(stop, at),
+    }
+}
+
+// The sort keys of the strings.
+fn sort_keys(alloc: Global, texts: &[&[u8]]) -> Result<JoinedStrings, BatchError>
+    ensures { GivesAll (map (λ t. t.now) texts.now) (λ keys. MeansKeys (map (λ t. t.now) texts.now) keys.bytes.items keys.ends.items) result }
+{
+    let mut keys = JoinedStrings::with_capacity(alloc, texts.len())?;
+    for (position, text) in texts.iter().enumerate() {
+        match read(alloc, text) {
+            Ok(version) => keys.push_key(&version)?,
+            Err(fault) => return Err(BatchError::from_fault(position, fault)),
+        }
+    }
+    Ok(keys)
+}
+
+// Reports the position of the invalid string, and returns the status.
+fn report_batch_error(stop: BatchError, at: &mut usize) -> u8
+    ensures { TellsStop stop at.old at.new result }
+{
+    match stop {
+        BatchError::InvalidAt(position) => {
+            *at = position;
+            1
+        }
+        BatchError::OutOfMemory => 3,
+    }
+}

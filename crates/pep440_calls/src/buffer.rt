@@ -1,0 +1,103 @@
+//! What is written to the caller's memory.
+ghost use Rattle.std.specs.Prelude.{length, string_bytes, ◌≡◌};
+ghost use Rattle.pep440_calls.specs.Buffers.{PutsGiven, PutsGivenJoined};
+ghost use Rattle.pep440_calls.specs.Statuses.{PutsBoth, PutsFront, flag};
+
+use crate::fault::Fault;
+use crate::joined_strings::JoinedStrings;
+
+pub(crate) const OK: u8 = 0;
+
+const NO_ROOM: u8 = 4;
+
+pub(crate) const NOT_PACKED: u8 = 7;
+
+/// The number that stands for a truth value.
+pub(crate) fn flag(truth: bool) -> u8
+    ensures { result ≡ flag truth }
+{
+    if truth { 1 } else { 0 }
+}
+
+/// Writes the items at the start of the buffer if it has room.
+pub(crate) fn put<T: Copy>(items: &[T], out: &mut [T]) -> u8
+    ensures { PutsFront items.now out.old out.new result }
+{
+    if out.len() < items.len() {
+        return NO_ROOM;
+    }
+    out[..items.len()].copy_from_slice(items);
+    OK
+}
+
+/// The same of bytes, and reports how many they are.
+pub(crate) fn put_and_count(bytes: &[u8], out: &mut [u8], written: &mut usize) -> u8
+    ensures counted { written.new ≡ length bytes.now }
+    ensures put { PutsFront bytes.now out.old out.new result }
+{
+    *written = bytes.len();
+    put(bytes, out)
+}
+
+/// Writes the string that a call gives at the start of the buffer if it has room, and reports how many bytes it
+/// takes.
+pub(crate) fn put_text(given: Result<String, Fault>, out: &mut [u8], written: &mut usize) -> u8
+    ensures { PutsGiven string_bytes given out.old out.new written.old written.new result }
+{
+    match given {
+        Ok(text) => put_and_count(text.as_bytes(), out, written),
+        Err(fault) => fault.status(),
+    }
+}
+
+/// The same of bytes that a call finds.
+pub(crate) fn put_slice(given: Result<&[u8], Fault>, out: &mut [u8], written: &mut usize) -> u8
+    ensures { PutsGiven (λ bytes. bytes.now) given.entry out.old out.new written.old written.new result }
+{
+    match given {
+        Ok(bytes) => put_and_count(bytes, out, written),
+        Err(fault) => fault.status(),
+    }
+}
+
+/// The same of bytes that a call gives.
+pub(crate) fn put_bytes(given: Result<Vec<u8>, Fault>, out: &mut [u8], written: &mut usize) -> u8
+    ensures { PutsGiven (λ bytes. bytes.items) given out.old out.new written.old written.new result }
+{
+    match given {
+        Ok(bytes) => put_and_count(bytes.as_slice(), out, written),
+        Err(fault) => fault.status(),
+    }
+}
+
+/// Writes bytes and positions at the start of the two buffers if both have room.
+pub(crate) fn put_both(bytes: &[u8], places: &[usize], out: &mut [u8], ends: &mut [usize]) -> u8
+    ensures { PutsBoth bytes.now places.now out.old out.new ends.old ends.new result }
+{
+    if out.len() < bytes.len() || ends.len() < places.len() {
+        return NO_ROOM;
+    }
+    out[..bytes.len()].copy_from_slice(bytes);
+    ends[..places.len()].copy_from_slice(places);
+    OK
+}
+
+/// The same of strings one after the other, and reports how many bytes and how many strings they are.
+pub(crate) fn put_joined(
+    given: Result<JoinedStrings, Fault>,
+    out: &mut [u8],
+    ends: &mut [usize],
+    written: &mut usize,
+    count: &mut usize,
+) -> u8
+    ensures { PutsGivenJoined given out.old out.new ends.old ends.new written.old written.new count.old count.new result }
+{
+    match given {
+        Ok(joined) => {
+            *written = joined.bytes.len();
+            *count = joined.ends.len();
+            put_both(joined.bytes.as_slice(), joined.ends.as_slice(), out, ends)
+        }
+        Err(fault) => fault.status(),
+    }
+}

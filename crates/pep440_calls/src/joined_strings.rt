@@ -1,0 +1,47 @@
+//! Strings one after the other, and the end of each.
+ghost use Rattle.std.specs.Prelude.{IfOk, [], length, ◌++◌, ◌∷◌, ◌≡◌};
+ghost use Rattle.pep440_keys.specs.SortKeys.{key_bytes};
+ghost use Rattle.pep440_calls.specs.JoinedStrings.{Joins};
+
+use pep440_keys::push_sort_key;
+use pep440_rs::Version;
+use std::alloc::{AllocError, Global};
+
+/// Strings one after the other, and the end of each.
+#[derive(Drop)]
+pub(crate) struct JoinedStrings {
+    pub(crate) bytes: Vec<u8>,
+    pub(crate) ends: Vec<usize>,
+}
+
+impl JoinedStrings {
+    /// No string, with room for the ends of so many.
+    pub(crate) fn with_capacity(alloc: Global, count: usize) -> Result<JoinedStrings, AllocError>
+        ensures { IfOk result (λ joined. Joins [] joined.bytes.items joined.ends.items) }
+    {
+        Ok(JoinedStrings {
+            bytes: Vec::new(alloc),
+            ends: Vec::with_capacity(alloc, count)?,
+        })
+    }
+
+    /// One more string.
+    pub(crate) fn push(&mut self, string: &[u8]) -> Result<(), AllocError>
+        ensures bytes { IfOk result (λ _. self.new.bytes.items ≡ self.old.bytes.items ++ string.now) }
+        ensures ends { IfOk result (λ _. self.new.ends.items ≡ self.old.ends.items ++ length self.new.bytes.items ∷ []) }
+    {
+        self.bytes.extend_from_slice(string)?;
+        self.ends.push(self.bytes.len())?;
+        Ok(())
+    }
+
+    /// The sort key of a version as one more string.
+    pub(crate) fn push_key(&mut self, version: &Version) -> Result<(), AllocError>
+        ensures bytes { IfOk result (λ _. self.new.bytes.items ≡ self.old.bytes.items ++ key_bytes version.now) }
+        ensures ends { IfOk result (λ _. self.new.ends.items ≡ self.old.ends.items ++ length self.new.bytes.items ∷ []) }
+    {
+        push_sort_key(&mut self.bytes, version)?;
+        self.ends.push(self.bytes.len())?;
+        Ok(())
+    }
+}

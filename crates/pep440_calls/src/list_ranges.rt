@@ -1,0 +1,212 @@
+//! The range and the cover of a list, as sort keys and as bounds.
+ghost use Rattle.std.specs.List.{flat_map};
+ghost use Rattle.std.specs.Prelude.{IfOk, List, OnOk, [], option_map, unwrap_or, ℕ, ◌++◌, ◌∷◌, ◌≡◌};
+ghost use Rattle.pep440_compiled.specs.Version.{compiled_bytes};
+ghost use Rattle.pep440_keys.specs.RangeKeys.{segment_interval};
+ghost use Rattle.pep440_rs.specs.Bounds.{Segments, range_of, release_range_of};
+ghost use Rattle.pep440_rs.specs.Cover.{cover_of};
+ghost use Rattle.pep440_calls.specs.JoinedStrings.{Joins, PutsJoined};
+ghost use Rattle.pep440_calls.specs.Meaning.{RefusesListBytes};
+ghost use Rattle.pep440_calls.specs.Ranges.{HasRange, JoinsBounds, LacksRange, TellsBounds, TellsIntervals, bound_bytes, interval_keys};
+ghost use Rattle.pep440_calls.specs.Statuses.{Gives};
+
+use crate::buffer::put_joined;
+use crate::fault::Fault;
+use crate::joined_strings::JoinedStrings;
+use crate::read::read_list;
+use pep440_compiled::push_compiled_form;
+use pep440_keys::{KeyInterval, range_keys};
+use pep440_ranges::Ranges;
+use pep440_rs::{Version, release_specifiers_to_ranges, specifiers_to_cover, specifiers_to_ranges};
+use std::alloc::{AllocError, Global};
+use std::ops::Bound;
+
+/// Writes the range of the list as sort keys, two a segment, and where each of them ends: a version is in the range
+/// if its key is at least the first of a segment and below the second. No bytes stand for no bound. Reports how many
+/// bytes and how many keys there are. Status 5 as above.
+pub fn write_range_keys(
+    alloc: Global,
+    list: &[u8],
+    out: &mut [u8],
+    ends: &mut [usize],
+    written: &mut usize,
+    count: &mut usize,
+) -> u8
+    ensures { PutsJoined ⊥ (RefusesListBytes list.now) (LacksRange range_of list.now) (TellsIntervals range_of list.now) out.old out.new ends.old ends.new written.old written.new count.old count.new result }
+{
+    put_joined(to_range_keys(alloc, list), out, ends, written, count)
+}
+
+/// Writes the cover of the list as sort keys, as `write_range_keys`; a cover has each version that the list contains.
+pub fn write_cover_keys(
+    alloc: Global,
+    list: &[u8],
+    out: &mut [u8],
+    ends: &mut [usize],
+    written: &mut usize,
+    count: &mut usize,
+) -> u8
+    ensures { PutsJoined ⊥ (RefusesListBytes list.now) (LacksRange cover_of list.now) (TellsIntervals cover_of list.now) out.old out.new ends.old ends.new written.old written.new count.old count.new result }
+{
+    put_joined(to_cover_keys(alloc, list), out, ends, written, count)
+}
+
+/// Writes the range of the list as bounds, two a segment, and where each of them ends: only 0 for no bound, else 1 for an
+/// included or 2 for an excluded version, and its compiled form; for one with a sentinel 4 and its sort key and zeros, as of other
+/// versions. Reports how many bytes and how many bounds there are. Status 5 if a bound would need a number above the greatest.
+pub fn write_range_bounds(
+    alloc: Global,
+    list: &[u8],
+    out: &mut [u8],
+    ends: &mut [usize],
+    written: &mut usize,
+    count: &mut usize,
+) -> u8
+    ensures { PutsJoined ⊥ (RefusesListBytes list.now) (LacksRange range_of list.now) (TellsBounds range_of list.now) out.old out.new ends.old ends.new written.old written.new count.old count.new result }
+{
+    put_joined(to_bounds(alloc, list), out, ends, written, count)
+}
+
+/// Writes the release-only range of the list (PEP 440, "Final releases"), in the form of `write_range_bounds`. Status 5 if a bound would need a number above the greatest.
+pub fn write_release_range_bounds(
+    alloc: Global,
+    list: &[u8],
+    out: &mut [u8],
+    ends: &mut [usize],
+    written: &mut usize,
+    count: &mut usize,
+) -> u8
+    ensures { PutsJoined ⊥ (RefusesListBytes list.now) (LacksRange release_range_of list.now) (TellsBounds release_range_of list.now) out.old out.new ends.old ends.new written.old written.new count.old count.new result }
+{
+    put_joined(to_release_bounds(alloc, list), out, ends, written, count)
+}
+
+fn to_range(alloc: Global, list: &[u8]) -> Result<Ranges<Version>, Fault>
+    ensures { Gives ⊥ (RefusesListBytes list.now) (LacksRange range_of list.now) (HasRange range_of list.now) result }
+{
+    let specifiers = read_list(alloc, list)?;
+    Ok(specifiers_to_ranges(alloc, specifiers)?)
+}
+
+// The key, or no bytes.
+fn unwrap_or_empty(key: Option<&[u8]>) -> &[u8]
+    ensures { result.now ≡ unwrap_or (option_map (λ k. k.now) key.entry) [] }
+{
+    match key {
+        Some(key) => key,
+        None => b"",
+    }
+}
+
+fn push_interval(found: &mut JoinedStrings, interval: &KeyInterval) -> Result<(), AllocError>
+    ensures { (strings : List (List ℕ)) → Joins strings found.old.bytes.items found.old.ends.items → OnOk result (Joins (strings ++ interval_keys interval.now) found.new.bytes.items found.new.ends.items) }
+{
+    found.push(unwrap_or_empty(interval.low()))?;
+    found.push(unwrap_or_empty(interval.high()))?;
+    Ok(())
+}
+
+// The keys of the intervals, in their order.
+fn join_intervals(alloc: Global, intervals: &[KeyInterval]) -> Result<JoinedStrings, AllocError>
+    ensures { IfOk result (λ found. Joins (flat_map interval_keys intervals.now) found.bytes.items found.ends.items) }
+{
+    let mut found = JoinedStrings::with_capacity(alloc, intervals.len())?;
+    for interval in intervals {
+        push_interval(&mut found, interval)?;
+    }
+    Ok(found)
+}
+
+// The keys of the segments, in their order.
+fn join_range(alloc: Global, range: &Ranges<Version>) -> Result<JoinedStrings, AllocError>
+    ensures { IfOk result (λ found. Joins (flat_map (λ s. interval_keys (segment_interval s)) range.now) found.bytes.items found.ends.items) }
+{
+    let intervals = range_keys(alloc, range)?;
+    join_intervals(alloc, intervals.as_slice())
+}
+
+// The keys of the segments of the list's range.
+fn to_range_keys(alloc: Global, list: &[u8]) -> Result<JoinedStrings, Fault>
+    ensures { Gives ⊥ (RefusesListBytes list.now) (LacksRange range_of list.now) (λ found. TellsIntervals range_of list.now found.bytes.items found.ends.items) result }
+{
+    let range = to_range(alloc, list)?;
+    Ok(join_range(alloc, &range)?)
+}
+
+// The same of its cover.
+fn to_cover_keys(alloc: Global, list: &[u8]) -> Result<JoinedStrings, Fault>
+    ensures { Gives ⊥ (RefusesListBytes list.now) (LacksRange cover_of list.now) (λ found. TellsIntervals cover_of list.now found.bytes.items found.ends.items) result }
+{
+    let specifiers = read_list(alloc, list)?;
+    let cover = specifiers_to_cover(alloc, specifiers)?;
+    Ok(join_range(alloc, &cover)?)
+}
+
+const INCLUDED: u8 = 1;
+
+const EXCLUDED: u8 = 2;
+
+// The kind of a bound, and its version.
+fn compile_kind(alloc: Global, kind: u8, version: &Version) -> Result<Vec<u8>, AllocError>
+    ensures { IfOk result (λ bytes. bytes.items ≡ kind ∷ compiled_bytes version.now) }
+{
+    let mut bytes = Vec::new(alloc);
+    bytes.push(kind)?;
+    push_compiled_form(&mut bytes, version)?;
+    Ok(bytes)
+}
+
+fn compile_bound(alloc: Global, bound: &Bound<Version>) -> Result<Vec<u8>, AllocError>
+    ensures { IfOk result (λ bytes. bytes.items ≡ bound_bytes bound.now) }
+{
+    match bound {
+        Bound::Included(version) => compile_kind(alloc, INCLUDED, version),
+        Bound::Excluded(version) => compile_kind(alloc, EXCLUDED, version),
+        Bound::Unbounded => {
+            let mut bytes = Vec::new(alloc);
+            bytes.push(0)?;
+            Ok(bytes)
+        }
+    }
+}
+
+fn push_segment(
+    alloc: Global,
+    found: &mut JoinedStrings,
+    low: &Bound<Version>,
+    high: &Bound<Version>,
+) -> Result<(), AllocError>
+    ensures { (range : Segments) → JoinsBounds range found.old.bytes.items found.old.ends.items → OnOk result (JoinsBounds (range ++ (low.now, high.now) ∷ []) found.new.bytes.items found.new.ends.items) }
+{
+    let low = compile_bound(alloc, low)?;
+    let high = compile_bound(alloc, high)?;
+    found.push(low.as_slice())?;
+    found.push(high.as_slice())?;
+    Ok(())
+}
+
+// The bounds of the segments, in their order.
+fn join_bounds(alloc: Global, range: &Ranges<Version>) -> Result<JoinedStrings, AllocError>
+    ensures { IfOk result (λ found. JoinsBounds range.now found.bytes.items found.ends.items) }
+{
+    let mut found = JoinedStrings::with_capacity(alloc, 2)?;
+    for (low, high) in range.iter() {
+        push_segment(alloc, &mut found, low, high)?;
+    }
+    Ok(found)
+}
+
+fn to_bounds(alloc: Global, list: &[u8]) -> Result<JoinedStrings, Fault>
+    ensures { Gives ⊥ (RefusesListBytes list.now) (LacksRange range_of list.now) (λ found. TellsBounds range_of list.now found.bytes.items found.ends.items) result }
+{
+    let range = to_range(alloc, list)?;
+    Ok(join_bounds(alloc, &range)?)
+}
+
+fn to_release_bounds(alloc: Global, list: &[u8]) -> Result<JoinedStrings, Fault>
+    ensures { Gives ⊥ (RefusesListBytes list.now) (LacksRange release_range_of list.now) (λ found. TellsBounds release_range_of list.now found.bytes.items found.ends.items) result }
+{
+    let specifiers = read_list(alloc, list)?;
+    let range = release_specifiers_to_ranges(alloc, specifiers)?;
+    Ok(join_bounds(alloc, &range)?)
+}

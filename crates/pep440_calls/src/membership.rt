@@ -1,0 +1,107 @@
+//! Whether a list contains or allows a version.
+ghost use Rattle.pep440_compiled.specs.Lists.{HasListFormat};
+ghost use Rattle.pep440_compiled.specs.Version.{HasVersionFormat};
+ghost use Rattle.pep440_calls.specs.CallResults.{Allows, AllowsAnswer, Contains, ContainsAnswer, IsPrerelease, RefusesSecond};
+ghost use Rattle.pep440_calls.specs.Meaning.{RefusesListBytes};
+ghost use Rattle.pep440_calls.specs.Statuses.{Gives};
+
+use crate::buffer::{OK, flag};
+use crate::fault::Fault;
+use crate::read::{read, read_list};
+use pep440_compiled::{ContainsError, has_list_format, has_version_format};
+use std::alloc::Global;
+
+/// Whether the list contains the version, 1 or 0 (PEP 440, "Version specifiers"); and whether the version is a pre-release or
+/// a developmental release, 1 or 0 (PEP 440, "Handling of pre-releases"). The list is read first, unless both
+/// are compiled: then nothing is allocated.
+pub fn write_match(
+    alloc: Global,
+    list: &[u8],
+    text: &[u8],
+    contained: &mut u8,
+    prerelease: &mut u8,
+) -> u8
+    ensures { ContainsAnswer list.now text.now contained.old contained.new prerelease.old prerelease.new result }
+{
+    match contains(alloc, list, text) {
+        Ok((found, is_early)) => {
+            *contained = flag(found);
+            *prerelease = flag(is_early);
+            OK
+        }
+        Err(fault) => fault.status(),
+    }
+}
+
+// Whether a compiled list contains a compiled version, and whether this is a pre-release or a developmental release.
+fn contains_compiled(list: &[u8], version: &[u8]) -> Result<(bool, bool), Fault>
+    requires list { HasListFormat list.now }
+    requires version { HasVersionFormat version.now }
+    ensures { Gives (RefusesSecond list.now version.now) (RefusesListBytes list.now) ⊥ (λ found. Contains list.now version.now found.0 × IsPrerelease version.now found.1) result }
+{
+    match pep440_compiled::contains(list, version) {
+        Ok(found) => Ok(found),
+        Err(ContainsError::NoVersion) => Err(Fault::InvalidVersion),
+        Err(ContainsError::NoList) => Err(Fault::InvalidList),
+    }
+}
+
+// Whether the list contains the version, and whether this is a pre-release or a developmental release.
+fn contains(alloc: Global, list: &[u8], bytes: &[u8]) -> Result<(bool, bool), Fault>
+    ensures { Gives (RefusesSecond list.now bytes.now) (RefusesListBytes list.now) ⊥ (λ found. Contains list.now bytes.now found.0 × IsPrerelease bytes.now found.1) result }
+{
+    if has_list_format(list) && has_version_format(bytes) {
+        return contains_compiled(list, bytes);
+    }
+    let specifiers = read_list(alloc, list)?;
+    let version = read(alloc, bytes)?;
+    let contained = specifiers.contains(alloc, &version)?;
+    Ok((contained, version.any_prerelease()))
+}
+
+/// Whether the list allows the version, 1 or 0 (PEP 440, "Handling of pre-releases"): it contains the version, and this is no
+/// pre-release and no developmental release unless a specifier with another operator than `!=` names one. The list is
+/// read first, unless both are compiled: then nothing is allocated.
+pub fn write_allowed(alloc: Global, list: &[u8], text: &[u8], allowed: &mut u8) -> u8
+    ensures { AllowsAnswer list.now text.now allowed.old allowed.new result }
+{
+    match allows(alloc, list, text) {
+        Ok(found) => {
+            *allowed = flag(found);
+            OK
+        }
+        Err(fault) => fault.status(),
+    }
+}
+
+// Whether a compiled list allows a compiled version.
+fn allows_compiled(list: &[u8], version: &[u8]) -> Result<bool, Fault>
+    requires list { HasListFormat list.now }
+    requires version { HasVersionFormat version.now }
+    ensures { Gives (RefusesSecond list.now version.now) (RefusesListBytes list.now) ⊥ (Allows list.now version.now) result }
+{
+    let (contained, is_early) = contains_compiled(list, version)?;
+    if !is_early {
+        return Ok(contained);
+    }
+    if !contained {
+        return Ok(false);
+    }
+    let Ok(asks) = pep440_compiled::requests_prereleases(list) else {
+        return Err(Fault::InvalidList);
+    };
+    Ok(asks)
+}
+
+// Whether the list allows the version that the bytes denote.
+fn allows(alloc: Global, list: &[u8], bytes: &[u8]) -> Result<bool, Fault>
+    ensures { Gives (RefusesSecond list.now bytes.now) (RefusesListBytes list.now) ⊥ (Allows list.now bytes.now) result }
+{
+    if has_list_format(list) && has_version_format(bytes) {
+        return allows_compiled(list, bytes);
+    }
+    let specifiers = read_list(alloc, list)?;
+    let version = read(alloc, bytes)?;
+    let takes = specifiers.requests_prereleases();
+    Ok(specifiers.allows(alloc, takes, &version)?)
+}

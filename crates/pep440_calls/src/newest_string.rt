@@ -1,0 +1,122 @@
+//! The newest version of a batch that a list contains.
+ghost use Rattle.std.specs.Option.{option_map};
+ghost use Rattle.std.specs.Prelude.{IfOk, MatchOption, false, map, not, true, ◌||◌, ◌≡◌, ◌⊎◌};
+ghost use Rattle.pep440_rs.specs.Matching.{any_prerelease, list_matches};
+ghost use Rattle.pep440_version.specs.Record.{Record};
+ghost use Rattle.pep440_calls.specs.Meaning.{MeansBytes, RefusesBytes, RefusesListBytes};
+ghost use Rattle.pep440_calls.specs.NewestString.{FindsNewestString, NewestAnswer, NewestString, newer, preference};
+ghost use Rattle.pep440_calls.specs.Statuses.{Gives, flag};
+
+use crate::buffer::{OK, flag};
+use crate::fault::Fault;
+use crate::read::{read, read_list};
+use pep440_rs::{Version, VersionSpecifiers};
+use std::alloc::{AllocError, Global};
+use std::cmp::Ordering;
+
+const NONE_FOUND: u8 = 10;
+
+/// Writes the index of the newest version that the list contains, and of equal ones the first; strings that are no version are
+/// passed over. Pre-releases and developmental releases count only if the list asks for them, or contains no final release
+/// of the batch (PEP 440, "Handling of pre-releases"). Status 10 if the list contains none; `index` is then unchanged.
+pub fn write_newest(alloc: Global, list: &[u8], texts: &[&[u8]], index: &mut usize) -> u8
+    ensures { NewestAnswer list.now (map (λ t. t.now) texts.now) index.old index.new result }
+{
+    match find(alloc, list, texts) {
+        Ok(Some(position)) => {
+            *index = position;
+            OK
+        }
+        Ok(None) => NONE_FOUND,
+        Err(fault) => fault.status(),
+    }
+}
+
+// The index of the newest version that the list of the bytes contains.
+fn find(alloc: Global, list: &[u8], texts: &[&[u8]]) -> Result<Option<usize>, Fault>
+    ensures { Gives ⊥ (RefusesListBytes list.now) ⊥ (FindsNewestString list.now (map (λ t. t.now) texts.now)) result }
+{
+    let specifiers = read_list(alloc, list)?;
+    let takes = specifiers.requests_prereleases();
+    let newest = find_newest(alloc, takes, &specifiers, texts)?;
+    Ok(position_of(&newest))
+}
+
+fn position_of(newest: &Option<(usize, Version)>) -> Option<usize>
+    ensures { result ≡ option_map (λ p. p.0) newest.now }
+{
+    match newest {
+        None => None,
+        Some((position, _)) => Some(*position),
+    }
+}
+
+// 1 for a final release and for what is taken as one, else 0.
+fn rank(takes: bool, version: &Version) -> u8
+    ensures { result ≡ flag (takes || not (any_prerelease version.now)) }
+{
+    flag(takes || !version.any_prerelease())
+}
+
+fn cmp_preference(takes: bool, left: &Version, right: &Version) -> Ordering
+    ensures { result ≡ preference takes left.now right.now }
+{
+    rank(takes, left)
+        .cmp(&rank(takes, right))
+        .then(left.cmp(right))
+}
+
+// The version that the bytes denote, if the list contains it.
+fn read_contained(
+    alloc: Global,
+    list: &VersionSpecifiers,
+    bytes: &[u8],
+) -> Result<Option<Version>, AllocError>
+    ensures { IfOk result (λ found. MatchOption found (RefusesBytes bytes.now ⊎ ((r : Record) × MeansBytes bytes.now r × (list_matches list.now r ≡ false))) (λ v. MeansBytes bytes.now v × (list_matches list.now v ≡ true))) }
+{
+    let version = match read(alloc, bytes) {
+        Ok(version) => version,
+        Err(Fault::OutOfMemory) => return Err(AllocError),
+        Err(_) => return Ok(None),
+    };
+    if list.contains(alloc, &version)? {
+        Ok(Some(version))
+    } else {
+        Ok(None)
+    }
+}
+
+// The newest so far, or the version found at this position.
+fn choose_newer(
+    takes: bool,
+    newest: Option<(usize, Version)>,
+    position: usize,
+    found: Option<Version>,
+) -> Option<(usize, Version)>
+    ensures { result ≡ newer takes newest position found }
+{
+    let Some(version) = found else {
+        return newest;
+    };
+    match newest {
+        Some(greatest) if !cmp_preference(takes, &greatest.1, &version).is_lt() => Some(greatest),
+        _ => Some((position, version)),
+    }
+}
+
+// The newest version that the list contains, and its index.
+fn find_newest(
+    alloc: Global,
+    takes: bool,
+    list: &VersionSpecifiers,
+    texts: &[&[u8]],
+) -> Result<Option<(usize, Version)>, AllocError>
+    ensures { IfOk result (NewestString takes list.now (map (λ t. t.now) texts.now)) }
+{
+    let mut newest: Option<(usize, Version)> = None;
+    for (position, text) in texts.iter().enumerate() {
+        let found = read_contained(alloc, list, text)?;
+        newest = choose_newer(takes, newest, position, found);
+    }
+    Ok(newest)
+}

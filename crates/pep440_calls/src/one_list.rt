@@ -1,0 +1,184 @@
+//! What is made of one list: its normal form, compiled form, members and range, and a version that it contains.
+ghost use Rattle.std.specs.List.{flat_map, list_any};
+ghost use Rattle.std.specs.Option.{option_map_or};
+ghost use Rattle.std.specs.Prelude.{IfOk, List, OnOk, [], string_bytes, ℕ, ◌++◌, ◌≡◌};
+ghost use Rattle.pep440_rs.specs.Matching.{any_prerelease};
+ghost use Rattle.pep440_rs.specs.Operators.{operator_text};
+ghost use Rattle.pep440_rs.specs.Specifiers.{Spec};
+ghost use Rattle.pep440_version.specs.Print.{print};
+ghost use Rattle.pep440_calls.specs.CallResults.{HasNoRange, IsCompiledList, IsNormalList, IsRangeText, IsVersionIn, NamesPrerelease, TellsMembers, member_texts, version_text};
+ghost use Rattle.pep440_calls.specs.JoinedStrings.{Joins, PutsJoined};
+ghost use Rattle.pep440_calls.specs.Meaning.{RefusesListBytes};
+ghost use Rattle.pep440_calls.specs.Statuses.{Gives, IsFlagOf, Puts, PutsBytes};
+
+use crate::buffer::{OK, flag, put_bytes, put_joined, put_text};
+use crate::fault::Fault;
+use crate::joined_strings::JoinedStrings;
+use crate::read::read_list;
+use pep440_rs::{RangeLines, Version, VersionSpecifier, VersionSpecifiers, specifiers_to_ranges};
+use pep440_witness::find_version;
+use std::alloc::{AllocError, Global};
+
+/// Writes the normal form of the list.
+pub fn write_normal_list(alloc: Global, list: &[u8], out: &mut [u8], written: &mut usize) -> u8
+    ensures { PutsBytes ⊥ (RefusesListBytes list.now) ⊥ (IsNormalList list.now) out.old out.new written.old written.new result }
+{
+    put_text(normalize_list(alloc, list), out, written)
+}
+
+// The normal form of a list.
+fn normalize_list(alloc: Global, bytes: &[u8]) -> Result<String, Fault>
+    ensures { Gives ⊥ (RefusesListBytes bytes.now) ⊥ (λ text. IsNormalList bytes.now (string_bytes text)) result }
+{
+    let list = read_list(alloc, bytes)?;
+    Ok(list.to_string(alloc)?)
+}
+
+/// Writes the compiled form of the list.
+pub fn write_compiled_list(alloc: Global, list: &[u8], out: &mut [u8], written: &mut usize) -> u8
+    ensures { PutsBytes ⊥ (RefusesListBytes list.now) ⊥ (IsCompiledList list.now) out.old out.new written.old written.new result }
+{
+    put_bytes(compile_list(alloc, list), out, written)
+}
+
+fn compile_list(alloc: Global, list: &[u8]) -> Result<Vec<u8>, Fault>
+    ensures { Gives ⊥ (RefusesListBytes list.now) ⊥ (λ compiled. IsCompiledList list.now compiled.items) result }
+{
+    let list = read_list(alloc, list)?;
+    Ok(pep440_compiled::compile_list(alloc, &list)?)
+}
+
+/// Whether a version of the list's specifiers is a pre-release or a developmental release, 1 or 0 (PEP 440, "Handling of pre-releases").
+pub fn write_prerelease_flag(alloc: Global, list: &[u8], any: &mut u8) -> u8
+    ensures { Puts ⊥ (RefusesListBytes list.now) ⊥ (IsFlagOf (NamesPrerelease list.now)) any.old any.new result }
+{
+    match any_prerelease(alloc, list) {
+        Ok(found) => {
+            *any = flag(found);
+            OK
+        }
+        Err(fault) => fault.status(),
+    }
+}
+
+// Whether the version of a member is a pre-release or a developmental release.
+fn has_prerelease(list: &VersionSpecifiers) -> bool
+    ensures { result ≡ list_any (λ (s : Spec). any_prerelease s.version) list.now }
+{
+    list.as_slice().iter().any(|member| member.any_prerelease())
+}
+
+/// Whether a version of the list is a pre-release or a developmental release.
+fn any_prerelease(alloc: Global, list: &[u8]) -> Result<bool, Fault>
+    ensures { Gives ⊥ (RefusesListBytes list.now) ⊥ (NamesPrerelease list.now) result }
+{
+    let specifiers = read_list(alloc, list)?;
+    Ok(has_prerelease(&specifiers))
+}
+
+/// Writes the range of the list, a segment a line. Status 5 if a bound of it would need a number above the greatest.
+pub fn write_range(alloc: Global, list: &[u8], out: &mut [u8], written: &mut usize) -> u8
+    ensures { PutsBytes ⊥ (RefusesListBytes list.now) (HasNoRange list.now) (IsRangeText list.now) out.old out.new written.old written.new result }
+{
+    put_text(to_range_lines(alloc, list), out, written)
+}
+
+// The range of a list, a segment a line.
+fn to_range_lines(alloc: Global, list: &[u8]) -> Result<String, Fault>
+    ensures { Gives ⊥ (RefusesListBytes list.now) (HasNoRange list.now) (λ text. IsRangeText list.now (string_bytes text)) result }
+{
+    let specifiers = read_list(alloc, list)?;
+    let range = specifiers_to_ranges(alloc, specifiers)?;
+    Ok(RangeLines(&range).to_string(alloc)?)
+}
+
+/// Writes a version that the list contains, and nothing if it contains none that a string denotes (PEP 440, "Version specifiers").
+pub fn write_version_in(alloc: Global, list: &[u8], out: &mut [u8], written: &mut usize) -> u8
+    ensures { PutsBytes ⊥ (RefusesListBytes list.now) ⊥ (IsVersionIn list.now) out.old out.new written.old written.new result }
+{
+    put_text(find_in(alloc, list), out, written)
+}
+
+// The normal form of the version, empty without one.
+fn print_found(alloc: Global, found: Option<Version>) -> Result<String, AllocError>
+    ensures { IfOk result (λ text. string_bytes text ≡ option_map_or print found []) }
+{
+    match found {
+        Some(version) => version.to_string(alloc),
+        None => Ok(String::new(alloc)),
+    }
+}
+
+// A version that the list contains; empty if it contains none.
+fn find_in(alloc: Global, list: &[u8]) -> Result<String, Fault>
+    ensures { Gives ⊥ (RefusesListBytes list.now) ⊥ (λ text. IsVersionIn list.now (string_bytes text)) result }
+{
+    let specifiers = read_list(alloc, list)?;
+    let found = find_version(alloc, specifiers.as_slice())?;
+    let text = print_found(alloc, found)?;
+    Ok(text)
+}
+
+/// Writes operator and version of each member of the list, as its normal form has them, in their order, and the end of
+/// each. Reports how many bytes and how many strings there are.
+pub fn write_members(
+    alloc: Global,
+    list: &[u8],
+    out: &mut [u8],
+    ends: &mut [usize],
+    written: &mut usize,
+    count: &mut usize,
+) -> u8
+    ensures { PutsJoined ⊥ (RefusesListBytes list.now) ⊥ (TellsMembers list.now) out.old out.new ends.old ends.new written.old written.new count.old count.new result }
+{
+    put_joined(to_members(alloc, list), out, ends, written, count)
+}
+
+fn print_operator(alloc: Global, member: &VersionSpecifier) -> Result<String, AllocError>
+    ensures { IfOk result (λ text. string_bytes text ≡ operator_text member.now.operator) }
+{
+    member.operator().to_string(alloc)
+}
+
+fn print_version(alloc: Global, member: &VersionSpecifier) -> Result<String, AllocError>
+    ensures { IfOk result (λ text. string_bytes text ≡ version_text member.now) }
+{
+    let mut text = member.version().to_string(alloc)?;
+    if member.operator().is_star() {
+        text.push_str(".*")?;
+    }
+    Ok(text)
+}
+
+fn push_member(
+    alloc: Global,
+    found: &mut JoinedStrings,
+    member: &VersionSpecifier,
+) -> Result<(), AllocError>
+    ensures { (strings : List (List ℕ)) → Joins strings found.old.bytes.items found.old.ends.items → OnOk result (Joins (strings ++ member_texts member.now) found.new.bytes.items found.new.ends.items) }
+{
+    let operator = print_operator(alloc, member)?;
+    let version = print_version(alloc, member)?;
+    found.push(operator.as_bytes())?;
+    found.push(version.as_bytes())?;
+    Ok(())
+}
+
+// Operators and versions of the members, in their order.
+fn join_members(alloc: Global, members: &[VersionSpecifier]) -> Result<JoinedStrings, AllocError>
+    ensures { IfOk result (λ found. Joins (flat_map member_texts members.now) found.bytes.items found.ends.items) }
+{
+    let mut found = JoinedStrings::with_capacity(alloc, members.len())?;
+    for member in members {
+        push_member(alloc, &mut found, member)?;
+    }
+    Ok(found)
+}
+
+// Operators and versions of the members of the list.
+fn to_members(alloc: Global, list: &[u8]) -> Result<JoinedStrings, Fault>
+    ensures { Gives ⊥ (RefusesListBytes list.now) ⊥ (λ found. TellsMembers list.now found.bytes.items found.ends.items) result }
+{
+    let specifiers = read_list(alloc, list)?;
+    Ok(join_members(alloc, specifiers.as_slice())?)
+}

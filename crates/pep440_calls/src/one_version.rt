@@ -1,0 +1,176 @@
+//! What is made of one version: its normal form, compiled form, parts, sort key and word.
+ghost use Rattle.std.specs.Prelude.{string_bytes, ◌≡◌};
+ghost use Rattle.pep440_compiled.specs.Version.{HasVersionFormat};
+ghost use Rattle.pep440_calls.specs.CallResults.{IsCompiled, IsKey, IsNormal, PartsAnswer, TellsParts, TellsWord, WordAnswer, kind_number};
+ghost use Rattle.pep440_calls.specs.Meaning.{RefusesBytes};
+ghost use Rattle.pep440_calls.specs.Statuses.{Gives, PutsBytes};
+ghost use Rattle.pep440_calls.specs.declared.fault.Fault.TheVariants.{OutOfMemory};
+
+use crate::buffer::{NOT_PACKED, OK, flag, put, put_bytes, put_slice, put_text};
+use crate::fault::Fault;
+use crate::read::read;
+use pep440_compiled::{CompiledError, compile_version, has_version_format};
+use pep440_keys::sort_key;
+use pep440_rs::{PrereleaseKind, Version};
+use pep440_version::laws::word;
+use std::alloc::Global;
+
+/// Writes the normal form of the version (PEP 440, "Normalization").
+pub fn write_normal_form(alloc: Global, text: &[u8], out: &mut [u8], written: &mut usize) -> u8
+    ensures { PutsBytes (RefusesBytes text.now) ⊥ ⊥ (IsNormal text.now) out.old out.new written.old written.new result }
+{
+    put_text(normalize(alloc, text), out, written)
+}
+
+// The normal form of a compiled version.
+fn normalize_compiled(alloc: Global, bytes: &[u8]) -> Result<String, Fault>
+    requires { HasVersionFormat bytes.now }
+    ensures { Gives (RefusesBytes bytes.now) ⊥ ⊥ (λ text. IsNormal bytes.now (string_bytes text)) result }
+{
+    match pep440_compiled::normalize(alloc, bytes) {
+        Ok(text) => Ok(text),
+        Err(CompiledError::NotCompiled) => Err(Fault::InvalidVersion),
+        Err(CompiledError::OutOfMemory) => Err(Fault::OutOfMemory),
+    }
+}
+
+// The normal form of a version.
+fn normalize(alloc: Global, bytes: &[u8]) -> Result<String, Fault>
+    ensures { Gives (RefusesBytes bytes.now) ⊥ ⊥ (λ text. IsNormal bytes.now (string_bytes text)) result }
+{
+    if has_version_format(bytes) {
+        return normalize_compiled(alloc, bytes);
+    }
+    let version = read(alloc, bytes)?;
+    Ok(version.to_string(alloc)?)
+}
+
+/// Writes the compiled form of the version.
+pub fn write_compiled(alloc: Global, text: &[u8], out: &mut [u8], written: &mut usize) -> u8
+    ensures { PutsBytes (RefusesBytes text.now) ⊥ ⊥ (IsCompiled text.now) out.old out.new written.old written.new result }
+{
+    put_bytes(compile(alloc, text), out, written)
+}
+
+fn compile(alloc: Global, text: &[u8]) -> Result<Vec<u8>, Fault>
+    ensures { Gives (RefusesBytes text.now) ⊥ ⊥ (λ compiled. IsCompiled text.now compiled.items) result }
+{
+    let version = read(alloc, text)?;
+    Ok(compile_version(alloc, &version)?)
+}
+
+/// Writes the sort key of the version: `memcmp` orders keys as their versions (PEP 440, "Summary of permitted
+/// suffixes and relative ordering"). Allocates nothing for a compiled version.
+pub fn write_sort_key(alloc: Global, text: &[u8], out: &mut [u8], written: &mut usize) -> u8
+    ensures { PutsBytes (RefusesBytes text.now) ⊥ ⊥ (IsKey text.now) out.old out.new written.old written.new result }
+{
+    if has_version_format(text) {
+        return put_slice(find_key(text), out, written);
+    }
+    put_bytes(make_key(alloc, text), out, written)
+}
+
+// The sort key of a compiled version, as it lies in the bytes.
+fn find_key(bytes: &[u8]) -> Result<&[u8], Fault>
+    requires { HasVersionFormat bytes.now }
+    ensures { Gives (RefusesBytes bytes.now) ⊥ ⊥ (λ key. IsKey bytes.now key.now) result }
+{
+    match pep440_compiled::read_sort_key(bytes) {
+        Ok(key) => Ok(key),
+        Err(_) => Err(Fault::InvalidVersion),
+    }
+}
+
+// The sort key of a version.
+fn make_key(alloc: Global, bytes: &[u8]) -> Result<Vec<u8>, Fault>
+    ensures { Gives (RefusesBytes bytes.now) ⊥ ⊥ (λ key. IsKey bytes.now key.items) result }
+{
+    let version = read(alloc, bytes)?;
+    Ok(sort_key(alloc, &version)?)
+}
+
+/// Writes the word of the version: words are numbers in the order of their versions (PEP 440, "Summary of permitted
+/// suffixes and relative ordering"). Status 7 if the version is not packed: then it has no word.
+pub fn write_word(alloc: Global, text: &[u8], word: &mut u64) -> u8
+    ensures { WordAnswer text.now word.old word.new result }
+{
+    match to_word(alloc, text) {
+        Ok(Some(found)) => {
+            *word = found;
+            OK
+        }
+        Ok(None) => NOT_PACKED,
+        Err(fault) => fault.status(),
+    }
+}
+
+// The word of a version; `None` of one that is not packed.
+fn to_word(alloc: Global, bytes: &[u8]) -> Result<Option<u64>, Fault>
+    ensures { Gives (RefusesBytes bytes.now) ⊥ ⊥ (TellsWord bytes.now) result }
+{
+    let version = read(alloc, bytes)?;
+    Ok(word(&version).copied())
+}
+
+/// The numbers of a version, 0 if it has no such part.
+#[repr(C)]
+#[derive(Clone, Copy, Debug)]
+pub struct Parts {
+    pub epoch: u64,
+    pub pre: u64,
+    pub post: u64,
+    pub dev: u64,
+    /// How many numbers the release has.
+    pub release_length: usize,
+    /// 0 no pre-release, 1 alpha, 2 beta, 3 release candidate.
+    pub pre_kind: u8,
+    /// 1 or 0, as the next two.
+    pub has_post: u8,
+    pub has_dev: u8,
+    pub has_local: u8,
+}
+
+/// Writes the parts of the version, and the numbers of its release (PEP 440, "Public version identifiers").
+pub fn write_parts(alloc: Global, text: &[u8], parts: &mut Parts, release: &mut [u64]) -> u8
+    ensures { PartsAnswer text.now parts.old parts.new release.old release.new result }
+{
+    match read(alloc, text) {
+        Ok(version) => {
+            *parts = parts_of(&version);
+            put(version.release(), release)
+        }
+        Err(fault) => fault.status(),
+    }
+}
+
+// The number that stands for a kind of pre-release.
+fn kind_number(kind: PrereleaseKind) -> u8
+    ensures { result ≡ kind_number kind }
+{
+    match kind {
+        PrereleaseKind::Alpha => 1,
+        PrereleaseKind::Beta => 2,
+        PrereleaseKind::Rc => 3,
+    }
+}
+
+// The parts of the version.
+fn parts_of(version: &Version) -> Parts
+    ensures { TellsParts version.now result }
+{
+    let (pre_kind, pre) = match version.pre() {
+        None => (0, 0),
+        Some(pre) => (kind_number(pre.kind), pre.number),
+    };
+    Parts {
+        epoch: version.epoch(),
+        pre,
+        post: version.post().unwrap_or(0),
+        dev: version.dev().unwrap_or(0),
+        release_length: version.release().len(),
+        pre_kind,
+        has_post: flag(version.is_post()),
+        has_dev: flag(version.is_dev()),
+        has_local: flag(version.is_local()),
+    }
+}

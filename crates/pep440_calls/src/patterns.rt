@@ -1,0 +1,155 @@
+//! Version patterns, specifiers of an operator and a pattern, and one specifier.
+ghost use Rattle.std.specs.Prelude.{is_none, string_bytes, ◌≡◌};
+ghost use Rattle.pep440_rs.specs.Operators.{Spells};
+ghost use Rattle.pep440_version.specs.Errors.{pattern_refusal_of};
+ghost use Rattle.pep440_calls.specs.PatternCalls.{IsCompiledSpecifier, IsOperator, IsPattern, IsSpecifier, MeansPattern, MeansSpecifierBytes, PatternAnswer, RefusesOperand, RefusesOperator, RefusesPatternBytes, RefusesSpecifierBytes};
+ghost use Rattle.pep440_calls.specs.Statuses.{Gives, PutsBytes};
+
+use crate::buffer::{flag, put_and_count, put_bytes, put_text};
+use crate::fault::Fault;
+use pep440_rs::{
+    ErrorKind, Operator, OperatorErrorKind, ParseErrorKind, PatternErrorKind, VersionPattern,
+    VersionSpecifier, VersionSpecifiers,
+};
+use std::alloc::Global;
+
+/// Writes the normal form of the version of a pattern, and whether `.*` follows it, 1 or 0 (PEP 440, "Version matching").
+pub fn write_pattern(
+    alloc: Global,
+    pattern: &[u8],
+    out: &mut [u8],
+    written: &mut usize,
+    star: &mut u8,
+) -> u8
+    ensures { PatternAnswer pattern.now out.old out.new written.old written.new star.old star.new result }
+{
+    match normalize_pattern(alloc, pattern) {
+        Ok((text, is_wildcard)) => {
+            *star = flag(is_wildcard);
+            put_and_count(text.as_bytes(), out, written)
+        }
+        Err(fault) => fault.status(),
+    }
+}
+
+/// Writes the specifier of an operator and a version, as its list prints it; the version may end with `.*` for `==` and
+/// `!=` (PEP 440, "Version specifiers"). The operator is parsed first. Status 2 if it is none, or does not go with the
+/// version: `.*` or a local part if it allows none, or `~=` before a single release number.
+pub fn write_specifier(
+    alloc: Global,
+    operator: &[u8],
+    version: &[u8],
+    out: &mut [u8],
+    written: &mut usize,
+) -> u8
+    ensures { PutsBytes (RefusesOperand operator.now version.now) (RefusesOperator operator.now version.now) ⊥ (IsSpecifier operator.now version.now) out.old out.new written.old written.new result }
+{
+    put_text(to_specifier(alloc, operator, version), out, written)
+}
+
+/// Writes the compiled form of the list of the one specifier that the string denotes (PEP 440, "Version specifiers"). Status 2
+/// if it denotes none, as the empty string and a string with a comma.
+pub fn write_compiled_specifier(
+    alloc: Global,
+    specifier: &[u8],
+    out: &mut [u8],
+    written: &mut usize,
+) -> u8
+    ensures { PutsBytes ⊥ (RefusesSpecifierBytes specifier.now) ⊥ (IsCompiledSpecifier specifier.now) out.old out.new written.old written.new result }
+{
+    put_bytes(compile_specifier(alloc, specifier), out, written)
+}
+
+/// Whether the error is out of memory.
+pub(crate) fn is_pattern_out_of_memory(kind: &PatternErrorKind) -> bool
+    ensures { result ≡ is_none (pattern_refusal_of kind.now) }
+{
+    match kind {
+        PatternErrorKind::Version(error) => matches!(error.kind(), ErrorKind::OutOfMemory),
+        PatternErrorKind::WildcardNotTrailing => false,
+    }
+}
+
+// The pattern that the bytes denote.
+fn read_pattern(alloc: Global, bytes: &[u8]) -> Result<VersionPattern, Fault>
+    ensures { Gives (RefusesPatternBytes bytes.now) ⊥ ⊥ (λ pattern. MeansPattern bytes.now pattern.0 pattern.1) result }
+{
+    let Ok(text) = std::str::from_utf8(bytes) else {
+        return Err(Fault::InvalidVersion);
+    };
+    match VersionPattern::from_str(alloc, text) {
+        Ok(pattern) => Ok(pattern),
+        Err(error) => {
+            if is_pattern_out_of_memory(error.kind()) {
+                return Err(Fault::OutOfMemory);
+            }
+            Err(Fault::InvalidVersion)
+        }
+    }
+}
+
+// The operator that the bytes are.
+fn read_operator(alloc: Global, bytes: &[u8]) -> Result<Operator, Fault>
+    ensures { Gives ⊥ (¬ IsOperator bytes.now) ⊥ (Spells bytes.now) result }
+{
+    let Ok(text) = std::str::from_utf8(bytes) else {
+        return Err(Fault::InvalidList);
+    };
+    match Operator::from_str(alloc, text) {
+        Ok(operator) => Ok(operator),
+        Err(error) => {
+            if let OperatorErrorKind::OutOfMemory = error.kind() {
+                return Err(Fault::OutOfMemory);
+            }
+            Err(Fault::InvalidList)
+        }
+    }
+}
+
+// The normal form of a pattern's version, and whether `.*` follows it.
+fn normalize_pattern(alloc: Global, bytes: &[u8]) -> Result<(String, bool), Fault>
+    ensures { Gives (RefusesPatternBytes bytes.now) ⊥ ⊥ (λ found. IsPattern bytes.now (string_bytes found.0) found.1) result }
+{
+    let pattern = read_pattern(alloc, bytes)?;
+    let text = pattern.version().to_string(alloc)?;
+    Ok((text, pattern.is_wildcard()))
+}
+
+// The specifier of an operator and a pattern, as it prints.
+fn to_specifier(alloc: Global, operator: &[u8], version: &[u8]) -> Result<String, Fault>
+    ensures { Gives (RefusesOperand operator.now version.now) (RefusesOperator operator.now version.now) ⊥ (λ text. IsSpecifier operator.now version.now (string_bytes text)) result }
+{
+    let operator = read_operator(alloc, operator)?;
+    let pattern = read_pattern(alloc, version)?;
+    match VersionSpecifier::from_pattern(operator, pattern) {
+        Ok(specifier) => Ok(specifier.to_string(alloc)?),
+        Err(_) => Err(Fault::InvalidList),
+    }
+}
+
+// The specifier that the bytes denote.
+fn read_specifier(alloc: Global, bytes: &[u8]) -> Result<VersionSpecifier, Fault>
+    ensures { Gives ⊥ (RefusesSpecifierBytes bytes.now) ⊥ (MeansSpecifierBytes bytes.now) result }
+{
+    let Ok(text) = std::str::from_utf8(bytes) else {
+        return Err(Fault::InvalidList);
+    };
+    match VersionSpecifier::from_str(alloc, text) {
+        Ok(specifier) => Ok(specifier),
+        Err(error) => {
+            if let ParseErrorKind::OutOfMemory = error.kind() {
+                return Err(Fault::OutOfMemory);
+            }
+            Err(Fault::InvalidList)
+        }
+    }
+}
+
+// The compiled form of its list.
+fn compile_specifier(alloc: Global, bytes: &[u8]) -> Result<Vec<u8>, Fault>
+    ensures { Gives ⊥ (RefusesSpecifierBytes bytes.now) ⊥ (λ compiled. IsCompiledSpecifier bytes.now compiled.items) result }
+{
+    let specifier = read_specifier(alloc, bytes)?;
+    let list = VersionSpecifiers::from_specifier(alloc, specifier)?;
+    Ok(pep440_compiled::compile_list(alloc, &list)?)
+}

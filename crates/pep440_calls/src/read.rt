@@ -1,0 +1,98 @@
+//! The version or the list that bytes denote, which are a string or a compiled form.
+ghost use Rattle.std.specs.Prelude.{is_none, ◌≡◌};
+ghost use Rattle.pep440_compiled.specs.Lists.{DenotesList};
+ghost use Rattle.pep440_compiled.specs.Version.{DenotesVersion};
+ghost use Rattle.pep440_version.specs.Errors.{refusal_of};
+ghost use Rattle.pep440_calls.specs.Meaning.{IsNoCompiledList, IsNoCompiledVersion, MeansBytes, MeansListBytes, MeansListString, MeansString, RefusesBytes, RefusesListBytes, RefusesListString, RefusesString};
+ghost use Rattle.pep440_calls.specs.Statuses.{Gives};
+ghost use Rattle.pep440_calls.specs.declared.fault.Fault.TheVariants.{OutOfMemory};
+
+use crate::fault::Fault;
+use pep440_compiled::{CompiledError, has_list_format, has_version_format, read_version};
+use pep440_rs::{ErrorKind, SpecifiersErrorKind, Version, VersionSpecifiers};
+use std::alloc::Global;
+
+/// Whether the error is out of memory.
+pub(crate) fn is_out_of_memory(kind: &ErrorKind) -> bool
+    ensures { result ≡ is_none (refusal_of kind.now) }
+{
+    matches!(kind, ErrorKind::OutOfMemory)
+}
+
+// The version that the string denotes.
+fn read_string(alloc: Global, bytes: &[u8]) -> Result<Version, Fault>
+    ensures { Gives (RefusesString bytes.now) ⊥ ⊥ (MeansString bytes.now) result }
+{
+    let Ok(text) = std::str::from_utf8(bytes) else {
+        return Err(Fault::InvalidVersion);
+    };
+    match Version::from_str(alloc, text) {
+        Ok(version) => Ok(version),
+        Err(error) => {
+            if is_out_of_memory(error.kind()) {
+                return Err(Fault::OutOfMemory);
+            }
+            Err(Fault::InvalidVersion)
+        }
+    }
+}
+
+// The version of the compiled form.
+fn read_compiled(alloc: Global, bytes: &[u8]) -> Result<Version, Fault>
+    ensures { Gives (IsNoCompiledVersion bytes.now) ⊥ ⊥ (DenotesVersion bytes.now) result }
+{
+    match read_version(alloc, bytes) {
+        Ok(version) => Ok(version),
+        Err(CompiledError::NotCompiled) => Err(Fault::InvalidVersion),
+        Err(CompiledError::OutOfMemory) => Err(Fault::OutOfMemory),
+    }
+}
+
+/// The version that the bytes denote.
+pub(crate) fn read(alloc: Global, bytes: &[u8]) -> Result<Version, Fault>
+    ensures { Gives (RefusesBytes bytes.now) ⊥ ⊥ (MeansBytes bytes.now) result }
+{
+    if has_version_format(bytes) {
+        return read_compiled(alloc, bytes);
+    }
+    read_string(alloc, bytes)
+}
+
+// The list that the string denotes.
+fn read_list_string(alloc: Global, bytes: &[u8]) -> Result<VersionSpecifiers, Fault>
+    ensures { Gives ⊥ (RefusesListString bytes.now) ⊥ (MeansListString bytes.now) result }
+{
+    let Ok(text) = std::str::from_utf8(bytes) else {
+        return Err(Fault::InvalidList);
+    };
+    match VersionSpecifiers::from_str(alloc, text) {
+        Ok(list) => Ok(list),
+        Err(error) => {
+            if let SpecifiersErrorKind::OutOfMemory = error.kind() {
+                return Err(Fault::OutOfMemory);
+            }
+            Err(Fault::InvalidList)
+        }
+    }
+}
+
+// The list of the compiled form.
+fn read_compiled_list(alloc: Global, bytes: &[u8]) -> Result<VersionSpecifiers, Fault>
+    ensures { Gives ⊥ (IsNoCompiledList bytes.now) ⊥ (DenotesList bytes.now) result }
+{
+    match pep440_compiled::read_list(alloc, bytes) {
+        Ok(list) => Ok(list),
+        Err(CompiledError::NotCompiled) => Err(Fault::InvalidList),
+        Err(CompiledError::OutOfMemory) => Err(Fault::OutOfMemory),
+    }
+}
+
+/// The list that the bytes denote.
+pub(crate) fn read_list(alloc: Global, bytes: &[u8]) -> Result<VersionSpecifiers, Fault>
+    ensures { Gives ⊥ (RefusesListBytes bytes.now) ⊥ (MeansListBytes bytes.now) result }
+{
+    if has_list_format(bytes) {
+        return read_compiled_list(alloc, bytes);
+    }
+    read_list_string(alloc, bytes)
+}
