@@ -11,3 +11,4 @@ pub mod Complete
 pub mod InvalidFound
 pub mod Once
 pub mod Folders
+pub mod JsonCodes

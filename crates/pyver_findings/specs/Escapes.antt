@@ -10,9 +10,13 @@ is_printable b = nat_le 32 b && nat_lt b 127
 abbrev pub hex_digit : ℕ → ℕ
 hex_digit n = if nat_lt n 10 then 48 + n else 87 + n
 
+-- the two digits of a byte
+abbrev pub hex_digits : ℕ → List ℕ
+hex_digits b = hex_digit (b / 16) ∷ (hex_digit (b % 16) ∷ [])
+
 -- the byte if it is printable, else `\x` and its two digits
 abbrev pub escaped_byte : ℕ → List ℕ
-escaped_byte b = if is_printable b then b ∷ [] else 92 ∷ (120 ∷ (hex_digit (b / 16) ∷ (hex_digit (b % 16) ∷ [])))
+escaped_byte b = if is_printable b then b ∷ [] else 92 ∷ (120 ∷ hex_digits b)
 
 -- a string with each byte escaped
 abbrev pub escaped : List ℕ → List ℕ

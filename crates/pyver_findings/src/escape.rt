@@ -1,6 +1,6 @@
 // Text of others in messages: what is not printable ASCII is escaped, so that no control character reaches a terminal.
 ghost use Rattle.std.specs.Prelude.{◌≡◌, ◌++◌, ◌<◌, IfOk};
-ghost use Rattle.pyver_findings.specs.Escapes.{escaped, escaped_byte, escaped_line_byte, escaped_lines, hex_digit, is_printable};
+ghost use Rattle.pyver_findings.specs.Escapes.{escaped, escaped_byte, escaped_line_byte, escaped_lines, hex_digit, hex_digits, is_printable};
 
 use std::alloc::AllocError;
 
@@ -15,10 +15,16 @@ fn hex_digit(number: u8) -> u8
     }
 }
 
-fn is_printable(byte: u8) -> bool
+pub(crate) fn is_printable(byte: u8) -> bool
     ensures { result ≡ is_printable byte }
 {
     32 <= byte && byte < 127
+}
+
+pub(crate) fn push_hex_digits(text: &mut Vec<u8>, byte: u8) -> Result<(), AllocError>
+    ensures { IfOk result (λ _. text.new.items ≡ text.old.items ++ hex_digits byte) }
+{
+    text.extend_from_slice(&[hex_digit(byte / 16), hex_digit(byte % 16)])
 }
 
 // The byte at the end, escaped if it is not printable.
@@ -29,7 +35,8 @@ fn push_escaped_byte(text: &mut Vec<u8>, byte: u8) -> Result<(), AllocError>
         text.push(byte)?;
         return Ok(());
     }
-    text.extend_from_slice(&[92, 120, hex_digit(byte / 16), hex_digit(byte % 16)])
+    text.extend_from_slice(b"\\x")?;
+    push_hex_digits(text, byte)
 }
 
 /// Appends the bytes, each that is not printable ASCII as `\x` and two digits.

@@ -1,4 +1,5 @@
 //! What holds of findings, as the contract of a function that does nothing.
+ghost use Rattle.pyver_findings.specs.JsonStrings.{JsonStringsDiffer};
 ghost use Rattle.pyver_findings.specs.FindingLaws.{ConflictsHaveFindings, FindingsHold, InvalidLinesHaveFindings, MeaningsOnce, ReportsOnce};
 
 /// A line that is reported by itself is a line of the files and no requirement, for the reason and at the column that are
@@ -22,4 +23,9 @@ pub fn conflicts_have_findings()
 pub fn reports_once()
     ensures meaning { MeaningsOnce }
     ensures report { ReportsOnce }
+{}
+
+/// Different bytes are different JSON strings.
+pub fn json_strings_differ()
+    ensures { JsonStringsDiffer }
 {}

@@ -16,11 +16,11 @@ fn push_members(alloc: Global, bytes: &mut Vec<u8>, line: &FileLine) -> Result<(
     ensures { IfOk result (λ _. bytes.new.items ≡ bytes.old.items ++ line_members (file_line_of line.now)) }
 {
     push_text(bytes, "\"file\":")?;
-    push_json_string(alloc, bytes, line.file.as_slice())?;
+    push_json_string(bytes, line.file.as_slice())?;
     push_text(bytes, ",\"line\":")?;
     push_number(alloc, bytes, line.number)?;
     push_text(bytes, ",\"text\":")?;
-    push_json_string(alloc, bytes, line.text.as_slice())
+    push_json_string(bytes, line.text.as_slice())
 }
 
 fn push_line(alloc: Global, bytes: &mut Vec<u8>, line: &FileLine) -> Result<(), AllocError>
@@ -95,7 +95,7 @@ fn push_reason(
     ensures { IfOk result (λ _. bytes.new.items ≡ bytes.old.items ++ reason_members reason.now column) }
 {
     push_text(bytes, ",\"reason\":")?;
-    push_json_string(alloc, bytes, reason.as_bytes())?;
+    push_json_string(bytes, reason.as_bytes())?;
     push_text(bytes, ",\"column\":")?;
     push_number(alloc, bytes, column as u64)
 }
@@ -168,7 +168,7 @@ fn push_findings(alloc: Global, bytes: &mut Vec<u8>, findings: &[Finding]) -> Re
 
 impl Report {
     /// The findings as a JSON array of objects, and a newline: the kind of each, and then the line with the reason and the column,
-    /// or the lines. Strings are escaped as in `to_text`, and then as JSON wants it.
+    /// or the lines, with strings as by `push_json_string`.
     ///
     /// Allocates.
     pub fn to_json(&self, alloc: Global) -> Result<Vec<u8>, AllocError>

@@ -155,6 +155,6 @@ pub fn print_named_files(alloc: Global, name: &str, lines: &str) -> Result<Strin
 /// The bytes as a string of JSON.
 pub fn print_string(alloc: Global, bytes: &str) -> Result<String, CaseError> {
     let mut printed = Vec::new(alloc);
-    push_json_string(alloc, &mut printed, bytes.as_bytes())?;
+    push_json_string(&mut printed, bytes.as_bytes())?;
     Ok(String::from_str(alloc, text(printed.as_slice())?)?)
 }

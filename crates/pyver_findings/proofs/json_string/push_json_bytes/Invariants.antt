@@ -1,7 +1,7 @@
 use Rattle.std.proofs.Common.{◌≡◌, ◌++◌, take}
 use Rattle.std.specs.List.{flat_map}
-use Rattle.pyver_findings.specs.JsonStrings.{json_character}
-use Rattle.pyver_findings.proofs.json_string.push_json_characters.Given as goal
+use Rattle.pyver_findings.specs.JsonStrings.{json_byte}
+use Rattle.pyver_findings.proofs.json_string.push_json_bytes.Given as goal
 
-abbrev pub invariant-loop-character : goal.invariant-loop-character
-invariant-loop-character l = l.text.items ≡ l.initial.text.items ++ flat_map json_character (take l.character-index l.characters)
+abbrev pub invariant-loop-byte : goal.invariant-loop-byte
+invariant-loop-byte l = l.text.items ≡ l.initial.text.items ++ flat_map (json_byte l.in_utf8) (take l.byte-index l.bytes)
