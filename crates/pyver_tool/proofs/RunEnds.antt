@@ -71,7 +71,7 @@ told_more a b c xs message wrote k = record {
 
 -- that a run is out of memory, in other words
 module _ {R : Type 0} (files : List ℕ → KnownFile) (remaining : R → Option (List ℕ)) (P Q : Type 0) (told : P → Q) (names : List (List ℕ)) (reader reader' : R) (sources : List Source) where
-  stops_by : StopsReading files remaining P names reader reader' sources → StopsReading files remaining Q names reader reader' sources
+  pub stops_by : StopsReading files remaining P names reader reader' sources → StopsReading files remaining Q names reader reader' sources
   stops_by (inl front) = inl front
   stops_by (inr (ran_out, before)) = inr (told ran_out, before)
 

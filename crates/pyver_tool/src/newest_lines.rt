@@ -48,12 +48,13 @@ fn keep_newer(
     if !is_newer(newest, version) {
         return Ok(());
     }
-    if list.allows(alloc, takes, version)? {
-        *newest = Some(NewestLine {
-            text: Vec::from_slice(alloc, text)?,
-            version: version.clone()?,
-        });
+    if !list.allows(alloc, takes, version)? {
+        return Ok(());
     }
+    *newest = Some(NewestLine {
+        text: Vec::from_slice(alloc, text)?,
+        version: version.clone()?,
+    });
     Ok(())
 }
 
