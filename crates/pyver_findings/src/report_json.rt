@@ -97,7 +97,8 @@ fn push_reason(
     push_text(bytes, ",\"reason\":")?;
     push_json_string(bytes, reason.as_bytes())?;
     push_text(bytes, ",\"column\":")?;
-    push_number(alloc, bytes, column as u64)
+    push_number(alloc, bytes, column as u64)?;
+    Ok(())
 }
 
 fn push_no_requirement(
