@@ -2,7 +2,7 @@
 use std::alloc::{AllocError, Global};
 use std::env;
 use std::io;
-use std::rt::{Alloc, Env};
+use std::rt::Env;
 
 // As long as the system lets an argument be.
 const LONGEST: usize = 131072;
