@@ -17,8 +17,9 @@ use Rattle.pep440_version.specs.Record.{Record}
 use Rattle.pyver_tool.specs.NewestOutcomes.{IsNewestLine, NewestLine, allowed_lines, or_else}
 use Rattle.pyver_tool.specs.NewestViews.{newest_value}
 use Rattle.pyver_tool.specs.VersionLines.{VersionLine}
+use Rattle.pyver_tool.specs.declared.prerelease_rule.Prereleases.{Prereleases}
 use Rattle.pyver_tool.specs.declared.prerelease_rule.Prereleases.TheVariants as prereleases
-use Rattle.pyver_tool.specs.declared.newest_lines.NewestLine.{NewestLine as LineInMemory}
+use Rattle.pyver_tool.specs.declared.newest_lines.KeptLine.{KeptLine}
 
 -- ---- the order
 
@@ -92,8 +93,8 @@ stays lines best x n upto = record {
 -- ---- lines in memory
 
 -- it is newer than the newest so far, if there is one
-abbrev pub is_newer : Option LineInMemory → Record → Bool
-is_newer newest r = option_map_or (λ (x : LineInMemory). is_lt (record_cmp x.version r)) newest true
+abbrev pub is_newer : Option KeptLine → Record → Bool
+is_newer newest r = option_map_or (λ (x : KeptLine). is_lt (record_cmp x.version r)) newest true
 
 module _ (takes : Bool) (list : List Spec) (lines : List VersionLine) (x : VersionLine) where
   one_more : (b : Bool) → list_allows takes list x.version ≡ b → allowed_lines takes list (lines ++ x ∷ []) ≡ allowed_lines takes list lines ++ cond b (x ∷ []) []
@@ -102,12 +103,12 @@ module _ (takes : Bool) (list : List Spec) (lines : List VersionLine) (x : Versi
   pub out_more : (newest : Option VersionLine) → NewestLine (allowed_lines takes list lines) newest → list_allows takes list x.version ≡ false → NewestLine (allowed_lines takes list (lines ++ x ∷ [])) newest
   out_more newest n out = subst (λ l. NewestLine l newest) (sym (one_more false out ∙ append-nil (allowed_lines takes list lines))) n
 
-  pub found_more : (newest : Option LineInMemory) → NewestLine (allowed_lines takes list lines) (newest_value newest) → is_newer newest x.version ≡ true → list_allows takes list x.version ≡ true
+  pub found_more : (newest : Option KeptLine) → NewestLine (allowed_lines takes list lines) (newest_value newest) → is_newer newest x.version ≡ true → list_allows takes list x.version ≡ true
       → NewestLine (allowed_lines takes list (lines ++ x ∷ [])) (Some x)
   found_more None n above allowed = subst (λ l. IsNewestLine l x) (sym (one_more true allowed ∙ ap (λ l. l ++ x ∷ []) n)) (only_one x)
   found_more (Some best) n above allowed = subst (λ l. IsNewestLine l x) (sym (one_more true allowed)) (newer (allowed_lines takes list lines) (record { text = best.text.items; version = best.version }) x n above)
 
-  pub below_more : (newest : Option LineInMemory) → NewestLine (allowed_lines takes list lines) (newest_value newest) → is_newer newest x.version ≡ false → NewestLine (allowed_lines takes list (lines ++ x ∷ [])) (newest_value newest)
+  pub below_more : (newest : Option KeptLine) → NewestLine (allowed_lines takes list lines) (newest_value newest) → is_newer newest x.version ≡ false → NewestLine (allowed_lines takes list (lines ++ x ∷ [])) (newest_value newest)
   below_more None n above = cc above
   below_more (Some best) n above = go (list_allows takes list x.version) refl
     where
@@ -122,9 +123,11 @@ module _ (takes : Bool) (list : List Spec) (lines : List VersionLine) (x : Versi
 no_line : {A : Type 0} (before after : List VersionLine) (x : VersionLine) → [] ≡ before ++ (x ∷ after) → A
 no_line before after x e = absurd (omega (arith, ap length e ∙ length-append before (x ∷ after)))
 
-pub kept : (lines others : List VersionLine) (best : VersionLine) → NewestLine lines (Some best) → NewestLine (or_else prereleases.Listed lines others) (Some best)
-kept [] others best n = no_line n.before n.after best n.split
-kept (x ∷ lines) others best n = n
+pub kept : (taken : Prereleases) (lines others : List VersionLine) (best : VersionLine) → NewestLine lines (Some best) → NewestLine (or_else taken lines others) (Some best)
+kept prereleases.Always lines others best n = n
+kept prereleases.Never lines others best n = n
+kept prereleases.Listed [] others best n = no_line n.before n.after best n.split
+kept prereleases.Listed (x ∷ lines) others best n = n
 
 pub fallen : (lines others : List VersionLine) (newest : Option VersionLine) → NewestLine lines None → NewestLine others newest → NewestLine (or_else prereleases.Listed lines others) newest
 fallen lines others newest none n = subst (λ l. NewestLine (or_else prereleases.Listed l others) newest) (sym none) n

@@ -3,14 +3,14 @@ use Rattle.std.proofs.Common.{◌≡◌, ◌∙◌, ◌<◌, ℕ, List, [], ◌+
 use Rattle.std.specs.List.{concat}
 use Rattle.pyver_tool.proofs.RunEnds.{stops_by}
 use Rattle.pyver_tool.specs.FilterSteps.{AllStop}
+use Rattle.pyver_tool.specs.InputLines.{Source}
 use Rattle.pyver_tool.specs.InvalidLines.{last_message, lines_status, message_limit}
 use Rattle.pyver_tool.specs.NewestOutcomes.{FindsNewest, NewestLine, candidates, newest_outcome}
 use Rattle.pyver_tool.specs.Outcomes.{Outcome}
 use Rattle.pyver_tool.specs.ReadLines.{ReadLine, faults}
 use Rattle.pyver_tool.specs.SourceViews.{IsRunFailureOf}
-use Rattle.pyver_tool.specs.Sources.{Input, KnownFile, last_name}
+use Rattle.pyver_tool.specs.Sources.{KnownFile, ReadsFirst, last_name}
 use Rattle.pyver_tool.specs.VersionLines.{InputParts, OfFound, VersionLine, line_messages, version_lines}
-use Rattle.pyver_tool.specs.WholeInputs.{WholeStops}
 use Rattle.pyver_tool.specs.declared.filter.FilterRule.{FilterRule}
 use Rattle.pyver_tool.specs.declared.invalid_lines.InvalidLines.{InvalidLines}
 use Rattle.pyver_tool.specs.declared.newest.NewestRule.{NewestRule}
@@ -36,16 +36,10 @@ module _ (how : InvalidLines) (found : List ReadLine) (count : ℕ) (messages er
 
 -- ---- the sources
 
-module _ {R W E : Type 0} (files : List ℕ → KnownFile) (remaining : R → Option (List ℕ)) (contents : W → Option (List ℕ)) (error_contents : E → Option (List ℕ)) (rule : FilterRule) (names : List (List ℕ)) (reader reader' : R) where
-  -- the search stopped, and what it wrote went to memory
-  pub silent_stops : {V D : Type 0} (of_output : V → Option (List ℕ)) (of_errors : D → Option (List ℕ)) (Answers : Input → Outcome → Type 0) (printed printed' : W) (messages messages' : E) (out : V) (err : D) (why why' : RunFailure)
-      → AllStop files remaining contents error_contents rule names reader reader' printed printed' messages messages' why
-      → (why ≡ run_failure.OutOfMemory → why' ≡ run_failure.OutOfMemory) → ((last : Option (List ℕ)) → IsRunFailureOf last why → IsRunFailureOf last why')
-      → WholeStops files remaining of_output of_errors Answers names reader reader' out out err err why'
-  silent_stops of_output of_errors Answers printed printed' messages messages' out err why why' k memory same = inr (record {
-    sources = k.sources;
-    reads = inr (stops_by files remaining (why ≡ run_failure.OutOfMemory) (why' ≡ run_failure.OutOfMemory) memory names reader reader' k.sources k.reads);
-    stops = same (last_name k.sources) k.stops;
-    output = refl;
-    errors = refl;
-  })
+-- a search that stopped, by another failure
+pub stops_as : {R W E : Type 0} (files : List ℕ → KnownFile) (remaining : R → Option (List ℕ)) (contents : W → Option (List ℕ)) (error_contents : E → Option (List ℕ)) (rule : FilterRule) (names : List (List ℕ)) (reader reader' : R) (printed printed' : W) (messages messages' : E) (why why' : RunFailure)
+    → AllStop files remaining contents error_contents rule names reader reader' printed printed' messages messages' why
+    → (why ≡ run_failure.OutOfMemory → why' ≡ run_failure.OutOfMemory) → ((last : Option (List ℕ)) → IsRunFailureOf last why → IsRunFailureOf last why')
+    → (sources : List Source) × ReadsFirst files remaining (why' ≡ run_failure.OutOfMemory) names reader reader' sources × IsRunFailureOf (last_name sources) why'
+stops_as files remaining contents error_contents rule names reader reader' printed printed' messages messages' why why' k memory same =
+    (k.sources, inr (stops_by files remaining (why ≡ run_failure.OutOfMemory) (why' ≡ run_failure.OutOfMemory) memory names reader reader' k.sources k.reads), same (last_name k.sources) k.stops)

@@ -10,7 +10,6 @@ use Rattle.pyver_tool.specs.Outcomes.{Outcome, followed_by, no_outcome}
 use Rattle.pyver_tool.specs.PrereleaseRules.{takes_prereleases}
 use Rattle.pyver_tool.specs.Sources.{Input}
 use Rattle.pyver_tool.specs.VersionLines.{InputParts, OfVersions, VersionLine}
-use Rattle.pyver_tool.specs.declared.filter.Wanted.TheVariants as wanted
 use Rattle.pyver_tool.specs.declared.newest.NewestOptions.{NewestOptions}
 use Rattle.pyver_tool.specs.declared.newest.NewestRule.{NewestRule}
 use Rattle.pyver_tool.specs.declared.prerelease_rule.Prereleases.{Prereleases}
@@ -29,7 +28,7 @@ or_else prereleases.Never lines others = lines
 
 -- the lines of which one is the newest: those that the list allows; where it allows none, those that it allows with pre-releases
 abbrev pub candidates : NewestRule → List VersionLine → List VersionLine
-candidates rule lines = or_else rule.prereleases (allowed_lines rule.filter.takes rule.filter.list lines) (allowed_lines true rule.filter.list lines)
+candidates rule lines = or_else rule.prereleases (allowed_lines (takes_prereleases rule.prereleases rule.list) rule.list lines) (allowed_lines true rule.list lines)
 
 -- the line is one of these; those before it are older, and none after it is newer
 pub record IsNewestLine (lines : List VersionLine) (x : VersionLine) : Type 0 where
@@ -55,11 +54,11 @@ FindsNewest rule parts o = (newest : Option VersionLine) × NewestLine (candidat
 
 -- the rule of the options and the list
 abbrev pub newest_rule : NewestOptions → List Spec → NewestRule
-newest_rule options list = record { prereleases = options.prereleases; filter = record { wanted = wanted.Newest; takes = takes_prereleases options.prereleases list; lines = options.lines; list = list } }
+newest_rule options list = record { prereleases = options.prereleases; lines = options.lines; list = list }
 
 -- what is written of the lines of the sources by a rule
 abbrev pub AnswersNewest : NewestRule → Input → Outcome → Type 0
-AnswersNewest rule input o = OfVersions rule.filter.lines (FindsNewest rule) input o
+AnswersNewest rule input o = OfVersions rule.lines (FindsNewest rule) input o
 
 -- what is written of the lines by a valid list, or the error of an invalid one
 abbrev pub FindsNewestBy : NewestOptions → SpecifiersReading → Input → Outcome → Type 0

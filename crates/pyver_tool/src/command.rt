@@ -364,21 +364,12 @@ fn start_newest<'a>(
 {
     match parse_specifiers(alloc, specifiers)? {
         SpecifiersReading::Specifiers(list) => {
-            let takes = takes_prereleases(options.prereleases, &list);
-            let filter = FilterRule {
-                wanted: Wanted::Newest,
-                takes,
+            let rule = NewestRule {
+                prereleases: options.prereleases,
                 lines: options.lines,
                 list,
             };
-            let prereleases = options.prereleases;
-            Ok(Work::Newest(
-                NewestRule {
-                    prereleases,
-                    filter,
-                },
-                names,
-            ))
+            Ok(Work::Newest(rule, names))
         }
         SpecifiersReading::Invalid(message) => {
             let mut answer = Answer::silent(alloc, 0);

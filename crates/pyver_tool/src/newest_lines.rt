@@ -13,7 +13,7 @@ use std::alloc::{AllocError, Global};
 
 // A line as it was written, and its version.
 #[derive(Drop)]
-pub(crate) struct NewestLine {
+pub(crate) struct KeptLine {
     pub(crate) text: Vec<u8>,
     version: Version,
 }
@@ -21,11 +21,11 @@ pub(crate) struct NewestLine {
 // The newest line that a list allows, and the newest that it allows with pre-releases.
 #[derive(Drop)]
 pub(crate) struct NewestLines {
-    allowed: Option<NewestLine>,
-    any: Option<NewestLine>,
+    allowed: Option<KeptLine>,
+    any: Option<KeptLine>,
 }
 
-fn is_newer(newest: &Option<NewestLine>, version: &Version) -> bool
+fn is_newer(newest: &Option<KeptLine>, version: &Version) -> bool
     ensures { result ≡ option_map_or (λ x. is_lt (record_cmp x.version version.now)) newest.now true }
 {
     match newest {
@@ -39,7 +39,7 @@ fn keep_newer(
     alloc: Global,
     takes: bool,
     list: &VersionSpecifiers,
-    newest: &mut Option<NewestLine>,
+    newest: &mut Option<KeptLine>,
     text: &[u8],
     version: &Version,
 ) -> Result<(), AllocError>
@@ -51,7 +51,7 @@ fn keep_newer(
     if !list.allows(alloc, takes, version)? {
         return Ok(());
     }
-    *newest = Some(NewestLine {
+    *newest = Some(KeptLine {
         text: Vec::from_slice(alloc, text)?,
         version: version.clone()?,
     });
@@ -83,11 +83,12 @@ impl NewestLines {
         ensures { IfOk result (λ _. (lines : List VersionLine) → KeepsNewest takes list.now lines self.old → KeepsNewest takes list.now (lines ++ record { text = text.now; version = version.now } ∷ []) self.new) }
     {
         keep_newer(alloc, takes, list, &mut self.allowed, text, version)?;
-        keep_newer(alloc, true, list, &mut self.any, text, version)
+        keep_newer(alloc, true, list, &mut self.any, text, version)?;
+        Ok(())
     }
 
     // The newest allowed line; or, where there is none and no option says which pre-releases are taken, the newest with them.
-    pub(crate) fn select(&self, prereleases: Prereleases) -> Option<&NewestLine>
+    pub(crate) fn select(&self, prereleases: Prereleases) -> Option<&KeptLine>
         ensures { (takes : Bool) (list : List Spec) (lines : List VersionLine) → KeepsNewest takes list lines self.now → NewestLine (or_else prereleases (allowed_lines takes list lines) (allowed_lines true list lines)) (newest_value (option_map (λ x. x.now) result)) }
     {
         match prereleases {

@@ -119,7 +119,7 @@ pub fn run<F: Files, R: Read, W: Write, E: Write>(
             }
         }
         Ok(Work::Newest(rule, names)) => {
-            match find_newest(alloc, &rule, names, files, input, out, err) {
+            match find_newest(alloc, rule, names, files, input, out, err) {
                 Ok(status) => status,
                 Err(failure) => report_run_failure(failure, err),
             }
