@@ -2,9 +2,9 @@
 use Rattle.std.proofs.Common.{◌≡◌, ◌∙◌, ◌+◌, ◌-◌, ◌<◌, ◌≤◌, ℕ, zero, suc, List, [], ◌∷◌, Ok, Err, true, false, ap, arith, drop, length, refl, sub-one, sym}
 use Rattle.std.proofs.lemmas.List.{drop_all}
 use Rattle.std.specs.Prelude.{Result}
-use Rattle.pyver_requirements.specs.MarkerReading.{Levels, Misfit, ended, read, step}
+use Rattle.pyver_requirements.specs.MarkerReading.{Levels, Misfit, read_end, read, step}
 use Rattle.pyver_requirements.specs.MarkerTokens.{Lexeme, Token, behind_token, is_blank_byte, lexemes, token}
-use Rattle.pyver_requirements.specs.MarkerViews.{IsFault}
+use Rattle.pyver_requirements.specs.MarkerViews.{IsMarkerFault}
 use Rattle.pyver_requirements.specs.declared.marker_fault.MarkerError.{MarkerError}
 use Rattle.pyver_requirements.specs.declared.marker_fault.MarkerError.TheVariants as error
 
@@ -45,7 +45,7 @@ token_fault s f r b rest x whole is_front filled is_token stepped kept =
     sym (rw first at read_so)
 
 -- an error that is the fault of a step is that of the whole
-pub lifted_fault : (e : MarkerError) (found : Result Levels Misfit) (whole : Result (List ℕ) Misfit) → IsFault found e → ((f : Misfit) → found ≡ Err f → whole ≡ Err f) → IsFault whole e
+pub lifted_fault : (e : MarkerError) (found : Result Levels Misfit) (whole : Result (List ℕ) Misfit) → IsMarkerFault found e → ((f : Misfit) → found ≡ Err f → whole ≡ Err f) → IsMarkerFault whole e
 lifted_fault (error.Invalid f position) found whole is lift = lift (record { fault = f; position = position }) is
 lifted_fault error.OutOfMemory found whole is lift = tt
 
@@ -55,6 +55,6 @@ unfolding lexemes
 no_lexemes k = refl
 
 -- the end of the text
-pub at_end : (s : Levels) (k at : ℕ) (text : List ℕ) (whole : Result (List ℕ) Misfit) → length text ≤ at → read s (lexemes k (drop at text)) ≡ whole → ended s ≡ whole
+pub at_end : (s : Levels) (k at : ℕ) (text : List ℕ) (whole : Result (List ℕ) Misfit) → length text ≤ at → read s (lexemes k (drop at text)) ≡ whole → read_end s ≡ whole
 unfolding read
 at_end s k at text whole past kept = rw (drop_all at text past, no_lexemes k) at kept

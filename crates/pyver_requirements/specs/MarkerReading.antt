@@ -41,14 +41,14 @@ closed l = closed_with l.alternatives l.chain
 abbrev pub after_or : Level → Level
 after_or l = record { alternatives = under_or (closed l); chain = All [] }
 
--- the length of the text; the levels around the innermost, from inside to outside; the innermost; whether an operand must follow
+-- the length of the string; the levels around the innermost, from inside to outside; the innermost; whether an operand must follow
 pub record Levels : Type 0 where
   pub length : ℕ
   pub outer : List Level
   pub inner : Level
   pub wants_operand : Bool
 
--- before the first token of a text of this length
+-- before the first token of a string of this length
 abbrev pub no_levels : ℕ → Levels
 no_levels n = record { length = n; outer = []; inner = empty_level; wants_operand = true }
 
@@ -57,7 +57,7 @@ pub record Misfit : Type 0 where
   pub fault : MarkerFault
   pub position : ℕ
 
--- the fault, with so many bytes of the text from it on
+-- the fault, with so many bytes of the string from it on
 abbrev pub misfit : {A : Type 0} → Levels → MarkerFault → ℕ → Result A Misfit
 misfit s f left = Err (record { fault = f; position = s.length - left })
 
@@ -93,12 +93,12 @@ abbrev pub step : Levels → Token → ℕ → Result Levels Misfit
 step s t left = if s.wants_operand then operand_step s t left else connective_step s t left
 
 -- the marker at the end
-abbrev pub ended_in : Levels → List Level → Result (List ℕ) Misfit
-ended_in s [] = Ok (terms_text (closed s.inner))
-ended_in s (l ∷ outer) = misfit s fault.Unclosed 0
+abbrev pub read_end_in : Levels → List Level → Result (List ℕ) Misfit
+read_end_in s [] = Ok (terms_text (closed s.inner))
+read_end_in s (l ∷ outer) = misfit s fault.Unclosed 0
 
-abbrev pub ended : Levels → Result (List ℕ) Misfit
-ended s = if s.wants_operand then misfit s fault.MissingOperand 0 else ended_in s s.outer
+abbrev pub read_end : Levels → Result (List ℕ) Misfit
+read_end s = if s.wants_operand then misfit s fault.MissingOperand 0 else read_end_in s s.outer
 
 -- what comes of the levels, unless there is a fault
 abbrev pub unless_misfit : Result Levels Misfit → (Levels → Result (List ℕ) Misfit) → Result (List ℕ) Misfit
@@ -107,7 +107,7 @@ unless_misfit (Ok s) next = next s
 
 -- the marker from these levels and tokens
 unfoldable pub read : Levels → List Lexeme → Result (List ℕ) Misfit
-read s [] = ended s
+read s [] = read_end s
 read s (l ∷ rest) = unless_misfit (step s l.token l.left) (λ t. read t rest)
 
 -- the marker in its normal form, or its fault

@@ -11,17 +11,17 @@ use Rattle.pyver_requirements.specs.declared.marker_operator.MarkerOperator.TheV
 
 -- ---- comparisons
 
-abbrev pub operator_text : MarkerOperator → List ℕ
-operator_text operator.Less = codes "<"
-operator_text operator.LessOrEqual = codes "<="
-operator_text operator.NotEqual = codes "!="
-operator_text operator.Equal = codes "=="
-operator_text operator.GreaterOrEqual = codes ">="
-operator_text operator.Greater = codes ">"
-operator_text operator.Compatible = codes "~="
-operator_text operator.Arbitrary = codes "==="
-operator_text operator.In = codes "in"
-operator_text operator.NotIn = codes "not in"
+abbrev pub marker_operator_text : MarkerOperator → List ℕ
+marker_operator_text operator.Less = codes "<"
+marker_operator_text operator.LessOrEqual = codes "<="
+marker_operator_text operator.NotEqual = codes "!="
+marker_operator_text operator.Equal = codes "=="
+marker_operator_text operator.GreaterOrEqual = codes ">="
+marker_operator_text operator.Greater = codes ">"
+marker_operator_text operator.Compatible = codes "~="
+marker_operator_text operator.Arbitrary = codes "==="
+marker_operator_text operator.In = codes "in"
+marker_operator_text operator.NotIn = codes "not in"
 
 -- the operator with both sides exchanged, if there is one
 abbrev pub mirrored : MarkerOperator → Option MarkerOperator
@@ -46,7 +46,7 @@ side_text Missing = []
 
 -- the sides as they stand
 abbrev pub as_written : Side → MarkerOperator → Side → List ℕ
-as_written left o right = side_text left ++ (codes " " ++ (operator_text o ++ (codes " " ++ side_text right)))
+as_written left o right = side_text left ++ (codes " " ++ (marker_operator_text o ++ (codes " " ++ side_text right)))
 
 -- the sides exchanged, by the mirrored operator; as they stand where there is none
 abbrev pub exchanged : Side → MarkerOperator → Side → Option MarkerOperator → List ℕ
@@ -71,14 +71,14 @@ union terms [] = terms
 union terms (t ∷ rest) = union (insert_key (slice_cmp nat_cmp) terms t) rest
 
 -- the terms with this word between them
-abbrev pub joined : List ℕ → List (List ℕ) → List ℕ
-joined connective [] = []
-joined connective (t ∷ rest) = t ++ flat_map (λ u. connective ++ u) rest
+abbrev pub joined_terms : List ℕ → List (List ℕ) → List ℕ
+joined_terms connective [] = []
+joined_terms connective (t ∷ rest) = t ++ flat_map (λ u. connective ++ u) rest
 
 -- a marker in its normal form
 abbrev pub terms_text : Terms → List ℕ
-terms_text (All terms) = joined (codes " and ") terms
-terms_text (Any terms) = joined (codes " or ") terms
+terms_text (All terms) = joined_terms (codes " and ") terms
+terms_text (Any terms) = joined_terms (codes " or ") terms
 
 -- the terms as `and` joins them with others
 abbrev pub under_and : Terms → List (List ℕ)

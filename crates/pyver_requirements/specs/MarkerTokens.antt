@@ -28,8 +28,8 @@ abbrev pub is_word_byte : ℕ → Bool
 is_word_byte b = is_ascii_alphanumeric b || ((b == 95) || (b == 46))
 
 -- the word that the string begins with
-abbrev pub word : List ℕ → List ℕ
-word text = lead is_word_byte text
+abbrev pub marker_word : List ℕ → List ℕ
+marker_word text = lead is_word_byte text
 
 -- what follows that word
 abbrev pub behind_word : List ℕ → List ℕ
@@ -37,11 +37,11 @@ behind_word text = past is_word_byte text
 
 -- the string begins with this word
 abbrev pub has_word : List ℕ → List ℕ → Bool
-has_word text name = bytes_eq (word text) name
+has_word text name = bytes_eq (marker_word text) name
 
 -- ---- variables and strings
 
--- the name that took the place of an older one
+-- the name that stands for an older one
 abbrev pub modern_name : List ℕ → List ℕ
 modern_name name =
     if bytes_eq name (codes "os.name") then codes "os_name"
@@ -77,7 +77,7 @@ constant inside (Some rest) = Constant inside
 -- the side of a comparison that the string begins with: any bytes but that quote may stand in quotes, and a backslash is one of them
 abbrev pub side : List ℕ → Side
 side [] = Missing
-side (b ∷ rest) = if is_quote b then constant (before_byte b rest) (behind_byte b rest) else variable (word (b ∷ rest))
+side (b ∷ rest) = if is_quote b then constant (before_byte b rest) (behind_byte b rest) else variable (marker_word (b ∷ rest))
 
 -- what follows it, without blanks
 abbrev pub behind_side : List ℕ → List ℕ
@@ -145,8 +145,8 @@ are_constants (Constant a) (Constant b) = true
 are_constants _ _ = false
 
 -- a comparison has a variable on one side, at least
-abbrev pub compared : Side → MarkerOperator → Side → ℕ → Token
-compared left o right from_right = if are_constants left right then Faulty fault.NoVariable from_right else Compares left o right
+abbrev pub compared_sides : Side → MarkerOperator → Side → ℕ → Token
+compared_sides left o right from_right = if are_constants left right then Faulty fault.NoVariable from_right else Compares left o right
 
 -- the token, unless there is a fault, with so many bytes from it on
 abbrev pub unless_faulty : Option MarkerFault → ℕ → Token → Token
@@ -154,17 +154,17 @@ unless_faulty None left token = token
 unless_faulty (Some f) left token = Faulty f left
 
 -- the comparison of this side with the one that the string begins with
-abbrev pub compared_with : Side → MarkerOperator → List ℕ → Token
-compared_with left o text = unless_faulty (side_fault (side text)) (length text) (compared left o (side text) (length text))
+abbrev pub comparison_with : Side → MarkerOperator → List ℕ → Token
+comparison_with left o text = unless_faulty (side_fault (side text)) (length text) (compared_sides left o (side text) (length text))
 
 -- the comparison of this side, from its operator on
-abbrev pub compared_by : Side → Option MarkerOperator → List ℕ → Token
-compared_by left None text = Faulty fault.MissingOperator (length text)
-compared_by left (Some o) text = compared_with left o (behind_comparing text)
+abbrev pub comparison_by : Side → Option MarkerOperator → List ℕ → Token
+comparison_by left None text = Faulty fault.MissingOperator (length text)
+comparison_by left (Some o) text = comparison_with left o (behind_comparing text)
 
 -- the comparison that the string begins with
 abbrev pub comparison : List ℕ → Token
-comparison text = unless_faulty (side_fault (side text)) (length text) (compared_by (side text) (comparing (behind_side text)) (behind_side text))
+comparison text = unless_faulty (side_fault (side text)) (length text) (comparison_by (side text) (comparing (behind_side text)) (behind_side text))
 
 -- the token that the string begins with
 abbrev pub token : List ℕ → Token

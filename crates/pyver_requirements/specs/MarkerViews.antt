@@ -6,8 +6,8 @@ use Rattle.pyver_requirements.specs.MarkerReading.{Level, Levels, Misfit}
 use Rattle.pyver_requirements.specs.MarkerTerms as terms
 use Rattle.pyver_requirements.specs.MarkerTokens as tokens
 use Rattle.pyver_requirements.specs.MarkerTokens.{Constant, Missing, Unclosed, Variable}
-use Rattle.pyver_requirements.specs.declared.marker.Level.{Level as LevelValue}
-use Rattle.pyver_requirements.specs.declared.marker.Levels.{Levels as LevelsValue}
+use Rattle.pyver_requirements.specs.declared.marker_reading.Level.{Level as LevelValue}
+use Rattle.pyver_requirements.specs.declared.marker_reading.Levels.{Levels as LevelsValue}
 use Rattle.pyver_requirements.specs.declared.marker_fault.MarkerError.{MarkerError}
 use Rattle.pyver_requirements.specs.declared.marker_fault.MarkerError.TheVariants as error
 use Rattle.pyver_requirements.specs.declared.marker_terms.Terms.{Terms}
@@ -46,6 +46,6 @@ abbrev pub levels_of : LevelsValue → Levels
 levels_of s = record { length = s.length; outer = map level_of s.outer.items; inner = level_of s.inner; wants_operand = s.wants_operand }
 
 -- the error is the fault that was to be found, or an allocation failed
-abbrev pub IsFault : {A : Type 0} → Result A Misfit → MarkerError → Type 0
-IsFault found (error.Invalid f position) = found ≡ Err (record { fault = f; position = position })
-IsFault found error.OutOfMemory = ⊤
+abbrev pub IsMarkerFault : {A : Type 0} → Result A Misfit → MarkerError → Type 0
+IsMarkerFault found (error.Invalid f position) = found ≡ Err (record { fault = f; position = position })
+IsMarkerFault found error.OutOfMemory = ⊤

@@ -1,10 +1,10 @@
-// Why a text is no environment marker.
+// Why a string is no environment marker.
 ghost use Rattle.std.specs.Prelude.{◌≡◌};
 ghost use Rattle.pyver_requirements.specs.declared.marker_fault.MarkerError.TheVariants.{OutOfMemory};
 
 use std::alloc::{AllocError, AllocFailed};
 
-/// Why a text is no environment marker.
+/// Why a string is no environment marker.
 #[derive(Clone, Copy, Debug, PartialEq, Eq)]
 pub enum MarkerFault {
     /// A variable or a string is missing.
@@ -23,12 +23,12 @@ pub enum MarkerFault {
     TooDeep,
 }
 
-/// Why a text is no environment marker, and from which byte on.
+/// Why a string is no environment marker, and from which byte on.
 #[derive(Clone, Copy, Debug, PartialEq, Eq)]
 pub enum MarkerError {
-    /// The text is none, and this is the position, in bytes from 0, from which on it is none.
+    /// The string is none, and this is the position, in bytes from 0, from which on it is none.
     Invalid(MarkerFault, usize),
-    /// Out of memory; the text may be a marker or not.
+    /// Out of memory; the string may be a marker or not.
     OutOfMemory,
 }
 

@@ -1,6 +1,6 @@
 // Operators of environment markers.
 ghost use Rattle.std.specs.Prelude.{◌≡◌, codes};
-ghost use Rattle.pyver_requirements.specs.MarkerTerms.{mirrored, operator_text};
+ghost use Rattle.pyver_requirements.specs.MarkerTerms.{mirrored, marker_operator_text};
 
 /// An operator of an environment marker.
 #[derive(Clone, Copy, Debug, PartialEq, Eq)]
@@ -19,7 +19,7 @@ pub(crate) enum MarkerOperator {
 
 impl MarkerOperator {
     pub(crate) fn text(self) -> &'static str
-        ensures { result.now ≡ operator_text self }
+        ensures { result.now ≡ marker_operator_text self }
     {
         match self {
             MarkerOperator::Less => "<",
@@ -36,7 +36,7 @@ impl MarkerOperator {
     }
 
     // The operator with both sides exchanged, if there is one.
-    pub(crate) fn mirrored(self) -> Option<MarkerOperator>
+    pub(crate) fn mirror(self) -> Option<MarkerOperator>
         ensures { result ≡ mirrored self }
     {
         match self {

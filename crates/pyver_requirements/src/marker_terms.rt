@@ -1,7 +1,7 @@
 // Environment markers in their normal form.
 ghost use Rattle.std.specs.Prelude.{◌≡◌, ◌==◌, ◌++◌, ◌∷◌, [], IfOk, codes, length};
 ghost use Rattle.std.specs.List.{flat_map, list_any};
-ghost use Rattle.pyver_requirements.specs.MarkerTerms.{All, Any, as_written, comparison_text, exchanged, joined, mirrored, operator_text, quote_around, side_text, terms_text, under_and, under_or, union};
+ghost use Rattle.pyver_requirements.specs.MarkerTerms.{All, Any, as_written, comparison_text, exchanged, joined_terms, mirrored, marker_operator_text, quote_around, side_text, terms_text, under_and, under_or, union};
 ghost use Rattle.pyver_requirements.specs.MarkerReading.{both, closed_with, has_none};
 ghost use Rattle.pyver_requirements.specs.MarkerViews.{set_of, side_of, terms_of};
 
@@ -74,7 +74,7 @@ fn exchange_sides(
 ) -> Result<Vec<u8>, AllocError>
     ensures { IfOk result (λ text. text.items ≡ exchanged (side_of left.entry) operator (side_of right.entry) (mirrored operator)) }
 {
-    match operator.mirrored() {
+    match operator.mirror() {
         Some(mirrored) => write_comparison(alloc, right, mirrored, left),
         None => write_comparison(alloc, left, operator, right),
     }
@@ -137,7 +137,7 @@ fn join_terms(
     connective: &[u8],
     terms: BTreeSet<Vec<u8>>,
 ) -> Result<Vec<u8>, AllocError>
-    ensures { IfOk result (λ text. text.items ≡ joined connective.now (set_of terms)) }
+    ensures { IfOk result (λ text. text.items ≡ joined_terms connective.now (set_of terms)) }
 {
     let mut terms = terms;
     let Some(first) = terms.pop_first() else {

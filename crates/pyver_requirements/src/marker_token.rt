@@ -3,7 +3,7 @@ ghost use Rattle.std.specs.Prelude.{◌≡◌, ◌≤◌, ◌==◌, bytes_eq, co
 ghost use Rattle.std.specs.List.{list_any, prefix_len};
 ghost use Rattle.pep440_version.specs.Grammar.{starts};
 ghost use Rattle.pep440_version.specs.Reading.{lead, past};
-ghost use Rattle.pyver_requirements.specs.MarkerTokens.{are_constants, behind_comparing, behind_side, behind_token, behind_word, compared_by, compared_with, comparing, comparison, constant, has_word, is_blank_byte, is_operator_byte, is_word_byte, modern_name, side, side_fault, skip_blanks, symbol, token, variable, variables, word, word_operator};
+ghost use Rattle.pyver_requirements.specs.MarkerTokens.{are_constants, behind_comparing, behind_side, behind_token, behind_word, comparison_by, comparison_with, comparing, comparison, constant, has_word, is_blank_byte, is_operator_byte, is_word_byte, modern_name, side, side_fault, skip_blanks, symbol, token, variable, variables, marker_word, word_operator};
 ghost use Rattle.pyver_requirements.specs.MarkerViews.{side_of, token_of};
 
 use crate::line_kind::opens_with;
@@ -87,7 +87,7 @@ fn count_word_bytes(text: &[u8]) -> usize
 
 // The word that the text begins with.
 fn scan_word(text: &[u8]) -> &[u8]
-    ensures { result.now ≡ word text.now }
+    ensures { result.now ≡ marker_word text.now }
 {
     &text[..count_word_bytes(text)]
 }
@@ -104,7 +104,7 @@ fn has_word(text: &[u8], name: &str) -> bool
     scan_word(text) == name.as_bytes()
 }
 
-// The name that took the place of an older one.
+// The name that stands for an older one.
 fn modern_name(name: &[u8]) -> &[u8]
     ensures { result.now ≡ modern_name name.now }
 {
@@ -287,7 +287,7 @@ fn are_constants(left: Side<'_>, right: Side<'_>) -> bool
 
 // The comparison of this side with the one that the text begins with.
 fn compare_with<'a>(left: Side<'a>, operator: MarkerOperator, text: &'a [u8]) -> Token<'a>
-    ensures { token_of result ≡ compared_with (side_of left.entry) operator text.now }
+    ensures { token_of result ≡ comparison_with (side_of left.entry) operator text.now }
 {
     let right = scan_side(text);
     if let Some(fault) = side_fault(right) {
@@ -301,7 +301,7 @@ fn compare_with<'a>(left: Side<'a>, operator: MarkerOperator, text: &'a [u8]) ->
 
 // The comparison of this side, from its operator on.
 fn compare_by<'a>(left: Side<'a>, text: &'a [u8]) -> Token<'a>
-    ensures { token_of result ≡ compared_by (side_of left.entry) (comparing text.now) text.now }
+    ensures { token_of result ≡ comparison_by (side_of left.entry) (comparing text.now) text.now }
 {
     match scan_operator(text) {
         None => Token::Faulty(MarkerFault::MissingOperator, text.len()),

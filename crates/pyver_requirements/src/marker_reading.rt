@@ -1,8 +1,8 @@
 //! Environment markers, as in PEP 508.
 ghost use Rattle.std.specs.Prelude.{◌≡◌, ◌-◌, ◌∷◌, [], IfErr, IfOk, length, map};
-ghost use Rattle.pyver_requirements.specs.MarkerReading.{after_or, closed, closed_step, connective_step, ended, empty_level, followed, marker, no_levels, opened, operand_step, step, with_operand};
+ghost use Rattle.pyver_requirements.specs.MarkerReading.{after_or, closed, closed_step, connective_step, read_end, empty_level, followed, marker, no_levels, opened, operand_step, step, with_operand};
 ghost use Rattle.pyver_requirements.specs.MarkerTerms.{All};
-ghost use Rattle.pyver_requirements.specs.MarkerViews.{IsFault, level_of, levels_of, terms_of, token_of};
+ghost use Rattle.pyver_requirements.specs.MarkerViews.{IsMarkerFault, level_of, levels_of, terms_of, token_of};
 
 use crate::marker_fault::{MarkerError, MarkerFault};
 use crate::marker_terms::{Terms, normalize_comparison};
@@ -91,7 +91,7 @@ impl Levels {
 
     fn open(self, alloc: Global, left: usize) -> Result<Levels, MarkerError>
         ensures levels { IfOk result (λ s. opened (levels_of self) left ≡ Ok (levels_of s)) }
-        ensures fault { IfErr result (IsFault (opened (levels_of self) left)) }
+        ensures fault { IfErr result (IsMarkerFault (opened (levels_of self) left)) }
     {
         if self.outer.len() >= DEEPEST {
             return Err(self.misfit(MarkerFault::TooDeep, left));
@@ -108,7 +108,7 @@ impl Levels {
 
     fn close(self, alloc: Global, left: usize) -> Result<Levels, MarkerError>
         ensures levels { IfOk result (λ s. closed_step (levels_of self) (levels_of self).outer left ≡ Ok (levels_of s)) }
-        ensures fault { IfErr result (IsFault (closed_step (levels_of self) (levels_of self).outer left)) }
+        ensures fault { IfErr result (IsMarkerFault (closed_step (levels_of self) (levels_of self).outer left)) }
     {
         let mut outer = self.outer;
         let Some(next) = outer.pop_front() else {
@@ -144,7 +144,7 @@ impl Levels {
         left: usize,
     ) -> Result<Levels, MarkerError>
         ensures levels { IfOk result (λ s. operand_step (levels_of self) (token_of token.entry) left ≡ Ok (levels_of s)) }
-        ensures fault { IfErr result (IsFault (operand_step (levels_of self) (token_of token.entry) left)) }
+        ensures fault { IfErr result (IsMarkerFault (operand_step (levels_of self) (token_of token.entry) left)) }
     {
         match token {
             Token::Open => self.open(alloc, left),
@@ -164,7 +164,7 @@ impl Levels {
         left: usize,
     ) -> Result<Levels, MarkerError>
         ensures levels { IfOk result (λ s. connective_step (levels_of self) (token_of token.entry) left ≡ Ok (levels_of s)) }
-        ensures fault { IfErr result (IsFault (connective_step (levels_of self) (token_of token.entry) left)) }
+        ensures fault { IfErr result (IsMarkerFault (connective_step (levels_of self) (token_of token.entry) left)) }
     {
         let mut levels = self;
         match token {
@@ -186,7 +186,7 @@ impl Levels {
     // The levels after the next token.
     fn push(self, alloc: Global, token: Token<'_>, left: usize) -> Result<Levels, MarkerError>
         ensures levels { IfOk result (λ s. step (levels_of self) (token_of token.entry) left ≡ Ok (levels_of s)) }
-        ensures fault { IfErr result (IsFault (step (levels_of self) (token_of token.entry) left)) }
+        ensures fault { IfErr result (IsMarkerFault (step (levels_of self) (token_of token.entry) left)) }
     {
         if self.wants_operand {
             self.push_operand(alloc, token, left)
@@ -197,8 +197,8 @@ impl Levels {
 
     // The marker, at the end.
     fn end(self, alloc: Global) -> Result<Vec<u8>, MarkerError>
-        ensures marker { IfOk result (λ text. ended (levels_of self) ≡ Ok text.items) }
-        ensures fault { IfErr result (IsFault (ended (levels_of self))) }
+        ensures marker { IfOk result (λ text. read_end (levels_of self) ≡ Ok text.items) }
+        ensures fault { IfErr result (IsMarkerFault (read_end (levels_of self))) }
     {
         if self.wants_operand {
             return Err(self.misfit(MarkerFault::MissingOperand, 0));
@@ -210,14 +210,14 @@ impl Levels {
     }
 }
 
-/// The environment marker in its normal form: two texts are the same marker if these bytes are the same. Quotes and blanks, older names,
+/// The environment marker in its normal form: two strings are the same marker if these bytes are the same. Quotes and blanks, older names,
 /// parentheses that do not matter, the order of what `and` or `or` joins, how often it stands there, and the sides of `<`, `<=`, `==`,
 /// `!=`, `>=` and `>` do not count. Fails with the first fault from the left and its position.
 ///
 /// Allocates.
 pub fn parse_marker(alloc: Global, text: &[u8]) -> Result<Vec<u8>, MarkerError>
     ensures found { IfOk result (λ m. marker text.now ≡ Ok m.items) }
-    ensures refused { IfErr result (IsFault (marker text.now)) }
+    ensures refused { IfErr result (IsMarkerFault (marker text.now)) }
 {
     let mut levels = Levels::new(alloc, text.len());
     let mut skipped = 0;
