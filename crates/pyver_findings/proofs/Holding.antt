@@ -1,5 +1,5 @@
 -- What is reported: a line by itself is no requirement; lines together count together, and no version is allowed by all.
-use Rattle.std.proofs.Common.{◌≡◌, ◌==◌, ◌⊎◌, ◌∙◌, ℕ, List, [], ◌∷◌, ◌++◌, ◌&&◌, ◌||◌, Bool, true, false, IsTrue, Option, Some, None, bytes_eq, is_none, length, map, refl, sym, ap, subst, inl, inr, if◌then◌else◌}
+use Rattle.std.proofs.Common.{◌≡◌, ◌==◌, ◌⊎◌, ◌∙◌, ℕ, List, [], ◌∷◌, ◌++◌, ◌&&◌, ◌||◌, Bool, true, false, IsTrue, Option, Some, None, Result, Ok, Err, bytes_eq, is_none, length, map, option_map, refl, sym, ap, subst, inl, inr, if◌then◌else◌}
 use Rattle.std.proofs.lemmas.Bool.{true≢false}
 use Rattle.std.proofs.lemmas.List.{map-append}
 use Rattle.std.proofs.lemmas.List.Elements.{All-append, All-cons, All-contains_itself, All-filter, All-head, All-nil, All-tail, All-weaker, filter_passes}
@@ -16,9 +16,9 @@ use Rattle.pep440_version.specs.Record.{Record}
 use Rattle.pyver_findings.specs.Demands.{Demand, IsSound, is_pinned, line_demand}
 use Rattle.pyver_findings.specs.Conflicts.{conflict_kind, conflicts, counts_under, first_mentions, have_none, of_all, of_name, has_same_marker, has_same_name, same_marker, smallest, under}
 use Rattle.pyver_findings.specs.FileLines.{FileLine, all_lines}
-use Rattle.pyver_findings.specs.FindingLaws.{AreNeeded, AsksFor, CountsUnder, FindingsHold, FitsConflict, IsRight, LineAllows, NamesVersion}
+use Rattle.pyver_findings.specs.FindingLaws.{AreNeeded, AsksFor, CountsUnder, FindingsHold, FitsConflict, HasMarker, IsRight, LineAllows, NamesVersion}
 use Rattle.pyver_findings.specs.Findings.{Conflicting, Finding}
-use Rattle.pyver_findings.specs.LineMeanings.{IsNone, LeftOut, LineMeaning, NamesFile, IsKindMeaning, IsMeaning, requirement_meaning, has_scheme, names_file, with_marker, with_url}
+use Rattle.pyver_findings.specs.LineMeanings.{IsNone, LeftOut, LineMeaning, NamesFile, IsKindMeaning, IsMeaning, requirement_meaning, has_scheme, names_file, under_marker, with_marker, with_url}
 use Rattle.pyver_findings.proofs.Found.{marker_yes}
 use Rattle.pyver_findings.proofs.SmallestLists.{Allows, IsSpared, all_smallest, none_allowed, smallest_none, smallest_right}
 use Rattle.pyver_findings.proofs.Rejecting.{invalid_right}
@@ -27,6 +27,7 @@ use Rattle.pyver_findings.specs.declared.cause.Cause.TheVariants as cause
 use Rattle.pyver_findings.specs.declared.finding.Conflict.TheVariants.{NoVersion, PinOutside, TwoPins}
 use Rattle.pyver_requirements.specs.LineKinds.{ConstraintsFile, Editable, Invalid, LineKind, Location, PipOption, Requirement, RequirementsFile, Variable, has_variable, line_kind}
 use Rattle.pyver_requirements.specs.LineParts.{line_parts}
+use Rattle.pyver_requirements.specs.MarkerReading.{Misfit, marker}
 
 -- ---- what a line asks for
 
@@ -82,7 +83,7 @@ needed front (a ∷ kept) f k ((v, denoted, here, there, behind), more) =
 
 -- one of these lines asks for it
 abbrev pub IsAsked : List FileLine → Demand → Type 0
-IsAsked read a = Contains read a.line × IsDerived a × ((line_parts a.line.text).marker ≡ a.marker)
+IsAsked read a = Contains read a.line × IsDerived a × HasMarker (line_parts a.line.text) a.marker
 
 -- ---- what lines ask for
 
@@ -98,18 +99,18 @@ module _ (read : List FileLine) where
 
   module _ (l : FileLine) (known : Contains read l) where
     module _ (n : Needed) (d : DerivesRequirement (line_parts l.text).requirement n) where
-      asked : IsAsked read (line_demand l (line_parts l.text).marker n)
-      asked = (known, (n, d, refl, refl, refl), refl)
+      of_url : (m : Option (List ℕ)) → HasMarker (line_parts l.text) m → (url : Option (List ℕ)) → All (IsAsked read) (demands_in (with_url l (line_parts l.text) n m url))
+      of_url m has None = All-cons (IsAsked read) (line_demand l m n) [] (known, (n, d, refl, refl, refl), has) (All-nil (IsAsked read))
+      of_url m has (Some []) = All-nil (IsAsked read)
+      of_url m has (Some (b ∷ url)) = of_specifiers (length n.specifiers == 0) _
 
-      of_url : (url : Option (List ℕ)) → All (IsAsked read) (demands_in (with_url l (line_parts l.text) n url))
-      of_url None = All-cons (IsAsked read) (line_demand l (line_parts l.text).marker n) [] asked (All-nil (IsAsked read))
-      of_url (Some []) = All-nil (IsAsked read)
-      of_url (Some (b ∷ url)) = of_specifiers (length n.specifiers == 0) _
+      of_result : (t : List ℕ) (r : Result (List ℕ) Misfit) → (line_parts l.text).marker ≡ Some t → marker t ≡ r → All (IsAsked read) (demands_in (under_marker l (line_parts l.text) n r))
+      of_result t (Ok m) is found = of_url (Some m) (ap (option_map marker) is ∙ ap Some found) (line_parts l.text).url
+      of_result t (Err f) is found = All-nil (IsAsked read)
 
-      of_marker : (marker : Option (List ℕ)) → All (IsAsked read) (demands_in (with_marker l (line_parts l.text) n marker))
-      of_marker None = of_url (line_parts l.text).url
-      of_marker (Some []) = All-nil (IsAsked read)
-      of_marker (Some (b ∷ marker)) = of_url (line_parts l.text).url
+      of_marker : (t : Option (List ℕ)) → (line_parts l.text).marker ≡ t → All (IsAsked read) (demands_in (with_marker l (line_parts l.text) n t))
+      of_marker None is = of_url None (ap (option_map marker) is) (line_parts l.text).url
+      of_marker (Some t) is = of_result t (marker t) is refl
 
     same_reading : (x y : LineMeaning) → x ≡ y → All (IsAsked read) (demands_in y) → All (IsAsked read) (demands_in x)
     same_reading x y is k = subst (λ (z : LineMeaning). All (IsAsked read) (demands_in z)) (sym is) k
@@ -123,7 +124,7 @@ module _ (read : List FileLine) where
     of_kind Variable x is = same_reading x _ is (All-nil (IsAsked read))
     of_kind Location x is = same_reading x _ is (All-nil (IsAsked read))
     of_kind Requirement x (inl (not_text, is)) = same_reading x _ is (All-nil (IsAsked read))
-    of_kind Requirement x (inr (text, inl (n, d, is))) = same_reading x (requirement_meaning l (line_parts l.text) n) is (of_marker n d (line_parts l.text).marker)
+    of_kind Requirement x (inr (text, inl (n, d, is))) = same_reading x (requirement_meaning l (line_parts l.text) n) is (of_marker n d (line_parts l.text).marker refl)
     of_kind Requirement x (inr (text, inr (f, r, is))) = same_reading x _ is (All-nil (IsAsked read))
 
   pub all_asked : (lines : List FileLine) (xs : List LineMeaning) → All (Contains read) lines → AllZip IsMeaning lines xs → All (IsAsked read) (flat_map demands_in xs)
@@ -176,8 +177,8 @@ module _ (read : List FileLine) where
     asks_for a ((known, (n, d, called, pinned, list), marked), same) = (n, d, ap (bytes_eq name) called ∙ same)
 
     counts_line : (marker : Option (List ℕ)) (a : Demand) → IsNamed a → (a.marker ≡ None) ⊎ (a.marker ≡ marker) → CountsUnder marker a.line
-    counts_line marker a ((known, derived, marked), same) (inl none) = inl (marked ∙ none)
-    counts_line marker a ((known, derived, marked), same) (inr is) = inr (marked ∙ is)
+    counts_line marker a ((known, derived, marked), same) (inl none) = inl (marked ∙ ap (option_map Ok) none)
+    counts_line marker a ((known, derived, marked), same) (inr is) = inr (marked ∙ ap (option_map Ok) is)
 
     names_version : (a : Demand) → IsNamed a → a.pinned ≡ true → NamesVersion a.line
     names_version a ((known, (n, d, called, pinned, list), marked), same) names = (n, d, pinned ∙ names)

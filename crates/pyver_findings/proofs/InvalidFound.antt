@@ -1,5 +1,5 @@
 -- A line that ought to be a requirement and is none is reported.
-use Rattle.std.proofs.Common.{arith, ◌≡◌, ◌==◌, ◌<◌, ◌∙◌, ℕ, List, [], ◌∷◌, Bool, true, false, Option, Some, None, get_or, length, refl, sym, subst, inl, inr, suc, zero, if◌then◌else◌}
+use Rattle.std.proofs.Common.{arith, ◌≡◌, ◌==◌, ◌<◌, ◌∙◌, ℕ, List, [], ◌∷◌, Bool, true, false, Option, Some, None, Result, Ok, Err, ap, get_or, length, option_map, refl, sym, subst, inl, inr, suc, zero, if◌then◌else◌}
 use Rattle.std.specs.List.{AllZip, flat_map}
 use Rattle.std.specs.Str.{IsUtf8}
 use Rattle.pep440_pick.specs.RequirementGrammar.{DerivesRequirement, Needed}
@@ -7,32 +7,36 @@ use Rattle.pyver_findings.proofs.Found.{Some_is, any_is, in_left, in_right}
 use Rattle.pyver_findings.proofs.SmallestLists.{is_nil}
 use Rattle.pyver_findings.specs.Conflicts.{conflicts}
 use Rattle.pyver_findings.specs.FileLines.{FileLine, all_lines}
-use Rattle.pyver_findings.specs.FindingLaws.{InvalidLinesHaveFindings, IsAlone, IsRequirementLine, LacksRequirement}
+use Rattle.pyver_findings.specs.FindingLaws.{HasMarker, InvalidLinesHaveFindings, IsAlone, IsRequirementLine, LacksRequirement}
 use Rattle.pyver_findings.specs.Findings.{NoRequirement}
-use Rattle.pyver_findings.specs.LineMeanings.{IsNone, LeftOut, LineMeaning, IsKindMeaning, IsMeaning, not_utf8, refusal_meaning, requirement_meaning, invalid_line, with_marker, with_url}
+use Rattle.pyver_findings.specs.LineMeanings.{IsNone, LeftOut, LineMeaning, IsKindMeaning, IsMeaning, not_utf8, refusal_meaning, requirement_meaning, invalid_line, under_marker, with_marker, with_url}
 use Rattle.pyver_findings.specs.Reports.{Report, demands_in, invalid_in}
 use Rattle.pyver_findings.specs.declared.cause.Cause.TheVariants as cause
 use Rattle.pyver_requirements.specs.LineKinds.{ConstraintsFile, Editable, Invalid, LineKind, Location, PipOption, Requirement, RequirementsFile, Variable, line_kind}
 use Rattle.pyver_requirements.specs.declared.line_fault.LineFault.{LineFault}
 use Rattle.pyver_requirements.specs.LineParts.{line_parts}
+use Rattle.pyver_requirements.specs.MarkerReading.{Misfit, marker}
 
 module _ (l : FileLine) where
   -- what stands before `@` and `;` is a requirement
   module _ (kind : line_kind l.text ≡ Requirement) (text : IsUtf8 (line_parts l.text).requirement) (n : Needed) (d : DerivesRequirement (line_parts l.text).requirement n) (lacks : IsRequirementLine l → ⊥) where
-    by_list : ((line_parts l.text).marker ≡ Some [] → ⊥) → ((line_parts l.text).url ≡ Some [] → ⊥) → (b : Bool) (reason : List ℕ) (column : ℕ) → (length n.specifiers == 0) ≡ b
+    by_list : (m : Option (List ℕ)) → HasMarker (line_parts l.text) m → ((line_parts l.text).url ≡ Some [] → ⊥) → (b : Bool) (reason : List ℕ) (column : ℕ) → (length n.specifiers == 0) ≡ b
         → Some_is (IsAlone l) (invalid_in (if b then LeftOut cause.Url else IsNone (NoRequirement l reason column)))
-    by_list marker url true reason column none = absurd (lacks (kind, text, (n, d, (marker, url, inr (is_nil n.specifiers none)))))
-    by_list marker url false reason column none = inl refl
+    by_list m has url true reason column none = absurd (lacks (kind, text, (n, d, ((m, has), url, inr (is_nil n.specifiers none)))))
+    by_list m has url false reason column none = inl refl
 
-    by_url : ((line_parts l.text).marker ≡ Some [] → ⊥) → (url : Option (List ℕ)) → (line_parts l.text).url ≡ url → Some_is (IsAlone l) (invalid_in (with_url l (line_parts l.text) n url))
-    by_url marker None is = absurd (lacks (kind, text, (n, d, (marker, λ empty. let same : None ≡ Some [] = sym is ∙ empty in cc same, inl is))))
-    by_url marker (Some []) is = inl refl
-    by_url marker (Some (b ∷ url)) is = by_list marker (λ empty. let same : Some (b ∷ url) ≡ Some [] = sym is ∙ empty in cc same) (length n.specifiers == 0) _ _ refl
+    by_url : (m : Option (List ℕ)) → HasMarker (line_parts l.text) m → (url : Option (List ℕ)) → (line_parts l.text).url ≡ url → Some_is (IsAlone l) (invalid_in (with_url l (line_parts l.text) n m url))
+    by_url m has None is = absurd (lacks (kind, text, (n, d, ((m, has), λ empty. let same : None ≡ Some [] = sym is ∙ empty in cc same, inl is))))
+    by_url m has (Some []) is = inl refl
+    by_url m has (Some (b ∷ url)) is = by_list m has (λ empty. let same : Some (b ∷ url) ≡ Some [] = sym is ∙ empty in cc same) (length n.specifiers == 0) _ _ refl
 
-    by_marker : (marker : Option (List ℕ)) → (line_parts l.text).marker ≡ marker → Some_is (IsAlone l) (invalid_in (with_marker l (line_parts l.text) n marker))
-    by_marker None is = by_url (λ empty. let same : None ≡ Some [] = sym is ∙ empty in cc same) (line_parts l.text).url refl
-    by_marker (Some []) is = inl refl
-    by_marker (Some (b ∷ marker)) is = by_url (λ empty. let same : Some (b ∷ marker) ≡ Some [] = sym is ∙ empty in cc same) (line_parts l.text).url refl
+    by_result : (t : List ℕ) (r : Result (List ℕ) Misfit) → (line_parts l.text).marker ≡ Some t → marker t ≡ r → Some_is (IsAlone l) (invalid_in (under_marker l (line_parts l.text) n r))
+    by_result t (Ok m) is read = by_url (Some m) (ap (option_map marker) is ∙ ap Some read) (line_parts l.text).url refl
+    by_result t (Err f) is read = inl refl
+
+    by_marker : (t : Option (List ℕ)) → (line_parts l.text).marker ≡ t → Some_is (IsAlone l) (invalid_in (with_marker l (line_parts l.text) n t))
+    by_marker None is = by_url None (ap (option_map marker) is) (line_parts l.text).url refl
+    by_marker (Some t) is = by_result t (marker t) is refl
 
   same_found : (x y : LineMeaning) → x ≡ y → Some_is (IsAlone l) (invalid_in y) → Some_is (IsAlone l) (invalid_in x)
   same_found x y is k = subst (λ (z : LineMeaning). Some_is (IsAlone l) (invalid_in z)) (sym is) k

@@ -1,5 +1,5 @@
 -- What is reported of a line by itself: it is a line of the files and no requirement, for this reason.
-use Rattle.std.proofs.Common.{◌≡◌, ◌==◌, ◌∙◌, ℕ, List, [], ◌∷◌, Bool, true, false, Option, Some, None, length, refl, sym, ap, subst, inl, inr, if◌then◌else◌}
+use Rattle.std.proofs.Common.{◌≡◌, ◌==◌, ◌∙◌, ℕ, List, [], ◌∷◌, Bool, true, false, Option, Some, None, Result, Ok, Err, length, option_map, refl, sym, ap, subst, inl, inr, if◌then◌else◌}
 use Rattle.std.proofs.lemmas.Bool.{true≢false}
 use Rattle.std.proofs.lemmas.List.Elements.{All-append, All-cons, All-head, All-nil, All-tail}
 use Rattle.std.specs.List.{All, AllZip, Contains, flat_map}
@@ -9,12 +9,13 @@ use Rattle.pep440_pick.specs.RequirementGrammar.{DerivesRequirement, Needed, Ref
 use Rattle.pyver_findings.specs.FileLines.{FileLine}
 use Rattle.pyver_findings.specs.FindingLaws.{IsRequirementLine, IsRight}
 use Rattle.pyver_findings.specs.Findings.{NoRequirement}
-use Rattle.pyver_findings.specs.LineMeanings.{IsNone, LeftOut, LineMeaning, NamesFile, IsKindMeaning, IsMeaning, has_scheme, names_file, not_utf8, refusal_meaning, requirement_meaning, invalid_line, with_marker, with_url}
+use Rattle.pyver_findings.specs.LineMeanings.{IsNone, LeftOut, LineMeaning, NamesFile, IsKindMeaning, IsMeaning, has_scheme, names_file, not_utf8, refusal_meaning, requirement_meaning, invalid_line, under_marker, with_marker, with_url}
 use Rattle.pyver_findings.specs.Reports.{invalid_in}
 use Rattle.pyver_findings.specs.declared.cause.Cause.TheVariants as cause
 use Rattle.pyver_requirements.specs.LineKinds.{ConstraintsFile, Editable, Invalid, LineKind, Location, PipOption, Requirement, RequirementsFile, Variable, has_variable, line_kind}
 use Rattle.pyver_requirements.specs.declared.line_fault.LineFault.{LineFault}
 use Rattle.pyver_requirements.specs.LineParts.{line_parts}
+use Rattle.pyver_requirements.specs.MarkerReading.{Misfit, marker}
 
 -- ---- why a line is no requirement
 
@@ -28,8 +29,9 @@ module _ (l : FileLine) where
   refused : (f : RequirementRefusal) → RefusesRequirement (line_parts l.text).requirement f → IsRequirementLine l → ⊥
   refused f r (kind, text, (m, e, (marker, url, either))) = not_both_requirement (line_parts l.text).requirement m f e r
 
-  no_marker : (line_parts l.text).marker ≡ Some [] → IsRequirementLine l → ⊥
-  no_marker is (kind, text, (m, e, (marker, url, either))) = marker is
+  no_marker : (t : List ℕ) (f : Misfit) → (line_parts l.text).marker ≡ Some t → marker t ≡ Err f → IsRequirementLine l → ⊥
+  no_marker t f is read (kind, text, (m, e, ((None, has), url, either))) = let same : Some (Err f) ≡ None = ap Some (sym read) ∙ ap (option_map marker) (sym is) ∙ has in cc same
+  no_marker t f is read (kind, text, (m, e, ((Some n, has), url, either))) = let same : Some (Err f) ≡ Some (Ok n) = ap Some (sym read) ∙ ap (option_map marker) (sym is) ∙ has in cc same
 
   no_url : (line_parts l.text).url ≡ Some [] → IsRequirementLine l → ⊥
   no_url is (kind, text, (m, e, (marker, url, either))) = url is
@@ -60,15 +62,19 @@ module _ (read : List FileLine) where
       of_specifiers true reason column some has means = All-nil (IsRight read)
       of_specifiers false reason column some has means = one_invalid reason column (before_the_url l n d some has) means
 
-      of_url : (url : Option (List ℕ)) → (line_parts l.text).url ≡ url → IsMeaning l (with_url l (line_parts l.text) n url) → All (IsRight read) (invalid_in (with_url l (line_parts l.text) n url))
-      of_url None is means = All-nil (IsRight read)
-      of_url (Some []) is means = one_invalid _ _ (no_url l is) means
-      of_url (Some (b ∷ url)) is means = of_specifiers (length n.specifiers == 0) _ _ refl (λ lacks. let same : None ≡ Some (b ∷ url) = sym lacks ∙ is in cc same) means
+      of_url : (m url : Option (List ℕ)) → (line_parts l.text).url ≡ url → IsMeaning l (with_url l (line_parts l.text) n m url) → All (IsRight read) (invalid_in (with_url l (line_parts l.text) n m url))
+      of_url m None is means = All-nil (IsRight read)
+      of_url m (Some []) is means = one_invalid _ _ (no_url l is) means
+      of_url m (Some (b ∷ url)) is means = of_specifiers (length n.specifiers == 0) _ _ refl (λ lacks. let same : None ≡ Some (b ∷ url) = sym lacks ∙ is in cc same) means
 
-      of_marker : (marker : Option (List ℕ)) → (line_parts l.text).marker ≡ marker → IsMeaning l (with_marker l (line_parts l.text) n marker) → All (IsRight read) (invalid_in (with_marker l (line_parts l.text) n marker))
-      of_marker None is means = of_url (line_parts l.text).url refl means
-      of_marker (Some []) is means = one_invalid _ _ (no_marker l is) means
-      of_marker (Some (b ∷ marker)) is means = of_url (line_parts l.text).url refl means
+      of_result : (t : List ℕ) (r : Result (List ℕ) Misfit) → (line_parts l.text).marker ≡ Some t → marker t ≡ r → IsMeaning l (under_marker l (line_parts l.text) n r)
+          → All (IsRight read) (invalid_in (under_marker l (line_parts l.text) n r))
+      of_result t (Ok m) is found means = of_url (Some m) (line_parts l.text).url refl means
+      of_result t (Err f) is found means = one_invalid _ _ (no_marker l t f is found) means
+
+      of_marker : (t : Option (List ℕ)) → (line_parts l.text).marker ≡ t → IsMeaning l (with_marker l (line_parts l.text) n t) → All (IsRight read) (invalid_in (with_marker l (line_parts l.text) n t))
+      of_marker None is means = of_url None (line_parts l.text).url refl means
+      of_marker (Some t) is means = of_result t (marker t) is refl means
 
     same_invalid : (x y : LineMeaning) → x ≡ y → IsMeaning l x → (IsMeaning l y → All (IsRight read) (invalid_in y)) → All (IsRight read) (invalid_in x)
     same_invalid x y is means k = subst (λ (z : LineMeaning). All (IsRight read) (invalid_in z)) (sym is) (k (subst (IsMeaning l) is means))

@@ -1,5 +1,5 @@
 -- Where a requirement is invalid: what stands from there on, and its column.
-use Rattle.std.specs.Prelude.{ℕ, ◌-◌, ◌==◌, ◌||◌, List, [], ◌∷◌, Bool, bytes_eq, codes, drop, length, if◌then◌else◌}
+use Rattle.std.specs.Prelude.{ℕ, ◌-◌, List, [], ◌∷◌, bytes_eq, codes, drop, length, if◌then◌else◌}
 use Rattle.std.specs.Char.{is_ascii_whitespace}
 use Rattle.std.specs.List.{list_any}
 use Rattle.std.specs.Option.{option_map_or}
@@ -8,6 +8,7 @@ use Rattle.pep440_pick.specs.RequirementGrammar.{InvalidExtras, RequirementRefus
 use Rattle.pep440_pick.specs.RequirementReading.{behind_name}
 use Rattle.pep440_version.specs.Reading.{lead, past}
 use Rattle.pyver_requirements.specs.LineParts.{behind_byte}
+use Rattle.pyver_requirements.specs.MarkerTokens.{is_operator_byte}
 
 -- what stands after the first `]`
 abbrev pub behind_bracket : List ℕ → List ℕ
@@ -29,10 +30,6 @@ in_parenthesis text = if opens 40 text then past is_ascii_whitespace (drop 1 tex
 abbrev pub from_list : List ℕ → List ℕ
 from_list text = in_parenthesis (behind_front text)
 
--- `<`, `=`, `>`, `!` and `~`
-abbrev pub is_operator_byte : ℕ → Bool
-is_operator_byte b = (b == 60) || ((b == 61) || ((b == 62) || ((b == 33) || (b == 126))))
-
 -- the operators
 abbrev pub operators : List (List ℕ)
 operators = codes "~=" ∷ (codes "==" ∷ (codes "!=" ∷ (codes "<=" ∷ (codes ">=" ∷ (codes "<" ∷ (codes ">" ∷ (codes "===" ∷ [])))))))
@@ -52,3 +49,11 @@ rest_at text _ = text
 -- the column of that position, in bytes from 0
 abbrev pub column : List ℕ → RequirementRefusal → ℕ
 column text f = length text - length (rest_at text f)
+
+-- the marker of a line, and what follows it
+abbrev pub from_marker : List ℕ → List ℕ
+from_marker text = past is_ascii_whitespace (option_map_or (λ rest. rest) (behind_byte 59 text) [])
+
+-- the column in the line of this position in its marker, in bytes from 0
+abbrev pub marker_column : List ℕ → ℕ → ℕ
+marker_column text position = length text - (length (from_marker text) - position)

@@ -15,7 +15,7 @@ use Rattle.pyver_findings.specs.declared.finding.Conflict.TheVariants.{NoVersion
 abbrev pub has_same_name : Demand → Demand → Bool
 has_same_name a b = bytes_eq a.name b.name
 
--- both markers are the same bytes, or there is neither
+-- both markers have the same normal form, or there is neither
 abbrev pub same_marker : Option (List ℕ) → Option (List ℕ) → Bool
 same_marker None None = true
 same_marker None (Some b) = false

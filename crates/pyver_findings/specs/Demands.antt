@@ -1,4 +1,4 @@
--- What a line asks for that is a requirement: a name in its normal form, under a marker, a pin or none, and its list.
+-- What a line asks for that is a requirement: a name and a marker, each in its normal form, a pin or none, and its list.
 use Rattle.std.specs.Prelude.{ℕ, List, Bool, true, false, Option}
 use Rattle.std.specs.List.{All, list_any}
 use Rattle.pep440_pick.specs.Names.{normal}

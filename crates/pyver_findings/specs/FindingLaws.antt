@@ -1,7 +1,7 @@
 -- What holds of findings: a line that is reported by itself is no requirement, and each that is none is reported; lines that are
 -- reported together count together and cannot be satisfied, and none of them can be left out; those that have no version in common are
 -- reported; there is one report.
-use Rattle.std.specs.Prelude.{◌≡◌, ◌⊎◌, ⊤, ℕ, List, [], ◌∷◌, ◌++◌, IsTrue, Option, Some, None, bytes_eq, map}
+use Rattle.std.specs.Prelude.{◌≡◌, ◌⊎◌, ⊤, ℕ, List, [], ◌∷◌, ◌++◌, IsTrue, Option, Some, None, Ok, bytes_eq, map, option_map}
 use Rattle.std.specs.List.{All, AllZip, Any, Contains, filter, flat_map}
 use Rattle.std.specs.Str.{IsUtf8}
 use Rattle.pep440_pick.specs.Names.{normal}
@@ -19,15 +19,20 @@ use Rattle.pyver_findings.specs.declared.finding.Conflict.{Conflict}
 use Rattle.pyver_findings.specs.declared.finding.Conflict.TheVariants.{NoVersion, PinOutside, TwoPins}
 use Rattle.pyver_requirements.specs.LineKinds.{Invalid, Requirement, line_kind}
 use Rattle.pyver_requirements.specs.LineParts.{LineParts, line_parts}
+use Rattle.pyver_requirements.specs.MarkerReading.{marker}
 use Rattle.pyver_requirements.specs.declared.line_fault.LineFault.{LineFault}
 
 -- the line is a requirement whose list contains the version
 abbrev pub LineAllows : Record → FileLine → Type 0
 LineAllows v l = (n : Needed) × DerivesRequirement (line_parts l.text).requirement n × IsTrue (list_matches n.specifiers v)
 
+-- after `;` this marker stands, in its normal form; or there is neither
+abbrev pub HasMarker : LineParts → Option (List ℕ) → Type 0
+HasMarker p m = option_map marker p.marker ≡ option_map Ok m
+
 -- a marker stands after `;`, and after `@` a URL, which has no list before it
 abbrev pub IsComplete : LineParts → Needed → Type 0
-IsComplete p n = (¬ (p.marker ≡ Some [])) × (¬ (p.url ≡ Some [])) × ((p.url ≡ None) ⊎ (n.specifiers ≡ []))
+IsComplete p n = ((m : Option (List ℕ)) × HasMarker p m) × (¬ (p.url ≡ Some [])) × ((p.url ≡ None) ⊎ (n.specifiers ≡ []))
 
 -- the line is a requirement
 abbrev pub IsRequirementLine : FileLine → Type 0
@@ -40,11 +45,11 @@ AsksFor name l = (n : Needed) × DerivesRequirement (line_parts l.text).requirem
 
 -- the line has no marker, or this one
 abbrev pub CountsUnder : Option (List ℕ) → FileLine → Type 0
-CountsUnder marker l = ((line_parts l.text).marker ≡ None) ⊎ ((line_parts l.text).marker ≡ marker)
+CountsUnder m l = HasMarker (line_parts l.text) None ⊎ HasMarker (line_parts l.text) m
 
 -- the lines ask for one name, and no two of them have different markers
 abbrev pub CountTogether : List FileLine → Type 0
-CountTogether together = (name : List ℕ) × (marker : Option (List ℕ)) × All (AsksFor name) together × All (CountsUnder marker) together
+CountTogether together = (name : List ℕ) × (m : Option (List ℕ)) × All (AsksFor name) together × All (CountsUnder m) together
 
 -- the line names a version, by `==` or `===`
 abbrev pub NamesVersion : FileLine → Type 0
@@ -104,8 +109,8 @@ HaveNone lines = (v : Record) → IsDenoted v → ¬ All (λ a. IsTrue (list_mat
 
 -- where the lines of a name that count under a marker have no version in common, some of these lines are reported together
 abbrev pub ConflictsHaveFindings : Type 0
-ConflictsHaveFindings = (files : List File) (r : Report) (lines : List Demand) (a : Demand) (marker : Option (List ℕ)) → IsReport files r → AreDemands files lines → Contains lines a
-    → HaveNone (under marker (filter (has_same_name a) lines)) → Any (IsAmong (map (λ (b : Demand). b.line) (under marker (filter (has_same_name a) lines)))) r.findings
+ConflictsHaveFindings = (files : List File) (r : Report) (lines : List Demand) (a : Demand) (m : Option (List ℕ)) → IsReport files r → AreDemands files lines → Contains lines a
+    → HaveNone (under m (filter (has_same_name a) lines)) → Any (IsAmong (map (λ (b : Demand). b.line) (under m (filter (has_same_name a) lines)))) r.findings
 
 -- a line has at most one meaning
 abbrev pub MeaningsOnce : Type 0

@@ -1,5 +1,5 @@
 -- What a line of a requirements file is to the check: a requirement, none, a line that is left out, or the name of another file.
-use Rattle.std.specs.Prelude.{◌≡◌, ◌⊎◌, ◌==◌, ◌||◌, ℕ, List, [], ◌∷◌, Bool, false, Option, Some, None, codes, length, nat_eq, if◌then◌else◌}
+use Rattle.std.specs.Prelude.{◌≡◌, ◌⊎◌, ◌==◌, ◌||◌, ℕ, List, [], ◌∷◌, Bool, false, Option, Some, None, Result, Ok, Err, codes, length, nat_eq, if◌then◌else◌}
 use Rattle.std.specs.List.{starts_with}
 use Rattle.std.specs.Str.{IsUtf8}
 use Rattle.pep440_pick.specs.RequirementGrammar.{DerivesRequirement, Needed, RefusesRequirement, RequirementRefusal, Specifiers}
@@ -7,10 +7,13 @@ use Rattle.pep440_pick.specs.RequirementTexts.{requirement_refusal_text}
 use Rattle.pep440_rs.specs.ErrorTexts.{specifier_refusal_text}
 use Rattle.pyver_requirements.specs.LineKinds.{ConstraintsFile, Editable, Invalid, LineKind, Location, PipOption, Requirement, RequirementsFile, Variable, has_variable, line_kind}
 use Rattle.pyver_requirements.specs.LineParts.{LineParts, line_parts}
+use Rattle.pyver_requirements.specs.MarkerReading.{Misfit, marker}
 use Rattle.pyver_requirements.specs.declared.line_fault.LineFault.{LineFault}
 use Rattle.pyver_requirements.specs.declared.line_fault.LineFault.TheVariants as fault
+use Rattle.pyver_requirements.specs.declared.marker_fault.MarkerFault.{MarkerFault}
+use Rattle.pyver_requirements.specs.declared.marker_fault.MarkerFault.TheVariants as marker_fault
 use Rattle.pyver_findings.specs.Demands.{Demand, line_demand}
-use Rattle.pyver_findings.specs.Columns.{column}
+use Rattle.pyver_findings.specs.Columns.{column, marker_column}
 use Rattle.pyver_findings.specs.FileLines.{FileLine}
 use Rattle.pyver_findings.specs.Findings.{Finding, NoRequirement}
 use Rattle.pyver_findings.specs.declared.cause.Cause.{Cause}
@@ -63,16 +66,30 @@ requirement_reason f = requirement_refusal_text f
 abbrev pub before_url : FileLine → ℕ → Needed → LineMeaning
 before_url line column n = if length n.specifiers == 0 then LeftOut cause.Url else IsNone (NoRequirement line (codes "version specifiers stand before a URL") column)
 
--- after `@` a URL stands; this is what the line is
-abbrev pub with_url : FileLine → LineParts → Needed → Option (List ℕ) → LineMeaning
-with_url line p n None = Asks (line_demand line p.marker n)
-with_url line p n (Some []) = IsNone (NoRequirement line (codes "no URL follows '@'") (length p.requirement))
-with_url line p n (Some (b ∷ url)) = before_url line (length p.requirement) n
+-- after `@` a URL stands; this is what the line is under this marker, or always
+abbrev pub with_url : FileLine → LineParts → Needed → Option (List ℕ) → Option (List ℕ) → LineMeaning
+with_url line p n m None = Asks (line_demand line m n)
+with_url line p n m (Some []) = IsNone (NoRequirement line (codes "no URL follows '@'") (length p.requirement))
+with_url line p n m (Some (b ∷ url)) = before_url line (length p.requirement) n
+
+abbrev pub marker_reason : MarkerFault → List ℕ
+marker_reason marker_fault.MissingOperand = codes "a variable or a string is expected"
+marker_reason marker_fault.UnclosedString = codes "the string has no closing quote"
+marker_reason marker_fault.MissingOperator = codes "an operator is expected"
+marker_reason marker_fault.NoVariable = codes "a variable is expected"
+marker_reason marker_fault.NoConnective = codes "'and' or 'or' is expected"
+marker_reason marker_fault.Unclosed = codes "')' is expected"
+marker_reason marker_fault.TooDeep = codes "more than 100 parentheses are open"
+
+-- what the line is whose marker was read so
+abbrev pub under_marker : FileLine → LineParts → Needed → Result (List ℕ) Misfit → LineMeaning
+under_marker line p n (Ok m) = with_url line p n (Some m) p.url
+under_marker line p n (Err f) = IsNone (NoRequirement line (marker_reason f.fault) (marker_column line.text f.position))
 
 -- after `;` a marker stands; this is what the line is
 abbrev pub with_marker : FileLine → LineParts → Needed → Option (List ℕ) → LineMeaning
-with_marker line p n (Some []) = IsNone (NoRequirement line (codes "no marker follows ';'") (length p.requirement))
-with_marker line p n _ = with_url line p n p.url
+with_marker line p n None = with_url line p n None p.url
+with_marker line p n (Some text) = under_marker line p n (marker text)
 
 -- what the line is whose part before `@` and `;` is this requirement
 abbrev pub requirement_meaning : FileLine → LineParts → Needed → LineMeaning

@@ -6,7 +6,8 @@ ghost use Rattle.pep440_pick.specs.Names.{is_name_byte};
 ghost use Rattle.pep440_pick.specs.RequirementReading.{behind_name};
 ghost use Rattle.pep440_pick.specs.Requirements.{requirement_refusal_of};
 ghost use Rattle.pep440_version.specs.Reading.{past};
-ghost use Rattle.pyver_findings.specs.Columns.{behind_operator, behind_bracket, behind_extras, behind_front, column, in_parenthesis, from_list, is_operator_byte, operators, rest_at};
+ghost use Rattle.pyver_findings.specs.Columns.{behind_operator, behind_bracket, behind_extras, behind_front, column, in_parenthesis, from_list, from_marker, marker_column, operators, rest_at};
+ghost use Rattle.pyver_requirements.specs.MarkerTokens.{is_operator_byte};
 ghost use Rattle.pep440_rs.specs.ListAnswers.{list_kind_of};
 ghost use Rattle.pep440_rs.specs.ListErrors.{list_refusal_of};
 
@@ -172,4 +173,26 @@ pub(crate) fn column(text: &[u8], error: &RequirementError) -> usize
     ensures { IfSome (requirement_refusal_of error.now) (λ f. result ≡ column text.now f) }
 {
     text.len().saturating_sub(rest_at(text, error).len())
+}
+
+fn count_before_marker(text: &[u8]) -> usize
+    ensures count { result ≡ prefix_len (λ x. not (x == 59)) text.now }
+    ensures inside { result ≤ length text.now }
+{
+    text.iter().take_while(|byte| **byte != b';').count()
+}
+
+// The marker of a line, and what follows it.
+fn from_marker(text: &[u8]) -> &[u8]
+    ensures { result.now ≡ from_marker text.now }
+{
+    skip_blanks(without_first(&text[count_before_marker(text)..]))
+}
+
+// The column in the line of this position in its marker, in bytes from 0.
+pub(crate) fn marker_column(text: &[u8], position: usize) -> usize
+    ensures { result ≡ marker_column text.now position }
+{
+    let left = from_marker(text).len().saturating_sub(position);
+    text.len().saturating_sub(left)
 }

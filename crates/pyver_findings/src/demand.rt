@@ -14,7 +14,7 @@ use std::alloc::{AllocError, Global};
 #[derive(Drop)]
 pub(crate) struct Demand {
     pub(crate) line: FileLine,
-    // In its normal form.
+    // In its normal form, as the marker.
     pub(crate) name: Vec<u8>,
     pub(crate) marker: Option<Vec<u8>>,
     // Whether some member of the list names one version.
@@ -36,28 +36,18 @@ fn is_pinned(members: &[VersionSpecifier]) -> bool
         .any(|member| is_pin_operator(*member.operator()))
 }
 
-fn copy_marker(alloc: Global, marker: Option<&[u8]>) -> Result<Option<Vec<u8>>, AllocError>
-    ensures { IfOk result (λ copy. option_map (λ m. m.items) copy ≡ option_map (λ m. m.now) marker.entry) }
-{
-    match marker {
-        Some(text) => Ok(Some(Vec::from_slice(alloc, text)?)),
-        None => Ok(None),
-    }
-}
-
 impl Demand {
     // What the line asks for under this marker.
     pub(crate) fn new(
         alloc: Global,
         line: &FileLine,
-        marker: Option<&[u8]>,
+        marker: Option<Vec<u8>>,
         requirement: &Requirement,
     ) -> Result<Demand, AllocError>
-        ensures { IfOk result (λ a. demand_of a ≡ line_demand (file_line_of line.now) (option_map (λ m. m.now) marker.entry) (needed requirement.now)) }
+        ensures { IfOk result (λ a. demand_of a ≡ line_demand (file_line_of line.now) (option_map (λ m. m.items) marker) (needed requirement.now)) }
     {
         let pinned = is_pinned(requirement.specifiers.as_slice());
         let name = normalize_name(alloc, requirement.name.as_str())?;
-        let marker = copy_marker(alloc, marker)?;
         Ok(Demand {
             line: line.clone()?,
             name,

@@ -7,7 +7,7 @@ ghost use Rattle.pyver_findings.specs.Views.{demand_of};
 use crate::demand::Demand;
 use std::alloc::{AllocError, Global};
 
-// Both markers are the same bytes, or there is neither.
+// Both markers have the same normal form, or there is neither.
 fn same_marker(one: &Option<Vec<u8>>, other: &Option<Vec<u8>>) -> bool
     ensures { result ≡ same_marker (option_map (λ m. m.items) one.now) (option_map (λ m. m.items) other.now) }
 {

@@ -1,25 +1,26 @@
 // Lines that are requirements, or should be.
-ghost use Rattle.std.specs.Prelude.{◌≡◌, Some, IfOk, IfSome, false, string_bytes};
+ghost use Rattle.std.specs.Prelude.{◌≡◌, Some, IfOk, IfSome, false, option_map, string_bytes};
 ghost use Rattle.pep440_pick.specs.RequirementGrammar.{RequirementRefusal};
 ghost use Rattle.pep440_pick.specs.Requirements.{IsRequirementLifted, needed, requirement_refusal_of};
 ghost use Rattle.pep440_pick.specs.RequirementTexts.{requirement_refusal_text, requirement_text_of};
 ghost use Rattle.pep440_rs.specs.ListAnswers.{list_kind_of};
 ghost use Rattle.pyver_findings.specs.Findings.{NoRequirement};
-ghost use Rattle.pyver_findings.specs.LineMeanings.{IsNone, IsPartsMeaning, before_url, requirement_meaning, refusal_meaning, with_url};
+ghost use Rattle.pyver_findings.specs.LineMeanings.{IsNone, IsPartsMeaning, before_url, marker_reason, requirement_meaning, refusal_meaning, under_marker, with_url};
 ghost use Rattle.pyver_findings.specs.ReadingViews.{is_memory_error, piece_text_of, reason_text_of};
 ghost use Rattle.pyver_findings.specs.Views.{file_line_of, line_meaning_of};
 ghost use Rattle.pyver_requirements.specs.LineParts.{line_parts};
 ghost use Rattle.pyver_requirements.specs.LinePartViews.{line_parts_of};
+ghost use Rattle.pyver_requirements.specs.MarkerReading.{marker};
 
 use crate::cause::Cause;
-use crate::column::column;
+use crate::column::{column, marker_column};
 use crate::demand::Demand;
 use crate::file_line::FileLine;
 use crate::finding::Finding;
 use crate::line_meaning::LineMeaning;
 use pep440_pick::{Requirement, RequirementError};
 use pep440_rs::{SpecifiersErrorKind, VersionSpecifiersParseError};
-use pyver_requirements::{LineParts, split_requirement};
+use pyver_requirements::{LineParts, MarkerError, MarkerFault, parse_marker, split_requirement};
 use std::alloc::{AllocError, Global};
 
 // The line is no requirement, for this reason.
@@ -87,25 +88,60 @@ fn interpret_before_url(
     reject(alloc, line, "version specifiers stand before a URL", column)
 }
 
-// What the line is, by what stands after `@`.
+// What the line is under this marker, by what stands after `@`.
 fn interpret_url(
     alloc: Global,
     line: &FileLine,
     parts: LineParts<'_>,
+    marker: Option<Vec<u8>>,
     requirement: &Requirement,
 ) -> Result<LineMeaning, AllocError>
-    ensures { IfOk result (λ x. line_meaning_of x ≡ with_url (file_line_of line.now) (line_parts_of parts.entry) (needed requirement.now) (line_parts_of parts.entry).url) }
+    ensures { IfOk result (λ x. line_meaning_of x ≡ with_url (file_line_of line.now) (line_parts_of parts.entry) (needed requirement.now) (option_map (λ m. m.items) marker) (line_parts_of parts.entry).url) }
 {
     let column = parts.requirement.len();
     match parts.url {
-        None => Ok(LineMeaning::Asks(Demand::new(alloc, line, parts.marker, requirement)?)),
+        None => Ok(LineMeaning::Asks(Demand::new(alloc, line, marker, requirement)?)),
         Some([]) => reject(alloc, line, "no URL follows '@'", column),
         Some([_, ..]) => interpret_before_url(alloc, line, column, requirement),
     }
 }
 
-// What the line is, by what stands after `;` and `@`.
+fn marker_reason(fault: MarkerFault) -> &'static str
+    ensures { result.now ≡ marker_reason fault }
+{
+    match fault {
+        MarkerFault::MissingOperand => "a variable or a string is expected",
+        MarkerFault::UnclosedString => "the string has no closing quote",
+        MarkerFault::MissingOperator => "an operator is expected",
+        MarkerFault::NoVariable => "a variable is expected",
+        MarkerFault::NoConnective => "'and' or 'or' is expected",
+        MarkerFault::Unclosed => "')' is expected",
+        MarkerFault::TooDeep => "more than 100 parentheses are open",
+    }
+}
+
+// What the line is, by the text of its marker.
 fn interpret_marker(
+    alloc: Global,
+    line: &FileLine,
+    parts: LineParts<'_>,
+    text: &[u8],
+    requirement: &Requirement,
+) -> Result<LineMeaning, AllocError>
+    ensures { IfOk result (λ x. line_meaning_of x ≡ under_marker (file_line_of line.now) (line_parts_of parts.entry) (needed requirement.now) (marker text.now)) }
+{
+    match parse_marker(alloc, text) {
+        Ok(marker) => interpret_url(alloc, line, parts, Some(marker), requirement),
+        Err(MarkerError::Invalid(fault, position)) => {
+            let column = marker_column(line.text.as_slice(), position);
+            reject(alloc, line, marker_reason(fault), column)
+        }
+        Err(MarkerError::OutOfMemory) => Err(AllocError),
+    }
+}
+
+// What the line is, by what stands after `;` and `@`.
+fn interpret_parts(
     alloc: Global,
     line: &FileLine,
     parts: LineParts<'_>,
@@ -114,13 +150,8 @@ fn interpret_marker(
     ensures { IfOk result (λ x. line_meaning_of x ≡ requirement_meaning (file_line_of line.now) (line_parts_of parts.entry) (needed requirement.now)) }
 {
     match parts.marker {
-        Some([]) => reject(
-            alloc,
-            line,
-            "no marker follows ';'",
-            parts.requirement.len(),
-        ),
-        _ => interpret_url(alloc, line, parts, requirement),
+        None => interpret_url(alloc, line, parts, None, requirement),
+        Some(text) => interpret_marker(alloc, line, parts, text, requirement),
     }
 }
 
@@ -135,7 +166,7 @@ fn parse_parts(
         return reject(alloc, line, "not UTF-8", 0);
     };
     match Requirement::from_str(alloc, text) {
-        Ok(requirement) => interpret_marker(alloc, line, parts, &requirement),
+        Ok(requirement) => interpret_parts(alloc, line, parts, &requirement),
         Err(error) => reject_error(alloc, line, parts, &error),
     }
 }

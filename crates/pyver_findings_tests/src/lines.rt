@@ -1,5 +1,8 @@
 //! The lines of a file, and what each is.
-use pyver_requirements::{LineFault, LineKind, classify, logical_lines, split_requirement};
+use pyver_requirements::{
+    LineFault, LineKind, MarkerError, MarkerFault, classify, logical_lines, parse_marker,
+    split_requirement,
+};
 use std::alloc::Global;
 use std::str;
 use testing::CaseError;
@@ -64,4 +67,28 @@ pub fn print_parts(alloc: Global, line: &str) -> Result<String, CaseError> {
     let url = or_none(parts.url)?;
     let marker = or_none(parts.marker)?;
     Ok(format!(in alloc; "{requirement}|{url}|{marker}")?)
+}
+
+fn marker_fault_word(fault: MarkerFault) -> &'static str {
+    match fault {
+        MarkerFault::MissingOperand => "no operand",
+        MarkerFault::UnclosedString => "unclosed string",
+        MarkerFault::MissingOperator => "no operator",
+        MarkerFault::NoVariable => "no variable",
+        MarkerFault::NoConnective => "no connective",
+        MarkerFault::Unclosed => "unclosed",
+        MarkerFault::TooDeep => "too deep",
+    }
+}
+
+/// The marker in its normal form, or the position and a word for its fault.
+pub fn print_marker(alloc: Global, marker: &str) -> Result<String, CaseError> {
+    match parse_marker(alloc, marker.as_bytes()) {
+        Ok(normal) => Ok(String::from_str(alloc, text(normal.as_slice())?)?),
+        Err(MarkerError::Invalid(fault, position)) => {
+            let word = marker_fault_word(fault);
+            Ok(format!(in alloc; "{position} {word}")?)
+        }
+        Err(MarkerError::OutOfMemory) => Err(CaseError::OutOfMemory),
+    }
 }

@@ -5,7 +5,7 @@
 mod lines;
 mod reports;
 
-use lines::{print_kind, print_lines, print_parts};
+use lines::{print_kind, print_lines, print_marker, print_parts};
 use reports::{
     Form, print_each, print_findings, print_named_files, print_report, print_report_of,
     print_spans, print_string,
@@ -34,6 +34,7 @@ impl Calls for FindingsCalls {
             ("lines", [text]) => print_lines(alloc, text.as_str()),
             ("kind", [line]) => print_kind(alloc, line.as_str()),
             ("parts", [line]) => print_parts(alloc, line.as_str()),
+            ("marker", [text]) => print_marker(alloc, text.as_str()),
             ("text", [name, text]) => print_report_of(
                 alloc,
                 name.as_str(),

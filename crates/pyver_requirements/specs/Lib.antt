@@ -7,3 +7,7 @@ pub mod LineKindViews
 pub mod LineParts
 pub mod LinePartViews
 pub mod ConflictMarks
+pub mod MarkerTokens
+pub mod MarkerTerms
+pub mod MarkerReading
+pub mod MarkerViews

@@ -1,4 +1,4 @@
-//! Requirements files, as pip reads them: their logical lines, and what each line is.
+//! Requirements files, as pip reads them: their logical lines, what each line is, and environment markers.
 #![tactic(auto)]
 
 mod comment;
@@ -6,6 +6,11 @@ mod line_fault;
 mod line_kind;
 mod line_parts;
 mod logical_line;
+mod marker_fault;
+mod marker_operator;
+mod marker_reading;
+mod marker_terms;
+mod marker_token;
 mod option_name;
 mod option_value;
 mod physical_line;
@@ -14,4 +19,6 @@ pub use line_fault::LineFault;
 pub use line_kind::{LineKind, classify, has_variable};
 pub use line_parts::{LineParts, split_requirement};
 pub use logical_line::{LogicalLine, logical_lines};
+pub use marker_fault::{MarkerError, MarkerFault};
+pub use marker_reading::parse_marker;
 pub use option_value::value_column;

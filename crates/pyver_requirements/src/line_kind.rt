@@ -34,7 +34,7 @@ pub enum LineKind<'a> {
     Requirement,
 }
 
-fn opens_with(text: &[u8], byte: u8) -> bool
+pub(crate) fn opens_with(text: &[u8], byte: u8) -> bool
     ensures { result ≡ opens byte text.now }
 {
     match text {

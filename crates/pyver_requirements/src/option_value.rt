@@ -8,7 +8,7 @@ use crate::comment::trim_blanks;
 use crate::line_parts::split_at_first;
 use crate::option_name::count_name_bytes;
 
-fn is_quote(byte: u8) -> bool
+pub(crate) fn is_quote(byte: u8) -> bool
     ensures { result ≡ is_quote byte }
 {
     byte == b'"' || byte == b'\''

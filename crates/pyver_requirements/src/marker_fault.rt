@@ -1,0 +1,49 @@
+// Why a string is no environment marker.
+ghost use Rattle.std.specs.Prelude.{◌≡◌};
+ghost use Rattle.pyver_requirements.specs.declared.marker_fault.MarkerError.TheVariants.{OutOfMemory};
+
+use std::alloc::{AllocError, AllocFailed};
+
+/// Why a string is no environment marker.
+#[derive(Clone, Copy, Debug, PartialEq, Eq)]
+pub enum MarkerFault {
+    /// A variable or a string is missing.
+    MissingOperand,
+    /// A string has no closing quote.
+    UnclosedString,
+    /// An operator is missing.
+    MissingOperator,
+    /// Both sides of a comparison are strings.
+    NoVariable,
+    /// Neither `and` nor `or` follows a comparison, nor a parenthesis that can close, nor the end.
+    NoConnective,
+    /// A parenthesis is not closed.
+    Unclosed,
+    /// More than 100 parentheses are open.
+    TooDeep,
+}
+
+/// Why a string is no environment marker, and from which byte on.
+#[derive(Clone, Copy, Debug, PartialEq, Eq)]
+pub enum MarkerError {
+    /// The string is none, and this is the position, in bytes from 0, from which on it is none.
+    Invalid(MarkerFault, usize),
+    /// Out of memory; the string may be a marker or not.
+    OutOfMemory,
+}
+
+impl From<AllocError> for MarkerError {
+    ghost from_gives = { λ _ error. error ≡ OutOfMemory };
+
+    fn from(_: AllocError) -> MarkerError {
+        MarkerError::OutOfMemory
+    }
+}
+
+impl<T: Drop> From<AllocFailed<T>> for MarkerError {
+    ghost from_gives = { λ _ error. error ≡ OutOfMemory };
+
+    fn from(_: AllocFailed<T>) -> MarkerError {
+        MarkerError::OutOfMemory
+    }
+}
