@@ -1,4 +1,4 @@
-// What a line asks for that is a requirement.
+//! What a line asks for that is a requirement.
 ghost use Rattle.std.specs.Prelude.{◌≡◌, IfOk, option_map};
 ghost use Rattle.pep440_pick.specs.Requirements.{needed};
 ghost use Rattle.pyver_findings.specs.Demands.{line_demand, is_pin_operator, is_pinned};
@@ -10,16 +10,41 @@ use pep440_pick::Requirement;
 use pep440_rs::{Operator, VersionSpecifier, VersionSpecifiers};
 use std::alloc::{AllocError, Global};
 
-// What a line asks for: versions of a package, under a marker or always.
+/// What a line asks for: versions of a package, under a marker or always.
 #[derive(Drop)]
-pub(crate) struct Demand {
-    pub(crate) line: FileLine,
-    // In its normal form.
-    pub(crate) name: Vec<u8>,
-    pub(crate) marker: Option<Vec<u8>>,
-    // Whether some member of the list names one version.
-    pub(crate) pinned: bool,
-    pub(crate) specifiers: VersionSpecifiers,
+pub struct Demand {
+    pub line: FileLine,
+    /// In its normal form.
+    pub name: Vec<u8>,
+    pub marker: Option<Vec<u8>>,
+    /// Whether some member of the list names one version.
+    pub pinned: bool,
+    pub specifiers: VersionSpecifiers,
+}
+
+impl Clone for Demand {
+    ghost use Rattle.pyver_findings.specs.Views.{demand_of};
+
+    ghost is_clone = { λ demand copy. demand_of copy ≡ demand_of demand };
+
+    fn clone(&self) -> Result<Demand, AllocError> {
+        Ok(Demand {
+            line: self.line.clone()?,
+            name: self.name.clone()?,
+            marker: clone_marker(&self.marker)?,
+            pinned: self.pinned,
+            specifiers: self.specifiers.clone()?,
+        })
+    }
+}
+
+fn clone_marker(marker: &Option<Vec<u8>>) -> Result<Option<Vec<u8>>, AllocError>
+    ensures { IfOk result (λ copy. option_map (λ m. m.items) copy ≡ option_map (λ m. m.items) marker.now) }
+{
+    match marker {
+        Some(text) => Ok(Some(text.clone()?)),
+        None => Ok(None),
+    }
 }
 
 fn is_pin_operator(operator: Operator) -> bool
