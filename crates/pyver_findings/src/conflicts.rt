@@ -1,4 +1,4 @@
-//! The names in requirements files, and what is wrong with the lines of each.
+// The names in requirements files, and what is wrong with the lines of each.
 ghost use Rattle.std.specs.Prelude.{◌≡◌, ◌∷◌, ◌++◌, [], IfOk, List, bytes_eq, map, ℕ, if◌then◌else◌};
 ghost use Rattle.std.specs.HashMap.{get_by};
 ghost use Rattle.std.specs.List.{All, filter};
@@ -67,11 +67,8 @@ fn push_group(
     }
 }
 
-/// Appends what is wrong with lines together: for each name, in the order in which names are first mentioned, a smallest list of lines
-/// that no version satisfies, as `find_problems` says. Fails if memory runs out; then only a part may have been appended.
-///
-/// Allocates.
-pub fn push_conflicts(
+// What is wrong with lines together.
+pub(crate) fn push_conflicts(
     alloc: Global,
     findings: &mut Vec<Finding>,
     lines: &[Demand],

@@ -22,31 +22,6 @@ pub struct Demand {
     pub specifiers: VersionSpecifiers,
 }
 
-impl Clone for Demand {
-    ghost use Rattle.pyver_findings.specs.Views.{demand_of};
-
-    ghost is_clone = { λ demand copy. demand_of copy ≡ demand_of demand };
-
-    fn clone(&self) -> Result<Demand, AllocError> {
-        Ok(Demand {
-            line: self.line.clone()?,
-            name: self.name.clone()?,
-            marker: clone_marker(&self.marker)?,
-            pinned: self.pinned,
-            specifiers: self.specifiers.clone()?,
-        })
-    }
-}
-
-fn clone_marker(marker: &Option<Vec<u8>>) -> Result<Option<Vec<u8>>, AllocError>
-    ensures { IfOk result (λ copy. option_map (λ m. m.items) copy ≡ option_map (λ m. m.items) marker.now) }
-{
-    match marker {
-        Some(text) => Ok(Some(text.clone()?)),
-        None => Ok(None),
-    }
-}
-
 fn is_pin_operator(operator: Operator) -> bool
     ensures { result ≡ is_pin_operator operator }
 {
