@@ -31,8 +31,8 @@ pub const VERSIONS: [(&str, HeldFile<'static>); 10] = [
     ("odd\u{7}", HeldFile::NotOpened(OpenFailure::Other)),
 ];
 
-/// Files of requirements.
-pub const REQUIREMENTS: [(&str, HeldFile<'static>); 9] = [
+/// Files of requirements and of a project.
+pub const REQUIREMENTS: [(&str, HeldFile<'static>); 11] = [
     (
         "a.txt",
         HeldFile::Text(b"a==1.0\n-r sub/b.txt\n-c ./c.txt\n"),
@@ -42,6 +42,16 @@ pub const REQUIREMENTS: [(&str, HeldFile<'static>); 9] = [
         HeldFile::Text(b"b>=2\n-r ../a.txt\n--requirement=b.txt\n"),
     ),
     ("c.txt", HeldFile::Text(b"\xEF\xBB\xBFb<1\r\na==1.0.0")),
+    (
+        "pyproject.toml",
+        HeldFile::Text(
+            b"[project]\ndependencies = [\n  'b>=2',\n  'a=1',\n]\n[tool.x]\ny = '''\n-r gone.txt\n'''\n",
+        ),
+    ),
+    (
+        "uv.lock",
+        HeldFile::Text(b"[[package]]\nname = 'B'\nversion = '1'\n"),
+    ),
     ("lost.txt", HeldFile::Text(b"a b\n-r gone.txt\n")),
     ("bytes.txt", HeldFile::Text(b"-r \xFF.txt\n")),
     ("utf16.txt", HeldFile::Text(b"\xFF\xFEa\0\n\0b\0")),

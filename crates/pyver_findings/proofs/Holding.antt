@@ -18,7 +18,7 @@ use Rattle.pyver_findings.specs.Conflicts.{conflict_kind, conflicts, counts_unde
 use Rattle.pyver_findings.specs.FileLines.{FileLine, all_lines}
 use Rattle.pyver_findings.specs.FindingLaws.{AreNeeded, AsksFor, CountsUnder, FindingsHold, FitsConflict, HasMarker, IsRight, LineAllows, NamesVersion}
 use Rattle.pyver_findings.specs.Findings.{Conflicting, Finding}
-use Rattle.pyver_findings.specs.LineMeanings.{IsNone, LeftOut, LineMeaning, NamesFile, IsKindMeaning, IsMeaning, requirement_meaning, has_scheme, names_file, under_marker, with_marker, with_url}
+use Rattle.pyver_findings.specs.LineMeanings.{IsNone, LeftOut, LineMeaning, AsksNothing, IsKindMeaning, IsMeaning, requirement_meaning, has_scheme, names_file, under_marker, with_marker, with_url}
 use Rattle.pyver_findings.proofs.Found.{marker_yes}
 use Rattle.pyver_findings.proofs.SmallestLists.{Allows, IsSpared, all_smallest, none_allowed, smallest_none, smallest_right}
 use Rattle.pyver_findings.proofs.Rejecting.{invalid_right}
@@ -88,7 +88,7 @@ IsAsked read a = Contains read a.line × IsDerived a × HasMarker (line_parts a.
 -- ---- what lines ask for
 
 module _ (read : List FileLine) where
-  of_file : (a b : Bool) → All (IsAsked read) (demands_in (if a then LeftOut cause.Variable else (if b then LeftOut cause.Url else NamesFile)))
+  of_file : (a b : Bool) → All (IsAsked read) (demands_in (if a then LeftOut cause.Variable else (if b then LeftOut cause.Url else AsksNothing)))
   of_file true b = All-nil (IsAsked read)
   of_file false true = All-nil (IsAsked read)
   of_file false false = All-nil (IsAsked read)

@@ -5,10 +5,20 @@ use Rattle.pep440_pick.proofs.Once.{not_both_requirement, one_refusal, one_requi
 use Rattle.pep440_pick.specs.RequirementGrammar.{Needed, RequirementRefusal}
 use Rattle.pyver_findings.specs.FileLines.{FileLine, all_lines}
 use Rattle.pyver_findings.specs.FindingLaws.{MeaningsOnce, ReportsOnce}
-use Rattle.pyver_findings.specs.LineMeanings.{IsKindMeaning, IsMeaning, LineMeaning, refusal_meaning, requirement_meaning}
+use Rattle.pyver_findings.specs.LineMeanings.{IsKindMeaning, IsMeaning, IsPartsMeaning, LineMeaning, refusal_meaning, requirement_meaning}
 use Rattle.pyver_findings.specs.Reports.{found_in, left_out_in}
 use Rattle.pyver_requirements.specs.LineKinds.{ConstraintsFile, Editable, Invalid, LineKind, Location, PipOption, Requirement, RequirementsFile, Variable, line_kind}
-use Rattle.pyver_requirements.specs.LineParts.{line_parts}
+use Rattle.pyver_requirements.specs.LineParts.{LineParts, line_parts}
+
+-- a requirement, or what is to be one, has one meaning
+pub one_parts : (l : FileLine) (p : LineParts) (x y : LineMeaning) → IsPartsMeaning l p x → IsPartsMeaning l p y → x ≡ y
+one_parts l p x y (inl (none, a)) (inl (again, b)) = a ∙ sym b
+one_parts l p x y (inl (none, a)) (inr (text, b)) = absurd (none text)
+one_parts l p x y (inr (text, a)) (inl (none, b)) = absurd (none text)
+one_parts l p x y (inr (text, inl (n, d, a))) (inr (again, inl (m, e, b))) = a ∙ ap (λ (q : Needed). requirement_meaning l p q) (one_requirement p.requirement n m d e) ∙ sym b
+one_parts l p x y (inr (text, inl (n, d, a))) (inr (again, inr (f, r, b))) = absurd (not_both_requirement p.requirement n f d r)
+one_parts l p x y (inr (text, inr (f, r, a))) (inr (again, inl (n, d, b))) = absurd (not_both_requirement p.requirement n f d r)
+one_parts l p x y (inr (text, inr (f, r, a))) (inr (again, inr (g, s, b))) = a ∙ ap (λ (h : RequirementRefusal). refusal_meaning l p h) (one_refusal p.requirement f g r s) ∙ sym b
 
 of_kind : (l : FileLine) (kind : LineKind) (x y : LineMeaning) → IsKindMeaning l kind x → IsKindMeaning l kind y → x ≡ y
 of_kind l (RequirementsFile path) x y a b = a ∙ sym b
@@ -18,15 +28,7 @@ of_kind l Editable x y a b = a ∙ sym b
 of_kind l PipOption x y a b = a ∙ sym b
 of_kind l Variable x y a b = a ∙ sym b
 of_kind l Location x y a b = a ∙ sym b
-of_kind l Requirement x y (inl (none, a)) (inl (again, b)) = a ∙ sym b
-of_kind l Requirement x y (inl (none, a)) (inr (text, b)) = absurd (none text)
-of_kind l Requirement x y (inr (text, a)) (inl (none, b)) = absurd (none text)
-of_kind l Requirement x y (inr (text, inl (n, d, a))) (inr (again, inl (m, e, b))) =
-    a ∙ ap (λ (q : Needed). requirement_meaning l (line_parts l.text) q) (one_requirement (line_parts l.text).requirement n m d e) ∙ sym b
-of_kind l Requirement x y (inr (text, inl (n, d, a))) (inr (again, inr (f, r, b))) = absurd (not_both_requirement (line_parts l.text).requirement n f d r)
-of_kind l Requirement x y (inr (text, inr (f, r, a))) (inr (again, inl (n, d, b))) = absurd (not_both_requirement (line_parts l.text).requirement n f d r)
-of_kind l Requirement x y (inr (text, inr (f, r, a))) (inr (again, inr (g, s, b))) =
-    a ∙ ap (λ (h : RequirementRefusal). refusal_meaning l (line_parts l.text) h) (one_refusal (line_parts l.text).requirement f g r s) ∙ sym b
+of_kind l Requirement x y a b = one_parts l (line_parts l.text) x y a b
 
 pub meanings_once : MeaningsOnce
 meanings_once l x y a b = of_kind l (line_kind l.text) x y a b

@@ -1,5 +1,6 @@
 -- The reasons of errors of requirements.
-use Rattle.std.proofs.Common.{◌≡◌, ◌∙◌, ℕ, List, ◌++◌, true, false, Option, Some, None, IfOk, IfSome, Result, codes, inr, option_map, refl, sym, ap, subst}
+use Rattle.std.proofs.Common.{◌≡◌, ◌∙◌, ℕ, List, ◌++◌, true, false, Option, Some, None, IfOk, IfSome, Result, codes, inr, is_none, option_map, refl, sym, ap, subst}
+use Rattle.std.proofs.lemmas.Bool.{true≢false}
 use Rattle.std.proofs.lemmas.List.{append_cancel_left, append_cancel_right}
 use Rattle.pep440_pick.specs.RequirementGrammar.{InvalidExtras, InvalidName, Marker, RefusesRequirement, RequirementRefusal, Specifiers, Unclosed, Url}
 use Rattle.pep440_pick.specs.RequirementTexts.{requirement_refusal_text, requirement_text_of}
@@ -8,15 +9,17 @@ use Rattle.pep440_pick.specs.declared.error.RequirementError.{RequirementError}
 use Rattle.pep440_pick.specs.declared.error.RequirementError.TheVariants as error
 use Rattle.pep440_rs.specs.ErrorTexts.{specifier_error_text, specifier_refusal_text}
 use Rattle.pep440_rs.specs.Errors.{parse_kind_of, specifier_refusal_of}
-use Rattle.pep440_rs.specs.ListAnswers.{line_of, list_kind_of}
-use Rattle.pep440_rs.specs.ListErrorTexts.{caret_line, list_text_of, piece_text}
+use Rattle.pep440_rs.specs.ListAnswers.{line_for, line_of, list_kind_of}
+use Rattle.pep440_rs.specs.ListErrorTexts.{caret_line, list_refusal_text, list_text_of, piece_text}
 use Rattle.pep440_rs.specs.ListErrors.{list_refusal_of}
-use Rattle.pep440_rs.specs.ListGrammar.{PieceRefusal}
+use Rattle.pep440_rs.specs.ListGrammar.{PieceRefusal, RefusesList}
 use Rattle.pep440_rs.specs.SpecifierGrammar.{SpecifierRefusal}
 use Rattle.pep440_rs.specs.declared.list.error.SpecifiersErrorKind.{SpecifiersErrorKind}
 use Rattle.pep440_rs.specs.declared.list.error.SpecifiersErrorKind.TheVariants as list
 use Rattle.pyver_findings.specs.FileLines.{FileLine}
-use Rattle.pyver_findings.specs.LineMeanings.{IsPartsMeaning, refusal_meaning, requirement_reason}
+use Rattle.pyver_findings.specs.Columns.{list_column}
+use Rattle.pyver_findings.specs.Findings.{NoRequirement}
+use Rattle.pyver_findings.specs.LineMeanings.{IsListMeaning, IsNone, IsPartsMeaning, refusal_meaning, requirement_reason}
 use Rattle.pyver_findings.specs.ReadingViews.{is_memory_error, piece_text_of, reason_text_of}
 use Rattle.pyver_findings.specs.Views.{line_meaning_of}
 use Rattle.pyver_findings.specs.declared.line_meaning.LineMeaning.{LineMeaning}
@@ -49,6 +52,25 @@ of_list : (kind : SpecifiersErrorKind) (line s : List ℕ) (f : RequirementRefus
     → IfSome (piece_text_of kind) (λ u. s ≡ u) → s ≡ requirement_reason f
 of_list (list.Piece error start stop) line s f is text so = of_piece (specifier_refusal_of (parse_kind_of error)) line s start stop f is text so
 of_list list.OutOfMemory line s f is text so = cc is
+
+-- the reason of a list that is printed is that of the refusal
+pub list_reason_is : (kind : SpecifiersErrorKind) (line text s : List ℕ) (f : PieceRefusal) → line ≡ line_for text kind → list_refusal_of kind ≡ Some f → list_text_of kind line ≡ Some (list_refusal_text f text)
+    → IfSome (piece_text_of kind) (λ u. s ≡ u) → s ≡ specifier_refusal_text f.error
+list_reason_is (list.Piece error start stop) line text s f same is told so =
+    of_list (list.Piece error start stop) line s (Specifiers line f) (ap (option_map (λ (g : PieceRefusal). Specifiers line g)) is) (told ∙ ap (λ t. Some (list_refusal_text f t)) (sym same)) so
+list_reason_is list.OutOfMemory line text s f same is told so = cc is
+
+-- a list that is no want of memory has a refusal
+pub list_refusal : (o : Option PieceRefusal) → is_none o ≡ false → (f : PieceRefusal) × (o ≡ Some f)
+list_refusal None e = absurd (true≢false e)
+list_refusal (Some f) e = (f, refl)
+
+-- a string is no list for its reason
+pub list_read : (result : Result LineMeaning AllocError) (l : FileLine) (text : List ℕ) (o : Option PieceRefusal) → IfSome o (RefusesList text)
+    → IfOk result (λ x. (f : PieceRefusal) × (o ≡ Some f) × (line_meaning_of x ≡ IsNone (NoRequirement l (specifier_refusal_text f.error) (list_column text f)))) → IfOk result (λ x. IsListMeaning l text (line_meaning_of x))
+list_read result l text o refuses =
+    IfOk-weaker result (λ x. (f : PieceRefusal) × (o ≡ Some f) × (line_meaning_of x ≡ IsNone (NoRequirement l (specifier_refusal_text f.error) (list_column text f)))) (λ x. IsListMeaning l text (line_meaning_of x))
+    (λ x (f, some, is). inr (f, subst (λ (p : Option PieceRefusal). IfSome p (RefusesList text)) some refuses, is))
 
 -- the reason that is printed is that of the refusal
 pub reason_is : (e : RequirementError) (f : RequirementRefusal) (s : List ℕ) → requirement_refusal_of e ≡ Some f → requirement_text_of e ≡ Some (requirement_refusal_text f) → IfSome (reason_text_of e) (λ u. s ≡ u) → s ≡ requirement_reason f

@@ -9,7 +9,7 @@ use Rattle.pep440_pick.specs.RequirementGrammar.{DerivesRequirement, Needed, Ref
 use Rattle.pyver_findings.specs.FileLines.{FileLine}
 use Rattle.pyver_findings.specs.FindingLaws.{IsRequirementLine, IsRight}
 use Rattle.pyver_findings.specs.Findings.{NoRequirement}
-use Rattle.pyver_findings.specs.LineMeanings.{IsNone, LeftOut, LineMeaning, NamesFile, IsKindMeaning, IsMeaning, has_scheme, names_file, not_utf8, refusal_meaning, requirement_meaning, invalid_line, under_marker, with_marker, with_url}
+use Rattle.pyver_findings.specs.LineMeanings.{IsNone, LeftOut, LineMeaning, AsksNothing, IsKindMeaning, IsMeaning, has_scheme, names_file, not_utf8, refusal_meaning, requirement_meaning, invalid_line, under_marker, with_marker, with_url}
 use Rattle.pyver_findings.specs.Reports.{invalid_in}
 use Rattle.pyver_findings.specs.declared.cause.Cause.TheVariants as cause
 use Rattle.pyver_requirements.specs.LineKinds.{ConstraintsFile, Editable, Invalid, LineKind, Location, PipOption, Requirement, RequirementsFile, Variable, has_variable, line_kind}
@@ -50,7 +50,7 @@ module _ (read : List FileLine) where
     one_invalid : (reason : List ℕ) (column : ℕ) → (IsRequirementLine l → ⊥) → IsMeaning l (IsNone (NoRequirement l reason column)) → All (IsRight read) (invalid_in (IsNone (NoRequirement l reason column)))
     one_invalid reason column none means = All-cons (IsRight read) (NoRequirement l reason column) [] (known, none, means) (All-nil (IsRight read))
 
-    of_file : (a b : Bool) → All (IsRight read) (invalid_in (if a then LeftOut cause.Variable else (if b then LeftOut cause.Url else NamesFile)))
+    of_file : (a b : Bool) → All (IsRight read) (invalid_in (if a then LeftOut cause.Variable else (if b then LeftOut cause.Url else AsksNothing)))
     of_file true b = All-nil (IsRight read)
     of_file false true = All-nil (IsRight read)
     of_file false false = All-nil (IsRight read)

@@ -4,6 +4,7 @@ use Rattle.std.specs.Char.{is_ascii_whitespace}
 use Rattle.std.specs.List.{list_any}
 use Rattle.std.specs.Option.{option_map_or}
 use Rattle.pep440_rs.specs.Blanks.{opens}
+use Rattle.pep440_rs.specs.ListGrammar.{PieceRefusal}
 use Rattle.pep440_pick.specs.RequirementGrammar.{InvalidExtras, RequirementRefusal, Specifiers, Unclosed}
 use Rattle.pep440_pick.specs.RequirementReading.{behind_name}
 use Rattle.pep440_version.specs.Reading.{lead, past}
@@ -38,12 +39,20 @@ operators = codes "~=" ∷ (codes "==" ∷ (codes "!=" ∷ (codes "<=" ∷ (code
 abbrev pub behind_operator : List ℕ → List ℕ
 behind_operator text = if list_any (bytes_eq (lead is_operator_byte text)) operators then past is_ascii_whitespace (past is_operator_byte text) else text
 
+-- what stands from the position on at which the list is invalid: the invalid specifier behind its operator
+abbrev pub rest_in_list : List ℕ → PieceRefusal → List ℕ
+rest_in_list text f = behind_operator (past is_ascii_whitespace (drop f.start text))
+
+-- the column of that position, in bytes from 0
+abbrev pub list_column : List ℕ → PieceRefusal → ℕ
+list_column text f = length text - length (rest_in_list text f)
+
 -- what stands from the position on at which the requirement is invalid: the extras, the parenthesis, or the invalid specifier behind its
 -- operator
 abbrev pub rest_at : List ℕ → RequirementRefusal → List ℕ
 rest_at text InvalidExtras = behind_name text
 rest_at text Unclosed = behind_front text
-rest_at text (Specifiers list f) = behind_operator (past is_ascii_whitespace (drop f.start (from_list text)))
+rest_at text (Specifiers list f) = rest_in_list (from_list text) f
 rest_at text _ = text
 
 -- the column of that position, in bytes from 0

@@ -1,10 +1,12 @@
--- What a line of a requirements file is to the check: a requirement, none, a line that is left out, or the name of another file.
+-- What a line of a requirements file is to the check: a requirement, none, a line that is left out, or one that asks for no package.
 use Rattle.std.specs.Prelude.{◌≡◌, ◌⊎◌, ◌==◌, ◌||◌, ℕ, List, [], ◌∷◌, Bool, false, Option, Some, None, Result, Ok, Err, codes, length, nat_eq, if◌then◌else◌}
 use Rattle.std.specs.List.{starts_with}
 use Rattle.std.specs.Str.{IsUtf8}
 use Rattle.pep440_pick.specs.RequirementGrammar.{DerivesRequirement, Needed, RefusesRequirement, RequirementRefusal, Specifiers}
 use Rattle.pep440_pick.specs.RequirementTexts.{requirement_refusal_text}
 use Rattle.pep440_rs.specs.ErrorTexts.{specifier_refusal_text}
+use Rattle.pep440_rs.specs.ListGrammar.{DerivesList, PieceRefusal, RefusesList}
+use Rattle.pep440_rs.specs.Specifiers.{Spec}
 use Rattle.pyver_requirements.specs.LineKinds.{ConstraintsFile, Editable, Invalid, LineKind, Location, PipOption, Requirement, RequirementsFile, Variable, has_variable, line_kind}
 use Rattle.pyver_requirements.specs.LineParts.{LineParts, line_parts}
 use Rattle.pyver_requirements.specs.MarkerReading.{Misfit, marker}
@@ -13,18 +15,18 @@ use Rattle.pyver_requirements.specs.declared.line_fault.LineFault.TheVariants as
 use Rattle.pyver_requirements.specs.declared.marker_fault.MarkerFault.{MarkerFault}
 use Rattle.pyver_requirements.specs.declared.marker_fault.MarkerFault.TheVariants as marker_fault
 use Rattle.pyver_findings.specs.Demands.{Demand, line_demand}
-use Rattle.pyver_findings.specs.Columns.{column, marker_column}
+use Rattle.pyver_findings.specs.Columns.{column, marker_column, list_column}
 use Rattle.pyver_findings.specs.FileLines.{FileLine}
 use Rattle.pyver_findings.specs.Findings.{Finding, NoRequirement}
 use Rattle.pyver_findings.specs.declared.cause.Cause.{Cause}
 use Rattle.pyver_findings.specs.declared.cause.Cause.TheVariants as cause
 
--- a requirement; a line that is none; a line that is left out, and why; the name of another file
+-- a requirement; a line that is none; a line that is left out, and why; a line that asks for no package, as the name of another file
 pub data LineMeaning : Type 0 where
   Asks : Demand → LineMeaning
   IsNone : Finding → LineMeaning
   LeftOut : Cause → LineMeaning
-  NamesFile : LineMeaning
+  AsksNothing : LineMeaning
 
 -- ---- another file
 
@@ -35,7 +37,7 @@ has_scheme (b ∷ rest) = starts_with nat_eq (b ∷ rest) (codes "://") || has_s
 
 -- the line that names this file
 abbrev pub names_file : List ℕ → LineMeaning
-names_file path = if has_variable path then LeftOut cause.Variable else (if has_scheme path then LeftOut cause.Url else NamesFile)
+names_file path = if has_variable path then LeftOut cause.Variable else (if has_scheme path then LeftOut cause.Url else AsksNothing)
 
 -- ---- neither a requirement nor an option
 
@@ -108,6 +110,13 @@ abbrev pub IsPartsMeaning : FileLine → LineParts → LineMeaning → Type 0
 IsPartsMeaning line p x = ((¬ IsUtf8 p.requirement) × (x ≡ not_utf8 line))
     ⊎ (IsUtf8 p.requirement × (((n : Needed) × DerivesRequirement p.requirement n × (x ≡ requirement_meaning line p n))
     ⊎ ((f : RequirementRefusal) × RefusesRequirement p.requirement f × (x ≡ refusal_meaning line p f))))
+
+-- ---- a list
+
+-- what a string of this line is that is to be a list of specifiers
+abbrev pub IsListMeaning : FileLine → List ℕ → LineMeaning → Type 0
+IsListMeaning line text x = ((list : List Spec) × DerivesList text list × (x ≡ AsksNothing))
+    ⊎ ((f : PieceRefusal) × RefusesList text f × (x ≡ IsNone (NoRequirement line (specifier_refusal_text f.error) (list_column text f))))
 
 -- ---- all lines
 

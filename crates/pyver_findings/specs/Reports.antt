@@ -5,7 +5,7 @@ use Rattle.pyver_findings.specs.Demands.{Demand}
 use Rattle.pyver_findings.specs.Conflicts.{conflicts}
 use Rattle.pyver_findings.specs.FileLines.{File, FileLine, all_lines}
 use Rattle.pyver_findings.specs.Findings.{Conflicting, Finding, NoRequirement}
-use Rattle.pyver_findings.specs.LineMeanings.{Asks, IsNone, LeftOut, LineMeaning, NamesFile, IsMeaning}
+use Rattle.pyver_findings.specs.LineMeanings.{Asks, IsNone, LeftOut, LineMeaning, AsksNothing, IsMeaning}
 use Rattle.pyver_findings.specs.declared.cause.Cause.{Cause}
 
 -- the findings, the number of lines and of files, and for each line that was left out why
@@ -20,21 +20,21 @@ abbrev pub demands_in : LineMeaning → List Demand
 demands_in (Asks a) = a ∷ []
 demands_in (IsNone f) = []
 demands_in (LeftOut c) = []
-demands_in NamesFile = []
+demands_in AsksNothing = []
 
 -- the finding of a line that is no requirement
 abbrev pub invalid_in : LineMeaning → List Finding
 invalid_in (Asks a) = []
 invalid_in (IsNone f) = f ∷ []
 invalid_in (LeftOut c) = []
-invalid_in NamesFile = []
+invalid_in AsksNothing = []
 
 -- why a line is left out
 abbrev pub left_out_in : LineMeaning → List Cause
 left_out_in (Asks a) = []
 left_out_in (IsNone f) = []
 left_out_in (LeftOut c) = c ∷ []
-left_out_in NamesFile = []
+left_out_in AsksNothing = []
 
 -- the findings of lines that are read so: first those that are no requirements, in order
 abbrev pub found_in : List LineMeaning → List Finding

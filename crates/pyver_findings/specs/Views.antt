@@ -3,7 +3,7 @@ use Rattle.std.specs.Prelude.{map, option_map, string_bytes}
 use Rattle.pyver_findings.specs.Demands.{Demand}
 use Rattle.pyver_findings.specs.FileLines.{File, FileLine}
 use Rattle.pyver_findings.specs.Findings.{Conflicting, Finding, NoRequirement}
-use Rattle.pyver_findings.specs.LineMeanings.{Asks, IsNone, LeftOut, LineMeaning, NamesFile}
+use Rattle.pyver_findings.specs.LineMeanings.{Asks, IsNone, LeftOut, LineMeaning, AsksNothing}
 use Rattle.pyver_findings.specs.NamedFiles.{NamedFile, Position}
 use Rattle.pyver_findings.specs.Reports.{Report}
 use Rattle.pyver_findings.specs.declared.demand.Demand.{Demand as DemandValue}
@@ -40,7 +40,7 @@ abbrev pub line_meaning_of : LineMeaningValue → LineMeaning
 line_meaning_of (reading.Asks a) = Asks (demand_of a)
 line_meaning_of (reading.IsNone f) = IsNone (finding_of f)
 line_meaning_of (reading.LeftOut c) = LeftOut c
-line_meaning_of reading.NamesFile = NamesFile
+line_meaning_of reading.AsksNothing = AsksNothing
 
 abbrev pub report_of : ReportValue → Report
 report_of r = record { findings = map finding_of r.findings.items; lines = r.lines; files = r.files; left_out = r.left_out.items }

@@ -6,7 +6,7 @@ ghost use Rattle.pep440_pick.specs.Names.{is_name_byte};
 ghost use Rattle.pep440_pick.specs.RequirementReading.{behind_name};
 ghost use Rattle.pep440_pick.specs.Requirements.{requirement_refusal_of};
 ghost use Rattle.pep440_version.specs.Reading.{past};
-ghost use Rattle.pyver_findings.specs.Columns.{behind_operator, behind_bracket, behind_extras, behind_front, column, in_parenthesis, from_list, from_marker, marker_column, operators, rest_at};
+ghost use Rattle.pyver_findings.specs.Columns.{behind_operator, behind_bracket, behind_extras, behind_front, column, in_parenthesis, from_list, from_marker, marker_column, operators, rest_at, list_column, rest_in_list};
 ghost use Rattle.pyver_requirements.specs.MarkerTokens.{is_operator_byte};
 ghost use Rattle.pep440_rs.specs.ListAnswers.{list_kind_of};
 ghost use Rattle.pep440_rs.specs.ListErrors.{list_refusal_of};
@@ -154,6 +154,20 @@ fn piece_start(error: &VersionSpecifiersParseError) -> usize
     }
 }
 
+// What stands from the position on at which the list is invalid.
+fn rest_in_list<'a>(text: &'a [u8], error: &VersionSpecifiersParseError) -> &'a [u8]
+    ensures { IfSome (list_refusal_of (list_kind_of error.now)) (λ f. result.now ≡ rest_in_list text.now f) }
+{
+    behind_operator(skip_blanks(skip_bytes(text, piece_start(error))))
+}
+
+// The column of that position, in bytes from 0.
+pub(crate) fn list_column(text: &[u8], error: &VersionSpecifiersParseError) -> usize
+    ensures { IfSome (list_refusal_of (list_kind_of error.now)) (λ f. result ≡ list_column text.now f) }
+{
+    text.len().saturating_sub(rest_in_list(text, error).len())
+}
+
 // What stands from the position on at which the requirement is invalid.
 fn rest_at<'a>(text: &'a [u8], error: &RequirementError) -> &'a [u8]
     ensures { IfSome (requirement_refusal_of error.now) (λ f. result.now ≡ rest_at text.now f) }
@@ -161,9 +175,7 @@ fn rest_at<'a>(text: &'a [u8], error: &RequirementError) -> &'a [u8]
     match error {
         RequirementError::InvalidExtras => behind_name(text),
         RequirementError::Unclosed => behind_front(text),
-        RequirementError::Specifiers(error) => {
-            behind_operator(skip_blanks(skip_bytes(from_list(text), piece_start(error))))
-        }
+        RequirementError::Specifiers(error) => rest_in_list(from_list(text), error),
         _ => text,
     }
 }

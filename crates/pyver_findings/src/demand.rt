@@ -1,4 +1,4 @@
-// What a line asks for that is a requirement.
+//! What a line asks for that is a requirement.
 ghost use Rattle.std.specs.Prelude.{◌≡◌, IfOk, option_map};
 ghost use Rattle.pep440_pick.specs.Requirements.{needed};
 ghost use Rattle.pyver_findings.specs.Demands.{line_demand, is_pin_operator, is_pinned};
@@ -10,16 +10,16 @@ use pep440_pick::Requirement;
 use pep440_rs::{Operator, VersionSpecifier, VersionSpecifiers};
 use std::alloc::{AllocError, Global};
 
-// What a line asks for: versions of a package, under a marker or always.
+/// What a line asks for: versions of a package, under a marker or always.
 #[derive(Drop)]
-pub(crate) struct Demand {
-    pub(crate) line: FileLine,
-    // In its normal form, as the marker.
-    pub(crate) name: Vec<u8>,
-    pub(crate) marker: Option<Vec<u8>>,
-    // Whether some member of the list names one version.
-    pub(crate) pinned: bool,
-    pub(crate) specifiers: VersionSpecifiers,
+pub struct Demand {
+    pub line: FileLine,
+    /// In its normal form, as the marker.
+    pub name: Vec<u8>,
+    pub marker: Option<Vec<u8>>,
+    /// Whether some member of the list names one version.
+    pub pinned: bool,
+    pub specifiers: VersionSpecifiers,
 }
 
 fn is_pin_operator(operator: Operator) -> bool

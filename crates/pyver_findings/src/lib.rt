@@ -22,9 +22,13 @@ mod requirement_line;
 mod smallest;
 
 pub use cause::Cause;
+pub use demand::Demand;
 pub use escape::{push_escaped, push_escaped_lines};
 pub use file_line::{FileLine, SourceFile};
 pub use finding::{Conflict, Finding};
 pub use json_string::push_json_string;
+pub use line_meaning::LineMeaning;
 pub use named_files::{NamedFile, Position, push_named_files};
+pub use normal_name::normalize_name;
 pub use report::{Report, find_problems};
+pub use requirement_line::{parse_requirement, parse_specifiers};

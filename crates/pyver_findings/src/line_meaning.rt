@@ -12,17 +12,17 @@ use crate::requirement_line::{parse_requirement, reject};
 use pyver_requirements::{LineFault, LineKind, classify, has_variable};
 use std::alloc::{AllocError, Global};
 
-// What a line is.
+/// What a line of a requirements file or a string of a document is to the check.
 #[derive(Drop)]
-pub(crate) enum LineMeaning {
-    // A requirement.
+pub enum LineMeaning {
+    /// A requirement.
     Asks(Demand),
-    // None.
+    /// Not what it is to be.
     IsNone(Finding),
-    // It is left out.
+    /// It is left out.
     LeftOut(Cause),
-    // It names another file.
-    NamesFile,
+    /// It asks for no package: the name of another file, or a string that is no requirement and need not be one.
+    AsksNothing,
 }
 
 // `://` stands somewhere in the text.
@@ -47,7 +47,7 @@ fn name_file(path: &[u8]) -> LineMeaning
     } else if has_scheme(path) {
         LineMeaning::LeftOut(Cause::Url)
     } else {
-        LineMeaning::NamesFile
+        LineMeaning::AsksNothing
     }
 }
 

@@ -1,4 +1,4 @@
-// Names in their normal form.
+//! Names in their normal form.
 ghost use Rattle.std.specs.Prelude.{◌≡◌, IfOk};
 ghost use Rattle.pep440_pick.specs.Names.{normal};
 ghost use Rattle.pep440_version.specs.Grammar.{is_separator, starts};
@@ -20,8 +20,10 @@ fn starts_with_separator(text: &[u8]) -> bool
     }
 }
 
-// The name in lower case, with each run of `.`, `-` and `_` as one `-`.
-pub(crate) fn normalize_name(alloc: Global, name: &str) -> Result<Vec<u8>, AllocError>
+/// The name in lower case, with each run of `.`, `-` and `_` as one `-`.
+///
+/// Allocates.
+pub fn normalize_name(alloc: Global, name: &str) -> Result<Vec<u8>, AllocError>
     ensures { IfOk result (λ text. text.items ≡ normal name.now) }
 {
     let mut text = Vec::with_capacity(alloc, name.len())?;

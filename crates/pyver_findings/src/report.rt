@@ -43,7 +43,7 @@ impl Readings {
             LineMeaning::Asks(demand) => self.demands.push(demand)?,
             LineMeaning::IsNone(finding) => self.invalid.push(finding)?,
             LineMeaning::LeftOut(cause) => self.left_out.push(cause)?,
-            LineMeaning::NamesFile => {}
+            LineMeaning::AsksNothing => {}
         }
         Ok(())
     }

@@ -1,11 +1,16 @@
-// Lines that are requirements, or should be.
-ghost use Rattle.std.specs.Prelude.{◌≡◌, Some, IfOk, IfSome, false, option_map, string_bytes};
+//! Lines that are requirements or lists of specifiers, or should be.
+ghost use Rattle.std.specs.Prelude.{◌≡◌, Some, IfOk, IfSome, false, option_map, string_bytes, is_none};
 ghost use Rattle.pep440_pick.specs.RequirementGrammar.{RequirementRefusal};
 ghost use Rattle.pep440_pick.specs.Requirements.{IsRequirementLifted, needed, requirement_refusal_of};
 ghost use Rattle.pep440_pick.specs.RequirementTexts.{requirement_refusal_text, requirement_text_of};
-ghost use Rattle.pep440_rs.specs.ListAnswers.{list_kind_of};
+ghost use Rattle.pep440_rs.specs.ErrorTexts.{specifier_refusal_text};
+ghost use Rattle.pep440_rs.specs.ListAnswers.{line_for, line_of, list_kind_of};
+ghost use Rattle.pep440_rs.specs.ListErrors.{IsListLifted, list_refusal_of};
+ghost use Rattle.pep440_rs.specs.ListErrorTexts.{list_refusal_text, list_text_of};
+ghost use Rattle.pep440_rs.specs.ListGrammar.{PieceRefusal};
+ghost use Rattle.pyver_findings.specs.Columns.{list_column};
 ghost use Rattle.pyver_findings.specs.Findings.{NoRequirement};
-ghost use Rattle.pyver_findings.specs.LineMeanings.{IsNone, IsPartsMeaning, before_url, marker_reason, requirement_meaning, refusal_meaning, under_marker, with_url};
+ghost use Rattle.pyver_findings.specs.LineMeanings.{IsNone, IsPartsMeaning, before_url, marker_reason, requirement_meaning, refusal_meaning, under_marker, with_url, IsListMeaning};
 ghost use Rattle.pyver_findings.specs.ReadingViews.{is_memory_error, piece_text_of, reason_text_of};
 ghost use Rattle.pyver_findings.specs.Views.{file_line_of, line_meaning_of};
 ghost use Rattle.pyver_requirements.specs.LineParts.{line_parts};
@@ -13,13 +18,13 @@ ghost use Rattle.pyver_requirements.specs.LinePartViews.{line_parts_of};
 ghost use Rattle.pyver_requirements.specs.MarkerReading.{marker};
 
 use crate::cause::Cause;
-use crate::column::{column, marker_column};
+use crate::column::{column, list_column, marker_column};
 use crate::demand::Demand;
 use crate::file_line::FileLine;
 use crate::finding::Finding;
 use crate::line_meaning::LineMeaning;
 use pep440_pick::{Requirement, RequirementError};
-use pep440_rs::{SpecifiersErrorKind, VersionSpecifiersParseError};
+use pep440_rs::{SpecifiersErrorKind, VersionSpecifiers, VersionSpecifiersParseError};
 use pyver_requirements::{LineParts, MarkerError, MarkerFault, parse_marker, split_requirement};
 use std::alloc::{AllocError, Global};
 
@@ -171,8 +176,55 @@ fn parse_parts(
     }
 }
 
-// What the line is, which is a requirement or none.
-pub(crate) fn parse_requirement(alloc: Global, line: &FileLine) -> Result<LineMeaning, AllocError>
+fn is_list_memory(kind: &SpecifiersErrorKind) -> bool
+    requires { IsListLifted kind.now }
+    ensures { result ≡ is_none (list_refusal_of kind.now) }
+{
+    matches!(kind, SpecifiersErrorKind::OutOfMemory)
+}
+
+// The string of the line is no list, for the reason of the error, unless an allocation failed.
+fn reject_list(
+    alloc: Global,
+    line: &FileLine,
+    text: &str,
+    error: &VersionSpecifiersParseError,
+) -> Result<LineMeaning, AllocError>
+    requires lifted { IsListLifted (list_kind_of error.now) }
+    requires line { line_of error.now ≡ line_for text.now (list_kind_of error.now) }
+    requires message { IfSome (list_refusal_of (list_kind_of error.now)) (λ f. list_text_of (list_kind_of error.now) (line_of error.now) ≡ Some (list_refusal_text f text.now)) }
+    ensures { IfOk result (λ x. (f : PieceRefusal) × (list_refusal_of (list_kind_of error.now) ≡ Some f) × (line_meaning_of x ≡ IsNone (NoRequirement (file_line_of line.now) (specifier_refusal_text f.error) (list_column text.now f)))) }
+{
+    if is_list_memory(error.kind()) {
+        return Err(AllocError);
+    }
+    let reason = list_reason(alloc, error)?;
+    let column = list_column(text.as_bytes(), error);
+    reject(alloc, line, reason.as_str(), column)
+}
+
+/// What the string of this line is, which is to be a list of specifiers: it asks for no package, or is invalid for the reason and at
+/// the column of its first invalid piece.
+///
+/// Allocates.
+pub fn parse_specifiers(
+    alloc: Global,
+    line: &FileLine,
+    text: &str,
+) -> Result<LineMeaning, AllocError>
+    ensures { IfOk result (λ x. IsListMeaning (file_line_of line.now) text.now (line_meaning_of x)) }
+{
+    match VersionSpecifiers::from_str(alloc, text) {
+        Ok(_) => Ok(LineMeaning::AsksNothing),
+        Err(error) => reject_list(alloc, line, text, &error),
+    }
+}
+
+/// What the line is, which is to be a requirement (PEP 508): one, left out if it has a URL, or invalid for this reason and at this
+/// column. A marker is only tested to be there.
+///
+/// Allocates.
+pub fn parse_requirement(alloc: Global, line: &FileLine) -> Result<LineMeaning, AllocError>
     ensures { IfOk result (λ x. IsPartsMeaning (file_line_of line.now) (line_parts (file_line_of line.now).text) (line_meaning_of x)) }
 {
     parse_parts(alloc, line, split_requirement(line.text.as_slice()))

@@ -4,6 +4,7 @@
 
 mod lines;
 mod reports;
+mod strings;
 
 use lines::{print_kind, print_lines, print_marker, print_parts};
 use reports::{
@@ -12,6 +13,7 @@ use reports::{
 };
 use std::alloc::Global;
 use std::io;
+use strings::{print_normal, print_requirement, print_specifiers};
 use testing::{Calls, CaseError, run_cases};
 
 struct FindingsCalls;
@@ -48,6 +50,9 @@ impl Calls for FindingsCalls {
                 Form::Json,
             ),
             ("named", [name, text]) => print_named_files(alloc, name.as_str(), text.as_str()),
+            ("requirement", [string]) => print_requirement(alloc, string.as_str()),
+            ("specifiers", [string]) => print_specifiers(alloc, string.as_str()),
+            ("normal", [name]) => print_normal(alloc, name.as_str()),
             ("string", [bytes]) => print_string(alloc, bytes.as_str()),
             (_, [files]) => answer_files(alloc, call, files.as_str()),
             _ => Err(CaseError::Unreadable),

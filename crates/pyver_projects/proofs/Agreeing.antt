@@ -1,8 +1,6 @@
--- Where nothing is found beside a lock, each requirement contains each locked version of its name.
-use Rattle.std.proofs.Common.{arith, ◌≡◌, ◌==◌, ◌<◌, ◌∙◌, ℕ, List, [], ◌∷◌, ◌++◌, Bool, true, false, get_or, length, refl, sym, ap, subst, inl, inr, suc, zero, if◌then◌else◌}
-use Rattle.std.proofs.lemmas.Bool.{true≢false}
-use Rattle.std.specs.List.{AllZip, flat_map}
-use Rattle.pep440_pick.proofs.Once.{not_both_requirement, one_requirement}
+-- Where nothing is found, each requirement contains each locked version of its name.
+use Rattle.std.proofs.Common.{◌≡◌, ◌∙◌, ℕ, List, [], ◌∷◌, ◌++◌, Bool, true, false, Option, Some, None, refl, sym, ap, subst, inl, inr, if◌then◌else◌}
+use Rattle.std.specs.List.{AllZip, Contains, flat_map}
 use Rattle.pep440_pick.specs.Names.{same_name}
 use Rattle.pep440_pick.specs.RequirementGrammar.{Needed}
 use Rattle.pep440_rs.specs.Matching.{list_matches}
@@ -10,73 +8,88 @@ use Rattle.pep440_version.proofs.Reading.Agreement.{one_record}
 use Rattle.pep440_version.proofs.Refusals.ExactlyOne.{not_both}
 use Rattle.pep440_version.specs.Grammar.{Derives}
 use Rattle.pep440_version.specs.Record.{Record}
-use Rattle.pyver_requirements.specs.LineParts.{line_parts}
-use Rattle.pyver_projects.specs.Comparing.{Excluded, compared, compared_with, excluded, invalid_locked, is_locked, missing}
-use Rattle.pyver_projects.specs.Meanings.{Asks, IsLockedMeaning, IsStringMeaning, IsSectionMeaning, IsRequirementMeaning, LockedMeaning, Meaning, Names, marker_rest, rest_meaning}
-use Rattle.pyver_projects.specs.ProjectLaws.{AlwaysAsks, NoFindingMeansContained}
-use Rattle.pyver_projects.specs.ProjectStrings.{Build, Dependencies, Extra, Group, LockedPackage, Section, Python, ProjectString, Version}
+use Rattle.pyver_findings.specs.Demands.{Demand, line_demand}
+use Rattle.pyver_findings.specs.FileLines.{File, FileLine}
+use Rattle.pyver_findings.specs.Findings.{Conflicting}
+use Rattle.pyver_findings.specs.LineMeanings.{Asks, LineMeaning}
+use Rattle.pyver_findings.specs.Reports.{Report, demands_in, empty_report}
+use Rattle.pyver_findings.specs.declared.finding.Conflict.TheVariants.{PinOutside}
+use Rattle.toml.specs.Data.{Members}
+use Rattle.toml.specs.Parse.{parse_document}
+use Rattle.pyver_projects.proofs.Asking.{asks_always}
+use Rattle.pyver_projects.proofs.Walks.{beside_it, left_nil, nil_at, right_nil}
+use Rattle.pyver_projects.specs.Comparing.{found_beside, beside_all, compared, compared_demand, excluded, is_locked, missing, with_own_reports}
+use Rattle.pyver_projects.specs.Documents.{sources}
+use Rattle.pyver_projects.specs.Locks.{locked}
+use Rattle.pyver_projects.specs.Meanings.{Document, DocumentReading, IsDocumentReading, IsLock, IsLockedReading, IsProject, IsStringReading, IsVersionReading, LockedReading, StringReading, package_line, string_line}
+use Rattle.pyver_projects.specs.ProjectLaws.{AlwaysAsks, HasTable, NoFindingMeansContained}
+use Rattle.pyver_projects.specs.ProjectStrings.{LockedPackage, ProjectString, Section}
+use Rattle.pyver_projects.specs.declared.document_kind.DocumentKind.{DocumentKind}
+use Rattle.pyver_projects.specs.declared.document_kind.DocumentKind.TheVariants.{Lock, Project}
+use Rattle.pyver_projects.specs.declared.document_kind.LockKind.{LockKind}
 
-left_nil : {X : Type 0} (xs ys : List X) → xs ++ ys ≡ [] → xs ≡ []
-left_nil [] ys e = refl
-left_nil (x ∷ xs) ys e = cc e
+-- a project with this table was read
+project_read : (file : File) (t : Members) (x : DocumentReading) → HasTable file t → IsDocumentReading (record { kind = Project; file = file }) x → (xs : List StringReading) × AllZip (IsStringReading file) (sources t) xs × (x ≡ IsProject xs)
+project_read file t x (text, e) (inl (none, broken)) = absurd (none text)
+project_read file t x (text, e) (inr (again, inr (none, broken))) = let same : Some t ≡ None = sym e ∙ none in cc same
+project_read file t x (text, e) (inr (again, inl (u, f, (xs, h, is)))) =
+    let same : Some u ≡ Some t = sym f ∙ e in
+    let table : u ≡ t = cc same in
+    (xs, subst (λ (m : Members). AllZip (IsStringReading file) (sources m) xs) table h, is)
 
-right_nil : {X : Type 0} (xs ys : List X) → xs ++ ys ≡ [] → ys ≡ []
-right_nil [] ys e = e
-right_nil (x ∷ xs) ys e = cc e
+-- a lock with this table was read
+lock_read : (file : File) (kind : LockKind) (t : Members) (x : DocumentReading) → HasTable file t → IsDocumentReading (record { kind = Lock kind; file = file }) x
+    → (ys : List LockedReading) × AllZip (IsLockedReading file.name) (locked kind file.text t) ys × (x ≡ IsLock ys)
+lock_read file kind t x (text, e) (inl (none, broken)) = absurd (none text)
+lock_read file kind t x (text, e) (inr (again, inr (none, broken))) = let same : Some t ≡ None = sym e ∙ none in cc same
+lock_read file kind t x (text, e) (inr (again, inl (u, f, (ys, h, is)))) =
+    let same : Some u ≡ Some t = sym f ∙ e in
+    let table : u ≡ t = cc same in
+    (ys, subst (λ (m : Members). AllZip (IsLockedReading file.name) (locked kind file.text m) ys) table h, is)
 
-module _ (s : ProjectString) (n : Needed) (asks : AlwaysAsks s n) where
-  -- ---- the string is read as the requirement
+-- a version is contained where it is not excluded
+by_match : (line : FileLine) (other : FileLine) (b : Bool) → (if b then [] else Conflicting PinOutside (line ∷ (other ∷ [])) ∷ []) ≡ [] → b ≡ true
+by_match line other true e = refl
+by_match line other false e = cc e
 
-  by_parts : (x : Meaning) → IsRequirementMeaning s (line_parts s.text) x → x ≡ Asks s n
-  by_parts x (inl (none, is)) = absurd (none asks.0)
-  by_parts x (inr (text, inl (m, d, is))) =
-      let bare = length m.specifiers == 0 in
-      is ∙ (λ j. rest_meaning s m (marker_rest bare (asks.3 j) (asks.2 j))) ∙ ap (λ (q : Needed). Asks s q) (one_requirement (line_parts s.text).requirement m n d asks.1)
-  by_parts x (inr (text, inr (f, r, is))) = absurd (not_both_requirement (line_parts s.text).requirement n f asks.1 r)
+by_name : (line : FileLine) (n : Needed) (p : LockedPackage) (v : Record) (other : FileLine) (a : Bool) → a ≡ true → (if a then (if list_matches n.specifiers v then [] else Conflicting PinOutside (line ∷ (other ∷ [])) ∷ []) else []) ≡ []
+    → list_matches n.specifiers v ≡ true
+by_name line n p v other true same e = by_match line other (list_matches n.specifiers v) e
+by_name line n p v other false same e = cc same
 
-  by_part : (section : Section) → is_locked section ≡ true → (x : Meaning) → IsSectionMeaning section s x → x ≡ Asks s n
-  by_part Dependencies counts x is = by_parts x is
-  by_part (Extra name) counts x is = by_parts x is
-  by_part (Group name) counts x is = by_parts x is
-  by_part Build counts x is = absurd (true≢false (sym counts))
-  by_part Python counts x is = absurd (true≢false (sym counts))
-  by_part Version counts x is = absurd (true≢false (sym counts))
+not_excluded : (line : FileLine) (n : Needed) (lock : List ℕ) (p : LockedPackage) (y : LockedReading) (w : Option (List ℕ)) (text : List ℕ) (v : Record) → w ≡ Some text → Derives text v → same_name n.name p.name ≡ true
+    → IsVersionReading (package_line lock p) p.name w y → excluded (line_demand line None n) y ≡ [] → list_matches n.specifiers v ≡ true
+not_excluded line n lock p y None text v written d same is e = cc written
+not_excluded line n lock p y (Some t) text v written d same (inr (f, r, is)) e =
+    let equal : t ≡ text = cc written in
+    absurd (not_both t v f (subst (λ (q : List ℕ). Derives q v) (sym equal) d) r)
+not_excluded line n lock p y (Some t) text v written d same (inl (r, c, is)) e =
+    let equal : t ≡ text = cc written in
+    let one : r ≡ v = one_record t r v c (subst (λ (q : List ℕ). Derives q v) (sym equal) d) in
+    subst (λ (q : Record). list_matches n.specifiers q ≡ true) one
+    (by_name line n p r (package_line lock p) (same_name n.name p.name) same (ap (λ (z : LockedReading). excluded (line_demand line None n) z) (sym is) ∙ e))
 
-  in_sources : (ys : List LockedMeaning) → is_locked s.section ≡ true → (ss : List ProjectString) (xs : List Meaning) (k : ℕ) → k < length ss → get_or ss k s ≡ s → AllZip IsStringMeaning ss xs → flat_map (compared ys) xs ≡ []
-      → compared_with ys s n ≡ []
-  in_sources ys counts [] xs k inside is h e = absurd (omega (arith, inside))
-  in_sources ys counts (t ∷ ss) [] k inside is h e = absurd h
-  in_sources ys counts (t ∷ ss) (x ∷ xs) zero inside is h e =
-      let same : x ≡ Asks s n = by_part s.section counts x (subst (λ (q : ProjectString). IsStringMeaning q x) is h.0) in
-      ap (λ (z : Meaning). compared ys z) (sym same) ∙ left_nil (compared ys x) (flat_map (compared ys) xs) e
-  in_sources ys counts (t ∷ ss) (x ∷ xs) (suc k) inside is h e = in_sources ys counts ss xs k (omega (arith, inside)) is h.1 (right_nil (compared ys x) (flat_map (compared ys) xs) e)
-
-  -- ---- and contains the version
-
-  module _ (l : LockedPackage) (v : Record) (d : Derives l.version v) where
-    is_version : (y : LockedMeaning) → IsLockedMeaning l y → y ≡ Names l v
-    is_version y (inl (r, other, is)) = is ∙ ap (λ (q : Record). Names l q) (one_record l.version r v other d)
-    is_version y (inr (f, r, is)) = absurd (not_both l.version v f d r)
-
-    in_locked : (ls : List LockedPackage) (ys : List LockedMeaning) (k : ℕ) → k < length ls → get_or ls k l ≡ l → AllZip IsLockedMeaning ls ys → flat_map (excluded s n) ys ≡ [] → excluded s n (Names l v) ≡ []
-    in_locked [] ys k inside is h e = absurd (omega (arith, inside))
-    in_locked (t ∷ ls) [] k inside is h e = absurd h
-    in_locked (t ∷ ls) (y ∷ ys) zero inside is h e =
-        let same : y ≡ Names l v = is_version y (subst (λ (q : LockedPackage). IsLockedMeaning q y) is h.0) in
-        ap (λ (z : LockedMeaning). excluded s n z) (sym same) ∙ left_nil (excluded s n y) (flat_map (excluded s n) ys) e
-    in_locked (t ∷ ls) (y ∷ ys) (suc k) inside is h e = in_locked ls ys k (omega (arith, inside)) is h.1 (right_nil (excluded s n y) (flat_map (excluded s n) ys) e)
-
-    contained : (b : Bool) → (if b then [] else Excluded s l ∷ []) ≡ [] → b ≡ true
-    contained true e = refl
-    contained false e = cc e
-
-    agrees : same_name n.name l.name ≡ true → excluded s n (Names l v) ≡ [] → list_matches n.specifiers v ≡ true
-    agrees same e =
-        contained (list_matches n.specifiers v) (ap (λ (b : Bool). if b then (if list_matches n.specifiers v then [] else Excluded s l ∷ []) else []) (sym same) ∙ e)
+-- nothing is found of a string, which always asks for this
+not_compared : (ys : List LockedReading) (a : Demand) (section : Section) (x : StringReading) → x.section ≡ section → x.meaning ≡ Asks a → is_locked section ≡ true → compared ys x ≡ [] → compared_demand ys section a ≡ []
+not_compared ys a section x same is counts e =
+    let here : (if is_locked section then flat_map (compared_demand ys section) (demands_in (Asks a)) else []) ≡ [] =
+    (λ j. if is_locked (sym same j) then flat_map (compared_demand ys (sym same j)) (demands_in (sym is j)) else []) ∙ e in
+    let counted : flat_map (compared_demand ys section) (demands_in (Asks a)) ≡ [] = ap (λ (b : Bool). if b then flat_map (compared_demand ys section) (demands_in (Asks a)) else []) (sym counts) ∙ here in
+    left_nil (compared_demand ys section a) [] counted
 
 pub no_finding_means_contained : NoFindingMeansContained
-no_finding_means_contained sources locked (xs, ys, g, h, none) s l n v (k, inside, at) (j, within, here) counts asks same d =
-    let found : flat_map (compared ys) xs ≡ [] = right_nil (flat_map invalid_locked ys) (flat_map (compared ys) xs) (sym none) in
-    let nothing : compared_with ys s n ≡ [] = in_sources s n asks ys counts sources xs k inside at g found in
-    let both : missing s n ys ++ flat_map (excluded s n) ys ≡ [] = ap (λ (b : Bool). if b then missing s n ys ++ flat_map (excluded s n) ys else []) (sym counts) ∙ nothing in
-    agrees s n asks l v d same (in_locked s n asks l v d locked ys j within here h (right_nil (missing s n ys) (flat_map (excluded s n) ys) both))
+no_finding_means_contained documents r (zs, h, is) none file lock s p n text v (t, ((k, inside, at), table), (i, within, here)) (kind, u, ((l, below, there), other), (j, under, this)) counts asks same written d =
+    let (x, (a, in_x, is_x), rx) = beside_it IsDocumentReading documents zs (record { kind = Project; file = file }) k inside at h in
+    let (y, (b, in_y, is_y), ry) = beside_it IsDocumentReading documents zs (record { kind = Lock kind; file = lock }) l below there h in
+    let (xs, g, is_project) = project_read file t x table rx in
+    let (ys, q, is_lock) = lock_read lock kind u y other ry in
+    let found : flat_map (beside_all zs) zs ≡ [] = right_nil (with_own_reports empty_report zs).findings (flat_map (beside_all zs) zs) (sym (ap (λ (e : Report). e.findings) is) ∙ none) in
+    let nothing : found_beside x y ≡ [] = nil_at (found_beside x) zs y b in_y is_y (nil_at (beside_all zs) zs x a in_x is_x found) in
+    let compares : flat_map (compared ys) xs ≡ [] = (λ e. found_beside (sym is_project e) (sym is_lock e)) ∙ nothing in
+    let (z, (c, in_z, is_z), rz) = beside_it (IsStringReading file) (sources t) xs s i within here g in
+    let (w, (m, in_w, is_w), rw_) = beside_it (IsLockedReading lock.name) (locked kind lock.text u) ys p j under this q in
+    let meaning = asks_always (string_line file s) s.text n asks.0 asks.1 asks.2 asks.3 s.section z.meaning counts rz.1 in
+    let asked = line_demand (string_line file s) None n in
+    let both : missing ys s.section asked ++ flat_map (excluded asked) ys ≡ [] = not_compared ys asked s.section z rz.0 meaning counts (nil_at (compared ys) xs z c in_z is_z compares) in
+    let one : excluded asked w ≡ [] = nil_at (excluded asked) ys w m in_w is_w (right_nil (missing ys s.section asked) (flat_map (excluded asked) ys) both) in
+    not_excluded (string_line file s) n lock.name p w p.version text v written d same rw_ one

@@ -1,153 +1,233 @@
--- Each finding beside a lock is right.
-use Rattle.std.proofs.Common.{◌≡◌, ◌==◌, ◌∙◌, ℕ, List, [], ◌∷◌, ◌++◌, ◌||◌, Bool, true, false, Option, Some, None, length, refl, sym, ap, subst, inl, inr, if◌then◌else◌}
+-- Each finding of a report of documents is right.
+use Rattle.std.proofs.Common.{◌≡◌, ◌∙◌, ℕ, ◌+◌, List, [], ◌∷◌, ◌++◌, ◌||◌, Bool, true, false, Option, Some, None, codes, refl, sym, ap, subst, inl, inr, if◌then◌else◌}
 use Rattle.std.proofs.lemmas.Bool.{true≢false}
-use Rattle.std.proofs.lemmas.List.Elements.{All-append, All-cons, All-contains_itself, All-head, All-nil, All-tail}
+use Rattle.std.proofs.lemmas.List.{append_assoc, append-nil}
+use Rattle.std.proofs.lemmas.List.Elements.{All-append, All-cons, All-contains_itself, All-nil}
 use Rattle.std.specs.List.{All, AllZip, Contains, flat_map, list_any}
 use Rattle.std.specs.Str.{IsUtf8}
-use Rattle.pep440_pick.specs.Names.{same_name}
+use Rattle.pep440_pick.specs.Names.{normal, same_name}
 use Rattle.pep440_pick.specs.RequirementGrammar.{DerivesRequirement, Needed}
 use Rattle.pep440_rs.specs.Matching.{list_matches}
-use Rattle.pep440_version.proofs.Refusals.ExactlyOne.{not_both}
 use Rattle.pep440_version.specs.Grammar.{Derives}
 use Rattle.pep440_version.specs.Record.{Record}
+use Rattle.pyver_findings.specs.Demands.{Demand, line_demand}
+use Rattle.pyver_findings.specs.FileLines.{File, FileLine}
+use Rattle.pyver_findings.specs.Findings.{Conflicting, Finding, NoRequirement}
+use Rattle.pyver_findings.specs.LineMeanings.{Asks, AsksNothing, IsNone, LeftOut, LineMeaning}
+use Rattle.pyver_findings.specs.Reports.{Report, demands_in, empty_report, invalid_in, joined_report}
+use Rattle.pyver_findings.specs.declared.finding.Conflict.TheVariants.{PinOutside}
 use Rattle.pyver_requirements.specs.LineParts.{line_parts}
-use Rattle.pyver_projects.specs.Comparing.{Excluded, ProjectFinding, InvalidVersion, Missing, compared, compared_with, excluded, has_name, invalid_locked, is_locked, is_needed, missing}
-use Rattle.pyver_projects.specs.Meanings.{IsInvalid, IsLockedMeaning, IsStringMeaning, IsSectionMeaning, IsRequirementMeaning, LockedMeaning, Meaning, Passes, marker_rest, rest_meaning, requirement_rest, url_rest}
-use Rattle.pyver_projects.specs.ProjectLaws.{AlwaysAsks, LockFindingsHold, IsLockFinding}
-use Rattle.pyver_projects.specs.ProjectStrings.{Build, Dependencies, Extra, Group, LockedPackage, Section, Python, ProjectString, Version}
-use Rattle.pyver_projects.specs.declared.rest.Rest.TheVariants.{Broken, Depends, Nothing}
+use Rattle.toml.specs.Data.{Members}
+use Rattle.toml.specs.Parse.{parse_document}
+use Rattle.pyver_projects.proofs.Asking.{AsksFor, of_section}
+use Rattle.pyver_projects.proofs.Walks.{all_flat, left_false, right_false, zip_each}
+use Rattle.pyver_projects.specs.Comparing.{IsDocumentsReport, found_beside, beside_all, compared, compared_demand, documents_report, excluded, has_name, invalid_package, invalid_string, is_locked, is_needed, own_report, with_own_reports}
+use Rattle.pyver_projects.specs.Documents.{sources}
+use Rattle.pyver_projects.specs.Locks.{locked}
+use Rattle.pyver_projects.specs.Meanings.{Document, DocumentReading, IsBroken, IsBrokenReading, IsDocumentReading, IsLock, IsLockedReading, IsProject, IsSectionMeaning, IsStringReading, IsVersionReading, LockedReading, StringReading, package_line, string_line}
+use Rattle.pyver_projects.specs.ProjectLaws.{AlwaysAsks, DocumentFindingsHold, HasDocument, HasPackage, HasString, IsExcluded, IsInvalidPackage, IsInvalidString, IsMissing, IsReadable, IsDocumentFinding, IsUnread}
+use Rattle.pyver_projects.specs.ProjectStrings.{LockedPackage, ProjectString}
+use Rattle.pyver_projects.specs.declared.document_kind.DocumentKind.{DocumentKind}
+use Rattle.pyver_projects.specs.declared.document_kind.DocumentKind.TheVariants.{Lock, Project}
+use Rattle.pyver_projects.specs.declared.document_kind.LockKind.{LockKind}
 
-left_false : (a b : Bool) → (a || b) ≡ false → a ≡ false
-left_false true b e = absurd (true≢false e)
-left_false false b e = refl
+module _ (documents : List Document) where
+  abbrev pub Right : Finding → Type 0
+  Right f = IsDocumentFinding documents f
 
-right_false : (a b : Bool) → (a || b) ≡ false → b ≡ false
-right_false true b e = absurd (true≢false e)
-right_false false b e = e
+  -- ---- documents by themselves
 
-module _ (sources : List ProjectString) (locked : List LockedPackage) where
-  abbrev pub Right : ProjectFinding → Type 0
-  Right f = IsLockFinding sources locked f
+  unread : (d : Document) (x : DocumentReading) → Contains documents d → (IsReadable d → ⊥) → IsBrokenReading d.file x → All Right (own_report x).findings
+  unread d x known none (line, reason, column, place, is) =
+      subst (λ (y : DocumentReading). All Right (own_report y).findings) (sym is)
+      (All-cons Right _ [] (inr (inr (inl (record { document = d; line = line; reason = reason; column = column; has = known; none = none; place = place; is = refl })))) (All-nil Right))
 
-  -- ---- locked versions
+  of_string : (file : File) (s : ProjectString) (m : LineMeaning) → HasString documents file s → IsSectionMeaning s.section (string_line file s) s.text m → All Right (invalid_in m)
+  of_string file s (Asks a) has is = All-nil Right
+  of_string file s (IsNone f) has is = All-cons Right f [] (inl (record { file = file; string = s; has = has; is = is })) (All-nil Right)
+  of_string file s (LeftOut c) has is = All-nil Right
+  of_string file s AsksNothing has is = All-nil Right
 
-  one_locked : (l : LockedPackage) (y : LockedMeaning) → Contains locked l → IsLockedMeaning l y → All Right (invalid_locked y)
-  one_locked l y known (inl (r, d, is)) = subst (λ (z : LockedMeaning). All Right (invalid_locked z)) (sym is) (All-nil Right)
-  one_locked l y known (inr (f, r, is)) =
-      subst (λ (z : LockedMeaning). All Right (invalid_locked z)) (sym is) (All-cons Right (InvalidVersion l) [] (known, λ v d. not_both l.version v f d r) (All-nil Right))
+  of_package : (file : File) (p : LockedPackage) (v : Option (List ℕ)) (y : LockedReading) → HasPackage documents file p → p.version ≡ v → IsVersionReading (package_line file.name p) p.name v y → All Right (invalid_package y)
+  of_package file p None y has at is = subst (λ (z : LockedReading). All Right (invalid_package z)) (sym is) (All-nil Right)
+  of_package file p (Some text) y has at (inl (r, d, is)) = subst (λ (z : LockedReading). All Right (invalid_package z)) (sym is) (All-nil Right)
+  of_package file p (Some text) y has at (inr (f, r, is)) =
+      subst (λ (z : LockedReading). All Right (invalid_package z)) (sym is)
+      (All-cons Right _ [] (inr (inl (record { file = file; locked = p; text = text; reason = f; has = has; version = at; refuses = r; is = refl }))) (All-nil Right))
 
-  all_locked : (ls : List LockedPackage) (ys : List LockedMeaning) → All (Contains locked) ls → AllZip IsLockedMeaning ls ys → All Right (flat_map invalid_locked ys)
-  all_locked [] [] known h = All-nil Right
-  all_locked [] (y ∷ ys) known h = absurd h
-  all_locked (l ∷ ls) [] known h = absurd h
-  all_locked (l ∷ ls) (y ∷ ys) known h =
-      All-append Right (invalid_locked y) (flat_map invalid_locked ys) (one_locked l y (All-head (Contains locked) l ls known) h.0) (all_locked ls ys (All-tail (Contains locked) l ls known) h.1)
+  no_utf8 : (d : Document) → (IsUtf8 d.file.text → ⊥) → IsReadable d → ⊥
+  no_utf8 d none (t, (text, e)) = none text
 
-  -- ---- a requirement beside them
+  no_toml : (d : Document) → parse_document d.file.text ≡ None → IsReadable d → ⊥
+  no_toml d none (t, (text, e)) = let same : None ≡ Some t = sym none ∙ e in cc same
 
-  module _ (s : ProjectString) (n : Needed) (known : Contains sources s) (asks : AlwaysAsks s n) where
-    by_match : (l : LockedPackage) (r : Record) → Contains locked l → Derives l.version r → (a b : Bool) → same_name n.name l.name ≡ a → list_matches n.specifiers r ≡ b
-        → All Right (if a then (if b then [] else Excluded s l ∷ []) else [])
-    by_match l r at d true true e f = All-nil Right
-    by_match l r at d true false e f = All-cons Right (Excluded s l) [] (known, at, (n, r, asks, e, d, λ t. true≢false (sym t ∙ f))) (All-nil Right)
-    by_match l r at d false b e f = All-nil Right
+  of_document : (kind : DocumentKind) (file : File) (x : DocumentReading) → Contains documents (record { kind = kind; file = file }) → IsDocumentReading (record { kind = kind; file = file }) x → All Right (own_report x).findings
+  of_document kind file x known (inl (none, broken)) = unread _ x known (no_utf8 _ none) broken
+  of_document kind file x known (inr (text, inr (none, broken))) = unread _ x known (no_toml _ none) broken
+  of_document Project file x known (inr (text, inl (t, e, (xs, h, is)))) =
+      subst (λ (y : DocumentReading). All Right (own_report y).findings) (sym is)
+      (all_flat Right invalid_string xs
+      (zip_each (IsStringReading file) (Contains (sources t)) (λ z. All Right (invalid_string z)) (λ s z at r. of_string file s z.meaning (t, (known, (text, e)), at) r.1) (sources t) xs (All-contains_itself (sources t)) h))
+  of_document (Lock kind) file x known (inr (text, inl (t, e, (ys, h, is)))) =
+      subst (λ (y : DocumentReading). All Right (own_report y).findings) (sym is)
+      (all_flat Right invalid_package ys
+      (zip_each (IsLockedReading file.name) (Contains (locked kind file.text t)) (λ z. All Right (invalid_package z)) (λ p z at r. of_package file p p.version z (kind, t, (known, (text, e)), at) refl r) (locked kind file.text t) ys
+      (All-contains_itself (locked kind file.text t)) h))
 
-    one_excluded : (l : LockedPackage) (y : LockedMeaning) → Contains locked l → IsLockedMeaning l y → All Right (excluded s n y)
-    one_excluded l y at (inl (r, d, is)) =
-        subst (λ (z : LockedMeaning). All Right (excluded s n z)) (sym is) (by_match l r at d (same_name n.name l.name) (list_matches n.specifiers r) refl refl)
-    one_excluded l y at (inr (f, r, is)) = subst (λ (z : LockedMeaning). All Right (excluded s n z)) (sym is) (All-nil Right)
+  -- ---- a project beside a lock
 
-    all_excluded : (ls : List LockedPackage) (ys : List LockedMeaning) → All (Contains locked) ls → AllZip IsLockedMeaning ls ys → All Right (flat_map (excluded s n) ys)
-    all_excluded [] [] at h = All-nil Right
-    all_excluded [] (y ∷ ys) at h = absurd h
-    all_excluded (l ∷ ls) [] at h = absurd h
-    all_excluded (l ∷ ls) (y ∷ ys) at h =
-        All-append Right (excluded s n y) (flat_map (excluded s n) ys) (one_excluded l y (All-head (Contains locked) l ls at) h.0) (all_excluded ls ys (All-tail (Contains locked) l ls at) h.1)
+  module _ (file lock : File) (kind : LockKind) (t u : Members) (known : HasDocument documents Project file t) (other : HasDocument documents (Lock kind) lock u) where
+    module _ (s : ProjectString) (at : Contains (sources t) s) where
+      module _ (n : Needed) (asks : AlwaysAsks s n) where
+        -- what the requirement asks for
+        abbrev pub asked : Demand
+        asked = line_demand (string_line file s) None n
 
-    abbrev pub HasOtherName : LockedPackage → Type 0
-    HasOtherName l = same_name n.name l.name ≡ false
+        by_match : (p : LockedPackage) (text : List ℕ) (v : Record) → Contains (locked kind lock.text u) p → p.version ≡ Some text → Derives text v → (a b : Bool) → same_name n.name p.name ≡ a → list_matches n.specifiers v ≡ b
+            → All Right (if a then (if b then [] else Conflicting PinOutside (string_line file s ∷ (package_line lock.name p ∷ [])) ∷ []) else [])
+        by_match p text v here written d true true e f = All-nil Right
+        by_match p text v here written d false b e f = All-nil Right
+        by_match p text v here written d true false e f =
+            All-cons Right _ []
+            (inr (inr (inr (inr (record {
+              file = file;
+              string = s;
+              lock = lock;
+              locked_package = p;
+              needed = n;
+              text = text;
+              version = v;
+              has = (t, known, at);
+              asks = asks;
+              known = (kind, u, other, here);
+              same = e;
+              written = written;
+              derives = d;
+              outside = λ m. true≢false (sym m ∙ f);
+              is = refl;
+            }))))) (All-nil Right)
 
-    other_name : (l : LockedPackage) (y : LockedMeaning) → IsLockedMeaning l y → has_name n y ≡ false → HasOtherName l
-    other_name l y (inl (r, d, is)) e = ap (λ (z : LockedMeaning). has_name n z) (sym is) ∙ e
-    other_name l y (inr (f, r, is)) e = ap (λ (z : LockedMeaning). has_name n z) (sym is) ∙ e
+        nothing : (b : Bool) → All Right (if b then [] else [])
+        nothing true = All-nil Right
+        nothing false = All-nil Right
 
-    none_named : (ls : List LockedPackage) (ys : List LockedMeaning) → AllZip IsLockedMeaning ls ys → list_any (has_name n) ys ≡ false → All HasOtherName ls
-    none_named [] [] h e = All-nil HasOtherName
-    none_named [] (y ∷ ys) h e = absurd h
-    none_named (l ∷ ls) [] h e = absurd h
-    none_named (l ∷ ls) (y ∷ ys) h e =
-        All-cons HasOtherName l ls (other_name l y h.0 (left_false (has_name n y) (list_any (has_name n) ys) e)) (none_named ls ys h.1 (right_false (has_name n y) (list_any (has_name n) ys) e))
+        excluded_right : (p : LockedPackage) (v : Option (List ℕ)) (y : LockedReading) → Contains (locked kind lock.text u) p → p.version ≡ v → IsVersionReading (package_line lock.name p) p.name v y → All Right (excluded asked y)
+        excluded_right p None y here written is = subst (λ (z : LockedReading). All Right (excluded asked z)) (sym is) (nothing (same_name n.name p.name))
+        excluded_right p (Some text) y here written (inl (r, d, is)) =
+            subst (λ (z : LockedReading). All Right (excluded asked z)) (sym is) (by_match p text r here written d (same_name n.name p.name) (list_matches n.specifiers r) refl refl)
+        excluded_right p (Some text) y here written (inr (f, r, is)) = subst (λ (z : LockedReading). All Right (excluded asked z)) (sym is) (nothing (same_name n.name p.name))
 
-    module _ (ys : List LockedMeaning) (h : AllZip IsLockedMeaning locked ys) where
-      is_missing : (a b : Bool) → list_any (has_name n) ys ≡ b → All Right (if a then (if b then [] else Missing s ∷ []) else [])
-      is_missing true true e = All-nil Right
-      is_missing true false e = All-cons Right (Missing s) [] (known, (n, asks, none_named locked ys h e)) (All-nil Right)
-      is_missing false b e = All-nil Right
+        -- a package has another name than the requirement
+        abbrev pub HasOtherName : LockedPackage → Type 0
+        HasOtherName p = same_name n.name p.name ≡ false
 
-      by_part : (b : Bool) → All Right (if b then missing s n ys ++ flat_map (excluded s n) ys else [])
-      by_part true =
-          All-append Right (missing s n ys) (flat_map (excluded s n) ys) (is_missing (is_needed s.section) (list_any (has_name n) ys) refl) (all_excluded locked ys (All-contains_itself locked) h)
-      by_part false = All-nil Right
+        other_name : (p : LockedPackage) (v : Option (List ℕ)) (y : LockedReading) → IsVersionReading (package_line lock.name p) p.name v y → has_name asked y ≡ false → HasOtherName p
+        other_name p None y is e = ap (λ (z : LockedReading). has_name asked z) (sym is) ∙ e
+        other_name p (Some text) y (inl (r, d, is)) e = ap (λ (z : LockedReading). has_name asked z) (sym is) ∙ e
+        other_name p (Some text) y (inr (f, r, is)) e = ap (λ (z : LockedReading). has_name asked z) (sym is) ∙ e
 
-      pub all_compared : All Right (compared_with ys s n)
-      all_compared = by_part (is_locked s.section)
+        none_named : (ps : List LockedPackage) (ys : List LockedReading) → AllZip (IsLockedReading lock.name) ps ys → list_any (has_name asked) ys ≡ false → All HasOtherName ps
+        none_named [] [] h e = All-nil HasOtherName
+        none_named [] (y ∷ ys) h e = absurd h
+        none_named (p ∷ ps) [] h e = absurd h
+        none_named (p ∷ ps) (y ∷ ys) h e =
+            All-cons HasOtherName p ps (other_name p p.version y h.0 (left_false (has_name asked y) (list_any (has_name asked) ys) e)) (none_named ps ys h.1 (right_false (has_name asked y) (list_any (has_name asked) ys) e))
 
-  -- ---- a string beside them
+        module _ (ys : List LockedReading) (h : AllZip (IsLockedReading lock.name) (locked kind lock.text u) ys) where
+          missing_right : (b c : Bool) → is_needed s.section ≡ b → list_any (has_name asked) ys ≡ c
+              → All Right (if b then (if c then [] else NoRequirement (string_line file s) (codes "the lock has no package of this name") 0 ∷ []) else [])
+          missing_right false c needs e = All-nil Right
+          missing_right true true needs e = All-nil Right
+          missing_right true false needs e =
+              All-cons Right _ []
+              (inr (inr (inr (inl (record {
+                file = file;
+                string = s;
+                lock = lock;
+                kind = kind;
+                table = u;
+                needed = n;
+                has = (t, known, at);
+                counts = needs;
+                asks = asks;
+                known = other;
+                none = none_named (locked kind lock.text u) ys h e;
+                is = refl;
+              }))))) (All-nil Right)
 
-  module _ (ys : List LockedMeaning) (h : AllZip IsLockedMeaning locked ys) where
-    -- what holds of a string
-    abbrev pub RightOf : Meaning → Type 0
-    RightOf x = All Right (compared ys x)
+          always_right : All Right (compared_demand ys s.section asked)
+          always_right =
+              All-append Right _ (flat_map (excluded asked) ys) (missing_right (is_needed s.section) (list_any (has_name asked) ys) refl refl)
+              (all_flat Right (excluded asked) ys
+              (zip_each (IsLockedReading lock.name) (Contains (locked kind lock.text u)) (λ y. All Right (excluded asked y)) (λ p y here r. excluded_right p p.version y here refl r) (locked kind lock.text u) ys
+              (All-contains_itself (locked kind lock.text u)) h))
 
-    same_right : (x y : Meaning) → x ≡ y → RightOf y → RightOf x
-    same_right x y is k = subst (λ (z : Meaning). RightOf z) (sym is) k
+      module _ (ys : List LockedReading) (h : AllZip (IsLockedReading lock.name) (locked kind lock.text u) ys) where
+        by_marker : (a : Demand) (k : AsksFor (string_line file s) (line_parts s.text) a) (marker : Option (List ℕ)) → (line_parts s.text).marker ≡ marker → All Right (compared_demand ys s.section (line_demand (string_line file s) marker k.needed))
+        by_marker a k None is = always_right k.needed (k.text, k.derives, is, k.url) ys h
+        by_marker a k (Some m) is = All-nil Right
 
-    module _ (s : ProjectString) (known : Contains sources s) where
-      module _ (text : IsUtf8 (line_parts s.text).requirement) (n : Needed) (d : DerivesRequirement (line_parts s.text).requirement n) (bare : Bool) where
-        by_bare : (b : Bool) → RightOf (rest_meaning s n (if b then Depends else Broken))
-        by_bare true = All-nil Right
-        by_bare false = All-nil Right
+        of_asked : (a : Demand) → AsksFor (string_line file s) (line_parts s.text) a → All Right (compared_demand ys s.section a)
+        of_asked a k = subst (λ (b : Demand). All Right (compared_demand ys s.section b)) (sym k.is) (by_marker a k (line_parts s.text).marker refl)
 
-        by_url : (url : Option (List ℕ)) → (line_parts s.text).url ≡ url → (line_parts s.text).marker ≡ None → RightOf (rest_meaning s n (url_rest bare Nothing url))
-        by_url None is no_marker = all_compared s n known (text, d, no_marker, is) ys h
-        by_url (Some []) is no_marker = All-nil Right
-        by_url (Some (b ∷ url)) is no_marker = by_bare bare
+        of_meaning : (m : LineMeaning) → IsSectionMeaning s.section (string_line file s) s.text m → All Right (flat_map (compared_demand ys s.section) (demands_in m))
+        of_meaning (Asks a) is = All-append Right (compared_demand ys s.section a) [] (of_asked a (of_section (string_line file s) s.text a s.section is)) (All-nil Right)
+        of_meaning (IsNone f) is = All-nil Right
+        of_meaning (LeftOut c) is = All-nil Right
+        of_meaning AsksNothing is = All-nil Right
 
-        by_marked_url : (url : Option (List ℕ)) → RightOf (rest_meaning s n (url_rest bare Depends url))
-        by_marked_url None = All-nil Right
-        by_marked_url (Some []) = All-nil Right
-        by_marked_url (Some (b ∷ url)) = by_bare bare
+        by_section : (b : Bool) (m : LineMeaning) → IsSectionMeaning s.section (string_line file s) s.text m → All Right (if b then flat_map (compared_demand ys s.section) (demands_in m) else [])
+        by_section true m is = of_meaning m is
+        by_section false m is = All-nil Right
 
-        by_marker : (marker : Option (List ℕ)) → (line_parts s.text).marker ≡ marker → RightOf (rest_meaning s n (marker_rest bare (line_parts s.text).url marker))
-        by_marker None is = by_url (line_parts s.text).url refl is
-        by_marker (Some []) is = All-nil Right
-        by_marker (Some (b ∷ marker)) is = by_marked_url (line_parts s.text).url
+        compared_right : (x : StringReading) → IsStringReading file s x → All Right (compared ys x)
+        compared_right x (same, is) =
+            subst (λ section. All Right (if is_locked section then flat_map (compared_demand ys section) (demands_in x.meaning) else [])) (sym same) (by_section (is_locked s.section) x.meaning is)
 
-      of_parts : (x : Meaning) → IsRequirementMeaning s (line_parts s.text) x → RightOf x
-      of_parts x (inl (none, is)) = same_right x (IsInvalid s) is (All-nil Right)
-      of_parts x (inr (text, inl (n, d, is))) =
-          same_right x (rest_meaning s n (requirement_rest (line_parts s.text) (length n.specifiers == 0))) is (by_marker text n d (length n.specifiers == 0) (line_parts s.text).marker refl)
-      of_parts x (inr (text, inr (f, r, is))) = same_right x (IsInvalid s) is (All-nil Right)
+    pub pair_right : (xs : List StringReading) (ys : List LockedReading) → AllZip (IsStringReading file) (sources t) xs → AllZip (IsLockedReading lock.name) (locked kind lock.text u) ys → All Right (flat_map (compared ys) xs)
+    pair_right xs ys g h =
+        all_flat Right (compared ys) xs (zip_each (IsStringReading file) (Contains (sources t)) (λ x. All Right (compared ys x)) (λ s x at r. compared_right s at ys h x r) (sources t) xs (All-contains_itself (sources t)) g)
 
-      of_part : (section : Section) (x : Meaning) → IsSectionMeaning section s x → RightOf x
-      of_part Python x (inl (list, d, is)) = same_right x Passes is (All-nil Right)
-      of_part Python x (inr (f, r, is)) = same_right x (IsInvalid s) is (All-nil Right)
-      of_part Version x (inl (v, d, is)) = same_right x Passes is (All-nil Right)
-      of_part Version x (inr (f, r, is)) = same_right x (IsInvalid s) is (All-nil Right)
-      of_part Dependencies x is = of_parts x is
-      of_part (Extra name) x is = of_parts x is
-      of_part (Group name) x is = of_parts x is
-      of_part Build x is = of_parts x is
+  -- ---- a document beside another
 
-    of_all : (ss : List ProjectString) (xs : List Meaning) → All (Contains sources) ss → AllZip IsStringMeaning ss xs → All Right (flat_map (compared ys) xs)
-    of_all [] [] known g = All-nil Right
-    of_all [] (x ∷ xs) known g = absurd g
-    of_all (s ∷ ss) [] known g = absurd g
-    of_all (s ∷ ss) (x ∷ xs) known g =
-        All-append Right (compared ys x) (flat_map (compared ys) xs) (of_part s (All-head (Contains sources) s ss known) s.section x g.0) (of_all ss xs (All-tail (Contains sources) s ss known) g.1)
+  broken_right : (file : File) (x y : DocumentReading) → IsBrokenReading file x → All Right (found_beside x y)
+  broken_right file x y (line, reason, column, place, is) = subst (λ (z : DocumentReading). All Right (found_beside z y)) (sym is) (All-nil Right)
 
-pub findings_hold : LockFindingsHold
-findings_hold sources locked found (xs, ys, g, h, is) =
-    subst (λ (fs : List ProjectFinding). All (IsLockFinding sources locked) fs) (sym is)
-    (All-append (IsLockFinding sources locked) (flat_map invalid_locked ys) (flat_map (compared ys) xs) (all_locked sources locked locked ys (All-contains_itself locked) h)
-    (of_all sources locked ys h sources xs (All-contains_itself sources) g))
+  module _ (file : File) (t : Members) (known : HasDocument documents Project file t) (xs : List StringReading) (g : AllZip (IsStringReading file) (sources t) xs) where
+    beside_broken : (other : File) (y : DocumentReading) → IsBrokenReading other y → All Right (found_beside (IsProject xs) y)
+    beside_broken other y (line, reason, column, place, is) = subst (λ (z : DocumentReading). All Right (found_beside (IsProject xs) z)) (sym is) (All-nil Right)
+
+    beside_project : (kind : DocumentKind) (other : File) (y : DocumentReading) → Contains documents (record { kind = kind; file = other }) → IsDocumentReading (record { kind = kind; file = other }) y → All Right (found_beside (IsProject xs) y)
+    beside_project kind other y at (inl (none, broken)) = beside_broken other y broken
+    beside_project kind other y at (inr (text, inr (none, broken))) = beside_broken other y broken
+    beside_project Project other y at (inr (text, inl (u, e, (zs, h, is)))) = subst (λ (z : DocumentReading). All Right (found_beside (IsProject xs) z)) (sym is) (All-nil Right)
+    beside_project (Lock kind) other y at (inr (text, inl (u, e, (ys, h, is)))) =
+        subst (λ (z : DocumentReading). All Right (found_beside (IsProject xs) z)) (sym is) (pair_right file other kind t u known (at, (text, e)) xs ys g h)
+
+  beside_right : (kind : DocumentKind) (file : File) (other : Document) (x y : DocumentReading) → Contains documents (record { kind = kind; file = file }) → Contains documents other → IsDocumentReading (record { kind = kind; file = file }) x
+      → IsDocumentReading other y → All Right (found_beside x y)
+  beside_right kind file other x y known at (inl (none, broken)) r = broken_right file x y broken
+  beside_right kind file other x y known at (inr (text, inr (none, broken))) r = broken_right file x y broken
+  beside_right (Lock kind) file other x y known at (inr (text, inl (t, e, (ys, h, is)))) r = subst (λ (z : DocumentReading). All Right (found_beside z y)) (sym is) (All-nil Right)
+  beside_right Project file other x y known at (inr (text, inl (t, e, (xs, h, is)))) r =
+      subst (λ (z : DocumentReading). All Right (found_beside z y)) (sym is) (beside_project file t (known, (text, e)) xs h other.kind other.file y at r)
+
+  -- ---- all documents
+
+  findings_of : (a : Report) (xs : List DocumentReading) → (with_own_reports a xs).findings ≡ a.findings ++ flat_map (λ x. (own_report x).findings) xs
+  findings_of a [] = sym (append-nil a.findings)
+  findings_of a (x ∷ xs) = findings_of (joined_report a (own_report x)) xs ∙ append_assoc a.findings (own_report x).findings (flat_map (λ y. (own_report y).findings) xs)
+
+  pub all_right : (xs : List DocumentReading) → AllZip IsDocumentReading documents xs → All Right (documents_report xs).findings
+  all_right xs h =
+      All-append Right (with_own_reports empty_report xs).findings (flat_map (beside_all xs) xs)
+      (subst (λ fs. All Right fs) (sym (findings_of empty_report xs))
+      (all_flat Right (λ x. (own_report x).findings) xs
+      (zip_each IsDocumentReading (Contains documents) (λ x. All Right (own_report x).findings) (λ d x known r. of_document d.kind d.file x known r) documents xs (All-contains_itself documents) h)))
+      (all_flat Right (beside_all xs) xs
+      (zip_each IsDocumentReading (Contains documents) (λ x. All Right (beside_all xs x))
+      (λ d x known r. all_flat Right (found_beside x) xs (zip_each IsDocumentReading (Contains documents) (λ y. All Right (found_beside x y)) (λ e y at s. beside_right d.kind d.file e x y known at r s) documents xs (All-contains_itself documents) h)) documents xs
+      (All-contains_itself documents) h))
+
+pub findings_hold : DocumentFindingsHold
+findings_hold documents r (xs, h, is) = subst (λ (q : Report). All (IsDocumentFinding documents) q.findings) (sym is) (all_right documents xs h)

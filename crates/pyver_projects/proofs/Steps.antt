@@ -4,6 +4,8 @@ use Rattle.std.proofs.lemmas.Bool.{true≢false}
 use Rattle.std.proofs.lemmas.List.{append-nil, append_assoc, drop_more, map-append, take_more}
 use Rattle.pyver_projects.specs.Places.{before_first, opens_with}
 use Rattle.std.specs.List.{AllZip}
+use Rattle.pep440_version.specs.ErrorTexts.{error_text, refusal_text}
+use Rattle.pep440_version.specs.Refusals.{Refusal, Refuses}
 use Rattle.toml.specs.Data.{Data}
 use Rattle.toml.specs.View.{items_of}
 use Rattle.pyver_projects.specs.Documents.{items_list}
@@ -32,14 +34,19 @@ pub read_all : {L M A B : Type 0} (view : L → A) (show : M → B) (R : A → B
 read_all view show R xs i ys end h = subst (λ ls. AllZip R (map view ls) (map show ys)) (take_all i xs end) h
 
 -- an error that is no want of memory has a reason
-pub refused : {F : Type 0} (o : Option F) (P : F → Type 0) → is_none o ≡ false → IfSome o P → (f : F) × P f
-refused None P e h = absurd (true≢false e)
-refused (Some f) P e h = (f, h)
+pub refusal : {F : Type 0} (o : Option F) → is_none o ≡ false → (f : F) × (o ≡ Some f)
+refusal None e = absurd (true≢false e)
+refusal (Some f) e = (f, refl)
 
--- a string is rejected for its reason, or an allocation failed
-pub rejected : {Y E F : Type 0} (r : Result Y E) (o : Option F) (P : F → Type 0) (A Q : Y → Type 0) (b : Bool) → b ≡ is_none o → IfSome o P → IfOk r (λ _. b ≡ false) → IfOk r Q → IfOk r (λ y. A y ⊎ ((f : F) × P f × Q y))
-rejected (Ok y) o P A Q b is h memory q = let (f, reason) = refused o P (sym is ∙ memory) h in inr (f, reason, q)
-rejected (Err e) o P A Q b is h memory q = tt
+-- the reason of the refusal is printed
+pub version_reason_is : (f : Refusal) (s : List ℕ) → error_text (Some f) ≡ Some (refusal_text f) → IfSome (error_text (Some f)) (λ t. s ≡ t) → s ≡ refusal_text f
+version_reason_is f s told is = subst (λ (o : Option (List ℕ)). IfSome o (λ t. s ≡ t)) told is
+
+-- a string is no version for its reason
+pub version_read : {Y E : Type 0} (r : Result Y E) (o : Option Refusal) (text : List ℕ) (A : Y → Type 0) (Q : Refusal → Y → Type 0) → IfSome o (Refuses text) → IfOk r (λ y. (f : Refusal) × (o ≡ Some f) × Q f y)
+    → IfOk r (λ y. A y ⊎ ((f : Refusal) × Refuses text f × Q f y))
+version_read (Ok y) o text A Q refuses (f, some, q) = inr (f, subst (λ (p : Option Refusal). IfSome p (Refuses text)) some refuses, q)
+version_read (Err e) o text A Q refuses h = tt
 
 -- ---- what stands before the first of two strings
 

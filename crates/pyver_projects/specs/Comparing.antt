@@ -1,44 +1,61 @@
--- What is found in `pyproject.toml` alone, and beside a lock.
-use Rattle.std.specs.Prelude.{◌≡◌, List, [], ◌∷◌, ◌++◌, Bool, true, false, if◌then◌else◌}
+-- What is found in documents: in each by itself, and in each project beside each lock.
+use Rattle.std.specs.Prelude.{◌≡◌, ℕ, List, [], ◌∷◌, ◌++◌, Bool, true, false, Option, Some, None, bytes_eq, codes, is_none, length, if◌then◌else◌}
 use Rattle.std.specs.List.{AllZip, flat_map, list_any}
-use Rattle.pep440_pick.specs.Names.{same_name}
-use Rattle.pep440_pick.specs.RequirementGrammar.{Needed}
 use Rattle.pep440_rs.specs.Matching.{list_matches}
-use Rattle.pyver_projects.specs.Meanings.{Asks, HasNoVersion, IsInvalid, IsLockedMeaning, IsStringMeaning, LockedMeaning, Meaning, Names, Passes}
-use Rattle.pyver_projects.specs.ProjectStrings.{Dependencies, Extra, Group, LockedPackage, Section, ProjectString}
+use Rattle.pep440_version.specs.Record.{Record}
+use Rattle.pyver_findings.specs.Demands.{Demand}
+use Rattle.pyver_findings.specs.FileLines.{FileLine}
+use Rattle.pyver_findings.specs.Findings.{Conflicting, Finding, NoRequirement}
+use Rattle.pyver_findings.specs.Reports.{Report, demands_in, empty_report, invalid_in, joined_report, left_out_in}
+use Rattle.pyver_findings.specs.declared.cause.Cause.{Cause}
+use Rattle.pyver_findings.specs.declared.finding.Conflict.TheVariants.{PinOutside}
+use Rattle.pyver_projects.specs.Meanings.{Document, DocumentReading, IsBroken, IsDocumentReading, IsLock, IsProject, LockedReading, StringReading}
+use Rattle.pyver_projects.specs.ProjectStrings.{Dependencies, Extra, Group, Section}
 
-pub data ProjectFinding : Type 0 where
-  InvalidString : ProjectString → ProjectFinding
-  InvalidVersion : LockedPackage → ProjectFinding
-  Excluded : ProjectString → LockedPackage → ProjectFinding
-  Missing : ProjectString → ProjectFinding
+-- ---- a document by itself
 
--- ---- `pyproject.toml` alone
+-- what is wrong with a string by itself
+abbrev pub invalid_string : StringReading → List Finding
+invalid_string x = invalid_in x.meaning
 
-abbrev pub invalid_strings : Meaning → List ProjectFinding
-invalid_strings (Asks s n) = []
-invalid_strings Passes = []
-invalid_strings (IsInvalid s) = InvalidString s ∷ []
+-- the finding, if there is one
+abbrev pub found_or_none : Option Finding → List Finding
+found_or_none None = []
+found_or_none (Some f) = f ∷ []
 
--- the findings in these strings
-abbrev pub AreInvalid : List ProjectString → List ProjectFinding → Type 0
-AreInvalid sources found = (xs : List Meaning) × AllZip IsStringMeaning sources xs × (found ≡ flat_map invalid_strings xs)
+-- what is wrong with a package by itself
+abbrev pub invalid_package : LockedReading → List Finding
+invalid_package y = found_or_none y.invalid
 
--- ---- beside a lock
+-- why a string is left out
+abbrev pub left_out_string : StringReading → List Cause
+left_out_string x = left_out_in x.meaning
 
-abbrev pub invalid_locked : LockedMeaning → List ProjectFinding
-invalid_locked (Names l v) = []
-invalid_locked (HasNoVersion l) = InvalidVersion l ∷ []
+-- the report of a document by itself: the strings or the packages count as lines
+abbrev pub own_report : DocumentReading → Report
+own_report (IsProject xs) = record { findings = flat_map invalid_string xs; lines = length xs; files = 1; left_out = flat_map left_out_string xs }
+own_report (IsLock ys) = record { findings = flat_map invalid_package ys; lines = length ys; files = 1; left_out = [] }
+own_report (IsBroken f) = record { findings = f ∷ []; lines = 0; files = 1; left_out = [] }
+
+-- a report, and after it those of documents
+abbrev pub with_own_reports : Report → List DocumentReading → Report
+with_own_reports a [] = a
+with_own_reports a (x ∷ xs) = with_own_reports (joined_report a (own_report x)) xs
+
+-- ---- a project beside a lock
 
 -- the package has the name of the requirement
-abbrev pub has_name : Needed → LockedMeaning → Bool
-has_name n (Names l v) = same_name n.name l.name
-has_name n (HasNoVersion l) = same_name n.name l.name
+abbrev pub has_name : Demand → LockedReading → Bool
+has_name a y = bytes_eq a.name y.name
+
+-- the version is contained in the list, or both lines are a finding
+abbrev pub excluded_by : Demand → FileLine → Option Record → List Finding
+excluded_by a line None = []
+excluded_by a line (Some v) = if list_matches a.specifiers v then [] else Conflicting PinOutside (a.line ∷ (line ∷ [])) ∷ []
 
 -- the list of the requirement does not contain the locked version of its name
-abbrev pub excluded : ProjectString → Needed → LockedMeaning → List ProjectFinding
-excluded s n (Names l v) = if same_name n.name l.name then (if list_matches n.specifiers v then [] else Excluded s l ∷ []) else []
-excluded s n (HasNoVersion l) = []
+abbrev pub excluded : Demand → LockedReading → List Finding
+excluded a y = if has_name a y then excluded_by a y.line y.version else []
 
 -- a lock has the dependencies of the project,
 abbrev pub is_needed : Section → Bool
@@ -52,20 +69,40 @@ is_locked (Extra name) = true
 is_locked (Group name) = true
 is_locked _ = false
 
--- the lock has no package of the name
-abbrev pub missing : ProjectString → Needed → List LockedMeaning → List ProjectFinding
-missing s n ys = if is_needed s.section then (if list_any (has_name n) ys then [] else Missing s ∷ []) else []
+-- the lock has no package of the name of the requirement
+abbrev pub missing : List LockedReading → Section → Demand → List Finding
+missing ys section a = if is_needed section then (if list_any (has_name a) ys then [] else NoRequirement a.line (codes "the lock has no package of this name") 0 ∷ []) else []
 
--- a requirement beside the lock
-abbrev pub compared_with : List LockedMeaning → ProjectString → Needed → List ProjectFinding
-compared_with ys s n = if is_locked s.section then missing s n ys ++ flat_map (excluded s n) ys else []
+-- a requirement beside the lock, which counts if it has no marker
+abbrev pub compared_demand : List LockedReading → Section → Demand → List Finding
+compared_demand ys section a = if is_none a.marker then missing ys section a ++ flat_map (excluded a) ys else []
 
-abbrev pub compared : List LockedMeaning → Meaning → List ProjectFinding
-compared ys (Asks s n) = compared_with ys s n
-compared ys Passes = []
-compared ys (IsInvalid s) = []
+-- a string beside the lock
+abbrev pub compared : List LockedReading → StringReading → List Finding
+compared ys x = if is_locked x.section then flat_map (compared_demand ys x.section) (demands_in x.meaning) else []
 
--- the findings in these strings beside these locked versions
-abbrev pub AreCompared : List ProjectString → List LockedPackage → List ProjectFinding → Type 0
-AreCompared sources locked found = (xs : List Meaning) × (ys : List LockedMeaning) × AllZip IsStringMeaning sources xs × AllZip IsLockedMeaning locked ys
-    × (found ≡ flat_map invalid_locked ys ++ flat_map (compared ys) xs)
+-- the first document beside the second, if that is a project and this a lock
+abbrev pub found_beside : DocumentReading → DocumentReading → List Finding
+found_beside (IsProject xs) (IsLock ys) = flat_map (compared ys) xs
+found_beside (IsProject xs) (IsProject others) = []
+found_beside (IsProject xs) (IsBroken f) = []
+found_beside (IsLock ys) other = []
+found_beside (IsBroken f) other = []
+
+-- a document beside each of these
+abbrev pub beside_all : List DocumentReading → DocumentReading → List Finding
+beside_all others x = flat_map (found_beside x) others
+
+-- ---- all documents
+
+-- a report with more findings
+abbrev pub with_findings : Report → List Finding → Report
+with_findings a found = record { findings = a.findings ++ found; lines = a.lines; files = a.files; left_out = a.left_out }
+
+-- the report of documents that were read: of each by itself, in order, and then of each project beside each lock
+abbrev pub documents_report : List DocumentReading → Report
+documents_report xs = with_findings (with_own_reports empty_report xs) (flat_map (beside_all xs) xs)
+
+-- the report of the documents
+abbrev pub IsDocumentsReport : List Document → Report → Type 0
+IsDocumentsReport documents r = (xs : List DocumentReading) × AllZip IsDocumentReading documents xs × (r ≡ documents_report xs)

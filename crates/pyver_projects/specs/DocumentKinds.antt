@@ -3,7 +3,7 @@ use Rattle.std.specs.Prelude.{ℕ, ◌||◌, List, Bool, Option, Some, None, byt
 use Rattle.std.specs.List.{ends_with}
 use Rattle.pyver_projects.specs.declared.document_kind.DocumentKind.{DocumentKind}
 use Rattle.pyver_projects.specs.declared.document_kind.DocumentKind.TheVariants.{Lock, Project}
-use Rattle.pyver_projects.specs.declared.lock_document.LockKind.TheVariants.{Poetry, Pylock, Uv}
+use Rattle.pyver_projects.specs.declared.document_kind.LockKind.TheVariants.{Poetry, Pylock, Uv}
 
 -- the path is this name, or ends with it after a `/`
 abbrev pub ends_path : List ℕ → List ℕ → List ℕ → Bool

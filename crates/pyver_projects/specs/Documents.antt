@@ -1,5 +1,5 @@
 -- What a parsed TOML document has to check: the strings of `pyproject.toml`, and the versions of a lock.
-use Rattle.std.specs.Prelude.{ℕ, List, [], ◌∷◌, ◌++◌, Option, Some, None, codes, option_and_then}
+use Rattle.std.specs.Prelude.{ℕ, ◌+◌, List, [], ◌∷◌, ◌++◌, Option, Some, None, codes, get_or, option_and_then}
 use Rattle.std.specs.List.{flat_map}
 use Rattle.toml.specs.Data.{Data, Items, Members, as_array, as_str, as_table, get, get_member, item, member, no_items, no_members}
 use Rattle.pyver_projects.specs.ProjectStrings.{Build, Dependencies, Extra, Group, LockedPackage, Section, Python, ProjectString, Version}
@@ -75,14 +75,19 @@ sources document = table_sources (get_member (codes "project") document)
 
 -- ---- locks
 
--- a package, if it has a name and a version
-abbrev pub locked_in : Option (List ℕ) → Option (List ℕ) → List LockedPackage
-locked_in (Some name) (Some version) = record { name = name; version = version } ∷ []
-locked_in _ _ = []
+-- a package on this line, if it has a name
+abbrev pub package_in : ℕ → Option (List ℕ) → Option (List ℕ) → List LockedPackage
+package_in line None version = []
+package_in line (Some name) version = record { line = line; name = name; version = version } ∷ []
 
-abbrev pub locked_from : Data → List LockedPackage
-locked_from d = locked_in (text_in (get (codes "name") d)) (text_in (get (codes "version") d))
+abbrev pub package_from : ℕ → Data → List LockedPackage
+package_from line d = package_in line (text_in (get (codes "name") d)) (text_in (get (codes "version") d))
 
--- the packages with a version, in the array of tables at this key
-abbrev pub locked : List ℕ → Members → List LockedPackage
-locked key document = flat_map locked_from (listed (get_member key document))
+-- the packages from a number on, each on the line with its number, or on the first line if there are not so many
+abbrev pub packages_from : List ℕ → ℕ → List Data → List LockedPackage
+packages_from lines i [] = []
+packages_from lines i (d ∷ ds) = package_from (get_or lines i 1) d ++ packages_from lines (i + 1) ds
+
+-- the packages in the array of tables at this key, with these lines of headers
+abbrev pub packages : List ℕ → List ℕ → Members → List LockedPackage
+packages lines key document = packages_from lines 0 (listed (get_member key document))

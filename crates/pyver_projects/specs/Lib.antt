@@ -1,11 +1,9 @@
 pub mod ProjectStrings
 pub mod Documents
-pub mod ProjectViews
+pub mod Places
 pub mod Locks
 pub mod Meanings
+pub mod ProjectViews
 pub mod Comparing
 pub mod ProjectLaws
-pub mod ValueViews
-pub mod Places
-pub mod ReadViews
 pub mod DocumentKinds

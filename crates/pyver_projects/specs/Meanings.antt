@@ -1,80 +1,104 @@
--- What a string of `pyproject.toml` and a locked version are to the check.
-use Rattle.std.specs.Prelude.{◌≡◌, ◌⊎◌, ◌==◌, ℕ, List, [], ◌∷◌, Bool, Option, Some, None, length, if◌then◌else◌}
+-- What a string of `pyproject.toml`, a locked package and a document are to the check.
+use Rattle.std.specs.Prelude.{◌≡◌, ◌⊎◌, ℕ, ◌+◌, List, [], ◌∷◌, ◌++◌, Option, Some, None, codes, length}
+use Rattle.std.specs.List.{AllZip}
 use Rattle.std.specs.Str.{IsUtf8}
-use Rattle.pep440_pick.specs.RequirementGrammar.{DerivesRequirement, Needed, RefusesRequirement, RequirementRefusal}
-use Rattle.pep440_rs.specs.ListGrammar.{DerivesList, PieceRefusal, RefusesList}
-use Rattle.pep440_rs.specs.Specifiers.{Spec}
+use Rattle.pep440_pick.specs.Names.{normal}
+use Rattle.pep440_version.specs.ErrorTexts.{refusal_text}
 use Rattle.pep440_version.specs.Grammar.{Derives}
 use Rattle.pep440_version.specs.Record.{Record}
 use Rattle.pep440_version.specs.Refusals.{Refusal, Refuses}
-use Rattle.pyver_requirements.specs.LineParts.{LineParts, line_parts}
+use Rattle.pyver_findings.specs.FileLines.{File, FileLine}
+use Rattle.pyver_findings.specs.Findings.{Finding, NoRequirement}
+use Rattle.pyver_findings.specs.LineMeanings.{AsksNothing, IsListMeaning, IsNone, IsPartsMeaning, LineMeaning}
+use Rattle.pyver_requirements.specs.LineParts.{line_parts}
+use Rattle.toml.specs.Data.{Members}
+use Rattle.toml.specs.Parse.{parse_document}
+use Rattle.pyver_projects.specs.Documents.{sources}
+use Rattle.pyver_projects.specs.Locks.{locked}
+use Rattle.pyver_projects.specs.Places.{first_line, number_or_one}
 use Rattle.pyver_projects.specs.ProjectStrings.{Build, Dependencies, Extra, Group, LockedPackage, Section, Python, ProjectString, Version}
-use Rattle.pyver_projects.specs.declared.rest.Rest.{Rest}
-use Rattle.pyver_projects.specs.declared.rest.Rest.TheVariants.{Broken, Depends, Nothing}
+use Rattle.pyver_projects.specs.declared.document_kind.DocumentKind.{DocumentKind}
+use Rattle.pyver_projects.specs.declared.document_kind.DocumentKind.TheVariants.{Lock, Project}
 
--- a requirement that counts always; a string that is what it is to be, and counts not always or asks for no package; one that is not
-pub data Meaning : Type 0 where
-  Asks : ProjectString → Needed → Meaning
-  Passes : Meaning
-  IsInvalid : ProjectString → Meaning
+-- ---- strings of `pyproject.toml`
 
--- a package with the version that is locked, or with a string that is none
-pub data LockedMeaning : Type 0 where
-  Names : LockedPackage → Record → LockedMeaning
-  HasNoVersion : LockedPackage → LockedMeaning
+-- a string as a line of the file
+abbrev pub string_line : File → ProjectString → FileLine
+string_line file s = record { file = file.name; number = number_or_one (first_line file.text s.text); text = s.text }
 
--- ---- requirements
+-- what a string of this line is that is to be a version
+abbrev pub IsVersionMeaning : FileLine → List ℕ → LineMeaning → Type 0
+IsVersionMeaning line text x = ((r : Record) × Derives text r × (x ≡ AsksNothing)) ⊎ ((f : Refusal) × Refuses text f × (x ≡ IsNone (NoRequirement line (refusal_text f) 0)))
 
--- what stands after `@`: a URL, before which no list of specifiers stands
-abbrev pub url_rest : Bool → Rest → Option (List ℕ) → Rest
-url_rest bare marked None = marked
-url_rest bare marked (Some []) = Broken
-url_rest bare marked (Some (b ∷ url)) = if bare then Depends else Broken
+-- what a string of this line is in this section
+abbrev pub IsSectionMeaning : Section → FileLine → List ℕ → LineMeaning → Type 0
+IsSectionMeaning Python line text x = IsListMeaning line text x
+IsSectionMeaning Version line text x = IsVersionMeaning line text x
+IsSectionMeaning Dependencies line text x = IsPartsMeaning line (line_parts text) x
+IsSectionMeaning (Extra name) line text x = IsPartsMeaning line (line_parts text) x
+IsSectionMeaning (Group name) line text x = IsPartsMeaning line (line_parts text) x
+IsSectionMeaning Build line text x = IsPartsMeaning line (line_parts text) x
 
--- what stands after the list: nothing, or a marker, a URL or both, on which it depends whether the requirement counts
-abbrev pub marker_rest : Bool → Option (List ℕ) → Option (List ℕ) → Rest
-marker_rest bare url None = url_rest bare Nothing url
-marker_rest bare url (Some []) = Broken
-marker_rest bare url (Some (b ∷ marker)) = url_rest bare Depends url
+-- a string that was read: its section, and what it is
+pub record StringReading : Type 0 where
+  pub section : Section
+  pub meaning : LineMeaning
 
-abbrev pub requirement_rest : LineParts → Bool → Rest
-requirement_rest p bare = marker_rest bare p.url p.marker
+abbrev pub IsStringReading : File → ProjectString → StringReading → Type 0
+IsStringReading file s x = (x.section ≡ s.section) × IsSectionMeaning s.section (string_line file s) s.text x.meaning
 
--- a string that has this requirement, with this after it
-abbrev pub rest_meaning : ProjectString → Needed → Rest → Meaning
-rest_meaning s n Nothing = Asks s n
-rest_meaning s n Depends = Passes
-rest_meaning s n Broken = IsInvalid s
+-- ---- locked packages
 
--- a string with these parts (PEP 508)
-abbrev pub IsRequirementMeaning : ProjectString → LineParts → Meaning → Type 0
-IsRequirementMeaning s p x = ((¬ IsUtf8 p.requirement) × (x ≡ IsInvalid s))
-    ⊎ (IsUtf8 p.requirement × (((n : Needed) × DerivesRequirement p.requirement n × (x ≡ rest_meaning s n (requirement_rest p (length n.specifiers == 0))))
-    ⊎ ((f : RequirementRefusal) × RefusesRequirement p.requirement f × (x ≡ IsInvalid s))))
+-- a package that was read: its line, its name in its normal form, its version if it has one that is valid, and what is wrong with it
+pub record LockedReading : Type 0 where
+  pub line : FileLine
+  pub name : List ℕ
+  pub version : Option Record
+  pub invalid : Option Finding
 
--- ---- all strings
+-- the name and the version
+abbrev pub package_text : List ℕ → Option (List ℕ) → List ℕ
+package_text name None = name
+package_text name (Some version) = name ++ (codes " " ++ version)
 
--- a string that is to be a list of specifiers
-abbrev pub IsListMeaning : ProjectString → Meaning → Type 0
-IsListMeaning s x = ((list : List Spec) × DerivesList s.text list × (x ≡ Passes)) ⊎ ((f : PieceRefusal) × RefusesList s.text f × (x ≡ IsInvalid s))
+-- a package as a line of the file with this name
+abbrev pub package_line : List ℕ → LockedPackage → FileLine
+package_line file p = record { file = file; number = p.line; text = package_text p.name p.version }
 
--- a string that is to be a version
-abbrev pub IsVersionMeaning : ProjectString → Meaning → Type 0
-IsVersionMeaning s x = ((r : Record) × Derives s.text r × (x ≡ Passes)) ⊎ ((f : Refusal) × Refuses s.text f × (x ≡ IsInvalid s))
+-- a package on this line with this name and version
+abbrev pub IsVersionReading : FileLine → List ℕ → Option (List ℕ) → LockedReading → Type 0
+IsVersionReading line name None y = y ≡ record { line = line; name = normal name; version = None; invalid = None }
+IsVersionReading line name (Some text) y = ((r : Record) × Derives text r × (y ≡ record { line = line; name = normal name; version = Some r; invalid = None }))
+    ⊎ ((f : Refusal) × Refuses text f × (y ≡ record { line = line; name = normal name; version = None; invalid = Some (NoRequirement line (refusal_text f) (length name + 1)) }))
 
--- a string in this section
-abbrev pub IsSectionMeaning : Section → ProjectString → Meaning → Type 0
-IsSectionMeaning Python s x = IsListMeaning s x
-IsSectionMeaning Version s x = IsVersionMeaning s x
-IsSectionMeaning Dependencies s x = IsRequirementMeaning s (line_parts s.text) x
-IsSectionMeaning (Extra name) s x = IsRequirementMeaning s (line_parts s.text) x
-IsSectionMeaning (Group name) s x = IsRequirementMeaning s (line_parts s.text) x
-IsSectionMeaning Build s x = IsRequirementMeaning s (line_parts s.text) x
+abbrev pub IsLockedReading : List ℕ → LockedPackage → LockedReading → Type 0
+IsLockedReading file p y = IsVersionReading (package_line file p) p.name p.version y
 
--- what a string is
-abbrev pub IsStringMeaning : ProjectString → Meaning → Type 0
-IsStringMeaning s x = IsSectionMeaning s.section s x
+-- ---- documents
 
--- what a locked version is
-abbrev pub IsLockedMeaning : LockedPackage → LockedMeaning → Type 0
-IsLockedMeaning l y = ((r : Record) × Derives l.version r × (y ≡ Names l r)) ⊎ ((f : Refusal) × Refuses l.version f × (y ≡ HasNoVersion l))
+pub record Document : Type 0 where
+  pub kind : DocumentKind
+  pub file : File
+
+-- a document that was read: the strings of a project, the packages of a lock, or why it was not read
+pub data DocumentReading : Type 0 where
+  IsProject : List StringReading → DocumentReading
+  IsLock : List LockedReading → DocumentReading
+  IsBroken : Finding → DocumentReading
+
+-- what a document with this table is
+abbrev pub IsTableReading : DocumentKind → File → Members → DocumentReading → Type 0
+IsTableReading Project file t d = (xs : List StringReading) × AllZip (IsStringReading file) (sources t) xs × (d ≡ IsProject xs)
+IsTableReading (Lock kind) file t d = (ys : List LockedReading) × AllZip (IsLockedReading file.name) (locked kind file.text t) ys × (d ≡ IsLock ys)
+
+-- the document is not read, for some reason at some position of it
+abbrev pub IsBrokenReading : File → DocumentReading → Type 0
+IsBrokenReading file d = (line : FileLine) × (reason : List ℕ) × (column : ℕ) × (line.file ≡ file.name) × (d ≡ IsBroken (NoRequirement line reason column))
+
+-- what a document with this text is, which is UTF-8
+abbrev pub IsTomlReading : DocumentKind → File → DocumentReading → Type 0
+IsTomlReading kind file x = ((t : Members) × (parse_document file.text ≡ Some t) × IsTableReading kind file t x) ⊎ ((parse_document file.text ≡ None) × IsBrokenReading file x)
+
+-- what a document is
+abbrev pub IsDocumentReading : Document → DocumentReading → Type 0
+IsDocumentReading d x = ((¬ IsUtf8 d.file.text) × IsBrokenReading d.file x) ⊎ (IsUtf8 d.file.text × IsTomlReading d.kind d.file x)

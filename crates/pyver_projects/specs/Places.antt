@@ -1,5 +1,5 @@
--- Where a string stands in a document.
-use Rattle.std.specs.Prelude.{ℕ, ◌+◌, ◌==◌, ◌||◌, List, [], ◌∷◌, ◌++◌, Bool, Option, Some, None, count_by, length, nat_eq, if◌then◌else◌}
+-- Where strings and packages stand in a document.
+use Rattle.std.specs.Prelude.{ℕ, ◌+◌, ◌==◌, ◌&&◌, ◌||◌, List, [], ◌∷◌, ◌++◌, Bool, true, Option, Some, None, count_by, length, nat_eq, if◌then◌else◌}
 use Rattle.std.specs.List.{starts_with}
 
 -- the string between two of these quotes
@@ -26,3 +26,18 @@ line_before text before = if length before == length text then None else Some (l
 -- the number of the first line on which the string stands in quotes, `"` or `'`
 abbrev pub first_line : List ℕ → List ℕ → Option ℕ
 first_line text string = line_before text (before_first (quoted_string 34 string) (quoted_string 39 string) text)
+
+-- its number, or 1 if there is none
+abbrev pub number_or_one : Option ℕ → ℕ
+number_or_one None = 1
+number_or_one (Some number) = number
+
+-- the numbers of the lines that begin with the header: of these bytes, the first of which is on this line, at its start or not
+abbrev pub headers_from : List ℕ → Bool → ℕ → List ℕ → List ℕ
+headers_from header starts number [] = []
+headers_from header starts number (b ∷ rest) = (if starts && starts_with nat_eq (b ∷ rest) header then number ∷ [] else [])
+    ++ headers_from header (b == 10) (if b == 10 then number + 1 else number) rest
+
+-- the numbers of the lines of a document that begin with the header
+abbrev pub header_lines : List ℕ → List ℕ → List ℕ
+header_lines header text = headers_from header true 1 text

@@ -1,44 +1,141 @@
--- What holds of findings: each is right, and where there is none, each requirement contains each locked version of its name.
-use Rattle.std.specs.Prelude.{◌≡◌, List, [], false, IsTrue, None}
+-- What holds of reports of documents: each finding is right; where there is none, each requirement contains each locked version of its
+-- name; there is one report.
+use Rattle.std.specs.Prelude.{◌≡◌, ◌⊎◌, ℕ, ◌+◌, List, [], ◌∷◌, false, true, IsTrue, None, Some, codes, length}
 use Rattle.std.specs.List.{All, Contains}
 use Rattle.std.specs.Str.{IsUtf8}
 use Rattle.pep440_pick.specs.Names.{same_name}
 use Rattle.pep440_pick.specs.RequirementGrammar.{DerivesRequirement, Needed}
 use Rattle.pep440_rs.specs.Matching.{list_matches}
+use Rattle.pep440_version.specs.ErrorTexts.{refusal_text}
 use Rattle.pep440_version.specs.Grammar.{Derives}
 use Rattle.pep440_version.specs.Record.{Record}
+use Rattle.pep440_version.specs.Refusals.{Refusal, Refuses}
+use Rattle.pyver_findings.specs.FileLines.{File, FileLine}
+use Rattle.pyver_findings.specs.Findings.{Conflicting, Finding, NoRequirement}
+use Rattle.pyver_findings.specs.LineMeanings.{IsNone}
+use Rattle.pyver_findings.specs.Reports.{Report}
+use Rattle.pyver_findings.specs.declared.finding.Conflict.TheVariants.{PinOutside}
 use Rattle.pyver_requirements.specs.LineParts.{line_parts}
-use Rattle.pyver_projects.specs.Comparing.{AreCompared, Excluded, ProjectFinding, InvalidString, InvalidVersion, Missing, is_locked}
+use Rattle.toml.specs.Data.{Members}
+use Rattle.toml.specs.Parse.{parse_document}
+use Rattle.pyver_projects.specs.Comparing.{IsDocumentsReport, is_locked, is_needed}
+use Rattle.pyver_projects.specs.Documents.{sources}
+use Rattle.pyver_projects.specs.Locks.{locked}
+use Rattle.pyver_projects.specs.Meanings.{Document, IsSectionMeaning, package_line, string_line}
 use Rattle.pyver_projects.specs.ProjectStrings.{LockedPackage, ProjectString}
+use Rattle.pyver_projects.specs.declared.document_kind.DocumentKind.{DocumentKind}
+use Rattle.pyver_projects.specs.declared.document_kind.DocumentKind.TheVariants.{Lock, Project}
+use Rattle.pyver_projects.specs.declared.document_kind.LockKind.{LockKind}
+
+-- the file is TOML in UTF-8 with this table
+abbrev pub HasTable : File → Members → Type 0
+HasTable file t = IsUtf8 file.text × (parse_document file.text ≡ Some t)
+
+-- the document is TOML in UTF-8
+abbrev pub IsReadable : Document → Type 0
+IsReadable d = (t : Members) × HasTable d.file t
+
+-- one of the documents is a file of this kind, with this table
+abbrev pub HasDocument : List Document → DocumentKind → File → Members → Type 0
+HasDocument documents kind file t = Contains documents (record { kind = kind; file = file }) × HasTable file t
+
+-- one of the documents is a project in this file, and has this string
+abbrev pub HasString : List Document → File → ProjectString → Type 0
+HasString documents file s = (t : Members) × HasDocument documents Project file t × Contains (sources t) s
+
+-- one of the documents is a lock in this file, and has this package
+abbrev pub HasPackage : List Document → File → LockedPackage → Type 0
+HasPackage documents file p = (kind : LockKind) × (t : Members) × HasDocument documents (Lock kind) file t × Contains (locked kind file.text t) p
 
 -- the string is this requirement, and has no marker and no URL
 abbrev pub AlwaysAsks : ProjectString → Needed → Type 0
 AlwaysAsks s n = IsUtf8 (line_parts s.text).requirement × DerivesRequirement (line_parts s.text).requirement n × ((line_parts s.text).marker ≡ None) × ((line_parts s.text).url ≡ None)
 
--- the requirement has the name of the package, and its list does not contain the locked version
-abbrev pub Excludes : ProjectString → LockedPackage → Type 0
-Excludes s l = (n : Needed) × (v : Record) × AlwaysAsks s n × IsTrue (same_name n.name l.name) × Derives l.version v × (¬ IsTrue (list_matches n.specifiers v))
+-- ---- findings
 
--- the requirement has another name than each package
-abbrev pub IsMissing : List LockedPackage → ProjectString → Type 0
-IsMissing locked s = (n : Needed) × AlwaysAsks s n × All (λ (l : LockedPackage). same_name n.name l.name ≡ false) locked
+-- the string is not what it is to be in its section
+pub record IsInvalidString (documents : List Document) (f : Finding) : Type 0 where
+  pub file : File
+  pub string : ProjectString
+  pub has : HasString documents file string
+  pub is : IsSectionMeaning string.section (string_line file string) string.text (IsNone f)
 
--- the finding speaks of these strings and locked versions, and is so
-abbrev pub IsLockFinding : List ProjectString → List LockedPackage → ProjectFinding → Type 0
-IsLockFinding sources locked (InvalidString s) = ⊥
-IsLockFinding sources locked (InvalidVersion l) = Contains locked l × ((v : Record) → Derives l.version v → ⊥)
-IsLockFinding sources locked (Excluded s l) = Contains sources s × Contains locked l × Excludes s l
-IsLockFinding sources locked (Missing s) = Contains sources s × IsMissing locked s
+-- the version of the package is none
+pub record IsInvalidPackage (documents : List Document) (f : Finding) : Type 0 where
+  pub file : File
+  pub locked : LockedPackage
+  pub text : List ℕ
+  pub reason : Refusal
+  pub has : HasPackage documents file locked
+  pub version : locked.version ≡ Some text
+  pub refuses : Refuses text reason
+  pub is : f ≡ NoRequirement (package_line file.name locked) (refusal_text reason) (length locked.name + 1)
+
+-- the document is not read
+pub record IsUnread (documents : List Document) (f : Finding) : Type 0 where
+  pub document : Document
+  pub line : FileLine
+  pub reason : List ℕ
+  pub column : ℕ
+  pub has : Contains documents document
+  pub none : ¬ IsReadable document
+  pub place : line.file ≡ document.file.name
+  pub is : f ≡ NoRequirement line reason column
+
+-- the project needs a package, and some lock has none of its name
+pub record IsMissing (documents : List Document) (f : Finding) : Type 0 where
+  pub file : File
+  pub string : ProjectString
+  pub lock : File
+  pub kind : LockKind
+  pub table : Members
+  pub needed : Needed
+  pub has : HasString documents file string
+  pub counts : is_needed string.section ≡ true
+  pub asks : AlwaysAsks string needed
+  pub known : HasDocument documents (Lock kind) lock table
+  pub none : All (λ (p : LockedPackage). same_name needed.name p.name ≡ false) (locked kind lock.text table)
+  pub is : f ≡ NoRequirement (string_line file string) (codes "the lock has no package of this name") 0
+
+-- the list of a requirement of a project does not contain the version of a package of its name
+pub record IsExcluded (documents : List Document) (f : Finding) : Type 0 where
+  pub file : File
+  pub string : ProjectString
+  pub lock : File
+  pub locked_package : LockedPackage
+  pub needed : Needed
+  pub text : List ℕ
+  pub version : Record
+  pub has : HasString documents file string
+  pub asks : AlwaysAsks string needed
+  pub known : HasPackage documents lock locked_package
+  pub same : IsTrue (same_name needed.name locked_package.name)
+  pub written : locked_package.version ≡ Some text
+  pub derives : Derives text version
+  pub outside : ¬ IsTrue (list_matches needed.specifiers version)
+  pub is : f ≡ Conflicting PinOutside (string_line file string ∷ (package_line lock.name locked_package ∷ []))
+
+-- the finding is right
+abbrev pub IsDocumentFinding : List Document → Finding → Type 0
+IsDocumentFinding documents f = IsInvalidString documents f ⊎ (IsInvalidPackage documents f ⊎ (IsUnread documents f ⊎ (IsMissing documents f ⊎ IsExcluded documents f)))
 
 -- each finding is right
-abbrev pub LockFindingsHold : Type 0
-LockFindingsHold = (sources : List ProjectString) (locked : List LockedPackage) (found : List ProjectFinding) → AreCompared sources locked found → All (IsLockFinding sources locked) found
+abbrev pub DocumentFindingsHold : Type 0
+DocumentFindingsHold = (documents : List Document) (r : Report) → IsDocumentsReport documents r → All (IsDocumentFinding documents) r.findings
 
--- each requirement contains each locked version of its name
-abbrev pub AgreeWith : List ProjectString → List LockedPackage → Type 0
-AgreeWith sources locked = (s : ProjectString) (l : LockedPackage) (n : Needed) (v : Record) → Contains sources s → Contains locked l → IsTrue (is_locked s.section)
-    → AlwaysAsks s n → IsTrue (same_name n.name l.name) → Derives l.version v → IsTrue (list_matches n.specifiers v)
+-- ---- no finding
 
--- where nothing is found, each requirement contains each locked version of its name
+-- each requirement of each project contains each version of its name in each lock
+abbrev pub AllContained : List Document → Type 0
+AllContained documents = (file lock : File) (s : ProjectString) (p : LockedPackage) (n : Needed) (text : List ℕ) (v : Record) → HasString documents file s → HasPackage documents lock p
+    → IsTrue (is_locked s.section) → AlwaysAsks s n → IsTrue (same_name n.name p.name) → p.version ≡ Some text → Derives text v → IsTrue (list_matches n.specifiers v)
+
+-- where nothing is found, they do
 abbrev pub NoFindingMeansContained : Type 0
-NoFindingMeansContained = (sources : List ProjectString) (locked : List LockedPackage) → AreCompared sources locked [] → AgreeWith sources locked
+NoFindingMeansContained = (documents : List Document) (r : Report) → IsDocumentsReport documents r → r.findings ≡ [] → AllContained documents
+
+-- ---- one report
+
+-- documents that are TOML in UTF-8 have at most one report
+abbrev pub DocumentReportsOnce : Type 0
+DocumentReportsOnce = (documents : List Document) (r s : Report) → All IsReadable documents → IsDocumentsReport documents r → IsDocumentsReport documents s → r ≡ s

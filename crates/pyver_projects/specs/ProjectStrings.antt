@@ -1,5 +1,5 @@
--- What documents have: strings that are to be requirements, lists of specifiers or versions, and locked versions.
-use Rattle.std.specs.Prelude.{ℕ, List}
+-- What documents have: strings that are to be requirements, lists of specifiers or versions, and locked packages.
+use Rattle.std.specs.Prelude.{ℕ, List, Option}
 
 -- where a string stands in `pyproject.toml`
 pub data Section : Type 0 where
@@ -14,7 +14,8 @@ pub record ProjectString : Type 0 where
   pub section : Section
   pub text : List ℕ
 
--- a package in a lock: its name and its version, as they are written
+-- a package in a lock: the number of its line, its name and its version, if it has one, as they are written
 pub record LockedPackage : Type 0 where
+  pub line : ℕ
   pub name : List ℕ
-  pub version : List ℕ
+  pub version : Option (List ℕ)

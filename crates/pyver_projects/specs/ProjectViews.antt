@@ -1,10 +1,17 @@
 -- What the crate's own types hold, apart from where they lie in memory.
-use Rattle.std.specs.Prelude.{string_bytes}
+use Rattle.std.specs.Prelude.{map, option_map, string_bytes}
+use Rattle.pyver_findings.specs.Views.{file_line_of, file_of, finding_of, line_meaning_of}
+use Rattle.pyver_projects.specs.Meanings.{Document, DocumentReading, IsBroken, IsLock, IsProject, LockedReading, StringReading}
 use Rattle.pyver_projects.specs.ProjectStrings.{Build, Dependencies, Extra, Group, LockedPackage, Section, Python, ProjectString, Version}
+use Rattle.pyver_projects.specs.declared.document.Document.{Document as DocumentValue}
+use Rattle.pyver_projects.specs.declared.document_reading.DocumentReading.{DocumentReading as DocumentReadingValue}
+use Rattle.pyver_projects.specs.declared.document_reading.DocumentReading.TheVariants as reading
+use Rattle.pyver_projects.specs.declared.locked_package.LockedPackage.{LockedPackage as LockedValue}
+use Rattle.pyver_projects.specs.declared.locked_reading.LockedReading.{LockedReading as LockedReadingValue}
+use Rattle.pyver_projects.specs.declared.project_string.ProjectString.{ProjectString as SourceValue}
 use Rattle.pyver_projects.specs.declared.section.Section.{Section as SectionValue}
 use Rattle.pyver_projects.specs.declared.section.Section.TheVariants as section
-use Rattle.pyver_projects.specs.declared.locked_package.LockedPackage.{LockedPackage as LockedValue}
-use Rattle.pyver_projects.specs.declared.project_string.ProjectString.{ProjectString as SourceValue}
+use Rattle.pyver_projects.specs.declared.string_reading.StringReading.{StringReading as StringReadingValue}
 
 abbrev pub section_of : SectionValue → Section
 section_of section.Dependencies = Dependencies
@@ -18,4 +25,18 @@ abbrev pub project_string_of : SourceValue → ProjectString
 project_string_of s = record { section = section_of s.section; text = string_bytes s.text }
 
 abbrev pub locked_of : LockedValue → LockedPackage
-locked_of l = record { name = string_bytes l.name; version = string_bytes l.version }
+locked_of l = record { line = l.line; name = string_bytes l.name; version = option_map string_bytes l.version }
+
+abbrev pub string_reading_of : StringReadingValue → StringReading
+string_reading_of x = record { section = section_of x.section; meaning = line_meaning_of x.meaning }
+
+abbrev pub locked_reading_of : LockedReadingValue → LockedReading
+locked_reading_of y = record { line = file_line_of y.line; name = y.name.items; version = y.version; invalid = option_map finding_of y.invalid }
+
+abbrev pub document_of : DocumentValue → Document
+document_of d = record { kind = d.kind; file = file_of d.file }
+
+abbrev pub document_reading_of : DocumentReadingValue → DocumentReading
+document_reading_of (reading.Project xs) = IsProject (map string_reading_of xs.items)
+document_reading_of (reading.Lock ys) = IsLock (map locked_reading_of ys.items)
+document_reading_of (reading.Broken f) = IsBroken (finding_of f)

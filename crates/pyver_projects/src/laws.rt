@@ -1,13 +1,19 @@
-//! What holds of findings, as the contract of a function that does nothing.
-ghost use Rattle.pyver_projects.specs.ProjectLaws.{LockFindingsHold, NoFindingMeansContained};
+//! What holds of reports of documents, as the contract of a function that does nothing.
+ghost use Rattle.pyver_projects.specs.ProjectLaws.{DocumentReportsOnce, DocumentFindingsHold, NoFindingMeansContained};
 
-/// A locked version that is reported by itself is none. A requirement that is reported with a locked version is a
-/// requirement of its name, and does not contain it. One that is reported by itself has a name that no package has.
+/// What is reported by itself is a string of a project that is not what it is to be there, a package whose version is none, a document that
+/// is not TOML in UTF-8, or a requirement whose name no package of some lock has. Two lines that are reported together are those of a
+/// requirement and of a package of its name whose version it does not contain.
 pub fn findings_hold()
-    ensures { LockFindingsHold }
+    ensures { DocumentFindingsHold }
 {}
 
-/// Where nothing is reported, each requirement without a marker and a URL contains each locked version of its name.
+/// Where nothing is reported, each requirement of a project without a marker and a URL contains each version of its name in a lock.
 pub fn no_finding_means_contained()
     ensures { NoFindingMeansContained }
+{}
+
+/// Documents that are TOML in UTF-8 have at most one report.
+pub fn reports_once()
+    ensures { DocumentReportsOnce }
 {}

@@ -1,18 +1,19 @@
-//! Requirements beside a lock.
-ghost use Rattle.std.specs.Prelude.{◌≡◌, ◌++◌, IfOk, map};
+// A project beside a lock.
+ghost use Rattle.std.specs.Prelude.{◌≡◌, ◌∷◌, ◌++◌, [], IfOk, map};
 ghost use Rattle.std.specs.List.{flat_map, list_any};
-ghost use Rattle.pep440_pick.specs.Requirements.{needed};
-ghost use Rattle.pyver_projects.specs.Comparing.{AreCompared, compared, compared_with, excluded, has_name, invalid_locked, is_locked, is_needed, missing};
-ghost use Rattle.pyver_projects.specs.ValueViews.{project_finding_of, locked_meaning_of, meaning_of};
-ghost use Rattle.pyver_projects.specs.ProjectViews.{locked_of, section_of, project_string_of};
+ghost use Rattle.pyver_findings.specs.Findings.{Conflicting};
+ghost use Rattle.pyver_findings.specs.Reports.{demands_in};
+ghost use Rattle.pyver_findings.specs.Views.{demand_of, file_line_of, finding_of, line_meaning_of};
+ghost use Rattle.pyver_findings.specs.declared.finding.Conflict.TheVariants.{PinOutside};
+ghost use Rattle.pyver_projects.specs.Comparing.{found_beside, beside_all, compared, compared_demand, excluded, excluded_by, has_name, is_locked, is_needed, missing};
+ghost use Rattle.pyver_projects.specs.ProjectViews.{document_reading_of, locked_reading_of, section_of, string_reading_of};
 
-use crate::locked_meaning::{LockedMeaning, has_name, interpret_lock};
-use crate::locked_package::LockedPackage;
-use crate::meaning::{Meaning, interpret_all};
-use crate::project_finding::ProjectFinding;
-use crate::project_string::ProjectString;
+use crate::document_reading::DocumentReading;
+use crate::locked_reading::LockedReading;
 use crate::section::Section;
-use pep440_pick::Requirement;
+use crate::string_reading::StringReading;
+use pep440_rs::Version;
+use pyver_findings::{Conflict, Demand, FileLine, Finding, LineMeaning};
 use std::alloc::{AllocError, Global};
 
 fn is_needed(section: &Section) -> bool
@@ -30,71 +31,81 @@ fn is_locked(section: &Section) -> bool
     )
 }
 
-fn push_invalid(
-    findings: &mut Vec<ProjectFinding>,
-    pinned: &LockedMeaning,
-) -> Result<(), AllocError>
-    ensures { IfOk result (λ _. map project_finding_of findings.new.items ≡ map project_finding_of findings.old.items ++ invalid_locked (locked_meaning_of pinned.now)) }
+// The package has the name of the requirement.
+fn has_name(demand: &Demand, locked: &LockedReading) -> bool
+    ensures { result ≡ has_name (demand_of demand.now) (locked_reading_of locked.now) }
 {
-    if let LockedMeaning::HasNoVersion(locked) = pinned {
-        findings.push(ProjectFinding::InvalidVersion(locked.clone()?))?;
-    }
+    demand.name.as_slice() == locked.name.as_slice()
+}
+
+fn push_pair(
+    alloc: Global,
+    findings: &mut Vec<Finding>,
+    demand: &Demand,
+    line: &FileLine,
+) -> Result<(), AllocError>
+    ensures { IfOk result (λ _. map finding_of findings.new.items ≡ map finding_of findings.old.items ++ Conflicting PinOutside ((demand_of demand.now).line ∷ (file_line_of line.now ∷ [])) ∷ []) }
+{
+    let mut lines = Vec::new(alloc);
+    lines.push(demand.line.clone()?)?;
+    lines.push(line.clone()?)?;
+    findings.push(Finding::Conflicting(Conflict::PinOutside, lines))?;
     Ok(())
 }
 
-fn collect_invalid(
+// Adds both lines, if the list of the requirement does not contain the version.
+fn push_excluded_by(
     alloc: Global,
-    packages: &[LockedMeaning],
-) -> Result<Vec<ProjectFinding>, AllocError>
-    ensures { IfOk result (λ found. map project_finding_of found.items ≡ flat_map invalid_locked (map locked_meaning_of packages.now)) }
-{
-    let mut findings = Vec::new(alloc);
-    for pinned in packages {
-        push_invalid(&mut findings, pinned)?;
-    }
-    Ok(findings)
-}
-
-// Adds the package, if the requirement excludes its version.
-fn push_excluded(
-    alloc: Global,
-    findings: &mut Vec<ProjectFinding>,
-    source: &ProjectString,
-    requirement: &Requirement,
-    pinned: &LockedMeaning,
+    findings: &mut Vec<Finding>,
+    demand: &Demand,
+    line: &FileLine,
+    version: &Option<Version>,
 ) -> Result<(), AllocError>
-    ensures { IfOk result (λ _. map project_finding_of findings.new.items ≡ map project_finding_of findings.old.items ++ excluded (project_string_of source.now) (needed requirement.now) (locked_meaning_of pinned.now)) }
+    ensures { IfOk result (λ _. map finding_of findings.new.items ≡ map finding_of findings.old.items ++ excluded_by (demand_of demand.now) (file_line_of line.now) version.now) }
 {
-    let LockedMeaning::Names(locked, version) = pinned else {
+    let Some(version) = version else {
         return Ok(());
     };
-    if has_name(requirement, pinned) && !requirement.specifiers.contains(alloc, version)? {
-        findings.push(ProjectFinding::Excluded(source.clone()?, locked.clone()?))?;
+    if demand.specifiers.contains(alloc, version)? {
+        return Ok(());
     }
-    Ok(())
+    push_pair(alloc, findings, demand, line)
+}
+
+fn push_excluded(
+    alloc: Global,
+    findings: &mut Vec<Finding>,
+    demand: &Demand,
+    locked: &LockedReading,
+) -> Result<(), AllocError>
+    ensures { IfOk result (λ _. map finding_of findings.new.items ≡ map finding_of findings.old.items ++ excluded (demand_of demand.now) (locked_reading_of locked.now)) }
+{
+    if !has_name(demand, locked) {
+        return Ok(());
+    }
+    push_excluded_by(alloc, findings, demand, &locked.line, &locked.version)
 }
 
 fn push_all_excluded(
     alloc: Global,
-    findings: &mut Vec<ProjectFinding>,
-    source: &ProjectString,
-    requirement: &Requirement,
-    packages: &[LockedMeaning],
+    findings: &mut Vec<Finding>,
+    demand: &Demand,
+    packages: &[LockedReading],
 ) -> Result<(), AllocError>
-    ensures { IfOk result (λ _. map project_finding_of findings.new.items ≡ map project_finding_of findings.old.items ++ flat_map (excluded (project_string_of source.now) (needed requirement.now)) (map locked_meaning_of packages.now)) }
+    ensures { IfOk result (λ _. map finding_of findings.new.items ≡ map finding_of findings.old.items ++ flat_map (excluded (demand_of demand.now)) (map locked_reading_of packages.now)) }
 {
-    for pinned in packages {
-        push_excluded(alloc, findings, source, requirement, pinned)?;
+    for locked in packages {
+        push_excluded(alloc, findings, demand, locked)?;
     }
     Ok(())
 }
 
 // Some package has the name of the requirement.
-fn has_package(requirement: &Requirement, packages: &[LockedMeaning]) -> bool
-    ensures { result ≡ list_any (has_name (needed requirement.now)) (map locked_meaning_of packages.now) }
+fn has_package(demand: &Demand, packages: &[LockedReading]) -> bool
+    ensures { result ≡ list_any (has_name (demand_of demand.now)) (map locked_reading_of packages.now) }
 {
-    for pinned in packages {
-        if has_name(requirement, pinned) {
+    for locked in packages {
+        if has_name(demand, locked) {
             return true;
         }
     }
@@ -102,89 +113,112 @@ fn has_package(requirement: &Requirement, packages: &[LockedMeaning]) -> bool
 }
 
 fn push_missing(
-    findings: &mut Vec<ProjectFinding>,
-    source: &ProjectString,
-    requirement: &Requirement,
-    packages: &[LockedMeaning],
+    alloc: Global,
+    findings: &mut Vec<Finding>,
+    packages: &[LockedReading],
+    section: &Section,
+    demand: &Demand,
 ) -> Result<(), AllocError>
-    ensures { IfOk result (λ _. map project_finding_of findings.new.items ≡ map project_finding_of findings.old.items ++ missing (project_string_of source.now) (needed requirement.now) (map locked_meaning_of packages.now)) }
+    ensures { IfOk result (λ _. map finding_of findings.new.items ≡ map finding_of findings.old.items ++ missing (map locked_reading_of packages.now) (section_of section.now) (demand_of demand.now)) }
 {
-    if is_needed(&source.section) && !has_package(requirement, packages) {
-        findings.push(ProjectFinding::Missing(source.clone()?))?;
+    if !is_needed(section) || has_package(demand, packages) {
+        return Ok(());
     }
+    let reason = String::from_str(alloc, "the lock has no package of this name")?;
+    findings.push(Finding::NoRequirement(demand.line.clone()?, reason, 0))?;
     Ok(())
 }
 
-fn push_compared_with(
+fn push_compared_demand(
     alloc: Global,
-    findings: &mut Vec<ProjectFinding>,
-    packages: &[LockedMeaning],
-    source: &ProjectString,
-    requirement: &Requirement,
+    findings: &mut Vec<Finding>,
+    packages: &[LockedReading],
+    section: &Section,
+    demand: &Demand,
 ) -> Result<(), AllocError>
-    ensures { IfOk result (λ _. map project_finding_of findings.new.items ≡ map project_finding_of findings.old.items ++ compared_with (map locked_meaning_of packages.now) (project_string_of source.now) (needed requirement.now)) }
+    ensures { IfOk result (λ _. map finding_of findings.new.items ≡ map finding_of findings.old.items ++ compared_demand (map locked_reading_of packages.now) (section_of section.now) (demand_of demand.now)) }
 {
-    if !is_locked(&source.section) {
+    if demand.marker.is_some() {
         return Ok(());
     }
-    push_missing(findings, source, requirement, packages)?;
-    push_all_excluded(alloc, findings, source, requirement, packages)
+    push_missing(alloc, findings, packages, section, demand)?;
+    push_all_excluded(alloc, findings, demand, packages)
+}
+
+fn push_compared_meaning(
+    alloc: Global,
+    findings: &mut Vec<Finding>,
+    packages: &[LockedReading],
+    section: &Section,
+    meaning: &LineMeaning,
+) -> Result<(), AllocError>
+    ensures { IfOk result (λ _. map finding_of findings.new.items ≡ map finding_of findings.old.items ++ flat_map (compared_demand (map locked_reading_of packages.now) (section_of section.now)) (demands_in (line_meaning_of meaning.now))) }
+{
+    match meaning {
+        LineMeaning::Asks(demand) => {
+            push_compared_demand(alloc, findings, packages, section, demand)
+        }
+        LineMeaning::IsNone(_) | LineMeaning::LeftOut(_) | LineMeaning::AsksNothing => Ok(()),
+    }
 }
 
 fn push_compared(
     alloc: Global,
-    findings: &mut Vec<ProjectFinding>,
-    packages: &[LockedMeaning],
-    meaning: &Meaning,
+    findings: &mut Vec<Finding>,
+    packages: &[LockedReading],
+    string: &StringReading,
 ) -> Result<(), AllocError>
-    ensures { IfOk result (λ _. map project_finding_of findings.new.items ≡ map project_finding_of findings.old.items ++ compared (map locked_meaning_of packages.now) (meaning_of meaning.now)) }
+    ensures { IfOk result (λ _. map finding_of findings.new.items ≡ map finding_of findings.old.items ++ compared (map locked_reading_of packages.now) (string_reading_of string.now)) }
 {
-    match meaning {
-        Meaning::Asks(source, requirement) => {
-            push_compared_with(alloc, findings, packages, source, requirement)
-        }
-        Meaning::Passes | Meaning::IsInvalid(_) => Ok(()),
+    if !is_locked(&string.section) {
+        return Ok(());
     }
+    push_compared_meaning(alloc, findings, packages, &string.section, &string.meaning)
 }
 
 fn push_all_compared(
     alloc: Global,
-    findings: &mut Vec<ProjectFinding>,
-    packages: &[LockedMeaning],
-    meanings: &[Meaning],
+    findings: &mut Vec<Finding>,
+    packages: &[LockedReading],
+    strings: &[StringReading],
 ) -> Result<(), AllocError>
-    ensures { IfOk result (λ _. map project_finding_of findings.new.items ≡ map project_finding_of findings.old.items ++ flat_map (compared (map locked_meaning_of packages.now)) (map meaning_of meanings.now)) }
+    ensures { IfOk result (λ _. map finding_of findings.new.items ≡ map finding_of findings.old.items ++ flat_map (compared (map locked_reading_of packages.now)) (map string_reading_of strings.now)) }
 {
-    for meaning in meanings {
-        push_compared(alloc, findings, packages, meaning)?;
+    for string in strings {
+        push_compared(alloc, findings, packages, string)?;
     }
     Ok(())
 }
 
-/// What is wrong in a lock beside `pyproject.toml`: first the locked versions that are none, in order; then for each
-/// requirement, in order, whether the lock lacks a package of its name, and the locked versions of its name that it does
-/// not contain.
-///
-/// A requirement does not count if it has a marker or a URL, or stands in `build-system.requires`, and is missing only if
-/// it stands in `project.dependencies`. Strings that are no requirements are passed over: `find_invalid` has these.
-/// Takes time for each requirement and package.
-///
-/// Allocates.
-pub fn compare_lock(
+// What is found in the first document beside the second.
+fn push_beside(
     alloc: Global,
-    sources: &[ProjectString],
-    locked: &[LockedPackage],
-) -> Result<Vec<ProjectFinding>, AllocError>
-    ensures { IfOk result (λ found. AreCompared (map project_string_of sources.now) (map locked_of locked.now) (map project_finding_of found.items)) }
+    findings: &mut Vec<Finding>,
+    document: &DocumentReading,
+    other: &DocumentReading,
+) -> Result<(), AllocError>
+    ensures { IfOk result (λ _. map finding_of findings.new.items ≡ map finding_of findings.old.items ++ found_beside (document_reading_of document.now) (document_reading_of other.now)) }
 {
-    let meanings = interpret_all(alloc, sources)?;
-    let packages = interpret_lock(alloc, locked)?;
-    let mut findings = collect_invalid(alloc, packages.as_slice())?;
-    push_all_compared(
-        alloc,
-        &mut findings,
-        packages.as_slice(),
-        meanings.as_slice(),
-    )?;
-    Ok(findings)
+    let DocumentReading::Project(strings) = document else {
+        return Ok(());
+    };
+    let DocumentReading::Lock(packages) = other else {
+        return Ok(());
+    };
+    push_all_compared(alloc, findings, packages.as_slice(), strings.as_slice())
+}
+
+// What is found in the document beside each of the others.
+pub(crate) fn push_beside_all(
+    alloc: Global,
+    findings: &mut Vec<Finding>,
+    others: &[DocumentReading],
+    document: &DocumentReading,
+) -> Result<(), AllocError>
+    ensures { IfOk result (λ _. map finding_of findings.new.items ≡ map finding_of findings.old.items ++ beside_all (map document_reading_of others.now) (document_reading_of document.now)) }
+{
+    for other in others {
+        push_beside(alloc, findings, document, other)?;
+    }
+    Ok(())
 }

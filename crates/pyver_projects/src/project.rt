@@ -5,9 +5,9 @@ ghost use Rattle.pyver_projects.specs.Documents.{array_sources, entries, extra_s
 ghost use Rattle.pyver_projects.specs.ProjectViews.{section_of, project_string_of};
 ghost use Rattle.toml.specs.View.{table_view, view};
 
-use crate::document::{inside, items, table, text, top};
 use crate::project_string::ProjectString;
 use crate::section::Section;
+use crate::table::{inside, items, table, text, top};
 use std::alloc::{AllocError, Global};
 use toml::{Table, Value};
 
@@ -149,7 +149,7 @@ fn push_project(
 }
 
 // The strings of `pyproject.toml`.
-pub(crate) fn project_sources(
+pub(crate) fn project_strings(
     alloc: Global,
     document: &Table,
 ) -> Result<Vec<ProjectString>, AllocError>

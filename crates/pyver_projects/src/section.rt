@@ -4,20 +4,20 @@ ghost use Rattle.pyver_projects.specs.ProjectViews.{section_of};
 
 use std::alloc::AllocError;
 
-/// Where a string stands in `pyproject.toml`.
-#[derive(Debug, Drop)]
-pub enum Section {
-    /// In `project.dependencies`.
+// Where a string stands in `pyproject.toml`.
+#[derive(Drop)]
+pub(crate) enum Section {
+    // In `project.dependencies`.
     Dependencies,
-    /// In `project.optional-dependencies`, in the array of this extra.
+    // In `project.optional-dependencies`, in the array of this extra.
     Extra(String),
-    /// In `dependency-groups`, in the array of this group.
+    // In `dependency-groups`, in the array of this group.
     Group(String),
-    /// In `build-system.requires`.
+    // In `build-system.requires`.
     Build,
-    /// `project.requires-python`.
+    // `project.requires-python`.
     Python,
-    /// `project.version`.
+    // `project.version`.
     Version,
 }
 

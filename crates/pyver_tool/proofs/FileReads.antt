@@ -15,7 +15,8 @@ use Rattle.pyver_tool.specs.declared.requirement_files.RequirementFiles.{Require
 use Rattle.pyver_tool.specs.declared.stream.RunFailure.{RunFailure}
 use Rattle.pyver_tool.specs.declared.stream.RunFailure.TheVariants as run_failure
 use Rattle.pyver_findings.specs.FileLines.{File}
-use Rattle.pyver_findings.specs.NamedFiles.{NamedFile, named_files}
+use Rattle.pyver_findings.specs.NamedFiles.{NamedFile}
+use Rattle.pyver_tool.specs.FileKinds.{names_in}
 use Rattle.pyver_findings.specs.Views.{named_file_of}
 
 -- ---- one source
@@ -80,8 +81,8 @@ module _ {R : Type 0} (files : List ℕ → KnownFile) (remaining : R → Option
 
 pub names_gain : (first : List NamedFile) (a b : RequirementFiles) (file : File) (path : List ℕ) → HasNames first a → GainsFile a b file path → HasNames first b
 names_gain first a b file path h k =
-    k.names ∙ ap (λ n. n ++ named_files file) h ∙ append_assoc first (flat_map named_files (read_of a).files) (named_files file)
-    ∙ ap (λ n. first ++ n) (ap (λ n. flat_map named_files (read_of a).files ++ n) (sym (append-nil (named_files file))) ∙ sym (flat_map-append named_files (read_of a).files (file ∷ [])) ∙ ap (λ (r : FilesRead). flat_map named_files r.files) (sym k.read))
+    k.names ∙ ap (λ n. n ++ names_in file) h ∙ append_assoc first (flat_map names_in (read_of a).files) (names_in file)
+    ∙ ap (λ n. first ++ n) (ap (λ n. flat_map names_in (read_of a).files ++ n) (sym (append-nil (names_in file))) ∙ sym (flat_map-append names_in (read_of a).files (file ∷ [])) ∙ ap (λ (r : FilesRead). flat_map names_in r.files) (sym k.read))
 
 module _ {R : Type 0} (files : List ℕ → KnownFile) (paths : List ℕ → Option (List ℕ)) (remaining : R → Option (List ℕ)) where
   -- a source with the path had been read
@@ -100,7 +101,7 @@ module _ {R : Type 0} (files : List ℕ → KnownFile) (paths : List ℕ → Opt
   step_opened name path a b reader reader' None utf8 is new (file, reads, gains, more, has) = record {
     next = (utf8, path, is, inr (new, (file, reads, gains.read)));
     names = λ first h. names_gain first a b file path h gains;
-    more = named_files file;
+    more = names_in file;
     behind = gains.names;
     advances = inl more;
     reads = has;
@@ -120,7 +121,7 @@ module _ {R : Type 0} (files : List ℕ → KnownFile) (paths : List ℕ → Opt
       let read : read_of c ≡ with_unopened (read_of a) named why = gains.read ∙ ap (λ (x : RequirementFiles). with_unopened (read_of x) named why) same in
       record {
         next = inr (why, refuses, read, kept);
-        names = λ first h. are ∙ h ∙ ap (λ (r : FilesRead). first ++ flat_map named_files r.files) (sym read);
+        names = λ first h. are ∙ h ∙ ap (λ (r : FilesRead). first ++ flat_map names_in r.files) (sym read);
         more = [];
         behind = are ∙ sym (append-nil (names_of_files a));
         advances = inr (count, ap (λ n. length n.items) names);

@@ -15,7 +15,8 @@ use Rattle.pyver_findings.specs.Findings.{Finding}
 use Rattle.pyver_findings.specs.NamedFiles.{Position}
 use Rattle.pyver_findings.specs.ReportObjects.{report_object}
 use Rattle.pyver_findings.specs.ReportTexts.{report_text, summary_text}
-use Rattle.pyver_findings.specs.Reports.{IsReport, Report, empty_report, joined_report, spans_files}
+use Rattle.pyver_findings.specs.Reports.{Report, empty_report, joined_report, spans_files}
+use Rattle.pyver_tool.specs.FileKinds.{IsFilesReport}
 
 -- ---- what is found
 
@@ -31,13 +32,13 @@ none_checked = record { report = empty_report; unopened = [] }
 abbrev pub word_groups : Bool → List (List ℕ) → List (List (List ℕ))
 word_groups each words = if each then map (λ word. word ∷ []) (source_names words) else source_names words ∷ []
 
--- this report of these files follows
-abbrev pub with_report : FilesRead → CheckResult → Report → CheckResult
-with_report read a r = record { report = joined_report a.report r; unopened = a.unopened ++ read.unopened }
+-- this report follows, and these files that were not opened
+abbrev pub with_report : List UnopenedFile → CheckResult → Report → CheckResult
+with_report unopened a r = record { report = joined_report a.report r; unopened = a.unopened ++ unopened }
 
 -- the report of these files follows
 abbrev pub GainsReport : FilesRead → CheckResult → CheckResult → Type 0
-GainsReport read a b = (r : Report) × IsReport read.files r × (b ≡ with_report read a r)
+GainsReport read a b = (r : Report) × IsFilesReport read.files r × (b ≡ with_report read.unopened a r)
 
 module _ {R : Type 0} (files : List ℕ → KnownFile) (paths : List ℕ → Option (List ℕ)) (remaining : R → Option (List ℕ)) where
   -- the files that the words name were read, and their report follows

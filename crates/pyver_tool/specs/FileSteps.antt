@@ -8,7 +8,8 @@ use Rattle.pyver_tool.specs.declared.open_failure.OpenFailure.{OpenFailure}
 use Rattle.pyver_tool.specs.declared.requirement_files.RequirementFiles.{RequirementFiles}
 use Rattle.pyver_tool.specs.declared.requirement_files.UnopenedFile.{UnopenedFile as UnopenedFileValue}
 use Rattle.pyver_findings.specs.FileLines.{File}
-use Rattle.pyver_findings.specs.NamedFiles.{NamedFile, named_files}
+use Rattle.pyver_findings.specs.NamedFiles.{NamedFile}
+use Rattle.pyver_tool.specs.FileKinds.{names_in}
 use Rattle.pyver_findings.specs.Views.{file_of, named_file_of}
 
 abbrev pub unopened_file_of : UnopenedFileValue → UnopenedFile
@@ -23,7 +24,7 @@ names_of_files state = map named_file_of state.names.items
 -- a file more, and the names in it
 pub record GainsFile (a b : RequirementFiles) (file : File) (path : List ℕ) : Type 0 where
   pub read : read_of b ≡ with_file (read_of a) file path
-  pub names : names_of_files b ≡ names_of_files a ++ named_files file
+  pub names : names_of_files b ≡ names_of_files a ++ names_in file
 
 -- one more that was not opened
 pub record GainsUnopened (a b : RequirementFiles) (named : NamedFile) (why : OpenFailure) : Type 0 where
@@ -40,7 +41,7 @@ pub record GainsText {R : Type 0} (remaining : R → Option (List ℕ)) (name pa
 
 -- the names are these, and those in the files that were read
 abbrev pub HasNames : List NamedFile → RequirementFiles → Type 0
-HasNames first state = names_of_files state ≡ first ++ flat_map named_files (read_of state).files
+HasNames first state = names_of_files state ≡ first ++ flat_map names_in (read_of state).files
 
 -- more was read than before, or there are no more names
 abbrev pub Advances : RequirementFiles → RequirementFiles → Type 0

@@ -37,6 +37,7 @@ pub mod TaskViews
 pub mod Runs
 pub mod SourceViews
 pub mod SourceTexts
+pub mod FileKinds
 pub mod RequirementFiles
 pub mod FileSteps
 pub mod Checks

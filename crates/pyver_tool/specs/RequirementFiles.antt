@@ -1,4 +1,4 @@
--- The requirements files that `check` reads: those that the words name, and those that their lines name.
+-- The files that `check` reads: those that the words name, and those that the lines of requirements files name.
 use Rattle.std.specs.Prelude.{◌≡◌, ◌⊎◌, ⊤, ℕ, List, [], ◌∷◌, ◌++◌, Bool, true, false, Option, Some, None, bytes_eq, map}
 use Rattle.std.specs.Io.KnownBytes.{IsAtEnd}
 use Rattle.std.specs.List.{flat_map, list_any}
@@ -10,7 +10,8 @@ use Rattle.pyver_tool.specs.declared.open_failure.OpenFailure.TheVariants as fai
 use Rattle.pyver_tool.specs.declared.stream.RunFailure.{RunFailure}
 use Rattle.pyver_tool.specs.declared.stream.RunFailure.TheVariants as run_failure
 use Rattle.pyver_findings.specs.FileLines.{File}
-use Rattle.pyver_findings.specs.NamedFiles.{NamedFile, named_files}
+use Rattle.pyver_findings.specs.NamedFiles.{NamedFile}
+use Rattle.pyver_tool.specs.FileKinds.{names_in}
 
 -- a file that was not opened, and why
 pub record UnopenedFile : Type 0 where
@@ -98,9 +99,9 @@ module _ {R : Type 0} (files : List ℕ → KnownFile) (paths : List ℕ → Opt
   ReadsFilesInTurn [] a b reader reader' = (b ≡ a) × (reader' ≡ reader)
   ReadsFilesInTurn (named ∷ names) a b reader reader' = (c : FilesRead) × (middle : R) × ReadsNext named a c reader middle × ReadsFilesInTurn names c b middle reader'
 
-  -- of all names, first these and then those that the lines of each file name, in the order of the files, each was read in turn
+  -- of all names, first these and then those that the lines of each requirements file name, in the order of the files, each was read in turn
   abbrev pub ReadsNames : List NamedFile → R → R → FilesRead → Type 0
-  ReadsNames first reader reader' read = ReadsFilesInTurn (first ++ flat_map named_files read.files) none_read read reader reader'
+  ReadsNames first reader reader' read = ReadsFilesInTurn (first ++ flat_map names_in read.files) none_read read reader reader'
 
   -- some names were read so, and a part of the source with the next one, or, where an allocation failed, nothing
   pub record StopsInNames (first : List NamedFile) (reader reader' : R) (why : RunFailure) : Type 0 where
@@ -108,7 +109,7 @@ module _ {R : Type 0} (files : List ℕ → KnownFile) (paths : List ℕ → Opt
     pub named : NamedFile
     pub left : List NamedFile
     pub read : FilesRead
-    pub split : first ++ flat_map named_files read.files ≡ done ++ named ∷ left
+    pub split : first ++ flat_map names_in read.files ≡ done ++ named ∷ left
     pub middle : R
     pub each : ReadsFilesInTurn done none_read read reader middle
     pub part : StopsInFile files remaining named.name middle reader' why

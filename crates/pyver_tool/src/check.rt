@@ -1,20 +1,21 @@
-// The command `check`: what is wrong in requirements files.
+// The command `check`: what is wrong in requirements files and documents of a project.
 ghost use Rattle.std.specs.Prelude.{◌≡◌, ◌≤◌, ◌∷◌, ◌++◌, [], IfErr, IfOk, map, option_map, string_bytes, if◌then◌else◌};
 ghost use Rattle.std.specs.Fmt.{decimal};
 ghost use Rattle.std.specs.List.{flat_map, list_any};
 ghost use Rattle.pyver_tool.specs.AnswerViews.{outcome_of};
 ghost use Rattle.pyver_tool.specs.CheckViews.{check_result_of};
 ghost use Rattle.pyver_tool.specs.Checks.{Checks, ChecksGroup, ChecksGroups, StopsCheck, StopsGroup, StopsGroups, are_several, check_outcome, check_status, findings_text, none_checked, position_text, summary, together_note, unopened_text, with_report, word_groups};
-ghost use Rattle.pyver_tool.specs.FileSteps.{read_of, unopened_file_of};
+ghost use Rattle.pyver_tool.specs.FileSteps.{unopened_file_of};
 ghost use Rattle.pyver_tool.specs.Sources.{source_names};
 ghost use Rattle.pyver_findings.specs.Reports.{spans_files};
 ghost use Rattle.pyver_findings.specs.Views.{finding_of, position_of, report_of};
 
 use crate::answer::Answer;
+use crate::file_kinds::report_files;
 use crate::files::Files;
-use crate::requirement_files::{RequirementFiles, UnopenedFile, read_files};
+use crate::requirement_files::{UnopenedFile, read_files};
 use crate::stream::RunFailure;
-use pyver_findings::{Finding, Position, Report, find_problems, push_escaped};
+use pyver_findings::{Finding, Position, Report, push_escaped};
 use std::alloc::{AllocError, Global};
 use std::io::Read;
 
@@ -184,10 +185,10 @@ impl CheckResult {
     }
 
     // One more report, and the files that were not opened for it.
-    fn push(&mut self, report: Report, read: RequirementFiles) -> Result<(), AllocError>
-        ensures { IfOk result (λ _. check_result_of self.new ≡ with_report (read_of read) (check_result_of self.old) (report_of report)) }
+    fn push(&mut self, report: Report, unopened: Vec<UnopenedFile>) -> Result<(), AllocError>
+        ensures { IfOk result (λ _. check_result_of self.new ≡ with_report (map unopened_file_of unopened.items) (check_result_of self.old) (report_of report)) }
     {
-        let mut unopened = read.unopened;
+        let mut unopened = unopened;
         self.report.append(report)?;
         self.unopened.append(&mut unopened)?;
         Ok(())
@@ -207,8 +208,8 @@ impl CheckResult {
         ensures kept_paths { F.path files.new ≡ F.path files.old }
     {
         let read = read_files(alloc, words, files, input)?;
-        let report = find_problems(alloc, read.files.as_slice())?;
-        Ok(self.push(report, read)?)
+        let report = report_files(alloc, read.files)?;
+        Ok(self.push(report, read.unopened)?)
     }
 
     // The same for each word by itself.

@@ -10,6 +10,7 @@ mod command;
 mod common_range;
 mod comparison;
 mod fields;
+mod file_kinds;
 mod files;
 mod filter;
 mod filter_input;

@@ -1,21 +1,22 @@
-// The requirements files that `check` reads, those that the words name and those that their lines name.
+// The files that `check` reads, those that the words name and those that the lines of requirements files name.
 ghost use Rattle.std.specs.Prelude.{◌≡◌, ◌∷◌, ◌++◌, [], IfErr, IfOk, map, string_bytes};
 ghost use Rattle.pyver_tool.specs.FileSteps.{read_of};
 ghost use Rattle.pyver_tool.specs.RequirementFiles.{IsSourcePath, ReadsFiles, StopsInFiles, word_file};
 ghost use Rattle.pyver_tool.specs.Sources.{is_input, source_names};
 ghost use Rattle.pyver_findings.specs.Views.{named_file_of};
 
+use crate::file_kinds::push_names_in;
 use crate::files::Files;
 use crate::open_failure::OpenFailure;
 use crate::origin::is_input;
 use crate::source_texts::read_text;
 use crate::stream::RunFailure;
-use pyver_findings::{NamedFile, SourceFile, push_named_files};
+use pyver_findings::{NamedFile, SourceFile};
 use std::alloc::{AllocError, Global};
 use std::io::Read;
 use std::str;
 
-// Requirements files that were read, and the names that were met.
+// Files that were read, and the names that were met.
 #[derive(Drop)]
 pub(crate) struct RequirementFiles {
     pub(crate) files: Vec<SourceFile>,
@@ -127,7 +128,7 @@ impl RequirementFiles {
     {
         let name = Vec::from_slice(alloc, name.as_bytes())?;
         let file = SourceFile { name, text };
-        push_named_files(alloc, &mut self.names, &file)?;
+        push_names_in(alloc, &mut self.names, &file)?;
         self.paths.push(path)?;
         self.files.push(file)?;
         Ok(())

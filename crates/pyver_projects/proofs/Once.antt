@@ -1,0 +1,79 @@
+-- Documents that are TOML in UTF-8 have at most one report.
+use Rattle.std.proofs.Common.{◌≡◌, ◌∙◌, ℕ, ◌+◌, List, Option, Some, None, length, refl, sym, ap, subst, inl, inr}
+use Rattle.std.proofs.lemmas.List.Elements.{All-contains_itself}
+use Rattle.std.specs.List.{All, AllZip, Contains}
+use Rattle.pep440_pick.specs.Names.{normal}
+use Rattle.pep440_rs.proofs.Reading.OneMeaning.{not_both_list, one_list_refusal}
+use Rattle.pep440_rs.specs.ErrorTexts.{specifier_refusal_text}
+use Rattle.pep440_rs.specs.ListGrammar.{PieceRefusal}
+use Rattle.pep440_version.proofs.Reading.Agreement.{one_record}
+use Rattle.pep440_version.proofs.Refusals.ExactlyOne.{not_both, one_refusal}
+use Rattle.pep440_version.specs.ErrorTexts.{refusal_text}
+use Rattle.pep440_version.specs.Record.{Record}
+use Rattle.pep440_version.specs.Refusals.{Refusal}
+use Rattle.pyver_findings.proofs.Once.{one_parts}
+use Rattle.pyver_findings.specs.Columns.{list_column}
+use Rattle.pyver_findings.specs.FileLines.{File, FileLine}
+use Rattle.pyver_findings.specs.Findings.{NoRequirement}
+use Rattle.pyver_findings.specs.LineMeanings.{IsNone, LineMeaning}
+use Rattle.pyver_findings.specs.Reports.{Report}
+use Rattle.pyver_requirements.specs.LineParts.{line_parts}
+use Rattle.toml.specs.Data.{Members}
+use Rattle.pyver_projects.proofs.Walks.{zip_once}
+use Rattle.pyver_projects.specs.Comparing.{documents_report}
+use Rattle.pyver_projects.specs.Documents.{sources}
+use Rattle.pyver_projects.specs.Locks.{locked}
+use Rattle.pyver_projects.specs.Meanings.{Document, DocumentReading, IsDocumentReading, IsLock, IsLockedReading, IsProject, IsSectionMeaning, IsStringReading, IsTableReading, IsVersionReading, LockedReading, StringReading, string_line}
+use Rattle.pyver_projects.specs.ProjectLaws.{DocumentReportsOnce, IsReadable}
+use Rattle.pyver_projects.specs.ProjectStrings.{Build, Dependencies, Extra, Group, LockedPackage, Section, Python, ProjectString, Version}
+use Rattle.pyver_projects.specs.declared.document_kind.DocumentKind.{DocumentKind}
+use Rattle.pyver_projects.specs.declared.document_kind.DocumentKind.TheVariants.{Lock, Project}
+
+one_meaning : (line : FileLine) (text : List ℕ) (section : Section) (x y : LineMeaning) → IsSectionMeaning section line text x → IsSectionMeaning section line text y → x ≡ y
+one_meaning line text Dependencies x y a b = one_parts line (line_parts text) x y a b
+one_meaning line text (Extra name) x y a b = one_parts line (line_parts text) x y a b
+one_meaning line text (Group name) x y a b = one_parts line (line_parts text) x y a b
+one_meaning line text Build x y a b = one_parts line (line_parts text) x y a b
+one_meaning line text Python x y (inl (l, d, a)) (inl (m, e, b)) = a ∙ sym b
+one_meaning line text Python x y (inl (l, d, a)) (inr (f, r, b)) = absurd (not_both_list text l f d r)
+one_meaning line text Python x y (inr (f, r, a)) (inl (l, d, b)) = absurd (not_both_list text l f d r)
+one_meaning line text Python x y (inr (f, r, a)) (inr (g, s, b)) = a ∙ ap (λ (h : PieceRefusal). IsNone (NoRequirement line (specifier_refusal_text h.error) (list_column text h))) (one_list_refusal text f g r s) ∙ sym b
+one_meaning line text Version x y (inl (l, d, a)) (inl (m, e, b)) = a ∙ sym b
+one_meaning line text Version x y (inl (l, d, a)) (inr (f, r, b)) = absurd (not_both text l f d r)
+one_meaning line text Version x y (inr (f, r, a)) (inl (l, d, b)) = absurd (not_both text l f d r)
+one_meaning line text Version x y (inr (f, r, a)) (inr (g, s, b)) = a ∙ ap (λ (h : Refusal). IsNone (NoRequirement line (refusal_text h) 0)) (one_refusal text f g r s) ∙ sym b
+
+one_string : (file : File) (s : ProjectString) (x y : StringReading) → IsStringReading file s x → IsStringReading file s y → x ≡ y
+one_string file s x y (p, a) (q, b) =
+    let section = p ∙ sym q in
+    let meaning = one_meaning (string_line file s) s.text s.section x.meaning y.meaning a b in
+    λ j. record { section = section j; meaning = meaning j }
+
+one_version : (line : FileLine) (name : List ℕ) (v : Option (List ℕ)) (x y : LockedReading) → IsVersionReading line name v x → IsVersionReading line name v y → x ≡ y
+one_version line name None x y a b = a ∙ sym b
+one_version line name (Some text) x y (inl (r, d, a)) (inl (q, e, b)) = a ∙ ap (λ (v : Record). record { line = line; name = normal name; version = Some v; invalid = None }) (one_record text r q d e) ∙ sym b
+one_version line name (Some text) x y (inl (r, d, a)) (inr (f, e, b)) = absurd (not_both text r f d e)
+one_version line name (Some text) x y (inr (f, e, a)) (inl (r, d, b)) = absurd (not_both text r f d e)
+one_version line name (Some text) x y (inr (f, r, a)) (inr (g, s, b)) =
+    a ∙ ap (λ (h : Refusal). record { line = line; name = normal name; version = None; invalid = Some (NoRequirement line (refusal_text h) (length name + 1)) }) (one_refusal text f g r s) ∙ sym b
+
+one_table : (kind : DocumentKind) (file : File) (t : Members) (x y : DocumentReading) → IsTableReading kind file t x → IsTableReading kind file t y → x ≡ y
+one_table Project file t x y (xs, g, a) (ys, h, b) =
+    a ∙ ap (λ (zs : List StringReading). IsProject zs)
+    (zip_once (IsStringReading file) (Contains (sources t)) (λ s v w known p q. one_string file s v w p q) (sources t) xs ys (All-contains_itself (sources t)) g h) ∙ sym b
+one_table (Lock kind) file t x y (xs, g, a) (ys, h, b) =
+    a ∙ ap (λ (zs : List LockedReading). IsLock zs)
+    (zip_once (IsLockedReading file.name) (Contains (locked kind file.text t)) (λ p v w known q r. one_version _ p.name p.version v w q r) (locked kind file.text t) xs ys (All-contains_itself (locked kind file.text t)) g h) ∙ sym b
+
+one_document : (d : Document) (x y : DocumentReading) → IsReadable d → IsDocumentReading d x → IsDocumentReading d y → x ≡ y
+one_document d x y (t, (text, e)) (inl (none, a)) b = absurd (none text)
+one_document d x y (t, (text, e)) (inr a) (inl (none, b)) = absurd (none text)
+one_document d x y (t, (text, e)) (inr (u, inr (none, a))) (inr b) = let same : None ≡ Some t = sym none ∙ e in cc same
+one_document d x y (t, (text, e)) (inr (u, inl a)) (inr (v, inr (none, b))) = let same : None ≡ Some t = sym none ∙ e in cc same
+one_document d x y (t, (text, e)) (inr (u, inl (m, f, a))) (inr (v, inl (n, g, b))) =
+    let same : Some n ≡ Some m = sym g ∙ f in
+    let table : n ≡ m = cc same in
+    one_table d.kind d.file m x y a (subst (λ (q : Members). IsTableReading d.kind d.file q y) table b)
+
+pub document_reports_once : DocumentReportsOnce
+document_reports_once documents r s readable (xs, g, a) (ys, h, b) = a ∙ ap documents_report (zip_once IsDocumentReading IsReadable one_document documents xs ys readable g h) ∙ sym b

@@ -1,0 +1,60 @@
+-- Lists beside lists, and lists that are made of each element.
+use Rattle.std.proofs.Common.{arith, ◌≡◌, ◌<◌, ◌∙◌, ℕ, List, [], ◌∷◌, ◌++◌, Bool, true, false, ◌||◌, get_or, length, refl, sym, ap, subst, suc, zero}
+use Rattle.std.proofs.lemmas.Bool.{true≢false}
+use Rattle.std.proofs.lemmas.List.Elements.{All-append, All-cons, All-head, All-nil, All-tail}
+use Rattle.std.specs.List.{All, AllZip, Contains, flat_map}
+
+pub left_nil : {X : Type 0} (xs ys : List X) → xs ++ ys ≡ [] → xs ≡ []
+left_nil [] ys e = refl
+left_nil (x ∷ xs) ys e = cc e
+
+pub right_nil : {X : Type 0} (xs ys : List X) → xs ++ ys ≡ [] → ys ≡ []
+right_nil [] ys e = e
+right_nil (x ∷ xs) ys e = cc e
+
+pub left_false : (a b : Bool) → (a || b) ≡ false → a ≡ false
+left_false true b e = absurd (true≢false e)
+left_false false b e = refl
+
+pub right_false : (a b : Bool) → (a || b) ≡ false → b ≡ false
+right_false true b e = absurd (true≢false e)
+right_false false b e = e
+
+-- an element has another beside it
+pub beside_it : {X Y : Type 0} (R : X → Y → Type 0) (xs : List X) (ys : List Y) (x : X) (k : ℕ) → k < length xs → get_or xs k x ≡ x → AllZip R xs ys → (y : Y) × Contains ys y × R x y
+beside_it R [] ys x k inside at h = absurd (omega (arith, inside))
+beside_it R (z ∷ xs) [] x k inside at h = absurd h
+beside_it R (z ∷ xs) (y ∷ ys) x zero inside at h = (y, (zero, omega arith, refl), subst (λ q. R q y) at h.0)
+beside_it R (z ∷ xs) (y ∷ ys) x (suc k) inside at h =
+    let (w, (j, within, here), r) = beside_it R xs ys x k (omega (arith, inside)) at h.1 in
+    (w, (suc j, omega (arith, within), here), r)
+
+-- what holds of each element holds of those beside them
+pub zip_each : {X Y : Type 0} (R : X → Y → Type 0) (K : X → Type 0) (Q : Y → Type 0) → ((x : X) (y : Y) → K x → R x y → Q y) → (xs : List X) (ys : List Y) → All K xs → AllZip R xs ys → All Q ys
+zip_each R K Q f [] [] known h = All-nil Q
+zip_each R K Q f [] (y ∷ ys) known h = absurd h
+zip_each R K Q f (x ∷ xs) [] known h = absurd h
+zip_each R K Q f (x ∷ xs) (y ∷ ys) known h = All-cons Q y ys (f x y (All-head K x xs known) h.0) (zip_each R K Q f xs ys (All-tail K x xs known) h.1)
+
+-- elements have one list beside them
+pub zip_once : {X Y : Type 0} (R : X → Y → Type 0) (K : X → Type 0) → ((x : X) (y z : Y) → K x → R x y → R x z → y ≡ z) → (xs : List X) (ys zs : List Y) → All K xs → AllZip R xs ys → AllZip R xs zs → ys ≡ zs
+zip_once R K f [] [] [] known h k = refl
+zip_once R K f [] [] (z ∷ zs) known h k = absurd k
+zip_once R K f [] (y ∷ ys) zs known h k = absurd h
+zip_once R K f (x ∷ xs) [] zs known h k = absurd h
+zip_once R K f (x ∷ xs) (y ∷ ys) [] known h k = absurd k
+zip_once R K f (x ∷ xs) (y ∷ ys) (z ∷ zs) known h k =
+    let first = f x y z (All-head K x xs known) h.0 k.0 in
+    let others = zip_once R K f xs ys zs (All-tail K x xs known) h.1 k.1 in
+    λ j. first j ∷ others j
+
+-- what holds of all that is made of each element holds of all
+pub all_flat : {X Y : Type 0} (P : Y → Type 0) (f : X → List Y) (xs : List X) → All (λ x. All P (f x)) xs → All P (flat_map f xs)
+all_flat P f [] k = All-nil P
+all_flat P f (x ∷ xs) k = All-append P (f x) (flat_map f xs) (All-head (λ y. All P (f y)) x xs k) (all_flat P f xs (All-tail (λ y. All P (f y)) x xs k))
+
+-- where nothing is made, nothing is made of an element
+pub nil_at : {X Y : Type 0} (f : X → List Y) (xs : List X) (x : X) (k : ℕ) → k < length xs → get_or xs k x ≡ x → flat_map f xs ≡ [] → f x ≡ []
+nil_at f [] x k inside at e = absurd (omega (arith, inside))
+nil_at f (z ∷ xs) x zero inside at e = ap f (sym at) ∙ left_nil (f z) (flat_map f xs) e
+nil_at f (z ∷ xs) x (suc k) inside at e = nil_at f xs x k (omega (arith, inside)) at (right_nil (f z) (flat_map f xs) e)

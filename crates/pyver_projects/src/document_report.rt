@@ -1,0 +1,136 @@
+//! The report of documents.
+ghost use Rattle.std.specs.Prelude.{◌≡◌, ◌++◌, IfOk, map};
+ghost use Rattle.std.specs.List.{AllZip, flat_map};
+ghost use Rattle.pyver_findings.specs.Reports.{empty_report, left_out_in};
+ghost use Rattle.pyver_findings.specs.Views.{finding_of, line_meaning_of, report_of};
+ghost use Rattle.pyver_projects.specs.Comparing.{IsDocumentsReport, beside_all, found_or_none, invalid_package, invalid_string, left_out_string, own_report, with_own_reports};
+ghost use Rattle.pyver_projects.specs.Meanings.{IsDocumentReading, IsLock, IsProject};
+ghost use Rattle.pyver_projects.specs.ProjectViews.{document_of, document_reading_of, locked_reading_of, string_reading_of};
+
+use crate::document::Document;
+use crate::document_reading::{DocumentReading, read_document};
+use crate::lock_comparison::push_beside_all;
+use crate::locked_reading::LockedReading;
+use crate::string_reading::StringReading;
+use pyver_findings::{Cause, Finding, LineMeaning, Report};
+use std::alloc::{AllocError, Global};
+
+// Adds what is wrong with the string by itself, and why it is left out.
+fn push_string(report: &mut Report, string: StringReading) -> Result<(), AllocError>
+    ensures findings { IfOk result (λ _. map finding_of report.new.findings.items ≡ map finding_of report.old.findings.items ++ invalid_string (string_reading_of string)) }
+    ensures left_out { IfOk result (λ _. report.new.left_out.items ≡ report.old.left_out.items ++ left_out_string (string_reading_of string)) }
+    ensures lines { report.new.lines ≡ report.old.lines }
+    ensures files { report.new.files ≡ report.old.files }
+{
+    match string.meaning {
+        LineMeaning::IsNone(finding) => report.findings.push(finding)?,
+        LineMeaning::LeftOut(cause) => report.left_out.push(cause)?,
+        LineMeaning::Asks(_) | LineMeaning::AsksNothing => {}
+    }
+    Ok(())
+}
+
+fn report_strings(alloc: Global, strings: Vec<StringReading>) -> Result<Report, AllocError>
+    ensures { IfOk result (λ r. report_of r ≡ own_report (IsProject (map string_reading_of strings.items))) }
+{
+    let mut report = Report::empty(alloc);
+    report.lines = strings.len();
+    report.files = 1;
+    for string in strings {
+        push_string(&mut report, string)?;
+    }
+    Ok(report)
+}
+
+fn push_package(findings: &mut Vec<Finding>, locked: LockedReading) -> Result<(), AllocError>
+    ensures { IfOk result (λ _. map finding_of findings.new.items ≡ map finding_of findings.old.items ++ invalid_package (locked_reading_of locked)) }
+{
+    if let Some(finding) = locked.invalid {
+        findings.push(finding)?;
+    }
+    Ok(())
+}
+
+fn report_packages(alloc: Global, packages: Vec<LockedReading>) -> Result<Report, AllocError>
+    ensures { IfOk result (λ r. report_of r ≡ own_report (IsLock (map locked_reading_of packages.items))) }
+{
+    let mut report = Report::empty(alloc);
+    report.lines = packages.len();
+    report.files = 1;
+    for locked in packages {
+        push_package(&mut report.findings, locked)?;
+    }
+    Ok(report)
+}
+
+// The report of a document by itself.
+fn report_document(alloc: Global, document: DocumentReading) -> Result<Report, AllocError>
+    ensures { IfOk result (λ r. report_of r ≡ own_report (document_reading_of document)) }
+{
+    match document {
+        DocumentReading::Project(strings) => report_strings(alloc, strings),
+        DocumentReading::Lock(packages) => report_packages(alloc, packages),
+        DocumentReading::Broken(finding) => {
+            let mut report = Report::empty(alloc);
+            report.files = 1;
+            report.findings.push(finding)?;
+            Ok(report)
+        }
+    }
+}
+
+fn report_all(alloc: Global, documents: Vec<DocumentReading>) -> Result<Report, AllocError>
+    ensures { IfOk result (λ r. report_of r ≡ with_own_reports empty_report (map document_reading_of documents.items)) }
+{
+    let mut report = Report::empty(alloc);
+    for document in documents {
+        report.append(report_document(alloc, document)?)?;
+    }
+    Ok(report)
+}
+
+// What is found in each project beside each lock.
+fn compare_all(alloc: Global, documents: &[DocumentReading]) -> Result<Vec<Finding>, AllocError>
+    ensures { IfOk result (λ found. map finding_of found.items ≡ flat_map (beside_all (map document_reading_of documents.now)) (map document_reading_of documents.now)) }
+{
+    let mut findings = Vec::new(alloc);
+    for document in documents {
+        push_beside_all(alloc, &mut findings, documents, document)?;
+    }
+    Ok(findings)
+}
+
+fn read_documents(alloc: Global, documents: &[Document]) -> Result<Vec<DocumentReading>, AllocError>
+    ensures { IfOk result (λ xs. AllZip IsDocumentReading (map document_of documents.now) (map document_reading_of xs.items)) }
+{
+    let mut readings = Vec::new(alloc);
+    for document in documents {
+        readings.push(read_document(alloc, document)?)?;
+    }
+    Ok(readings)
+}
+
+/// What is wrong in the documents. First what is wrong in each by itself, in order: strings of a project that are no requirement, no list
+/// of specifiers or no version, versions of a lock that are none, and a document that is not TOML in UTF-8. Then what is wrong in each
+/// project beside each lock: for each requirement, in order, whether the lock lacks a package of its name, and the lines of the locked
+/// versions of its name that it does not contain, each with the line of the requirement.
+///
+/// Of `pyproject.toml` these are read: `project.dependencies`, `project.optional-dependencies`, `project.requires-python`,
+/// `project.version`, `dependency-groups`, where an included group has its strings where it stands, and `build-system.requires`; of a lock
+/// the names and versions of its packages. Values of other types are passed over. Extras and groups come in the order of their names. A
+/// string has the number of the first line on which it stands in quotes, a package the number of its header; either has 1 without one.
+/// Each string and each package counts as a line.
+///
+/// A requirement with a marker or a URL, or of the build, is not compared, and only `project.dependencies` are to be in each lock.
+/// Takes time for each requirement and locked.
+///
+/// Allocates.
+pub fn find_document_problems(alloc: Global, documents: &[Document]) -> Result<Report, AllocError>
+    ensures { IfOk result (λ r. IsDocumentsReport (map document_of documents.now) (report_of r)) }
+{
+    let readings = read_documents(alloc, documents)?;
+    let mut compared = compare_all(alloc, readings.as_slice())?;
+    let mut report = report_all(alloc, readings)?;
+    report.findings.append(&mut compared)?;
+    Ok(report)
+}

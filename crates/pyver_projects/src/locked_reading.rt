@@ -1,0 +1,136 @@
+// What locked packages are to the check.
+ghost use Rattle.std.specs.Prelude.{◌≡◌, ◌+◌, IfOk, IfSome, None, Some, length, map, option_map, string_bytes};
+ghost use Rattle.std.specs.List.{AllZip};
+ghost use Rattle.pep440_pick.specs.Names.{normal};
+ghost use Rattle.pep440_version.specs.Errors.{error_refusal};
+ghost use Rattle.pep440_version.specs.ErrorTexts.{error_text, refusal_text};
+ghost use Rattle.pep440_version.specs.Refusals.{Refusal};
+ghost use Rattle.pyver_findings.specs.Findings.{NoRequirement};
+ghost use Rattle.pyver_findings.specs.Views.{file_line_of};
+ghost use Rattle.pyver_projects.specs.Meanings.{IsLockedReading, IsVersionReading, package_line, package_text};
+ghost use Rattle.pyver_projects.specs.ProjectViews.{locked_of, locked_reading_of};
+
+use crate::locked_package::LockedPackage;
+use crate::version_reason::version_reason;
+use pep440_rs::{Version, VersionParseError};
+use pyver_findings::{FileLine, Finding, normalize_name};
+use std::alloc::{AllocError, Global};
+
+// A locked, and what is wrong with it.
+#[derive(Drop)]
+pub(crate) struct LockedReading {
+    pub(crate) line: FileLine,
+    // In its normal form.
+    pub(crate) name: Vec<u8>,
+    // The version, if it has one that is valid.
+    pub(crate) version: Option<Version>,
+    pub(crate) invalid: Option<Finding>,
+}
+
+// The name and the version.
+fn package_text(alloc: Global, name: &str, version: &Option<String>) -> Result<Vec<u8>, AllocError>
+    ensures { IfOk result (λ text. text.items ≡ package_text name.now (option_map string_bytes version.now)) }
+{
+    let mut text = Vec::from_slice(alloc, name.as_bytes())?;
+    if let Some(version) = version {
+        text.push(b' ')?;
+        text.extend_from_slice(version.as_bytes())?;
+    }
+    Ok(text)
+}
+
+// The package as a line of the file with this name.
+fn package_line(alloc: Global, file: &[u8], locked: &LockedPackage) -> Result<FileLine, AllocError>
+    ensures { IfOk result (λ line. file_line_of line ≡ package_line file.now (locked_of locked.now)) }
+{
+    Ok(FileLine {
+        file: Vec::from_slice(alloc, file)?,
+        number: locked.line,
+        text: package_text(alloc, locked.name.as_str(), &locked.version)?,
+    })
+}
+
+fn reject(
+    alloc: Global,
+    line: FileLine,
+    name: &str,
+    reason: String,
+) -> Result<LockedReading, AllocError>
+    ensures { IfOk result (λ y. locked_reading_of y ≡ record { line = file_line_of line; name = normal name.now; version = None; invalid = Some (NoRequirement (file_line_of line) (string_bytes reason) (length name.now + 1)) }) }
+{
+    let column = name.len() + 1;
+    Ok(LockedReading {
+        line: line.clone()?,
+        name: normalize_name(alloc, name)?,
+        version: None,
+        invalid: Some(Finding::NoRequirement(line, reason, column)),
+    })
+}
+
+fn reject_version(
+    alloc: Global,
+    line: FileLine,
+    name: &str,
+    error: &VersionParseError,
+) -> Result<LockedReading, AllocError>
+    requires { IfSome (error_refusal error.now) (λ f. error_text (error_refusal error.now) ≡ Some (refusal_text f)) }
+    ensures { IfOk result (λ y. (f : Refusal) × (error_refusal error.now ≡ Some f) × (locked_reading_of y ≡ record { line = file_line_of line; name = normal name.now; version = None; invalid = Some (NoRequirement (file_line_of line) (refusal_text f) (length name.now + 1)) })) }
+{
+    let reason = version_reason(alloc, error)?;
+    reject(alloc, line, name, reason)
+}
+
+fn read_version(
+    alloc: Global,
+    line: FileLine,
+    name: &str,
+    version: &str,
+) -> Result<LockedReading, AllocError>
+    ensures { IfOk result (λ y. IsVersionReading (file_line_of line) name.now (Some version.now) (locked_reading_of y)) }
+{
+    match Version::from_str(alloc, version) {
+        Ok(version) => Ok(LockedReading {
+            line,
+            name: normalize_name(alloc, name)?,
+            version: Some(version),
+            invalid: None,
+        }),
+        Err(error) => reject_version(alloc, line, name, &error),
+    }
+}
+
+// What the package is, of the file with this name.
+fn read_package(
+    alloc: Global,
+    file: &[u8],
+    locked: &LockedPackage,
+) -> Result<LockedReading, AllocError>
+    ensures { IfOk result (λ y. IsLockedReading file.now (locked_of locked.now) (locked_reading_of y)) }
+{
+    let line = package_line(alloc, file, locked)?;
+    let name = locked.name.as_str();
+    match &locked.version {
+        Some(version) => read_version(alloc, line, name, version.as_str()),
+        None => Ok(LockedReading {
+            line,
+            name: normalize_name(alloc, name)?,
+            version: None,
+            invalid: None,
+        }),
+    }
+}
+
+// What the packages are.
+pub(crate) fn read_packages(
+    alloc: Global,
+    file: &[u8],
+    packages: &[LockedPackage],
+) -> Result<Vec<LockedReading>, AllocError>
+    ensures { IfOk result (λ ys. AllZip (IsLockedReading file.now) (map locked_of packages.now) (map locked_reading_of ys.items)) }
+{
+    let mut readings = Vec::new(alloc);
+    for locked in packages {
+        readings.push(read_package(alloc, file, locked)?)?;
+    }
+    Ok(readings)
+}

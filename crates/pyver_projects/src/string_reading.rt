@@ -1,0 +1,106 @@
+// What the strings of `pyproject.toml` are to the check.
+ghost use Rattle.std.specs.Prelude.{◌≡◌, IfOk, IfSome, Some, map, string_bytes};
+ghost use Rattle.std.specs.List.{AllZip};
+ghost use Rattle.pep440_version.specs.Errors.{error_refusal};
+ghost use Rattle.pep440_version.specs.ErrorTexts.{error_text, refusal_text};
+ghost use Rattle.pep440_version.specs.Refusals.{Refusal};
+ghost use Rattle.pyver_findings.specs.Findings.{NoRequirement};
+ghost use Rattle.pyver_findings.specs.LineMeanings.{IsNone};
+ghost use Rattle.pyver_findings.specs.Views.{file_line_of, line_meaning_of};
+ghost use Rattle.pyver_projects.specs.Meanings.{IsSectionMeaning, IsStringReading, IsVersionMeaning};
+ghost use Rattle.pyver_projects.specs.ProjectViews.{project_string_of, section_of, string_reading_of};
+
+use crate::place::string_line;
+use crate::project_string::ProjectString;
+use crate::section::Section;
+use crate::version_reason::version_reason;
+use pep440_rs::{Version, VersionParseError};
+use pyver_findings::{FileLine, Finding, LineMeaning, parse_requirement, parse_specifiers};
+use std::alloc::{AllocError, Global};
+
+// A string, and what it is.
+#[derive(Drop)]
+pub(crate) struct StringReading {
+    pub(crate) section: Section,
+    pub(crate) meaning: LineMeaning,
+}
+
+fn reject(line: &FileLine, reason: String) -> Result<LineMeaning, AllocError>
+    ensures { IfOk result (λ x. line_meaning_of x ≡ IsNone (NoRequirement (file_line_of line.now) (string_bytes reason) 0)) }
+{
+    Ok(LineMeaning::IsNone(Finding::NoRequirement(line.clone()?, reason, 0)))
+}
+
+fn reject_version(
+    alloc: Global,
+    line: &FileLine,
+    error: &VersionParseError,
+) -> Result<LineMeaning, AllocError>
+    requires { IfSome (error_refusal error.now) (λ f. error_text (error_refusal error.now) ≡ Some (refusal_text f)) }
+    ensures { IfOk result (λ x. (f : Refusal) × (error_refusal error.now ≡ Some f) × (line_meaning_of x ≡ IsNone (NoRequirement (file_line_of line.now) (refusal_text f) 0))) }
+{
+    let reason = version_reason(alloc, error)?;
+    reject(line, reason)
+}
+
+// What a string of this line is that is to be a version.
+fn parse_version(alloc: Global, line: &FileLine, text: &str) -> Result<LineMeaning, AllocError>
+    ensures { IfOk result (λ x. IsVersionMeaning (file_line_of line.now) text.now (line_meaning_of x)) }
+{
+    match Version::from_str(alloc, text) {
+        Ok(_) => Ok(LineMeaning::AsksNothing),
+        Err(error) => reject_version(alloc, line, &error),
+    }
+}
+
+// What a string of this line is in this section.
+fn parse_string(
+    alloc: Global,
+    section: &Section,
+    line: &FileLine,
+    text: &str,
+) -> Result<LineMeaning, AllocError>
+    requires { (file_line_of line.now).text ≡ text.now }
+    ensures { IfOk result (λ x. IsSectionMeaning (section_of section.now) (file_line_of line.now) text.now (line_meaning_of x)) }
+{
+    match section {
+        Section::Python => parse_specifiers(alloc, line, text),
+        Section::Version => parse_version(alloc, line, text),
+        Section::Dependencies | Section::Extra(_) | Section::Group(_) | Section::Build => {
+            parse_requirement(alloc, line)
+        }
+    }
+}
+
+// What a string of the file with this name and text is.
+fn read_string(
+    alloc: Global,
+    name: &[u8],
+    text: &str,
+    string: &ProjectString,
+) -> Result<StringReading, AllocError>
+    ensures { IfOk result (λ x. IsStringReading (record { name = name.now; text = text.now }) (project_string_of string.now) (string_reading_of x)) }
+{
+    let line = string_line(alloc, name, text, string)?;
+    let meaning = parse_string(alloc, &string.section, &line, string.text.as_str())?;
+    Ok(StringReading {
+        section: string.section.clone()?,
+        meaning,
+    })
+}
+
+// What the strings are.
+pub(crate) fn read_strings(
+    alloc: Global,
+    name: &[u8],
+    text: &str,
+    strings: &[ProjectString],
+) -> Result<Vec<StringReading>, AllocError>
+    ensures { IfOk result (λ xs. AllZip (IsStringReading (record { name = name.now; text = text.now })) (map project_string_of strings.now) (map string_reading_of xs.items)) }
+{
+    let mut readings = Vec::new(alloc);
+    for string in strings {
+        readings.push(read_string(alloc, name, text, string)?)?;
+    }
+    Ok(readings)
+}

@@ -1,0 +1,92 @@
+//! What is found in documents.
+use pyver_findings::{Conflict, FileLine, Finding, SourceFile};
+use pyver_projects::{Document, DocumentKind, LockKind, find_document_problems, kind_of_path};
+use std::alloc::Global;
+use std::str;
+use testing::CaseError;
+
+/// A word for the kind of the document with this path; `-` stands for none.
+pub fn print_kind(alloc: Global, path: &str) -> Result<String, CaseError> {
+    let word = match kind_of_path(path.as_bytes()) {
+        Some(DocumentKind::Project) => "project",
+        Some(DocumentKind::Lock(LockKind::Pylock)) => "pylock",
+        Some(DocumentKind::Lock(LockKind::Uv)) => "uv",
+        Some(DocumentKind::Lock(LockKind::Poetry)) => "poetry",
+        None => "-",
+    };
+    Ok(String::from_str(alloc, word)?)
+}
+
+// The document with this name, by its kind, and text.
+fn document(alloc: Global, name: &str, text: &str) -> Result<Document, CaseError> {
+    let Some(kind) = kind_of_path(name.as_bytes()) else {
+        return Err(CaseError::Unreadable);
+    };
+    let file = SourceFile {
+        name: Vec::from_slice(alloc, name.as_bytes())?,
+        text: Vec::from_slice(alloc, text.as_bytes())?,
+    };
+    Ok(Document { kind, file })
+}
+
+fn documents(alloc: Global, files: &[String]) -> Result<Vec<Document>, CaseError> {
+    let mut documents = Vec::new(alloc);
+    let mut rest = files;
+    while let [name, text, later @ ..] = rest {
+        documents.push(document(alloc, name.as_str(), text.as_str())?)?;
+        rest = later;
+    }
+    Ok(documents)
+}
+
+fn text(bytes: &[u8]) -> Result<&str, CaseError> {
+    str::from_utf8(bytes).map_err(|_| CaseError::Unreadable)
+}
+
+fn push_line(printed: &mut String, line: &FileLine) -> Result<(), CaseError> {
+    let (file, number) = (text(line.file.as_slice())?, line.number);
+    write!(
+        printed,
+        "{file}:{number}: {}\n",
+        text(line.text.as_slice())?
+    )?;
+    Ok(())
+}
+
+fn kind_word(kind: Conflict) -> &'static str {
+    match kind {
+        Conflict::NoVersion => "none\n",
+        Conflict::PinOutside => "outside\n",
+        Conflict::TwoPins => "pins\n",
+    }
+}
+
+fn push_finding(printed: &mut String, finding: &Finding) -> Result<(), CaseError> {
+    match finding {
+        Finding::NoRequirement(line, reason, column) => {
+            write!(printed, "{} {}\n", *column, reason.as_str())?;
+            push_line(printed, line)?;
+        }
+        Finding::Conflicting(kind, lines) => {
+            printed.push_str(kind_word(*kind))?;
+            for line in lines {
+                push_line(printed, line)?;
+            }
+        }
+    }
+    Ok(())
+}
+
+/// What is found in documents, each given by its name and its text: for each finding the column and the reason, or a word, and
+/// then its lines; and the numbers of strings and packages, of files, and of strings that are left out.
+pub fn print_report(alloc: Global, files: &[String]) -> Result<String, CaseError> {
+    let documents = documents(alloc, files)?;
+    let report = find_document_problems(alloc, documents.as_slice())?;
+    let mut printed = String::new(alloc);
+    for finding in &report.findings {
+        push_finding(&mut printed, finding)?;
+    }
+    let (lines, files, left_out) = (report.lines, report.files, report.left_out.len());
+    write!(printed, "{lines} {files} {left_out}\n")?;
+    Ok(printed)
+}
