@@ -48,7 +48,7 @@ fn compare_keys(left: &[u8], right: &[u8]) -> Result<Ordering, Fault>
     let Ok(second) = pep440_compiled::sort_key(right) else {
         return Err(Fault::InvalidRight);
     };
-    Ok(first.cmp(second))
+    Ok(pep440_compiled::cmp_bytes(first, second))
 }
 
 // How the left version compares with the right one.

@@ -9,4 +9,4 @@ pub returns-in_default-sort_key : goal.returns-in_default-sort_key
 returns-in_default-sort_key c = (inl (c.requires.left, c.requires.right), no_compiled c.args.right.now c.requires.right c.in_default-sort_key.ensures.found)
 
 pub returns : goal.returns
-returns c = order_found c.args.left.now c.args.right.now c.in-Ok.first.now c.in-Ok-sort_key.second.now c.cmp.result c.requires.left c.requires.right c.in-Ok.ensures.found c.in-Ok-sort_key.ensures.found c.cmp.ensures
+returns c = order_found c.args.left.now c.args.right.now c.in-Ok.first.now c.in-Ok-sort_key.second.now c.cmp_bytes.result c.requires.left c.requires.right c.in-Ok.ensures.found c.in-Ok-sort_key.ensures.found c.cmp_bytes.ensures
