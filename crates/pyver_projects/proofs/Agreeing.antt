@@ -1,6 +1,6 @@
 -- Where nothing is found, each requirement contains each locked version of its name.
 use Rattle.std.proofs.Common.{◌≡◌, ◌∙◌, ℕ, List, [], ◌∷◌, ◌++◌, Bool, true, false, Option, Some, None, refl, sym, ap, subst, inl, inr, if◌then◌else◌}
-use Rattle.std.specs.List.{AllZip, Contains, flat_map}
+use Rattle.std.specs.List.{AllZip, flat_map}
 use Rattle.pep440_pick.specs.Names.{same_name}
 use Rattle.pep440_pick.specs.RequirementGrammar.{Needed}
 use Rattle.pep440_rs.specs.Matching.{list_matches}
@@ -11,20 +11,18 @@ use Rattle.pep440_version.specs.Record.{Record}
 use Rattle.pyver_findings.specs.Demands.{Demand, line_demand}
 use Rattle.pyver_findings.specs.FileLines.{File, FileLine}
 use Rattle.pyver_findings.specs.Findings.{Conflicting}
-use Rattle.pyver_findings.specs.LineMeanings.{Asks, LineMeaning}
+use Rattle.pyver_findings.specs.LineMeanings.{Asks}
 use Rattle.pyver_findings.specs.Reports.{Report, demands_in, empty_report}
 use Rattle.pyver_findings.specs.declared.finding.Conflict.TheVariants.{PinOutside}
 use Rattle.toml.specs.Data.{Members}
-use Rattle.toml.specs.Parse.{parse_document}
 use Rattle.pyver_projects.proofs.Asking.{asks_always}
 use Rattle.pyver_projects.proofs.Walks.{beside_it, left_nil, nil_at, right_nil}
 use Rattle.pyver_projects.specs.Comparing.{found_beside, beside_all, compared, compared_demand, excluded, is_locked, missing, with_own_reports}
 use Rattle.pyver_projects.specs.Documents.{sources}
 use Rattle.pyver_projects.specs.Locks.{locked}
-use Rattle.pyver_projects.specs.Meanings.{Document, DocumentReading, IsDocumentReading, IsLock, IsLockedReading, IsProject, IsStringReading, IsVersionReading, LockedReading, StringReading, package_line, string_line}
-use Rattle.pyver_projects.specs.ProjectLaws.{AlwaysAsks, HasTable, NoFindingMeansContained}
-use Rattle.pyver_projects.specs.ProjectStrings.{LockedPackage, ProjectString, Section}
-use Rattle.pyver_projects.specs.declared.document_kind.DocumentKind.{DocumentKind}
+use Rattle.pyver_projects.specs.Meanings.{DocumentReading, IsDocumentReading, IsLock, IsLockedReading, IsProject, IsStringReading, IsVersionReading, LockedReading, StringReading, package_line, string_line}
+use Rattle.pyver_projects.specs.ProjectLaws.{HasTable, NoFindingMeansContained}
+use Rattle.pyver_projects.specs.ProjectStrings.{LockedPackage, Section}
 use Rattle.pyver_projects.specs.declared.document_kind.DocumentKind.TheVariants.{Lock, Project}
 use Rattle.pyver_projects.specs.declared.document_kind.LockKind.{LockKind}
 
@@ -87,9 +85,9 @@ no_finding_means_contained documents r (zs, h, is) none file lock s p n text v (
     let nothing : found_beside x y ≡ [] = nil_at (found_beside x) zs y b in_y is_y (nil_at (beside_all zs) zs x a in_x is_x found) in
     let compares : flat_map (compared ys) xs ≡ [] = (λ e. found_beside (sym is_project e) (sym is_lock e)) ∙ nothing in
     let (z, (c, in_z, is_z), rz) = beside_it (IsStringReading file) (sources t) xs s i within here g in
-    let (w, (m, in_w, is_w), rw_) = beside_it (IsLockedReading lock.name) (locked kind lock.text u) ys p j under this q in
-    let meaning = asks_always (string_line file s) s.text n asks.0 asks.1 asks.2 asks.3 s.section z.meaning counts rz.1 in
+    let (w, (m, in_w, is_w), rl) = beside_it (IsLockedReading lock.name) (locked kind lock.text u) ys p j under this q in
+    let meaning = asks_always (string_line file s) n asks.0 asks.1 asks.2 asks.3 s.text s.section z.meaning counts rz.1 in
     let asked = line_demand (string_line file s) None n in
     let both : missing ys s.section asked ++ flat_map (excluded asked) ys ≡ [] = not_compared ys asked s.section z rz.0 meaning counts (nil_at (compared ys) xs z c in_z is_z compares) in
     let one : excluded asked w ≡ [] = nil_at (excluded asked) ys w m in_w is_w (right_nil (missing ys s.section asked) (flat_map (excluded asked) ys) both) in
-    not_excluded (string_line file s) n lock.name p w p.version text v written d same rw_ one
+    not_excluded (string_line file s) n lock.name p w p.version text v written d same rl one

@@ -1,12 +1,12 @@
 -- Requirements that count always.
-use Rattle.std.proofs.Common.{◌≡◌, ◌==◌, ◌∙◌, ℕ, List, [], ◌∷◌, Bool, true, false, Option, Some, None, length, refl, sym, ap, subst, inl, inr, if◌then◌else◌}
+use Rattle.std.proofs.Common.{◌≡◌, ◌==◌, ◌∙◌, ℕ, List, [], ◌∷◌, Bool, true, false, Option, Some, None, length, refl, sym, ap, inl, inr, if◌then◌else◌}
 use Rattle.std.specs.Str.{IsUtf8}
 use Rattle.pep440_pick.specs.RequirementGrammar.{DerivesRequirement, Needed}
 use Rattle.pyver_findings.proofs.Once.{one_parts}
 use Rattle.pyver_findings.specs.Demands.{Demand, line_demand}
 use Rattle.pyver_findings.specs.FileLines.{FileLine}
 use Rattle.pyver_findings.specs.Findings.{NoRequirement}
-use Rattle.pyver_findings.specs.LineMeanings.{Asks, AsksNothing, IsNone, IsPartsMeaning, LeftOut, LineMeaning, before_url, not_utf8, refusal_meaning, requirement_meaning, with_marker, with_url}
+use Rattle.pyver_findings.specs.LineMeanings.{Asks, IsNone, IsPartsMeaning, LeftOut, LineMeaning, requirement_meaning, with_marker, with_url}
 use Rattle.pyver_findings.specs.declared.cause.Cause.TheVariants as cause
 use Rattle.pyver_requirements.specs.LineParts.{LineParts, line_parts}
 use Rattle.pyver_projects.specs.Comparing.{is_locked}
@@ -43,31 +43,31 @@ module _ (line : FileLine) (p : LineParts) (a : Demand) where
   of_parts (inr (text, inr (f, r, e))) = cc e
 
 -- what a string asks for
-pub of_section : (line : FileLine) (text : List ℕ) (a : Demand) (section : Section) → IsSectionMeaning section line text (Asks a) → AsksFor line (line_parts text) a
+pub of_section : (line : FileLine) (text : List ℕ) (a : Demand) (section : Section) → IsSectionMeaning section line text (Asks a) → AsksFor line (line_parts line.text) a
 of_section line text a Python (inl (list, d, e)) = cc e
 of_section line text a Python (inr (f, r, e)) = cc e
 of_section line text a Version (inl (v, d, e)) = cc e
 of_section line text a Version (inr (f, r, e)) = cc e
-of_section line text a Dependencies is = of_parts line (line_parts text) a is
-of_section line text a (Extra name) is = of_parts line (line_parts text) a is
-of_section line text a (Group name) is = of_parts line (line_parts text) a is
-of_section line text a Build is = of_parts line (line_parts text) a is
+of_section line text a Dependencies is = of_parts line (line_parts line.text) a is
+of_section line text a (Extra name) is = of_parts line (line_parts line.text) a is
+of_section line text a (Group name) is = of_parts line (line_parts line.text) a is
+of_section line text a Build is = of_parts line (line_parts line.text) a is
 
-module _ (line : FileLine) (text : List ℕ) (n : Needed) (utf8 : IsUtf8 (line_parts text).requirement) (d : DerivesRequirement (line_parts text).requirement n) (marker : (line_parts text).marker ≡ None) (url : (line_parts text).url ≡ None) where
-  means : (line_parts text).marker ≡ None → IsPartsMeaning line (line_parts text) (Asks (line_demand line (line_parts text).marker n))
+module _ (line : FileLine) (n : Needed) (utf8 : IsUtf8 (line_parts line.text).requirement) (d : DerivesRequirement (line_parts line.text).requirement n) (marker : (line_parts line.text).marker ≡ None) (url : (line_parts line.text).url ≡ None) where
+  means : (line_parts line.text).marker ≡ None → IsPartsMeaning line (line_parts line.text) (Asks (line_demand line (line_parts line.text).marker n))
   means _ =
-      let same : requirement_meaning line (line_parts text) n ≡ Asks (line_demand line (line_parts text).marker n) =
-      ap (λ (m : Option (List ℕ)). with_marker line (line_parts text) n m) marker ∙ ap (λ (u : Option (List ℕ)). with_url line (line_parts text) n u) url in
+      let same : requirement_meaning line (line_parts line.text) n ≡ Asks (line_demand line (line_parts line.text).marker n) =
+      ap (λ (m : Option (List ℕ)). with_marker line (line_parts line.text) n m) marker ∙ ap (λ (u : Option (List ℕ)). with_url line (line_parts line.text) n u) url in
       inr (utf8, inl (n, d, sym same))
 
-  of_requirement : (x : LineMeaning) → IsPartsMeaning line (line_parts text) x → x ≡ Asks (line_demand line None n)
-  of_requirement x is = one_parts line (line_parts text) x (Asks (line_demand line (line_parts text).marker n)) is (means marker) ∙ ap (λ (m : Option (List ℕ)). Asks (line_demand line m n)) marker
+  of_requirement : (x : LineMeaning) → IsPartsMeaning line (line_parts line.text) x → x ≡ Asks (line_demand line None n)
+  of_requirement x is = one_parts line (line_parts line.text) x (Asks (line_demand line (line_parts line.text).marker n)) is (means marker) ∙ ap (λ (m : Option (List ℕ)). Asks (line_demand line m n)) marker
 
   -- a requirement without a marker and a URL asks for it
-  pub asks_always : (section : Section) (x : LineMeaning) → is_locked section ≡ true → IsSectionMeaning section line text x → x ≡ Asks (line_demand line None n)
-  asks_always Dependencies x counts is = of_requirement x is
-  asks_always (Extra name) x counts is = of_requirement x is
-  asks_always (Group name) x counts is = of_requirement x is
-  asks_always Build x counts is = cc counts
-  asks_always Python x counts is = cc counts
-  asks_always Version x counts is = cc counts
+  pub asks_always : (text : List ℕ) (section : Section) (x : LineMeaning) → is_locked section ≡ true → IsSectionMeaning section line text x → x ≡ Asks (line_demand line None n)
+  asks_always text Dependencies x counts is = of_requirement x is
+  asks_always text (Extra name) x counts is = of_requirement x is
+  asks_always text (Group name) x counts is = of_requirement x is
+  asks_always text Build x counts is = cc counts
+  asks_always text Python x counts is = cc counts
+  asks_always text Version x counts is = cc counts

@@ -1,17 +1,18 @@
 -- Each finding of a report of documents is right.
-use Rattle.std.proofs.Common.{◌≡◌, ◌∙◌, ℕ, ◌+◌, List, [], ◌∷◌, ◌++◌, ◌||◌, Bool, true, false, Option, Some, None, codes, refl, sym, ap, subst, inl, inr, if◌then◌else◌}
+use Rattle.std.proofs.Common.{◌≡◌, ◌∙◌, ℕ, ◌+◌, List, [], ◌∷◌, ◌++◌, Bool, true, false, Option, Some, None, codes, length, refl, sym, ap, subst, inl, inr, if◌then◌else◌}
 use Rattle.std.proofs.lemmas.Bool.{true≢false}
 use Rattle.std.proofs.lemmas.List.{append_assoc, append-nil}
 use Rattle.std.proofs.lemmas.List.Elements.{All-append, All-cons, All-contains_itself, All-nil}
 use Rattle.std.specs.List.{All, AllZip, Contains, flat_map, list_any}
 use Rattle.std.specs.Str.{IsUtf8}
-use Rattle.pep440_pick.specs.Names.{normal, same_name}
-use Rattle.pep440_pick.specs.RequirementGrammar.{DerivesRequirement, Needed}
+use Rattle.pep440_pick.specs.Names.{same_name}
+use Rattle.pep440_pick.specs.RequirementGrammar.{Needed}
 use Rattle.pep440_rs.specs.Matching.{list_matches}
+use Rattle.pep440_version.specs.ErrorTexts.{refusal_text}
 use Rattle.pep440_version.specs.Grammar.{Derives}
 use Rattle.pep440_version.specs.Record.{Record}
 use Rattle.pyver_findings.specs.Demands.{Demand, line_demand}
-use Rattle.pyver_findings.specs.FileLines.{File, FileLine}
+use Rattle.pyver_findings.specs.FileLines.{File}
 use Rattle.pyver_findings.specs.Findings.{Conflicting, Finding, NoRequirement}
 use Rattle.pyver_findings.specs.LineMeanings.{Asks, AsksNothing, IsNone, LeftOut, LineMeaning}
 use Rattle.pyver_findings.specs.Reports.{Report, demands_in, empty_report, invalid_in, joined_report}
@@ -21,11 +22,11 @@ use Rattle.toml.specs.Data.{Members}
 use Rattle.toml.specs.Parse.{parse_document}
 use Rattle.pyver_projects.proofs.Asking.{AsksFor, of_section}
 use Rattle.pyver_projects.proofs.Walks.{all_flat, left_false, right_false, zip_each}
-use Rattle.pyver_projects.specs.Comparing.{IsDocumentsReport, found_beside, beside_all, compared, compared_demand, documents_report, excluded, has_name, invalid_package, invalid_string, is_locked, is_needed, own_report, with_own_reports}
+use Rattle.pyver_projects.specs.Comparing.{found_beside, beside_all, compared, compared_demand, documents_report, excluded, has_name, invalid_package, invalid_string, is_locked, is_needed, own_report, with_own_reports}
 use Rattle.pyver_projects.specs.Documents.{sources}
 use Rattle.pyver_projects.specs.Locks.{locked}
-use Rattle.pyver_projects.specs.Meanings.{Document, DocumentReading, IsBroken, IsBrokenReading, IsDocumentReading, IsLock, IsLockedReading, IsProject, IsSectionMeaning, IsStringReading, IsVersionReading, LockedReading, StringReading, package_line, string_line}
-use Rattle.pyver_projects.specs.ProjectLaws.{AlwaysAsks, DocumentFindingsHold, HasDocument, HasPackage, HasString, IsExcluded, IsInvalidPackage, IsInvalidString, IsMissing, IsReadable, IsDocumentFinding, IsUnread}
+use Rattle.pyver_projects.specs.Meanings.{Document, DocumentReading, IsBrokenReading, IsDocumentReading, IsLockedReading, IsProject, IsSectionMeaning, IsStringReading, IsVersionReading, LockedReading, StringReading, package_line, string_line}
+use Rattle.pyver_projects.specs.ProjectLaws.{AlwaysAsks, DocumentFindingsHold, HasDocument, HasPackage, HasString, IsReadable, IsDocumentFinding}
 use Rattle.pyver_projects.specs.ProjectStrings.{LockedPackage, ProjectString}
 use Rattle.pyver_projects.specs.declared.document_kind.DocumentKind.{DocumentKind}
 use Rattle.pyver_projects.specs.declared.document_kind.DocumentKind.TheVariants.{Lock, Project}
@@ -40,7 +41,7 @@ module _ (documents : List Document) where
   unread : (d : Document) (x : DocumentReading) → Contains documents d → (IsReadable d → ⊥) → IsBrokenReading d.file x → All Right (own_report x).findings
   unread d x known none (line, reason, column, place, is) =
       subst (λ (y : DocumentReading). All Right (own_report y).findings) (sym is)
-      (All-cons Right _ [] (inr (inr (inl (record { document = d; line = line; reason = reason; column = column; has = known; none = none; place = place; is = refl })))) (All-nil Right))
+      (All-cons Right (NoRequirement line reason column) [] (inr (inr (inl (record { document = d; line = line; reason = reason; column = column; has = known; none = none; place = place; is = refl })))) (All-nil Right))
 
   of_string : (file : File) (s : ProjectString) (m : LineMeaning) → HasString documents file s → IsSectionMeaning s.section (string_line file s) s.text m → All Right (invalid_in m)
   of_string file s (Asks a) has is = All-nil Right
@@ -53,7 +54,7 @@ module _ (documents : List Document) where
   of_package file p (Some text) y has at (inl (r, d, is)) = subst (λ (z : LockedReading). All Right (invalid_package z)) (sym is) (All-nil Right)
   of_package file p (Some text) y has at (inr (f, r, is)) =
       subst (λ (z : LockedReading). All Right (invalid_package z)) (sym is)
-      (All-cons Right _ [] (inr (inl (record { file = file; locked = p; text = text; reason = f; has = has; version = at; refuses = r; is = refl }))) (All-nil Right))
+      (All-cons Right (NoRequirement (package_line file.name p) (refusal_text f) (length p.name + 1)) [] (inr (inl (record { file = file; locked = p; text = text; reason = f; has = has; version = at; refuses = r; is = refl }))) (All-nil Right))
 
   no_utf8 : (d : Document) → (IsUtf8 d.file.text → ⊥) → IsReadable d → ⊥
   no_utf8 d none (t, (text, e)) = none text
@@ -62,8 +63,8 @@ module _ (documents : List Document) where
   no_toml d none (t, (text, e)) = let same : None ≡ Some t = sym none ∙ e in cc same
 
   of_document : (kind : DocumentKind) (file : File) (x : DocumentReading) → Contains documents (record { kind = kind; file = file }) → IsDocumentReading (record { kind = kind; file = file }) x → All Right (own_report x).findings
-  of_document kind file x known (inl (none, broken)) = unread _ x known (no_utf8 _ none) broken
-  of_document kind file x known (inr (text, inr (none, broken))) = unread _ x known (no_toml _ none) broken
+  of_document kind file x known (inl (none, broken)) = unread (record { kind = kind; file = file }) x known (no_utf8 (record { kind = kind; file = file }) none) broken
+  of_document kind file x known (inr (text, inr (none, broken))) = unread (record { kind = kind; file = file }) x known (no_toml (record { kind = kind; file = file }) none) broken
   of_document Project file x known (inr (text, inl (t, e, (xs, h, is)))) =
       subst (λ (y : DocumentReading). All Right (own_report y).findings) (sym is)
       (all_flat Right invalid_string xs
@@ -88,7 +89,7 @@ module _ (documents : List Document) where
         by_match p text v here written d true true e f = All-nil Right
         by_match p text v here written d false b e f = All-nil Right
         by_match p text v here written d true false e f =
-            All-cons Right _ []
+            All-cons Right (Conflicting PinOutside (string_line file s ∷ (package_line lock.name p ∷ []))) []
             (inr (inr (inr (inr (record {
               file = file;
               string = s;
@@ -139,7 +140,7 @@ module _ (documents : List Document) where
           missing_right false c needs e = All-nil Right
           missing_right true true needs e = All-nil Right
           missing_right true false needs e =
-              All-cons Right _ []
+              All-cons Right (NoRequirement (string_line file s) (codes "the lock has no package of this name") 0) []
               (inr (inr (inr (inl (record {
                 file = file;
                 string = s;

@@ -1,7 +1,7 @@
 -- Documents that are TOML in UTF-8 have at most one report.
-use Rattle.std.proofs.Common.{◌≡◌, ◌∙◌, ℕ, ◌+◌, List, Option, Some, None, length, refl, sym, ap, subst, inl, inr}
+use Rattle.std.proofs.Common.{◌≡◌, ◌∙◌, ℕ, ◌+◌, List, Option, Some, None, length, sym, ap, subst, inl, inr}
 use Rattle.std.proofs.lemmas.List.Elements.{All-contains_itself}
-use Rattle.std.specs.List.{All, AllZip, Contains}
+use Rattle.std.specs.List.{Contains}
 use Rattle.pep440_pick.specs.Names.{normal}
 use Rattle.pep440_rs.proofs.Reading.OneMeaning.{not_both_list, one_list_refusal}
 use Rattle.pep440_rs.specs.ErrorTexts.{specifier_refusal_text}
@@ -16,7 +16,6 @@ use Rattle.pyver_findings.specs.Columns.{list_column}
 use Rattle.pyver_findings.specs.FileLines.{File, FileLine}
 use Rattle.pyver_findings.specs.Findings.{NoRequirement}
 use Rattle.pyver_findings.specs.LineMeanings.{IsNone, LineMeaning}
-use Rattle.pyver_findings.specs.Reports.{Report}
 use Rattle.pyver_requirements.specs.LineParts.{line_parts}
 use Rattle.toml.specs.Data.{Members}
 use Rattle.pyver_projects.proofs.Walks.{zip_once}
@@ -25,15 +24,15 @@ use Rattle.pyver_projects.specs.Documents.{sources}
 use Rattle.pyver_projects.specs.Locks.{locked}
 use Rattle.pyver_projects.specs.Meanings.{Document, DocumentReading, IsDocumentReading, IsLock, IsLockedReading, IsProject, IsSectionMeaning, IsStringReading, IsTableReading, IsVersionReading, LockedReading, StringReading, string_line}
 use Rattle.pyver_projects.specs.ProjectLaws.{DocumentReportsOnce, IsReadable}
-use Rattle.pyver_projects.specs.ProjectStrings.{Build, Dependencies, Extra, Group, LockedPackage, Section, Python, ProjectString, Version}
+use Rattle.pyver_projects.specs.ProjectStrings.{Build, Dependencies, Extra, Group, Section, Python, ProjectString, Version}
 use Rattle.pyver_projects.specs.declared.document_kind.DocumentKind.{DocumentKind}
 use Rattle.pyver_projects.specs.declared.document_kind.DocumentKind.TheVariants.{Lock, Project}
 
 one_meaning : (line : FileLine) (text : List ℕ) (section : Section) (x y : LineMeaning) → IsSectionMeaning section line text x → IsSectionMeaning section line text y → x ≡ y
-one_meaning line text Dependencies x y a b = one_parts line (line_parts text) x y a b
-one_meaning line text (Extra name) x y a b = one_parts line (line_parts text) x y a b
-one_meaning line text (Group name) x y a b = one_parts line (line_parts text) x y a b
-one_meaning line text Build x y a b = one_parts line (line_parts text) x y a b
+one_meaning line text Dependencies x y a b = one_parts line (line_parts line.text) x y a b
+one_meaning line text (Extra name) x y a b = one_parts line (line_parts line.text) x y a b
+one_meaning line text (Group name) x y a b = one_parts line (line_parts line.text) x y a b
+one_meaning line text Build x y a b = one_parts line (line_parts line.text) x y a b
 one_meaning line text Python x y (inl (l, d, a)) (inl (m, e, b)) = a ∙ sym b
 one_meaning line text Python x y (inl (l, d, a)) (inr (f, r, b)) = absurd (not_both_list text l f d r)
 one_meaning line text Python x y (inr (f, r, a)) (inl (l, d, b)) = absurd (not_both_list text l f d r)

@@ -1,5 +1,5 @@
 -- What is found in documents: in each by itself, and in each project beside each lock.
-use Rattle.std.specs.Prelude.{◌≡◌, ℕ, List, [], ◌∷◌, ◌++◌, Bool, true, false, Option, Some, None, bytes_eq, codes, is_none, length, if◌then◌else◌}
+use Rattle.std.specs.Prelude.{◌≡◌, List, [], ◌∷◌, ◌++◌, Bool, true, false, Option, Some, None, bytes_eq, codes, is_none, length, if◌then◌else◌}
 use Rattle.std.specs.List.{AllZip, flat_map, list_any}
 use Rattle.pep440_rs.specs.Matching.{list_matches}
 use Rattle.pep440_version.specs.Record.{Record}

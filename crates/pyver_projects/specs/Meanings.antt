@@ -1,5 +1,5 @@
 -- What a string of `pyproject.toml`, a locked package and a document are to the check.
-use Rattle.std.specs.Prelude.{◌≡◌, ◌⊎◌, ℕ, ◌+◌, List, [], ◌∷◌, ◌++◌, Option, Some, None, codes, length}
+use Rattle.std.specs.Prelude.{◌≡◌, ◌⊎◌, ℕ, ◌+◌, List, ◌++◌, Option, Some, None, codes, length}
 use Rattle.std.specs.List.{AllZip}
 use Rattle.std.specs.Str.{IsUtf8}
 use Rattle.pep440_pick.specs.Names.{normal}
@@ -30,14 +30,14 @@ string_line file s = record { file = file.name; number = number_or_one (first_li
 abbrev pub IsVersionMeaning : FileLine → List ℕ → LineMeaning → Type 0
 IsVersionMeaning line text x = ((r : Record) × Derives text r × (x ≡ AsksNothing)) ⊎ ((f : Refusal) × Refuses text f × (x ≡ IsNone (NoRequirement line (refusal_text f) 0)))
 
--- what a string of this line is in this section
+-- what the string of this line, which is this text, is in this section
 abbrev pub IsSectionMeaning : Section → FileLine → List ℕ → LineMeaning → Type 0
 IsSectionMeaning Python line text x = IsListMeaning line text x
 IsSectionMeaning Version line text x = IsVersionMeaning line text x
-IsSectionMeaning Dependencies line text x = IsPartsMeaning line (line_parts text) x
-IsSectionMeaning (Extra name) line text x = IsPartsMeaning line (line_parts text) x
-IsSectionMeaning (Group name) line text x = IsPartsMeaning line (line_parts text) x
-IsSectionMeaning Build line text x = IsPartsMeaning line (line_parts text) x
+IsSectionMeaning Dependencies line text x = IsPartsMeaning line (line_parts line.text) x
+IsSectionMeaning (Extra name) line text x = IsPartsMeaning line (line_parts line.text) x
+IsSectionMeaning (Group name) line text x = IsPartsMeaning line (line_parts line.text) x
+IsSectionMeaning Build line text x = IsPartsMeaning line (line_parts line.text) x
 
 -- a string that was read: its section, and what it is
 pub record StringReading : Type 0 where

@@ -2,7 +2,7 @@
 ghost use Rattle.std.specs.Prelude.{◌≡◌, IfOk};
 ghost use Rattle.pyver_projects.specs.Meanings.{IsBrokenReading, IsDocumentReading, IsTableReading, IsTomlReading};
 ghost use Rattle.pyver_projects.specs.ProjectViews.{document_of, document_reading_of};
-ghost use Rattle.pyver_projects.specs.declared.document_kind.DocumentKind.TheVariants as kind;
+ghost use Rattle.pyver_projects.specs.declared.document_kind.DocumentKind.TheVariants as of_kind;
 ghost use Rattle.toml.specs.View.{table_view};
 
 use crate::document::Document;
@@ -33,7 +33,7 @@ fn read_project(
     text: &str,
     table: &Table,
 ) -> Result<DocumentReading, AllocError>
-    ensures { IfOk result (λ x. IsTableReading kind.Project (record { name = name.now; text = text.now }) (table_view table.now) (document_reading_of x)) }
+    ensures { IfOk result (λ x. IsTableReading of_kind.Project (record { name = name.now; text = text.now }) (table_view table.now) (document_reading_of x)) }
 {
     let strings = project_strings(alloc, table)?;
     let readings = read_strings(alloc, name, text, strings.as_slice())?;
@@ -47,7 +47,7 @@ fn read_lock(
     text: &str,
     table: &Table,
 ) -> Result<DocumentReading, AllocError>
-    ensures { IfOk result (λ x. IsTableReading (kind.Lock kind) (record { name = name.now; text = text.now }) (table_view table.now) (document_reading_of x)) }
+    ensures { IfOk result (λ x. IsTableReading (of_kind.Lock kind) (record { name = name.now; text = text.now }) (table_view table.now) (document_reading_of x)) }
 {
     let packages = locked_packages(alloc, kind, text, table)?;
     let readings = read_packages(alloc, name, packages.as_slice())?;

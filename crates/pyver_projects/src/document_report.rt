@@ -22,7 +22,11 @@ fn push_string(report: &mut Report, string: StringReading) -> Result<(), AllocEr
     ensures lines { report.new.lines ≡ report.old.lines }
     ensures files { report.new.files ≡ report.old.files }
 {
-    match string.meaning {
+    let StringReading {
+        section: _section,
+        meaning,
+    } = string;
+    match meaning {
         LineMeaning::IsNone(finding) => report.findings.push(finding)?,
         LineMeaning::LeftOut(cause) => report.left_out.push(cause)?,
         LineMeaning::Asks(_) | LineMeaning::AsksNothing => {}
@@ -45,7 +49,13 @@ fn report_strings(alloc: Global, strings: Vec<StringReading>) -> Result<Report, 
 fn push_package(findings: &mut Vec<Finding>, locked: LockedReading) -> Result<(), AllocError>
     ensures { IfOk result (λ _. map finding_of findings.new.items ≡ map finding_of findings.old.items ++ invalid_package (locked_reading_of locked)) }
 {
-    if let Some(finding) = locked.invalid {
+    let LockedReading {
+        line: _line,
+        name: _name,
+        version: _version,
+        invalid,
+    } = locked;
+    if let Some(finding) = invalid {
         findings.push(finding)?;
     }
     Ok(())

@@ -95,7 +95,7 @@ pub(crate) fn header_lines(
 {
     let mut lines = Vec::new(alloc);
     let mut starts = true;
-    let mut number = 1;
+    let mut number: usize = 1;
     for (at, byte) in text.iter().enumerate() {
         if starts && text[at..].starts_with(header) {
             lines.push(number as u64)?;

@@ -53,22 +53,22 @@ fn parse_version(alloc: Global, line: &FileLine, text: &str) -> Result<LineMeani
     }
 }
 
-// What a string of this line is in this section.
+// What the string of this line, which is this text, is in this section.
 fn parse_string(
     alloc: Global,
     section: &Section,
     line: &FileLine,
     text: &str,
 ) -> Result<LineMeaning, AllocError>
-    requires { (file_line_of line.now).text ≡ text.now }
     ensures { IfOk result (λ x. IsSectionMeaning (section_of section.now) (file_line_of line.now) text.now (line_meaning_of x)) }
 {
     match section {
         Section::Python => parse_specifiers(alloc, line, text),
         Section::Version => parse_version(alloc, line, text),
-        Section::Dependencies | Section::Extra(_) | Section::Group(_) | Section::Build => {
-            parse_requirement(alloc, line)
-        }
+        Section::Dependencies => parse_requirement(alloc, line),
+        Section::Extra(_) => parse_requirement(alloc, line),
+        Section::Group(_) => parse_requirement(alloc, line),
+        Section::Build => parse_requirement(alloc, line),
     }
 }
 

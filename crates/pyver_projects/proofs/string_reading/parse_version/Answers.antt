@@ -9,7 +9,7 @@ use Rattle.pyver_findings.specs.Views.{file_line_of, line_meaning_of}
 use Rattle.pyver_projects.proofs.Steps.{version_read}
 use Rattle.pyver_projects.proofs.string_reading.parse_version.Goals as goal
 
-pub returns-in-Err : goal.returns-in-Err
-returns-in-Err c =
+pub returns : goal.returns
+returns c =
     version_read c.reject_version.result (error_refusal c.in-Err.error) c.args.text.now (λ x. (r : Record) × Derives c.args.text.now r × (line_meaning_of x ≡ AsksNothing))
     (λ f x. line_meaning_of x ≡ IsNone (NoRequirement (file_line_of c.args.line.now) (refusal_text f) 0)) c.in-Err.ensures.refused c.reject_version.ensures

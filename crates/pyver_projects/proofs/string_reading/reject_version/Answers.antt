@@ -1,4 +1,4 @@
-use Rattle.std.proofs.Common.{◌≡◌, ◌∙◌, ◌+◌, IfSome, List, Option, None, Some, length, string_bytes, subst, ℕ}
+use Rattle.std.proofs.Common.{◌≡◌, ◌∙◌, IfSome, List, Option, Some, string_bytes, subst, ℕ}
 use Rattle.std.proofs.lemmas.Result.{IfOk-weaker}
 use Rattle.pep440_version.specs.ErrorTexts.{error_text, refusal_text}
 use Rattle.pep440_version.specs.Errors.{error_refusal}
