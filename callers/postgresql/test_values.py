@@ -159,7 +159,8 @@ def test_packaging(server):
         wanted = sum(int(count) for string, count in strings if those.contains(parsed[string]))
         found = int(db.value(f"SELECT count(*) FROM releases WHERE '{specs}' @> version"))
         assert found == wanted, (specs, found, wanted)
-    assert not specifiers_of.SpecifierSet(">1.0rc1", prereleases=True).contains("1.0+cpu") and db.value("SELECT '>1.0rc1' @> '1.0+cpu'::pep440") == "t"
+    theirs = specifiers_of.SpecifierSet(">1.0rc1", prereleases=True).contains("1.0+cpu")
+    assert theirs == (name >= "packaging 26") and db.value("SELECT '>1.0rc1' @> '1.0+cpu'::pep440") == "t", (name, theirs)
     db.close()
     return f"{ROWS} rows, {len(in_order)} versions in order, {len(LISTS)} lists as in {name}"
 
