@@ -1,11 +1,13 @@
-//! Test cases of requirements files: their lines, what each is, and what is found and printed of them; `stdin` beside `src/` has
-//! them.
+//! Test cases of requirements files, `pyproject.toml` and locks: their lines and strings, what each is, and what is found and
+//! printed of them; `stdin` beside `src/` has them.
 #![tactic(auto)]
 
+mod documents;
 mod lines;
 mod reports;
 mod strings;
 
+use documents::{print_document_kind, print_document_report};
 use lines::{print_kind, print_lines, print_marker, print_parts};
 use reports::{
     Form, print_each, print_findings, print_named_files, print_report, print_report_of,
@@ -33,6 +35,8 @@ fn answer_files(alloc: Global, call: &str, files: &str) -> Result<String, CaseEr
 impl Calls for FindingsCalls {
     fn answer(&self, alloc: Global, call: &str, arguments: &[String]) -> Result<String, CaseError> {
         match (call, arguments) {
+            ("documents", files) => print_document_report(alloc, files),
+            ("document-kind", [path]) => print_document_kind(alloc, path.as_str()),
             ("lines", [text]) => print_lines(alloc, text.as_str()),
             ("kind", [line]) => print_kind(alloc, line.as_str()),
             ("parts", [line]) => print_parts(alloc, line.as_str()),

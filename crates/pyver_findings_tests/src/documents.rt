@@ -6,7 +6,7 @@ use std::str;
 use testing::CaseError;
 
 /// A word for the kind of the document with this path; `-` stands for none.
-pub fn print_kind(alloc: Global, path: &str) -> Result<String, CaseError> {
+pub fn print_document_kind(alloc: Global, path: &str) -> Result<String, CaseError> {
     let word = match kind_of_path(path.as_bytes()) {
         Some(DocumentKind::Project) => "project",
         Some(DocumentKind::Lock(LockKind::Pylock)) => "pylock",
@@ -79,7 +79,7 @@ fn push_finding(printed: &mut String, finding: &Finding) -> Result<(), CaseError
 
 /// What is found in documents, each given by its name and its text: for each finding the column and the reason, or a word, and
 /// then its lines; and the numbers of strings and packages, of files, and of strings that are left out.
-pub fn print_report(alloc: Global, files: &[String]) -> Result<String, CaseError> {
+pub fn print_document_report(alloc: Global, files: &[String]) -> Result<String, CaseError> {
     let documents = documents(alloc, files)?;
     let report = find_document_problems(alloc, documents.as_slice())?;
     let mut printed = String::new(alloc);
