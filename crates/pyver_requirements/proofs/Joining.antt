@@ -1,4 +1,4 @@
--- Physical lines that are joined_terms one after another.
+-- Physical lines that are joined one after another.
 use Rattle.std.proofs.Common.{Bor, ◌≡◌, ◌∙◌, ◌+◌, ◌<◌, ◌≤◌, ◌^◌, ◌==◌, ℕ, List, [], ◌∷◌, ◌++◌, Bool, true, false, cond, not, Option, Some, IfSome, length, map, refl, sym, ap, arith, inl, inr, append_assoc}
 use Rattle.std.proofs.lemmas.Bool.{cases_Bool}
 use Rattle.std.proofs.lemmas.List.{map-append}
@@ -49,13 +49,13 @@ push_on a b text on lines first more next rest =
 -- a line that ends its logical line
 pub push_end : (a b : LineJoiner) (text : List ℕ) → continues text ≡ false → map logical_line_of b.lines.items ≡ map logical_line_of a.lines.items ++ filled (line a.first (a.text.items ++ added text) ∷ [])
     → b.text.items ≡ [] → b.first ≡ a.next + 1 → b.next ≡ a.next + 1 → (rest : List (List ℕ)) → lines_with b rest ≡ lines_with a (text ∷ rest)
-push_end a b text read_end lines none first next rest =
+push_end a b text ended lines none first next rest =
     let whole : Line = line a.first (a.text.items ++ added text) in
     let later : List Line = joined_from (a.next + 1) rest in
     (λ i. lines i ++ filled (prefixed (first i) (none i) (joined_from (next i) rest)))
     ∙ ap (λ l. (map logical_line_of a.lines.items ++ filled (whole ∷ [])) ++ l) (prefixed_none (a.next + 1) rest)
     ∙ append_assoc (map logical_line_of a.lines.items) (filled (whole ∷ [])) (filled later)
-    ∙ ap (λ l. map logical_line_of a.lines.items ++ l) (sym (filled-append (whole ∷ []) later) ∙ ap (λ l. filled (prefixed a.first a.text.items l)) (sym (joined_end a.next text rest read_end)))
+    ∙ ap (λ l. map logical_line_of a.lines.items ++ l) (sym (filled-append (whole ∷ []) later) ∙ ap (λ l. filled (prefixed a.first a.text.items l)) (sym (joined_end a.next text rest ended)))
 
 -- ---- the physical lines that are left
 

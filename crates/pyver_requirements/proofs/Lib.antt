@@ -3,3 +3,5 @@ pub mod Joining
 pub mod Endings
 pub mod MarkerSets
 pub mod MarkerLoop
+pub mod MarkerReadings
+pub mod MarkerDerivations

@@ -11,3 +11,4 @@ pub mod MarkerTokens
 pub mod MarkerTerms
 pub mod MarkerReading
 pub mod MarkerViews
+pub mod MarkerGrammar

@@ -50,13 +50,13 @@ with_newlines zero (b ∷ rest) = if line_end (b ∷ rest) == 0 then b ∷ with_
 abbrev pub physical_lines : List ℕ → List (List ℕ)
 physical_lines text = slice_split (λ b. b == 10) (with_newlines 0 text)
 
--- ---- joined_terms lines
+-- ---- joined lines
 
 -- the first byte that is no blank is `#`
 abbrev pub is_comment_line : List ℕ → Bool
 is_comment_line line = opens 35 (past is_ascii_whitespace line)
 
--- the line ends with `\` and is no comment line: the next one is joined_terms with it
+-- the line ends with `\` and is no comment line: the next one is joined with it
 abbrev pub continues : List ℕ → Bool
 continues line = ends (λ b. b == 92) line && not (is_comment_line line)
 

@@ -2,6 +2,7 @@
 #![tactic(auto)]
 
 mod comment;
+pub mod laws;
 mod line_fault;
 mod line_kind;
 mod line_parts;

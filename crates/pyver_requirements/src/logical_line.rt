@@ -7,7 +7,7 @@ use crate::comment::content;
 use crate::physical_line::{after_mark, opens_with_mark, split_continuation, split_line};
 use std::alloc::{AllocError, Global};
 
-/// A line of a requirements file: physical lines joined_terms, without comment and without blanks at both ends.
+/// A line of a requirements file: physical lines joined, without comment and without blanks at both ends.
 #[derive(Debug, Drop)]
 pub struct LogicalLine {
     /// The number of its first physical line, from 1.
@@ -113,11 +113,11 @@ fn join_lines(alloc: Global, text: &[u8]) -> Result<Vec<LogicalLine>, AllocError
     joiner.finish(alloc)
 }
 
-/// The logical lines of a requirements file: lines that end with `\` are joined_terms with the next one, comments are left out, and so
+/// The logical lines of a requirements file: lines that end with `\` are joined with the next one, comments are left out, and so
 /// are blanks at both ends, a byte order mark at the start and lines that are then empty.
 ///
 /// This is how pip reads, if its page is silent: lines end as for Python's `splitlines`, in UTF-8; a line that continues loses all `\`
-/// at both ends; a comment line never continues, and ends the line that it is joined_terms with; a comment begins only at the start or after
+/// at both ends; a comment line never continues, and ends the line that it is joined with; a comment begins only at the start or after
 /// a blank, so `demo#1` has none. Blanks are ASCII, and bytes are not decoded: of a file in UTF-16 only its mark is a line.
 ///
 /// Allocates.

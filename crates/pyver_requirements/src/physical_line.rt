@@ -115,7 +115,7 @@ fn trim_backslashes(text: &[u8]) -> &[u8]
     &rest[..rest.len() - count_trailing_backslashes(rest)]
 }
 
-// What the line adds to its logical line, and whether the next one is joined_terms with it.
+// What the line adds to its logical line, and whether the next one is joined with it.
 pub(crate) fn split_continuation(line: &[u8]) -> (&[u8], bool)
     ensures added { result.0.now ≡ added line.now }
     ensures continues { result.1 ≡ continues line.now }
