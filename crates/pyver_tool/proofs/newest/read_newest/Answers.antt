@@ -1,10 +1,13 @@
 use Rattle.std.proofs.Common.{◌∙◌, ◌++◌, None, ap, refl, subst, take}
 use Rattle.std.proofs.lemmas.Result.{err_from_is_err_and}
 use Rattle.std.specs.List.{concat}
+use Rattle.std.specs.Option.{option_map}
 use Rattle.pyver_tool.proofs.NewestAnswers.{before_unopened, stops_as}
+use Rattle.pyver_tool.specs.FilterSteps.{AllFinish}
 use Rattle.pyver_tool.specs.InvalidLines.{message_limit}
 use Rattle.pyver_tool.specs.NewestViews.{KeepsNewest}
 use Rattle.pyver_tool.specs.ReadLines.{faults}
+use Rattle.pyver_tool.specs.SourceViews.{unopened_of}
 use Rattle.pyver_tool.specs.VersionLines.{version_lines}
 use Rattle.pyver_tool.proofs.newest.read_newest.Goals as goal
 
@@ -13,7 +16,7 @@ filter_all_sources-read-requires-clause-newest g c = c.new-state.ensures.newest 
 
 pub returns-in-Ok-None-clause-read : goal.returns-in-Ok-None-clause-read
 returns-in-Ok-None-clause-read g c =
-    let k = c.in-Ok-None.ensures.finished in
+    let k = subst (λ o. AllFinish _ _ _ _ c.args.filter.now _ (option_map unopened_of o) c.filter_all_sources-read.new.state c.args.input.now c.filter_all_sources-read.new.input _ _ _ _) c.in-Ok-None.field-0-is c.in-Ok-None.ensures.finished in
     let w = k.wrote in
     let filter = c.args.filter.now in
     let first = concat (take (message_limit filter.lines.invalid) (faults w.found)) in
@@ -30,7 +33,7 @@ returns-in-Ok-None-clause-read g c =
 
 pub returns-in_err-report_open_failure-in-Ok-Some-clause-stopped : goal.returns-in_err-report_open_failure-in-Ok-Some-clause-stopped
 returns-in_err-report_open_failure-in-Ok-Some-clause-stopped g c =
-    let k = c.in-Ok-Some.ensures.finished in
+    let k = subst (λ o. AllFinish _ _ _ _ c.args.filter.now _ (option_map unopened_of o) c.filter_all_sources-read.new.state c.args.input.now c.filter_all_sources-read.new.input _ _ _ _) c.in-Ok-Some.field-0-is c.in-Ok-Some.ensures.finished in
     let p = err_from_is_err_and c.from_residual-in_err-report_open_failure-in-Ok-Some.result c.from_residual-in_err-report_open_failure-in-Ok-Some.ensures.1 in
     rw (p.1, p.2) (k.sources, before_unopened _ _ _ _ c.args.input.now c.filter_all_sources-read.new.input k.sources _ refl k.reads, tt)
 

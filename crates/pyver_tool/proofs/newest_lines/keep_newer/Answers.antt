@@ -11,6 +11,6 @@ returns-then-not-is_newer c =
 pub returns : goal.returns
 returns c =
     let x : VersionLine = record { text = c.args.text.now; version = c.args.version.now } in
-    let same : x ≡ record { text = c.in_ok-kept.kept.items; version = c.in_ok-copy.copy } = λ i. record { text = (sym c.in_ok-kept.ensures.items) i; version = (sym c.in_ok-copy.ensures) i } in
+    let same : x ≡ record { text = c.in_ok-kept.kept.items; version = c.in_ok-copy.copy } = λ i. record { text = (sym c.in_ok-kept.ensures.items) i; version = (sym c.in_ok-copy.ensures.cases) i } in
     λ lines n. subst (λ y. NewestLine (allowed_lines c.args.takes c.args.list.now (lines ++ x ∷ [])) (Some y)) same
     (found_more c.args.takes c.args.list.now lines x c.args.newest.now n (sym c.is_newer.ensures ∙ c.if-not-is_newer.false) (sym c.in_ok-allows.ensures ∙ c.if-not-branch.false))
