@@ -1,5 +1,5 @@
 -- What is written of the newest line, and how its search ends.
-use Rattle.std.proofs.Common.{◌≡◌, ◌∙◌, ◌<◌, ℕ, List, [], ◌++◌, Option, inl, inr, length, refl, sym, ap, subst, take}
+use Rattle.std.proofs.Common.{◌≡◌, ◌∙◌, ◌<◌, ℕ, List, [], ◌∷◌, ◌++◌, Option, Some, inl, inr, length, refl, sym, ap, subst, take}
 use Rattle.std.specs.List.{concat}
 use Rattle.pyver_tool.proofs.RunEnds.{stops_by}
 use Rattle.pyver_tool.specs.FilterSteps.{AllStop}
@@ -9,7 +9,7 @@ use Rattle.pyver_tool.specs.NewestOutcomes.{FindsNewest, NewestLine, candidates,
 use Rattle.pyver_tool.specs.Outcomes.{Outcome}
 use Rattle.pyver_tool.specs.ReadLines.{ReadLine, faults}
 use Rattle.pyver_tool.specs.SourceViews.{IsRunFailureOf}
-use Rattle.pyver_tool.specs.Sources.{KnownFile, ReadsFirst, last_name}
+use Rattle.pyver_tool.specs.Sources.{EndsAt, KnownFile, ReadsFirst, ReadsInput, UnopenedSource, last_name}
 use Rattle.pyver_tool.specs.VersionLines.{InputParts, OfFound, VersionLine, line_messages, version_lines}
 use Rattle.pyver_tool.specs.declared.filter.FilterRule.{FilterRule}
 use Rattle.pyver_tool.specs.declared.invalid_lines.InvalidLines.{InvalidLines}
@@ -43,3 +43,12 @@ pub stops_as : {R W E : Type 0} (files : List ℕ → KnownFile) (remaining : R 
     → (sources : List Source) × ReadsFirst files remaining (why' ≡ run_failure.OutOfMemory) names reader reader' sources × IsRunFailureOf (last_name sources) why'
 stops_as files remaining contents error_contents rule names reader reader' printed printed' messages messages' why why' k memory same =
     (k.sources, inr (stops_by files remaining (why ≡ run_failure.OutOfMemory) (why' ≡ run_failure.OutOfMemory) memory names reader reader' k.sources k.reads), same (last_name k.sources) k.stops)
+
+-- nothing of a file that was not opened was read
+pub before_unopened : {R : Type 0} (files : List ℕ → KnownFile) (remaining : R → Option (List ℕ)) (P : Type 0) (names : List (List ℕ)) (reader reader' : R) (sources : List Source) (file : UnopenedSource) → P
+    → ReadsInput files remaining names reader reader' (record { sources = sources; unopened = Some file }) → ReadsFirst files remaining P names reader reader' sources
+before_unopened files remaining P names reader reader' sources file p k = go k.left k.split k.ends
+  where
+    go : (left : List (List ℕ)) → names ≡ k.read ++ left → EndsAt files remaining left (Some file) → ReadsFirst files remaining P names reader reader' sources
+    go [] split ends = absurd ends
+    go (name ∷ rest) split ends = inr (inr (p, record { read = k.read; name = name; left = rest; split = split; whole = k.sources }))

@@ -89,7 +89,8 @@ fn answer_lines(
             status,
         });
     }
-    print_newest(alloc, state.newest.select(prereleases), errors)
+    let answer = print_newest(alloc, state.newest.select(prereleases), errors)?;
+    Ok(answer)
 }
 
 // Why a run stopped whose writes go to memory.

@@ -51,9 +51,11 @@ fn keep_newer(
     if !list.allows(alloc, takes, version)? {
         return Ok(());
     }
+    let kept = Vec::from_slice(alloc, text)?;
+    let copy = version.clone()?;
     *newest = Some(KeptLine {
-        text: Vec::from_slice(alloc, text)?,
-        version: version.clone()?,
+        text: kept,
+        version: copy,
     });
     Ok(())
 }
