@@ -1,8 +1,7 @@
 // The arguments of the program.
 use std::alloc::{AllocError, Global};
-use std::env;
-use std::io;
 use std::rt::Env;
+use std::{env, io};
 
 // As long as the system lets an argument be.
 const LONGEST: usize = 131072;

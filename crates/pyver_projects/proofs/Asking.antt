@@ -1,14 +1,15 @@
 -- Requirements that count always.
-use Rattle.std.proofs.Common.{◌≡◌, ◌==◌, ◌∙◌, ℕ, List, [], ◌∷◌, Bool, true, false, Option, Some, None, length, refl, sym, ap, inl, inr, if◌then◌else◌}
+use Rattle.std.proofs.Common.{◌≡◌, ◌==◌, ◌∙◌, ℕ, List, [], ◌∷◌, Bool, true, false, Option, Some, None, Result, Ok, Err, length, refl, sym, ap, inl, inr, if◌then◌else◌}
 use Rattle.std.specs.Str.{IsUtf8}
 use Rattle.pep440_pick.specs.RequirementGrammar.{DerivesRequirement, Needed}
 use Rattle.pyver_findings.proofs.Once.{one_parts}
 use Rattle.pyver_findings.specs.Demands.{Demand, line_demand}
 use Rattle.pyver_findings.specs.FileLines.{FileLine}
 use Rattle.pyver_findings.specs.Findings.{NoRequirement}
-use Rattle.pyver_findings.specs.LineMeanings.{Asks, IsNone, IsPartsMeaning, LeftOut, LineMeaning, requirement_meaning, with_marker, with_url}
+use Rattle.pyver_findings.specs.LineMeanings.{Asks, IsNone, IsPartsMeaning, LeftOut, LineMeaning, requirement_meaning, under_marker, with_marker, with_url}
 use Rattle.pyver_findings.specs.declared.cause.Cause.TheVariants as cause
 use Rattle.pyver_requirements.specs.LineParts.{LineParts, line_parts}
+use Rattle.pyver_requirements.specs.MarkerReading.{Misfit, marker as read_marker}
 use Rattle.pyver_projects.specs.Comparing.{is_locked}
 use Rattle.pyver_projects.specs.Meanings.{IsSectionMeaning}
 use Rattle.pyver_projects.specs.ProjectStrings.{Build, Dependencies, Extra, Group, Section, Python, Version}
@@ -19,7 +20,9 @@ pub record AsksFor (line : FileLine) (p : LineParts) (a : Demand) : Type 0 where
   pub text : IsUtf8 p.requirement
   pub derives : DerivesRequirement p.requirement needed
   pub url : p.url ≡ None
-  pub is : a ≡ line_demand line p.marker needed
+  pub marker : Option (List ℕ)
+  pub always : marker ≡ None → p.marker ≡ None
+  pub is : a ≡ line_demand line marker needed
 
 module _ (line : FileLine) (p : LineParts) (a : Demand) where
   no_list : (b : Bool) (reason : List ℕ) (column : ℕ) → Asks a ≡ (if b then LeftOut cause.Url else IsNone (NoRequirement line reason column)) → ⊥
@@ -27,19 +30,22 @@ module _ (line : FileLine) (p : LineParts) (a : Demand) where
   no_list false reason column e = cc e
 
   module _ (n : Needed) (text : IsUtf8 p.requirement) (d : DerivesRequirement p.requirement n) where
-    by_url : (url : Option (List ℕ)) → p.url ≡ url → Asks a ≡ with_url line p n url → AsksFor line p a
-    by_url None is e = let same : a ≡ line_demand line p.marker n = cc e in record { needed = n; text = text; derives = d; url = is; is = same }
-    by_url (Some []) is e = cc e
-    by_url (Some (b ∷ url)) is e = absurd (no_list (length n.specifiers == 0) _ _ e)
+    by_url : (m : Option (List ℕ)) → (m ≡ None → p.marker ≡ None) → (url : Option (List ℕ)) → p.url ≡ url → Asks a ≡ with_url line p n m url → AsksFor line p a
+    by_url m always None is e = let same : a ≡ line_demand line m n = cc e in record { needed = n; text = text; derives = d; url = is; marker = m; always = always; is = same }
+    by_url m always (Some []) is e = cc e
+    by_url m always (Some (b ∷ url)) is e = absurd (no_list (length n.specifiers == 0) _ _ e)
 
-    by_marker : (marker : Option (List ℕ)) → Asks a ≡ with_marker line p n marker → AsksFor line p a
-    by_marker None e = by_url p.url refl e
-    by_marker (Some []) e = cc e
-    by_marker (Some (b ∷ marker)) e = by_url p.url refl e
+    by_read : (r : Result (List ℕ) Misfit) → Asks a ≡ under_marker line p n r → AsksFor line p a
+    by_read (Ok m) e = by_url (Some m) (λ none. cc none) p.url refl e
+    by_read (Err f) e = cc e
+
+    by_marker : (m : Option (List ℕ)) → p.marker ≡ m → Asks a ≡ with_marker line p n m → AsksFor line p a
+    by_marker None is e = by_url None (λ _. is) p.url refl e
+    by_marker (Some written) is e = by_read (read_marker written) e
 
   of_parts : IsPartsMeaning line p (Asks a) → AsksFor line p a
   of_parts (inl (none, e)) = cc e
-  of_parts (inr (text, inl (n, d, e))) = by_marker n text d p.marker e
+  of_parts (inr (text, inl (n, d, e))) = by_marker n text d p.marker refl e
   of_parts (inr (text, inr (f, r, e))) = cc e
 
 -- what a string asks for
@@ -54,14 +60,14 @@ of_section line text a (Group name) is = of_parts line (line_parts line.text) a 
 of_section line text a Build is = of_parts line (line_parts line.text) a is
 
 module _ (line : FileLine) (n : Needed) (utf8 : IsUtf8 (line_parts line.text).requirement) (d : DerivesRequirement (line_parts line.text).requirement n) (marker : (line_parts line.text).marker ≡ None) (url : (line_parts line.text).url ≡ None) where
-  means : (line_parts line.text).marker ≡ None → IsPartsMeaning line (line_parts line.text) (Asks (line_demand line (line_parts line.text).marker n))
-  means _ =
-      let same : requirement_meaning line (line_parts line.text) n ≡ Asks (line_demand line (line_parts line.text).marker n) =
-      ap (λ (m : Option (List ℕ)). with_marker line (line_parts line.text) n m) marker ∙ ap (λ (u : Option (List ℕ)). with_url line (line_parts line.text) n u) url in
+  means : IsPartsMeaning line (line_parts line.text) (Asks (line_demand line None n))
+  means =
+      let same : requirement_meaning line (line_parts line.text) n ≡ Asks (line_demand line None n) =
+      ap (λ (m : Option (List ℕ)). with_marker line (line_parts line.text) n m) marker ∙ ap (λ (u : Option (List ℕ)). with_url line (line_parts line.text) n None u) url in
       inr (utf8, inl (n, d, sym same))
 
   of_requirement : (x : LineMeaning) → IsPartsMeaning line (line_parts line.text) x → x ≡ Asks (line_demand line None n)
-  of_requirement x is = one_parts line (line_parts line.text) x (Asks (line_demand line (line_parts line.text).marker n)) is (means marker) ∙ ap (λ (m : Option (List ℕ)). Asks (line_demand line m n)) marker
+  of_requirement x is = one_parts line (line_parts line.text) x (Asks (line_demand line None n)) is means
 
   -- a requirement without a marker and a URL asks for it
   pub asks_always : (text : List ℕ) (section : Section) (x : LineMeaning) → is_locked section ≡ true → IsSectionMeaning section line text x → x ≡ Asks (line_demand line None n)

@@ -164,12 +164,12 @@ module _ (documents : List Document) where
               (All-contains_itself (locked kind lock.text u)) h))
 
       module _ (ys : List LockedReading) (h : AllZip (IsLockedReading lock.name) (locked kind lock.text u) ys) where
-        by_marker : (a : Demand) (k : AsksFor (string_line file s) (line_parts s.text) a) (marker : Option (List ℕ)) → (line_parts s.text).marker ≡ marker → All Right (compared_demand ys s.section (line_demand (string_line file s) marker k.needed))
-        by_marker a k None is = always_right k.needed (k.text, k.derives, is, k.url) ys h
-        by_marker a k (Some m) is = All-nil Right
+        by_marker : (a : Demand) (k : AsksFor (string_line file s) (line_parts s.text) a) (marker : Option (List ℕ)) → (marker ≡ None → (line_parts s.text).marker ≡ None) → All Right (compared_demand ys s.section (line_demand (string_line file s) marker k.needed))
+        by_marker a k None always = always_right k.needed (k.text, k.derives, always refl, k.url) ys h
+        by_marker a k (Some m) always = All-nil Right
 
         of_asked : (a : Demand) → AsksFor (string_line file s) (line_parts s.text) a → All Right (compared_demand ys s.section a)
-        of_asked a k = subst (λ (b : Demand). All Right (compared_demand ys s.section b)) (sym k.is) (by_marker a k (line_parts s.text).marker refl)
+        of_asked a k = subst (λ (b : Demand). All Right (compared_demand ys s.section b)) (sym k.is) (by_marker a k k.marker k.always)
 
         of_meaning : (m : LineMeaning) → IsSectionMeaning s.section (string_line file s) s.text m → All Right (flat_map (compared_demand ys s.section) (demands_in m))
         of_meaning (Asks a) is = All-append Right (compared_demand ys s.section a) [] (of_asked a (of_section (string_line file s) s.text a s.section is)) (All-nil Right)
