@@ -2,7 +2,7 @@
 
 use crate::held_files::{HeldFile, HeldFiles, REQUIREMENTS, VERSIONS};
 use crate::stream_words::{after_argument, input_argument, manner_argument};
-use pyver_tool::{refuse_word, run};
+use pyver_tool::run;
 use std::alloc::Global;
 use testing::{After, CaseError, Manner, Sink, Trickle, split_words};
 
@@ -179,19 +179,6 @@ fn answer_status(alloc: Global, words: &str, input: &str) -> Result<String, Case
     }
 }
 
-// What is written of a word that is not UTF-8.
-fn answer_word(alloc: Global, word: &str) -> Result<String, CaseError> {
-    let mut output = Vec::new(alloc);
-    let mut errors = Vec::new(alloc);
-    match refuse_word(alloc, word.as_bytes(), &mut output, &mut errors) {
-        2 => match std::str::from_utf8(errors.as_slice()) {
-            Ok(errors) if output.is_empty() => Ok(format!(in alloc; "2 2> {errors}")?),
-            _ => Err(CaseError::Unreadable),
-        },
-        _ => Err(CaseError::OutOfMemory),
-    }
-}
-
 /// The status and what is written, of words with or without standard input.
 pub fn answer_call(alloc: Global, call: &str, arguments: &[String]) -> Result<String, CaseError> {
     match (call, arguments) {
@@ -208,7 +195,6 @@ pub fn answer_call(alloc: Global, call: &str, arguments: &[String]) -> Result<St
             ];
             answer_streams(alloc, words.as_str(), sides)
         }
-        ("pyver-word", [word]) => answer_word(alloc, word.as_str()),
         ("pyver-status", [words, input]) => answer_status(alloc, words.as_str(), input.as_str()),
         ("pyver-requirements", [words, input]) => {
             answer_input(alloc, &REQUIREMENTS, words.as_str(), input.as_str())

@@ -1,36 +1,32 @@
 //! The program `pyver`: its arguments, files, standard input, standard output and standard error.
 #![tactic(auto)]
 
-mod arguments;
 mod system_files;
 
-use arguments::{collect_arguments, find_invalid};
-use pyver_tool::{refuse, refuse_word, run};
-use std::io::ErrorKind;
+use pyver_tool::{refuse, run};
+use std::env;
+use std::io::{self, ErrorKind};
 use std::process::ExitCode;
 use system_files::SystemFiles;
 
-// Reports the argument that is not UTF-8, and returns the status.
-fn report_invalid(rt: &HostRuntime) -> u8 {
-    match find_invalid(rt) {
-        Ok(word) => refuse_word(
-            rt.alloc(),
-            word.as_slice(),
-            &mut rt.stdout(),
-            &mut rt.stderr(),
-        ),
-        Err(_) => refuse(&mut rt.stderr()),
+// The arguments after the program's own name.
+fn words(rt: &HostRuntime) -> io::Result<Vec<String>> {
+    let mut words = Vec::new(rt.alloc());
+    for word in env::args(rt)?.skip(1) {
+        words.push(word)?;
     }
+    Ok(words)
 }
 
+// Arguments that are no UTF-8 are no command.
 fn main(rt: HostRuntime) -> ExitCode {
-    let words = match collect_arguments(&rt) {
+    let words = match words(&rt) {
         Ok(words) => words,
         Err(error) => {
-            return ExitCode::from(match error.kind() {
-                ErrorKind::OutOfMemory => refuse(&mut rt.stderr()),
-                _ => report_invalid(&rt),
-            });
+            if error.kind() == ErrorKind::OutOfMemory {
+                return ExitCode::from(refuse(&mut rt.stderr()));
+            }
+            Vec::new(rt.alloc())
         }
     };
     let status = run(

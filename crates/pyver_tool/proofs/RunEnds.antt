@@ -10,10 +10,11 @@ use Rattle.pyver_tool.specs.Runs.{Ends, IsLast, IsReadMessage, IsStopped, IsUnan
 use Rattle.pyver_tool.specs.SourceViews.{IsRunFailureOf, Reports}
 use Rattle.pyver_tool.specs.Sources.{Input, KnownFile, ReadsFirst, ReadsInput, StopsReading, input_name, last_name, no_input, source_names}
 use Rattle.pyver_tool.specs.Tasks.{Bump, Check, Compare, Filter, Help, IsOutcome, IsStream, Match, Misused, NameVersion, NeedsInput, Newest, Range, Show, Sort, Task, names_of, task_of}
-use Rattle.pyver_tool.specs.WholeInputs.{WholeFinishes, WholeStops}
+use Rattle.pyver_tool.specs.WholeInputs.{AnswersInput, WholeFinishes, WholeStops}
 use Rattle.pyver_tool.specs.declared.filter.FilterRule.{FilterRule}
 use Rattle.pyver_tool.specs.declared.stream.RunFailure.{RunFailure}
 use Rattle.pyver_tool.specs.declared.stream.RunFailure.TheVariants as run_failure
+use Rattle.pyver_tool.specs.declared.whole_input.Question.{Question}
 
 -- there is a first source
 pub some_source : (names : List (List ℕ)) → (name : List ℕ) × (left : List (List ℕ)) × (source_names names ≡ name ∷ left)
@@ -71,7 +72,7 @@ told_more a b c xs message wrote k = record {
 
 -- that a run is out of memory, in other words
 module _ {R : Type 0} (files : List ℕ → KnownFile) (remaining : R → Option (List ℕ)) (P Q : Type 0) (told : P → Q) (names : List (List ℕ)) (reader reader' : R) (sources : List Source) where
-  pub stops_by : StopsReading files remaining P names reader reader' sources → StopsReading files remaining Q names reader reader' sources
+  stops_by : StopsReading files remaining P names reader reader' sources → StopsReading files remaining Q names reader reader' sources
   stops_by (inl front) = inl front
   stops_by (inr (ran_out, before)) = inr (told ran_out, before)
 
@@ -138,9 +139,9 @@ module _ {F R W E : Type 0} (known : F → List ℕ → KnownFile) (remaining : 
       ends_by_all k.input k.outcome needs kept low (subst (λ n. ReadsInput (known files) remaining n reader reader' k.input) (sym same) k.reads) (is k.input k.outcome k.is) k.output k.errors k.ended
 
   -- all sources were read before anything was written
-  pub ends_by_whole : (Answers : Input → Outcome → Type 0) (names : List (List ℕ)) → NeedsInput (task_of words) → known files' ≡ known files → names_of (task_of words) ≡ names → ((input : Input) (o : Outcome) → Answers input o → IsOutcome (task_of words) input o)
-      → status ≤ 2 → WholeFinishes (known files) remaining contents error_contents Answers names reader reader' out out' err err' status → Ends known remaining contents error_contents words files files' reader reader' out out' err err' status
-  ends_by_whole Answers names needs kept same is low k =
+  pub ends_by_whole : (asked : Question) (names : List (List ℕ)) → NeedsInput (task_of words) → known files' ≡ known files → names_of (task_of words) ≡ names → ((input : Input) (o : Outcome) → AnswersInput asked input o → IsOutcome (task_of words) input o)
+      → status ≤ 2 → WholeFinishes (known files) remaining contents error_contents asked names reader reader' out out' err err' status → Ends known remaining contents error_contents words files files' reader reader' out out' err err' status
+  ends_by_whole asked names needs kept same is low k =
       ends_by_all k.input k.outcome needs kept low (subst (λ n. ReadsInput (known files) remaining n reader reader' k.input) (sym same) k.reads) (is k.input k.outcome k.is) k.output k.errors k.ended
 
   -- what was read and written before the last message
@@ -206,10 +207,10 @@ module _ {F R W E : Type 0} (known : F → List ℕ → KnownFile) (remaining : 
       }))
 
   -- a command that reads all sources stopped before it wrote its answer, or while it did
-  pub ends_by_whole_stop : (Answers : Input → Outcome → Type 0) (names : List (List ℕ)) (why : RunFailure) (told : E) (message : List ℕ) → NeedsInput (task_of words) → known files' ≡ known files → names_of (task_of words) ≡ names
-      → ((input : Input) (o : Outcome) → Answers input o → IsOutcome (task_of words) input o) → WholeStops (known files) remaining contents error_contents Answers names reader reader' out out' err told why
+  pub ends_by_whole_stop : (asked : Question) (names : List (List ℕ)) (why : RunFailure) (told : E) (message : List ℕ) → NeedsInput (task_of words) → known files' ≡ known files → names_of (task_of words) ≡ names
+      → ((input : Input) (o : Outcome) → AnswersInput asked input o → IsOutcome (task_of words) input o) → WholeStops (known files) remaining contents error_contents asked names reader reader' out out' err told why
       → Reports why status message → WroteBeginning (error_contents told) (error_contents err') message → Ends known remaining contents error_contents words files files' reader reader' out out' err err' status
-  ends_by_whole_stop Answers names why told message needs kept same is (inl k) reports wrote =
+  ends_by_whole_stop asked names why told message needs kept same is (inl k) reports wrote =
       ends_by_stop why told message needs kept (record {
         input = k.input;
         read = inl (subst (λ n. ReadsInput (known files) remaining n reader reader' k.input) (sym same) k.reads);
@@ -219,7 +220,7 @@ module _ {F R W E : Type 0} (known : F → List ℕ → KnownFile) (remaining : 
         errors = k.errors;
         stops = k.stops;
       }) reports wrote
-  ends_by_whole_stop Answers names why told message needs kept same is (inr k) reports wrote =
+  ends_by_whole_stop asked names why told message needs kept same is (inr k) reports wrote =
       let reads = first_by (known files) remaining (why ≡ run_failure.OutOfMemory) (status ≡ 3) (memory_status why status message reports) names reader reader' k.sources k.reads in
       let last = is_last (last_name k.sources) why status message k.stops reports in
       ends_stopped (last_name k.sources) message needs kept last (inr (record {

@@ -5,18 +5,16 @@ use Rattle.std.proofs.Math.Seq.{take-nil}
 use Rattle.std.proofs.lemmas.List.{drop_more, map-append, take_more}
 use Rattle.std.specs.Io.KnownBytes.{Appends}
 use Rattle.std.specs.List.{AllZip, concat}
-use Rattle.pyver_tool.proofs.Filtering.{began, first-append, length-faults, printed_lines-append, version_lines-append, wrote_front}
+use Rattle.pyver_tool.proofs.Filtering.{began, first-append, length-faults, printed_lines-append, wrote_front}
 use Rattle.pyver_tool.proofs.InputLines.{all_append, filled_lines-last}
 use Rattle.pyver_tool.specs.FilterSteps.{AllFinish, AllStop, FilterFinishes, FilterStops, FinishesBy, OneReads, OneRefuses, OneStops, SourceFinishes, SourceStops, WroteAll}
 use Rattle.pyver_tool.specs.Filters.{filter_outcome, printed_lines}
 use Rattle.pyver_tool.specs.InputLines.{Origin, Source, input_lines}
 use Rattle.pyver_tool.specs.InvalidLines.{last_message, lines_status, message_limit}
-use Rattle.pyver_tool.specs.NewestViews.{KeepsNewest}
 use Rattle.pyver_tool.specs.ReadLines.{IsRead, faults}
 use Rattle.pyver_tool.specs.Runs.{WroteBeginning}
 use Rattle.pyver_tool.specs.SourceViews.{IsRunFailureOf}
 use Rattle.pyver_tool.specs.Sources.{KnownFile, MayOpen, ReadsAll, ReadsSource, ReadsText, UnopenedSource, input_name, input_origin, is_input, is_none, last_name, source_names, unopened_message, unopened_status}
-use Rattle.pyver_tool.specs.VersionLines.{version_lines}
 use Rattle.pyver_tool.specs.declared.filter.FilterRule.{FilterRule}
 use Rattle.pyver_tool.specs.declared.filter.FilterState.{FilterState}
 use Rattle.pyver_tool.specs.declared.open_failure.OpenFailure.{OpenFailure}
@@ -56,7 +54,7 @@ begun_more a b xs rest all k is = record {
 
 -- ---- one source
 
-module _ {R W E : Type 0} (files : List ℕ → KnownFile) (remaining : R → Option (List ℕ)) (contents : W → Option (List ℕ)) (error_contents : E → Option (List ℕ)) (rule : FilterRule) (origin : Origin) (earlier : FilterState) where
+module _ {R W E : Type 0} (files : List ℕ → KnownFile) (remaining : R → Option (List ℕ)) (contents : W → Option (List ℕ)) (error_contents : E → Option (List ℕ)) (rule : FilterRule) (origin : Origin) (earlier : ℕ) where
   pub input_reads : (b : FilterState) (reader reader' : R) (out out' : W) (err err' : E) → is_input origin.name ≡ true → SourceFinishes remaining contents error_contents rule origin earlier b reader reader' out out' err err'
       → OneReads files remaining contents error_contents rule origin earlier b reader reader' out out' err err'
   input_reads b reader reader' out out' err err' named k = record {
@@ -71,8 +69,8 @@ module _ {R W E : Type 0} (files : List ℕ → KnownFile) (remaining : R → Op
     wrote = k.wrote;
   }
 
-  pub input_stops : (reader reader' : R) (out out' : W) (err err' : E) (stop : RunFailure) → is_input origin.name ≡ true → SourceStops remaining contents error_contents rule origin earlier.fault_count reader reader' out out' err err' → IsRunFailureOf (Some origin.name) stop
-      → OneStops files remaining contents error_contents rule origin earlier.fault_count reader reader' out out' err err' stop
+  pub input_stops : (reader reader' : R) (out out' : W) (err err' : E) (stop : RunFailure) → is_input origin.name ≡ true → SourceStops remaining contents error_contents rule origin earlier reader reader' out out' err err' → IsRunFailureOf (Some origin.name) stop
+      → OneStops files remaining contents error_contents rule origin earlier reader reader' out out' err err' stop
   input_stops reader reader' out out' err err' stop named k stops = inr (record {
     source = record { origin = origin; lines = k.front };
     lines = record {
@@ -103,7 +101,7 @@ module _ {R W E : Type 0} (files : List ℕ → KnownFile) (remaining : R → Op
   }
 
   pub file_stops : {S : Type 0} (left_of : S → Option (List ℕ)) (file file' : S) (reader : R) (out out' : W) (err err' : E) (stop : RunFailure) → is_input origin.name ≡ false → MayOpen (files origin.name) (left_of file)
-      → SourceStops left_of contents error_contents rule origin earlier.fault_count file file' out out' err err' → IsRunFailureOf (Some origin.name) stop → OneStops files remaining contents error_contents rule origin earlier.fault_count reader reader out out' err err' stop
+      → SourceStops left_of contents error_contents rule origin earlier file file' out out' err err' → IsRunFailureOf (Some origin.name) stop → OneStops files remaining contents error_contents rule origin earlier reader reader out out' err err' stop
   file_stops left_of file file' reader out out' err err' stop named opens k stops = inr (record {
     source = record { origin = origin; lines = k.front };
     lines = record {
@@ -120,7 +118,7 @@ module _ {R W E : Type 0} (files : List ℕ → KnownFile) (remaining : R → Op
   })
 
   -- an allocation failed before the file was opened
-  pub unopened_stops : (reader : R) (out : W) (err : E) → is_input origin.name ≡ false → OneStops files remaining contents error_contents rule origin earlier.fault_count reader reader out out err err run_failure.OutOfMemory
+  pub unopened_stops : (reader : R) (out : W) (err : E) → is_input origin.name ≡ false → OneStops files remaining contents error_contents rule origin earlier reader reader out out err err run_failure.OutOfMemory
   unopened_stops reader out err named = inl (record { file = named; memory = refl; reader_kept = refl; out_kept = refl; err_kept = refl })
 
 -- ---- one source after another
@@ -146,8 +144,8 @@ module _ {R W E : Type 0} (files : List ℕ → KnownFile) (remaining : R → Op
     pub reads : ReadsAll files remaining true read reader reader' sources
     pub wrote : WroteAll contents error_contents rule sources b out out' err err'
 
-  pub goes_on_none : (rule : FilterRule) (b : FilterState) (reader : R) (out : W) (err : E) → b.fault_count ≡ 0 → KeepsNewest rule.takes rule.list [] b.newest → b.output.items ≡ [] → b.errors.items ≡ [] → GoesOn rule [] b reader reader out out err err
-  goes_on_none rule b reader out err fault newest output errors = record {
+  pub goes_on_none : (rule : FilterRule) (b : FilterState) (reader : R) (out : W) (err : E) → b.fault_count ≡ 0 → b.output.items ≡ [] → b.errors.items ≡ [] → GoesOn rule [] b reader reader out out err err
+  goes_on_none rule b reader out err fault output errors = record {
     sources = [];
     reads = (refl, refl);
     wrote = record {
@@ -156,14 +154,13 @@ module _ {R W E : Type 0} (files : List ℕ → KnownFile) (remaining : R → Op
       fault_count = fault;
       output = Appends-nil (contents out);
       errors = subst (Appends (error_contents err) (error_contents err)) (ap concat (sym (take-nil (message_limit rule.lines.invalid)))) (Appends-nil (error_contents err));
-      newest = λ _. newest;
       no_output = output;
       no_errors = errors;
     };
   }
 
   module _ (rule : FilterRule) (read : List (List ℕ)) (b : FilterState) (reader reader' reader'' : R) (out out' out'' : W) (err err' err'' : E) (k : GoesOn rule read b reader reader' out out' err err') where
-    pub goes_on_more : (next : List ℕ) (c : FilterState) → OneReads files remaining contents error_contents rule (record { is_first = is_none read; name = next }) b c reader' reader'' out' out'' err' err''
+    pub goes_on_more : (next : List ℕ) (c : FilterState) → OneReads files remaining contents error_contents rule (record { is_first = is_none read; name = next }) b.fault_count c reader' reader'' out' out'' err' err''
         → GoesOn rule (read ++ next ∷ []) c reader reader'' out out'' err err''
     goes_on_more next c m =
         let w = k.wrote in
@@ -179,7 +176,6 @@ module _ {R W E : Type 0} (files : List ℕ → KnownFile) (remaining : R → Op
             output = subst (Appends (contents out) (contents out'')) (sym (printed_lines-append rule w.found n.found)) (Appends-trans (contents out) (contents out') (contents out'') (printed_lines rule w.found) (printed_lines rule n.found) w.output n.output);
             errors = subst (Appends (error_contents err) (error_contents err'')) (sym (first-append limit (limit - b.fault_count) w.found n.found (ap (λ x. limit - x) w.fault_count)))
                 (Appends-trans (error_contents err) (error_contents err') (error_contents err'') (concat (take limit (faults w.found))) (concat (take (limit - b.fault_count) (faults n.found))) w.errors n.errors);
-            newest = λ asked. subst (λ l. KeepsNewest rule.takes rule.list l c.newest) (sym (version_lines-append w.found n.found)) (n.newest asked (version_lines w.found) (w.newest asked));
             no_output = n.no_output;
             no_errors = n.no_errors;
           };
@@ -239,21 +235,21 @@ module _ {R W E : Type 0} (files : List ℕ → KnownFile) (remaining : R → Op
 
   -- ---- only standard input
 
-  pub alone_finishes : (rule : FilterRule) (names : List (List ℕ)) (a b : FilterState) (reader reader' : R) (out out' : W) (err err' : E) → names ≡ [] → a.fault_count ≡ 0 → KeepsNewest rule.takes rule.list [] a.newest → a.output.items ≡ [] → a.errors.items ≡ []
-      → SourceFinishes remaining contents error_contents rule input_origin a b reader reader' out out' err err' → AllFinish files remaining contents error_contents rule (source_names names) None b reader reader' out out' err err'
-  alone_finishes rule names a b reader reader' out out' err err' empty fault newest output errors k =
+  pub alone_finishes : (rule : FilterRule) (names : List (List ℕ)) (a b : FilterState) (reader reader' : R) (out out' : W) (err err' : E) → names ≡ [] → a.fault_count ≡ 0 → a.output.items ≡ [] → a.errors.items ≡ []
+      → SourceFinishes remaining contents error_contents rule input_origin a.fault_count b reader reader' out out' err err' → AllFinish files remaining contents error_contents rule (source_names names) None b reader reader' out out' err err'
+  alone_finishes rule names a b reader reader' out out' err err' empty fault output errors k =
       subst (λ n. AllFinish files remaining contents error_contents rule (source_names n) None b reader reader' out out' err err') (sym empty)
       (goes_on_ends rule (source_names []) b reader reader' out out' err err'
-      (goes_on_more rule [] a reader reader reader' out out out' err err err' (goes_on_none rule a reader out err fault newest output errors) input_name b
-      (input_reads files remaining contents error_contents rule input_origin a b reader reader' out out' err err' refl k)))
+      (goes_on_more rule [] a reader reader reader' out out out' err err err' (goes_on_none rule a reader out err fault output errors) input_name b
+      (input_reads files remaining contents error_contents rule input_origin a.fault_count b reader reader' out out' err err' refl k)))
 
-  pub alone_stops : (rule : FilterRule) (names : List (List ℕ)) (a : FilterState) (reader reader' : R) (out out' : W) (err err' : E) (stop : RunFailure) → names ≡ [] → a.fault_count ≡ 0 → KeepsNewest rule.takes rule.list [] a.newest → a.output.items ≡ [] → a.errors.items ≡ []
+  pub alone_stops : (rule : FilterRule) (names : List (List ℕ)) (a : FilterState) (reader reader' : R) (out out' : W) (err err' : E) (stop : RunFailure) → names ≡ [] → a.fault_count ≡ 0 → a.output.items ≡ [] → a.errors.items ≡ []
       → SourceStops remaining contents error_contents rule input_origin a.fault_count reader reader' out out' err err' → IsRunFailureOf (Some input_name) stop
       → AllStop files remaining contents error_contents rule (source_names names) reader reader' out out' err err' stop
-  alone_stops rule names a reader reader' out out' err err' stop empty fault newest output errors k stops =
+  alone_stops rule names a reader reader' out out' err err' stop empty fault output errors k stops =
       subst (λ n. AllStop files remaining contents error_contents rule (source_names n) reader reader' out out' err err' stop) (sym empty)
-      (goes_on_stops rule [] a reader reader reader' out out out' err err err' (goes_on_none rule a reader out err fault newest output errors) input_name [] stop
-      (input_stops files remaining contents error_contents rule input_origin a reader reader' out out' err err' stop refl k stops))
+      (goes_on_stops rule [] a reader reader reader' out out out' err err err' (goes_on_none rule a reader out err fault output errors) input_name [] stop
+      (input_stops files remaining contents error_contents rule input_origin a.fault_count reader reader' out out' err err' stop refl k stops))
 
   -- ---- the end
 
@@ -322,7 +318,7 @@ module _ {R W E : Type 0} (files : List ℕ → KnownFile) (remaining : R → Op
 -- the messages of a source, of equal files, and of a source that is the first or not
 module _ {R W E : Type 0} (files files' : List ℕ → KnownFile) (remaining : R → Option (List ℕ)) (contents : W → Option (List ℕ)) (error_contents : E → Option (List ℕ)) (rule : FilterRule) (read : List (List ℕ)) (first : Bool) (next : List ℕ)
     (same : files' ≡ files) (is : first ≡ is_none read) where
-  pub same_reads : (earlier b : FilterState) (reader reader' : R) (out out' : W) (err err' : E) → OneReads files' remaining contents error_contents rule (record { is_first = first; name = next }) earlier b reader reader' out out' err err'
+  pub same_reads : (earlier : ℕ) (b : FilterState) (reader reader' : R) (out out' : W) (err err' : E) → OneReads files' remaining contents error_contents rule (record { is_first = first; name = next }) earlier b reader reader' out out' err err'
       → OneReads files remaining contents error_contents rule (record { is_first = is_none read; name = next }) earlier b reader reader' out out' err err'
   same_reads earlier b reader reader' out out' err err' k =
       subst (λ f. OneReads f remaining contents error_contents rule (record { is_first = is_none read; name = next }) earlier b reader reader' out out' err err') same

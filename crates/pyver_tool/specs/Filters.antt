@@ -14,18 +14,10 @@ use Rattle.pyver_tool.specs.Sources.{Input, UnopenedSource, unopened_message, un
 use Rattle.pep440_version.specs.Record.{Record}
 use Rattle.pyver_tool.specs.declared.filter.FilterOptions.{FilterOptions}
 use Rattle.pyver_tool.specs.declared.filter.FilterRule.{FilterRule}
-use Rattle.pyver_tool.specs.declared.filter.Wanted.{Wanted}
-use Rattle.pyver_tool.specs.declared.filter.Wanted.TheVariants as wanted
-
--- a version that the list allows, or does not, is printed
-abbrev pub shows : Wanted → Bool → Bool
-shows wanted.Allowed allowed = allowed
-shows wanted.Others allowed = not allowed
-shows wanted.Newest allowed = false
 
 -- the version is printed: the list allows it, or, with `-v`, does not
 abbrev pub is_shown : FilterRule → Record → Bool
-is_shown rule r = shows rule.wanted (list_allows rule.takes rule.list r)
+is_shown rule r = if rule.inverted then not (list_allows rule.takes rule.list r) else list_allows rule.takes rule.list r
 
 -- the line is printed: it is the header of the first source, or its version is printed
 abbrev pub is_printed : FilterRule → Bool → LineReading → Bool
@@ -51,7 +43,7 @@ Filters rule input o = (found : List ReadLine) × AllZip (IsRead rule.lines) (fi
 
 -- the rule of the options and the list
 abbrev pub rule_of : FilterOptions → List Spec → FilterRule
-rule_of options list = record { wanted = if options.inverted then wanted.Others else wanted.Allowed; takes = takes_prereleases options.prereleases list; lines = options.lines; list = list }
+rule_of options list = record { inverted = options.inverted; takes = takes_prereleases options.prereleases list; lines = options.lines; list = list }
 
 -- the outcome of the lines by a valid list, or the error of an invalid one
 abbrev pub FiltersBy : FilterOptions → SpecifiersReading → Input → Outcome → Type 0

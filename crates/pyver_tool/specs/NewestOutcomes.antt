@@ -56,13 +56,9 @@ FindsNewest rule parts o = (newest : Option VersionLine) × NewestLine (candidat
 abbrev pub newest_rule : NewestOptions → List Spec → NewestRule
 newest_rule options list = record { prereleases = options.prereleases; lines = options.lines; list = list }
 
--- what is written of the lines of the sources by a rule
-abbrev pub AnswersNewest : NewestRule → Input → Outcome → Type 0
-AnswersNewest rule input o = OfVersions rule.lines (FindsNewest rule) input o
-
 -- what is written of the lines by a valid list, or the error of an invalid one
 abbrev pub FindsNewestBy : NewestOptions → SpecifiersReading → Input → Outcome → Type 0
-FindsNewestBy options (DenotesList list) input o = AnswersNewest (newest_rule options list) input o
+FindsNewestBy options (DenotesList list) input o = OfVersions options.lines (FindsNewest (newest_rule options list)) input o
 FindsNewestBy options (ListFails message) input o = o ≡ followed_by no_outcome (list_fault message)
 
 -- what is written of the lines of the sources: SPECS is parsed, and then the lines

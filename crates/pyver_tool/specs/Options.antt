@@ -13,10 +13,10 @@ pub record Row : Type 0 where
   pub choices : List (List ℕ)
 
 -- a row of strings, where `text` are the bytes of a string, and `texts` the strings of a list
-abbrev pub row_of : {S T : Type 0} (text : S → List ℕ) (texts : T → List S) → (S × S × S × T) → Row
+abbrev pub row_of : {S T : Type 0} (text : S → List ℕ) (texts : T → List S) → (S × S × S × T × S) → Row
 row_of text texts row = record { letter = text row.0; name = text row.1; value = text row.2; choices = map text (texts row.3) }
 
-abbrev pub rows_of : {S T : Type 0} (text : S → List ℕ) (texts : T → List S) → List (S × S × S × T) → List Row
+abbrev pub rows_of : {S T : Type 0} (text : S → List ℕ) (texts : T → List S) → List (S × S × S × T × S) → List Row
 rows_of text texts rows = map (row_of text texts) rows
 
 -- the options of a command

@@ -7,7 +7,7 @@ use Rattle.pyver_tool.specs.declared.split_words.Split.TheVariants as split
 use Rattle.pyver_tool.specs.declared.split_words.WordEnd.{WordEnd}
 use Rattle.pyver_tool.specs.declared.split_words.WordEnd.TheVariants as end
 
-abbrev pub given_of : {S T V : Type 0} (text : S → List ℕ) (texts : T → List S) (value : V → List ℕ) → ((S × S × S × T) × V) → Row × List ℕ
+abbrev pub given_of : {S T V : Type 0} (text : S → List ℕ) (texts : T → List S) (value : V → List ℕ) → ((S × S × S × T × S) × V) → Row × List ℕ
 given_of text texts value given = (row_of text texts given.0, value given.1)
 
 abbrev pub end_of : WordEnd → End

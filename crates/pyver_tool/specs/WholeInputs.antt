@@ -6,6 +6,7 @@ use Rattle.pyver_tool.specs.InputLines.{Source}
 use Rattle.pyver_tool.specs.LineOptions.{no_line_options}
 use Rattle.pyver_tool.specs.Outcomes.{Outcome}
 use Rattle.pyver_tool.specs.Runs.{WroteBeginning}
+use Rattle.pyver_tool.specs.NewestOutcomes.{FindsNewest}
 use Rattle.pyver_tool.specs.Sorts.{SortsParts}
 use Rattle.pyver_tool.specs.SourceViews.{IsRunFailureOf}
 use Rattle.pyver_tool.specs.Sources.{Input, KnownFile, ReadsFirst, ReadsInput, last_name}
@@ -19,11 +20,13 @@ use Rattle.pyver_tool.specs.declared.whole_input.Question.TheVariants as questio
 -- how lines are read
 abbrev pub question_lines : Question → LineOptions
 question_lines (question.Sort options) = options.lines
+question_lines (question.Newest rule) = rule.lines
 question_lines (question.Bump rule) = no_line_options
 
 -- what is written of lines that were read, where no invalid one is an error
 abbrev pub AnswersParts : Question → InputParts → Outcome → Type 0
 AnswersParts (question.Sort options) parts o = SortsParts options parts o
+AnswersParts (question.Newest rule) parts o = FindsNewest rule parts o
 AnswersParts (question.Bump rule) parts o = BumpsOnly rule.to rule.parts.items parts o
 
 -- what is written of what was read
@@ -32,21 +35,21 @@ AnswersInput asked input o = OfVersions (question_lines asked) (AnswersParts ask
 
 module _ {R W E : Type 0} (files : List ℕ → KnownFile) (remaining : R → Option (List ℕ)) (contents : W → Option (List ℕ)) (error_contents : E → Option (List ℕ)) where
   -- all was read, up to a file that was not opened if there was one, and all was written
-  pub record WholeFinishes (Answers : Input → Outcome → Type 0) (names : List (List ℕ)) (reader reader' : R) (out out' : W) (err err' : E) (status : ℕ) : Type 0 where
+  pub record WholeFinishes (asked : Question) (names : List (List ℕ)) (reader reader' : R) (out out' : W) (err err' : E) (status : ℕ) : Type 0 where
     pub input : Input
     pub reads : ReadsInput files remaining names reader reader' input
     pub outcome : Outcome
-    pub is : Answers input outcome
+    pub is : AnswersInput asked input outcome
     pub output : Appends (contents out) (contents out') outcome.output
     pub errors : Appends (error_contents err) (error_contents err') outcome.errors
     pub ended : status ≡ outcome.status
 
   -- all was read, and a beginning of the answer was written
-  pub record IsWholeCut (Answers : Input → Outcome → Type 0) (names : List (List ℕ)) (reader reader' : R) (out out' : W) (err err' : E) (why : RunFailure) : Type 0 where
+  pub record IsWholeCut (asked : Question) (names : List (List ℕ)) (reader reader' : R) (out out' : W) (err err' : E) (why : RunFailure) : Type 0 where
     pub input : Input
     pub reads : ReadsInput files remaining names reader reader' input
     pub outcome : Outcome
-    pub is : Answers input outcome
+    pub is : AnswersInput asked input outcome
     pub output : WroteBeginning (contents out) (contents out') outcome.output
     pub errors : WroteBeginning (error_contents err) (error_contents err') outcome.errors
     pub stops : IsRunFailureOf (last_name input.sources) why
@@ -59,5 +62,5 @@ module _ {R W E : Type 0} (files : List ℕ → KnownFile) (remaining : R → Op
     pub output : out' ≡ out
     pub errors : err' ≡ err
 
-  abbrev pub WholeStops : (Input → Outcome → Type 0) → List (List ℕ) → R → R → W → W → E → E → RunFailure → Type 0
-  WholeStops Answers names reader reader' out out' err err' why = IsWholeCut Answers names reader reader' out out' err err' why ⊎ IsSilent names reader reader' out out' err err' why
+  abbrev pub WholeStops : Question → List (List ℕ) → R → R → W → W → E → E → RunFailure → Type 0
+  WholeStops asked names reader reader' out out' err err' why = IsWholeCut asked names reader reader' out out' err err' why ⊎ IsSilent names reader reader' out out' err err' why

@@ -18,7 +18,7 @@ use crate::bump_input::BumpRule;
 use crate::check::CheckOptions;
 use crate::common_range::{RangeOptions, find_common};
 use crate::comparison::{Comparison, compare, parse_comparison};
-use crate::filter::{FilterOptions, FilterRule, Wanted};
+use crate::filter::{FilterOptions, FilterRule};
 use crate::help::{Topic, VERSION_LINE, help};
 use crate::misuse::{Misuse, push_misuse};
 use crate::newest::{NewestOptions, NewestRule};
@@ -62,8 +62,6 @@ pub(crate) enum Work<'a> {
     Filter(FilterRule, &'a [String]),
     // To read the sources with these names to their ends, of which this is asked.
     Whole(Question, &'a [String]),
-    // To find the newest of the lines of the sources with these names so.
-    Newest(NewestRule, &'a [String]),
     // To check the files with these names so.
     Check(CheckOptions, &'a [String]),
 }
@@ -332,13 +330,8 @@ fn start_filter<'a>(
     match parse_specifiers(alloc, specifiers)? {
         SpecifiersReading::Specifiers(list) => {
             let takes = takes_prereleases(options.prereleases, &list);
-            let wanted = if options.inverted {
-                Wanted::Others
-            } else {
-                Wanted::Allowed
-            };
             let rule = FilterRule {
-                wanted,
+                inverted: options.inverted,
                 takes,
                 lines: options.lines,
                 list,
@@ -369,7 +362,7 @@ fn start_newest<'a>(
                 lines: options.lines,
                 list,
             };
-            Ok(Work::Newest(rule, names))
+            Ok(Work::Whole(Question::Newest(rule), names))
         }
         SpecifiersReading::Invalid(message) => {
             let mut answer = Answer::silent(alloc, 0);

@@ -189,7 +189,7 @@ fn print_common(
 }
 
 // The outcome of lists that have these ranges and covers in common, and these members.
-fn print_common_range(
+fn print_found(
     alloc: Global,
     options: RangeOptions,
     range: &Ranges<Version>,
@@ -213,7 +213,7 @@ fn print_lists(
     ensures { IfOk result (λ a. outcome_of a ≡ lists_outcome options found.errors.items found.range found.cover found.members.items) }
 {
     if found.errors.is_empty() {
-        return print_common_range(alloc, options, &found.range, &found.cover, &found.members);
+        return print_found(alloc, options, &found.range, &found.cover, &found.members);
     }
     Ok(Answer {
         output: Vec::new(alloc),

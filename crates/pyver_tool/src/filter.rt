@@ -6,7 +6,6 @@ ghost use Rattle.pyver_tool.specs.Sources.{unopened_message, unopened_status};
 ghost use Rattle.pyver_tool.specs.SourceViews.{unopened_of};
 
 use crate::line_options::LineOptions;
-use crate::newest_lines::NewestLines;
 use crate::open_failure::{OpenFailure, push_file_fault};
 use crate::origin::Origin;
 use crate::prerelease_rule::Prereleases;
@@ -24,21 +23,11 @@ pub(crate) struct FilterOptions {
     pub(crate) lines: LineOptions,
 }
 
-// Which lines are asked for.
-#[derive(Clone, Copy)]
-pub(crate) enum Wanted {
-    // Those that the list allows.
-    Allowed,
-    // Those that it does not.
-    Others,
-    // The newest that it allows, which is kept and not printed.
-    Newest,
-}
-
-// How lines are filtered.
+// Which versions are printed.
 #[derive(Drop)]
 pub(crate) struct FilterRule {
-    pub(crate) wanted: Wanted,
+    // Those that the list does not allow.
+    pub(crate) inverted: bool,
     // Whether the list takes pre-releases.
     pub(crate) takes: bool,
     pub(crate) lines: LineOptions,
@@ -51,11 +40,8 @@ impl FilterRule {
     fn shows(&self, alloc: Global, version: &Version) -> Result<bool, AllocError>
         ensures { IfOk result (λ b. b ≡ is_shown self.now version.now) }
     {
-        match self.wanted {
-            Wanted::Allowed => self.list.allows(alloc, self.takes, version),
-            Wanted::Others => Ok(!self.list.allows(alloc, self.takes, version)?),
-            Wanted::Newest => Ok(false),
-        }
+        let allowed = self.list.allows(alloc, self.takes, version)?;
+        Ok(if self.inverted { !allowed } else { allowed })
     }
 }
 
@@ -121,17 +107,12 @@ pub(crate) struct FilterState {
     pub(crate) fault_count: u64,
     pub(crate) output: Vec<u8>,
     pub(crate) errors: Vec<u8>,
-    // What is kept where the newest line is asked for.
-    pub(crate) newest: NewestLines,
 }
 
 impl FilterState {
     ghost use Rattle.std.specs.Prelude.{◌+◌, ◌*◌, ◌<◌, ◌^◌, ◌∷◌, [], List, ℕ, length};
-    ghost use Rattle.std.specs.Prelude.{Bool};
-    ghost use Rattle.pep440_rs.specs.Specifiers.{Spec};
     ghost use Rattle.pyver_tool.specs.AnswerViews.{reading_of};
     ghost use Rattle.pyver_tool.specs.FilterSteps.{Cuts, FinishesBy, HasNoNewline, Steps, StepsBy};
-    ghost use Rattle.pyver_tool.specs.NewestViews.{KeepsNewest};
     ghost use Rattle.pyver_tool.specs.ReadLines.{Entry, Header, ReadLine};
     ghost use Rattle.pyver_tool.specs.Readings.{Denotes, Fails};
     ghost use Rattle.pyver_tool.specs.SourceViews.{origin_line, origin_of};
@@ -139,7 +120,6 @@ impl FilterState {
     pub(crate) fn new(alloc: Global) -> FilterState
         ensures counts { (result.read_count ≡ 0) × (result.fault_count ≡ 0) }
         ensures nothing { (result.output.items ≡ []) × (result.errors.items ≡ []) }
-        ensures newest { (takes : Bool) (list : List Spec) → KeepsNewest takes list [] result.newest }
     {
         FilterState {
             read_count: 0,
@@ -147,7 +127,6 @@ impl FilterState {
             fault_count: 0,
             output: Vec::new(alloc),
             errors: Vec::new(alloc),
-            newest: NewestLines::none(),
         }
     }
 
@@ -178,11 +157,6 @@ impl FilterState {
     ) -> Result<(), AllocError>
         ensures { IfOk result (λ _. StepsBy rule.now (record { line = origin_line origin.entry self.old.line_count text.now; reading = Entry (Denotes version.now) }) self.old self.new) }
     {
-        if matches!(rule.wanted, Wanted::Newest) {
-            return self
-                .newest
-                .push(alloc, rule.takes, &rule.list, text, version);
-        }
         if rule.shows(alloc, version)? {
             self.output.extend_from_slice(text)?;
             self.output.push(b'\n')?;
@@ -301,7 +275,6 @@ impl FilterState {
     // What was to be written was written.
     pub(crate) fn clear(&mut self)
         ensures counts { (self.new.read_count ≡ self.old.read_count) × (self.new.line_count ≡ self.old.line_count) × (self.new.fault_count ≡ self.old.fault_count) }
-        ensures newest { self.new.newest ≡ self.old.newest }
         ensures nothing { (self.new.output.items ≡ []) × (self.new.errors.items ≡ []) }
     {
         self.output.clear();

@@ -2,7 +2,6 @@
 ghost use Rattle.std.specs.Prelude.{◌≡◌, ◌≤◌, ◌*◌, [], IfErr, IfOk, map, string_bytes};
 ghost use Rattle.std.specs.Option.{option_map};
 ghost use Rattle.pyver_tool.specs.FilterSteps.{AllFinish, AllStop, FilterFinishes, FilterStops, OneFinishes, OneStops};
-ghost use Rattle.pyver_tool.specs.NewestViews.{KeepsNewest};
 ghost use Rattle.pyver_tool.specs.Sources.{source_names};
 ghost use Rattle.pyver_tool.specs.SourceViews.{origin_of, unopened_of};
 
@@ -59,7 +58,6 @@ fn filter_all<'a, F: Files, R: Read, W: Write, E: Write>(
     err: &mut E,
 ) -> Result<Option<UnopenedSource<'a>>, RunFailure>
     requires new { (state.old.read_count ≡ 0) × (state.old.fault_count ≡ 0) × (state.old.output.items ≡ []) × (state.old.errors.items ≡ []) }
-    requires newest { KeepsNewest rule.now.takes rule.now.list [] state.old.newest }
     ensures finished { IfOk result (λ unopened. AllFinish (F.known files.old) R.remaining W.contents E.contents rule.now (map string_bytes names.now) (option_map unopened_of unopened) state.new input.old input.new out.old out.new err.old err.new) }
     ensures stopped { IfErr result (AllStop (F.known files.old) R.remaining W.contents E.contents rule.now (map string_bytes names.now) input.old input.new out.old out.new err.old err.new) }
     ensures kept { F.known files.new ≡ F.known files.old }
@@ -77,7 +75,7 @@ fn filter_all<'a, F: Files, R: Read, W: Write, E: Write>(
 }
 
 // Filters the sources that the names denote, up to one that is not opened.
-pub(crate) fn filter_all_sources<'a, F: Files, R: Read, W: Write, E: Write>(
+fn filter_all_sources<'a, F: Files, R: Read, W: Write, E: Write>(
     alloc: Global,
     rule: &FilterRule,
     names: &'a [String],
@@ -88,7 +86,6 @@ pub(crate) fn filter_all_sources<'a, F: Files, R: Read, W: Write, E: Write>(
     err: &mut E,
 ) -> Result<Option<UnopenedSource<'a>>, RunFailure>
     requires new { (state.old.read_count ≡ 0) × (state.old.fault_count ≡ 0) × (state.old.output.items ≡ []) × (state.old.errors.items ≡ []) }
-    requires newest { KeepsNewest rule.now.takes rule.now.list [] state.old.newest }
     ensures finished { IfOk result (λ unopened. AllFinish (F.known files.old) R.remaining W.contents E.contents rule.now (source_names (map string_bytes names.now)) (option_map unopened_of unopened) state.new input.old input.new out.old out.new err.old err.new) }
     ensures stopped { IfErr result (AllStop (F.known files.old) R.remaining W.contents E.contents rule.now (source_names (map string_bytes names.now)) input.old input.new out.old out.new err.old err.new) }
     ensures kept { F.known files.new ≡ F.known files.old }

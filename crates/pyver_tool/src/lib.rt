@@ -22,7 +22,6 @@ mod line_options;
 mod misuse;
 mod nearest;
 mod newest;
-mod newest_lines;
 mod open_failure;
 mod options;
 mod origin;
@@ -47,4 +46,4 @@ mod words;
 
 pub use files::Files;
 pub use open_failure::OpenFailure;
-pub use program::{refuse, refuse_word, run};
+pub use program::{refuse, run};

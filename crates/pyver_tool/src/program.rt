@@ -1,8 +1,7 @@
 // The program over any reader and any writers.
-ghost use Rattle.std.specs.Prelude.{◌≡◌, ◌⊎◌, ◌≤◌, List, ℕ, codes, map, string_bytes};
+ghost use Rattle.std.specs.Prelude.{◌≡◌, ◌⊎◌, ◌≤◌, List, ℕ, map, string_bytes};
 ghost use Rattle.pyver_tool.specs.AnswerViews.{outcome_of};
 ghost use Rattle.pyver_tool.specs.Checks.{EndsCheck};
-ghost use Rattle.pyver_tool.specs.Outcomes.{fault};
 ghost use Rattle.pyver_tool.specs.Runs.{Ends, IsWriteFailure, WritesAnswer, WroteBeginning, memory_message};
 ghost use Rattle.pyver_tool.specs.SourceViews.{Reports};
 ghost use Rattle.pyver_tool.specs.Tasks.{Check, IsCheck, task_of};
@@ -13,7 +12,6 @@ use crate::check::check_files;
 use crate::command::{Command, Work};
 use crate::files::Files;
 use crate::filter_sources::filter_sources;
-use crate::newest::find_newest;
 use crate::stream::{RunFailure, WriteFailure, write_whole};
 use crate::whole_input::answer_input;
 use crate::words::Words;
@@ -118,12 +116,6 @@ pub fn run<F: Files, R: Read, W: Write, E: Write>(
                 Err(failure) => report_run_failure(failure, err),
             }
         }
-        Ok(Work::Newest(rule, names)) => {
-            match find_newest(alloc, rule, names, files, input, out, err) {
-                Ok(status) => status,
-                Err(failure) => report_run_failure(failure, err),
-            }
-        }
         Ok(Work::Check(options, names)) => match check_files(alloc, options, names, files, input) {
             Ok(answer) => write_answer(&answer, out, err),
             Err(failure) => report_run_failure(failure, err),
@@ -139,15 +131,4 @@ pub fn refuse<E: Write>(err: &mut E) -> u8
 {
     let _ = write_whole(err, MEMORY.as_bytes());
     3
-}
-
-/// Writes that a word is not UTF-8, and returns the status of the process: 2; 3 out of memory, 4 a write failed, 141 nobody reads.
-pub fn refuse_word<W: Write, E: Write>(alloc: Global, word: &[u8], out: &mut W, err: &mut E) -> u8
-    ensures { WritesAnswer W.contents E.contents (fault word.now (codes "not UTF-8")) out.old out.new err.old err.new result ⊎ ((result ≡ 3) × (out.new ≡ out.old) × WroteBeginning (E.contents err.old) (E.contents err.new) memory_message) }
-{
-    let mut answer = Answer::silent(alloc, 0);
-    match answer.push_bytes_fault(word, "not UTF-8") {
-        Ok(()) => write_answer(&answer, out, err),
-        Err(_) => refuse(err),
-    }
 }

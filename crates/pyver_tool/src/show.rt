@@ -46,7 +46,7 @@ fn push_line(
     push_text(bytes, "\n")
 }
 
-fn push_answer(
+fn push_shown(
     alloc: Global,
     answer: &mut Answer,
     format: ShowFormat,
@@ -72,7 +72,7 @@ pub(crate) fn show_versions(
     let mut answer = Answer::silent(alloc, 0);
     for word in words {
         let reading = parse_version(alloc, word.as_str())?;
-        push_answer(alloc, &mut answer, format, word.as_str(), &reading)?;
+        push_shown(alloc, &mut answer, format, word.as_str(), &reading)?;
     }
     Ok(answer)
 }

@@ -61,7 +61,7 @@ fn is_repeat(before: Option<&Version>, version: &Version) -> bool
 }
 
 // The lines as they were written, one of equal ones where that is asked for.
-fn select_texts<'a>(
+fn kept_texts<'a>(
     alloc: Global,
     unique: bool,
     lines: &[VersionLine<'a>],
@@ -108,7 +108,7 @@ pub(crate) fn sort_versions(
     ensures { IfOk result (λ a. SortsParts options (input_parts_of lines.entry) (outcome_of a)) }
 {
     let sorted = sort_lines(options.reversed, lines.versions)?;
-    let mut texts = select_texts(alloc, options.unique, sorted.as_slice())?;
+    let mut texts = kept_texts(alloc, options.unique, sorted.as_slice())?;
     texts.extend_from_slice(lines.invalid.as_slice())?;
     let mut output = lines.header;
     push_lines(&mut output, last_texts(options.last, texts.as_slice()))?;

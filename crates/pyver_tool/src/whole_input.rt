@@ -14,6 +14,7 @@ use crate::bump_input::{BumpRule, bump_only};
 use crate::files::Files;
 use crate::filter::UnopenedSource;
 use crate::line_options::LineOptions;
+use crate::newest::{NewestRule, find_newest};
 use crate::open_failure::report_open_failure;
 use crate::sort::{SortOptions, sort_versions};
 use crate::source_texts::{SourceText, SourceTexts, read_sources};
@@ -26,6 +27,7 @@ use std::io::{Read, Write};
 #[derive(Drop)]
 pub(crate) enum Question {
     Sort(SortOptions),
+    Newest(NewestRule),
     Bump(BumpRule),
 }
 
@@ -35,6 +37,7 @@ fn question_lines(question: &Question) -> LineOptions
 {
     match question {
         Question::Sort(options) => options.lines,
+        Question::Newest(rule) => rule.lines,
         Question::Bump(_) => LineOptions::none(),
     }
 }
@@ -49,6 +52,7 @@ fn answer_valid(
 {
     match question {
         Question::Sort(options) => sort_versions(alloc, *options, lines),
+        Question::Newest(rule) => find_newest(alloc, rule, lines),
         Question::Bump(rule) => bump_only(alloc, rule, lines),
     }
 }
@@ -99,8 +103,8 @@ pub(crate) fn answer_input<F: Files, R: Read, W: Write, E: Write>(
     out: &mut W,
     err: &mut E,
 ) -> Result<u8, RunFailure>
-    ensures finished { IfOk result (λ status. (status ≤ 2) × WholeFinishes (F.known files.old) R.remaining W.contents E.contents (AnswersInput question.now) (source_names (map string_bytes names.now)) input.old input.new out.old out.new err.old err.new status) }
-    ensures stopped { IfErr result (WholeStops (F.known files.old) R.remaining W.contents E.contents (AnswersInput question.now) (source_names (map string_bytes names.now)) input.old input.new out.old out.new err.old err.new) }
+    ensures finished { IfOk result (λ status. (status ≤ 2) × WholeFinishes (F.known files.old) R.remaining W.contents E.contents question.now (source_names (map string_bytes names.now)) input.old input.new out.old out.new err.old err.new status) }
+    ensures stopped { IfErr result (WholeStops (F.known files.old) R.remaining W.contents E.contents question.now (source_names (map string_bytes names.now)) input.old input.new out.old out.new err.old err.new) }
     ensures kept { F.known files.new ≡ F.known files.old }
 {
     let mut state = SourceTexts {

@@ -2,10 +2,8 @@ use Rattle.std.proofs.Common.{◌∙◌, map, refl, string_bytes, subst}
 use Rattle.pyver_tool.proofs.CheckEnds.{ends_checked, ends_unchecked, ends_unread, no_outcome_of_check}
 use Rattle.pyver_tool.proofs.RunEnds.{ends_at_once, ends_by_answer, ends_by_stop, ends_by_whole_stop, filter_began}
 use Rattle.pyver_tool.specs.AnswerViews.{outcome_of}
-use Rattle.pyver_tool.specs.NewestOutcomes.{AnswersNewest}
 use Rattle.pyver_tool.specs.Sources.{no_input}
 use Rattle.pyver_tool.specs.TaskViews.{task}
-use Rattle.pyver_tool.specs.WholeInputs.{AnswersInput}
 use Rattle.pyver_tool.specs.WorkViews.{IsWork}
 use Rattle.pyver_tool.specs.declared.command.Work.TheVariants as work
 use Rattle.pyver_tool.proofs.program.run.Goals as goal
@@ -34,15 +32,8 @@ pub returns-in-Ok-Whole-clause-command : goal.returns-in-Ok-Whole-clause-command
 returns-in-Ok-Whole-clause-command g c =
     let is = subst (λ t. IsWork t (work.Whole c.in-Ok-Whole.question c.in-Ok-Whole.names)) (c.parse.ensures ∙ c.in-Ok.ensures) (subst (λ w. IsWork (task c.parse.result) w) c.in-Ok-Whole.field-0-is c.in-Ok-Whole.ensures) in
     λ _. ends_by_whole_stop _ _ _ _ _ c.args.files.now c.answer_input.new.files c.args.input.now c.answer_input.new.input c.args.out.now c.answer_input.new.out c.args.err.now c.report_run_failure-in-Err-answer_input.new.err c.report_run_failure-in-Err-answer_input.result
-    (AnswersInput c.in-Ok-Whole.question) _ c.in-Err-answer_input.failure c.answer_input.new.err c.report_run_failure-in-Err-answer_input.ensures.0 is.0 c.in-Err-answer_input.ensures.kept is.2 is.3 c.in-Err-answer_input.ensures.stopped
+    c.in-Ok-Whole.question _ c.in-Err-answer_input.failure c.answer_input.new.err c.report_run_failure-in-Err-answer_input.ensures.0 is.0 c.in-Err-answer_input.ensures.kept is.2 is.3 c.in-Err-answer_input.ensures.stopped
     c.report_run_failure-in-Err-answer_input.ensures.1 c.report_run_failure-in-Err-answer_input.ensures.2
-
-pub returns-in-Ok-Newest-clause-command : goal.returns-in-Ok-Newest-clause-command
-returns-in-Ok-Newest-clause-command g c =
-    let is = subst (λ t. IsWork t (work.Newest c.in-Ok-Newest.rule c.in-Ok-Newest.names)) (c.parse.ensures ∙ c.in-Ok.ensures) (subst (λ w. IsWork (task c.parse.result) w) c.in-Ok-Newest.field-0-is c.in-Ok-Newest.ensures) in
-    λ _. ends_by_whole_stop _ _ _ _ _ c.args.files.now c.find_newest.new.files c.args.input.now c.find_newest.new.input c.args.out.now c.find_newest.new.out c.args.err.now c.report_run_failure-in-Err-find_newest.new.err c.report_run_failure-in-Err-find_newest.result
-    (AnswersNewest c.in-Ok-Newest.rule) _ c.in-Err-find_newest.failure c.find_newest.new.err c.report_run_failure-in-Err-find_newest.ensures.0 is.0 c.in-Err-find_newest.ensures.kept is.2 is.3 c.in-Err-find_newest.ensures.stopped
-    c.report_run_failure-in-Err-find_newest.ensures.1 c.report_run_failure-in-Err-find_newest.ensures.2
 
 pub returns-in-Ok-Check-clause-check : goal.returns-in-Ok-Check-clause-check
 returns-in-Ok-Check-clause-check g c =

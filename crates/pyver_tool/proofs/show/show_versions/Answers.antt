@@ -10,6 +10,6 @@ returns c = taken_all string_bytes (ShowsWord c.args.format) c.args.words.now c.
 pub loop-word-preserved : goal.loop-word-preserved
 loop-word-preserved c =
     let reading = reading_of c.in_ok-reading.reading in
-    taken_more string_bytes (ShowsWord c.args.format) c.args.words.now c.loop-word.word-index c.word-item.result (outcome_of c.loop-word.answer) (outcome_of c.push_answer.new.answer)
+    taken_more string_bytes (ShowsWord c.args.format) c.args.words.now c.loop-word.word-index c.word-item.result (outcome_of c.loop-word.answer) (outcome_of c.push_shown.new.answer)
     (show_outcome c.args.format (string_bytes c.word-item.result) reading) c.loop-word-test.true c.word-item.is (reading, rw c.as_str.ensures.value at c.in_ok-reading.ensures, refl)
-    (rw c.as_str-in-loop-word.ensures.value at c.in_ok-push_answer.ensures) c.loop-word.invariant
+    (rw c.as_str-in-loop-word.ensures.value at c.in_ok-push_shown.ensures) c.loop-word.invariant

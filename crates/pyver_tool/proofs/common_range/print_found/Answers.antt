@@ -1,7 +1,7 @@
 use Rattle.std.proofs.Common.{◌≡◌, IfOk, sym, ap, subst, if◌then◌else◌}
 use Rattle.pyver_tool.specs.AnswerViews.{outcome_of}
 use Rattle.pyver_tool.proofs.CommonRanges.{of_found}
-use Rattle.pyver_tool.proofs.common_range.print_common_range.Goals as goal
+use Rattle.pyver_tool.proofs.common_range.print_found.Goals as goal
 
 pub returns-then-options : goal.returns-then-options
 returns-then-options c =
