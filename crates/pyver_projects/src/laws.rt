@@ -2,7 +2,7 @@
 ghost use Rattle.pyver_projects.specs.ProjectLaws.{DocumentReportsOnce, DocumentFindingsHold, NoFindingMeansContained};
 
 /// What is reported by itself is a string of a project that is not what it is to be there, a package whose version is none, a document that
-/// is not TOML in UTF-8, or a requirement whose name no package of some lock has. Two lines that are reported together are those of a
+/// is not TOML in UTF-8, or a requirement whose name no package of some lock has. Two lines that are reported together belong to a
 /// requirement and of a package of its name whose version it does not contain.
 pub fn findings_hold()
     ensures { DocumentFindingsHold }
