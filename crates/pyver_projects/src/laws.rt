@@ -8,7 +8,8 @@ pub fn findings_hold()
     ensures { DocumentFindingsHold }
 {}
 
-/// Where nothing is reported, each requirement of a project without a marker and a URL contains each version of its name in a lock.
+/// Where nothing is reported, each requirement of a project without a marker and a URL, but of its build, contains each version of its
+/// name in a lock.
 pub fn no_finding_means_contained()
     ensures { NoFindingMeansContained }
 {}
