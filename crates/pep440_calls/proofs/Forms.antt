@@ -76,13 +76,6 @@ order_read left right r q o means also is = (
   λ x y first second. ap order_number (is ∙ (λ i. record_cmp (one_version left r x means first i) (one_version right q y also second i))),
 )
 
--- the order of compiled versions
-pub order_found : (left right : List ℕ) (o : Ordering) → HasVersionFormat left × HasVersionFormat right → ((r q : Record) → DenotesVersion left r → DenotesVersion right q → o ≡ record_cmp r q) → IsOrder left right (order_number o)
-order_found left right o formats found = (
-  inl formats,
-  λ r q means other. ap order_number (found r q (as_compiled left r formats.0 means) (as_compiled right q formats.1 other)),
-)
-
 -- matching of a list and a version that were read
 pub contains_read : (list text : List ℕ) (l : List Spec) (r : Record) (contained : Bool) → MeansListBytes list l → MeansBytes text r → contained ≡ list_matches l r → Contains list text contained
 contains_read list text l r contained means also is = (
