@@ -1,15 +1,10 @@
 -- Bytes that are a string or a compiled form: what is read of each, and what is found in compiled bytes as they lie.
 use Rattle.std.proofs.Common.{◌≡◌, ◌∙◌, ℕ, List, [], Bool, ap, codes, inl, inr, refl}
-use Rattle.std.specs.Cmp.Lexicographic.{slice_cmp}
-use Rattle.std.specs.Ordering.{nat_cmp}
 use Rattle.std.specs.Prelude.{◌⊎◌, Err, Ok, Result, Some, string_bytes}
 use Rattle.std.specs.declared.cmp.Ordering.{Ordering}
 use Rattle.std.specs.declared.string.String.{String}
-use Rattle.pep440_compiled.proofs.Fronts.{keyed}
 use Rattle.pep440_compiled.specs.Lists.{DenotesList, HasListFormat}
 use Rattle.pep440_compiled.specs.Version.{DenotesVersion, HasVersionFormat}
-use Rattle.pep440_keys.proofs.Order.{keys_in_order}
-use Rattle.pep440_keys.specs.SortKeys.{key_bytes}
 use Rattle.pep440_rs.specs.Matching.{any_prerelease, list_matches}
 use Rattle.pep440_rs.specs.Specifiers.{Spec}
 use Rattle.pep440_version.specs.Key.{record_cmp}
@@ -79,17 +74,6 @@ pub order_read : (left right : List ℕ) (r q : Record) (o : Ordering) → Means
 order_read left right r q o means also is = (
   inr ((r, means), (q, also)),
   λ x y first second. ap order_number (is ∙ (λ i. record_cmp (one_version left r x means first i) (one_version right q y also second i))),
-)
-
--- the order of two sort keys
-pub order_found : (left right a b : List ℕ) (o : Ordering) → HasVersionFormat left → HasVersionFormat right → ((r : Record) → DenotesVersion left r → a ≡ key_bytes r) → ((r : Record) → DenotesVersion right r → b ≡ key_bytes r)
-    → o ≡ slice_cmp nat_cmp a b → IsOrder left right (order_number o)
-order_found left right a b o format also first second is = (
-  inl (format, also),
-  λ r q means other.
-      let d = as_compiled left r format means in
-      let e = as_compiled right q also other in
-      ap order_number (is ∙ (λ i. slice_cmp nat_cmp (first r d i) (second q e i)) ∙ keys_in_order r q (keyed r d.parsed) (keyed q e.parsed)),
 )
 
 -- matching of a list and a version that were read
