@@ -62,6 +62,11 @@ uint8_t write_all(Writer call, Bytes read, Bytes *out);
 char *normal_text(Writer call, Bytes value);
 /* The error of a status that has no other: memory that was refused, or stored bytes that are no value. */
 _Noreturn void fail(uint8_t status);
+static inline void expect_ok(uint8_t status)
+{
+    if (status != PEP440_OK)
+        fail(status);
+}
 
 /* What is behind the header. */
 Bytes bytes_of(const struct varlena *stored);

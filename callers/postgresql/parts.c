@@ -35,9 +35,7 @@ Datum version_release(PG_FUNCTION_ARGS)
     size_t count = parts.release_length;
     uint64_t *numbers = palloc(count * sizeof *numbers);
     Datum *items = palloc(count * sizeof *items);
-    uint8_t status = pep440_parts_of(version.bytes, version.length, &parts, numbers, count);
-    if (status != PEP440_OK)
-        fail(status);
+    expect_ok(pep440_parts_of(version.bytes, version.length, &parts, numbers, count));
     for (size_t each = 0; each < count; each++)
         items[each] = make_numeric(numbers[each]);
     PG_RETURN_ARRAYTYPE_P(construct_array(items, (int)count, NUMERICOID, -1, false, TYPALIGN_INT));

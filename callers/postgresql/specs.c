@@ -23,8 +23,7 @@ static struct varlena *read_list(Bytes text, Node *context)
     if (status == PEP440_NO_ROOM)
         ereturn(context, NULL, (errcode(ERRCODE_PROGRAM_LIMIT_EXCEEDED), errmsg("list is too long for type %s", "pep440_specs"),
                                 errdetail("Its text has more than %d bytes.", MOST_TEXT)));
-    if (status != PEP440_OK)
-        fail(status);
+    expect_ok(status);
     return make_bytea(compiled);
 }
 
@@ -72,9 +71,7 @@ static Bytes find_version(Bytes list)
     if (list.length > MOST_DECIDED)
         ereport(ERROR, (errcode(ERRCODE_PROGRAM_LIMIT_EXCEEDED), errmsg("list is too long to find a version in it"),
                         errdetail("Its normal form has more than %d bytes.", MOST_DECIDED)));
-    uint8_t status = write_all(pep440_version_in, list, &version);
-    if (status != PEP440_OK)
-        fail(status);
+    expect_ok(write_all(pep440_version_in, list, &version));
     return version;
 }
 
@@ -99,9 +96,7 @@ static Bytes compiled_list(const struct varlena *stored)
     Bytes list = list_of(stored), compiled;
     if (list.bytes == bytes_of(stored).bytes)
         return list;
-    uint8_t status = write_all(pep440_compile_list, list, &compiled);
-    if (status != PEP440_OK)
-        fail(status);
+    expect_ok(write_all(pep440_compile_list, list, &compiled));
     return compiled;
 }
 
@@ -298,9 +293,7 @@ static bool contains(FmgrInfo *function, Bytes list, const struct varlena *store
         return false;
     if (known != NULL && version.is_plain && is_in_cover(&known->contained, version.key))
         return true;
-    uint8_t status = pep440_contains(list.bytes, list.length, version.bytes.bytes, version.bytes.length, &contained, &prerelease);
-    if (status != PEP440_OK)
-        fail(status);
+    expect_ok(pep440_contains(list.bytes, list.length, version.bytes.bytes, version.bytes.length, &contained, &prerelease));
     return contained != 0;
 }
 
@@ -313,9 +306,7 @@ Datum specs_any_prerelease(PG_FUNCTION_ARGS)
 {
     Bytes list = GET_LIST(0);
     uint8_t any;
-    uint8_t status = pep440_any_prerelease(list.bytes, list.length, &any);
-    if (status != PEP440_OK)
-        fail(status);
+    expect_ok(pep440_any_prerelease(list.bytes, list.length, &any));
     PG_RETURN_BOOL(any != 0);
 }
 

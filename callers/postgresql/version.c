@@ -85,9 +85,7 @@ uint8_t write_all(Writer call, Bytes read, Bytes *out)
 char *normal_text(Writer call, Bytes value)
 {
     Bytes normal;
-    uint8_t status = write_all(call, value, &normal);
-    if (status != PEP440_OK)
-        fail(status);
+    expect_ok(write_all(call, value, &normal));
     char *text = (char *)unconstify(uint8_t *, normal.bytes);
     text[normal.length] = 0;
     return text;
@@ -111,9 +109,7 @@ Datum hash_of(Bytes bytes, FunctionCallInfo fcinfo)
 struct varlena *fail_text(Bytes text, const char *type, Writer reason, Node *context)
 {
     Bytes why;
-    uint8_t status = write_all(reason, text, &why);
-    if (status != PEP440_OK)
-        fail(status);
+    expect_ok(write_all(reason, text, &why));
     while (why.length > 0 && why.bytes[why.length - 1] == '\n')
         why.length--;
     ereturn(context, NULL, (errcode(ERRCODE_INVALID_TEXT_REPRESENTATION),
@@ -137,8 +133,7 @@ struct varlena *read_version(Bytes text, Node *context)
     if (status == PEP440_NO_ROOM)
         ereturn(context, NULL, (errcode(ERRCODE_PROGRAM_LIMIT_EXCEEDED), errmsg("version is too long for type %s", "pep440"),
                                 errdetail("It takes more than %d bytes, and no index could keep it; or its text has more than %d.", MOST_BYTES, MOST_TEXT)));
-    if (status != PEP440_OK)
-        fail(status);
+    expect_ok(status);
     return make_version((Bytes){buffer.bytes, length});
 }
 

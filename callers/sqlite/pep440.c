@@ -73,6 +73,15 @@ static void fail_list(sqlite3_context *context, Text list)
     release(&why);
 }
 
+/* The number that a call told; NULL where a text is no version. */
+static void give_number(sqlite3_context *context, uint8_t status, int number)
+{
+    if (status == PEP440_OUT_OF_MEMORY)
+        sqlite3_result_error_nomem(context);
+    else if (status == PEP440_OK)
+        sqlite3_result_int(context, number);
+}
+
 /* A function of SQL; of those that are one call of the library, the call, and whether it writes bytes that are no text. */
 typedef struct {
     const char *name;
@@ -113,25 +122,19 @@ static void is_valid(sqlite3_context *context, int count, sqlite3_value **values
         return;
     if (is_text(values[0], &text))
         status = function->call(text.bytes, text.length, nothing, 0, &length);
-    if (status == PEP440_OUT_OF_MEMORY)
-        sqlite3_result_error_nomem(context);
-    else
-        sqlite3_result_int(context, status == PEP440_OK || status == PEP440_NO_ROOM);
+    give_number(context, status == PEP440_OUT_OF_MEMORY ? status : PEP440_OK, status == PEP440_OK || status == PEP440_NO_ROOM);
 }
 
 /* pep440_compare(a, b): -1, 0 or 1 where a is below b, equal to it or above it. */
 static void compare(sqlite3_context *context, int count, sqlite3_value **values)
 {
     Text left, right;
-    int8_t order;
+    int8_t order = 0;
     (void)count;
     if (!is_text(values[0], &left) || !is_text(values[1], &right))
         return;
     uint8_t status = pep440_compare(left.bytes, left.length, right.bytes, right.length, &order);
-    if (status == PEP440_OUT_OF_MEMORY)
-        sqlite3_result_error_nomem(context);
-    else if (status == PEP440_OK)
-        sqlite3_result_int(context, order);
+    give_number(context, status, order);
 }
 
 /* ---- the collation: versions in their order, then all other texts as bytes. A collation cannot fail, so without memory the statement is interrupted. */
@@ -172,15 +175,12 @@ static int collate(void *db, int left_length, const void *left, int right_length
 static void is_prerelease(sqlite3_context *context, int count, sqlite3_value **values)
 {
     Text text;
-    uint8_t contained, prerelease;
+    uint8_t contained, prerelease = 0;
     (void)count;
     if (!is_text(values[0], &text))
         return;
     uint8_t status = pep440_contains((const uint8_t *)"", 0, text.bytes, text.length, &contained, &prerelease);
-    if (status == PEP440_OUT_OF_MEMORY)
-        sqlite3_result_error_nomem(context);
-    else if (status == PEP440_OK)
-        sqlite3_result_int(context, prerelease);
+    give_number(context, status, prerelease);
 }
 
 /* A compiled list, which SQLite keeps for a statement. */
@@ -226,17 +226,14 @@ static void match(sqlite3_context *context, int count, sqlite3_value **values)
 {
     Compiled *made;
     Text text;
-    uint8_t contained, prerelease;
+    uint8_t contained = 0, prerelease;
     (void)count;
     if (sqlite3_value_type(values[1]) == SQLITE_NULL)
         return;
     const Compiled *list = compiled_list(context, values[0], &made);
     if (list != NULL && is_text(values[1], &text)) {
         uint8_t status = pep440_contains(list->bytes, list->length, text.bytes, text.length, &contained, &prerelease);
-        if (status == PEP440_OUT_OF_MEMORY)
-            sqlite3_result_error_nomem(context);
-        else if (status == PEP440_OK)
-            sqlite3_result_int(context, contained);
+        give_number(context, status, contained);
     }
     keep_list(context, made);
 }
@@ -244,10 +241,6 @@ static void match(sqlite3_context *context, int count, sqlite3_value **values)
 /* ---- pep440_cover(specs): a table of intervals of keys, low and high, that hold each version which the list contains */
 
 enum { LOW, HIGH, SPECS };
-
-typedef struct {
-    sqlite3_vtab base;
-} Cover;
 
 /* The keys of an interval end where `ends` says; its low one comes first, then its high one. */
 typedef struct {
@@ -265,11 +258,10 @@ static int cover_connect(sqlite3 *db, void *unused, int words, const char *const
     if (status != SQLITE_OK)
         return status;
     sqlite3_vtab_config(db, SQLITE_VTAB_INNOCUOUS);
-    Cover *made = sqlite3_malloc(sizeof *made);
-    if (made == NULL)
+    *table = sqlite3_malloc(sizeof **table);
+    if (*table == NULL)
         return SQLITE_NOMEM;
-    memset(made, 0, sizeof *made);
-    *table = &made->base;
+    memset(*table, 0, sizeof **table);
     return SQLITE_OK;
 }
 
