@@ -128,17 +128,17 @@ class Copies(unittest.TestCase):
         self.assertEqual(str(version), "1.0")
 
     def test_objects_that_are_used_again(self):
-        """What takes the place of a freed object has nothing of it."""
+        """What takes the place of a freed object has nothing of it, and what that held is let go."""
         for _ in range(3):
-            version, several = Version("1!2.0rc1.post2.dev3+ubuntu.1"), SpecifierSet(LIST, prereleases=True)
-            str(version), version.release, version.local, version.sort_key, hash(several), several.contains(version)
-            version._key = (1,)
-            member = Specifier("~=1.4.2")
-            member.note, member.prereleases, gone = "of the freed one", True, weakref.ref(member)
-            hash(member), member.contains("1.5"), str(member)
-            del version, several, member
-            self.assertIsNone(gone())
+            said, note = Text("as a true value"), Text("of the freed one")
+            version, several, member = Version("1!2.0rc1.post2.dev3+ubuntu.1"), SpecifierSet(LIST, prereleases=said), Specifier("~=1.4.2")
+            str(version), version.release, version.local, version.sort_key, hash(several), several.contains(version), hash(member), member.contains("1.5")
+            version._key, member.note, member.prereleases = (1,), note, True
+            gone = [*map(weakref.ref, (said, note, several, member))]
+            del said, note, version, several, member
+            self.assertEqual([it() for it in gone], [None] * 4)
             version, member, several = Version("3.1"), Specifier(">=1.0"), SpecifierSet(">=1.0") & SpecifierSet("")
+            self.assertEqual([it() for it in gone], [None] * 4)
             self.assertEqual((str(version), version.release, version.local, version.pre, version.epoch), ("3.1", (3, 1), None, None, 0))
             self.assertTrue(Version("3.0") < version < Version("3.1+a") and hash(version) == hash(Version("3.1.0")) and version.sort_key == sort_keys(["3.1"])[0])
             self.assertEqual((str(member), vars(member), member.prereleases, member.contains("1.0rc1"), member.version), (">=1.0", {}, False, False, "1.0"))
