@@ -94,19 +94,19 @@ static Spare spare_specifiers;
 static void specifiers_free(Specifiers *self)
 {
     PyTypeObject *type = Py_TYPE((PyObject *)self);
-    int is_own = (PyObject *)type == member_class || (PyObject *)type == set_class; /* one of a subclass may be longer */
     PyObject_GC_UnTrack(self);
     if (self->references)
         PyObject_ClearWeakRefs((PyObject *)self);
     Py_CLEAR(self->attributes);
     drop_read(self);
-    if (!is_own || !is_kept(&spare_specifiers, (PyObject *)self))
+    /* one of a subclass may be longer */
+    if (((PyObject *)type != member_class && (PyObject *)type != set_class) || !is_kept(&spare_specifiers, (PyObject *)self))
         PyObject_GC_Del(self);
     Py_DECREF(type);
 }
 
 /* One of a class without fields of its own, of which nothing is read yet. */
-static Specifiers *new_specifiers(PyObject *class)
+static inline Specifiers *new_specifiers(PyObject *class)
 {
     Specifiers *made = (Specifiers *)taken_of(&spare_specifiers, class);
     if (!made && (made = PyObject_GC_New(Specifiers, (PyTypeObject *)class)))
