@@ -26,8 +26,8 @@ enum { VERSION = 4, LIST = 5, LIST_HEAD = 1, OPERATOR = 16, MEMBER_HEAD = 2 };
 
 /* ---- objects that are used again */
 
-/* Freed objects of one class, kept for the next ones; each has the address of another one behind its head. Under a sanitizer none is kept, so that it
-   sees the use of what was freed. */
+/* Freed objects of one size, kept for the next ones; each has the address of another one behind its head. Under the sanitizer none is kept, so that it
+   sees uses of what was freed. */
 typedef struct {
     PyObject *first;
     int count;
@@ -53,7 +53,7 @@ static inline int is_kept(Spare *spare, PyObject *object)
     return 1;
 }
 
-/* A kept object as one of the class, or NULL. What is behind its head is as its type left it, but for the first pointer, which is NULL. */
+/* A kept object as one of the class, or NULL. Behind its head it is as it was freed, but for the first pointer, which is NULL. */
 static inline PyObject *taken_of(Spare *spare, PyObject *class)
 {
     PyObject *object = spare->first;
@@ -62,7 +62,8 @@ static inline PyObject *taken_of(Spare *spare, PyObject *class)
     spare->first = *behind_head(object);
     spare->count--;
     *behind_head(object) = NULL;
-    return PyObject_Init(object, (PyTypeObject *)class);
+    PyObject_Init(object, (PyTypeObject *)class);
+    return object;
 }
 
 /* ---- texts in, answers out */
