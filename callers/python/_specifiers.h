@@ -88,6 +88,9 @@ static int specifiers_clear(Specifiers *self)
     return 0;
 }
 
+/* Freed specifiers, and sets of them. */
+static Spare spare_specifiers;
+
 static void specifiers_free(Specifiers *self)
 {
     PyTypeObject *type = Py_TYPE((PyObject *)self);
@@ -96,18 +99,20 @@ static void specifiers_free(Specifiers *self)
         PyObject_ClearWeakRefs((PyObject *)self);
     Py_CLEAR(self->attributes);
     drop_read(self);
-    PyObject_GC_Del(self);
+    /* one of a subclass may be longer */
+    if (((PyObject *)type != member_class && (PyObject *)type != set_class) || !is_kept(&spare_specifiers, (PyObject *)self))
+        PyObject_GC_Del(self);
     Py_DECREF(type);
 }
 
 /* One of a class without fields of its own, of which nothing is read yet. */
-static Specifiers *new_specifiers(PyObject *class)
+static inline Specifiers *new_specifiers(PyObject *class)
 {
-    Specifiers *made = PyObject_GC_New(Specifiers, (PyTypeObject *)class);
-    if (made) {
+    Specifiers *made = (Specifiers *)taken_of(&spare_specifiers, class);
+    if (!made && (made = PyObject_GC_New(Specifiers, (PyTypeObject *)class)))
         memset(&made->attributes, 0, offsetof(Specifiers, few) - offsetof(Specifiers, attributes));
+    if (made)
         PyObject_GC_Track(made);
-    }
     return made;
 }
 

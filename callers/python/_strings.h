@@ -24,6 +24,48 @@ typedef struct {
    byte, and for each member its operator, and key and zeros of its version. */
 enum { VERSION = 4, LIST = 5, LIST_HEAD = 1, OPERATOR = 16, MEMBER_HEAD = 2 };
 
+/* ---- objects that are used again */
+
+/* Freed objects of one size, kept for the next ones; each has the address of another one behind its head. Under the sanitizer none is kept, so that it
+   sees uses of what was freed. */
+typedef struct {
+    PyObject *first;
+    int count;
+} Spare;
+
+#ifdef __SANITIZE_ADDRESS__
+enum { MOST_SPARE = 0 };
+#else
+enum { MOST_SPARE = 2000 }; /* as CPython keeps tuples of each length */
+#endif
+
+/* Where a kept object has the address of another one. */
+static inline PyObject **behind_head(PyObject *object) { return (PyObject **)(object + 1); }
+
+/* Whether a freed object is kept. */
+static inline int is_kept(Spare *spare, PyObject *object)
+{
+    if (spare->count >= MOST_SPARE)
+        return 0;
+    *behind_head(object) = spare->first;
+    spare->first = object;
+    spare->count++;
+    return 1;
+}
+
+/* A kept object as one of the class, or NULL. Behind its head it is as it was freed, but for the first pointer, which is NULL. */
+static inline PyObject *taken_of(Spare *spare, PyObject *class)
+{
+    PyObject *object = spare->first;
+    if (!object)
+        return NULL;
+    spare->first = *behind_head(object);
+    spare->count--;
+    *behind_head(object) = NULL;
+    PyObject_Init(object, (PyTypeObject *)class);
+    return object;
+}
+
 /* ---- texts in, answers out */
 
 /* What stands for a str with a lone surrogate, which has no UTF-8, or with one of the bytes in front that compiled forms begin with, which the library

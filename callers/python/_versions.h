@@ -89,16 +89,22 @@ __attribute__((noinline)) static PyObject *call_type(PyObject *type, PyObject *c
     return made;
 }
 
+/* Freed versions. */
+static Spare spare_versions;
+
 /* Version(string) without a tuple; subclasses are not called by this. */
 static PyObject *held_call(PyObject *type, PyObject *const *args, size_t flagged_count, PyObject *names)
 {
     Held *made;
     if (!takes_one(type, flagged_count, names, held_init))
         return call_type(type, args, flagged_count, names);
-    made = PyObject_New(Held, (PyTypeObject *)type);
-    if (!made)
-        return NULL;
-    memset(&made->text, 0, offsetof(Held, few) - offsetof(Held, text));
+    made = (Held *)taken_of(&spare_versions, type);
+    if (!made) {
+        made = PyObject_New(Held, (PyTypeObject *)type);
+        if (!made)
+            return NULL;
+        memset(&made->text, 0, offsetof(Held, few) - offsetof(Held, text));
+    }
     if (read_version(made, args[0]) < 0)
         Py_CLEAR(made);
     return (PyObject *)made;
@@ -132,10 +138,10 @@ static void held_free(Held *self)
     if (self->key || self->parts || self->normal || self->compiled)
         drop_made(self);
     Py_XDECREF(self->text);
-    if (type == HeldType)
-        PyObject_Free(self);
-    else
+    if (type != HeldType)
         ((freefunc)PyType_GetSlot(type, Py_tp_free))(self);
+    else if (!is_kept(&spare_versions, (PyObject *)self))
+        PyObject_Free(self);
     Py_DECREF(type);
 }
 

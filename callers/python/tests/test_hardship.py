@@ -127,6 +127,39 @@ class Copies(unittest.TestCase):
         self.assertIsNone(gone())
         self.assertEqual(str(version), "1.0")
 
+    def test_objects_that_are_used_again(self):
+        """What takes the place of a freed object has nothing of it, and what that held is let go."""
+        for _ in range(3):
+            said, note = Text("as a true value"), Text("of the freed one")
+            version, several, member = Version("1!2.0rc1.post2.dev3+ubuntu.1"), SpecifierSet(LIST, prereleases=said), Specifier("~=1.4.2")
+            str(version), version.release, version.local, version.sort_key, hash(several), several.contains(version), hash(member), member.contains("1.5")
+            version._key, member.note, member.prereleases = (1,), note, True
+            gone = [*map(weakref.ref, (said, note, several, member))]
+            del said, note, version, several, member
+            self.assertEqual([it() for it in gone], [None] * 4)
+            version, member, several = Version("3.1"), Specifier(">=1.0"), SpecifierSet(">=1.0") & SpecifierSet("")
+            self.assertEqual([it() for it in gone], [None] * 4)
+            self.assertEqual((str(version), version.release, version.local, version.pre, version.epoch), ("3.1", (3, 1), None, None, 0))
+            self.assertTrue(Version("3.0") < version < Version("3.1+a") and hash(version) == hash(Version("3.1.0")) and version.sort_key == sort_keys(["3.1"])[0])
+            self.assertEqual((str(member), vars(member), member.prereleases, member.contains("1.0rc1"), member.version), (">=1.0", {}, False, False, "1.0"))
+            self.assertEqual((str(several), vars(several), several.prereleases, "0.9" in several, len(several)), (">=1.0", {}, False, False, 1))
+
+    def test_objects_of_subclasses_are_freed(self):
+        class Longer(Version):
+            __slots__ = ("more", "and_more")
+
+        class LongerSpecifier(Specifier):
+            __slots__ = ("more", "and_more")
+
+        for class_, text in ((Longer, "1.0"), (LongerSpecifier, ">=1.0")):
+            for _ in range(50):
+                made = [class_(text) for _ in range(50)]
+                for each in made:
+                    each.more = each.and_more = made
+                plain = [class_.__base__(text) for _ in range(50)]
+                self.assertEqual({*map(str, made), *map(str, plain)}, {text})
+                made.clear()
+
     @unittest.skipIf(SANITIZED, "a sanitizer keeps what was freed")
     def test_nothing_is_kept(self):
         def turn():
