@@ -5,7 +5,7 @@ mod system_files;
 
 use pyver_tool::{refuse, run};
 use std::env;
-use std::io::{self, ErrorKind};
+use std::io::{self, ErrorKind, Write};
 use std::process::ExitCode;
 use system_files::SystemFiles;
 
@@ -18,7 +18,9 @@ fn words(rt: &HostRuntime) -> io::Result<Vec<String>> {
     Ok(words)
 }
 
-// Arguments that are no UTF-8 are no command.
+// The standard library does not return which one.
+const NOT_UTF8: &str = "pyver: an argument is not UTF-8\n";
+
 fn main(rt: HostRuntime) -> ExitCode {
     let words = match words(&rt) {
         Ok(words) => words,
@@ -26,7 +28,8 @@ fn main(rt: HostRuntime) -> ExitCode {
             if error.kind() == ErrorKind::OutOfMemory {
                 return ExitCode::from(refuse(&mut rt.stderr()));
             }
-            Vec::new(rt.alloc())
+            let _ = rt.stderr().write(NOT_UTF8.as_bytes());
+            return ExitCode::from(2);
         }
     };
     let status = run(
