@@ -13,5 +13,6 @@ pub mod Numbers
 pub mod Prefixes
 pub mod Printing
 pub mod Rewritten
+pub mod Shared
 pub mod Suffixes
 pub mod Zeros

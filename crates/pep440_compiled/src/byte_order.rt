@@ -40,3 +40,14 @@ pub fn cmp_bytes(a: &[u8], b: &[u8]) -> Ordering
     }
     left.cmp(right)
 }
+
+// The order of the bytes that both have: where the one ends first, what follows in the other does not count.
+#[inline(always)]
+pub(crate) fn cmp_common(a: &[u8], b: &[u8]) -> Ordering
+    ensures { result ≡ slice_cmp nat_cmp (take (length b.now) a.now) (take (length a.now) b.now) }
+{
+    if a.len() < b.len() {
+        return cmp_bytes(a, &b[..a.len()]);
+    }
+    cmp_bytes(&a[..b.len()], b)
+}

@@ -9,13 +9,13 @@ ghost use Rattle.pep440_version.specs.Key.{record_cmp};
 ghost use Rattle.pep440_version.specs.Print.{print};
 ghost use Rattle.pep440_version.specs.Record.{Record};
 
-use crate::byte_order::cmp_bytes;
+use crate::byte_order::cmp_common;
 use crate::checked_version::check_version;
 use crate::decode::decode_version;
 use crate::error::{CompileError, CompiledError, NotCompiled};
 use crate::parsed::is_parsed;
 use crate::print::push_version as push_version_text;
-use crate::views::{VERSION, view_version, view_version_parts};
+use crate::views::{VERSION, has_version_format, view_version, view_version_parts};
 use pep440_keys::push_sort_key;
 use pep440_version::Version;
 use pep440_version::key::trim_trailing_zeros;
@@ -134,11 +134,13 @@ pub fn read_sort_key(bytes: &[u8]) -> Result<&[u8], NotCompiled>
 /// Does not allocate.
 pub fn compare(a: &[u8], b: &[u8]) -> Result<Ordering, NotCompiled>
     ensures found { (r q : Record) → DenotesVersion a.now r → DenotesVersion b.now q → result ≡ Ok (record_cmp r q) }
-    ensures format { IfOk result (λ _. HasVersionFormat a.now × HasVersionFormat b.now) }
+    ensures format { MatchResult result (λ _. HasVersionFormat a.now × HasVersionFormat b.now) (λ _. HasVersionFormat a.now → HasVersionFormat b.now → ⊥) }
 {
-    let left = sort_key(a)?;
-    let right = sort_key(b)?;
-    Ok(cmp_bytes(left, right))
+    if !has_version_format(a) || !has_version_format(b) {
+        return Err(NotCompiled);
+    }
+    // No sort key begins with another one, so those of different versions differ before either ends; only zeros follow equal ones.
+    Ok(cmp_common(a, b))
 }
 
 /// Whether the version that the bytes denote is a pre-release or a developmental release (PEP 440, "Handling of

@@ -1,7 +1,6 @@
 -- A line that ought to be a requirement and is none is reported.
 use Rattle.std.proofs.Common.{arith, ◌≡◌, ◌==◌, ◌<◌, ◌∙◌, ℕ, List, [], ◌∷◌, Bool, true, false, Option, Some, None, Result, Ok, Err, ap, get_or, length, option_map, refl, sym, subst, inl, inr, suc, zero, if◌then◌else◌}
 use Rattle.std.specs.List.{AllZip, flat_map}
-use Rattle.std.specs.Str.{IsUtf8}
 use Rattle.pep440_pick.specs.RequirementGrammar.{DerivesRequirement, Needed}
 use Rattle.pyver_findings.proofs.Found.{Some_is, any_is, in_left, in_right}
 use Rattle.pyver_findings.proofs.SmallestLists.{is_nil}
@@ -9,7 +8,7 @@ use Rattle.pyver_findings.specs.Conflicts.{conflicts}
 use Rattle.pyver_findings.specs.FileLines.{FileLine, all_lines}
 use Rattle.pyver_findings.specs.FindingLaws.{HasMarker, InvalidLinesHaveFindings, IsAlone, IsRequirementLine, LacksRequirement}
 use Rattle.pyver_findings.specs.Findings.{NoRequirement}
-use Rattle.pyver_findings.specs.LineMeanings.{IsNone, LeftOut, LineMeaning, IsKindMeaning, IsMeaning, not_utf8, refusal_meaning, requirement_meaning, invalid_line, under_marker, with_marker, with_url}
+use Rattle.pyver_findings.specs.LineMeanings.{IsNone, LeftOut, LineMeaning, IsKindMeaning, IsMeaning, not_plain, refusal_meaning, requirement_meaning, invalid_line, under_marker, with_marker, with_url, IsPlain}
 use Rattle.pyver_findings.specs.Reports.{Report, demands_in, invalid_in}
 use Rattle.pyver_findings.specs.declared.cause.Cause.TheVariants as cause
 use Rattle.pyver_requirements.specs.LineKinds.{ConstraintsFile, Editable, Invalid, LineKind, Location, PipOption, Requirement, RequirementsFile, Variable, line_kind}
@@ -19,7 +18,7 @@ use Rattle.pyver_requirements.specs.MarkerReading.{Misfit, marker}
 
 module _ (l : FileLine) where
   -- what stands before `@` and `;` is a requirement
-  module _ (kind : line_kind l.text ≡ Requirement) (text : IsUtf8 (line_parts l.text).requirement) (n : Needed) (d : DerivesRequirement (line_parts l.text).requirement n) (lacks : IsRequirementLine l → ⊥) where
+  module _ (kind : line_kind l.text ≡ Requirement) (text : IsPlain (line_parts l.text).requirement) (n : Needed) (d : DerivesRequirement (line_parts l.text).requirement n) (lacks : IsRequirementLine l → ⊥) where
     by_list : (m : Option (List ℕ)) → HasMarker (line_parts l.text) m → ((line_parts l.text).url ≡ Some [] → ⊥) → (b : Bool) (reason : List ℕ) (column : ℕ) → (length n.specifiers == 0) ≡ b
         → Some_is (IsAlone l) (invalid_in (if b then LeftOut cause.Url else IsNone (NoRequirement l reason column)))
     by_list m has url true reason column none = absurd (lacks (kind, text, (n, d, ((m, has), url, inr (is_nil n.specifiers none)))))
@@ -55,7 +54,7 @@ module _ (l : FileLine) where
   by_kind Variable x kind lacks is = other Variable (λ f e. cc e) (λ e. cc e) kind lacks
   by_kind Location x kind lacks is = other Location (λ f e. cc e) (λ e. cc e) kind lacks
   by_kind Requirement x kind (inl (f, found)) is = let same : Requirement ≡ Invalid f = sym kind ∙ found in cc same
-  by_kind Requirement x kind (inr lacks) (inl (none, is)) = same_found x (not_utf8 l) is (inl refl)
+  by_kind Requirement x kind (inr lacks) (inl (none, is)) = same_found x (not_plain l (line_parts l.text)) is (inl refl)
   by_kind Requirement x kind (inr lacks) (inr (text, inl (n, d, is))) = same_found x (requirement_meaning l (line_parts l.text) n) is (by_marker kind text n d lacks.1 (line_parts l.text).marker refl)
   by_kind Requirement x kind (inr lacks) (inr (text, inr (f, r, is))) = same_found x (refusal_meaning l (line_parts l.text) f) is (inl refl)
 

@@ -12,3 +12,4 @@ pub mod InvalidFound
 pub mod Once
 pub mod Folders
 pub mod JsonCodes
+mod PlainText

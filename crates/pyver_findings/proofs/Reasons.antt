@@ -19,12 +19,11 @@ use Rattle.pep440_rs.specs.declared.list.error.SpecifiersErrorKind.TheVariants a
 use Rattle.pyver_findings.specs.FileLines.{FileLine}
 use Rattle.pyver_findings.specs.Columns.{list_column}
 use Rattle.pyver_findings.specs.Findings.{NoRequirement}
-use Rattle.pyver_findings.specs.LineMeanings.{IsListMeaning, IsNone, IsPartsMeaning, refusal_meaning, requirement_reason}
+use Rattle.pyver_findings.specs.LineMeanings.{IsListMeaning, IsNone, IsPartsMeaning, refusal_meaning, requirement_reason, IsPlain}
 use Rattle.pyver_findings.specs.ReadingViews.{is_memory_error, piece_text_of, reason_text_of}
 use Rattle.pyver_findings.specs.Views.{line_meaning_of}
 use Rattle.pyver_findings.specs.declared.line_meaning.LineMeaning.{LineMeaning}
 use Rattle.pyver_requirements.specs.LineParts.{LineParts}
-use Rattle.std.specs.Str.{IsUtf8}
 use Rattle.std.specs.declared.alloc.AllocError.{AllocError}
 use Rattle.std.proofs.lemmas.Result.{IfOk-weaker}
 
@@ -88,7 +87,7 @@ refusal_in None e lacks lifted = let full : is_memory_error e ≡ true = ap is_m
 refusal_in (Some f) e lacks lifted = (f, refl)
 
 -- the line of an error is none for its reason
-pub error_read : (result : Result LineMeaning AllocError) (l : FileLine) (p : LineParts) (e : RequirementError) → IsUtf8 p.requirement → IfSome (requirement_refusal_of e) (RefusesRequirement p.requirement)
+pub error_read : (result : Result LineMeaning AllocError) (l : FileLine) (p : LineParts) (e : RequirementError) → IsPlain p.requirement → IfSome (requirement_refusal_of e) (RefusesRequirement p.requirement)
     → IfOk result (λ x. (f : RequirementRefusal) × (requirement_refusal_of e ≡ Some f) × (line_meaning_of x ≡ refusal_meaning l p f)) → IfOk result (λ x. IsPartsMeaning l p (line_meaning_of x))
 error_read result l p e text why read =
     IfOk-weaker result (λ x. (f : RequirementRefusal) × (requirement_refusal_of e ≡ Some f) × (line_meaning_of x ≡ refusal_meaning l p f)) (λ x. IsPartsMeaning l p (line_meaning_of x))

@@ -3,13 +3,12 @@ use Rattle.std.proofs.Common.{◌≡◌, ◌==◌, ◌∙◌, ℕ, List, [], ◌
 use Rattle.std.proofs.lemmas.Bool.{true≢false}
 use Rattle.std.proofs.lemmas.List.Elements.{All-append, All-cons, All-head, All-nil, All-tail}
 use Rattle.std.specs.List.{All, AllZip, Contains, flat_map}
-use Rattle.std.specs.Str.{IsUtf8}
 use Rattle.pep440_pick.proofs.Once.{not_both_requirement, one_requirement}
 use Rattle.pep440_pick.specs.RequirementGrammar.{DerivesRequirement, Needed, RefusesRequirement, RequirementRefusal}
 use Rattle.pyver_findings.specs.FileLines.{FileLine}
 use Rattle.pyver_findings.specs.FindingLaws.{IsRequirementLine, IsRight}
 use Rattle.pyver_findings.specs.Findings.{NoRequirement}
-use Rattle.pyver_findings.specs.LineMeanings.{IsNone, LeftOut, LineMeaning, AsksNothing, IsKindMeaning, IsMeaning, has_scheme, names_file, not_utf8, refusal_meaning, requirement_meaning, invalid_line, under_marker, with_marker, with_url}
+use Rattle.pyver_findings.specs.LineMeanings.{IsNone, LeftOut, LineMeaning, AsksNothing, IsKindMeaning, IsMeaning, has_scheme, names_file, not_plain, refusal_meaning, requirement_meaning, invalid_line, under_marker, with_marker, with_url, IsPlain}
 use Rattle.pyver_findings.specs.Reports.{invalid_in}
 use Rattle.pyver_findings.specs.declared.cause.Cause.TheVariants as cause
 use Rattle.pyver_requirements.specs.LineKinds.{ConstraintsFile, Editable, Invalid, LineKind, Location, PipOption, Requirement, RequirementsFile, Variable, has_variable, line_kind}
@@ -23,8 +22,8 @@ module _ (l : FileLine) where
   not_invalid : (f : LineFault) → line_kind l.text ≡ Invalid f → IsRequirementLine l → ⊥
   not_invalid f is (kind, text, (m, e, (marker, url, either))) = let same : Invalid f ≡ Requirement = sym is ∙ kind in cc same
 
-  no_text : (IsUtf8 (line_parts l.text).requirement → ⊥) → IsRequirementLine l → ⊥
-  no_text none (kind, text, (m, e, (marker, url, either))) = none text
+  no_plain : (IsPlain (line_parts l.text).requirement → ⊥) → IsRequirementLine l → ⊥
+  no_plain none (kind, text, (m, e, (marker, url, either))) = none text
 
   refused : (f : RequirementRefusal) → RefusesRequirement (line_parts l.text).requirement f → IsRequirementLine l → ⊥
   refused f r (kind, text, (m, e, (marker, url, either))) = not_both_requirement (line_parts l.text).requirement m f e r
@@ -87,7 +86,7 @@ module _ (read : List FileLine) where
     of_kind PipOption x kind is means = same_invalid x _ is means (λ _. All-nil (IsRight read))
     of_kind Variable x kind is means = same_invalid x _ is means (λ _. All-nil (IsRight read))
     of_kind Location x kind is means = same_invalid x _ is means (λ _. All-nil (IsRight read))
-    of_kind Requirement x kind (inl (none, is)) means = same_invalid x (not_utf8 l) is means (λ m. one_invalid _ _ (no_text l none) m)
+    of_kind Requirement x kind (inl (none, is)) means = same_invalid x (not_plain l (line_parts l.text)) is means (λ m. one_invalid _ _ (no_plain l none) m)
     of_kind Requirement x kind (inr (text, inl (n, d, is))) means = same_invalid x (requirement_meaning l (line_parts l.text) n) is means (λ m. of_marker n d (line_parts l.text).marker refl m)
     of_kind Requirement x kind (inr (text, inr (f, r, is))) means = same_invalid x (refusal_meaning l (line_parts l.text) f) is means (λ m. one_invalid _ _ (refused l f r) m)
 

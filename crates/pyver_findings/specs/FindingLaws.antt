@@ -3,7 +3,6 @@
 -- reported; there is one report.
 use Rattle.std.specs.Prelude.{◌≡◌, ◌⊎◌, ⊤, ℕ, List, [], ◌∷◌, ◌++◌, IsTrue, Option, Some, None, Ok, bytes_eq, map, option_map}
 use Rattle.std.specs.List.{All, AllZip, Any, Contains, filter, flat_map}
-use Rattle.std.specs.Str.{IsUtf8}
 use Rattle.pep440_pick.specs.Names.{normal}
 use Rattle.pep440_pick.specs.RequirementGrammar.{DerivesRequirement, Needed}
 use Rattle.pep440_rs.specs.Cover.{IsDenoted}
@@ -13,7 +12,7 @@ use Rattle.pyver_findings.specs.Conflicts.{has_same_name, under}
 use Rattle.pyver_findings.specs.Demands.{Demand, is_pinned}
 use Rattle.pyver_findings.specs.FileLines.{File, FileLine, all_lines}
 use Rattle.pyver_findings.specs.Findings.{Conflicting, Finding, NoRequirement}
-use Rattle.pyver_findings.specs.LineMeanings.{IsMeaning, IsNone, LineMeaning}
+use Rattle.pyver_findings.specs.LineMeanings.{IsMeaning, IsNone, IsPlain, LineMeaning}
 use Rattle.pyver_findings.specs.Reports.{IsReport, Report, demands_in}
 use Rattle.pyver_findings.specs.declared.finding.Conflict.{Conflict}
 use Rattle.pyver_findings.specs.declared.finding.Conflict.TheVariants.{NoVersion, PinOutside, TwoPins}
@@ -36,7 +35,7 @@ IsComplete p n = ((m : Option (List ℕ)) × HasMarker p m) × (¬ (p.url ≡ So
 
 -- the line is a requirement
 abbrev pub IsRequirementLine : FileLine → Type 0
-IsRequirementLine l = (line_kind l.text ≡ Requirement) × IsUtf8 (line_parts l.text).requirement
+IsRequirementLine l = (line_kind l.text ≡ Requirement) × IsPlain (line_parts l.text).requirement
     × ((n : Needed) × DerivesRequirement (line_parts l.text).requirement n × IsComplete (line_parts l.text) n)
 
 -- the line asks for a name with this normal form

@@ -1,7 +1,6 @@
 -- What a line of a requirements file is to the check: a requirement, none, a line that is left out, or one that asks for no package.
-use Rattle.std.specs.Prelude.{◌≡◌, ◌⊎◌, ◌==◌, ◌||◌, ℕ, List, [], ◌∷◌, Bool, false, Option, Some, None, Result, Ok, Err, codes, length, nat_eq, if◌then◌else◌}
-use Rattle.std.specs.List.{starts_with}
-use Rattle.std.specs.Str.{IsUtf8}
+use Rattle.std.specs.Prelude.{◌≡◌, ◌⊎◌, ◌==◌, ◌||◌, ℕ, List, [], ◌∷◌, Bool, true, false, Option, Some, None, Result, Ok, Err, codes, length, nat_eq, if◌then◌else◌}
+use Rattle.std.specs.List.{list_all, prefix_len, starts_with}
 use Rattle.pep440_pick.specs.RequirementGrammar.{DerivesRequirement, Needed, RefusesRequirement, RequirementRefusal, Specifiers}
 use Rattle.pep440_pick.specs.RequirementTexts.{requirement_refusal_text}
 use Rattle.pep440_rs.specs.ErrorTexts.{specifier_refusal_text}
@@ -16,6 +15,7 @@ use Rattle.pyver_requirements.specs.declared.marker_fault.MarkerFault.{MarkerFau
 use Rattle.pyver_requirements.specs.declared.marker_fault.MarkerFault.TheVariants as marker_fault
 use Rattle.pyver_findings.specs.Demands.{Demand, line_demand}
 use Rattle.pyver_findings.specs.Columns.{column, marker_column, list_column}
+use Rattle.pyver_findings.specs.Escapes.{is_printable}
 use Rattle.pyver_findings.specs.FileLines.{FileLine}
 use Rattle.pyver_findings.specs.Findings.{Finding, NoRequirement}
 use Rattle.pyver_findings.specs.declared.cause.Cause.{Cause}
@@ -101,14 +101,22 @@ requirement_meaning line p n = with_marker line p n p.marker
 abbrev pub refusal_meaning : FileLine → LineParts → RequirementRefusal → LineMeaning
 refusal_meaning line p f = IsNone (NoRequirement line (requirement_reason f) (column p.requirement f))
 
--- what the line is whose part before `@` and `;` is not UTF-8
-abbrev pub not_utf8 : FileLine → LineMeaning
-not_utf8 line = IsNone (NoRequirement line (codes "not UTF-8") 0)
+-- a byte of a requirement: a tab, or printable ASCII (PEP 508, "Grammar")
+abbrev pub is_plain_byte : ℕ → Bool
+is_plain_byte b = (b == 9) || is_printable b
+
+-- the string has no other byte
+abbrev pub IsPlain : List ℕ → Type 0
+IsPlain text = list_all is_plain_byte text ≡ true
+
+-- what the line is whose part before `@` and `;` has another byte: none, at the first of them
+abbrev pub not_plain : FileLine → LineParts → LineMeaning
+not_plain line p = IsNone (NoRequirement line (codes "neither printable ASCII nor a tab") (prefix_len is_plain_byte p.requirement))
 
 -- what a line with these parts is
 abbrev pub IsPartsMeaning : FileLine → LineParts → LineMeaning → Type 0
-IsPartsMeaning line p x = ((¬ IsUtf8 p.requirement) × (x ≡ not_utf8 line))
-    ⊎ (IsUtf8 p.requirement × (((n : Needed) × DerivesRequirement p.requirement n × (x ≡ requirement_meaning line p n))
+IsPartsMeaning line p x = ((¬ IsPlain p.requirement) × (x ≡ not_plain line p))
+    ⊎ (IsPlain p.requirement × (((n : Needed) × DerivesRequirement p.requirement n × (x ≡ requirement_meaning line p n))
     ⊎ ((f : RequirementRefusal) × RefusesRequirement p.requirement f × (x ≡ refusal_meaning line p f))))
 
 -- ---- a list

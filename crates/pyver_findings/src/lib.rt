@@ -15,6 +15,7 @@ mod line_meaning;
 mod marker;
 mod named_files;
 mod normal_name;
+mod plain;
 mod report;
 mod report_json;
 mod report_text;

@@ -10,7 +10,7 @@ ghost use Rattle.pep440_rs.specs.ListErrorTexts.{list_refusal_text, list_text_of
 ghost use Rattle.pep440_rs.specs.ListGrammar.{PieceRefusal};
 ghost use Rattle.pyver_findings.specs.Columns.{list_column};
 ghost use Rattle.pyver_findings.specs.Findings.{NoRequirement};
-ghost use Rattle.pyver_findings.specs.LineMeanings.{IsNone, IsPartsMeaning, before_url, marker_reason, requirement_meaning, refusal_meaning, under_marker, with_url, IsListMeaning};
+ghost use Rattle.pyver_findings.specs.LineMeanings.{IsNone, IsPartsMeaning, IsPlain, before_url, marker_reason, requirement_meaning, refusal_meaning, under_marker, with_url, IsListMeaning};
 ghost use Rattle.pyver_findings.specs.ReadingViews.{is_memory_error, piece_text_of, reason_text_of};
 ghost use Rattle.pyver_findings.specs.Views.{file_line_of, line_meaning_of};
 ghost use Rattle.pyver_requirements.specs.LineParts.{line_parts};
@@ -23,6 +23,7 @@ use crate::demand::Demand;
 use crate::file_line::FileLine;
 use crate::finding::Finding;
 use crate::line_meaning::LineMeaning;
+use crate::plain::plain_text;
 use pep440_pick::{Requirement, RequirementError};
 use pep440_rs::{SpecifiersErrorKind, VersionSpecifiers, VersionSpecifiersParseError};
 use pyver_requirements::{LineParts, MarkerError, MarkerFault, parse_marker, split_requirement};
@@ -160,6 +161,23 @@ fn interpret_parts(
     }
 }
 
+// The same for a line whose part before `@` and `;` is this string.
+fn parse_text(
+    alloc: Global,
+    line: &FileLine,
+    parts: LineParts<'_>,
+    text: &str,
+) -> Result<LineMeaning, AllocError>
+    requires same { text.now ≡ parts.requirement.now }
+    requires plain { IsPlain parts.requirement.now }
+    ensures { IfOk result (λ x. IsPartsMeaning (file_line_of line.now) (line_parts_of parts.entry) (line_meaning_of x)) }
+{
+    match Requirement::from_str(alloc, text) {
+        Ok(requirement) => interpret_parts(alloc, line, parts, &requirement),
+        Err(error) => reject_error(alloc, line, parts, &error),
+    }
+}
+
 fn parse_parts(
     alloc: Global,
     line: &FileLine,
@@ -167,12 +185,9 @@ fn parse_parts(
 ) -> Result<LineMeaning, AllocError>
     ensures { IfOk result (λ x. IsPartsMeaning (file_line_of line.now) (line_parts_of parts.entry) (line_meaning_of x)) }
 {
-    let Ok(text) = std::str::from_utf8(parts.requirement) else {
-        return reject(alloc, line, "not UTF-8", 0);
-    };
-    match Requirement::from_str(alloc, text) {
-        Ok(requirement) => interpret_parts(alloc, line, parts, &requirement),
-        Err(error) => reject_error(alloc, line, parts, &error),
+    match plain_text(parts.requirement) {
+        Ok(text) => parse_text(alloc, line, parts, text),
+        Err(column) => reject(alloc, line, "neither printable ASCII nor a tab", column),
     }
 }
 
@@ -221,7 +236,7 @@ pub fn parse_specifiers(
 }
 
 /// What the line is, which is to be a requirement (PEP 508): one, left out if it has a URL, or invalid for this reason and at this
-/// column. A marker is only tested to be there.
+/// column. The name, the extras and the list have tabs and printable ASCII alone: no other blank.
 ///
 /// Allocates.
 pub fn parse_requirement(alloc: Global, line: &FileLine) -> Result<LineMeaning, AllocError>

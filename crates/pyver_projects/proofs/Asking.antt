@@ -1,13 +1,12 @@
 -- Requirements that count always.
 use Rattle.std.proofs.Common.{◌≡◌, ◌==◌, ◌∙◌, ℕ, List, [], ◌∷◌, Bool, true, false, Option, Some, None, Result, Ok, Err, length, option_map, refl, sym, ap, inl, inr, if◌then◌else◌}
-use Rattle.std.specs.Str.{IsUtf8}
 use Rattle.pep440_pick.specs.RequirementGrammar.{DerivesRequirement, Needed}
 use Rattle.pyver_findings.proofs.Once.{one_parts}
 use Rattle.pyver_findings.specs.Demands.{Demand, line_demand}
 use Rattle.pyver_findings.specs.FileLines.{FileLine}
 use Rattle.pyver_findings.specs.FindingLaws.{HasMarker}
 use Rattle.pyver_findings.specs.Findings.{NoRequirement}
-use Rattle.pyver_findings.specs.LineMeanings.{Asks, AsksNothing, IsNone, IsPartsMeaning, LeftOut, LineMeaning, requirement_meaning, under_marker, with_marker, with_url}
+use Rattle.pyver_findings.specs.LineMeanings.{Asks, AsksNothing, IsNone, IsPartsMeaning, IsPlain, LeftOut, LineMeaning, requirement_meaning, under_marker, with_marker, with_url}
 use Rattle.pyver_findings.specs.declared.cause.Cause.TheVariants as cause
 use Rattle.pyver_requirements.specs.LineParts.{LineParts, line_parts}
 use Rattle.pyver_requirements.specs.MarkerReading.{Misfit, marker as read_marker}
@@ -19,7 +18,7 @@ use Rattle.pyver_projects.specs.ProjectStrings.{Build, Dependencies, Extra, Grou
 -- the line asks for this
 pub record AsksFor (line : FileLine) (p : LineParts) (a : Demand) : Type 0 where
   pub needed : Needed
-  pub text : IsUtf8 p.requirement
+  pub text : IsPlain p.requirement
   pub derives : DerivesRequirement p.requirement needed
   pub url : p.url ≡ None
   pub marker : Option (List ℕ)
@@ -32,7 +31,7 @@ module _ (line : FileLine) (p : LineParts) (a : Demand) where
   no_list true reason column e = cc e
   no_list false reason column e = cc e
 
-  module _ (n : Needed) (text : IsUtf8 p.requirement) (d : DerivesRequirement p.requirement n) where
+  module _ (n : Needed) (text : IsPlain p.requirement) (d : DerivesRequirement p.requirement n) where
     by_url : (m : Option (List ℕ)) → (m ≡ None → p.marker ≡ None) → HasMarker p m → (url : Option (List ℕ)) → p.url ≡ url → Asks a ≡ with_url line p n m url → AsksFor line p a
     by_url m always has None is e = let same : a ≡ line_demand line m n = cc e in record { needed = n; text = text; derives = d; url = is; marker = m; always = always; has = has; is = same }
     by_url m always has (Some []) is e = cc e
@@ -69,12 +68,12 @@ of_section all line text a (Group name) is = of_parts line (line_parts line.text
 of_section all line text a (Include group included) is = absurd (no_include a line _ _ _ _ is)
 of_section all line text a Build is = of_parts line (line_parts line.text) a is
 
-module _ (line : FileLine) (n : Needed) (utf8 : IsUtf8 (line_parts line.text).requirement) (d : DerivesRequirement (line_parts line.text).requirement n) (marker : (line_parts line.text).marker ≡ None) (url : (line_parts line.text).url ≡ None) where
+module _ (line : FileLine) (n : Needed) (plain : IsPlain (line_parts line.text).requirement) (d : DerivesRequirement (line_parts line.text).requirement n) (marker : (line_parts line.text).marker ≡ None) (url : (line_parts line.text).url ≡ None) where
   means : IsPartsMeaning line (line_parts line.text) (Asks (line_demand line None n))
   means =
       let same : requirement_meaning line (line_parts line.text) n ≡ Asks (line_demand line None n) =
       ap (λ (m : Option (List ℕ)). with_marker line (line_parts line.text) n m) marker ∙ ap (λ (u : Option (List ℕ)). with_url line (line_parts line.text) n None u) url in
-      inr (utf8, inl (n, d, sym same))
+      inr (plain, inl (n, d, sym same))
 
   of_requirement : (x : LineMeaning) → IsPartsMeaning line (line_parts line.text) x → x ≡ Asks (line_demand line None n)
   of_requirement x is = one_parts line (line_parts line.text) x (Asks (line_demand line None n)) is means

@@ -15,7 +15,7 @@ use Rattle.pyver_findings.specs.Demands.{Demand}
 use Rattle.pyver_findings.specs.FileLines.{File, FileLine}
 use Rattle.pyver_findings.specs.FindingLaws.{HaveNone, IsRight}
 use Rattle.pyver_findings.specs.Findings.{Conflicting, Finding, NoRequirement}
-use Rattle.pyver_findings.specs.LineMeanings.{IsNone}
+use Rattle.pyver_findings.specs.LineMeanings.{IsNone, IsPlain}
 use Rattle.pyver_findings.specs.Reports.{Report}
 use Rattle.pyver_findings.specs.declared.finding.Conflict.TheVariants.{PinOutside}
 use Rattle.pyver_requirements.specs.LineParts.{line_parts}
@@ -54,7 +54,7 @@ HasPackage documents file p = (kind : LockKind) × (t : Members) × HasDocument 
 
 -- the string is this requirement, and has no marker and no URL
 abbrev pub AlwaysAsks : ProjectString → Needed → Type 0
-AlwaysAsks s n = IsUtf8 (line_parts s.text).requirement × DerivesRequirement (line_parts s.text).requirement n × ((line_parts s.text).marker ≡ None) × ((line_parts s.text).url ≡ None)
+AlwaysAsks s n = IsPlain (line_parts s.text).requirement × DerivesRequirement (line_parts s.text).requirement n × ((line_parts s.text).marker ≡ None) × ((line_parts s.text).url ≡ None)
 
 -- ---- findings
 

@@ -4,9 +4,9 @@ use Rattle.pep440_pick.specs.Requirements.{requirement_refusal_of}
 use Rattle.pyver_findings.specs.Views.{file_line_of}
 use Rattle.pyver_requirements.specs.LinePartViews.{line_parts_of}
 use Rattle.pyver_findings.proofs.Reasons.{error_read}
-use Rattle.pyver_findings.proofs.requirement_line.parse_parts.Goals as goal
+use Rattle.pyver_findings.proofs.requirement_line.parse_text.Goals as goal
 
 pub returns-in-Err : goal.returns-in-Err
 returns-in-Err c =
-    error_read c.reject_error.result (file_line_of c.args.line.now) (line_parts_of c.args.parts) c.in-Err.error c.in-Ok.ensures.cases.1
-    (subst (λ (t : List ℕ). IfSome (requirement_refusal_of c.in-Err.error) (RefusesRequirement t)) c.in-Ok.ensures.cases.0 c.in-Err.ensures.refused) c.reject_error.ensures
+    error_read c.reject_error.result (file_line_of c.args.line.now) (line_parts_of c.args.parts) c.in-Err.error c.requires.plain
+    (subst (λ (t : List ℕ). IfSome (requirement_refusal_of c.in-Err.error) (RefusesRequirement t)) c.requires.same c.in-Err.ensures.refused) c.reject_error.ensures
