@@ -20,7 +20,7 @@ use Rattle.pyver_projects.specs.Meanings.{IsSectionMeaning, IsStringReading, Str
 use Rattle.pyver_projects.specs.ProjectLaws.{line_in_part, part_lines}
 use Rattle.pyver_projects.specs.ProjectStrings.{ProjectString, Section}
 use Rattle.pyver_projects.specs.Soundness.{IsSoundString}
-use Rattle.pyver_projects.specs.Together.{all_conflicts, conflicts_after, demand_in_part, has_group, holds_in, is_other, part_conflicts, part_demands, part_of, project_conflicts, same_finding, sections, turn_conflicts, with_new}
+use Rattle.pyver_projects.specs.Together.{all_conflicts, conflicts_after, demand_in_part, has_group, holds_in, is_other, part_conflicts, part_demands, section_part, project_conflicts, same_finding, sections, turn_conflicts, with_new}
 
 -- what a string asks for, its line asks for
 asked : (read : List FileLine) (line : FileLine) (a : Demand) → Contains read line → AsksFor line (line_parts line.text) a → IsAsked read a
@@ -120,7 +120,7 @@ module _ (P : Finding → Type 0) (file : File) (t : Members) (so : (part : Sect
   after_holds : (xs : List StringReading) → AllZip (IsStringReading (groups t) file) (sources t) xs → (last : Option Section) (ys : List StringReading) → All P (conflicts_after xs last ys)
   after_holds xs h last [] = All-nil P
   after_holds xs h last (y ∷ ys) =
-      All-append P (turn_conflicts xs last (part_of y.section)) (conflicts_after xs (Some (part_of y.section)) ys) (turn_holds xs h (part_of y.section) (is_other last (part_of y.section))) (after_holds xs h (Some (part_of y.section)) ys)
+      All-append P (turn_conflicts xs last (section_part y.section)) (conflicts_after xs (Some (section_part y.section)) ys) (turn_holds xs h (section_part y.section) (is_other last (section_part y.section))) (after_holds xs h (Some (section_part y.section)) ys)
 
   pub conflicts_hold : (xs : List StringReading) → AllZip (IsStringReading (groups t) file) (sources t) xs → All P (project_conflicts xs)
   conflicts_hold xs h =

@@ -1,4 +1,5 @@
 pub mod Steps
+pub mod Turns
 pub mod Walks
 pub mod Asking
 pub mod Holding

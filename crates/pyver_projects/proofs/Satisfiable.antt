@@ -24,7 +24,7 @@ use Rattle.pyver_projects.specs.Meanings.{DocumentReading, IsDocumentReading, Is
 use Rattle.pyver_projects.specs.ProjectLaws.{NoFindingMeansSatisfiable}
 use Rattle.pyver_projects.specs.ProjectStrings.{Build, Dependencies, Extra, Group, Include, ProjectString, Python, Section, Version}
 use Rattle.pyver_projects.specs.Soundness.{IsSoundString}
-use Rattle.pyver_projects.specs.Together.{all_conflicts, conflicts_after, is_other, part_conflicts, part_demands, part_of, project_conflicts, same_finding, same_part, sections, turn_conflicts, with_new}
+use Rattle.pyver_projects.specs.Together.{all_conflicts, conflicts_after, is_other, part_conflicts, part_demands, section_part, project_conflicts, same_finding, same_part, sections, turn_conflicts, with_new}
 use Rattle.pyver_projects.specs.declared.document_kind.DocumentKind.TheVariants.{Project}
 
 -- parts that are the same are equal
@@ -91,22 +91,22 @@ module _ (all : List StringReading) where
   here None part rest false e none = absurd (true≢false e)
   here (Some last) part rest false e none = inr (ap Some (same_is last part (not_other (same_part last part) e)))
 
-  of_first : (last : Option Section) (y : StringReading) (ys : List StringReading) → conflicts_after all last (y ∷ ys) ≡ [] → (part : Section) → part_of y.section ≡ part → (part_conflicts all part ≡ []) ⊎ (last ≡ Some part)
+  of_first : (last : Option Section) (y : StringReading) (ys : List StringReading) → conflicts_after all last (y ∷ ys) ≡ [] → (part : Section) → section_part y.section ≡ part → (part_conflicts all part ≡ []) ⊎ (last ≡ Some part)
   of_first last y ys none part is =
       subst (λ (p : Section). (part_conflicts all p ≡ []) ⊎ (last ≡ Some p)) is
-      (here last (part_of y.section) (conflicts_after all (Some (part_of y.section)) ys) (is_other last (part_of y.section)) refl none)
+      (here last (section_part y.section) (conflicts_after all (Some (section_part y.section)) ys) (is_other last (section_part y.section)) refl none)
 
-  later : (last : Option Section) (y : StringReading) (ys : List StringReading) (part : Section) → conflicts_after all last (y ∷ ys) ≡ [] → (part_conflicts all part ≡ []) ⊎ (Some (part_of y.section) ≡ Some part) → (part_conflicts all part ≡ []) ⊎ (last ≡ Some part)
+  later : (last : Option Section) (y : StringReading) (ys : List StringReading) (part : Section) → conflicts_after all last (y ∷ ys) ≡ [] → (part_conflicts all part ≡ []) ⊎ (Some (section_part y.section) ≡ Some part) → (part_conflicts all part ≡ []) ⊎ (last ≡ Some part)
   later last y ys part none (inl e) = inl e
   later last y ys part none (inr same) = of_first last y ys none part (cc same)
 
   -- nothing is found in the part of each string
-  part_nil : (last : Option Section) (xs : List StringReading) (x : StringReading) (k : ℕ) → k < length xs → get_or xs k x ≡ x → conflicts_after all last xs ≡ [] → (part_conflicts all (part_of x.section) ≡ []) ⊎ (last ≡ Some (part_of x.section))
+  part_nil : (last : Option Section) (xs : List StringReading) (x : StringReading) (k : ℕ) → k < length xs → get_or xs k x ≡ x → conflicts_after all last xs ≡ [] → (part_conflicts all (section_part x.section) ≡ []) ⊎ (last ≡ Some (section_part x.section))
   part_nil last [] x k inside at none = absurd (omega (arith, inside))
-  part_nil last (y ∷ ys) x zero inside at none = of_first last y ys none (part_of x.section) (ap (λ (z : StringReading). part_of z.section) at)
+  part_nil last (y ∷ ys) x zero inside at none = of_first last y ys none (section_part x.section) (ap (λ (z : StringReading). section_part z.section) at)
   part_nil last (y ∷ ys) x (suc k) inside at none =
-      later last y ys (part_of x.section) none
-      (part_nil (Some (part_of y.section)) ys x k (omega (arith, inside)) at (right_nil (turn_conflicts all last (part_of y.section)) (conflicts_after all (Some (part_of y.section)) ys) none))
+      later last y ys (section_part x.section) none
+      (part_nil (Some (section_part y.section)) ys x k (omega (arith, inside)) at (right_nil (turn_conflicts all last (section_part y.section)) (conflicts_after all (Some (section_part y.section)) ys) none))
 
   from_none : (part : Section) → (part_conflicts all part ≡ []) ⊎ (None ≡ Some part) → part_conflicts all part ≡ []
   from_none part (inl e) = e
@@ -139,11 +139,11 @@ no_finding_means_satisfiable documents r (zs, h, is) none file t s xs a m ((k, i
     ap (λ (e : List StringReading). (own_report (IsProject e)).findings) (sym one) ∙ ap (λ (e : DocumentReading). (own_report e).findings) (sym is_project) ∙ nil_at (λ x. (own_report x).findings) zs x c in_x is_x own in
     let parts : all_conflicts xs ≡ [] = none_new (all_conflicts xs) (right_nil (flat_map invalid_string xs) (project_conflicts xs) nothing) in
     let (z, (j, in_z, is_z), rz) = beside_it (IsStringReading all file) (sources t) xs s i within is_s g in
-    let part = part_of s.section in
-    let here_nil : part_conflicts xs (part_of z.section) ≡ [] = from_none xs (part_of z.section) (part_nil xs None xs z j in_z is_z parts) in
+    let part = section_part s.section in
+    let here_nil : part_conflicts xs (section_part z.section) ≡ [] = from_none xs (section_part z.section) (part_nil xs None xs z j in_z is_z parts) in
     let same : inclusions (sections xs) ≡ all.inclusions = ap inclusions (sections_same all file (sources t) xs g) in
     let lines = part_demands all.inclusions part xs in
-    let last : conflicts lines ≡ [] = (λ v. conflicts (part_demands (sym same v) (part_of (sym rz.0 v)) xs)) ∙ here_nil in
+    let last : conflicts lines ≡ [] = (λ v. conflicts (part_demands (sym same v) (section_part (sym rz.0 v)) xs)) ∙ here_nil in
     let sound : All IsSound lines = sound_part all.inclusions part xs (zip_each (IsStringReading all file) (Contains (sources t)) IsSoundString (λ p v known n. sound_string all file p v n) (sources t) xs (All-contains_itself (sources t)) g) in
     let these = All-filter (counts_under m) IsSound (filter (has_same_name a) lines) (All-filter (has_same_name a) IsSound lines sound) in
     subst (Some_is (Fits (filter (has_same_name a) lines) m)) last (some_found lines a m known (none_found (under m (filter (has_same_name a) lines)) these empty))

@@ -1,5 +1,5 @@
 -- Documents that were read have lists that strings can give, and groups that are found by steps.
-use Rattle.std.proofs.Common.{arith, ◌≡◌, ◌∙◌, ⊤, ℕ, ◌+◌, ◌||◌, ◌&&◌, List, [], ◌∷◌, ◌++◌, Bool, true, false, bytes_eq, map, refl, sym, ap, subst, inl, inr, suc}
+use Rattle.std.proofs.Common.{arith, ◌≡◌, ◌∙◌, ℕ, ◌+◌, ◌||◌, ◌&&◌, List, [], ◌∷◌, ◌++◌, Bool, true, false, bytes_eq, map, refl, sym, ap, subst, inl, inr, suc}
 use Rattle.std.proofs.lemmas.List.Elements.{All-contains_itself, All-head, All-tail}
 use Rattle.std.proofs.lemmas.List.Folds.{list_any-append}
 use Rattle.std.proofs.lemmas.Slice.Eq.{bytes_eq-Decides}

@@ -27,7 +27,7 @@ use Rattle.pyver_projects.specs.Groups.{groups}
 use Rattle.pyver_projects.specs.Locks.{locked}
 use Rattle.pyver_projects.specs.Meanings.{Document, IsSectionMeaning, IsStringReading, StringReading, package_line, string_line}
 use Rattle.pyver_projects.specs.ProjectStrings.{LockedPackage, ProjectString, Section}
-use Rattle.pyver_projects.specs.Together.{has_group, holds_in, part_demands, part_of}
+use Rattle.pyver_projects.specs.Together.{has_group, holds_in, part_demands, section_part}
 use Rattle.pyver_projects.specs.declared.document_kind.DocumentKind.{DocumentKind}
 use Rattle.pyver_projects.specs.declared.document_kind.DocumentKind.TheVariants.{Lock, Project}
 use Rattle.pyver_projects.specs.declared.document_kind.LockKind.{LockKind}
@@ -160,8 +160,8 @@ NoFindingMeansContained = (documents : List Document) (r : Report) → IsDocumen
 -- the requirements of the part of each string of each project that have one name, and the same marker or none, have a version in common
 abbrev pub AllSatisfiable : List Document → Type 0
 AllSatisfiable documents = (file : File) (t : Members) (s : ProjectString) (xs : List StringReading) (a : Demand) (m : Option (List ℕ)) → HasDocument documents Project file t → Contains (sources t) s
-    → AllZip (IsStringReading (groups t) file) (sources t) xs → Contains (part_demands (groups t).inclusions (part_of s.section) xs) a
-    → ¬ HaveNone (under m (filter (has_same_name a) (part_demands (groups t).inclusions (part_of s.section) xs)))
+    → AllZip (IsStringReading (groups t) file) (sources t) xs → Contains (part_demands (groups t).inclusions (section_part s.section) xs) a
+    → ¬ HaveNone (under m (filter (has_same_name a) (part_demands (groups t).inclusions (section_part s.section) xs)))
 
 -- where nothing is found, they do
 abbrev pub NoFindingMeansSatisfiable : Type 0

@@ -16,14 +16,14 @@ use Rattle.pyver_projects.specs.ProjectStrings.{Build, Dependencies, Extra, Grou
 -- ---- parts of a project
 
 -- the part to which a string of the section belongs: the name of an included group belongs to the group that includes it
-abbrev pub part_of : Section → Section
-part_of (Include group included) = Group group
-part_of Dependencies = Dependencies
-part_of (Extra name) = Extra name
-part_of (Group name) = Group name
-part_of Build = Build
-part_of Python = Python
-part_of Version = Version
+abbrev pub section_part : Section → Section
+section_part (Include group included) = Group group
+section_part Dependencies = Dependencies
+section_part (Extra name) = Extra name
+section_part (Group name) = Group name
+section_part Build = Build
+section_part Python = Python
+section_part Version = Version
 
 -- the two parts are the same
 abbrev pub same_part : Section → Section → Bool
@@ -121,7 +121,7 @@ turn_conflicts xs last part = if is_other last part then part_conflicts xs part 
 -- of the parts of these strings in turn
 abbrev pub conflicts_after : List StringReading → Option Section → List StringReading → List Finding
 conflicts_after all last [] = []
-conflicts_after all last (x ∷ xs) = turn_conflicts all last (part_of x.section) ++ conflicts_after all (Some (part_of x.section)) xs
+conflicts_after all last (x ∷ xs) = turn_conflicts all last (section_part x.section) ++ conflicts_after all (Some (section_part x.section)) xs
 
 -- of each part in turn the requirements that have no version in common
 abbrev pub all_conflicts : List StringReading → List Finding

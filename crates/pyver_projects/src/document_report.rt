@@ -96,7 +96,6 @@ fn report_document(alloc: Global, document: DocumentReading) -> Result<Report, A
     }
 }
 
-#[tactic(auto, using(crate::proofs::Sound::sound_head, crate::proofs::Sound::sound_rest))]
 fn report_all(alloc: Global, documents: Vec<DocumentReading>) -> Result<Report, AllocError>
     requires { All IsSoundDocument (map document_reading_of documents.items) }
     ensures { IfOk result (λ r. report_of r ≡ with_own_reports empty_report (map document_reading_of documents.items)) }

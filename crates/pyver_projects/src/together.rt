@@ -7,7 +7,7 @@ ghost use Rattle.pyver_findings.specs.Views.{demand_of, file_line_of, finding_of
 ghost use Rattle.pyver_projects.specs.Groups.{inclusions as inclusions_in};
 ghost use Rattle.pyver_projects.specs.ProjectViews.{inclusion_of, section_of, string_reading_of};
 ghost use Rattle.pyver_projects.specs.Soundness.{IsSoundString};
-ghost use Rattle.pyver_projects.specs.Together.{all_conflicts, demand_in_part, has_dependencies, has_group, holds_in, is_build, is_extra, is_other, part_conflicts, part_demands, part_of, project_conflicts, same_finding, same_line, same_lines, same_part, sections, turn_conflicts, with_new};
+ghost use Rattle.pyver_projects.specs.Together.{all_conflicts, demand_in_part, has_dependencies, has_group, holds_in, is_build, is_extra, is_other, part_conflicts, part_demands, section_part, project_conflicts, same_finding, same_line, same_lines, same_part, sections, turn_conflicts, with_new};
 ghost use Rattle.pyver_findings.specs.Conflicts.{conflicts};
 
 use crate::groups::{Inclusion, has_name, included_groups, inclusions};
@@ -18,8 +18,8 @@ use std::alloc::{AllocError, Global};
 
 // ---- parts of a project
 
-fn part_of(section: &Section) -> Result<Section, AllocError>
-    ensures { IfOk result (λ part. section_of part ≡ part_of (section_of section.now)) }
+fn section_part(section: &Section) -> Result<Section, AllocError>
+    ensures { IfOk result (λ part. section_of part ≡ section_part (section_of section.now)) }
 {
     match section {
         Section::Include(group, _) => Ok(Section::Group(group.clone()?)),
@@ -218,7 +218,7 @@ fn all_conflicts(alloc: Global, strings: &[StringReading]) -> Result<Vec<Finding
     let mut findings = Vec::new(alloc);
     let mut last = None;
     for string in strings {
-        let part = part_of(&string.section)?;
+        let part = section_part(&string.section)?;
         push_turn(
             alloc,
             &mut findings,
@@ -245,11 +245,12 @@ fn same_line(one: &FileLine, other: &FileLine) -> bool
 fn same_lines(lines: &[FileLine], others: &[FileLine]) -> bool
     ensures { result ≡ same_lines (map file_line_of lines.now) (map file_line_of others.now) }
 {
-    match (lines, others) {
-        ([line, more @ ..], [other, more_others @ ..]) => {
-            same_line(line, other) && same_lines(more, more_others)
-        }
-        (lines, others) => lines.is_empty() && others.is_empty(),
+    match lines {
+        [] => others.is_empty(),
+        [line, more @ ..] => match others {
+            [] => false,
+            [other, more_others @ ..] => same_line(line, other) && same_lines(more, more_others),
+        },
     }
 }
 
