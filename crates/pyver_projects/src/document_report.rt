@@ -132,8 +132,8 @@ fn read_documents(alloc: Global, documents: &[Document]) -> Result<Vec<DocumentR
 /// What is wrong in the documents. First what is wrong in each by itself, in order: strings of a project that are no requirement, no list
 /// of specifiers or no version, names of included groups (PEP 735) that no group has, or that include the group in turn, versions of a lock
 /// that are none, and a document that is not TOML in UTF-8; and, after the strings of a project, its requirements that hold together and
-/// have no version in common, as `pyver_findings` reports them, each once: those of `project.dependencies`; with these, those of each
-/// extra, and those of each group and of all that it includes; and those of the build. Then what is wrong in each
+/// have no version in common, as `pyver_findings` reports them, each once: `project.dependencies`; these with each extra, and
+/// with each group and all that it includes; and what the build requires. Then what is wrong in each
 /// project beside each lock: for each requirement, in order, whether the lock lacks a package of its name, and the lines of the locked
 /// versions of its name that it does not contain, each with the line of the requirement.
 ///

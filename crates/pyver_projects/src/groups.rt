@@ -134,7 +134,7 @@ fn push_included(
     Ok(())
 }
 
-// These names, and those of the groups that they include themselves.
+// These names, and the names of the groups that they include themselves.
 fn one_step(
     alloc: Global,
     known: &[Vec<u8>],

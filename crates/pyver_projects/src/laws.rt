@@ -16,7 +16,7 @@ pub fn no_finding_means_contained()
 {}
 
 /// Where nothing is reported, the requirements of a project that hold together, of one name and with the same marker or none, have a version
-/// in common: its dependencies, those of an extra or of a group and all that it includes with these, and those of its build.
+/// in common: its dependencies; these with an extra, or with a group and all that it includes; and what its build requires.
 pub fn no_finding_means_satisfiable()
     ensures { NoFindingMeansSatisfiable }
 {}
