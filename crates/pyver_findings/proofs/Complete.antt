@@ -24,7 +24,7 @@ pub readings_sound : (lines : List FileLine) (kept : Readings) → KeepsReadings
 readings_sound lines kept (xs, h, invalid, demands, left_out) = subst (All IsSound) (sym demands) (asked_sound lines xs h)
 
 -- none is found where there is none
-none_found : (lines : List Demand) → All IsSound lines → HaveNone lines → have_none lines ≡ true
+pub none_found : (lines : List Demand) → All IsSound lines → HaveNone lines → have_none lines ≡ true
 none_found lines sound none = none_by lines (have_none lines) refl (λ some. let found = some_allowed lines sound some in none found.0 found.1 found.2)
 
 pub conflicts_have_findings : ConflictsHaveFindings

@@ -232,7 +232,7 @@ module _ (read : List FileLine) where
         by_empty (IsRight read) (have_none (under None lines)) _ _ (under_right None lines k)
         (of_each (IsRight read) (λ (a : Demand). of_all (under a.marker lines)) (λ a. under_right a.marker lines k) (first_mentions has_same_marker [] lines))
 
-  conflicts_right : (lines : List Demand) → All (IsAsked read) lines → All (IsRight read) (conflicts lines)
+  pub conflicts_right : (lines : List Demand) → All (IsAsked read) lines → All (IsRight read) (conflicts lines)
   conflicts_right lines k =
       of_each (IsRight read) (λ (a : Demand). of_name (filter (has_same_name a) lines))
       (λ a. name_right a.name (filter (has_same_name a) lines) (both (IsAsked read) (λ b. has_same_name a b ≡ true) (filter (has_same_name a) lines) (All-filter (has_same_name a) (IsAsked read) lines k) (filter_passes (has_same_name a) lines)))

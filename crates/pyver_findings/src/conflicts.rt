@@ -67,8 +67,11 @@ fn push_group(
     }
 }
 
-// What is wrong with lines together.
-pub(crate) fn push_conflicts(
+/// Adds what is wrong with these lines together, for each name, in the order in which names are first mentioned: a smallest list of lines
+/// that no version satisfies together, as `find_problems` reports it.
+///
+/// Allocates.
+pub fn push_conflicts(
     alloc: Global,
     findings: &mut Vec<Finding>,
     lines: &[Demand],

@@ -23,6 +23,7 @@ mod requirement_line;
 mod smallest;
 
 pub use cause::Cause;
+pub use conflicts::push_conflicts;
 pub use demand::Demand;
 pub use escape::{push_escaped, push_escaped_lines};
 pub use file_line::{FileLine, SourceFile};

@@ -19,6 +19,7 @@ use Rattle.pyver_projects.proofs.Asking.{asks_always}
 use Rattle.pyver_projects.proofs.Walks.{beside_it, left_nil, nil_at, right_nil}
 use Rattle.pyver_projects.specs.Comparing.{found_beside, beside_all, compared, compared_demand, excluded, is_locked, missing, with_own_reports}
 use Rattle.pyver_projects.specs.Documents.{sources}
+use Rattle.pyver_projects.specs.Groups.{groups}
 use Rattle.pyver_projects.specs.Locks.{locked}
 use Rattle.pyver_projects.specs.Meanings.{DocumentReading, IsDocumentReading, IsLock, IsLockedReading, IsProject, IsStringReading, IsVersionReading, LockedReading, StringReading, package_line, string_line}
 use Rattle.pyver_projects.specs.ProjectLaws.{HasTable, NoFindingMeansContained}
@@ -27,13 +28,13 @@ use Rattle.pyver_projects.specs.declared.document_kind.DocumentKind.TheVariants.
 use Rattle.pyver_projects.specs.declared.document_kind.LockKind.{LockKind}
 
 -- a project with this table was read
-project_read : (file : File) (t : Members) (x : DocumentReading) → HasTable file t → IsDocumentReading (record { kind = Project; file = file }) x → (xs : List StringReading) × AllZip (IsStringReading file) (sources t) xs × (x ≡ IsProject xs)
+pub project_read : (file : File) (t : Members) (x : DocumentReading) → HasTable file t → IsDocumentReading (record { kind = Project; file = file }) x → (xs : List StringReading) × AllZip (IsStringReading (groups t) file) (sources t) xs × (x ≡ IsProject xs)
 project_read file t x (text, e) (inl (none, broken)) = absurd (none text)
 project_read file t x (text, e) (inr (again, inr (none, broken))) = let same : Some t ≡ None = sym e ∙ none in cc same
 project_read file t x (text, e) (inr (again, inl (u, f, (xs, h, is)))) =
     let same : Some u ≡ Some t = sym f ∙ e in
     let table : u ≡ t = cc same in
-    (xs, subst (λ (m : Members). AllZip (IsStringReading file) (sources m) xs) table h, is)
+    (xs, subst (λ (m : Members). AllZip (IsStringReading (groups m) file) (sources m) xs) table h, is)
 
 -- a lock with this table was read
 lock_read : (file : File) (kind : LockKind) (t : Members) (x : DocumentReading) → HasTable file t → IsDocumentReading (record { kind = Lock kind; file = file }) x
@@ -84,9 +85,9 @@ no_finding_means_contained documents r (zs, h, is) none file lock s p n text v (
     let found : flat_map (beside_all zs) zs ≡ [] = right_nil (with_own_reports empty_report zs).findings (flat_map (beside_all zs) zs) (sym (ap (λ (e : Report). e.findings) is) ∙ none) in
     let nothing : found_beside x y ≡ [] = nil_at (found_beside x) zs y b in_y is_y (nil_at (beside_all zs) zs x a in_x is_x found) in
     let compares : flat_map (compared ys) xs ≡ [] = (λ e. found_beside (sym is_project e) (sym is_lock e)) ∙ nothing in
-    let (z, (c, in_z, is_z), rz) = beside_it (IsStringReading file) (sources t) xs s i within here g in
+    let (z, (c, in_z, is_z), rz) = beside_it (IsStringReading (groups t) file) (sources t) xs s i within here g in
     let (w, (m, in_w, is_w), rl) = beside_it (IsLockedReading lock.name) (locked kind lock.text u) ys p j under this q in
-    let meaning = asks_always (string_line file s) n asks.0 asks.1 asks.2 asks.3 s.text s.section z.meaning counts rz.1 in
+    let meaning = asks_always (string_line file s) n asks.0 asks.1 asks.2 asks.3 (groups t) s.text s.section z.meaning counts rz.1 in
     let asked = line_demand (string_line file s) None n in
     let both : missing ys s.section asked ++ flat_map (excluded asked) ys ≡ [] = not_compared ys asked s.section z rz.0 meaning counts (nil_at (compared ys) xs z c in_z is_z compares) in
     let one : excluded asked w ≡ [] = nil_at (excluded asked) ys w m in_w is_w (right_nil (missing ys s.section asked) (flat_map (excluded asked) ys) both) in

@@ -1,17 +1,19 @@
 -- Requirements that count always.
-use Rattle.std.proofs.Common.{◌≡◌, ◌==◌, ◌∙◌, ℕ, List, [], ◌∷◌, Bool, true, false, Option, Some, None, Result, Ok, Err, length, refl, sym, ap, inl, inr, if◌then◌else◌}
+use Rattle.std.proofs.Common.{◌≡◌, ◌==◌, ◌∙◌, ℕ, List, [], ◌∷◌, Bool, true, false, Option, Some, None, Result, Ok, Err, length, option_map, refl, sym, ap, inl, inr, if◌then◌else◌}
 use Rattle.pep440_pick.specs.RequirementGrammar.{DerivesRequirement, Needed}
 use Rattle.pyver_findings.proofs.Once.{one_parts}
 use Rattle.pyver_findings.specs.Demands.{Demand, line_demand}
 use Rattle.pyver_findings.specs.FileLines.{FileLine}
+use Rattle.pyver_findings.specs.FindingLaws.{HasMarker}
 use Rattle.pyver_findings.specs.Findings.{NoRequirement}
-use Rattle.pyver_findings.specs.LineMeanings.{Asks, IsNone, IsPartsMeaning, IsPlain, LeftOut, LineMeaning, requirement_meaning, under_marker, with_marker, with_url}
+use Rattle.pyver_findings.specs.LineMeanings.{Asks, AsksNothing, IsNone, IsPartsMeaning, IsPlain, LeftOut, LineMeaning, requirement_meaning, under_marker, with_marker, with_url}
 use Rattle.pyver_findings.specs.declared.cause.Cause.TheVariants as cause
 use Rattle.pyver_requirements.specs.LineParts.{LineParts, line_parts}
 use Rattle.pyver_requirements.specs.MarkerReading.{Misfit, marker as read_marker}
 use Rattle.pyver_projects.specs.Comparing.{is_locked}
+use Rattle.pyver_projects.specs.Groups.{Groups, no_group}
 use Rattle.pyver_projects.specs.Meanings.{IsSectionMeaning}
-use Rattle.pyver_projects.specs.ProjectStrings.{Build, Dependencies, Extra, Group, Section, Python, Version}
+use Rattle.pyver_projects.specs.ProjectStrings.{Build, Dependencies, Extra, Group, Include, Section, Python, Version}
 
 -- the line asks for this
 pub record AsksFor (line : FileLine) (p : LineParts) (a : Demand) : Type 0 where
@@ -21,6 +23,7 @@ pub record AsksFor (line : FileLine) (p : LineParts) (a : Demand) : Type 0 where
   pub url : p.url ≡ None
   pub marker : Option (List ℕ)
   pub always : marker ≡ None → p.marker ≡ None
+  pub has : HasMarker p marker
   pub is : a ≡ line_demand line marker needed
 
 module _ (line : FileLine) (p : LineParts) (a : Demand) where
@@ -29,34 +32,41 @@ module _ (line : FileLine) (p : LineParts) (a : Demand) where
   no_list false reason column e = cc e
 
   module _ (n : Needed) (text : IsPlain p.requirement) (d : DerivesRequirement p.requirement n) where
-    by_url : (m : Option (List ℕ)) → (m ≡ None → p.marker ≡ None) → (url : Option (List ℕ)) → p.url ≡ url → Asks a ≡ with_url line p n m url → AsksFor line p a
-    by_url m always None is e = let same : a ≡ line_demand line m n = cc e in record { needed = n; text = text; derives = d; url = is; marker = m; always = always; is = same }
-    by_url m always (Some []) is e = cc e
-    by_url m always (Some (b ∷ url)) is e = absurd (no_list (length n.specifiers == 0) _ _ e)
+    by_url : (m : Option (List ℕ)) → (m ≡ None → p.marker ≡ None) → HasMarker p m → (url : Option (List ℕ)) → p.url ≡ url → Asks a ≡ with_url line p n m url → AsksFor line p a
+    by_url m always has None is e = let same : a ≡ line_demand line m n = cc e in record { needed = n; text = text; derives = d; url = is; marker = m; always = always; has = has; is = same }
+    by_url m always has (Some []) is e = cc e
+    by_url m always has (Some (b ∷ url)) is e = absurd (no_list (length n.specifiers == 0) _ _ e)
 
-    by_read : (r : Result (List ℕ) Misfit) → Asks a ≡ under_marker line p n r → AsksFor line p a
-    by_read (Ok m) e = by_url (Some m) (λ none. cc none) p.url refl e
-    by_read (Err f) e = cc e
+    by_read : (r : Result (List ℕ) Misfit) → option_map read_marker p.marker ≡ Some r → Asks a ≡ under_marker line p n r → AsksFor line p a
+    by_read (Ok m) read e = by_url (Some m) (λ none. cc none) read p.url refl e
+    by_read (Err f) read e = cc e
 
     by_marker : (m : Option (List ℕ)) → p.marker ≡ m → Asks a ≡ with_marker line p n m → AsksFor line p a
-    by_marker None is e = by_url None (λ _. is) p.url refl e
-    by_marker (Some written) is e = by_read (read_marker written) e
+    by_marker None is e = by_url None (λ _. is) (ap (option_map read_marker) is) p.url refl e
+    by_marker (Some written) is e = by_read (read_marker written) (ap (option_map read_marker) is) e
 
   of_parts : IsPartsMeaning line p (Asks a) → AsksFor line p a
   of_parts (inl (none, e)) = cc e
   of_parts (inr (text, inl (n, d, e))) = by_marker n text d p.marker refl e
   of_parts (inr (text, inr (f, r, e))) = cc e
 
+-- the name of an included group asks for nothing
+no_include : (a : Demand) (line : FileLine) (b c : Bool) (one other : List ℕ) → Asks a ≡ (if b then (if c then no_group line one else AsksNothing) else no_group line other) → ⊥
+no_include a line true true one other e = cc e
+no_include a line true false one other e = cc e
+no_include a line false c one other e = cc e
+
 -- what a string asks for
-pub of_section : (line : FileLine) (text : List ℕ) (a : Demand) (section : Section) → IsSectionMeaning section line text (Asks a) → AsksFor line (line_parts line.text) a
-of_section line text a Python (inl (list, d, e)) = cc e
-of_section line text a Python (inr (f, r, e)) = cc e
-of_section line text a Version (inl (v, d, e)) = cc e
-of_section line text a Version (inr (f, r, e)) = cc e
-of_section line text a Dependencies is = of_parts line (line_parts line.text) a is
-of_section line text a (Extra name) is = of_parts line (line_parts line.text) a is
-of_section line text a (Group name) is = of_parts line (line_parts line.text) a is
-of_section line text a Build is = of_parts line (line_parts line.text) a is
+pub of_section : (all : Groups) (line : FileLine) (text : List ℕ) (a : Demand) (section : Section) → IsSectionMeaning all section line text (Asks a) → AsksFor line (line_parts line.text) a
+of_section all line text a Python (inl (list, d, e)) = cc e
+of_section all line text a Python (inr (f, r, e)) = cc e
+of_section all line text a Version (inl (v, d, e)) = cc e
+of_section all line text a Version (inr (f, r, e)) = cc e
+of_section all line text a Dependencies is = of_parts line (line_parts line.text) a is
+of_section all line text a (Extra name) is = of_parts line (line_parts line.text) a is
+of_section all line text a (Group name) is = of_parts line (line_parts line.text) a is
+of_section all line text a (Include group included) is = absurd (no_include a line _ _ _ _ is)
+of_section all line text a Build is = of_parts line (line_parts line.text) a is
 
 module _ (line : FileLine) (n : Needed) (plain : IsPlain (line_parts line.text).requirement) (d : DerivesRequirement (line_parts line.text).requirement n) (marker : (line_parts line.text).marker ≡ None) (url : (line_parts line.text).url ≡ None) where
   means : IsPartsMeaning line (line_parts line.text) (Asks (line_demand line None n))
@@ -69,10 +79,11 @@ module _ (line : FileLine) (n : Needed) (plain : IsPlain (line_parts line.text).
   of_requirement x is = one_parts line (line_parts line.text) x (Asks (line_demand line None n)) is means
 
   -- a requirement without a marker and a URL asks for it
-  pub asks_always : (text : List ℕ) (section : Section) (x : LineMeaning) → is_locked section ≡ true → IsSectionMeaning section line text x → x ≡ Asks (line_demand line None n)
-  asks_always text Dependencies x counts is = of_requirement x is
-  asks_always text (Extra name) x counts is = of_requirement x is
-  asks_always text (Group name) x counts is = of_requirement x is
-  asks_always text Build x counts is = cc counts
-  asks_always text Python x counts is = cc counts
-  asks_always text Version x counts is = cc counts
+  pub asks_always : (all : Groups) (text : List ℕ) (section : Section) (x : LineMeaning) → is_locked section ≡ true → IsSectionMeaning all section line text x → x ≡ Asks (line_demand line None n)
+  asks_always all text Dependencies x counts is = of_requirement x is
+  asks_always all text (Extra name) x counts is = of_requirement x is
+  asks_always all text (Group name) x counts is = of_requirement x is
+  asks_always all text (Include group included) x counts is = cc counts
+  asks_always all text Build x counts is = cc counts
+  asks_always all text Python x counts is = cc counts
+  asks_always all text Version x counts is = cc counts

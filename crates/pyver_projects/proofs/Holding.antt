@@ -21,9 +21,12 @@ use Rattle.pyver_requirements.specs.LineParts.{line_parts}
 use Rattle.toml.specs.Data.{Members}
 use Rattle.toml.specs.Parse.{parse_document}
 use Rattle.pyver_projects.proofs.Asking.{AsksFor, of_section}
+use Rattle.pyver_projects.proofs.HoldingTogether.{conflicts_hold}
+use Rattle.pyver_projects.specs.Together.{project_conflicts}
 use Rattle.pyver_projects.proofs.Walks.{all_flat, left_false, right_false, zip_each}
 use Rattle.pyver_projects.specs.Comparing.{found_beside, beside_all, compared, compared_demand, documents_report, excluded, has_name, invalid_package, invalid_string, is_locked, is_needed, own_report, with_own_reports}
 use Rattle.pyver_projects.specs.Documents.{sources}
+use Rattle.pyver_projects.specs.Groups.{groups}
 use Rattle.pyver_projects.specs.Locks.{locked}
 use Rattle.pyver_projects.specs.Meanings.{Document, DocumentReading, IsBrokenReading, IsDocumentReading, IsLockedReading, IsProject, IsSectionMeaning, IsStringReading, IsVersionReading, LockedReading, StringReading, package_line, string_line}
 use Rattle.pyver_projects.specs.ProjectLaws.{AlwaysAsks, DocumentFindingsHold, HasDocument, HasPackage, HasString, IsReadable, IsDocumentFinding}
@@ -43,11 +46,11 @@ module _ (documents : List Document) where
       subst (λ (y : DocumentReading). All Right (own_report y).findings) (sym is)
       (All-cons Right (NoRequirement line reason column) [] (inr (inr (inl (record { document = d; line = line; reason = reason; column = column; has = known; none = none; place = place; is = refl })))) (All-nil Right))
 
-  of_string : (file : File) (s : ProjectString) (m : LineMeaning) → HasString documents file s → IsSectionMeaning s.section (string_line file s) s.text m → All Right (invalid_in m)
-  of_string file s (Asks a) has is = All-nil Right
-  of_string file s (IsNone f) has is = All-cons Right f [] (inl (record { file = file; string = s; has = has; is = is })) (All-nil Right)
-  of_string file s (LeftOut c) has is = All-nil Right
-  of_string file s AsksNothing has is = All-nil Right
+  of_string : (file : File) (t : Members) (s : ProjectString) (m : LineMeaning) → HasDocument documents Project file t → Contains (sources t) s → IsSectionMeaning (groups t) s.section (string_line file s) s.text m → All Right (invalid_in m)
+  of_string file t s (Asks a) has at is = All-nil Right
+  of_string file t s (IsNone f) has at is = All-cons Right f [] (inl (record { file = file; string = s; table = t; has = has; within = at; is = is })) (All-nil Right)
+  of_string file t s (LeftOut c) has at is = All-nil Right
+  of_string file t s AsksNothing has at is = All-nil Right
 
   of_package : (file : File) (p : LockedPackage) (v : Option (List ℕ)) (y : LockedReading) → HasPackage documents file p → p.version ≡ v → IsVersionReading (package_line file.name p) p.name v y → All Right (invalid_package y)
   of_package file p None y has at is = subst (λ (z : LockedReading). All Right (invalid_package z)) (sym is) (All-nil Right)
@@ -67,8 +70,10 @@ module _ (documents : List Document) where
   of_document kind file x known (inr (text, inr (none, broken))) = unread (record { kind = kind; file = file }) x known (no_toml (record { kind = kind; file = file }) none) broken
   of_document Project file x known (inr (text, inl (t, e, (xs, h, is)))) =
       subst (λ (y : DocumentReading). All Right (own_report y).findings) (sym is)
+      (All-append Right (flat_map invalid_string xs) (project_conflicts xs)
       (all_flat Right invalid_string xs
-      (zip_each (IsStringReading file) (Contains (sources t)) (λ z. All Right (invalid_string z)) (λ s z at r. of_string file s z.meaning (t, (known, (text, e)), at) r.1) (sources t) xs (All-contains_itself (sources t)) h))
+      (zip_each (IsStringReading (groups t) file) (Contains (sources t)) (λ z. All Right (invalid_string z)) (λ s z at r. of_string file t s z.meaning (known, (text, e)) at r.1) (sources t) xs (All-contains_itself (sources t)) h))
+      (conflicts_hold Right file t (λ part f right. inr (inr (inr (inr (inr (record { file = file; table = t; part = part; has = (known, (text, e)); right = right })))))) xs h))
   of_document (Lock kind) file x known (inr (text, inl (t, e, (ys, h, is)))) =
       subst (λ (y : DocumentReading). All Right (own_report y).findings) (sym is)
       (all_flat Right invalid_package ys
@@ -90,7 +95,7 @@ module _ (documents : List Document) where
         by_match p text v here written d false b e f = All-nil Right
         by_match p text v here written d true false e f =
             All-cons Right (Conflicting PinOutside (string_line file s ∷ (package_line lock.name p ∷ []))) []
-            (inr (inr (inr (inr (record {
+            (inr (inr (inr (inr (inl (record {
               file = file;
               string = s;
               lock = lock;
@@ -106,7 +111,7 @@ module _ (documents : List Document) where
               derives = d;
               outside = λ m. true≢false (sym m ∙ f);
               is = refl;
-            }))))) (All-nil Right)
+            })))))) (All-nil Right)
 
         nothing : (b : Bool) → All Right (if b then [] else [])
         nothing true = All-nil Right
@@ -171,30 +176,30 @@ module _ (documents : List Document) where
         of_asked : (a : Demand) → AsksFor (string_line file s) (line_parts s.text) a → All Right (compared_demand ys s.section a)
         of_asked a k = subst (λ (b : Demand). All Right (compared_demand ys s.section b)) (sym k.is) (by_marker a k k.marker k.always)
 
-        of_meaning : (m : LineMeaning) → IsSectionMeaning s.section (string_line file s) s.text m → All Right (flat_map (compared_demand ys s.section) (demands_in m))
-        of_meaning (Asks a) is = All-append Right (compared_demand ys s.section a) [] (of_asked a (of_section (string_line file s) s.text a s.section is)) (All-nil Right)
+        of_meaning : (m : LineMeaning) → IsSectionMeaning (groups t) s.section (string_line file s) s.text m → All Right (flat_map (compared_demand ys s.section) (demands_in m))
+        of_meaning (Asks a) is = All-append Right (compared_demand ys s.section a) [] (of_asked a (of_section (groups t) (string_line file s) s.text a s.section is)) (All-nil Right)
         of_meaning (IsNone f) is = All-nil Right
         of_meaning (LeftOut c) is = All-nil Right
         of_meaning AsksNothing is = All-nil Right
 
-        by_section : (b : Bool) (m : LineMeaning) → IsSectionMeaning s.section (string_line file s) s.text m → All Right (if b then flat_map (compared_demand ys s.section) (demands_in m) else [])
+        by_section : (b : Bool) (m : LineMeaning) → IsSectionMeaning (groups t) s.section (string_line file s) s.text m → All Right (if b then flat_map (compared_demand ys s.section) (demands_in m) else [])
         by_section true m is = of_meaning m is
         by_section false m is = All-nil Right
 
-        compared_right : (x : StringReading) → IsStringReading file s x → All Right (compared ys x)
+        compared_right : (x : StringReading) → IsStringReading (groups t) file s x → All Right (compared ys x)
         compared_right x (same, is) =
             subst (λ section. All Right (if is_locked section then flat_map (compared_demand ys section) (demands_in x.meaning) else [])) (sym same) (by_section (is_locked s.section) x.meaning is)
 
-    pub pair_right : (xs : List StringReading) (ys : List LockedReading) → AllZip (IsStringReading file) (sources t) xs → AllZip (IsLockedReading lock.name) (locked kind lock.text u) ys → All Right (flat_map (compared ys) xs)
+    pub pair_right : (xs : List StringReading) (ys : List LockedReading) → AllZip (IsStringReading (groups t) file) (sources t) xs → AllZip (IsLockedReading lock.name) (locked kind lock.text u) ys → All Right (flat_map (compared ys) xs)
     pair_right xs ys g h =
-        all_flat Right (compared ys) xs (zip_each (IsStringReading file) (Contains (sources t)) (λ x. All Right (compared ys x)) (λ s x at r. compared_right s at ys h x r) (sources t) xs (All-contains_itself (sources t)) g)
+        all_flat Right (compared ys) xs (zip_each (IsStringReading (groups t) file) (Contains (sources t)) (λ x. All Right (compared ys x)) (λ s x at r. compared_right s at ys h x r) (sources t) xs (All-contains_itself (sources t)) g)
 
   -- ---- a document beside another
 
   broken_right : (file : File) (x y : DocumentReading) → IsBrokenReading file x → All Right (found_beside x y)
   broken_right file x y (line, reason, column, place, is) = subst (λ (z : DocumentReading). All Right (found_beside z y)) (sym is) (All-nil Right)
 
-  module _ (file : File) (t : Members) (known : HasDocument documents Project file t) (xs : List StringReading) (g : AllZip (IsStringReading file) (sources t) xs) where
+  module _ (file : File) (t : Members) (known : HasDocument documents Project file t) (xs : List StringReading) (g : AllZip (IsStringReading (groups t) file) (sources t) xs) where
     beside_broken : (other : File) (y : DocumentReading) → IsBrokenReading other y → All Right (found_beside (IsProject xs) y)
     beside_broken other y (line, reason, column, place, is) = subst (λ (z : DocumentReading). All Right (found_beside (IsProject xs) z)) (sym is) (All-nil Right)
 
@@ -215,7 +220,7 @@ module _ (documents : List Document) where
 
   -- ---- all documents
 
-  findings_of : (a : Report) (xs : List DocumentReading) → (with_own_reports a xs).findings ≡ a.findings ++ flat_map (λ x. (own_report x).findings) xs
+  pub findings_of : (a : Report) (xs : List DocumentReading) → (with_own_reports a xs).findings ≡ a.findings ++ flat_map (λ x. (own_report x).findings) xs
   findings_of a [] = sym (append-nil a.findings)
   findings_of a (x ∷ xs) = findings_of (joined_report a (own_report x)) xs ∙ append_assoc a.findings (own_report x).findings (flat_map (λ y. (own_report y).findings) xs)
 

@@ -1,6 +1,10 @@
 pub mod Steps
+pub mod Turns
 pub mod Walks
 pub mod Asking
 pub mod Holding
+pub mod HoldingTogether
+pub mod Sound
 pub mod Agreeing
 pub mod Once
+pub mod Satisfiable

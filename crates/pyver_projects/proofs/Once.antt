@@ -21,31 +21,33 @@ use Rattle.toml.specs.Data.{Members}
 use Rattle.pyver_projects.proofs.Walks.{zip_once}
 use Rattle.pyver_projects.specs.Comparing.{documents_report}
 use Rattle.pyver_projects.specs.Documents.{sources}
+use Rattle.pyver_projects.specs.Groups.{Groups, groups}
 use Rattle.pyver_projects.specs.Locks.{locked}
 use Rattle.pyver_projects.specs.Meanings.{Document, DocumentReading, IsDocumentReading, IsLock, IsLockedReading, IsProject, IsSectionMeaning, IsStringReading, IsTableReading, IsVersionReading, LockedReading, StringReading, string_line}
 use Rattle.pyver_projects.specs.ProjectLaws.{DocumentReportsOnce, IsReadable}
-use Rattle.pyver_projects.specs.ProjectStrings.{Build, Dependencies, Extra, Group, Section, Python, ProjectString, Version}
+use Rattle.pyver_projects.specs.ProjectStrings.{Build, Dependencies, Extra, Group, Include, Section, Python, ProjectString, Version}
 use Rattle.pyver_projects.specs.declared.document_kind.DocumentKind.{DocumentKind}
 use Rattle.pyver_projects.specs.declared.document_kind.DocumentKind.TheVariants.{Lock, Project}
 
-one_meaning : (line : FileLine) (text : List ℕ) (section : Section) (x y : LineMeaning) → IsSectionMeaning section line text x → IsSectionMeaning section line text y → x ≡ y
-one_meaning line text Dependencies x y a b = one_parts line (line_parts line.text) x y a b
-one_meaning line text (Extra name) x y a b = one_parts line (line_parts line.text) x y a b
-one_meaning line text (Group name) x y a b = one_parts line (line_parts line.text) x y a b
-one_meaning line text Build x y a b = one_parts line (line_parts line.text) x y a b
-one_meaning line text Python x y (inl (l, d, a)) (inl (m, e, b)) = a ∙ sym b
-one_meaning line text Python x y (inl (l, d, a)) (inr (f, r, b)) = absurd (not_both_list text l f d r)
-one_meaning line text Python x y (inr (f, r, a)) (inl (l, d, b)) = absurd (not_both_list text l f d r)
-one_meaning line text Python x y (inr (f, r, a)) (inr (g, s, b)) = a ∙ ap (λ (h : PieceRefusal). IsNone (NoRequirement line (specifier_refusal_text h.error) (list_column text h))) (one_list_refusal text f g r s) ∙ sym b
-one_meaning line text Version x y (inl (l, d, a)) (inl (m, e, b)) = a ∙ sym b
-one_meaning line text Version x y (inl (l, d, a)) (inr (f, r, b)) = absurd (not_both text l f d r)
-one_meaning line text Version x y (inr (f, r, a)) (inl (l, d, b)) = absurd (not_both text l f d r)
-one_meaning line text Version x y (inr (f, r, a)) (inr (g, s, b)) = a ∙ ap (λ (h : Refusal). IsNone (NoRequirement line (refusal_text h) 0)) (one_refusal text f g r s) ∙ sym b
+one_meaning : (all : Groups) (line : FileLine) (text : List ℕ) (section : Section) (x y : LineMeaning) → IsSectionMeaning all section line text x → IsSectionMeaning all section line text y → x ≡ y
+one_meaning all line text Dependencies x y a b = one_parts line (line_parts line.text) x y a b
+one_meaning all line text (Extra name) x y a b = one_parts line (line_parts line.text) x y a b
+one_meaning all line text (Group name) x y a b = one_parts line (line_parts line.text) x y a b
+one_meaning all line text (Include group included) x y a b = a ∙ sym b
+one_meaning all line text Build x y a b = one_parts line (line_parts line.text) x y a b
+one_meaning all line text Python x y (inl (l, d, a)) (inl (m, e, b)) = a ∙ sym b
+one_meaning all line text Python x y (inl (l, d, a)) (inr (f, r, b)) = absurd (not_both_list text l f d r)
+one_meaning all line text Python x y (inr (f, r, a)) (inl (l, d, b)) = absurd (not_both_list text l f d r)
+one_meaning all line text Python x y (inr (f, r, a)) (inr (g, s, b)) = a ∙ ap (λ (h : PieceRefusal). IsNone (NoRequirement line (specifier_refusal_text h.error) (list_column text h))) (one_list_refusal text f g r s) ∙ sym b
+one_meaning all line text Version x y (inl (l, d, a)) (inl (m, e, b)) = a ∙ sym b
+one_meaning all line text Version x y (inl (l, d, a)) (inr (f, r, b)) = absurd (not_both text l f d r)
+one_meaning all line text Version x y (inr (f, r, a)) (inl (l, d, b)) = absurd (not_both text l f d r)
+one_meaning all line text Version x y (inr (f, r, a)) (inr (g, s, b)) = a ∙ ap (λ (h : Refusal). IsNone (NoRequirement line (refusal_text h) 0)) (one_refusal text f g r s) ∙ sym b
 
-one_string : (file : File) (s : ProjectString) (x y : StringReading) → IsStringReading file s x → IsStringReading file s y → x ≡ y
-one_string file s x y (p, a) (q, b) =
+pub one_string : (all : Groups) (file : File) (s : ProjectString) (x y : StringReading) → IsStringReading all file s x → IsStringReading all file s y → x ≡ y
+one_string all file s x y (p, a) (q, b) =
     let section = p ∙ sym q in
-    let meaning = one_meaning (string_line file s) s.text s.section x.meaning y.meaning a b in
+    let meaning = one_meaning all (string_line file s) s.text s.section x.meaning y.meaning a b in
     λ j. record { section = section j; meaning = meaning j }
 
 one_version : (line : FileLine) (name : List ℕ) (v : Option (List ℕ)) (x y : LockedReading) → IsVersionReading line name v x → IsVersionReading line name v y → x ≡ y
@@ -59,7 +61,7 @@ one_version line name (Some text) x y (inr (f, r, a)) (inr (g, s, b)) =
 one_table : (kind : DocumentKind) (file : File) (t : Members) (x y : DocumentReading) → IsTableReading kind file t x → IsTableReading kind file t y → x ≡ y
 one_table Project file t x y (xs, g, a) (ys, h, b) =
     a ∙ ap (λ (zs : List StringReading). IsProject zs)
-    (zip_once (IsStringReading file) (Contains (sources t)) (λ s v w known p q. one_string file s v w p q) (sources t) xs ys (All-contains_itself (sources t)) g h) ∙ sym b
+    (zip_once (IsStringReading (groups t) file) (Contains (sources t)) (λ s v w known p q. one_string (groups t) file s v w p q) (sources t) xs ys (All-contains_itself (sources t)) g h) ∙ sym b
 one_table (Lock kind) file t x y (xs, g, a) (ys, h, b) =
     a ∙ ap (λ (zs : List LockedReading). IsLock zs)
     (zip_once (IsLockedReading file.name) (Contains (locked kind file.text t)) (λ p v w known q r. one_version _ p.name p.version v w q r) (locked kind file.text t) xs ys (All-contains_itself (locked kind file.text t)) g h) ∙ sym b

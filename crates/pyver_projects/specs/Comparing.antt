@@ -11,6 +11,7 @@ use Rattle.pyver_findings.specs.declared.cause.Cause.{Cause}
 use Rattle.pyver_findings.specs.declared.finding.Conflict.TheVariants.{PinOutside}
 use Rattle.pyver_projects.specs.Meanings.{Document, DocumentReading, IsBroken, IsDocumentReading, IsLock, IsProject, LockedReading, StringReading}
 use Rattle.pyver_projects.specs.ProjectStrings.{Dependencies, Extra, Group, Section}
+use Rattle.pyver_projects.specs.Together.{project_conflicts}
 
 -- ---- a document by itself
 
@@ -33,7 +34,7 @@ left_out_string x = left_out_in x.meaning
 
 -- the report of a document by itself: the strings or the packages count as lines
 abbrev pub own_report : DocumentReading → Report
-own_report (IsProject xs) = record { findings = flat_map invalid_string xs; lines = length xs; files = 1; left_out = flat_map left_out_string xs }
+own_report (IsProject xs) = record { findings = flat_map invalid_string xs ++ project_conflicts xs; lines = length xs; files = 1; left_out = flat_map left_out_string xs }
 own_report (IsLock ys) = record { findings = flat_map invalid_package ys; lines = length ys; files = 1; left_out = [] }
 own_report (IsBroken f) = record { findings = f ∷ []; lines = 0; files = 1; left_out = [] }
 

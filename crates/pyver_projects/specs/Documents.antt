@@ -1,8 +1,9 @@
 -- What a parsed TOML document has to check: the strings of `pyproject.toml`, and the versions of a lock.
-use Rattle.std.specs.Prelude.{ℕ, ◌+◌, List, [], ◌∷◌, ◌++◌, Option, Some, None, codes, get_or, option_and_then}
+use Rattle.std.specs.Prelude.{ℕ, ◌+◌, List, [], ◌∷◌, ◌++◌, Option, Some, None, codes, get_or, map, option_and_then}
 use Rattle.std.specs.List.{flat_map}
+use Rattle.pep440_pick.specs.Names.{normal}
 use Rattle.toml.specs.Data.{Data, Items, Members, as_array, as_str, as_table, get, get_member, item, member, no_items, no_members}
-use Rattle.pyver_projects.specs.ProjectStrings.{Build, Dependencies, Extra, Group, LockedPackage, Section, Python, ProjectString, Version}
+use Rattle.pyver_projects.specs.ProjectStrings.{Build, Dependencies, Extra, Group, Include, LockedPackage, Section, Python, ProjectString, Version}
 
 -- ---- values
 
@@ -53,12 +54,34 @@ source_from section d = source_in section (as_str d)
 abbrev pub array_sources : Section → Option Data → List ProjectString
 array_sources section value = flat_map (source_from section) (listed value)
 
--- the strings of the array of an extra or of a group
+-- the strings of the array of an extra
 abbrev pub extra_sources : List ℕ × Data → List ProjectString
-extra_sources e = array_sources (Extra e.0) (Some e.1)
+extra_sources e = array_sources (Extra (normal e.0)) (Some e.1)
 
+-- the name of a group that is included, if there is one
+abbrev pub include_in : List ℕ → Option (List ℕ) → List ProjectString
+include_in group None = []
+include_in group (Some text) = record { section = Include group (normal text); text = text } ∷ []
+
+-- an item of a group: a string, or a table with the key `include-group`
+abbrev pub item_sources : List ℕ → Data → List ProjectString
+item_sources group d = source_from (Group group) d ++ include_in group (text_in (get (codes "include-group") d))
+
+-- the strings of the array of a group, and the names of those that it includes
 abbrev pub group_sources : List ℕ × Data → List ProjectString
-group_sources e = array_sources (Group e.0) (Some e.1)
+group_sources e = flat_map (item_sources (normal e.0)) (listed (Some e.1))
+
+-- the table of groups
+abbrev pub groups_table : Members → List (List ℕ × Data)
+groups_table document = entries (get_member (codes "dependency-groups") document)
+
+-- the name of a group in its normal form
+abbrev pub group_name : List ℕ × Data → List ℕ
+group_name e = normal e.0
+
+-- the names of the groups
+abbrev pub group_names : Members → List (List ℕ)
+group_names document = map group_name (groups_table document)
 
 -- the strings in the table `project`
 abbrev pub table_sources : Option Data → List ProjectString
@@ -67,10 +90,10 @@ table_sources project = array_sources Dependencies (inside (codes "dependencies"
     ++ (source_in Python (text_in (inside (codes "requires-python") project))
     ++ source_in Version (text_in (inside (codes "version") project))))
 
--- the strings of `pyproject.toml`. A group that includes another has no strings of that one: these are checked where they stand
+-- the strings of `pyproject.toml`. Those of an included group stand in that group alone
 abbrev pub sources : Members → List ProjectString
 sources document = table_sources (get_member (codes "project") document)
-    ++ (flat_map group_sources (entries (get_member (codes "dependency-groups") document))
+    ++ (flat_map group_sources (groups_table document)
     ++ array_sources Build (inside (codes "requires") (get_member (codes "build-system") document)))
 
 -- ---- locks

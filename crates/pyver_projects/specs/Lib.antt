@@ -1,9 +1,12 @@
 pub mod ProjectStrings
 pub mod Documents
 pub mod Places
+pub mod Groups
 pub mod Locks
 pub mod Meanings
+pub mod Soundness
 pub mod ProjectViews
+pub mod Together
 pub mod Comparing
 pub mod ProjectLaws
 pub mod DocumentKinds

@@ -14,9 +14,10 @@ use Rattle.pyver_requirements.specs.LineParts.{line_parts}
 use Rattle.toml.specs.Data.{Members}
 use Rattle.toml.specs.Parse.{parse_document}
 use Rattle.pyver_projects.specs.Documents.{sources}
+use Rattle.pyver_projects.specs.Groups.{Groups, groups, include_meaning}
 use Rattle.pyver_projects.specs.Locks.{locked}
 use Rattle.pyver_projects.specs.Places.{first_line, number_or_one}
-use Rattle.pyver_projects.specs.ProjectStrings.{Build, Dependencies, Extra, Group, LockedPackage, Section, Python, ProjectString, Version}
+use Rattle.pyver_projects.specs.ProjectStrings.{Build, Dependencies, Extra, Group, Include, LockedPackage, Section, Python, ProjectString, Version}
 use Rattle.pyver_projects.specs.declared.document_kind.DocumentKind.{DocumentKind}
 use Rattle.pyver_projects.specs.declared.document_kind.DocumentKind.TheVariants.{Lock, Project}
 
@@ -30,22 +31,23 @@ string_line file s = record { file = file.name; number = number_or_one (first_li
 abbrev pub IsVersionMeaning : FileLine → List ℕ → LineMeaning → Type 0
 IsVersionMeaning line text x = ((r : Record) × Derives text r × (x ≡ AsksNothing)) ⊎ ((f : Refusal) × Refuses text f × (x ≡ IsNone (NoRequirement line (refusal_text f) 0)))
 
--- what the string of this line, which is this text, is in this section
-abbrev pub IsSectionMeaning : Section → FileLine → List ℕ → LineMeaning → Type 0
-IsSectionMeaning Python line text x = IsListMeaning line text x
-IsSectionMeaning Version line text x = IsVersionMeaning line text x
-IsSectionMeaning Dependencies line text x = IsPartsMeaning line (line_parts line.text) x
-IsSectionMeaning (Extra name) line text x = IsPartsMeaning line (line_parts line.text) x
-IsSectionMeaning (Group name) line text x = IsPartsMeaning line (line_parts line.text) x
-IsSectionMeaning Build line text x = IsPartsMeaning line (line_parts line.text) x
+-- what the string of this line, which is this text, is in this section of a project with these groups
+abbrev pub IsSectionMeaning : Groups → Section → FileLine → List ℕ → LineMeaning → Type 0
+IsSectionMeaning all Python line text x = IsListMeaning line text x
+IsSectionMeaning all Version line text x = IsVersionMeaning line text x
+IsSectionMeaning all Dependencies line text x = IsPartsMeaning line (line_parts line.text) x
+IsSectionMeaning all (Extra name) line text x = IsPartsMeaning line (line_parts line.text) x
+IsSectionMeaning all (Group name) line text x = IsPartsMeaning line (line_parts line.text) x
+IsSectionMeaning all (Include group included) line text x = x ≡ include_meaning all line group included
+IsSectionMeaning all Build line text x = IsPartsMeaning line (line_parts line.text) x
 
 -- a string that was read: its section, and what it is
 pub record StringReading : Type 0 where
   pub section : Section
   pub meaning : LineMeaning
 
-abbrev pub IsStringReading : File → ProjectString → StringReading → Type 0
-IsStringReading file s x = (x.section ≡ s.section) × IsSectionMeaning s.section (string_line file s) s.text x.meaning
+abbrev pub IsStringReading : Groups → File → ProjectString → StringReading → Type 0
+IsStringReading all file s x = (x.section ≡ s.section) × IsSectionMeaning all s.section (string_line file s) s.text x.meaning
 
 -- ---- locked packages
 
@@ -88,7 +90,7 @@ pub data DocumentReading : Type 0 where
 
 -- what a document with this table is
 abbrev pub IsTableReading : DocumentKind → File → Members → DocumentReading → Type 0
-IsTableReading Project file t d = (xs : List StringReading) × AllZip (IsStringReading file) (sources t) xs × (d ≡ IsProject xs)
+IsTableReading Project file t d = (xs : List StringReading) × AllZip (IsStringReading (groups t) file) (sources t) xs × (d ≡ IsProject xs)
 IsTableReading (Lock kind) file t d = (ys : List LockedReading) × AllZip (IsLockedReading file.name) (locked kind file.text t) ys × (d ≡ IsLock ys)
 
 -- the document is not read, for some reason at some position of it

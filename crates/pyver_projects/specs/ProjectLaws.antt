@@ -1,7 +1,7 @@
 -- What holds of reports of documents: each finding is right; where there is none, each requirement contains each locked version of its
 -- name; there is one report.
-use Rattle.std.specs.Prelude.{◌≡◌, ◌⊎◌, ℕ, ◌+◌, List, [], ◌∷◌, false, true, IsTrue, None, Some, codes, length}
-use Rattle.std.specs.List.{All, Contains}
+use Rattle.std.specs.Prelude.{◌≡◌, ◌⊎◌, ℕ, ◌+◌, List, [], ◌∷◌, Bool, false, true, IsTrue, if◌then◌else◌, Option, None, Some, codes, length}
+use Rattle.std.specs.List.{All, AllZip, Contains, filter, flat_map}
 use Rattle.std.specs.Str.{IsUtf8}
 use Rattle.pep440_pick.specs.Names.{same_name}
 use Rattle.pep440_pick.specs.RequirementGrammar.{DerivesRequirement, Needed}
@@ -10,7 +10,10 @@ use Rattle.pep440_version.specs.ErrorTexts.{refusal_text}
 use Rattle.pep440_version.specs.Grammar.{Derives}
 use Rattle.pep440_version.specs.Record.{Record}
 use Rattle.pep440_version.specs.Refusals.{Refusal, Refuses}
+use Rattle.pyver_findings.specs.Conflicts.{has_same_name, under}
+use Rattle.pyver_findings.specs.Demands.{Demand}
 use Rattle.pyver_findings.specs.FileLines.{File, FileLine}
+use Rattle.pyver_findings.specs.FindingLaws.{HaveNone, IsRight}
 use Rattle.pyver_findings.specs.Findings.{Conflicting, Finding, NoRequirement}
 use Rattle.pyver_findings.specs.LineMeanings.{IsNone, IsPlain}
 use Rattle.pyver_findings.specs.Reports.{Report}
@@ -20,9 +23,11 @@ use Rattle.toml.specs.Data.{Members}
 use Rattle.toml.specs.Parse.{parse_document}
 use Rattle.pyver_projects.specs.Comparing.{IsDocumentsReport, is_locked, is_needed}
 use Rattle.pyver_projects.specs.Documents.{sources}
+use Rattle.pyver_projects.specs.Groups.{groups}
 use Rattle.pyver_projects.specs.Locks.{locked}
-use Rattle.pyver_projects.specs.Meanings.{Document, IsSectionMeaning, package_line, string_line}
-use Rattle.pyver_projects.specs.ProjectStrings.{LockedPackage, ProjectString}
+use Rattle.pyver_projects.specs.Meanings.{Document, IsSectionMeaning, IsStringReading, StringReading, package_line, string_line}
+use Rattle.pyver_projects.specs.ProjectStrings.{LockedPackage, ProjectString, Section}
+use Rattle.pyver_projects.specs.Together.{has_group, holds_in, part_demands, section_part}
 use Rattle.pyver_projects.specs.declared.document_kind.DocumentKind.{DocumentKind}
 use Rattle.pyver_projects.specs.declared.document_kind.DocumentKind.TheVariants.{Lock, Project}
 use Rattle.pyver_projects.specs.declared.document_kind.LockKind.{LockKind}
@@ -57,8 +62,26 @@ AlwaysAsks s n = IsPlain (line_parts s.text).requirement × DerivesRequirement (
 pub record IsInvalidString (documents : List Document) (f : Finding) : Type 0 where
   pub file : File
   pub string : ProjectString
-  pub has : HasString documents file string
-  pub is : IsSectionMeaning string.section (string_line file string) string.text (IsNone f)
+  pub table : Members
+  pub has : HasDocument documents Project file table
+  pub within : Contains (sources table) string
+  pub is : IsSectionMeaning (groups table) string.section (string_line file string) string.text (IsNone f)
+
+-- the line of a string that holds in the part, which has these groups
+abbrev pub line_in_part : (List ℕ → Bool) → Section → File → ProjectString → List FileLine
+line_in_part has part file s = if holds_in has part s.section then string_line file s ∷ [] else []
+
+-- the lines of the strings that hold in the part
+abbrev pub part_lines : File → Members → Section → List FileLine
+part_lines file t part = flat_map (line_in_part (has_group (groups t).inclusions part) part file) (sources t)
+
+-- lines that hold together in a part of a project have no version in common, as a finding of requirements files has none
+pub record IsConflict (documents : List Document) (f : Finding) : Type 0 where
+  pub file : File
+  pub table : Members
+  pub part : Section
+  pub has : HasDocument documents Project file table
+  pub right : IsRight (part_lines file table part) f
 
 -- the version of the package is none
 pub record IsInvalidPackage (documents : List Document) (f : Finding) : Type 0 where
@@ -117,7 +140,7 @@ pub record IsExcluded (documents : List Document) (f : Finding) : Type 0 where
 
 -- the finding is right
 abbrev pub IsDocumentFinding : List Document → Finding → Type 0
-IsDocumentFinding documents f = IsInvalidString documents f ⊎ (IsInvalidPackage documents f ⊎ (IsUnread documents f ⊎ (IsMissing documents f ⊎ IsExcluded documents f)))
+IsDocumentFinding documents f = IsInvalidString documents f ⊎ (IsInvalidPackage documents f ⊎ (IsUnread documents f ⊎ (IsMissing documents f ⊎ (IsExcluded documents f ⊎ IsConflict documents f))))
 
 -- each finding is right
 abbrev pub DocumentFindingsHold : Type 0
@@ -133,6 +156,16 @@ AllContained documents = (file lock : File) (s : ProjectString) (p : LockedPacka
 -- where nothing is found, they do
 abbrev pub NoFindingMeansContained : Type 0
 NoFindingMeansContained = (documents : List Document) (r : Report) → IsDocumentsReport documents r → r.findings ≡ [] → AllContained documents
+
+-- the requirements of the part of each string of each project that have one name, and the same marker or none, have a version in common
+abbrev pub AllSatisfiable : List Document → Type 0
+AllSatisfiable documents = (file : File) (t : Members) (s : ProjectString) (xs : List StringReading) (a : Demand) (m : Option (List ℕ)) → HasDocument documents Project file t → Contains (sources t) s
+    → AllZip (IsStringReading (groups t) file) (sources t) xs → Contains (part_demands (groups t).inclusions (section_part s.section) xs) a
+    → ¬ HaveNone (under m (filter (has_same_name a) (part_demands (groups t).inclusions (section_part s.section) xs)))
+
+-- where nothing is found, they do
+abbrev pub NoFindingMeansSatisfiable : Type 0
+NoFindingMeansSatisfiable = (documents : List Document) (r : Report) → IsDocumentsReport documents r → r.findings ≡ [] → AllSatisfiable documents
 
 -- ---- one report
 

@@ -1,11 +1,13 @@
 -- What documents have: strings that are to be requirements, lists of specifiers or versions, and locked packages.
 use Rattle.std.specs.Prelude.{ℕ, List, Option}
 
--- where a string stands in `pyproject.toml`
+-- where a string stands in `pyproject.toml`: extras and groups by the normal forms of their names, and for the name of a group that another
+-- includes both
 pub data Section : Type 0 where
   Dependencies : Section
   Extra : List ℕ → Section
   Group : List ℕ → Section
+  Include : (group included : List ℕ) → Section
   Build : Section
   Python : Section
   Version : Section

@@ -1,11 +1,14 @@
 -- What the crate's own types hold, apart from where they lie in memory.
 use Rattle.std.specs.Prelude.{map, option_map, string_bytes}
 use Rattle.pyver_findings.specs.Views.{file_line_of, file_of, finding_of, line_meaning_of}
+use Rattle.pyver_projects.specs.Groups.{Groups, Inclusion}
 use Rattle.pyver_projects.specs.Meanings.{Document, DocumentReading, IsBroken, IsLock, IsProject, LockedReading, StringReading}
-use Rattle.pyver_projects.specs.ProjectStrings.{Build, Dependencies, Extra, Group, LockedPackage, Section, Python, ProjectString, Version}
+use Rattle.pyver_projects.specs.ProjectStrings.{Build, Dependencies, Extra, Group, Include, LockedPackage, Section, Python, ProjectString, Version}
 use Rattle.pyver_projects.specs.declared.document.Document.{Document as DocumentValue}
 use Rattle.pyver_projects.specs.declared.document_reading.DocumentReading.{DocumentReading as DocumentReadingValue}
 use Rattle.pyver_projects.specs.declared.document_reading.DocumentReading.TheVariants as reading
+use Rattle.pyver_projects.specs.declared.groups.Groups.{Groups as GroupsValue}
+use Rattle.pyver_projects.specs.declared.groups.Inclusion.{Inclusion as InclusionValue}
 use Rattle.pyver_projects.specs.declared.locked_package.LockedPackage.{LockedPackage as LockedValue}
 use Rattle.pyver_projects.specs.declared.locked_reading.LockedReading.{LockedReading as LockedReadingValue}
 use Rattle.pyver_projects.specs.declared.project_string.ProjectString.{ProjectString as SourceValue}
@@ -15,14 +18,21 @@ use Rattle.pyver_projects.specs.declared.string_reading.StringReading.{StringRea
 
 abbrev pub section_of : SectionValue → Section
 section_of section.Dependencies = Dependencies
-section_of (section.Extra name) = Extra (string_bytes name)
-section_of (section.Group name) = Group (string_bytes name)
+section_of (section.Extra name) = Extra name.items
+section_of (section.Group name) = Group name.items
+section_of (section.Include group included) = Include group.items included.items
 section_of section.Build = Build
 section_of section.Python = Python
 section_of section.Version = Version
 
 abbrev pub project_string_of : SourceValue → ProjectString
 project_string_of s = record { section = section_of s.section; text = string_bytes s.text }
+
+abbrev pub inclusion_of : InclusionValue → Inclusion
+inclusion_of i = record { group = i.group.items; included = i.included.items }
+
+abbrev pub groups_of : GroupsValue → Groups
+groups_of all = record { names = map (λ n. n.items) all.names.items; inclusions = map inclusion_of all.inclusions.items }
 
 abbrev pub locked_of : LockedValue → LockedPackage
 locked_of l = record { line = l.line; name = string_bytes l.name; version = option_map string_bytes l.version }

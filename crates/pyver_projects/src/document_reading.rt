@@ -7,6 +7,7 @@ ghost use Rattle.toml.specs.View.{table_view};
 
 use crate::document::Document;
 use crate::document_kind::{DocumentKind, LockKind};
+use crate::groups::read_groups;
 use crate::locked_reading::{LockedReading, read_packages};
 use crate::place::reject_document;
 use crate::project::project_strings;
@@ -36,7 +37,8 @@ fn read_project(
     ensures { IfOk result (λ x. IsTableReading of_kind.Project (record { name = name.now; text = text.now }) (table_view table.now) (document_reading_of x)) }
 {
     let strings = project_strings(alloc, table)?;
-    let readings = read_strings(alloc, name, text, strings.as_slice())?;
+    let groups = read_groups(alloc, table, strings.as_slice())?;
+    let readings = read_strings(alloc, &groups, name, text, strings.as_slice())?;
     Ok(DocumentReading::Project(readings))
 }
 

@@ -1,10 +1,12 @@
 //! The report of documents.
 ghost use Rattle.std.specs.Prelude.{◌≡◌, ◌++◌, IfOk, map};
-ghost use Rattle.std.specs.List.{AllZip, flat_map};
+ghost use Rattle.std.specs.List.{All, AllZip, flat_map};
 ghost use Rattle.pyver_findings.specs.Reports.{empty_report, left_out_in};
 ghost use Rattle.pyver_findings.specs.Views.{finding_of, line_meaning_of, report_of};
 ghost use Rattle.pyver_projects.specs.Comparing.{IsDocumentsReport, beside_all, found_or_none, invalid_package, invalid_string, left_out_string, own_report, with_own_reports};
 ghost use Rattle.pyver_projects.specs.Meanings.{IsDocumentReading, IsLock, IsProject};
+ghost use Rattle.pyver_projects.specs.Soundness.{IsSoundDocument, IsSoundString};
+ghost use Rattle.pyver_projects.specs.Together.{project_conflicts};
 ghost use Rattle.pyver_projects.specs.ProjectViews.{document_of, document_reading_of, locked_reading_of, string_reading_of};
 
 use crate::document::Document;
@@ -12,6 +14,7 @@ use crate::document_reading::{DocumentReading, read_document};
 use crate::lock_comparison::push_beside_all;
 use crate::locked_reading::LockedReading;
 use crate::string_reading::StringReading;
+use crate::together::project_conflicts;
 use pyver_findings::{Cause, Finding, LineMeaning, Report};
 use std::alloc::{AllocError, Global};
 
@@ -35,14 +38,17 @@ fn push_string(report: &mut Report, string: StringReading) -> Result<(), AllocEr
 }
 
 fn report_strings(alloc: Global, strings: Vec<StringReading>) -> Result<Report, AllocError>
+    requires { All IsSoundString (map string_reading_of strings.items) }
     ensures { IfOk result (λ r. report_of r ≡ own_report (IsProject (map string_reading_of strings.items))) }
 {
     let mut report = Report::empty(alloc);
     report.lines = strings.len();
     report.files = 1;
+    let mut conflicts = project_conflicts(alloc, strings.as_slice())?;
     for string in strings {
         push_string(&mut report, string)?;
     }
+    report.findings.append(&mut conflicts)?;
     Ok(report)
 }
 
@@ -75,6 +81,7 @@ fn report_packages(alloc: Global, packages: Vec<LockedReading>) -> Result<Report
 
 // The report of a document by itself.
 fn report_document(alloc: Global, document: DocumentReading) -> Result<Report, AllocError>
+    requires { IsSoundDocument (document_reading_of document) }
     ensures { IfOk result (λ r. report_of r ≡ own_report (document_reading_of document)) }
 {
     match document {
@@ -90,6 +97,7 @@ fn report_document(alloc: Global, document: DocumentReading) -> Result<Report, A
 }
 
 fn report_all(alloc: Global, documents: Vec<DocumentReading>) -> Result<Report, AllocError>
+    requires { All IsSoundDocument (map document_reading_of documents.items) }
     ensures { IfOk result (λ r. report_of r ≡ with_own_reports empty_report (map document_reading_of documents.items)) }
 {
     let mut report = Report::empty(alloc);
@@ -120,19 +128,23 @@ fn read_documents(alloc: Global, documents: &[Document]) -> Result<Vec<DocumentR
     Ok(readings)
 }
 
+#[tactic(auto, using(crate::proofs::Sound::sound_documents))]
 /// What is wrong in the documents. First what is wrong in each by itself, in order: strings of a project that are no requirement, no list
-/// of specifiers or no version, versions of a lock that are none, and a document that is not TOML in UTF-8. Then what is wrong in each
+/// of specifiers or no version, names of included groups (PEP 735) that no group has, or that include the group in turn, versions of a lock
+/// that are none, and a document that is not TOML in UTF-8; and, after the strings of a project, its requirements that hold together and
+/// have no version in common, as `pyver_findings` reports them, each once: `project.dependencies`; these with each extra, and
+/// with each group and all that it includes; and what the build requires. Then what is wrong in each
 /// project beside each lock: for each requirement, in order, whether the lock lacks a package of its name, and the lines of the locked
 /// versions of its name that it does not contain, each with the line of the requirement.
 ///
 /// Of `pyproject.toml` these are read: `project.dependencies`, `project.optional-dependencies`, `project.requires-python`,
-/// `project.version`, `dependency-groups`, where an included group has its strings where it stands, and `build-system.requires`; of a lock
+/// `project.version`, `dependency-groups` with the names of included groups, and `build-system.requires`; of a lock
 /// the names and versions of its packages. Values of other types are passed over. Extras and groups come in the order of their names. A
 /// string has the number of the first line on which it stands in quotes, a package the number of its header; either has 1 without one.
 /// Each string and each package counts as a line.
 ///
 /// A requirement with a marker or a URL, or of the build, is not compared, and only `project.dependencies` are to be in each lock.
-/// Takes time for each requirement and locked.
+/// Takes time for each requirement and locked version, and for each extra or group and requirement.
 ///
 /// Allocates.
 pub fn find_document_problems(alloc: Global, documents: &[Document]) -> Result<Report, AllocError>

@@ -1,9 +1,10 @@
 //! What holds of reports of documents, as the contract of a function that does nothing.
-ghost use Rattle.pyver_projects.specs.ProjectLaws.{DocumentReportsOnce, DocumentFindingsHold, NoFindingMeansContained};
+ghost use Rattle.pyver_projects.specs.ProjectLaws.{DocumentReportsOnce, DocumentFindingsHold, NoFindingMeansContained, NoFindingMeansSatisfiable};
 
 /// What is reported by itself is a string of a project that is not what it is to be there, a package whose version is none, a document that
-/// is not TOML in UTF-8, or a requirement whose name no package of some lock has. Two lines that are reported together belong to a
-/// requirement and of a package of its name whose version it does not contain.
+/// is not TOML in UTF-8, or a requirement whose name no package of some lock has. Lines that are reported together belong to a requirement and
+/// to a package of its name whose version it does not contain, or to requirements of a project that hold together, have no version in
+/// common, and have one without any one of them.
 pub fn findings_hold()
     ensures { DocumentFindingsHold }
 {}
@@ -12,6 +13,12 @@ pub fn findings_hold()
 /// name in a lock.
 pub fn no_finding_means_contained()
     ensures { NoFindingMeansContained }
+{}
+
+/// Where nothing is reported, the requirements of a project that hold together, of one name and with the same marker or none, have a version
+/// in common: its dependencies; these with an extra, or with a group and all that it includes; and what its build requires.
+pub fn no_finding_means_satisfiable()
+    ensures { NoFindingMeansSatisfiable }
 {}
 
 /// Documents that are TOML in UTF-8 have at most one report.

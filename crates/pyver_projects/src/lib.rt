@@ -7,6 +7,7 @@ mod document;
 mod document_kind;
 mod document_reading;
 mod document_report;
+mod groups;
 pub mod laws;
 mod lock_comparison;
 mod locked_package;
@@ -17,6 +18,7 @@ mod project_string;
 mod section;
 mod string_reading;
 mod table;
+mod together;
 mod toml_lock;
 mod version_reason;
 

@@ -1,13 +1,15 @@
 // What is read of `pyproject.toml`.
 ghost use Rattle.std.specs.Prelude.{◌≡◌, ◌++◌, IfOk, map, option_map, string_bytes};
 ghost use Rattle.std.specs.List.{flat_map};
-ghost use Rattle.pyver_projects.specs.Documents.{array_sources, entries, extra_sources, group_sources, members_list, source_from, source_in, sources, table_sources};
+ghost use Rattle.pyver_projects.specs.Documents.{array_sources, entries, extra_sources, group_sources, groups_table, include_in, item_sources, members_list, source_from, source_in, sources, table_sources};
+ghost use Rattle.pyver_projects.specs.ProjectStrings.{Group, Include};
 ghost use Rattle.pyver_projects.specs.ProjectViews.{section_of, project_string_of};
 ghost use Rattle.toml.specs.View.{table_view, view};
 
 use crate::project_string::ProjectString;
 use crate::section::Section;
 use crate::table::{inside, items, table, text, top};
+use pyver_findings::normalize_name;
 use std::alloc::{AllocError, Global};
 use toml::{Table, Value};
 
@@ -63,8 +65,51 @@ fn push_extra(
 ) -> Result<(), AllocError>
     ensures { IfOk result (λ _. map project_string_of sources.new.items ≡ map project_string_of sources.old.items ++ extra_sources (string_bytes name.now, view value.now)) }
 {
-    let section = Section::Extra(name.clone()?);
+    let section = Section::Extra(normalize_name(alloc, name.as_str())?);
     push_array(alloc, sources, &section, Some(value))
+}
+
+fn group_section(group: &Vec<u8>) -> Result<Section, AllocError>
+    ensures { IfOk result (λ section. section_of section ≡ Group group.now.items) }
+{
+    Ok(Section::Group(group.clone()?))
+}
+
+fn include_section(group: &Vec<u8>, included: Vec<u8>) -> Result<Section, AllocError>
+    ensures { IfOk result (λ section. section_of section ≡ Include group.now.items included.items) }
+{
+    Ok(Section::Include(group.clone()?, included))
+}
+
+// Adds the name of the group that is included, if there is one.
+fn push_include(
+    alloc: Global,
+    sources: &mut Vec<ProjectString>,
+    group: &Vec<u8>,
+    text: Option<&str>,
+) -> Result<(), AllocError>
+    ensures { IfOk result (λ _. map project_string_of sources.new.items ≡ map project_string_of sources.old.items ++ include_in group.now.items (option_map (λ t. t.now) text.entry)) }
+{
+    if let Some(text) = text {
+        let included = normalize_name(alloc, text)?;
+        let section = include_section(group, included)?;
+        let text = String::from_str(alloc, text)?;
+        sources.push(ProjectString { section, text })?;
+    }
+    Ok(())
+}
+
+fn push_group_item(
+    alloc: Global,
+    sources: &mut Vec<ProjectString>,
+    group: &Vec<u8>,
+    item: &Value,
+) -> Result<(), AllocError>
+    ensures { IfOk result (λ _. map project_string_of sources.new.items ≡ map project_string_of sources.old.items ++ item_sources group.now.items (view item.now)) }
+{
+    let section = group_section(group)?;
+    push_item(alloc, sources, &section, item)?;
+    push_include(alloc, sources, group, text(item.get("include-group")))
 }
 
 fn push_group(
@@ -75,8 +120,12 @@ fn push_group(
 ) -> Result<(), AllocError>
     ensures { IfOk result (λ _. map project_string_of sources.new.items ≡ map project_string_of sources.old.items ++ group_sources (string_bytes name.now, view value.now)) }
 {
-    let section = Section::Group(name.clone()?);
-    push_array(alloc, sources, &section, Some(value))
+    let group = normalize_name(alloc, name.as_str())?;
+    let found = items(Some(value));
+    for item in found {
+        push_group_item(alloc, sources, &group, item)?;
+    }
+    Ok(())
 }
 
 fn push_extras(

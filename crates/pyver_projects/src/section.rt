@@ -4,15 +4,17 @@ ghost use Rattle.pyver_projects.specs.ProjectViews.{section_of};
 
 use std::alloc::AllocError;
 
-// Where a string stands in `pyproject.toml`.
+// Where a string stands in `pyproject.toml`. Names are in their normal form.
 #[derive(Drop)]
 pub(crate) enum Section {
     // In `project.dependencies`.
     Dependencies,
     // In `project.optional-dependencies`, in the array of this extra.
-    Extra(String),
+    Extra(Vec<u8>),
     // In `dependency-groups`, in the array of this group.
-    Group(String),
+    Group(Vec<u8>),
+    // There, as the name of a group that is included: this group includes that one.
+    Include(Vec<u8>, Vec<u8>),
     // In `build-system.requires`.
     Build,
     // `project.requires-python`.
@@ -29,6 +31,9 @@ impl Clone for Section {
             Section::Dependencies => Ok(Section::Dependencies),
             Section::Extra(name) => Ok(Section::Extra(name.clone()?)),
             Section::Group(name) => Ok(Section::Group(name.clone()?)),
+            Section::Include(group, included) => {
+                Ok(Section::Include(group.clone()?, included.clone()?))
+            }
             Section::Build => Ok(Section::Build),
             Section::Python => Ok(Section::Python),
             Section::Version => Ok(Section::Version),

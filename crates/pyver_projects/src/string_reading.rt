@@ -7,9 +7,11 @@ ghost use Rattle.pep440_version.specs.Refusals.{Refusal};
 ghost use Rattle.pyver_findings.specs.Findings.{NoRequirement};
 ghost use Rattle.pyver_findings.specs.LineMeanings.{IsNone};
 ghost use Rattle.pyver_findings.specs.Views.{file_line_of, line_meaning_of};
+ghost use Rattle.pyver_projects.specs.Groups.{include_meaning, no_group};
 ghost use Rattle.pyver_projects.specs.Meanings.{IsSectionMeaning, IsStringReading, IsVersionMeaning};
-ghost use Rattle.pyver_projects.specs.ProjectViews.{project_string_of, section_of, string_reading_of};
+ghost use Rattle.pyver_projects.specs.ProjectViews.{groups_of, project_string_of, section_of, string_reading_of};
 
+use crate::groups::{Groups, has_name, included_groups};
 use crate::place::string_line;
 use crate::project_string::ProjectString;
 use crate::section::Section;
@@ -53,14 +55,42 @@ fn parse_version(alloc: Global, line: &FileLine, text: &str) -> Result<LineMeani
     }
 }
 
-// What the string of this line, which is this text, is in this section.
+fn no_group(alloc: Global, line: &FileLine, reason: &str) -> Result<LineMeaning, AllocError>
+    ensures { IfOk result (λ x. line_meaning_of x ≡ no_group (file_line_of line.now) reason.now) }
+{
+    let reason = String::from_str(alloc, reason)?;
+    reject(line, reason)
+}
+
+// What the name of a group is that another includes.
+fn include_meaning(
+    alloc: Global,
+    groups: &Groups,
+    line: &FileLine,
+    group: &[u8],
+    included: &[u8],
+) -> Result<LineMeaning, AllocError>
+    ensures { IfOk result (λ x. line_meaning_of x ≡ include_meaning (groups_of groups.now) (file_line_of line.now) group.now included.now) }
+{
+    if !has_name(groups.names.as_slice(), included) {
+        return no_group(alloc, line, "there is no group of this name");
+    }
+    let others = included_groups(alloc, groups.inclusions.as_slice(), included)?;
+    if has_name(others.as_slice(), group) {
+        return no_group(alloc, line, "the group includes itself");
+    }
+    Ok(LineMeaning::AsksNothing)
+}
+
+// What the string of this line, which is this text, is in this section of a project with these groups.
 fn parse_string(
     alloc: Global,
+    groups: &Groups,
     section: &Section,
     line: &FileLine,
     text: &str,
 ) -> Result<LineMeaning, AllocError>
-    ensures { IfOk result (λ x. IsSectionMeaning (section_of section.now) (file_line_of line.now) text.now (line_meaning_of x)) }
+    ensures { IfOk result (λ x. IsSectionMeaning (groups_of groups.now) (section_of section.now) (file_line_of line.now) text.now (line_meaning_of x)) }
 {
     match section {
         Section::Python => parse_specifiers(alloc, line, text),
@@ -69,20 +99,24 @@ fn parse_string(
         Section::Extra(_) => parse_requirement(alloc, line),
         Section::Group(_) => parse_requirement(alloc, line),
         Section::Build => parse_requirement(alloc, line),
+        Section::Include(group, included) => {
+            include_meaning(alloc, groups, line, group.as_slice(), included.as_slice())
+        }
     }
 }
 
 // What a string of the file with this name and text is.
 fn read_string(
     alloc: Global,
+    groups: &Groups,
     name: &[u8],
     text: &str,
     string: &ProjectString,
 ) -> Result<StringReading, AllocError>
-    ensures { IfOk result (λ x. IsStringReading (record { name = name.now; text = text.now }) (project_string_of string.now) (string_reading_of x)) }
+    ensures { IfOk result (λ x. IsStringReading (groups_of groups.now) (record { name = name.now; text = text.now }) (project_string_of string.now) (string_reading_of x)) }
 {
     let line = string_line(alloc, name, text, string)?;
-    let meaning = parse_string(alloc, &string.section, &line, string.text.as_str())?;
+    let meaning = parse_string(alloc, groups, &string.section, &line, string.text.as_str())?;
     Ok(StringReading {
         section: string.section.clone()?,
         meaning,
@@ -92,15 +126,16 @@ fn read_string(
 // What the strings are.
 pub(crate) fn read_strings(
     alloc: Global,
+    groups: &Groups,
     name: &[u8],
     text: &str,
     strings: &[ProjectString],
 ) -> Result<Vec<StringReading>, AllocError>
-    ensures { IfOk result (λ xs. AllZip (IsStringReading (record { name = name.now; text = text.now })) (map project_string_of strings.now) (map string_reading_of xs.items)) }
+    ensures { IfOk result (λ xs. AllZip (IsStringReading (groups_of groups.now) (record { name = name.now; text = text.now })) (map project_string_of strings.now) (map string_reading_of xs.items)) }
 {
     let mut readings = Vec::new(alloc);
     for string in strings {
-        readings.push(read_string(alloc, name, text, string)?)?;
+        readings.push(read_string(alloc, groups, name, text, string)?)?;
     }
     Ok(readings)
 }

@@ -1,0 +1,9 @@
+use Rattle.std.proofs.Common.{rules}
+use Rattle.pyver_projects.proofs.Sound.{sound_head, sound_rest}
+use Rattle.pyver_projects.proofs.document_report.report_all.Goals as goal
+
+pub report_document-requires : goal.report_document-requires
+report_document-requires c = sound_head c.in-Some.document _ _ c.in-Some.ensures.steps.0 c.loop-document.invariant.1
+
+pub loop-document-preserved : goal.loop-document-preserved
+loop-document-preserved c = (search rules, sound_rest c.in-Some.document _ _ c.in-Some.ensures.steps.0 c.loop-document.invariant.1)

@@ -1,0 +1,132 @@
+-- Requirements of a project that hold together: its dependencies; those of an extra, or of a group with the groups that it includes, with
+-- the dependencies; and those of its build.
+use Rattle.std.specs.Prelude.{ℕ, ◌&&◌, List, [], ◌∷◌, ◌++◌, Bool, true, false, Option, Some, None, bytes_eq, map, nat_eq, if◌then◌else◌}
+use Rattle.std.specs.List.{flat_map, list_any}
+use Rattle.pyver_findings.specs.Conflicts.{conflicts}
+use Rattle.pyver_findings.specs.Demands.{Demand}
+use Rattle.pyver_findings.specs.FileLines.{FileLine}
+use Rattle.pyver_findings.specs.Findings.{Conflicting, Finding, NoRequirement}
+use Rattle.pyver_findings.specs.Reports.{demands_in}
+use Rattle.pyver_findings.specs.declared.finding.Conflict.{Conflict}
+use Rattle.pyver_findings.specs.declared.finding.Conflict.TheVariants.{NoVersion, PinOutside, TwoPins}
+use Rattle.pyver_projects.specs.Groups.{Inclusion, includes, inclusions}
+use Rattle.pyver_projects.specs.Meanings.{StringReading}
+use Rattle.pyver_projects.specs.ProjectStrings.{Build, Dependencies, Extra, Group, Include, Python, Section, Version}
+
+-- ---- parts of a project
+
+-- the part to which a string of the section belongs: the name of an included group belongs to the group that includes it
+abbrev pub section_part : Section → Section
+section_part (Include group included) = Group group
+section_part Dependencies = Dependencies
+section_part (Extra name) = Extra name
+section_part (Group name) = Group name
+section_part Build = Build
+section_part Python = Python
+section_part Version = Version
+
+-- the two parts are the same
+abbrev pub same_part : Section → Section → Bool
+same_part (Extra a) (Extra b) = bytes_eq a b
+same_part (Group a) (Group b) = bytes_eq a b
+same_part Dependencies Dependencies = true
+same_part Build Build = true
+same_part _ _ = false
+
+-- the part holds together with the dependencies
+abbrev pub has_dependencies : Section → Bool
+has_dependencies Dependencies = true
+has_dependencies (Extra name) = true
+has_dependencies (Group name) = true
+has_dependencies _ = false
+
+-- the part is this extra
+abbrev pub is_extra : List ℕ → Section → Bool
+is_extra name (Extra other) = bytes_eq name other
+is_extra name _ = false
+
+-- the part is a group that is this one or includes it
+abbrev pub has_group : List Inclusion → Section → List ℕ → Bool
+has_group is (Group group) name = includes is group name
+has_group is Dependencies name = false
+has_group is (Extra other) name = false
+has_group is (Include group included) name = false
+has_group is Build name = false
+has_group is Python name = false
+has_group is Version name = false
+
+abbrev pub is_build : Section → Bool
+is_build Build = true
+is_build _ = false
+
+-- a string of the section holds in the part, which has these groups
+abbrev pub holds_in : (List ℕ → Bool) → Section → Section → Bool
+holds_in has part Dependencies = has_dependencies part
+holds_in has part (Extra name) = is_extra name part
+holds_in has part (Group name) = has name
+holds_in has part Build = is_build part
+holds_in has part (Include group included) = false
+holds_in has part Python = false
+holds_in has part Version = false
+
+-- the requirement of a string that holds in the part
+abbrev pub demand_in_part : (List ℕ → Bool) → Section → StringReading → List Demand
+demand_in_part has part x = if holds_in has part x.section then demands_in x.meaning else []
+
+-- the requirements of a part
+abbrev pub part_demands : List Inclusion → Section → List StringReading → List Demand
+part_demands is part xs = flat_map (demand_in_part (has_group is part) part) xs
+
+-- the part is another than the last one
+abbrev pub is_other : Option Section → Section → Bool
+is_other None part = true
+is_other (Some last) part = if same_part last part then false else true
+
+-- ---- findings, each once
+
+abbrev pub same_line : FileLine → FileLine → Bool
+same_line a b = nat_eq a.number b.number && (bytes_eq a.file b.file && bytes_eq a.text b.text)
+
+abbrev pub same_lines : List FileLine → List FileLine → Bool
+same_lines [] [] = true
+same_lines [] (b ∷ bs) = false
+same_lines (a ∷ xs) [] = false
+same_lines (a ∷ xs) (b ∷ bs) = same_line a b && same_lines xs bs
+
+-- both findings name the same lines
+abbrev pub same_finding : Finding → Finding → Bool
+same_finding (Conflicting kind xs) (Conflicting other ys) = same_lines xs ys
+same_finding (Conflicting kind xs) (NoRequirement line reason column) = false
+same_finding (NoRequirement line reason column) g = false
+
+-- findings, and after them those whose lines are not there yet
+abbrev pub with_new : List Finding → List Finding → List Finding
+with_new found [] = found
+with_new found (f ∷ fs) = with_new (if list_any (same_finding f) found then found else found ++ f ∷ []) fs
+
+-- ---- a project
+
+-- the sections of strings
+abbrev pub sections : List StringReading → List Section
+sections xs = map (λ (x : StringReading). x.section) xs
+
+-- the requirements of a part that have no version in common
+abbrev pub part_conflicts : List StringReading → Section → List Finding
+part_conflicts xs part = conflicts (part_demands (inclusions (sections xs)) part xs)
+
+-- of a part, unless it is the last one again
+abbrev pub turn_conflicts : List StringReading → Option Section → Section → List Finding
+turn_conflicts xs last part = if is_other last part then part_conflicts xs part else []
+
+-- of the parts of these strings in turn
+abbrev pub conflicts_after : List StringReading → Option Section → List StringReading → List Finding
+conflicts_after all last [] = []
+conflicts_after all last (x ∷ xs) = turn_conflicts all last (section_part x.section) ++ conflicts_after all (Some (section_part x.section)) xs
+
+-- of each part in turn the requirements that have no version in common
+abbrev pub all_conflicts : List StringReading → List Finding
+all_conflicts xs = conflicts_after xs None xs
+
+-- each of these once
+abbrev pub project_conflicts : List StringReading → List Finding
+project_conflicts xs = with_new [] (all_conflicts xs)

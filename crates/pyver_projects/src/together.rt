@@ -1,0 +1,302 @@
+// Requirements of a project that hold together.
+ghost use Rattle.std.specs.Prelude.{◌≡◌, ◌++◌, [], IfOk, List, bytes_eq, map, option_map, ℕ};
+ghost use Rattle.std.specs.List.{All, flat_map, list_any};
+ghost use Rattle.pyver_findings.specs.Demands.{IsSound};
+ghost use Rattle.pyver_findings.specs.Reports.{demands_in};
+ghost use Rattle.pyver_findings.specs.Views.{demand_of, file_line_of, finding_of, line_meaning_of};
+ghost use Rattle.pyver_projects.specs.Groups.{inclusions as inclusions_in};
+ghost use Rattle.pyver_projects.specs.ProjectViews.{inclusion_of, section_of, string_reading_of};
+ghost use Rattle.pyver_projects.specs.Soundness.{IsSoundString};
+ghost use Rattle.pyver_projects.specs.Together.{all_conflicts, demand_in_part, has_dependencies, has_group, holds_in, is_build, is_extra, is_other, part_conflicts, part_demands, section_part, project_conflicts, same_finding, same_line, same_lines, same_part, sections, turn_conflicts, with_new};
+ghost use Rattle.pyver_findings.specs.Conflicts.{conflicts};
+
+use crate::groups::{Inclusion, has_name, included_groups, inclusions};
+use crate::section::Section;
+use crate::string_reading::StringReading;
+use pyver_findings::{Demand, FileLine, Finding, LineMeaning, push_conflicts};
+use std::alloc::{AllocError, Global};
+
+// ---- parts of a project
+
+fn section_part(section: &Section) -> Result<Section, AllocError>
+    ensures { IfOk result (λ part. section_of part ≡ section_part (section_of section.now)) }
+{
+    match section {
+        Section::Include(group, _) => Ok(Section::Group(group.clone()?)),
+        other => other.clone(),
+    }
+}
+
+fn same_part(one: &Section, other: &Section) -> bool
+    ensures { result ≡ same_part (section_of one.now) (section_of other.now) }
+{
+    match (one, other) {
+        (Section::Extra(one), Section::Extra(other)) => one.as_slice() == other.as_slice(),
+        (Section::Group(one), Section::Group(other)) => one.as_slice() == other.as_slice(),
+        (Section::Dependencies, Section::Dependencies) => true,
+        (Section::Build, Section::Build) => true,
+        _ => false,
+    }
+}
+
+fn is_other(last: &Option<Section>, part: &Section) -> bool
+    ensures { result ≡ is_other (option_map section_of last.now) (section_of part.now) }
+{
+    match last {
+        Some(last) => !same_part(last, part),
+        None => true,
+    }
+}
+
+fn has_dependencies(part: &Section) -> bool
+    ensures { result ≡ has_dependencies (section_of part.now) }
+{
+    matches!(
+        part,
+        Section::Dependencies | Section::Extra(_) | Section::Group(_)
+    )
+}
+
+fn is_extra(name: &[u8], part: &Section) -> bool
+    ensures { result ≡ is_extra name.now (section_of part.now) }
+{
+    match part {
+        Section::Extra(other) => name == other.as_slice(),
+        _ => false,
+    }
+}
+
+fn is_build(part: &Section) -> bool
+    ensures { result ≡ is_build (section_of part.now) }
+{
+    matches!(part, Section::Build)
+}
+
+// The names of the groups in the part.
+fn part_groups(
+    alloc: Global,
+    inclusions: &[Inclusion],
+    part: &Section,
+) -> Result<Vec<Vec<u8>>, AllocError>
+    ensures { IfOk result (λ names. (q : List ℕ) → list_any (bytes_eq q) (map (λ n. n.items) names.items) ≡ has_group (map inclusion_of inclusions.now) (section_of part.now) q) }
+{
+    match part {
+        Section::Group(group) => included_groups(alloc, inclusions, group.as_slice()),
+        _ => Ok(Vec::new(alloc)),
+    }
+}
+
+// A string of the section holds in the part, which has these groups.
+fn holds_in(groups: &[Vec<u8>], part: &Section, section: &Section) -> bool
+    ensures { result ≡ holds_in (λ q. list_any (bytes_eq q) (map (λ n. n.items) groups.now)) (section_of part.now) (section_of section.now) }
+{
+    match section {
+        Section::Dependencies => has_dependencies(part),
+        Section::Extra(name) => is_extra(name.as_slice(), part),
+        Section::Group(name) => has_name(groups, name.as_slice()),
+        Section::Build => is_build(part),
+        Section::Include(_, _) | Section::Python | Section::Version => false,
+    }
+}
+
+// ---- requirements of a part
+
+fn copy_marker(marker: &Option<Vec<u8>>) -> Result<Option<Vec<u8>>, AllocError>
+    ensures { IfOk result (λ copy. option_map (λ m. m.items) copy ≡ option_map (λ m. m.items) marker.now) }
+{
+    match marker {
+        Some(marker) => Ok(Some(marker.clone()?)),
+        None => Ok(None),
+    }
+}
+
+fn copy_demand(demand: &Demand) -> Result<Demand, AllocError>
+    ensures { IfOk result (λ copy. demand_of copy ≡ demand_of demand.now) }
+{
+    Ok(Demand {
+        line: demand.line.clone()?,
+        name: demand.name.clone()?,
+        marker: copy_marker(&demand.marker)?,
+        pinned: demand.pinned,
+        specifiers: demand.specifiers.clone()?,
+    })
+}
+
+fn push_demand(demands: &mut Vec<Demand>, meaning: &LineMeaning) -> Result<(), AllocError>
+    ensures { IfOk result (λ _. map demand_of demands.new.items ≡ map demand_of demands.old.items ++ demands_in (line_meaning_of meaning.now)) }
+{
+    match meaning {
+        LineMeaning::Asks(demand) => demands.push(copy_demand(demand)?)?,
+        LineMeaning::IsNone(_) | LineMeaning::LeftOut(_) | LineMeaning::AsksNothing => {}
+    }
+    Ok(())
+}
+
+fn push_in_part(
+    demands: &mut Vec<Demand>,
+    groups: &[Vec<u8>],
+    part: &Section,
+    string: &StringReading,
+) -> Result<(), AllocError>
+    ensures { IfOk result (λ _. map demand_of demands.new.items ≡ map demand_of demands.old.items ++ demand_in_part (λ q. list_any (bytes_eq q) (map (λ n. n.items) groups.now)) (section_of part.now) (string_reading_of string.now)) }
+{
+    if holds_in(groups, part, &string.section) {
+        push_demand(demands, &string.meaning)?;
+    }
+    Ok(())
+}
+
+// The requirements of the part, which has these groups.
+fn demands_of_part(
+    alloc: Global,
+    groups: &[Vec<u8>],
+    part: &Section,
+    strings: &[StringReading],
+) -> Result<Vec<Demand>, AllocError>
+    ensures { IfOk result (λ demands. map demand_of demands.items ≡ flat_map (demand_in_part (λ q. list_any (bytes_eq q) (map (λ n. n.items) groups.now)) (section_of part.now)) (map string_reading_of strings.now)) }
+{
+    let mut demands = Vec::new(alloc);
+    for string in strings {
+        push_in_part(&mut demands, groups, part, string)?;
+    }
+    Ok(demands)
+}
+
+// The requirements of the part.
+fn part_demands(
+    alloc: Global,
+    inclusions: &[Inclusion],
+    part: &Section,
+    strings: &[StringReading],
+) -> Result<Vec<Demand>, AllocError>
+    ensures { IfOk result (λ demands. map demand_of demands.items ≡ part_demands (map inclusion_of inclusions.now) (section_of part.now) (map string_reading_of strings.now)) }
+{
+    let groups = part_groups(alloc, inclusions, part)?;
+    demands_of_part(alloc, groups.as_slice(), part, strings)
+}
+
+// Adds what is wrong with the requirements of the part together.
+fn push_part_conflicts(
+    alloc: Global,
+    findings: &mut Vec<Finding>,
+    inclusions: &[Inclusion],
+    part: &Section,
+    strings: &[StringReading],
+) -> Result<(), AllocError>
+    requires { All IsSoundString (map string_reading_of strings.now) }
+    ensures { IfOk result (λ _. map finding_of findings.new.items ≡ map finding_of findings.old.items ++ conflicts (part_demands (map inclusion_of inclusions.now) (section_of part.now) (map string_reading_of strings.now))) }
+{
+    let demands = part_demands(alloc, inclusions, part, strings)?;
+    push_conflicts(alloc, findings, demands.as_slice())
+}
+
+// Adds what is wrong with the requirements of the part, unless it is the last one again.
+fn push_turn(
+    alloc: Global,
+    findings: &mut Vec<Finding>,
+    inclusions: &[Inclusion],
+    last: &Option<Section>,
+    part: &Section,
+    strings: &[StringReading],
+) -> Result<(), AllocError>
+    requires known { map inclusion_of inclusions.now ≡ inclusions_in (sections (map string_reading_of strings.now)) }
+    requires sound { All IsSoundString (map string_reading_of strings.now) }
+    ensures { IfOk result (λ _. map finding_of findings.new.items ≡ map finding_of findings.old.items ++ turn_conflicts (map string_reading_of strings.now) (option_map section_of last.now) (section_of part.now)) }
+{
+    if is_other(last, part) {
+        push_part_conflicts(alloc, findings, inclusions, part, strings)?;
+    }
+    Ok(())
+}
+
+// What is wrong with the requirements of each part together.
+fn all_conflicts(alloc: Global, strings: &[StringReading]) -> Result<Vec<Finding>, AllocError>
+    requires { All IsSoundString (map string_reading_of strings.now) }
+    ensures { IfOk result (λ found. map finding_of found.items ≡ all_conflicts (map string_reading_of strings.now)) }
+{
+    let inclusions = inclusions(alloc, strings)?;
+    let mut findings = Vec::new(alloc);
+    let mut last = None;
+    for string in strings {
+        let part = section_part(&string.section)?;
+        push_turn(
+            alloc,
+            &mut findings,
+            inclusions.as_slice(),
+            &last,
+            &part,
+            strings,
+        )?;
+        last = Some(part);
+    }
+    Ok(findings)
+}
+
+// ---- findings, each once
+
+fn same_line(one: &FileLine, other: &FileLine) -> bool
+    ensures { result ≡ same_line (file_line_of one.now) (file_line_of other.now) }
+{
+    one.number == other.number
+        && one.file.as_slice() == other.file.as_slice()
+        && one.text.as_slice() == other.text.as_slice()
+}
+
+fn same_lines(lines: &[FileLine], others: &[FileLine]) -> bool
+    ensures { result ≡ same_lines (map file_line_of lines.now) (map file_line_of others.now) }
+{
+    match lines {
+        [] => others.is_empty(),
+        [line, more @ ..] => match others {
+            [] => false,
+            [other, more_others @ ..] => same_line(line, other) && same_lines(more, more_others),
+        },
+    }
+}
+
+fn same_finding(one: &Finding, other: &Finding) -> bool
+    ensures { result ≡ same_finding (finding_of one.now) (finding_of other.now) }
+{
+    match (one, other) {
+        (Finding::Conflicting(_, lines), Finding::Conflicting(_, others)) => {
+            same_lines(lines.as_slice(), others.as_slice())
+        }
+        _ => false,
+    }
+}
+
+fn has_finding(findings: &[Finding], finding: &Finding) -> bool
+    ensures { result ≡ list_any (same_finding (finding_of finding.now)) (map finding_of findings.now) }
+{
+    for other in findings {
+        if same_finding(finding, other) {
+            return true;
+        }
+    }
+    false
+}
+
+// The findings, each once.
+fn each_once(alloc: Global, findings: Vec<Finding>) -> Result<Vec<Finding>, AllocError>
+    ensures { IfOk result (λ found. map finding_of found.items ≡ with_new [] (map finding_of findings.items)) }
+{
+    let mut found = Vec::new(alloc);
+    for finding in findings {
+        if !has_finding(found.as_slice(), &finding) {
+            found.push(finding)?;
+        }
+    }
+    Ok(found)
+}
+
+// What is wrong with requirements of a project together.
+pub(crate) fn project_conflicts(
+    alloc: Global,
+    strings: &[StringReading],
+) -> Result<Vec<Finding>, AllocError>
+    requires { All IsSoundString (map string_reading_of strings.now) }
+    ensures { IfOk result (λ found. map finding_of found.items ≡ project_conflicts (map string_reading_of strings.now)) }
+{
+    let findings = all_conflicts(alloc, strings)?;
+    each_once(alloc, findings)
+}
