@@ -240,8 +240,8 @@ class Threads(unittest.TestCase):
         for call in (sort_texts, sort_keys, lambda it: filter_texts(">=1.5", it)):
             for wait in (0.01, 0.04):
                 start = time.process_time()
-                signal.setitimer(signal.ITIMER_PROF, wait)
                 with self.assertRaises(Interrupted):
+                    signal.setitimer(signal.ITIMER_PROF, wait)
                     call(texts)
                 self.assertLess(time.process_time() - start - wait, 0.2)
 
