@@ -9,7 +9,8 @@ use Rattle.std.specs.Io.KnownBytes.{Appends, Consumes, IsAtEnd}
 use Rattle.std.specs.List.{AllZip, concat, filter, flat_map}
 use Rattle.pyver_tool.proofs.InputLines.{all_append, cuts_all, cuts_more, filled_lines_from-append, filled_one, no_newline_none, some_line}
 use Rattle.pyver_tool.specs.FilterSteps.{Cuts, Goes, Keeps, KeepsMore, SourceFinishes, SourceStops, Steps, StepsBy, Wrote, WroteSome}
-use Rattle.pyver_tool.specs.Filters.{is_printed, printed_lines}
+use Rattle.pep440_rs.specs.Prereleases.{list_allows}
+use Rattle.pyver_tool.specs.Filters.{is_printed, is_wanted, printed_lines}
 use Rattle.pyver_tool.specs.InputLines.{SourceLine, Origin, Source, filled_lines_from, input_lines, is_blank, numbered}
 use Rattle.pyver_tool.specs.InvalidLines.{message_limit}
 use Rattle.pyver_tool.specs.LineOptions.{is_header}
@@ -67,10 +68,6 @@ keeps_other rule x a none is front k = subst (λ l. KeepsNewest rule.takes rule.
 pub keeps_version : (rule : FilterRule) (line : SourceLine) (r : Record) (a b : NewestLines)
     → ((lines : List VersionLine) → KeepsNewest rule.takes rule.list lines a → KeepsNewest rule.takes rule.list (lines ++ record { text = line.text; version = r } ∷ []) b) → KeepsMore rule (record { line = line; reading = Entry (Denotes r) } ∷ []) a b
 keeps_version rule line r a b more is front k = subst (λ l. KeepsNewest rule.takes rule.list l b) (sym (version_lines-append front (record { line = line; reading = Entry (Denotes r) } ∷ []))) (more (version_lines front) k)
-
--- where no newest line is wanted
-pub keeps_unwanted : (rule : FilterRule) (found : List ReadLine) (a b : NewestLines) → (rule.wanted ≡ wanted.Newest → ⊥) → KeepsMore rule found a b
-keeps_unwanted rule found a b other is front k = absurd (other is)
 
 -- ---- steps
 
@@ -137,6 +134,22 @@ steps_line rule origin line a mid b text x is filled reads read count fault newe
       newest = subst (λ n. KeepsMore rule (e ∷ []) n b.newest) newest k.newest;
       output = k.output ∙ ap (λ t. t ++ printed_lines rule (e ∷ [])) output;
       errors = k.errors ∙ ap (λ t. t ++ concat (take (message_limit rule.lines.invalid - mid.fault_count) (faults (e ∷ [])))) errors ∙ ap (λ m. a.errors.items ++ concat (take (message_limit rule.lines.invalid - m) (faults (e ∷ [])))) fault;
+    }
+
+-- a version that is kept and not printed
+pub steps_kept : (rule : FilterRule) (line : SourceLine) (r : Record) (a b : FilterState) → rule.wanted ≡ wanted.Newest → b.read_count ≡ a.read_count → b.line_count ≡ a.line_count → b.fault_count ≡ a.fault_count → b.output.items ≡ a.output.items → b.errors.items ≡ a.errors.items
+    → ((lines : List VersionLine) → KeepsNewest rule.takes rule.list lines a.newest → KeepsNewest rule.takes rule.list (lines ++ record { text = line.text; version = r } ∷ []) b.newest) → StepsBy rule (record { line = line; reading = Entry (Denotes r) }) a b
+steps_kept rule line r a b is reads count fault output errors more =
+    let x : ReadLine = record { line = line; reading = Entry (Denotes r) } in
+    let unprinted : printed_lines rule (x ∷ []) ≡ [] = ap (λ w. flat_map (λ (y : ReadLine). y.line.text ++ 10 ∷ []) (cond (is_wanted w (list_allows rule.takes rule.list r)) (x ∷ []) [])) is in
+    record {
+      read_count = reads;
+      line_count = count;
+      fault_count = omega (arith, fault);
+      few_faults = omega (arith, fault);
+      newest = keeps_version rule line r a.newest b.newest more;
+      output = output ∙ sym (append-nil a.output.items) ∙ ap (λ t. a.output.items ++ t) (sym unprinted);
+      errors = errors ∙ sym (append-nil a.errors.items) ∙ ap (λ l. a.errors.items ++ concat l) (sym (take-nil (message_limit rule.lines.invalid - a.fault_count)));
     }
 
 -- ---- what was written

@@ -211,9 +211,9 @@ impl FilterState {
         ensures { IfOk result (λ _. StepsBy rule.now (record { line = origin_line origin.entry self.old.line_count text.now; reading = Entry (Denotes version.now) }) self.old self.new) }
     {
         if let Wanted::Newest = rule.wanted {
-            return self
-                .newest
-                .push(alloc, rule.takes, &rule.list, text, version);
+            self.newest
+                .push(alloc, rule.takes, &rule.list, text, version)?;
+            return Ok(());
         }
         if rule.shows(alloc, version)? {
             self.output.extend_from_slice(text)?;

@@ -1,12 +1,14 @@
 // The command `newest`: the line of the newest version that specifiers allow.
-ghost use Rattle.std.specs.Prelude.{◌≡◌, IfErr, IfOk, map, string_bytes};
+ghost use Rattle.std.specs.Prelude.{◌≡◌, IfErr, IfOk, List, Option, ℕ, map, string_bytes};
 ghost use Rattle.std.specs.Option.{option_map};
 ghost use Rattle.pyver_tool.specs.AnswerViews.{outcome_of};
 ghost use Rattle.pyver_tool.specs.NewestOutcomes.{FindsNewest, newest_outcome};
 ghost use Rattle.pyver_tool.specs.NewestViews.{kept_line};
 ghost use Rattle.pyver_tool.specs.Sources.{source_names};
+ghost use Rattle.pyver_tool.specs.SourceViews.{IsRunFailureOf};
 ghost use Rattle.pyver_tool.specs.VersionLines.{OfVersions};
 ghost use Rattle.pyver_tool.specs.WholeInputs.{Answers, StopsUnanswered};
+ghost use Rattle.pyver_tool.specs.declared.stream.RunFailure.TheVariants.{OutOfMemory};
 
 use crate::answer::Answer;
 use crate::files::Files;
@@ -61,7 +63,10 @@ fn print_newest(
 }
 
 // Messages are kept in memory, so a write fails only where an allocation did.
-fn without_writes(failure: RunFailure) -> RunFailure {
+fn without_writes(failure: RunFailure) -> RunFailure
+    ensures memory { failure ≡ OutOfMemory → result ≡ OutOfMemory }
+    ensures of { (last : Option (List ℕ)) → IsRunFailureOf last failure → IsRunFailureOf last result }
+{
     match failure {
         RunFailure::OutOfMemory => RunFailure::OutOfMemory,
         RunFailure::Read => RunFailure::Read,
@@ -93,7 +98,7 @@ pub(crate) fn find_newest<F: Files, R: Read>(
     let mut state = FilterState::new(alloc);
     let mut output = Vec::new(alloc);
     let mut errors = Vec::new(alloc);
-    let read = filter_all_sources(
+    let unopened = match filter_all_sources(
         alloc,
         &filter,
         names,
@@ -102,15 +107,18 @@ pub(crate) fn find_newest<F: Files, R: Read>(
         input,
         &mut output,
         &mut errors,
-    );
-    if let Some(file) = read.map_err(without_writes)? {
+    ) {
+        Ok(unopened) => unopened,
+        Err(failure) => return Err(without_writes(failure)),
+    };
+    if let Some(file) = unopened {
         return Ok(report_open_failure(alloc, file.name.as_bytes(), file.failure)?);
     }
     invalid.push_last(alloc, &mut errors, state.fault_count)?;
     let status = invalid.status(state.fault_count);
     if status > 0 {
         return Ok(Answer {
-            output,
+            output: Vec::new(alloc),
             errors,
             status,
         });
