@@ -1,5 +1,5 @@
 -- Sources that are read and filtered one after another.
-use Rattle.std.proofs.Common.{◌≡◌, ◌∙◌, ◌+◌, ◌-◌, ◌<◌, ◌==◌, ℕ, List, [], ◌∷◌, ◌++◌, true, false, Bool, Option, None, Some, inl, inr, length, map, get_or, take, drop, refl, sym, ap, subst, arith, append_assoc, append-nil, take-append-drop, ne_eqb}
+use Rattle.std.proofs.Common.{◌≡◌, ◌∙◌, ◌+◌, ◌-◌, ◌<◌, ◌==◌, ℕ, List, [], ◌∷◌, ◌++◌, true, false, Bool, Option, None, Some, option_map, inl, inr, length, map, get_or, take, drop, refl, sym, ap, subst, arith, append_assoc, append-nil, take-append-drop, ne_eqb}
 use Rattle.std.proofs.KnownBytes.{Appends-nil, Appends-trans}
 use Rattle.std.proofs.Math.Seq.{take-nil}
 use Rattle.std.proofs.lemmas.List.{drop_more, map-append, take_more}

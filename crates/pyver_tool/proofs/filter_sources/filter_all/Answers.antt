@@ -6,7 +6,7 @@ use Rattle.pyver_tool.specs.Sources.{is_none}
 use Rattle.pyver_tool.proofs.filter_sources.filter_all.Goals as goal
 
 pub loop-name-init : goal.loop-name-init
-loop-name-init g c = (goes_on_none _ _ _ _ c.args.rule.now c.args.state.now c.args.input.now c.args.out.now c.args.err.now c.requires.new.1 c.requires.new.2 c.requires.new.3, refl, omega (arith, c.requires.new.1), refl)
+loop-name-init g c = (goes_on_none _ _ _ _ c.args.rule.now c.args.state.now c.args.input.now c.args.out.now c.args.err.now c.requires.new.1 c.requires.new.2 c.requires.new.3 c.requires.new.4, refl, omega (arith, c.requires.new.1), refl)
 
 pub returns-in_err-open_and_filter-clause-stopped : goal.returns-in_err-open_and_filter-clause-stopped
 returns-in_err-open_and_filter-clause-stopped g c =
