@@ -330,3 +330,23 @@ module _ {S W E : Type 0} (remaining : S → Option (List ℕ)) (contents : W �
         whole = λ _. end;
         wrote = some_more contents error_contents rule origin g.ended (line ∷ []) earlier b next out out' out'' err err' err'' g.wrote g.line_count s output errors;
       }
+
+-- a state before the lines of its next source are counted
+abbrev pub restarted : FilterState → FilterState
+restarted s = record { read_count = s.read_count; line_count = 0; fault_count = s.fault_count; newest = s.newest; output = s.output; errors = s.errors }
+
+module _ {S W E : Type 0} (remaining : S → Option (List ℕ)) (contents : W → Option (List ℕ)) (error_contents : E → Option (List ℕ)) (rule : FilterRule) (origin : Origin) (earlier : FilterState) (reader reader' : S) (out out' : W) (err err' : E) where
+  pub stops_restarted : SourceStops remaining contents error_contents rule origin (restarted earlier) reader reader' out out' err err' → SourceStops remaining contents error_contents rule origin earlier reader reader' out out' err err'
+  stops_restarted k =
+      let w = k.wrote in
+      record { read = k.read; consumed = k.consumed; front = k.front; rest = k.rest; split = k.split; whole = k.whole; wrote = record { found = w.found; are = w.are; output = w.output; errors = w.errors } }
+
+  pub finishes_restarted : (b : FilterState) → SourceFinishes remaining contents error_contents rule origin (restarted earlier) b reader reader' out out' err err' → SourceFinishes remaining contents error_contents rule origin earlier b reader reader' out out' err err'
+  finishes_restarted b k =
+      let w = k.wrote in
+      record {
+        read = k.read;
+        consumed = k.consumed;
+        end = k.end;
+        wrote = record { found = w.found; are = w.are; fault_count = w.fault_count; newest = w.newest; output = w.output; errors = w.errors; no_output = w.no_output; no_errors = w.no_errors };
+      }
