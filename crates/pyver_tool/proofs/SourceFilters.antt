@@ -12,12 +12,14 @@ use Rattle.pyver_tool.specs.Filters.{filter_outcome, printed_lines}
 use Rattle.pyver_tool.specs.InputLines.{Origin, Source, input_lines}
 use Rattle.pyver_tool.specs.InvalidLines.{last_message, lines_status, message_limit}
 use Rattle.pyver_tool.specs.NewestViews.{HasNoLine, kept_line}
+use Rattle.pyver_tool.specs.NewestOutcomes.{NewestLine}
 use Rattle.pyver_tool.specs.ReadLines.{IsRead, faults}
 use Rattle.pyver_tool.specs.Runs.{WroteBeginning}
 use Rattle.pyver_tool.specs.SourceViews.{IsRunFailureOf}
 use Rattle.pyver_tool.specs.Sources.{KnownFile, MayOpen, ReadsAll, ReadsSource, ReadsText, UnopenedSource, input_name, input_origin, is_input, is_none, last_name, source_names, unopened_message, unopened_status}
 use Rattle.pyver_tool.specs.declared.filter.FilterRule.{FilterRule}
 use Rattle.pyver_tool.specs.declared.filter.FilterState.{FilterState}
+use Rattle.pyver_tool.specs.declared.newest_lines.KeptLine.{KeptLine}
 use Rattle.pyver_tool.specs.declared.open_failure.OpenFailure.{OpenFailure}
 use Rattle.pyver_tool.specs.declared.stream.RunFailure.{RunFailure}
 use Rattle.pyver_tool.specs.declared.stream.RunFailure.TheVariants as run_failure
@@ -138,6 +140,9 @@ module _ {R : Type 0} (files : List ℕ → KnownFile) (remaining : R → Option
       (reader', source, [], subst (λ x. ReadsSource files remaining (record { is_first = true; name = next }) x reader' source) e q, (refl, refl), ap (λ l. l ++ source ∷ []) n)
   reads_last (name ∷ names) reader middle reader' sources next source k q = reads_more true name names reader middle reader' sources next source k q
 
+no_newest : (kept : Option KeptLine) → kept ≡ None → NewestLine [] (option_map kept_line kept)
+no_newest kept is = subst (λ (k : Option KeptLine). NewestLine [] (option_map kept_line k)) (sym is) refl
+
 module _ {R W E : Type 0} (files : List ℕ → KnownFile) (remaining : R → Option (List ℕ)) (contents : W → Option (List ℕ)) (error_contents : E → Option (List ℕ)) where
   -- the sources with these names were read, and all that they ask for was written
   pub record GoesOn (rule : FilterRule) (read : List (List ℕ)) (b : FilterState) (reader reader' : R) (out out' : W) (err err' : E) : Type 0 where
@@ -153,7 +158,7 @@ module _ {R W E : Type 0} (files : List ℕ → KnownFile) (remaining : R → Op
       found = [];
       are = tt;
       fault_count = fault;
-      newest = λ _. (ap (option_map kept_line) newest.0, ap (option_map kept_line) newest.1);
+      newest = λ _. (no_newest b.newest.allowed newest.0, no_newest b.newest.any newest.1);
       output = Appends-nil (contents out);
       errors = subst (Appends (error_contents err) (error_contents err)) (ap concat (sym (take-nil (message_limit rule.lines.invalid)))) (Appends-nil (error_contents err));
       no_output = output;
