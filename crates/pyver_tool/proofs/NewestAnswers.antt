@@ -68,9 +68,11 @@ module _ {R W E : Type 0} (files : List ℕ → KnownFile) (remaining : R → Op
         k.wrote.are,
         inl (
           ap (lines_status rule.lines.invalid) (sym k.wrote.fault_count) ∙ zero,
-          newest,
-          subst (λ t. NewestLine (or_else rule.prereleases (allowed_lines t rule.list (version_lines k.wrote.found)) (allowed_lines true rule.list (version_lines k.wrote.found))) newest) asked (is (version_lines k.wrote.found) (k.wrote.newest refl)),
-          ap (λ m. newest_outcome m newest) told_messages,
+          (
+            newest,
+            subst (λ t. NewestLine (or_else rule.prereleases (allowed_lines t rule.list (version_lines k.wrote.found)) (allowed_lines true rule.list (version_lines k.wrote.found))) newest) asked (is (version_lines k.wrote.found) (k.wrote.newest refl)),
+            ap (λ m. newest_outcome m newest) told_messages,
+          ),
         ),
       );
     }

@@ -1,5 +1,7 @@
+use Rattle.std.proofs.Common.{rules, Some, ap, option_map, refl}
 use Rattle.std.proofs.lemmas.Result.{err_from_is_err_and}
 use Rattle.pyver_tool.proofs.NewestAnswers.{newest_answers, stops_after, stops_within}
+use Rattle.pyver_tool.specs.NewestViews.{kept_line}
 use Rattle.pyver_tool.proofs.newest.find_newest.Goals as goal
 
 pub returns-in-Err-clause-stopped : goal.returns-in-Err-clause-stopped
@@ -22,4 +24,6 @@ returns-in_err-print_newest-clause-stopped g c =
     rw (p.1, p.2) (stops_after _ _ _ _ c.args.rule c.takes_prereleases.result _ c.filter_all_sources.new.state c.args.input.now c.filter_all_sources.new.input _ _ _ _ _ c.in-Ok.ensures.finished)
 
 pub returns-clause-finished : goal.returns-clause-finished
-returns-clause-finished g c = ?
+returns-clause-finished g c =
+    rw c.in_ok-print_newest.ensures (newest_answers _ _ _ _ c.args.rule c.takes_prereleases.result _ c.filter_all_sources.new.state c.args.input.now c.filter_all_sources.new.input _ _ _ _ _ c.in-Ok.ensures.finished (search rules) c.filter_all_sources.new.err.items c.push_last.new.errors.items
+    (ap Some c.new-errors.ensures.items) refl c.in_ok-push_last.ensures (option_map kept_line c.choose.result) (search rules) c.takes_prereleases.ensures (c.choose.ensures c.takes_prereleases.result c.args.rule.list))
