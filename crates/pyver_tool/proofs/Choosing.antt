@@ -1,6 +1,6 @@
 -- The newest of the lines so far, and one line more.
-use Rattle.std.proofs.Common.{Bor, ◌≡◌, ◌<◌, ◌+◌, ◌∙◌, ℕ, List, [], ◌∷◌, ◌++◌, Bool, true, false, cond, length, get_or, map, take, Option, Some, None, refl, sym, ap, subst, arith, append_assoc, append-nil}
-use Rattle.std.proofs.lemmas.List.{length-append, map-append, take_more}
+use Rattle.std.proofs.Common.{◌≡◌, ◌∙◌, List, [], ◌∷◌, ◌++◌, Bool, true, false, cond, length, Option, Some, None, refl, sym, ap, subst, arith, append_assoc, append-nil}
+use Rattle.std.proofs.lemmas.List.{length-append}
 use Rattle.std.proofs.lemmas.List.Elements.{All-append, All-cons, All-head, All-nil, All-push, All-tail, All-weaker, filter-append}
 use Rattle.std.specs.Cmp.{IsTotalOrder}
 use Rattle.std.specs.List.{All}
@@ -15,11 +15,11 @@ use Rattle.pep440_version.specs.Key.{record_cmp}
 use Rattle.pep440_version.specs.KeyLaws.{record_total}
 use Rattle.pep440_version.specs.Record.{Record}
 use Rattle.pyver_tool.specs.NewestOutcomes.{IsNewestLine, NewestLine, allowed_lines, or_else}
+use Rattle.pyver_tool.specs.NewestViews.{kept_line}
 use Rattle.pyver_tool.specs.VersionLines.{VersionLine}
-use Rattle.pyver_tool.specs.VersionLineViews.{version_line_of}
+use Rattle.pyver_tool.specs.declared.newest_lines.KeptLine.{KeptLine}
 use Rattle.pyver_tool.specs.declared.prerelease_rule.Prereleases.{Prereleases}
 use Rattle.pyver_tool.specs.declared.prerelease_rule.Prereleases.TheVariants as prereleases
-use Rattle.pyver_tool.specs.declared.version_line.VersionLine.{VersionLine as LineInMemory}
 
 -- ---- the order
 
@@ -90,61 +90,49 @@ stays lines best x n upto = record {
   greatest = All-push (IsUpTo best) n.after x n.greatest upto;
 }
 
--- ---- lines in memory
-
-abbrev pub newest_value : Option (Bor LineInMemory) → Option VersionLine
-newest_value newest = option_map (λ (x : Bor LineInMemory). version_line_of x.now) newest
+-- ---- allowed lines
 
 -- it is newer than the newest so far, if there is one
-abbrev pub is_newer : Option (Bor LineInMemory) → Record → Bool
-is_newer newest r = option_map_or (λ (x : Bor LineInMemory). is_lt (record_cmp x.now.version r)) newest true
+abbrev pub is_newer : Option VersionLine → Record → Bool
+is_newer newest r = option_map_or (λ (x : VersionLine). is_lt (record_cmp x.version r)) newest true
 
-module _ (takes : Bool) (list : List Spec) where
-  -- the allowed ones of the first so many lines
-  abbrev pub allowed_front : List LineInMemory → ℕ → List VersionLine
-  allowed_front lines i = allowed_lines takes list (map version_line_of (take i lines))
+pub is_newer_kept : (newest : Option KeptLine) (r : Record) → is_newer (option_map kept_line newest) r ≡ option_map_or (λ (x : KeptLine). is_lt (record_cmp x.version r)) newest true
+is_newer_kept None r = refl
+is_newer_kept (Some x) r = refl
 
-  module _ (lines : List LineInMemory) (i : ℕ) (line : LineInMemory) (inside : i < length lines) (is : line ≡ get_or lines i line) where
-    one_more : allowed_front lines (i + 1) ≡ allowed_front lines i ++ cond (list_allows takes list line.version) (version_line_of line ∷ []) []
-    one_more =
-        let front : take (i + 1) lines ≡ take i lines ++ line ∷ [] = take_more lines i line inside ∙ ap (λ (x : LineInMemory). take i lines ++ x ∷ []) (sym is) in
-        ap (λ l. allowed_lines takes list (map version_line_of l)) front ∙ ap (allowed_lines takes list) (map-append version_line_of (take i lines) (line ∷ []))
-        ∙ filter-append (λ (x : VersionLine). list_allows takes list x.version) (map version_line_of (take i lines)) (version_line_of line ∷ [])
+module _ (takes : Bool) (list : List Spec) (lines : List VersionLine) (line : VersionLine) where
+  one_more : allowed_lines takes list (lines ++ line ∷ []) ≡ allowed_lines takes list lines ++ cond (list_allows takes list line.version) (line ∷ []) []
+  one_more = filter-append (λ (x : VersionLine). list_allows takes list x.version) lines (line ∷ [])
 
-    one_allowed : list_allows takes list line.version ≡ true → allowed_front lines (i + 1) ≡ allowed_front lines i ++ version_line_of line ∷ []
-    one_allowed allowed = one_more ∙ ap (λ b. allowed_front lines i ++ cond b (version_line_of line ∷ []) []) allowed
+  one_allowed : list_allows takes list line.version ≡ true → allowed_lines takes list (lines ++ line ∷ []) ≡ allowed_lines takes list lines ++ line ∷ []
+  one_allowed allowed = one_more ∙ ap (λ b. allowed_lines takes list lines ++ cond b (line ∷ []) []) allowed
 
-    pub out_more : (newest : Option (Bor LineInMemory)) → NewestLine (allowed_front lines i) (newest_value newest) → list_allows takes list line.version ≡ false → NewestLine (allowed_front lines (i + 1)) (newest_value newest)
-    out_more newest n out = subst (λ l. NewestLine l (newest_value newest)) (sym (one_more ∙ ap (λ b. allowed_front lines i ++ cond b (version_line_of line ∷ []) []) out ∙ append-nil (allowed_front lines i))) n
+  pub out_more : (newest : Option VersionLine) → NewestLine (allowed_lines takes list lines) newest → list_allows takes list line.version ≡ false → NewestLine (allowed_lines takes list (lines ++ line ∷ [])) newest
+  out_more newest n out = subst (λ l. NewestLine l newest) (sym (one_more ∙ ap (λ b. allowed_lines takes list lines ++ cond b (line ∷ []) []) out ∙ append-nil (allowed_lines takes list lines))) n
 
-    pub found_more : (newest : Option (Bor LineInMemory)) → NewestLine (allowed_front lines i) (newest_value newest) → is_newer newest line.version ≡ true → list_allows takes list line.version ≡ true
-        → NewestLine (allowed_front lines (i + 1)) (Some (version_line_of line))
-    found_more None n above allowed = subst (λ l. IsNewestLine l (version_line_of line)) (sym (one_allowed allowed ∙ ap (λ l. l ++ version_line_of line ∷ []) n)) (only_one (version_line_of line))
-    found_more (Some best) n above allowed =
-        subst (λ l. IsNewestLine l (version_line_of line)) (sym (one_allowed allowed)) (newer (allowed_front lines i) (version_line_of best.now) (version_line_of line) n above)
+  pub found_more : (newest : Option VersionLine) → NewestLine (allowed_lines takes list lines) newest → is_newer newest line.version ≡ true → list_allows takes list line.version ≡ true
+      → NewestLine (allowed_lines takes list (lines ++ line ∷ [])) (Some line)
+  found_more None n above allowed = subst (λ l. IsNewestLine l line) (sym (one_allowed allowed ∙ ap (λ l. l ++ line ∷ []) n)) (only_one line)
+  found_more (Some best) n above allowed = subst (λ l. IsNewestLine l line) (sym (one_allowed allowed)) (newer (allowed_lines takes list lines) best line n above)
 
-    pub below_more : (newest : Option (Bor LineInMemory)) → NewestLine (allowed_front lines i) (newest_value newest) → is_newer newest line.version ≡ false → NewestLine (allowed_front lines (i + 1)) (newest_value newest)
-    below_more None n above = cc above
-    below_more (Some best) n above = go (list_allows takes list line.version) refl
-      where
-        go : (b : Bool) → list_allows takes list line.version ≡ b → NewestLine (allowed_front lines (i + 1)) (newest_value (Some best))
-        go true allowed =
-            subst (λ l. IsNewestLine l (version_line_of best.now)) (sym (one_allowed allowed))
-            (stays (allowed_front lines i) (version_line_of best.now) (version_line_of line) n (not_below line.version best.now.version above))
-        go false out = out_more (Some best) n out
+  pub below_more : (newest : Option VersionLine) → NewestLine (allowed_lines takes list lines) newest → is_newer newest line.version ≡ false → NewestLine (allowed_lines takes list (lines ++ line ∷ [])) newest
+  below_more None n above = cc above
+  below_more (Some best) n above = go (list_allows takes list line.version) refl
+    where
+      go : (b : Bool) → list_allows takes list line.version ≡ b → NewestLine (allowed_lines takes list (lines ++ line ∷ [])) (Some best)
+      go true allowed = subst (λ l. IsNewestLine l best) (sym (one_allowed allowed)) (stays (allowed_lines takes list lines) best line n (not_below line.version best.version above))
+      go false out = out_more (Some best) n out
 
 -- ---- pre-releases where nothing else is allowed
 
 no_line : {A : Type 0} (before after : List VersionLine) (x : VersionLine) → [] ≡ before ++ (x ∷ after) → A
 no_line before after x e = absurd (omega (arith, ap length e ∙ length-append before (x ∷ after)))
 
-pub kept : (taken : Prereleases) (lines others : List VersionLine) (newest : Option (Bor LineInMemory)) (best : Bor LineInMemory) → newest ≡ Some best → NewestLine lines (newest_value newest) → NewestLine (or_else taken lines others) (newest_value newest)
-kept prereleases.Always lines others newest best some n = n
-kept prereleases.Never lines others newest best some n = n
-kept prereleases.Listed [] others newest best some n =
-    let here : IsNewestLine [] (version_line_of best.now) = subst (λ x. NewestLine [] (newest_value x)) some n in
-    no_line here.before here.after (version_line_of best.now) here.split
-kept prereleases.Listed (x ∷ lines) others newest best some n = n
+pub some_line : (taken : Prereleases) (lines others : List VersionLine) (best : VersionLine) → IsNewestLine lines best → NewestLine (or_else taken lines others) (Some best)
+some_line prereleases.Always lines others best n = n
+some_line prereleases.Never lines others best n = n
+some_line prereleases.Listed [] others best n = no_line n.before n.after best n.split
+some_line prereleases.Listed (x ∷ lines) others best n = n
 
 -- ---- there is one newest line
 

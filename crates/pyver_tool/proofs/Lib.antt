@@ -8,6 +8,7 @@ pub mod SourceReads
 pub mod Sorting
 pub mod Choosing
 pub mod Whole
+pub mod NewestAnswers
 pub mod Bytes
 pub mod Appended
 pub mod OneOutcome

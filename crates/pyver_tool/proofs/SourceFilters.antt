@@ -1,5 +1,5 @@
 -- Sources that are read and filtered one after another.
-use Rattle.std.proofs.Common.{◌≡◌, ◌∙◌, ◌+◌, ◌-◌, ◌<◌, ◌==◌, ℕ, List, [], ◌∷◌, ◌++◌, true, false, Bool, Option, None, Some, inl, inr, length, map, get_or, take, drop, refl, sym, ap, subst, arith, append_assoc, append-nil, take-append-drop, ne_eqb}
+use Rattle.std.proofs.Common.{◌≡◌, ◌∙◌, ◌+◌, ◌-◌, ◌<◌, ◌==◌, ℕ, List, [], ◌∷◌, ◌++◌, true, false, Bool, Option, None, Some, option_map, inl, inr, length, map, get_or, take, drop, refl, sym, ap, subst, arith, append_assoc, append-nil, take-append-drop, ne_eqb}
 use Rattle.std.proofs.KnownBytes.{Appends-nil, Appends-trans}
 use Rattle.std.proofs.Math.Seq.{take-nil}
 use Rattle.std.proofs.lemmas.List.{drop_more, map-append, take_more}
@@ -11,12 +11,15 @@ use Rattle.pyver_tool.specs.FilterSteps.{AllFinish, AllStop, FilterFinishes, Fil
 use Rattle.pyver_tool.specs.Filters.{filter_outcome, printed_lines}
 use Rattle.pyver_tool.specs.InputLines.{Origin, Source, input_lines}
 use Rattle.pyver_tool.specs.InvalidLines.{last_message, lines_status, message_limit}
+use Rattle.pyver_tool.specs.NewestViews.{HasNoLine, kept_line}
+use Rattle.pyver_tool.specs.NewestOutcomes.{NewestLine}
 use Rattle.pyver_tool.specs.ReadLines.{IsRead, faults}
 use Rattle.pyver_tool.specs.Runs.{WroteBeginning}
 use Rattle.pyver_tool.specs.SourceViews.{IsRunFailureOf}
 use Rattle.pyver_tool.specs.Sources.{KnownFile, MayOpen, ReadsAll, ReadsSource, ReadsText, UnopenedSource, input_name, input_origin, is_input, is_none, last_name, source_names, unopened_message, unopened_status}
 use Rattle.pyver_tool.specs.declared.filter.FilterRule.{FilterRule}
 use Rattle.pyver_tool.specs.declared.filter.FilterState.{FilterState}
+use Rattle.pyver_tool.specs.declared.newest_lines.KeptLine.{KeptLine}
 use Rattle.pyver_tool.specs.declared.open_failure.OpenFailure.{OpenFailure}
 use Rattle.pyver_tool.specs.declared.stream.RunFailure.{RunFailure}
 use Rattle.pyver_tool.specs.declared.stream.RunFailure.TheVariants as run_failure
@@ -54,7 +57,7 @@ begun_more a b xs rest all k is = record {
 
 -- ---- one source
 
-module _ {R W E : Type 0} (files : List ℕ → KnownFile) (remaining : R → Option (List ℕ)) (contents : W → Option (List ℕ)) (error_contents : E → Option (List ℕ)) (rule : FilterRule) (origin : Origin) (earlier : ℕ) where
+module _ {R W E : Type 0} (files : List ℕ → KnownFile) (remaining : R → Option (List ℕ)) (contents : W → Option (List ℕ)) (error_contents : E → Option (List ℕ)) (rule : FilterRule) (origin : Origin) (earlier : FilterState) where
   pub input_reads : (b : FilterState) (reader reader' : R) (out out' : W) (err err' : E) → is_input origin.name ≡ true → SourceFinishes remaining contents error_contents rule origin earlier b reader reader' out out' err err'
       → OneReads files remaining contents error_contents rule origin earlier b reader reader' out out' err err'
   input_reads b reader reader' out out' err err' named k = record {
@@ -137,6 +140,9 @@ module _ {R : Type 0} (files : List ℕ → KnownFile) (remaining : R → Option
       (reader', source, [], subst (λ x. ReadsSource files remaining (record { is_first = true; name = next }) x reader' source) e q, (refl, refl), ap (λ l. l ++ source ∷ []) n)
   reads_last (name ∷ names) reader middle reader' sources next source k q = reads_more true name names reader middle reader' sources next source k q
 
+no_newest : (kept : Option KeptLine) → kept ≡ None → NewestLine [] (option_map kept_line kept)
+no_newest kept is = subst (λ (k : Option KeptLine). NewestLine [] (option_map kept_line k)) (sym is) refl
+
 module _ {R W E : Type 0} (files : List ℕ → KnownFile) (remaining : R → Option (List ℕ)) (contents : W → Option (List ℕ)) (error_contents : E → Option (List ℕ)) where
   -- the sources with these names were read, and all that they ask for was written
   pub record GoesOn (rule : FilterRule) (read : List (List ℕ)) (b : FilterState) (reader reader' : R) (out out' : W) (err err' : E) : Type 0 where
@@ -144,14 +150,15 @@ module _ {R W E : Type 0} (files : List ℕ → KnownFile) (remaining : R → Op
     pub reads : ReadsAll files remaining true read reader reader' sources
     pub wrote : WroteAll contents error_contents rule sources b out out' err err'
 
-  pub goes_on_none : (rule : FilterRule) (b : FilterState) (reader : R) (out : W) (err : E) → b.fault_count ≡ 0 → b.output.items ≡ [] → b.errors.items ≡ [] → GoesOn rule [] b reader reader out out err err
-  goes_on_none rule b reader out err fault output errors = record {
+  pub goes_on_none : (rule : FilterRule) (b : FilterState) (reader : R) (out : W) (err : E) → b.fault_count ≡ 0 → HasNoLine b.newest → b.output.items ≡ [] → b.errors.items ≡ [] → GoesOn rule [] b reader reader out out err err
+  goes_on_none rule b reader out err fault newest output errors = record {
     sources = [];
     reads = (refl, refl);
     wrote = record {
       found = [];
       are = tt;
       fault_count = fault;
+      newest = λ _. (no_newest b.newest.allowed newest.0, no_newest b.newest.any newest.1);
       output = Appends-nil (contents out);
       errors = subst (Appends (error_contents err) (error_contents err)) (ap concat (sym (take-nil (message_limit rule.lines.invalid)))) (Appends-nil (error_contents err));
       no_output = output;
@@ -160,7 +167,7 @@ module _ {R W E : Type 0} (files : List ℕ → KnownFile) (remaining : R → Op
   }
 
   module _ (rule : FilterRule) (read : List (List ℕ)) (b : FilterState) (reader reader' reader'' : R) (out out' out'' : W) (err err' err'' : E) (k : GoesOn rule read b reader reader' out out' err err') where
-    pub goes_on_more : (next : List ℕ) (c : FilterState) → OneReads files remaining contents error_contents rule (record { is_first = is_none read; name = next }) b.fault_count c reader' reader'' out' out'' err' err''
+    pub goes_on_more : (next : List ℕ) (c : FilterState) → OneReads files remaining contents error_contents rule (record { is_first = is_none read; name = next }) b c reader' reader'' out' out'' err' err''
         → GoesOn rule (read ++ next ∷ []) c reader reader'' out out'' err err''
     goes_on_more next c m =
         let w = k.wrote in
@@ -173,6 +180,7 @@ module _ {R W E : Type 0} (files : List ℕ → KnownFile) (remaining : R → Op
             found = w.found ++ n.found;
             are = subst (λ l. AllZip (IsRead rule.lines) l (w.found ++ n.found)) (sym (filled_lines-last k.sources m.source)) (all_append (IsRead rule.lines) _ w.found _ n.found w.are n.are);
             fault_count = omega (arith, n.fault_count, w.fault_count, length-faults w.found n.found);
+            newest = λ wanted. n.newest wanted w.found (w.newest wanted);
             output = subst (Appends (contents out) (contents out'')) (sym (printed_lines-append rule w.found n.found)) (Appends-trans (contents out) (contents out') (contents out'') (printed_lines rule w.found) (printed_lines rule n.found) w.output n.output);
             errors = subst (Appends (error_contents err) (error_contents err'')) (sym (first-append limit (limit - b.fault_count) w.found n.found (ap (λ x. limit - x) w.fault_count)))
                 (Appends-trans (error_contents err) (error_contents err') (error_contents err'') (concat (take limit (faults w.found))) (concat (take (limit - b.fault_count) (faults n.found))) w.errors n.errors);
@@ -196,7 +204,7 @@ module _ {R W E : Type 0} (files : List ℕ → KnownFile) (remaining : R → Op
           (subst (λ o. WroteAll contents error_contents rule k.sources b out o err err'') (sym m.out_kept) (subst (λ e. WroteAll contents error_contents rule k.sources b out out' err e) (sym m.err_kept) k.wrote));
     }
 
-    pub goes_on_stops : (next : List ℕ) (left : List (List ℕ)) (why : RunFailure) → OneStops files remaining contents error_contents rule (record { is_first = is_none read; name = next }) b.fault_count reader' reader'' out' out'' err' err'' why
+    pub goes_on_stops : (next : List ℕ) (left : List (List ℕ)) (why : RunFailure) → OneStops files remaining contents error_contents rule (record { is_first = is_none read; name = next }) b reader' reader'' out' out'' err' err'' why
         → AllStop files remaining contents error_contents rule (read ++ next ∷ left) reader reader'' out out'' err err'' why
     goes_on_stops next left why (inl m) =
         let w = k.wrote in
@@ -235,21 +243,21 @@ module _ {R W E : Type 0} (files : List ℕ → KnownFile) (remaining : R → Op
 
   -- ---- only standard input
 
-  pub alone_finishes : (rule : FilterRule) (names : List (List ℕ)) (a b : FilterState) (reader reader' : R) (out out' : W) (err err' : E) → names ≡ [] → a.fault_count ≡ 0 → a.output.items ≡ [] → a.errors.items ≡ []
-      → SourceFinishes remaining contents error_contents rule input_origin a.fault_count b reader reader' out out' err err' → AllFinish files remaining contents error_contents rule (source_names names) None b reader reader' out out' err err'
-  alone_finishes rule names a b reader reader' out out' err err' empty fault output errors k =
+  pub alone_finishes : (rule : FilterRule) (names : List (List ℕ)) (a b : FilterState) (reader reader' : R) (out out' : W) (err err' : E) → names ≡ [] → a.fault_count ≡ 0 → HasNoLine a.newest → a.output.items ≡ [] → a.errors.items ≡ []
+      → SourceFinishes remaining contents error_contents rule input_origin a b reader reader' out out' err err' → AllFinish files remaining contents error_contents rule (source_names names) None b reader reader' out out' err err'
+  alone_finishes rule names a b reader reader' out out' err err' empty fault newest output errors k =
       subst (λ n. AllFinish files remaining contents error_contents rule (source_names n) None b reader reader' out out' err err') (sym empty)
       (goes_on_ends rule (source_names []) b reader reader' out out' err err'
-      (goes_on_more rule [] a reader reader reader' out out out' err err err' (goes_on_none rule a reader out err fault output errors) input_name b
-      (input_reads files remaining contents error_contents rule input_origin a.fault_count b reader reader' out out' err err' refl k)))
+      (goes_on_more rule [] a reader reader reader' out out out' err err err' (goes_on_none rule a reader out err fault newest output errors) input_name b
+      (input_reads files remaining contents error_contents rule input_origin a b reader reader' out out' err err' refl k)))
 
-  pub alone_stops : (rule : FilterRule) (names : List (List ℕ)) (a : FilterState) (reader reader' : R) (out out' : W) (err err' : E) (stop : RunFailure) → names ≡ [] → a.fault_count ≡ 0 → a.output.items ≡ [] → a.errors.items ≡ []
-      → SourceStops remaining contents error_contents rule input_origin a.fault_count reader reader' out out' err err' → IsRunFailureOf (Some input_name) stop
+  pub alone_stops : (rule : FilterRule) (names : List (List ℕ)) (a : FilterState) (reader reader' : R) (out out' : W) (err err' : E) (stop : RunFailure) → names ≡ [] → a.fault_count ≡ 0 → HasNoLine a.newest → a.output.items ≡ [] → a.errors.items ≡ []
+      → SourceStops remaining contents error_contents rule input_origin a reader reader' out out' err err' → IsRunFailureOf (Some input_name) stop
       → AllStop files remaining contents error_contents rule (source_names names) reader reader' out out' err err' stop
-  alone_stops rule names a reader reader' out out' err err' stop empty fault output errors k stops =
+  alone_stops rule names a reader reader' out out' err err' stop empty fault newest output errors k stops =
       subst (λ n. AllStop files remaining contents error_contents rule (source_names n) reader reader' out out' err err' stop) (sym empty)
-      (goes_on_stops rule [] a reader reader reader' out out out' err err err' (goes_on_none rule a reader out err fault output errors) input_name [] stop
-      (input_stops files remaining contents error_contents rule input_origin a.fault_count reader reader' out out' err err' stop refl k stops))
+      (goes_on_stops rule [] a reader reader reader' out out out' err err err' (goes_on_none rule a reader out err fault newest output errors) input_name [] stop
+      (input_stops files remaining contents error_contents rule input_origin a reader reader' out out' err err' stop refl k stops))
 
   -- ---- the end
 
@@ -318,7 +326,7 @@ module _ {R W E : Type 0} (files : List ℕ → KnownFile) (remaining : R → Op
 -- the messages of a source, of equal files, and of a source that is the first or not
 module _ {R W E : Type 0} (files files' : List ℕ → KnownFile) (remaining : R → Option (List ℕ)) (contents : W → Option (List ℕ)) (error_contents : E → Option (List ℕ)) (rule : FilterRule) (read : List (List ℕ)) (first : Bool) (next : List ℕ)
     (same : files' ≡ files) (is : first ≡ is_none read) where
-  pub same_reads : (earlier : ℕ) (b : FilterState) (reader reader' : R) (out out' : W) (err err' : E) → OneReads files' remaining contents error_contents rule (record { is_first = first; name = next }) earlier b reader reader' out out' err err'
+  pub same_reads : (earlier : FilterState) (b : FilterState) (reader reader' : R) (out out' : W) (err err' : E) → OneReads files' remaining contents error_contents rule (record { is_first = first; name = next }) earlier b reader reader' out out' err err'
       → OneReads files remaining contents error_contents rule (record { is_first = is_none read; name = next }) earlier b reader reader' out out' err err'
   same_reads earlier b reader reader' out out' err err' k =
       subst (λ f. OneReads f remaining contents error_contents rule (record { is_first = is_none read; name = next }) earlier b reader reader' out out' err err') same
@@ -330,7 +338,7 @@ module _ {R W E : Type 0} (files files' : List ℕ → KnownFile) (remaining : R
       subst (λ f. OneRefuses f remaining contents error_contents (record { is_first = is_none read; name = next }) failure a b reader reader' out out' err err') same
       (subst (λ first. OneRefuses files' remaining contents error_contents (record { is_first = first; name = next }) failure a b reader reader' out out' err err') is k)
 
-  pub same_stops : (earlier : ℕ) (reader reader' : R) (out out' : W) (err err' : E) (stop : RunFailure) → OneStops files' remaining contents error_contents rule (record { is_first = first; name = next }) earlier reader reader' out out' err err' stop
+  pub same_stops : (earlier : FilterState) (reader reader' : R) (out out' : W) (err err' : E) (stop : RunFailure) → OneStops files' remaining contents error_contents rule (record { is_first = first; name = next }) earlier reader reader' out out' err err' stop
       → OneStops files remaining contents error_contents rule (record { is_first = is_none read; name = next }) earlier reader reader' out out' err err' stop
   same_stops earlier reader reader' out out' err err' stop k =
       subst (λ f. OneStops f remaining contents error_contents rule (record { is_first = is_none read; name = next }) earlier reader reader' out out' err err' stop) same

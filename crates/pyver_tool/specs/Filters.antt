@@ -14,14 +14,28 @@ use Rattle.pyver_tool.specs.Sources.{Input, UnopenedSource, unopened_message, un
 use Rattle.pep440_version.specs.Record.{Record}
 use Rattle.pyver_tool.specs.declared.filter.FilterOptions.{FilterOptions}
 use Rattle.pyver_tool.specs.declared.filter.FilterRule.{FilterRule}
+use Rattle.pyver_tool.specs.declared.filter.Wanted.{Wanted}
+use Rattle.pyver_tool.specs.declared.filter.Wanted.TheVariants as wanted
+
+-- a version is printed that the list allows or not; of the newest nothing is printed
+abbrev pub is_wanted : Wanted → Bool → Bool
+is_wanted wanted.Allowed allowed = allowed
+is_wanted wanted.Others allowed = not allowed
+is_wanted wanted.Newest allowed = false
+
+-- a header is printed that is the first or not
+abbrev pub is_wanted_header : Wanted → Bool → Bool
+is_wanted_header wanted.Allowed first = first
+is_wanted_header wanted.Others first = first
+is_wanted_header wanted.Newest first = false
 
 -- the version is printed: the list allows it, or, with `-v`, does not
 abbrev pub is_shown : FilterRule → Record → Bool
-is_shown rule r = if rule.inverted then not (list_allows rule.takes rule.list r) else list_allows rule.takes rule.list r
+is_shown rule r = is_wanted rule.wanted (list_allows rule.takes rule.list r)
 
 -- the line is printed: it is the header of the first source, or its version is printed
 abbrev pub is_printed : FilterRule → Bool → LineReading → Bool
-is_printed rule first Header = first
+is_printed rule first Header = is_wanted_header rule.wanted first
 is_printed rule first (Entry (Denotes r)) = is_shown rule r
 is_printed rule first (Entry (Fails reason)) = false
 
@@ -41,9 +55,13 @@ filter_outcome rule found unopened = record {
 abbrev pub Filters : FilterRule → Input → Outcome → Type 0
 Filters rule input o = (found : List ReadLine) × AllZip (IsRead rule.lines) (filled_lines input.sources) found × (o ≡ filter_outcome rule found input.unopened)
 
+-- with `-v` the lines whose version the list does not allow
+abbrev pub wanted_by : Bool → Wanted
+wanted_by inverted = if inverted then wanted.Others else wanted.Allowed
+
 -- the rule of the options and the list
 abbrev pub rule_of : FilterOptions → List Spec → FilterRule
-rule_of options list = record { inverted = options.inverted; takes = takes_prereleases options.prereleases list; lines = options.lines; list = list }
+rule_of options list = record { wanted = wanted_by options.inverted; takes = takes_prereleases options.prereleases list; lines = options.lines; list = list }
 
 -- the outcome of the lines by a valid list, or the error of an invalid one
 abbrev pub FiltersBy : FilterOptions → SpecifiersReading → Input → Outcome → Type 0

@@ -27,6 +27,7 @@ pub mod Filters
 pub mod VersionLines
 pub mod Sorts
 pub mod NewestOutcomes
+pub mod NewestViews
 pub mod Options
 pub mod SplitWords
 pub mod SplitViews

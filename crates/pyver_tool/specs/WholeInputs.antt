@@ -9,29 +9,46 @@ use Rattle.pyver_tool.specs.Runs.{WroteBeginning}
 use Rattle.pyver_tool.specs.NewestOutcomes.{FindsNewest}
 use Rattle.pyver_tool.specs.Sorts.{SortsParts}
 use Rattle.pyver_tool.specs.SourceViews.{IsRunFailureOf}
-use Rattle.pyver_tool.specs.Sources.{Input, KnownFile, ReadsFirst, ReadsInput, last_name}
+use Rattle.pyver_tool.specs.Sources.{Input, KnownFile, ReadsFirst, ReadsInput, StopsReading, last_name}
 use Rattle.pyver_tool.specs.VersionLines.{InputParts, OfVersions}
 use Rattle.pyver_tool.specs.declared.line_options.LineOptions.{LineOptions}
 use Rattle.pyver_tool.specs.declared.stream.RunFailure.{RunFailure}
 use Rattle.pyver_tool.specs.declared.stream.RunFailure.TheVariants as run_failure
+use Rattle.pyver_tool.specs.declared.whole_input.LinesQuestion.{LinesQuestion}
+use Rattle.pyver_tool.specs.declared.whole_input.LinesQuestion.TheVariants as lines_question
 use Rattle.pyver_tool.specs.declared.whole_input.Question.{Question}
 use Rattle.pyver_tool.specs.declared.whole_input.Question.TheVariants as question
 
 -- how lines are read
-abbrev pub question_lines : Question → LineOptions
-question_lines (question.Sort options) = options.lines
-question_lines (question.Newest rule) = rule.lines
-question_lines (question.Bump rule) = no_line_options
+abbrev pub question_lines : LinesQuestion → LineOptions
+question_lines (lines_question.Sort options) = options.lines
+question_lines (lines_question.Bump rule) = no_line_options
 
 -- what is written of lines that were read, where no invalid one is an error
-abbrev pub AnswersParts : Question → InputParts → Outcome → Type 0
-AnswersParts (question.Sort options) parts o = SortsParts options parts o
-AnswersParts (question.Newest rule) parts o = FindsNewest rule parts o
-AnswersParts (question.Bump rule) parts o = BumpsOnly rule.to rule.parts.items parts o
+abbrev pub AnswersParts : LinesQuestion → InputParts → Outcome → Type 0
+AnswersParts (lines_question.Sort options) parts o = SortsParts options parts o
+AnswersParts (lines_question.Bump rule) parts o = BumpsOnly rule.to rule.parts.items parts o
+
+abbrev pub AnswersLines : LinesQuestion → Input → Outcome → Type 0
+AnswersLines asked input o = OfVersions (question_lines asked) (AnswersParts asked) input o
 
 -- what is written of what was read
 abbrev pub AnswersInput : Question → Input → Outcome → Type 0
-AnswersInput asked input o = OfVersions (question_lines asked) (AnswersParts asked) input o
+AnswersInput (question.Newest rule) input o = OfVersions rule.lines (FindsNewest rule) input o
+AnswersInput (question.Lines asked) input o = AnswersLines asked input o
+
+module _ {R : Type 0} (files : List ℕ → KnownFile) (remaining : R → Option (List ℕ)) where
+  -- all was read, up to a file that was not opened if there was one, and this is the outcome
+  pub record Answers (Gives : Input → Outcome → Type 0) (names : List (List ℕ)) (reader reader' : R) (o : Outcome) : Type 0 where
+    pub input : Input
+    pub reads : ReadsInput files remaining names reader reader' input
+    pub is : Gives input o
+
+  -- all was read or some, and there is no outcome
+  pub record StopsUnanswered (names : List (List ℕ)) (reader reader' : R) (why : RunFailure) : Type 0 where
+    pub input : Input
+    pub reads : ReadsInput files remaining names reader reader' input ⊎ StopsReading files remaining (why ≡ run_failure.OutOfMemory) names reader reader' input.sources
+    pub stops : IsRunFailureOf (last_name input.sources) why
 
 module _ {R W E : Type 0} (files : List ℕ → KnownFile) (remaining : R → Option (List ℕ)) (contents : W → Option (List ℕ)) (error_contents : E → Option (List ℕ)) where
   -- all was read, up to a file that was not opened if there was one, and all was written

@@ -18,7 +18,7 @@ use crate::bump_input::BumpRule;
 use crate::check::CheckOptions;
 use crate::common_range::{RangeOptions, find_common};
 use crate::comparison::{Comparison, compare, parse_comparison};
-use crate::filter::{FilterOptions, FilterRule};
+use crate::filter::{FilterOptions, FilterRule, Wanted};
 use crate::help::{Topic, VERSION_LINE, help};
 use crate::misuse::{Misuse, push_misuse};
 use crate::newest::{NewestOptions, NewestRule};
@@ -27,7 +27,7 @@ use crate::settings::Settings;
 use crate::show::{ShowFormat, show_versions};
 use crate::sort::SortOptions;
 use crate::split_words::{GivenOption, Split};
-use crate::whole_input::Question;
+use crate::whole_input::{LinesQuestion, Question};
 use crate::words::Words;
 use std::alloc::{AllocError, Global};
 
@@ -301,7 +301,9 @@ impl<'a> Command<'a> {
             Command::Filter(options, specifiers, names) => {
                 start_filter(alloc, options, specifiers, names)
             }
-            Command::Sort(options, names) => Ok(Work::Whole(Question::Sort(options), names)),
+            Command::Sort(options, names) => {
+                Ok(Work::Whole(Question::Lines(LinesQuestion::Sort(options)), names))
+            },
             Command::Newest(options, specifiers, names) => {
                 start_newest(alloc, options, specifiers, names)
             }
@@ -331,7 +333,7 @@ fn start_filter<'a>(
         SpecifiersReading::Specifiers(list) => {
             let takes = takes_prereleases(options.prereleases, &list);
             let rule = FilterRule {
-                inverted: options.inverted,
+                wanted: Wanted::from_inverted(options.inverted),
                 takes,
                 lines: options.lines,
                 list,
@@ -394,7 +396,10 @@ fn start_bump<'a>(
     match version {
         Some(word) => Ok(Work::Answer(bump_version(alloc, to, parts.as_slice(), word)?)),
         // No name is left, and no name denotes standard input.
-        None => Ok(Work::Whole(Question::Bump(BumpRule { to, parts }), left)),
+        None => {
+            let question = LinesQuestion::Bump(BumpRule { to, parts });
+            Ok(Work::Whole(Question::Lines(question), left))
+        }
     }
 }
 

@@ -1,4 +1,4 @@
-// The command `filter`: which lines are printed, and what is to be written of them.
+// The lines of the commands `filter` and `newest`, one after another: which are wanted, and what is to be written of them.
 ghost use Rattle.std.specs.Prelude.{◌≡◌, ◌≤◌, ◌++◌, IfOk};
 ghost use Rattle.std.specs.Option.{option_map};
 ghost use Rattle.pyver_tool.specs.Messages.{line_fault_message};
@@ -6,6 +6,7 @@ ghost use Rattle.pyver_tool.specs.Sources.{unopened_message, unopened_status};
 ghost use Rattle.pyver_tool.specs.SourceViews.{unopened_of};
 
 use crate::line_options::LineOptions;
+use crate::newest_lines::NewestLines;
 use crate::open_failure::{OpenFailure, push_file_fault};
 use crate::origin::Origin;
 use crate::prerelease_rule::Prereleases;
@@ -23,11 +24,58 @@ pub(crate) struct FilterOptions {
     pub(crate) lines: LineOptions,
 }
 
-// Which versions are printed.
+// Which lines are wanted.
+#[derive(Clone, Copy)]
+pub(crate) enum Wanted {
+    // Those whose version the list allows.
+    Allowed,
+    // Those whose version it does not allow.
+    Others,
+    // The newest that it allows, which is kept, and nothing is printed.
+    Newest,
+}
+
+impl Wanted {
+    ghost use Rattle.std.specs.Prelude.{Bool, false};
+    ghost use Rattle.pyver_tool.specs.Filters.{is_wanted, is_wanted_header, wanted_by};
+
+    pub(crate) fn from_inverted(inverted: bool) -> Wanted
+        ensures { result ≡ wanted_by inverted }
+    {
+        if inverted {
+            Wanted::Others
+        } else {
+            Wanted::Allowed
+        }
+    }
+
+    // Whether a line is printed whose version is allowed or not.
+    fn shows(self, allowed: bool) -> bool
+        ensures { result ≡ is_wanted self allowed }
+    {
+        match self {
+            Wanted::Allowed => allowed,
+            Wanted::Others => !allowed,
+            Wanted::Newest => false,
+        }
+    }
+
+    // Whether a header is printed that is the first or not.
+    fn shows_header(self, is_first: bool) -> bool
+        ensures { result ≡ is_wanted_header self is_first }
+    {
+        match self {
+            Wanted::Allowed => is_first,
+            Wanted::Others => is_first,
+            Wanted::Newest => false,
+        }
+    }
+}
+
+// Which lines are wanted, and by which list.
 #[derive(Drop)]
 pub(crate) struct FilterRule {
-    // Those that the list does not allow.
-    pub(crate) inverted: bool,
+    pub(crate) wanted: Wanted,
     // Whether the list takes pre-releases.
     pub(crate) takes: bool,
     pub(crate) lines: LineOptions,
@@ -41,7 +89,7 @@ impl FilterRule {
         ensures { IfOk result (λ b. b ≡ is_shown self.now version.now) }
     {
         let allowed = self.list.allows(alloc, self.takes, version)?;
-        Ok(if self.inverted { !allowed } else { allowed })
+        Ok(self.wanted.shows(allowed))
     }
 }
 
@@ -105,6 +153,8 @@ pub(crate) struct FilterState {
     pub(crate) line_count: u64,
     // How many lines of all sources were invalid.
     pub(crate) fault_count: u64,
+    // The newest lines, where the newest is wanted.
+    pub(crate) newest: NewestLines,
     pub(crate) output: Vec<u8>,
     pub(crate) errors: Vec<u8>,
 }
@@ -112,6 +162,7 @@ pub(crate) struct FilterState {
 impl FilterState {
     ghost use Rattle.std.specs.Prelude.{◌+◌, ◌*◌, ◌<◌, ◌^◌, ◌∷◌, [], List, ℕ, length};
     ghost use Rattle.pyver_tool.specs.AnswerViews.{reading_of};
+    ghost use Rattle.pyver_tool.specs.NewestViews.{HasNoLine};
     ghost use Rattle.pyver_tool.specs.FilterSteps.{Cuts, FinishesBy, HasNoNewline, Steps, StepsBy};
     ghost use Rattle.pyver_tool.specs.ReadLines.{Entry, Header, ReadLine};
     ghost use Rattle.pyver_tool.specs.Readings.{Denotes, Fails};
@@ -119,18 +170,20 @@ impl FilterState {
 
     pub(crate) fn new(alloc: Global) -> FilterState
         ensures counts { (result.read_count ≡ 0) × (result.fault_count ≡ 0) }
+        ensures no_line { HasNoLine result.newest }
         ensures nothing { (result.output.items ≡ []) × (result.errors.items ≡ []) }
     {
         FilterState {
             read_count: 0,
             line_count: 0,
             fault_count: 0,
+            newest: NewestLines::none(),
             output: Vec::new(alloc),
             errors: Vec::new(alloc),
         }
     }
 
-    // Only that of the first source is printed.
+    // At most that of the first source is printed.
     fn push_header(
         &mut self,
         rule: &FilterRule,
@@ -139,7 +192,7 @@ impl FilterState {
     ) -> Result<(), AllocError>
         ensures { IfOk result (λ _. StepsBy rule.now (record { line = origin_line origin.entry self.old.line_count text.now; reading = Header }) self.old self.new) }
     {
-        if !origin.is_first {
+        if !rule.wanted.shows_header(origin.is_first) {
             return Ok(());
         }
         self.output.extend_from_slice(text)?;
@@ -157,6 +210,11 @@ impl FilterState {
     ) -> Result<(), AllocError>
         ensures { IfOk result (λ _. StepsBy rule.now (record { line = origin_line origin.entry self.old.line_count text.now; reading = Entry (Denotes version.now) }) self.old self.new) }
     {
+        if let Wanted::Newest = rule.wanted {
+            self.newest
+                .push(alloc, rule.takes, &rule.list, text, version)?;
+            return Ok(());
+        }
         if rule.shows(alloc, version)? {
             self.output.extend_from_slice(text)?;
             self.output.push(b'\n')?;
@@ -275,6 +333,7 @@ impl FilterState {
     // What was to be written was written.
     pub(crate) fn clear(&mut self)
         ensures counts { (self.new.read_count ≡ self.old.read_count) × (self.new.line_count ≡ self.old.line_count) × (self.new.fault_count ≡ self.old.fault_count) }
+        ensures kept { self.new.newest ≡ self.old.newest }
         ensures nothing { (self.new.output.items ≡ []) × (self.new.errors.items ≡ []) }
     {
         self.output.clear();

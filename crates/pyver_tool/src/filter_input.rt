@@ -1,4 +1,4 @@
-// The loop of `filter` over a source.
+// The loop of `filter` and `newest` over a source.
 ghost use Rattle.std.specs.Prelude.{◌≡◌, ◌≤◌, ◌*◌, [], Some, IfErr, IfOk};
 ghost use Rattle.pyver_tool.specs.FilterSteps.{SourceFinishes, SourceStops};
 ghost use Rattle.pyver_tool.specs.SourceViews.{IsReadingFailure, IsRunFailureOf, origin_of};
@@ -42,9 +42,9 @@ pub(crate) fn filter_input<R: Read, W: Write, E: Write>(
 ) -> Result<(), RunFailure>
     requires nothing { (state.old.output.items ≡ []) × (state.old.errors.items ≡ []) }
     requires limits { state.old.fault_count ≤ 8192 * state.old.read_count }
-    ensures finished { IfOk result (λ _. SourceFinishes R.remaining W.contents E.contents rule.now (origin_of origin.entry) state.old.fault_count state.new input.old input.new out.old out.new err.old err.new) }
+    ensures finished { IfOk result (λ _. SourceFinishes R.remaining W.contents E.contents rule.now (origin_of origin.entry) state.old state.new input.old input.new out.old out.new err.old err.new) }
     ensures limits { IfOk result (λ _. state.new.fault_count ≤ 8192 * state.new.read_count) }
-    ensures stopped { IfErr result (λ _. SourceStops R.remaining W.contents E.contents rule.now (origin_of origin.entry) state.old.fault_count input.old input.new out.old out.new err.old err.new) }
+    ensures stopped { IfErr result (λ _. SourceStops R.remaining W.contents E.contents rule.now (origin_of origin.entry) state.old input.old input.new out.old out.new err.old err.new) }
     ensures failure { IfErr result (IsRunFailureOf (Some (origin_of origin.entry).name)) }
 {
     let mut buffer = [0u8; READ_SIZE];

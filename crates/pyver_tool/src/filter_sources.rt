@@ -1,7 +1,8 @@
-// The sources of `filter`, one after another.
+// The sources of `filter` and `newest`, one after another.
 ghost use Rattle.std.specs.Prelude.{◌≡◌, ◌≤◌, ◌*◌, [], IfErr, IfOk, map, string_bytes};
 ghost use Rattle.std.specs.Option.{option_map};
 ghost use Rattle.pyver_tool.specs.FilterSteps.{AllFinish, AllStop, FilterFinishes, FilterStops, OneFinishes, OneStops};
+ghost use Rattle.pyver_tool.specs.NewestViews.{HasNoLine};
 ghost use Rattle.pyver_tool.specs.Sources.{source_names};
 ghost use Rattle.pyver_tool.specs.SourceViews.{origin_of, unopened_of};
 
@@ -29,7 +30,7 @@ fn open_and_filter<F: Files, R: Read, W: Write, E: Write>(
     requires limits { state.old.fault_count ≤ 8192 * state.old.read_count }
     ensures finished { IfOk result (OneFinishes (F.known files.old) R.remaining W.contents E.contents rule.now (origin_of origin.entry) state.old state.new input.old input.new out.old out.new err.old err.new) }
     ensures limits { IfOk result (λ _. state.new.fault_count ≤ 8192 * state.new.read_count) }
-    ensures stopped { IfErr result (OneStops (F.known files.old) R.remaining W.contents E.contents rule.now (origin_of origin.entry) state.old.fault_count input.old input.new out.old out.new err.old err.new) }
+    ensures stopped { IfErr result (OneStops (F.known files.old) R.remaining W.contents E.contents rule.now (origin_of origin.entry) state.old input.old input.new out.old out.new err.old err.new) }
     ensures kept { F.known files.new ≡ F.known files.old }
 {
     if is_input(origin.name) {
@@ -57,7 +58,7 @@ fn filter_all<'a, F: Files, R: Read, W: Write, E: Write>(
     out: &mut W,
     err: &mut E,
 ) -> Result<Option<UnopenedSource<'a>>, RunFailure>
-    requires new { (state.old.read_count ≡ 0) × (state.old.fault_count ≡ 0) × (state.old.output.items ≡ []) × (state.old.errors.items ≡ []) }
+    requires new { (state.old.read_count ≡ 0) × (state.old.fault_count ≡ 0) × HasNoLine state.old.newest × (state.old.output.items ≡ []) × (state.old.errors.items ≡ []) }
     ensures finished { IfOk result (λ unopened. AllFinish (F.known files.old) R.remaining W.contents E.contents rule.now (map string_bytes names.now) (option_map unopened_of unopened) state.new input.old input.new out.old out.new err.old err.new) }
     ensures stopped { IfErr result (AllStop (F.known files.old) R.remaining W.contents E.contents rule.now (map string_bytes names.now) input.old input.new out.old out.new err.old err.new) }
     ensures kept { F.known files.new ≡ F.known files.old }
@@ -75,7 +76,7 @@ fn filter_all<'a, F: Files, R: Read, W: Write, E: Write>(
 }
 
 // Filters the sources that the names denote, up to one that is not opened.
-fn filter_all_sources<'a, F: Files, R: Read, W: Write, E: Write>(
+pub(crate) fn filter_all_sources<'a, F: Files, R: Read, W: Write, E: Write>(
     alloc: Global,
     rule: &FilterRule,
     names: &'a [String],
@@ -85,7 +86,7 @@ fn filter_all_sources<'a, F: Files, R: Read, W: Write, E: Write>(
     out: &mut W,
     err: &mut E,
 ) -> Result<Option<UnopenedSource<'a>>, RunFailure>
-    requires new { (state.old.read_count ≡ 0) × (state.old.fault_count ≡ 0) × (state.old.output.items ≡ []) × (state.old.errors.items ≡ []) }
+    requires new { (state.old.read_count ≡ 0) × (state.old.fault_count ≡ 0) × HasNoLine state.old.newest × (state.old.output.items ≡ []) × (state.old.errors.items ≡ []) }
     ensures finished { IfOk result (λ unopened. AllFinish (F.known files.old) R.remaining W.contents E.contents rule.now (source_names (map string_bytes names.now)) (option_map unopened_of unopened) state.new input.old input.new out.old out.new err.old err.new) }
     ensures stopped { IfErr result (AllStop (F.known files.old) R.remaining W.contents E.contents rule.now (source_names (map string_bytes names.now)) input.old input.new out.old out.new err.old err.new) }
     ensures kept { F.known files.new ≡ F.known files.old }

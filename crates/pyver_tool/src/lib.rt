@@ -22,6 +22,7 @@ mod line_options;
 mod misuse;
 mod nearest;
 mod newest;
+mod newest_lines;
 mod open_failure;
 mod options;
 mod origin;

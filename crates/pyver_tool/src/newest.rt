@@ -1,18 +1,27 @@
 // The command `newest`: the line of the newest version that specifiers allow.
-ghost use Rattle.std.specs.Prelude.{◌≡◌, IfOk, map, true};
-ghost use Rattle.std.specs.Option.{option_map, option_map_or};
-ghost use Rattle.std.specs.Ordering.{is_lt};
-ghost use Rattle.pep440_version.specs.Key.{record_cmp};
+ghost use Rattle.std.specs.Prelude.{◌≡◌, IfErr, IfOk, List, Option, ℕ, map, string_bytes};
+ghost use Rattle.std.specs.Option.{option_map};
 ghost use Rattle.pyver_tool.specs.AnswerViews.{outcome_of};
-ghost use Rattle.pyver_tool.specs.NewestOutcomes.{FindsNewest, NewestLine, allowed_lines, candidates, newest_outcome};
-ghost use Rattle.pyver_tool.specs.VersionLineViews.{input_parts_of, version_line_of};
+ghost use Rattle.pyver_tool.specs.NewestOutcomes.{FindsNewest, newest_outcome};
+ghost use Rattle.pyver_tool.specs.NewestViews.{kept_line};
+ghost use Rattle.pyver_tool.specs.Sources.{source_names};
+ghost use Rattle.pyver_tool.specs.SourceViews.{IsRunFailureOf};
+ghost use Rattle.pyver_tool.specs.VersionLines.{OfVersions};
+ghost use Rattle.pyver_tool.specs.WholeInputs.{Answers, StopsUnanswered};
+ghost use Rattle.pyver_tool.specs.declared.stream.RunFailure.TheVariants.{OutOfMemory};
 
 use crate::answer::Answer;
+use crate::files::Files;
+use crate::filter::{FilterRule, FilterState, Wanted};
+use crate::filter_sources::filter_all_sources;
 use crate::line_options::LineOptions;
+use crate::newest_lines::KeptLine;
+use crate::open_failure::report_open_failure;
 use crate::prerelease_rule::{Prereleases, takes_prereleases};
-use crate::version_line::{VersionLine, VersionLines};
-use pep440_rs::{Version, VersionSpecifiers};
+use crate::stream::RunFailure;
+use pep440_rs::VersionSpecifiers;
 use std::alloc::{AllocError, Global};
+use std::io::Read;
 
 // How lines are read, and which pre-releases are taken.
 #[derive(Clone, Copy)]
@@ -29,70 +38,22 @@ pub(crate) struct NewestRule {
     pub(crate) list: VersionSpecifiers,
 }
 
-fn is_newer(newest: Option<&VersionLine<'_>>, version: &Version) -> bool
-    ensures { result ≡ option_map_or (λ x. is_lt (record_cmp x.now.version version.now)) newest.entry true }
-{
-    match newest {
-        Some(newest) => newest.version < *version,
-        None => true,
-    }
-}
-
-// Of the lines that the list allows the newest, of equal ones the first.
-fn select_newest<'t, 'a>(
-    alloc: Global,
-    takes: bool,
-    list: &VersionSpecifiers,
-    lines: &'t [VersionLine<'a>],
-) -> Result<Option<&'t VersionLine<'a>>, AllocError>
-    ensures { IfOk result (λ newest. NewestLine (allowed_lines takes list.now (map version_line_of lines.now)) (option_map (λ x. version_line_of x.now) newest)) }
-{
-    let mut newest: Option<&VersionLine<'a>> = None;
-    for line in lines {
-        if is_newer(newest, &line.version) && list.allows(alloc, takes, &line.version)? {
-            newest = Some(line);
-        }
-    }
-    Ok(newest)
-}
-
-// The same, with pre-releases where nothing else is allowed.
-fn find_candidate<'t, 'a>(
-    alloc: Global,
-    rule: &NewestRule,
-    lines: &'t [VersionLine<'a>],
-) -> Result<Option<&'t VersionLine<'a>>, AllocError>
-    ensures { IfOk result (λ newest. NewestLine (candidates rule.now (map version_line_of lines.now)) (option_map (λ x. version_line_of x.now) newest)) }
-{
-    let takes = takes_prereleases(rule.prereleases, &rule.list);
-    let newest = select_newest(alloc, takes, &rule.list, lines)?;
-    match rule.prereleases {
-        Prereleases::Listed => match newest {
-            None => select_newest(alloc, true, &rule.list, lines),
-            Some(_) => Ok(newest),
-        },
-        Prereleases::Always => Ok(newest),
-        Prereleases::Never => Ok(newest),
-    }
-}
-
 // The line as it was written, or the status 1.
 fn print_newest(
     alloc: Global,
-    newest: Option<&VersionLine<'_>>,
+    newest: Option<KeptLine>,
     errors: Vec<u8>,
 ) -> Result<Answer, AllocError>
-    ensures { IfOk result (λ a. outcome_of a ≡ newest_outcome errors.items (option_map (λ x. version_line_of x.now) newest.entry)) }
+    ensures { IfOk result (λ a. outcome_of a ≡ newest_outcome errors.items (option_map kept_line newest)) }
 {
-    let mut output = Vec::new(alloc);
     let Some(newest) = newest else {
         return Ok(Answer {
-            output,
+            output: Vec::new(alloc),
             errors,
             status: 1,
         });
     };
-    output.extend_from_slice(newest.text)?;
+    let mut output = newest.text;
     output.push(b'\n')?;
     Ok(Answer {
         output,
@@ -101,16 +62,66 @@ fn print_newest(
     })
 }
 
-// `newest` of these lines.
-pub(crate) fn find_newest(
-    alloc: Global,
-    rule: &NewestRule,
-    lines: VersionLines<'_>,
-) -> Result<Answer, AllocError>
-    ensures { IfOk result (λ a. FindsNewest rule.now (input_parts_of lines.entry) (outcome_of a)) }
+// Messages are kept in memory, so a write fails only where an allocation did.
+fn without_writes(failure: RunFailure) -> RunFailure
+    ensures memory { failure ≡ OutOfMemory → result ≡ OutOfMemory }
+    ensures of { (last : Option (List ℕ)) → IsRunFailureOf last failure → IsRunFailureOf last result }
 {
-    let errors = lines.errors;
-    let versions = lines.versions;
-    let newest = find_candidate(alloc, rule, versions.as_slice())?;
-    print_newest(alloc, newest, errors)
+    match failure {
+        RunFailure::OutOfMemory => RunFailure::OutOfMemory,
+        RunFailure::Read => RunFailure::Read,
+        RunFailure::ReadFile(message) => RunFailure::ReadFile(message),
+        RunFailure::Output(_) => RunFailure::OutOfMemory,
+        RunFailure::Errors(_) => RunFailure::OutOfMemory,
+    }
+}
+
+// `newest` of the lines of these sources, of which only those are kept that may be the newest.
+pub(crate) fn find_newest<F: Files, R: Read>(
+    alloc: Global,
+    rule: NewestRule,
+    names: &[String],
+    files: &mut F,
+    input: &mut R,
+) -> Result<Answer, RunFailure>
+    ensures finished { IfOk result (λ a. Answers (F.known files.old) R.remaining (OfVersions rule.lines (FindsNewest rule)) (source_names (map string_bytes names.now)) input.old input.new (outcome_of a)) }
+    ensures stopped { IfErr result (StopsUnanswered (F.known files.old) R.remaining (source_names (map string_bytes names.now)) input.old input.new) }
+    ensures kept { F.known files.new ≡ F.known files.old }
+{
+    let invalid = rule.lines.invalid;
+    let filter = FilterRule {
+        wanted: Wanted::Newest,
+        takes: takes_prereleases(rule.prereleases, &rule.list),
+        lines: rule.lines,
+        list: rule.list,
+    };
+    let mut state = FilterState::new(alloc);
+    let mut output = Vec::new(alloc);
+    let mut errors = Vec::new(alloc);
+    let unopened = match filter_all_sources(
+        alloc,
+        &filter,
+        names,
+        &mut state,
+        files,
+        input,
+        &mut output,
+        &mut errors,
+    ) {
+        Ok(unopened) => unopened,
+        Err(failure) => return Err(without_writes(failure)),
+    };
+    if let Some(file) = unopened {
+        return Ok(report_open_failure(alloc, file.name.as_bytes(), file.failure)?);
+    }
+    invalid.push_last(alloc, &mut errors, state.fault_count)?;
+    let status = invalid.status(state.fault_count);
+    if status > 0 {
+        return Ok(Answer {
+            output: Vec::new(alloc),
+            errors,
+            status,
+        });
+    }
+    Ok(print_newest(alloc, state.newest.choose(rule.prereleases), errors)?)
 }

@@ -111,7 +111,7 @@ pub fn run<F: Files, R: Read, W: Write, E: Write>(
             }
         }
         Ok(Work::Whole(question, names)) => {
-            match answer_input(alloc, &question, names, files, input, out, err) {
+            match answer_input(alloc, question, names, files, input, out, err) {
                 Ok(status) => status,
                 Err(failure) => report_run_failure(failure, err),
             }

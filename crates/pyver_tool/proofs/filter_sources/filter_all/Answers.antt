@@ -6,7 +6,7 @@ use Rattle.pyver_tool.specs.Sources.{is_none}
 use Rattle.pyver_tool.proofs.filter_sources.filter_all.Goals as goal
 
 pub loop-name-init : goal.loop-name-init
-loop-name-init g c = (goes_on_none _ _ _ _ c.args.rule.now c.args.state.now c.args.input.now c.args.out.now c.args.err.now c.requires.new.1 c.requires.new.2 c.requires.new.3, refl, omega (arith, c.requires.new.1), refl)
+loop-name-init g c = (goes_on_none _ _ _ _ c.args.rule.now c.args.state.now c.args.input.now c.args.out.now c.args.err.now c.requires.new.1 c.requires.new.2 c.requires.new.3 c.requires.new.4, refl, omega (arith, c.requires.new.1), refl)
 
 pub returns-in_err-open_and_filter-clause-stopped : goal.returns-in_err-open_and_filter-clause-stopped
 returns-in_err-open_and_filter-clause-stopped g c =
@@ -19,7 +19,7 @@ returns-in_err-open_and_filter-clause-stopped g c =
     (sym (names_split string_bytes c.args.names.now c.loop-name.name-index c.name-item.result _ text c.loop-name-test.true c.name-item.is c.as_str-name.ensures.value))
     (goes_on_stops _ _ _ _ c.args.rule.now read c.loop-name.state c.args.input.now c.loop-name.input c.open_and_filter.new.input c.args.out.now c.loop-name.out c.open_and_filter.new.out c.args.err.now c.loop-name.err c.open_and_filter.new.err
     c.loop-name.invariant.0 text left why
-    (same_stops _ _ _ _ _ c.args.rule.now read c.loop-name.is_first text c.loop-name.invariant.1 c.loop-name.invariant.3 c.loop-name.state.fault_count c.loop-name.input c.open_and_filter.new.input c.loop-name.out c.open_and_filter.new.out
+    (same_stops _ _ _ _ _ c.args.rule.now read c.loop-name.is_first text c.loop-name.invariant.1 c.loop-name.invariant.3 c.loop-name.state c.loop-name.input c.open_and_filter.new.input c.loop-name.out c.open_and_filter.new.out
     c.loop-name.err c.open_and_filter.new.err why c.in_err-open_and_filter.ensures.stopped)))
 
 pub returns-in-Some-clause-finished : goal.returns-in-Some-clause-finished
@@ -45,7 +45,7 @@ loop-name-preserved g c =
           (sym more)
           (goes_on_more _ _ _ _ c.args.rule.now read c.loop-name.state c.args.input.now c.loop-name.input c.open_and_filter.new.input c.args.out.now c.loop-name.out c.open_and_filter.new.out c.args.err.now c.loop-name.err c.open_and_filter.new.err
           c.loop-name.invariant.0 text c.open_and_filter.new.state
-          (same_reads _ _ _ _ _ c.args.rule.now read c.loop-name.is_first text c.loop-name.invariant.1 c.loop-name.invariant.3 c.loop-name.state.fault_count c.open_and_filter.new.state c.loop-name.input c.open_and_filter.new.input c.loop-name.out
+          (same_reads _ _ _ _ _ c.args.rule.now read c.loop-name.is_first text c.loop-name.invariant.1 c.loop-name.invariant.3 c.loop-name.state c.open_and_filter.new.state c.loop-name.input c.open_and_filter.new.input c.loop-name.out
           c.open_and_filter.new.out c.loop-name.err c.open_and_filter.new.err reads)),
       c.in_ok-open_and_filter.ensures.kept ∙ c.loop-name.invariant.1,
       c.in_ok-open_and_filter.ensures.limits,
