@@ -21,7 +21,7 @@ use Rattle.pyver_tool.specs.Runs.{WroteBeginning}
 use Rattle.pyver_tool.specs.VersionLines.{VersionLine, line_with, version_lines}
 use Rattle.pyver_tool.specs.declared.filter.FilterRule.{FilterRule}
 use Rattle.pyver_tool.specs.declared.filter.FilterState.{FilterState}
-use Rattle.pyver_tool.specs.declared.filter.Wanted.TheVariants as wanted
+use Rattle.pyver_tool.specs.declared.filter.Selection.TheVariants as wanted
 use Rattle.pyver_tool.specs.declared.newest_lines.NewestLines.{NewestLines}
 use Rattle.pep440_version.specs.Record.{Record}
 

@@ -12,10 +12,10 @@ use Rattle.pyver_tool.specs.ReadLines.{faults}
 use Rattle.pyver_tool.specs.SourceViews.{IsRunFailureOf}
 use Rattle.pyver_tool.specs.Sources.{KnownFile, StopsReading, UnopenedSource, last_name}
 use Rattle.pyver_tool.specs.VersionLines.{OfVersions, VersionLine, line_messages, unopened_outcome, version_lines}
-use Rattle.pyver_tool.specs.WholeInputs.{Answers, StopsUnanswered}
+use Rattle.pyver_tool.specs.WholeInputs.{AnswersSources, StopsUnanswered}
 use Rattle.pyver_tool.specs.declared.filter.FilterRule.{FilterRule}
 use Rattle.pyver_tool.specs.declared.filter.FilterState.{FilterState}
-use Rattle.pyver_tool.specs.declared.filter.Wanted.TheVariants as wanted
+use Rattle.pyver_tool.specs.declared.filter.Selection.TheVariants as wanted
 use Rattle.pyver_tool.specs.declared.newest.NewestRule.{NewestRule}
 use Rattle.pyver_tool.specs.declared.stream.RunFailure.{RunFailure}
 use Rattle.pyver_tool.specs.declared.stream.RunFailure.TheVariants as run_failure
@@ -29,7 +29,7 @@ appended a b t xs old new k = subst (λ y. Appends (Some []) y xs) new (subst (�
 module _ {R W E : Type 0} (files : List ℕ → KnownFile) (remaining : R → Option (List ℕ)) (contents : W → Option (List ℕ)) (error_contents : E → Option (List ℕ)) (rule : NewestRule) (takes : Bool) (names : List (List ℕ)) (b : FilterState) (reader reader' : R) (out out' : W) (err err' : E) where
   -- a file was not opened
   pub unopened_answers : (unopened : Option UnopenedSource) (file : UnopenedSource) (o : Outcome) → AllFinish files remaining contents error_contents (newest_filter rule takes) names unopened b reader reader' out out' err err' → unopened ≡ Some file → o ≡ unopened_outcome file
-      → Answers files remaining (OfVersions rule.lines (FindsNewest rule)) names reader reader' o
+      → AnswersSources files remaining (OfVersions rule.lines (FindsNewest rule)) names reader reader' o
   unopened_answers unopened file o k some is = let found = rw some at k in record { input = record { sources = found.sources; unopened = Some file }; reads = found.reads; is = is }
 
   -- an allocation failed after all was read
@@ -47,7 +47,7 @@ module _ {R W E : Type 0} (files : List ℕ → KnownFile) (remaining : R → Op
 
     -- some line was invalid, which is an error
     pub invalid_answers : (status : ℕ) → status ≡ lines_status rule.lines.invalid b.fault_count → 0 < status
-        → Answers files remaining (OfVersions rule.lines (FindsNewest rule)) names reader reader' (record { output = []; errors = messages; status = status })
+        → AnswersSources files remaining (OfVersions rule.lines (FindsNewest rule)) names reader reader' (record { output = []; errors = messages; status = status })
     invalid_answers status is high =
         let same : status ≡ lines_status rule.lines.invalid (length (faults k.wrote.found)) = is ∙ ap (lines_status rule.lines.invalid) k.wrote.fault_count in
         record {
@@ -59,7 +59,7 @@ module _ {R W E : Type 0} (files : List ℕ → KnownFile) (remaining : R → Op
     -- the newest line is printed, if there is one
     pub newest_answers : (newest : Option VersionLine) → lines_status rule.lines.invalid b.fault_count ≡ 0 → takes ≡ takes_prereleases rule.prereleases rule.list
         → ((lines : List VersionLine) → KeepsNewest takes rule.list lines b.newest → NewestLine (or_else rule.prereleases (allowed_lines takes rule.list lines) (allowed_lines true rule.list lines)) newest)
-        → Answers files remaining (OfVersions rule.lines (FindsNewest rule)) names reader reader' (newest_outcome messages newest)
+        → AnswersSources files remaining (OfVersions rule.lines (FindsNewest rule)) names reader reader' (newest_outcome messages newest)
     newest_answers newest zero asked is = record {
       input = record { sources = k.sources; unopened = None };
       reads = k.reads;

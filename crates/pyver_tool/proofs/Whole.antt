@@ -6,7 +6,7 @@ use Rattle.pyver_tool.specs.Runs.{WroteBeginning}
 use Rattle.pyver_tool.specs.SourceViews.{IsRunFailureOf}
 use Rattle.pyver_tool.specs.Sources.{EndsAt, Input, KnownFile, ReadsInput, StopsReading, UnopenedSource, last_name}
 use Rattle.pyver_tool.specs.VersionLines.{unopened_outcome}
-use Rattle.pyver_tool.specs.WholeInputs.{Answers, AnswersInput, StopsUnanswered, WholeStops}
+use Rattle.pyver_tool.specs.WholeInputs.{AnswersSources, AnswersInput, StopsUnanswered, WholeStops}
 use Rattle.pyver_tool.specs.declared.stream.RunFailure.{RunFailure}
 use Rattle.pyver_tool.specs.declared.stream.RunFailure.TheVariants as run_failure
 use Rattle.pyver_tool.specs.declared.whole_input.Question.{Question}
@@ -46,6 +46,6 @@ module _ {R W E : Type 0} (files : List ℕ → KnownFile) (remaining : R → Op
       })
 
   -- a beginning was written
-  pub stops_written : (o : Outcome) → Answers files remaining (AnswersInput asked) names reader reader' o → WroteBeginning (contents out) (contents out') o.output → WroteBeginning (error_contents err) (error_contents err') o.errors
+  pub stops_written : (o : Outcome) → AnswersSources files remaining (AnswersInput asked) names reader reader' o → WroteBeginning (contents out) (contents out') o.output → WroteBeginning (error_contents err) (error_contents err') o.errors
       → ((last : Option (List ℕ)) → IsRunFailureOf last why) → WholeStops files remaining contents error_contents asked names reader reader' out out' err err' why
   stops_written o k output errors stops = inl (record { input = k.input; reads = k.reads; outcome = o; is = k.is; output = output; errors = errors; stops = stops (last_name k.input.sources) })

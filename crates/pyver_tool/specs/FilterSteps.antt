@@ -14,7 +14,7 @@ use Rattle.pyver_tool.specs.Sources.{Input, KnownFile, MayRefuse, ReadsInput, Re
 use Rattle.pyver_tool.specs.VersionLines.{version_lines}
 use Rattle.pyver_tool.specs.declared.filter.FilterRule.{FilterRule}
 use Rattle.pyver_tool.specs.declared.filter.FilterState.{FilterState}
-use Rattle.pyver_tool.specs.declared.filter.Wanted.TheVariants as wanted
+use Rattle.pyver_tool.specs.declared.filter.Selection.TheVariants as wanted
 use Rattle.pyver_tool.specs.declared.newest_lines.NewestLines.{NewestLines}
 use Rattle.pyver_tool.specs.declared.open_failure.OpenFailure.{OpenFailure}
 use Rattle.pyver_tool.specs.declared.stream.RunFailure.{RunFailure}

@@ -14,17 +14,17 @@ use Rattle.pyver_tool.specs.Sources.{Input, UnopenedSource, unopened_message, un
 use Rattle.pep440_version.specs.Record.{Record}
 use Rattle.pyver_tool.specs.declared.filter.FilterOptions.{FilterOptions}
 use Rattle.pyver_tool.specs.declared.filter.FilterRule.{FilterRule}
-use Rattle.pyver_tool.specs.declared.filter.Wanted.{Wanted}
-use Rattle.pyver_tool.specs.declared.filter.Wanted.TheVariants as wanted
+use Rattle.pyver_tool.specs.declared.filter.Selection.{Selection}
+use Rattle.pyver_tool.specs.declared.filter.Selection.TheVariants as wanted
 
 -- a version is printed that the list allows or not; of the newest nothing is printed
-abbrev pub is_wanted : Wanted → Bool → Bool
+abbrev pub is_wanted : Selection → Bool → Bool
 is_wanted wanted.Allowed allowed = allowed
 is_wanted wanted.Others allowed = not allowed
 is_wanted wanted.Newest allowed = false
 
 -- a header is printed that is the first or not
-abbrev pub is_wanted_header : Wanted → Bool → Bool
+abbrev pub is_wanted_header : Selection → Bool → Bool
 is_wanted_header wanted.Allowed first = first
 is_wanted_header wanted.Others first = first
 is_wanted_header wanted.Newest first = false
@@ -56,7 +56,7 @@ abbrev pub Filters : FilterRule → Input → Outcome → Type 0
 Filters rule input o = (found : List ReadLine) × AllZip (IsRead rule.lines) (filled_lines input.sources) found × (o ≡ filter_outcome rule found input.unopened)
 
 -- with `-v` the lines whose version the list does not allow
-abbrev pub wanted_by : Bool → Wanted
+abbrev pub wanted_by : Bool → Selection
 wanted_by inverted = if inverted then wanted.Others else wanted.Allowed
 
 -- the rule of the options and the list

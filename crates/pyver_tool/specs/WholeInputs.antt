@@ -39,7 +39,7 @@ AnswersInput (question.Lines asked) input o = AnswersLines asked input o
 
 module _ {R : Type 0} (files : List ℕ → KnownFile) (remaining : R → Option (List ℕ)) where
   -- all was read, up to a file that was not opened if there was one, and this is the outcome
-  pub record Answers (Gives : Input → Outcome → Type 0) (names : List (List ℕ)) (reader reader' : R) (o : Outcome) : Type 0 where
+  pub record AnswersSources (Gives : Input → Outcome → Type 0) (names : List (List ℕ)) (reader reader' : R) (o : Outcome) : Type 0 where
     pub input : Input
     pub reads : ReadsInput files remaining names reader reader' input
     pub is : Gives input o

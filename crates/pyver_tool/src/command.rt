@@ -18,7 +18,7 @@ use crate::bump_input::BumpRule;
 use crate::check::CheckOptions;
 use crate::common_range::{RangeOptions, find_common};
 use crate::comparison::{Comparison, compare, parse_comparison};
-use crate::filter::{FilterOptions, FilterRule, Wanted};
+use crate::filter::{FilterOptions, FilterRule, Selection};
 use crate::help::{Topic, VERSION_LINE, help};
 use crate::misuse::{Misuse, push_misuse};
 use crate::newest::{NewestOptions, NewestRule};
@@ -333,7 +333,7 @@ fn start_filter<'a>(
         SpecifiersReading::Specifiers(list) => {
             let takes = takes_prereleases(options.prereleases, &list);
             let rule = FilterRule {
-                wanted: Wanted::from_inverted(options.inverted),
+                wanted: Selection::from_inverted(options.inverted),
                 takes,
                 lines: options.lines,
                 list,

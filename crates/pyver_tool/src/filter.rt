@@ -26,7 +26,7 @@ pub(crate) struct FilterOptions {
 
 // Which lines are wanted.
 #[derive(Clone, Copy)]
-pub(crate) enum Wanted {
+pub(crate) enum Selection {
     // Those whose version the list allows.
     Allowed,
     // Those whose version it does not allow.
@@ -35,17 +35,17 @@ pub(crate) enum Wanted {
     Newest,
 }
 
-impl Wanted {
+impl Selection {
     ghost use Rattle.std.specs.Prelude.{Bool, false};
     ghost use Rattle.pyver_tool.specs.Filters.{is_wanted, is_wanted_header, wanted_by};
 
-    pub(crate) fn from_inverted(inverted: bool) -> Wanted
+    pub(crate) fn from_inverted(inverted: bool) -> Selection
         ensures { result ≡ wanted_by inverted }
     {
         if inverted {
-            Wanted::Others
+            Selection::Others
         } else {
-            Wanted::Allowed
+            Selection::Allowed
         }
     }
 
@@ -54,9 +54,9 @@ impl Wanted {
         ensures { result ≡ is_wanted self allowed }
     {
         match self {
-            Wanted::Allowed => allowed,
-            Wanted::Others => !allowed,
-            Wanted::Newest => false,
+            Selection::Allowed => allowed,
+            Selection::Others => !allowed,
+            Selection::Newest => false,
         }
     }
 
@@ -65,9 +65,9 @@ impl Wanted {
         ensures { result ≡ is_wanted_header self is_first }
     {
         match self {
-            Wanted::Allowed => is_first,
-            Wanted::Others => is_first,
-            Wanted::Newest => false,
+            Selection::Allowed => is_first,
+            Selection::Others => is_first,
+            Selection::Newest => false,
         }
     }
 }
@@ -75,7 +75,7 @@ impl Wanted {
 // Which lines are wanted, and by which list.
 #[derive(Drop)]
 pub(crate) struct FilterRule {
-    pub(crate) wanted: Wanted,
+    pub(crate) wanted: Selection,
     // Whether the list takes pre-releases.
     pub(crate) takes: bool,
     pub(crate) lines: LineOptions,
@@ -210,7 +210,7 @@ impl FilterState {
     ) -> Result<(), AllocError>
         ensures { IfOk result (λ _. StepsBy rule.now (record { line = origin_line origin.entry self.old.line_count text.now; reading = Entry (Denotes version.now) }) self.old self.new) }
     {
-        if let Wanted::Newest = rule.wanted {
+        if let Selection::Newest = rule.wanted {
             self.newest
                 .push(alloc, rule.takes, &rule.list, text, version)?;
             return Ok(());

@@ -7,12 +7,12 @@ ghost use Rattle.pyver_tool.specs.NewestViews.{kept_line};
 ghost use Rattle.pyver_tool.specs.Sources.{source_names};
 ghost use Rattle.pyver_tool.specs.SourceViews.{IsRunFailureOf};
 ghost use Rattle.pyver_tool.specs.VersionLines.{OfVersions};
-ghost use Rattle.pyver_tool.specs.WholeInputs.{Answers, StopsUnanswered};
+ghost use Rattle.pyver_tool.specs.WholeInputs.{AnswersSources, StopsUnanswered};
 ghost use Rattle.pyver_tool.specs.declared.stream.RunFailure.TheVariants.{OutOfMemory};
 
 use crate::answer::Answer;
 use crate::files::Files;
-use crate::filter::{FilterRule, FilterState, Wanted};
+use crate::filter::{FilterRule, FilterState, Selection};
 use crate::filter_sources::filter_all_sources;
 use crate::line_options::LineOptions;
 use crate::newest_lines::KeptLine;
@@ -84,13 +84,13 @@ pub(crate) fn find_newest<F: Files, R: Read>(
     files: &mut F,
     input: &mut R,
 ) -> Result<Answer, RunFailure>
-    ensures finished { IfOk result (λ a. Answers (F.known files.old) R.remaining (OfVersions rule.lines (FindsNewest rule)) (source_names (map string_bytes names.now)) input.old input.new (outcome_of a)) }
+    ensures finished { IfOk result (λ a. AnswersSources (F.known files.old) R.remaining (OfVersions rule.lines (FindsNewest rule)) (source_names (map string_bytes names.now)) input.old input.new (outcome_of a)) }
     ensures stopped { IfErr result (StopsUnanswered (F.known files.old) R.remaining (source_names (map string_bytes names.now)) input.old input.new) }
     ensures kept { F.known files.new ≡ F.known files.old }
 {
     let invalid = rule.lines.invalid;
     let filter = FilterRule {
-        wanted: Wanted::Newest,
+        wanted: Selection::Newest,
         takes: takes_prereleases(rule.prereleases, &rule.list),
         lines: rule.lines,
         list: rule.list,

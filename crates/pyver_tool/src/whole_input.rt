@@ -7,7 +7,7 @@ ghost use Rattle.pyver_tool.specs.Sources.{source_names};
 ghost use Rattle.pyver_tool.specs.SourceTexts.{size_of, source_of};
 ghost use Rattle.pyver_tool.specs.SourceViews.{unopened_of};
 ghost use Rattle.pyver_tool.specs.VersionLineViews.{IsOfLines, input_parts_of};
-ghost use Rattle.pyver_tool.specs.WholeInputs.{Answers, AnswersInput, AnswersLines, AnswersParts, StopsUnanswered, WholeFinishes, WholeStops, question_lines};
+ghost use Rattle.pyver_tool.specs.WholeInputs.{AnswersSources, AnswersInput, AnswersLines, AnswersParts, StopsUnanswered, WholeFinishes, WholeStops, question_lines};
 
 use crate::answer::Answer;
 use crate::bump_input::{BumpRule, bump_only};
@@ -106,7 +106,7 @@ fn answer_sources<F: Files, R: Read>(
     files: &mut F,
     input: &mut R,
 ) -> Result<Answer, RunFailure>
-    ensures finished { IfOk result (λ a. Answers (F.known files.old) R.remaining (AnswersLines question.now) (source_names (map string_bytes names.now)) input.old input.new (outcome_of a)) }
+    ensures finished { IfOk result (λ a. AnswersSources (F.known files.old) R.remaining (AnswersLines question.now) (source_names (map string_bytes names.now)) input.old input.new (outcome_of a)) }
     ensures stopped { IfErr result (StopsUnanswered (F.known files.old) R.remaining (source_names (map string_bytes names.now)) input.old input.new) }
     ensures kept { F.known files.new ≡ F.known files.old }
 {
@@ -126,7 +126,7 @@ fn answer_question<F: Files, R: Read>(
     files: &mut F,
     input: &mut R,
 ) -> Result<Answer, RunFailure>
-    ensures finished { IfOk result (λ a. Answers (F.known files.old) R.remaining (AnswersInput question) (source_names (map string_bytes names.now)) input.old input.new (outcome_of a)) }
+    ensures finished { IfOk result (λ a. AnswersSources (F.known files.old) R.remaining (AnswersInput question) (source_names (map string_bytes names.now)) input.old input.new (outcome_of a)) }
     ensures stopped { IfErr result (StopsUnanswered (F.known files.old) R.remaining (source_names (map string_bytes names.now)) input.old input.new) }
     ensures kept { F.known files.new ≡ F.known files.old }
 {
