@@ -1,10 +1,9 @@
 //! A reader of untrusted strings: each is accepted or rejected with an error, and none ends the process.
-ghost use Rattle.std.specs.Prelude.{◌≡◌, is_none, IfOk};
+ghost use Rattle.std.specs.Prelude.{IfOk};
 ghost use Rattle.std.specs.List.{AllZip};
-ghost use Rattle.pep440_version.specs.Errors.{error_refusal};
 ghost use Rattle.examples.specs.Verdicts.{IsVerdict};
 
-use pep440_rs::{ErrorKind, Version, VersionParseError};
+use pep440_rs::Version;
 use std::alloc::{AllocError, Global};
 
 /// What a string is: a version, or invalid.
@@ -16,13 +15,6 @@ pub enum Verdict {
     Rejected(String),
 }
 
-// The error says nothing about the string.
-fn is_out_of_memory(error: &VersionParseError) -> bool
-    ensures { result ≡ is_none (error_refusal error.now) }
-{
-    matches!(error.kind(), ErrorKind::OutOfMemory)
-}
-
 /// The version that the string denotes, or why it denotes none.
 ///
 /// Allocates; the error is out of memory.
@@ -32,7 +24,7 @@ pub fn read(alloc: Global, text: &str) -> Result<Verdict, AllocError>
     match Version::from_str(alloc, text) {
         Ok(version) => Ok(Verdict::Accepted(version)),
         Err(error) => {
-            if is_out_of_memory(&error) {
+            if error.is_out_of_memory() {
                 return Err(AllocError);
             }
             let reason = error.to_string(alloc)?;

@@ -12,8 +12,7 @@ ghost use Rattle.pep440_calls.specs.Statuses.{Gives, PutsBytes};
 
 use crate::buffer::put_text;
 use crate::fault::Fault;
-use crate::patterns::is_pattern_out_of_memory;
-use crate::read::{is_out_of_memory, read};
+use crate::read::read;
 use pep440_compiled::{
     CompiledError, has_list_format, has_version_format, read_list, read_version,
 };
@@ -129,7 +128,7 @@ fn explain_string(alloc: Global, bytes: &[u8]) -> Result<String, Fault>
     match Version::from_str(alloc, text) {
         Ok(_) => Ok(String::new(alloc)),
         Err(error) => {
-            if is_out_of_memory(error.kind()) {
+            if error.is_out_of_memory() {
                 return Err(Fault::OutOfMemory);
             }
             Ok(error.to_string(alloc)?)
@@ -204,7 +203,7 @@ fn explain_pattern(alloc: Global, bytes: &[u8]) -> Result<String, Fault>
     match VersionPattern::from_str(alloc, text) {
         Ok(_) => Ok(String::new(alloc)),
         Err(error) => {
-            if is_pattern_out_of_memory(error.kind()) {
+            if error.is_out_of_memory() {
                 return Err(Fault::OutOfMemory);
             }
             Ok(error.to_string(alloc)?)

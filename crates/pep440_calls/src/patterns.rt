@@ -1,15 +1,14 @@
 //! Version patterns, specifiers of an operator and a pattern, and one specifier.
-ghost use Rattle.std.specs.Prelude.{is_none, string_bytes, ◌≡◌};
+ghost use Rattle.std.specs.Prelude.{string_bytes};
 ghost use Rattle.pep440_rs.specs.Operators.{Spells};
-ghost use Rattle.pep440_version.specs.Errors.{pattern_refusal_of};
 ghost use Rattle.pep440_calls.specs.PatternCalls.{IsCompiledSpecifier, IsOperator, IsPattern, IsSpecifier, MeansPattern, MeansSpecifierBytes, PatternAnswer, RefusesOperand, RefusesOperator, RefusesPatternBytes, RefusesSpecifierBytes};
 ghost use Rattle.pep440_calls.specs.Statuses.{Gives, PutsBytes};
 
 use crate::buffer::{flag, put_and_count, put_bytes, put_text};
 use crate::fault::Fault;
 use pep440_rs::{
-    ErrorKind, Operator, OperatorErrorKind, ParseErrorKind, PatternErrorKind, VersionPattern,
-    VersionSpecifier, VersionSpecifiers,
+    Operator, OperatorErrorKind, ParseErrorKind, VersionPattern, VersionSpecifier,
+    VersionSpecifiers,
 };
 use std::alloc::Global;
 
@@ -60,16 +59,6 @@ pub fn write_compiled_specifier(
     put_bytes(compile_specifier(alloc, specifier), out, written)
 }
 
-/// Whether the error is out of memory.
-pub(crate) fn is_pattern_out_of_memory(kind: &PatternErrorKind) -> bool
-    ensures { result ≡ is_none (pattern_refusal_of kind.now) }
-{
-    match kind {
-        PatternErrorKind::Version(error) => matches!(error.kind(), ErrorKind::OutOfMemory),
-        PatternErrorKind::WildcardNotTrailing => false,
-    }
-}
-
 // The pattern that the bytes denote.
 fn read_pattern(alloc: Global, bytes: &[u8]) -> Result<VersionPattern, Fault>
     ensures { Gives (RefusesPatternBytes bytes.now) ⊥ ⊥ (λ pattern. MeansPattern bytes.now pattern.0 pattern.1) result }
@@ -80,7 +69,7 @@ fn read_pattern(alloc: Global, bytes: &[u8]) -> Result<VersionPattern, Fault>
     match VersionPattern::from_str(alloc, text) {
         Ok(pattern) => Ok(pattern),
         Err(error) => {
-            if is_pattern_out_of_memory(error.kind()) {
+            if error.is_out_of_memory() {
                 return Err(Fault::OutOfMemory);
             }
             Err(Fault::InvalidVersion)

@@ -1,23 +1,14 @@
 //! The version or the list that bytes denote, which are a string or a compiled form.
-ghost use Rattle.std.specs.Prelude.{is_none, ◌≡◌};
 ghost use Rattle.pep440_compiled.specs.Lists.{DenotesList};
 ghost use Rattle.pep440_compiled.specs.Version.{DenotesVersion};
-ghost use Rattle.pep440_version.specs.Errors.{refusal_of};
 ghost use Rattle.pep440_calls.specs.Meaning.{IsNoCompiledList, IsNoCompiledVersion, MeansBytes, MeansListBytes, MeansListString, MeansString, RefusesBytes, RefusesListBytes, RefusesListString, RefusesString};
 ghost use Rattle.pep440_calls.specs.Statuses.{Gives};
 ghost use Rattle.pep440_calls.specs.declared.fault.Fault.TheVariants.{OutOfMemory};
 
 use crate::fault::Fault;
 use pep440_compiled::{CompiledError, has_list_format, has_version_format, read_version};
-use pep440_rs::{ErrorKind, SpecifiersErrorKind, Version, VersionSpecifiers};
+use pep440_rs::{SpecifiersErrorKind, Version, VersionSpecifiers};
 use std::alloc::Global;
-
-/// Whether the error is out of memory.
-pub(crate) fn is_out_of_memory(kind: &ErrorKind) -> bool
-    ensures { result ≡ is_none (refusal_of kind.now) }
-{
-    matches!(kind, ErrorKind::OutOfMemory)
-}
 
 // The version that the string denotes.
 fn read_string(alloc: Global, bytes: &[u8]) -> Result<Version, Fault>
@@ -29,7 +20,7 @@ fn read_string(alloc: Global, bytes: &[u8]) -> Result<Version, Fault>
     match Version::from_str(alloc, text) {
         Ok(version) => Ok(version),
         Err(error) => {
-            if is_out_of_memory(error.kind()) {
+            if error.is_out_of_memory() {
                 return Err(Fault::OutOfMemory);
             }
             Err(Fault::InvalidVersion)

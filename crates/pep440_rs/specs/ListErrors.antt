@@ -1,5 +1,5 @@
 -- What the kind of a list's error reports, apart from its address in memory.
-use Rattle.std.specs.Prelude.{◌≡◌, ◌≤◌, ◌+◌, ℕ, List, Option, option_map, None, Result, Ok, Err, IfSome, IsCharBoundary, length}
+use Rattle.std.specs.Prelude.{◌≡◌, ◌≤◌, ◌+◌, ℕ, Bool, List, Option, option_map, None, Result, Ok, Err, IfSome, IsCharBoundary, false, length, true}
 use Rattle.pep440_rs.specs.Errors.{parse_kind_of, specifier_refusal_of}
 use Rattle.pep440_rs.specs.ListGrammar.{PieceRefusal}
 use Rattle.pep440_rs.specs.SpecifierGrammar.{SpecifierRefusal}
@@ -11,6 +11,11 @@ use Rattle.pep440_rs.specs.declared.list.error.SpecifiersErrorKind.TheVariants.{
 abbrev pub list_refusal_of : SpecifiersErrorKind → Option PieceRefusal
 list_refusal_of (Piece error start stop) = option_map (λ f. record { error = f; start = start; stop = stop }) (specifier_refusal_of (parse_kind_of error))
 list_refusal_of OutOfMemory = None
+
+-- whether it is out of memory
+abbrev pub lacks_list_memory : SpecifiersErrorKind → Bool
+lacks_list_memory OutOfMemory = true
+lacks_list_memory _ = false
 
 -- where the piece begins and ends, in bytes
 abbrev pub span_of : SpecifiersErrorKind → ℕ × ℕ

@@ -25,8 +25,8 @@
 //!
 //! What there is, in the order in which to read it:
 //!
-//! 1. versions: `Version`, `VersionPattern`, their parts, changes and errors, all of `pep440_version` but its modules `key`,
-//!    `laws` and `word`;
+//! 1. versions: `Version`, `VersionPattern`, their parts, changes and errors, all of `pep440_version` but its modules `key` and
+//!    `laws`;
 //! 2. `Operator` and `VersionSpecifier`: made of parts or parsed, and `contains`;
 //! 3. `VersionSpecifiers`, the list: parsed, and `contains`;
 //! 4. why a string is no operator, specifier or list: `OperatorParseError`, `VersionSpecifierBuildError`,

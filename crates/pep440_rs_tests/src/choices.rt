@@ -1,13 +1,16 @@
 //! The newest candidate, and the range that is allowed.
 use pep440_pick::{Requirement, RequirementError, allowed, newest};
-use pep440_rs::{RangeError, RangeLines, SpecifiersErrorKind, Version, VersionSpecifiers};
+use pep440_rs::{RangeError, RangeLines, Version, VersionSpecifiers};
 use std::alloc::Global;
 use testing::{CaseError, print_value, version_argument};
 
 fn list(alloc: Global, text: &str) -> Result<VersionSpecifiers, CaseError> {
-    VersionSpecifiers::from_str(alloc, text).map_err(|error| match error.kind() {
-        SpecifiersErrorKind::OutOfMemory => CaseError::OutOfMemory,
-        _ => CaseError::Unreadable,
+    VersionSpecifiers::from_str(alloc, text).map_err(|error| {
+        if error.is_out_of_memory() {
+            CaseError::OutOfMemory
+        } else {
+            CaseError::Unreadable
+        }
     })
 }
 

@@ -88,6 +88,9 @@ pub fn list_error_text(
     error: &VersionSpecifiersParseError,
     line: &str,
 ) -> Result<String, CaseError> {
+    if error.is_out_of_memory() {
+        return Err(CaseError::OutOfMemory);
+    }
     if !equals_copy(error)? || !equals_copy(error.kind())? {
         return Err(CaseError::Disagreement);
     }

@@ -14,7 +14,7 @@ use pep440_version::{ChangeWordError, parse_change};
 use std::alloc::Global;
 
 // The changes that the words ask for.
-fn read_changes(alloc: Global, words: &[String]) -> Result<Vec<Change>, CommandError>
+fn parse_changes(alloc: Global, words: &[String]) -> Result<Vec<Change>, CommandError>
     ensures { HoldsOrStops (λ v. AllZip AsksChange (enumerate_from 1 (map string_bytes words.now)) (map edit v.items)) (RejectsFirst AsksChange RejectsChange (enumerate_from 1 (map string_bytes words.now))) result }
 {
     let mut changes = Vec::new(alloc);
@@ -50,6 +50,6 @@ pub(crate) fn edit(alloc: Global, word: &str, words: &[String]) -> Result<Answer
     ensures { Answered (EditAnswer word.now (map string_bytes words.now)) result }
 {
     let version = parse_version(alloc, word)?;
-    let changes = read_changes(alloc, words)?;
+    let changes = parse_changes(alloc, words)?;
     apply_changes(alloc, version, changes.as_slice())
 }

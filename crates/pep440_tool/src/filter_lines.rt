@@ -22,7 +22,7 @@ use std::alloc::{AllocError, Global};
 use std::fmt;
 
 // The version that the line denotes.
-fn read_line(alloc: Global, line: Line<'_>) -> Result<Version, CommandError>
+fn parse_line(alloc: Global, line: Line<'_>) -> Result<Version, CommandError>
     ensures { HoldsOrStops (LineMeans Derives (line.entry.number, line.entry.bytes.now)) (RejectsLine Refuses refused_version (line.entry.number, line.entry.bytes.now)) result }
 {
     match Version::from_str(alloc, line.text()?) {
@@ -47,7 +47,7 @@ fn push_contained(
 }
 
 // The versions of the lines that the list contains, in the order of the lines.
-fn read_contained(
+fn parse_contained(
     alloc: Global,
     list: &VersionSpecifiers,
     input: &[u8],
@@ -57,7 +57,7 @@ fn read_contained(
     let mut versions = Vec::new(alloc);
     let mut lines = Lines::new(input);
     while let Some((line, later)) = lines.next_line() {
-        let version = read_line(alloc, line)?;
+        let version = parse_line(alloc, line)?;
         push_contained(alloc, list, version, &mut versions)?;
         lines = later;
     }
@@ -102,7 +102,7 @@ pub(crate) fn filter_lines(alloc: Global, word: &str, input: &[u8]) -> Result<An
     ensures { Answered (FilterAnswer word.now input.now) result }
 {
     let list = parse_list(alloc, word)?;
-    let mut versions = read_contained(alloc, &list, input)?;
+    let mut versions = parse_contained(alloc, &list, input)?;
     versions.sort()?;
     let lines = SortedVersions {
         versions: versions.as_slice(),

@@ -17,7 +17,7 @@ use pep440_rs::{Version, VersionSpecifiers};
 use std::alloc::{AllocError, Global};
 
 // The version that the candidate with this number denotes.
-fn read_candidate(alloc: Global, number: usize, word: &str) -> Result<Version, CommandError>
+fn parse_candidate(alloc: Global, number: usize, word: &str) -> Result<Version, CommandError>
     ensures { HoldsOrStops (CandidateMeans (number, word.now)) (RejectsCandidate (number, word.now)) result }
 {
     match Version::from_str(alloc, word) {
@@ -27,19 +27,19 @@ fn read_candidate(alloc: Global, number: usize, word: &str) -> Result<Version, C
 }
 
 // The versions that the candidates denote.
-fn read_candidates(alloc: Global, words: &[String]) -> Result<Vec<Version>, CommandError>
+fn parse_candidates(alloc: Global, words: &[String]) -> Result<Vec<Version>, CommandError>
     ensures { HoldsOrStops (λ v. AllZip CandidateMeans (enumerate_from 1 (map string_bytes words.now)) v.items) (RejectsFirst CandidateMeans RejectsCandidate (enumerate_from 1 (map string_bytes words.now))) result }
 {
     let mut versions = Vec::new(alloc);
     for (at, word) in words.iter().enumerate() {
-        let version = read_candidate(alloc, at + 1, word.as_str())?;
+        let version = parse_candidate(alloc, at + 1, word.as_str())?;
         versions.push(version)?;
     }
     Ok(versions)
 }
 
 // The list of the requirement that the line denotes, if it is of that name.
-fn read_specifiers(
+fn parse_specifiers(
     alloc: Global,
     name: &str,
     line: Line<'_>,
@@ -66,7 +66,7 @@ fn push_list(
 }
 
 // The lists of the lines of that name.
-fn read_lists(
+fn parse_lists(
     alloc: Global,
     name: &str,
     input: &[u8],
@@ -76,7 +76,7 @@ fn read_lists(
     let mut lists = Vec::new(alloc);
     let mut lines = Lines::new(input);
     while let Some((line, later)) = lines.next_line() {
-        let list = read_specifiers(alloc, name, line)?;
+        let list = parse_specifiers(alloc, name, line)?;
         push_list(&mut lists, list)?;
         lines = later;
     }
@@ -95,8 +95,8 @@ pub(crate) fn pick(
     if !is_name(name) {
         return Err(CommandError::Name);
     }
-    let versions = read_candidates(alloc, candidates)?;
-    let lists = read_lists(alloc, name, input)?;
+    let versions = parse_candidates(alloc, candidates)?;
+    let lists = parse_lists(alloc, name, input)?;
     match newest(alloc, lists.as_slice(), versions.as_slice())? {
         Some(position) => {
             let print = versions[position].to_string(alloc)?;

@@ -1,5 +1,5 @@
 //! Why a string is not a version or not a pattern: kinds, errors and the conversions between them.
-ghost use Rattle.std.specs.Prelude.{◌≡◌};
+ghost use Rattle.std.specs.Prelude.{◌≡◌, is_none};
 ghost use Rattle.pep440_version.specs.Errors.{kind_of, pattern_kind_of, refusal_of, error_refusal, pattern_refusal_of, pattern_error_refusal};
 ghost use Rattle.pep440_version.specs.declared.error.PatternErrorKind.TheVariants.{Version};
 ghost use Rattle.pep440_version.specs.declared.error.VersionParseError.{VersionParseError};
@@ -83,6 +83,13 @@ impl VersionParseError {
     {
         &self.kind
     }
+
+    /// Whether the call was out of memory, which says nothing about the string.
+    pub fn is_out_of_memory(&self) -> bool
+        ensures { result ≡ is_none (error_refusal self.now) }
+    {
+        matches!(self.kind, ErrorKind::OutOfMemory)
+    }
 }
 
 impl Clone for VersionParseError {
@@ -151,6 +158,16 @@ impl VersionPatternParseError {
         ensures { result.now ≡ pattern_kind_of self.now }
     {
         &self.kind
+    }
+
+    /// Whether the call was out of memory, which says nothing about the string.
+    pub fn is_out_of_memory(&self) -> bool
+        ensures { result ≡ is_none (pattern_error_refusal self.now) }
+    {
+        match &self.kind {
+            PatternErrorKind::Version(error) => error.is_out_of_memory(),
+            PatternErrorKind::WildcardNotTrailing => false,
+        }
     }
 }
 

@@ -15,9 +15,13 @@ pub fn message<E: Error + Debug>(alloc: Global, error: &E) -> Result<String, Cas
     Ok(print_value(alloc, error)?)
 }
 
-/// The messages of both errors of being out of memory.
+/// The messages of both errors of being out of memory, as which a version's and a pattern's error are known.
 pub fn out_of_memory(alloc: Global) -> Result<String, CaseError> {
     let error = VersionParseError::from(ErrorKind::from(AllocError));
+    let of_pattern = VersionPatternParseError::from(ErrorKind::from(AllocError));
+    if !error.is_out_of_memory() || !of_pattern.is_out_of_memory() {
+        return Err(CaseError::Disagreement);
+    }
     let mut messages = message(alloc, &error)?;
     messages.push_str(", ")?;
     messages.push_str(message(alloc, &ChangeError::from(AllocError))?.as_str())?;
@@ -75,6 +79,9 @@ fn join<K: Debug>(
 
 /// The error, which equals its copy, as its kind does.
 pub fn error_text(alloc: Global, error: &VersionParseError) -> Result<String, CaseError> {
+    if error.is_out_of_memory() {
+        return Err(CaseError::OutOfMemory);
+    }
     if !equals_copy(error)? || !equals_copy(error.kind())? {
         return Err(CaseError::Disagreement);
     }
@@ -91,6 +98,9 @@ pub fn pattern_error_text(
     alloc: Global,
     error: &VersionPatternParseError,
 ) -> Result<String, CaseError> {
+    if error.is_out_of_memory() {
+        return Err(CaseError::OutOfMemory);
+    }
     if !equals_copy(error)? || !equals_copy(error.kind())? {
         return Err(CaseError::Disagreement);
     }

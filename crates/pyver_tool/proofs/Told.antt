@@ -1,12 +1,12 @@
 -- Strings that are rejected, by the errors of their readers.
 use Rattle.std.proofs.Common.{◌≡◌, ℕ, List, true, false, Option, Some, None, IfSome, is_none, refl, ap, subst}
+use Rattle.pep440_rs.specs.ListErrors.{lacks_list_memory}
 use Rattle.pep440_rs.specs.ListErrorTexts.{list_refusal_text}
 use Rattle.pep440_rs.specs.ListGrammar.{PieceRefusal, RefusesList}
 use Rattle.pep440_rs.specs.declared.list.error.SpecifiersErrorKind.{SpecifiersErrorKind}
 use Rattle.pep440_rs.specs.declared.list.error.SpecifiersErrorKind.TheVariants as list
 use Rattle.pep440_version.specs.ErrorTexts.{refusal_text}
 use Rattle.pep440_version.specs.Refusals.{Refusal, Refuses}
-use Rattle.pyver_tool.specs.AnswerViews.{lacks_list_memory}
 
 -- an error that is not 'out of memory' has the message of a refusal
 pub told : (text : List ℕ) (o : Option Refusal) (m : Option (List ℕ)) (s : List ℕ) → is_none o ≡ false → IfSome o (Refuses text) → IfSome o (λ f. m ≡ Some (refusal_text f)) → IfSome m (λ t. s ≡ t)

@@ -1,7 +1,5 @@
 -- What the program's own types say, apart from where they lie in memory.
-use Rattle.std.specs.Prelude.{Bool, true, false, string_bytes}
-use Rattle.pep440_rs.specs.declared.list.error.SpecifiersErrorKind.{SpecifiersErrorKind}
-use Rattle.pep440_rs.specs.declared.list.error.SpecifiersErrorKind.TheVariants as error
+use Rattle.std.specs.Prelude.{string_bytes}
 use Rattle.pyver_tool.specs.Matches.{DenotesList, ListFails}
 use Rattle.pyver_tool.specs.Matches.{SpecifiersReading as SpecifiersReadingValue}
 use Rattle.pyver_tool.specs.declared.allowed.SpecifiersReading.{SpecifiersReading}
@@ -23,8 +21,3 @@ reading_of (reading.Invalid reason) = Fails (string_bytes reason)
 abbrev pub specifiers_reading_of : SpecifiersReading → SpecifiersReadingValue
 specifiers_reading_of (specifiers.Specifiers list) = DenotesList list
 specifiers_reading_of (specifiers.Invalid message) = ListFails (string_bytes message)
-
--- a list was not read because an allocation failed
-abbrev pub lacks_list_memory : SpecifiersErrorKind → Bool
-lacks_list_memory error.OutOfMemory = true
-lacks_list_memory _ = false

@@ -1,14 +1,13 @@
 // The command `match`.
 ghost use Rattle.std.specs.Prelude.{◌≡◌, ◌++◌, IfOk, map, string_bytes};
-ghost use Rattle.pep440_rs.specs.ListAnswers.{list_kind_of};
-ghost use Rattle.pyver_tool.specs.AnswerViews.{lacks_list_memory, outcome_of, reading_of, specifiers_reading_of};
+ghost use Rattle.pyver_tool.specs.AnswerViews.{outcome_of, reading_of, specifiers_reading_of};
 ghost use Rattle.pyver_tool.specs.Matches.{Matches, MatchesWords, ReadsSpecifiers, list_fault, list_message, verdict, word_outcome};
 ghost use Rattle.pyver_tool.specs.Outcomes.{followed_by};
 
 use crate::answer::Answer;
 use crate::prerelease_rule::{Prereleases, takes_prereleases};
 use crate::reading::{Reading, parse_version};
-use pep440_rs::{SpecifiersErrorKind, VersionSpecifiers, VersionSpecifiersParseError};
+use pep440_rs::VersionSpecifiers;
 use pyver_findings::{push_escaped, push_escaped_lines};
 use std::alloc::{AllocError, Global};
 
@@ -27,12 +26,6 @@ pub(crate) enum SpecifiersReading {
     Invalid(String),
 }
 
-fn is_out_of_memory(error: &VersionSpecifiersParseError) -> bool
-    ensures { result ≡ lacks_list_memory (list_kind_of error.now) }
-{
-    matches!(error.kind(), SpecifiersErrorKind::OutOfMemory)
-}
-
 // The list that the string denotes, or why it denotes none.
 pub(crate) fn parse_specifiers(alloc: Global, text: &str) -> Result<SpecifiersReading, AllocError>
     ensures { IfOk result (λ x. ReadsSpecifiers text.now (specifiers_reading_of x)) }
@@ -40,7 +33,7 @@ pub(crate) fn parse_specifiers(alloc: Global, text: &str) -> Result<SpecifiersRe
     match VersionSpecifiers::from_str(alloc, text) {
         Ok(list) => Ok(SpecifiersReading::Specifiers(list)),
         Err(error) => {
-            if is_out_of_memory(&error) {
+            if error.is_out_of_memory() {
                 return Err(AllocError);
             }
             Ok(SpecifiersReading::Invalid(error.to_string(alloc)?))

@@ -1,10 +1,9 @@
 // Words and lines read as versions.
-ghost use Rattle.std.specs.Prelude.{◌≡◌, IfOk, is_none};
-ghost use Rattle.pep440_version.specs.Errors.{error_refusal};
+ghost use Rattle.std.specs.Prelude.{IfOk};
 ghost use Rattle.pyver_tool.specs.AnswerViews.{reading_of};
 ghost use Rattle.pyver_tool.specs.Readings.{Reads};
 
-use pep440_rs::{ErrorKind, Version, VersionParseError};
+use pep440_rs::Version;
 use std::alloc::{AllocError, Global};
 
 // What a string is read as.
@@ -15,12 +14,6 @@ pub(crate) enum Reading {
     Invalid(String),
 }
 
-fn is_out_of_memory(error: &VersionParseError) -> bool
-    ensures { result ≡ is_none (error_refusal error.now) }
-{
-    matches!(error.kind(), ErrorKind::OutOfMemory)
-}
-
 // The version that the string denotes, or why it denotes none.
 pub(crate) fn parse_version(alloc: Global, text: &str) -> Result<Reading, AllocError>
     ensures { IfOk result (λ x. Reads text.now (reading_of x)) }
@@ -28,7 +21,7 @@ pub(crate) fn parse_version(alloc: Global, text: &str) -> Result<Reading, AllocE
     match Version::from_str(alloc, text) {
         Ok(version) => Ok(Reading::Version(version)),
         Err(error) => {
-            if is_out_of_memory(&error) {
+            if error.is_out_of_memory() {
                 return Err(AllocError);
             }
             Ok(Reading::Invalid(error.to_string(alloc)?))

@@ -3,7 +3,7 @@ ghost use Rattle.std.specs.Prelude.{◌≡◌, ◌<◌, ◌≤◌, ◌⊎◌, �
 ghost use Rattle.std.specs.Fmt.{DisplaysStyledOnOk, WritesStyledOnOk};
 ghost use Rattle.pep440_rs.specs.Errors.{parse_kind_of, specifier_refusal_of};
 ghost use Rattle.pep440_rs.specs.ErrorTexts.{specifier_error_text};
-ghost use Rattle.pep440_rs.specs.ListErrors.{IsSpan, list_refusal_of, span_of};
+ghost use Rattle.pep440_rs.specs.ListErrors.{IsSpan, lacks_list_memory, list_refusal_of, span_of};
 ghost use Rattle.pep440_rs.specs.ListErrorTexts.{caret_line, list_text_of, piece_text};
 ghost use Rattle.pep440_rs.specs.declared.list.error.SpecifiersErrorKind.TheVariants.{OutOfMemory};
 
@@ -79,6 +79,13 @@ impl VersionSpecifiersParseError {
         ensures { result.now ≡ list_kind_of self.now }
     {
         &self.kind
+    }
+
+    /// Whether the call was out of memory, which says nothing about the string.
+    pub fn is_out_of_memory(&self) -> bool
+        ensures { result ≡ lacks_list_memory (list_kind_of self.now) }
+    {
+        matches!(self.kind, SpecifiersErrorKind::OutOfMemory)
     }
 
     /// The whole string; empty when out of memory.

@@ -1,6 +1,6 @@
 //! Why a string is no operator, why an operator and a version are no specifier, and why a string is no specifier: each kind
 //! with its error and its message, which is the same whatever width and fill are asked for.
-ghost use Rattle.std.specs.Prelude.{◌≡◌, ◌++◌, Some, codes, is_none, map, option_map};
+ghost use Rattle.std.specs.Prelude.{◌≡◌, ◌++◌, Some, codes, map, option_map};
 ghost use Rattle.std.specs.Fmt.{DisplaysStyledOnOk, HasWrittenStyled, IsFlush, WritesStyledOnOk};
 ghost use Rattle.pep440_version.specs.Errors.{pattern_kind_of, pattern_refusal_of};
 ghost use Rattle.pep440_version.specs.Print.{dotted, segment_print};
@@ -12,10 +12,7 @@ ghost use Rattle.pep440_rs.specs.SpecifierGrammar.{InvalidOperator, InvalidVersi
 ghost use Rattle.pep440_rs.specs.declared.specifier.error.ParseErrorKind.TheVariants.{InvalidSpecifier, OutOfMemory};
 
 use crate::specifier::operator::Operator;
-use pep440_version::{
-    ErrorKind, LocalSegment, PatternErrorKind, Version, VersionPatternParseError,
-    write_local_segments,
-};
+use pep440_version::{LocalSegment, Version, VersionPatternParseError, write_local_segments};
 use std::alloc::AllocError;
 use std::error::Error;
 use std::fmt::{self, Write};
@@ -343,20 +340,11 @@ impl ParseErrorKind {
         ensures refusal { specifier_refusal_of result ≡ option_map InvalidVersion (pattern_refusal_of (pattern_kind_of error)) }
         ensures lifted { IsLifted result }
     {
-        if is_out_of_memory(error.kind()) {
+        if error.is_out_of_memory() {
             ParseErrorKind::OutOfMemory
         } else {
             ParseErrorKind::InvalidVersion(error)
         }
-    }
-}
-
-fn is_out_of_memory(kind: &PatternErrorKind) -> bool
-    ensures { result ≡ is_none (pattern_refusal_of kind.now) }
-{
-    match kind {
-        PatternErrorKind::Version(error) => matches!(error.kind(), ErrorKind::OutOfMemory),
-        PatternErrorKind::WildcardNotTrailing => false,
     }
 }
 

@@ -6,5 +6,5 @@ use Rattle.pep440_calls.proofs.messages.explain_string.Goals as goal
 
 pub returns : goal.returns
 returns c = inr (tells c.args.bytes.now c.in-Ok.text.now (string_bytes c.in_ok-to_string-in-Err.field-0) (refusal_of (kind_of c.in-Err.error)) (error_text (refusal_of (kind_of c.in-Err.error)))
-    c.in-Ok.ensures.cases.0 c.in-Ok.ensures.cases.1 (rw c.kind.ensures at (sym c.is_out_of_memory.ensures ∙ c.if-is_out_of_memory.false)) c.in-Err.ensures.refused
+    c.in-Ok.ensures.cases.0 c.in-Ok.ensures.cases.1 (sym c.is_out_of_memory.ensures ∙ c.if-is_out_of_memory.false) c.in-Err.ensures.refused
     c.in-Err.ensures.message c.in_ok-to_string-in-Err.ensures.ok)

@@ -8,4 +8,4 @@ returns-in_default c = no_text c.args.bytes.now c.in_default.ensures.cases.0
 
 pub returns-else-is_out_of_memory : goal.returns-else-is_out_of_memory
 returns-else-is_out_of_memory c = refuses c.args.bytes.now c.in-Ok.text.now (refusal_of (kind_of c.in-Err.error)) c.in-Ok.ensures.cases.0 c.in-Ok.ensures.cases.1
-    (rw c.kind.ensures at (sym c.is_out_of_memory.ensures ∙ c.if-is_out_of_memory.false)) c.in-Err.ensures.refused
+    (sym c.is_out_of_memory.ensures ∙ c.if-is_out_of_memory.false) c.in-Err.ensures.refused

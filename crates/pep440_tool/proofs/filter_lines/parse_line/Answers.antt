@@ -5,7 +5,7 @@ use Rattle.pep440_version.specs.Refusals.{Refuses}
 use Rattle.pep440_tool.specs.Answers.{line_fault_text}
 use Rattle.pep440_tool.specs.Lines.{RejectsLine, refused_version}
 use Rattle.pep440_tool.proofs.Rejected.{not_text, stopped, told}
-use Rattle.pep440_tool.proofs.filter_lines.read_line.Goals as goal
+use Rattle.pep440_tool.proofs.filter_lines.parse_line.Goals as goal
 
 pub returns-in_err-text : goal.returns-in_err-text
 returns-in_err-text c =

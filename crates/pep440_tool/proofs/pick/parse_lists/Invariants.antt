@@ -4,7 +4,7 @@ use Rattle.pep440_pick.specs.RequirementGrammar.{DerivesRequirement}
 use Rattle.pep440_tool.specs.Lines.{LineMeans, numbered_lines}
 use Rattle.pep440_tool.specs.LinesLeft.{bytes_left, left}
 use Rattle.pep440_tool.proofs.Each.{Found}
-use Rattle.pep440_tool.proofs.pick.read_lists.Given as goal
+use Rattle.pep440_tool.proofs.pick.parse_lists.Given as goal
 
 abbrev pub invariant-loop-line : goal.invariant-loop-line
 invariant-loop-line l = Found (LineMeans DerivesRequirement) (numbered_lines l.input) (left l.lines) (λ found. l.lists.items ≡ lists_of l.name found)

@@ -10,7 +10,7 @@ use Rattle.pep440_tool.specs.Lines.{LineMeans, RejectsLine, numbered_lines, refu
 use Rattle.pep440_tool.specs.LinesLeft.{left}
 use Rattle.pep440_tool.proofs.Each.{found_more, found_rejected}
 use Rattle.pep440_tool.proofs.Rejected.{stopped}
-use Rattle.pep440_tool.proofs.filter_lines.read_contained.Goals as goal
+use Rattle.pep440_tool.proofs.filter_lines.parse_contained.Goals as goal
 
 pub returns-in_err-version : goal.returns-in_err-version
 returns-in_err-version c =

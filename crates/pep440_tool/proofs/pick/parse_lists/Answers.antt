@@ -7,7 +7,7 @@ use Rattle.pep440_tool.specs.Lines.{LineMeans, RejectsLine, numbered_lines}
 use Rattle.pep440_tool.specs.LinesLeft.{left}
 use Rattle.pep440_tool.proofs.Each.{Found, found_more, found_none, found_rejected, lists_append}
 use Rattle.pep440_tool.proofs.Rejected.{stopped}
-use Rattle.pep440_tool.proofs.pick.read_lists.Goals as goal
+use Rattle.pep440_tool.proofs.pick.parse_lists.Goals as goal
 
 pub returns-in_err-list : goal.returns-in_err-list
 returns-in_err-list c =

@@ -4,7 +4,7 @@ use Rattle.pep440_version.specs.ChangeWords.{change_of, not_a_change_text}
 use Rattle.pep440_version.specs.Changes.{Edit, edit}
 use Rattle.pep440_tool.specs.Answers.{AsksChange, RejectsChange}
 use Rattle.pep440_tool.proofs.Each.{found_more, found_rejected, word_left, words_left}
-use Rattle.pep440_tool.proofs.edit.read_changes.Goals as goal
+use Rattle.pep440_tool.proofs.edit.parse_changes.Goals as goal
 
 pub returns-in-Err-NotAChange : goal.returns-in-Err-NotAChange
 returns-in-Err-NotAChange c = λ lacks. (

@@ -3,7 +3,7 @@ use Rattle.std.specs.Prelude.{option_map}
 use Rattle.pep440_version.specs.ErrorTexts.{refusal_text}
 use Rattle.pep440_tool.specs.Answers.{candidate_fault_text}
 use Rattle.pep440_tool.proofs.Rejected.{told}
-use Rattle.pep440_tool.proofs.pick.read_candidate.Goals as goal
+use Rattle.pep440_tool.proofs.pick.parse_candidate.Goals as goal
 
 pub returns-in-Err : goal.returns-in-Err
 returns-in-Err c = λ lacks.

@@ -4,7 +4,7 @@ use Rattle.pep440_tool.specs.Answers.{RejectsFirst}
 use Rattle.pep440_tool.specs.Picks.{CandidateMeans, RejectsCandidate}
 use Rattle.pep440_tool.proofs.Each.{found_more, found_rejected, word_left, words_left}
 use Rattle.pep440_tool.proofs.Rejected.{stopped}
-use Rattle.pep440_tool.proofs.pick.read_candidates.Goals as goal
+use Rattle.pep440_tool.proofs.pick.parse_candidates.Goals as goal
 
 pub returns-in_err-version : goal.returns-in_err-version
 returns-in_err-version c =
