@@ -8,7 +8,7 @@ use Rattle.pep440_pick.specs.RequirementGrammar.{InvalidExtras, InvalidName, Mar
 use Rattle.pep440_pick.specs.RequirementReading.{Front, listed_extras}
 use Rattle.pep440_pick.specs.declared.error.RequirementError.{RequirementError}
 use Rattle.pep440_pick.specs.declared.error.RequirementError.TheVariants as error
-use Rattle.pep440_pick.specs.declared.read.SplitRequirement.{SplitRequirement}
+use Rattle.pep440_pick.specs.declared.requirement_parts.SplitRequirement.{SplitRequirement}
 use Rattle.pep440_pick.specs.declared.requirement.Requirement.{Requirement}
 
 -- the name, the extras and the members of the list

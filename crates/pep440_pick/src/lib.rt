@@ -8,8 +8,8 @@ mod candidates;
 mod error;
 pub mod laws;
 mod name;
-mod read;
 mod requirement;
+mod requirement_parts;
 mod scan;
 
 pub use allowed_range::allowed;

@@ -8,7 +8,7 @@ ghost use Rattle.pep440_pick.specs.RequirementTexts.{requirement_refusal_text, r
 
 use crate::error::RequirementError;
 use crate::name::same_name;
-use crate::read::{copy_extras, parse_list, read_parts};
+use crate::requirement_parts::{copy_extras, parse_list, parse_parts};
 use pep440_rs::VersionSpecifiers;
 use std::alloc::{AllocError, Global};
 
@@ -49,7 +49,7 @@ impl Requirement {
         // The version of each member is one that a string can have beside the operator, as the agreement of ranges requires.
         ensures operand { IfOk result (λ r. All HasOperand r.specifiers) }
     {
-        let parts = read_parts(text)?;
+        let parts = parse_parts(text)?;
         let specifiers = parse_list(alloc, parts.list)?;
         let name = String::from_str(alloc, parts.name)?;
         let extras = copy_extras(alloc, parts.extras)?;
@@ -78,7 +78,7 @@ impl Requirement {
         // `OutOfMemory` is a kind of its own, and is inside no other.
         ensures lifted { IfErr result IsRequirementLifted }
     {
-        let parts = read_parts(text)?;
+        let parts = parse_parts(text)?;
         let specifiers = parse_list(alloc, parts.list)?;
         if same_name(parts.name, name) {
             Ok(Some(specifiers))

@@ -7,7 +7,7 @@ ghost use Rattle.pep440_ranges.specs.Clones.{ClonesBound};
 use std::alloc::AllocError;
 use std::ops::Bound;
 
-/// Whether the value is not before the start.
+// Whether the value is not before the start.
 pub(crate) fn is_from_start<V: Ord>(start: &Bound<V>, value: &V) -> bool
     ensures { result ≡ is_from_start V.cmp start.now value.now }
 {
@@ -18,7 +18,7 @@ pub(crate) fn is_from_start<V: Ord>(start: &Bound<V>, value: &V) -> bool
     }
 }
 
-/// Whether the value is not after the end.
+// Whether the value is not after the end.
 pub(crate) fn is_up_to_end<V: Ord>(end: &Bound<V>, value: &V) -> bool
     ensures { result ≡ is_up_to_end V.cmp end.now value.now }
 {
@@ -29,7 +29,7 @@ pub(crate) fn is_up_to_end<V: Ord>(end: &Bound<V>, value: &V) -> bool
     }
 }
 
-/// Whether the two bounds make a valid segment.
+// Whether the two bounds make a valid segment.
 pub(crate) fn is_valid<V: Ord>(start: &Bound<V>, end: &Bound<V>) -> bool
     ensures { result ≡ is_valid V.cmp start.now end.now }
 {
@@ -42,7 +42,7 @@ pub(crate) fn is_valid<V: Ord>(start: &Bound<V>, end: &Bound<V>) -> bool
     }
 }
 
-/// Whether the second of two starts is greater.
+// Whether the second of two starts is greater.
 fn starts_before<V: Ord>(a: &Bound<V>, b: &Bound<V>) -> bool
     ensures { result ≡ starts_before V.cmp a.now b.now }
 {
@@ -56,14 +56,14 @@ fn starts_before<V: Ord>(a: &Bound<V>, b: &Bound<V>) -> bool
     }
 }
 
-/// The greater of two starts; the first if they are equal.
+// The greater of two starts; the first if they are equal.
 pub(crate) fn greater_start<'a, V: Ord>(a: &'a Bound<V>, b: &'a Bound<V>) -> &'a Bound<V>
     ensures { result.now ≡ (if starts_before V.cmp a.now b.now then b.now else a.now) }
 {
     if starts_before(a, b) { b } else { a }
 }
 
-/// Whether the first of two ends is less.
+// Whether the first of two ends is less.
 pub(crate) fn ends_before<V: Ord>(a: &Bound<V>, b: &Bound<V>) -> bool
     ensures { result ≡ ends_before V.cmp a.now b.now }
 {
@@ -77,7 +77,7 @@ pub(crate) fn ends_before<V: Ord>(a: &Bound<V>, b: &Bound<V>) -> bool
     }
 }
 
-/// A copy of the bound, with a clone of its value.
+// A copy of the bound, with a clone of its value.
 pub(crate) fn clone_bound<V: Clone>(bound: &Bound<V>) -> Result<Bound<V>, AllocError>
     requires { ClonesBound V.is_clone bound.now }
     ensures { IfOk result (λ b. b ≡ bound.now) }
@@ -89,7 +89,7 @@ pub(crate) fn clone_bound<V: Clone>(bound: &Bound<V>) -> Result<Bound<V>, AllocE
     })
 }
 
-/// The bound with included and excluded swapped, with a clone of its value.
+// The bound with included and excluded swapped, with a clone of its value.
 pub(crate) fn flip_bound<V: Clone>(bound: &Bound<V>) -> Result<Bound<V>, AllocError>
     requires { ClonesBound V.is_clone bound.now }
     ensures { IfOk result (λ b. b ≡ flipped_bound bound.now) }

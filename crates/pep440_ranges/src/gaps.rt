@@ -9,7 +9,7 @@ use crate::segments::Segment;
 use std::alloc::{AllocError, Global};
 use std::ops::Bound;
 
-/// The gaps, in order: one pass, one clone for each bound of a gap.
+// The gaps, in order: one pass, one clone for each bound of a gap.
 pub(crate) fn find_gaps<V: Clone>(
     alloc: Global,
     segments: &[Segment<V>],

@@ -10,7 +10,7 @@ use crate::segments::Segment;
 use std::alloc::{AllocError, Global};
 use std::ops::Bound;
 
-/// Appends the segment between the two bounds, if it is valid.
+// Appends the segment between the two bounds, if it is valid.
 fn push_valid<V: Ord + Clone>(
     shared: &mut Vec<Segment<V>>,
     start: &Bound<V>,
@@ -26,7 +26,7 @@ fn push_valid<V: Ord + Clone>(
     Ok(())
 }
 
-/// The valid overlaps, in order: one pass over both lists, one clone for each bound that is kept.
+// The valid overlaps, in order: one pass over both lists, one clone for each bound that is kept.
 pub(crate) fn find_overlaps<V: Ord + Clone>(
     alloc: Global,
     left: &[Segment<V>],

@@ -30,7 +30,7 @@ impl<'a, V> Model for Segments<'a, V> {
 }
 
 impl<'a, V> Segments<'a, V> {
-    /// An iterator over these.
+    // An iterator over these.
     pub(crate) fn new(segments: &'a [Segment<V>]) -> Self
         ensures { result ≡ segments.now }
     {
@@ -53,7 +53,7 @@ impl<'a, V> Iterator for Segments<'a, V> {
     }
 }
 
-/// A copy of the segments, with clones of their values.
+// A copy of the segments, with clones of their values.
 pub(crate) fn clone_segments<V: Clone>(
     alloc: Global,
     segments: &[Segment<V>],

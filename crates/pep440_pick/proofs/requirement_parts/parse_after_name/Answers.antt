@@ -1,7 +1,7 @@
 use Rattle.std.proofs.Common.{◌∙◌, sym}
 use Rattle.pep440_pick.specs.RequirementReading.{listed_extras}
 use Rattle.pep440_pick.proofs.Prefixes.{ends_decide, found_named, no_extras_named, not_named, unclosed_named}
-use Rattle.pep440_pick.proofs.read.parse_after_name.Goals as goal
+use Rattle.pep440_pick.proofs.requirement_parts.parse_after_name.Goals as goal
 
 pub returns-then-not-has_name_ends-clause-value : goal.returns-then-not-has_name_ends-clause-value
 returns-then-not-has_name_ends-clause-value c = not_named c.args.name.now c.args.rest.now (ends_decide c.args.name.now c.as_bytes.result.now _ c.requires c.as_bytes.ensures.value (sym c.has_name_ends.ensures ∙ c.if-not-has_name_ends.true))

@@ -1,7 +1,7 @@
 use Rattle.std.proofs.Common.{◌∙◌, sym}
 use Rattle.pep440_pick.specs.RequirementReading.{listed_extras}
 use Rattle.pep440_pick.proofs.Extras.{closed_none, closed_some, extras_known, extras_unknown, prefix_lacks, no_bracket, unclosed}
-use Rattle.pep440_pick.proofs.read.split_extras.Goals as goal
+use Rattle.pep440_pick.proofs.requirement_parts.split_extras.Goals as goal
 
 pub returns-in_default : goal.returns-in_default
 returns-in_default c = sym (no_bracket c.args.text.now (prefix_lacks 91 c.args.text.now c.in_default.ensures))

@@ -2,7 +2,7 @@ use Rattle.std.proofs.Common.{length, map, string_bytes}
 use Rattle.pep440_pick.proofs.Extras.{AreCopied}
 use denote.Shadow.{shadow}
 use denote.Text.{Utf8}
-use Rattle.pep440_pick.proofs.read.copy_extras.Given as goal
+use Rattle.pep440_pick.proofs.requirement_parts.copy_extras.Given as goal
 
 abbrev pub invariant-loop-part : goal.invariant-loop-part
 invariant-loop-part l = record {

@@ -1,4 +1,4 @@
-//! The readers of the parts of a requirement.
+//! The parts of a requirement, parsed.
 ghost use Rattle.std.specs.Prelude.{◌≡◌, ◌∷◌, ◌++◌, [], List, true, map, option_map, string_bytes, Ok, Err, IfOk, IfErr, IfSome, Some};
 ghost use Rattle.std.specs.List.{All, list_all};
 ghost use Rattle.pep440_rs.specs.Agreement.{HasOperand};
@@ -126,7 +126,7 @@ fn parse_after_name<'a>(
 }
 
 // The parts of the string.
-pub(crate) fn read_parts(text: &str) -> Result<SplitRequirement<'_>, RequirementError>
+pub(crate) fn parse_parts(text: &str) -> Result<SplitRequirement<'_>, RequirementError>
     ensures value { FrontGives result (read_prefix text.now) }
     ensures lifted { IfErr result IsRequirementLifted }
     ensures message { IfErr result (λ e. IfSome (requirement_refusal_of e) (λ f. requirement_text_of e ≡ Some (requirement_refusal_text f))) }

@@ -5,7 +5,7 @@ use Rattle.pep440_pick.specs.Names.{is_name}
 use Rattle.pep440_rs.specs.Blanks.{trim_blanks}
 use denote.Shadow.{shadow}
 use denote.Text.{Utf8}
-use Rattle.pep440_pick.proofs.read.are_names.Given as goal
+use Rattle.pep440_pick.proofs.requirement_parts.are_names.Given as goal
 
 abbrev pub invariant-loop-part : goal.invariant-loop-part
 invariant-loop-part l = record {

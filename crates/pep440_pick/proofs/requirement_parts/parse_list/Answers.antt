@@ -7,7 +7,7 @@ use Rattle.pep440_rs.specs.Specifiers.{Spec}
 use Rattle.pep440_pick.specs.RequirementGrammar.{RequirementRefusal, Specifiers}
 use Rattle.pep440_pick.specs.Requirements.{IsOfList, requirement_refusal_of}
 use Rattle.pep440_pick.proofs.Listing.{of_refusal}
-use Rattle.pep440_pick.proofs.read.parse_list.Goals as goal
+use Rattle.pep440_pick.proofs.requirement_parts.parse_list.Goals as goal
 
 pub returns-in-Err-clause-only : goal.returns-in-Err-clause-only
 returns-in-Err-clause-only c = λ list d.
