@@ -9,6 +9,10 @@ use Rattle.pep440_ranges.specs.Intersection.{overlap, overlaps_with, overlaps}
 use Rattle.pep440_ranges.specs.Clones.{ClonesEach}
 use Rattle.pep440_ranges.proofs.Steps.{step_left, step_right, overlaps_nil, taken, skipped}
 
+pub length_none : {A : Type 0} (xs : List A) → length xs ≡ 0 → xs ≡ []
+length_none [] e = refl
+length_none (x ∷ xs) e = absurd (omega arith)
+
 pub same_overlaps : {V : Type 0} (cmp : V → V → Ordering) {a b c d : List (Segment V)} → a ≡ c → b ≡ d → overlaps cmp a b ≡ overlaps cmp c d
 same_overlaps cmp {b = b} {c = c} p q = ap (λ x. overlaps cmp x b) p ∙ ap (overlaps cmp c) q
 
@@ -51,10 +55,6 @@ module _ {V : Type 0} {cmp : V → V → Ordering} (o : IsTotalOrder cmp) where
       moved shared shared' (overlaps_with cmp s (t ∷ [])) (overlaps cmp left ts) whole (overlaps cmp left right)
       (same_overlaps cmp p q ∙ step_right o s t ss ts h (after_range s ss left p r) ∙ ap (λ l. overlaps_with cmp s (t ∷ []) ++ overlaps cmp l ts) (sym p))
       (e ∙ ap (λ l. shared ++ l) (appended s t start t.1 g (sym (taken (ends_before cmp t.1 s.1) t.1 s.1 h)))) i
-
-  length_none : (ss : List (Segment V)) → length ss ≡ 0 → ss ≡ []
-  length_none [] e = refl
-  length_none (s ∷ ss) e = absurd (omega arith)
 
   pub merge_done : (left right shared whole : List (Segment V)) → (length left ≡ 0) ⊎ (length right ≡ 0) → shared ++ overlaps cmp left right ≡ whole → shared ≡ whole
   merge_done left right shared whole d i = sym (append-nil shared) ∙ ap (λ l. shared ++ l) (sym (none left right d)) ∙ i

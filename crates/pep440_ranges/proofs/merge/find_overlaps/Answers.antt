@@ -1,7 +1,31 @@
-use Rattle.std.proofs.Common.{◌∙◌, sym, inl, inr}
+use Rattle.std.proofs.Common.{◌≡◌, ◌∙◌, Bool, true, false, sym, inl, inr, subst, if◌then◌else◌}
+use Rattle.std.specs.declared.ops.Bound.{Bound}
+use Rattle.pep440_ranges.specs.Clones.{ClonesBound, ClonesEach}
 use Rattle.pep440_ranges.proofs.Merging.{merge_left, merge_right, merge_done, tail_range, tail_clones}
 use Rattle.pep440_ranges.proofs.merge.find_overlaps.Goals as goal
 use Rattle.pep440_ranges.proofs.merge.find_overlaps.Goals.{in_default, in_default-2}
+
+either_clones : {V : Type 0} (is_clone : V → V → Type 0) (b : Bool) (s t start : Bound V) → start ≡ (if b then t else s) → ClonesBound is_clone s → ClonesBound is_clone t → ClonesBound is_clone start
+either_clones is_clone true s t start e p q = subst (ClonesBound is_clone) (sym e) q
+either_clones is_clone false s t start e p q = subst (ClonesBound is_clone) (sym e) p
+
+pub push_valid-requires : goal.push_valid-requires
+push_valid-requires g c =
+    let left = subst (ClonesEach g.V.Clone.is_clone) c.in-Some-Some.ensures.cases.0 c.loop-s.invariant.clones_left in
+    let right = subst (ClonesEach g.V.Clone.is_clone) c.in-Some-Some.ensures'.cases.0 c.loop-s.invariant.clones_right in
+    record {
+      start = either_clones g.V.Clone.is_clone _ _ _ _ c.greater_start-start.ensures left.0 right.0;
+      end = right.1;
+    }
+
+pub push_valid-requires-else-ends_before : goal.push_valid-requires-else-ends_before
+push_valid-requires-else-ends_before g c =
+    let left = subst (ClonesEach g.V.Clone.is_clone) c.in-Some-Some.ensures.cases.0 c.loop-s.invariant.clones_left in
+    let right = subst (ClonesEach g.V.Clone.is_clone) c.in-Some-Some.ensures'.cases.0 c.loop-s.invariant.clones_right in
+    record {
+      start = either_clones g.V.Clone.is_clone _ _ _ _ c.greater_start-start.ensures left.0 right.0;
+      end = left.1;
+    }
 
 -- t ends first and is taken away
 pub loop-s-preserved-in_ok-push_valid : goal.loop-s-preserved-in_ok-push_valid
