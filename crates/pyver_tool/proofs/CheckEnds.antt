@@ -7,7 +7,8 @@ use Rattle.pyver_tool.proofs.RunEnds.{some_source}
 use Rattle.pyver_tool.specs.Checks.{CheckResult, Checks, ChecksGroup, ChecksGroups, EndsCheck, GainsReport, StopsCheck, StopsGroup, StopsGroups, check_outcome, check_status, findings_text, none_checked, summary, together_note, unopened_text, word_groups}
 use Rattle.pyver_tool.specs.Outcomes.{Outcome}
 use Rattle.pyver_tool.specs.RequirementFiles.{StopsInFiles, word_file}
-use Rattle.pyver_tool.specs.Runs.{WritesAnswer, WroteBeginning, memory_message}
+use Rattle.pep440_tool.specs.Streams.{WroteBeginning}
+use Rattle.pyver_tool.specs.Runs.{WritesAnswer, memory_message}
 use Rattle.pyver_tool.specs.SourceViews.{Reports}
 use Rattle.pyver_tool.specs.Sources.{KnownFile, no_input, source_names}
 use Rattle.pyver_tool.specs.Tasks.{Check, IsOutcome, NeedsInput, Task}

@@ -4,7 +4,8 @@ use Rattle.std.specs.Fmt.{decimal}
 use Rattle.std.specs.List.{flat_map, list_any}
 use Rattle.pyver_tool.specs.Outcomes.{Outcome}
 use Rattle.pyver_tool.specs.RequirementFiles.{FilesRead, ReadsFiles, StopsInFiles, UnopenedFile}
-use Rattle.pyver_tool.specs.Runs.{WritesAnswer, WroteBeginning}
+use Rattle.pep440_tool.specs.Streams.{WroteBeginning}
+use Rattle.pyver_tool.specs.Runs.{WritesAnswer}
 use Rattle.pyver_tool.specs.SourceViews.{Reports}
 use Rattle.pyver_tool.specs.Sources.{KnownFile, failure_reason, source_names}
 use Rattle.pyver_tool.specs.declared.check.CheckOptions.{CheckOptions}

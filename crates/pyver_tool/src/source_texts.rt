@@ -8,10 +8,11 @@ ghost use Rattle.pyver_tool.specs.SourceTexts.{StopsInSources, HasRoom, GainsSou
 
 use crate::files::Files;
 use crate::filter::UnopenedSource;
-use crate::filter_input::{MOST_READS, READ_SIZE, fail_reading};
+use crate::filter_input::{MOST_READS, fail_reading};
 use crate::open_failure::OpenFailure;
 use crate::origin::{Origin, is_input};
 use crate::stream::RunFailure;
+use pep440_tool::stream::{ReadFailure, read_whole};
 use std::alloc::Global;
 use std::io::Read;
 
@@ -36,26 +37,17 @@ pub(crate) fn read_text<R: Read>(
     read_count: &mut u64,
     input: &mut R,
 ) -> Result<Vec<u8>, RunFailure>
-    requires { read_count.old ≤ 562949953421312 }
     ensures whole { IfOk result (λ text. Consumes (R.remaining input.old) (R.remaining input.new) text.items × IsAtEnd (R.remaining input.new)) }
     ensures limits { IfOk result (λ text. (length text.items + 8192 * read_count.old < 8192 * read_count.new) × (read_count.new ≤ 562949953421312)) }
     ensures part { IfErr result (λ _. (read : List ℕ) × Consumes (R.remaining input.old) (R.remaining input.new) read) }
     ensures failure { IfErr result (IsRunFailureOf (Some name.now)) }
     ensures reading { IfErr result (IsReadingFailure name.now) }
 {
-    let mut text = Vec::new(alloc);
-    let mut buffer = [0u8; READ_SIZE];
-    while *read_count < MOST_READS {
-        *read_count += 1;
-        let Ok(count) = input.read(&mut buffer) else {
-            return Err(fail_reading(alloc, name));
-        };
-        if count == 0 {
-            return Ok(text);
-        }
-        text.extend_from_slice(&buffer[..count])?;
+    match read_whole(alloc, MOST_READS, read_count, input) {
+        Ok(text) => Ok(text),
+        Err(ReadFailure::Io) => Err(fail_reading(alloc, name)),
+        Err(ReadFailure::OutOfMemory) => Err(RunFailure::OutOfMemory),
     }
-    Err(fail_reading(alloc, name))
 }
 
 // Reads a source.
