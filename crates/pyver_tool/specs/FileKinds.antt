@@ -1,4 +1,4 @@
--- What files are read as: what their names tell, or else the option `--format`.
+-- The kinds of files: by their names, or else by the option `--format`.
 use Rattle.std.specs.Prelude.{ℕ, List, Option, Some, None, bytes_eq, codes, if◌then◌else◌}
 use Rattle.pyver_projects.specs.DocumentKinds.{kind_of_path}
 use Rattle.pyver_projects.specs.declared.document_kind.DocumentKind.{DocumentKind}
@@ -21,6 +21,6 @@ abbrev pub kind_by : FileKind → Option DocumentKind → FileKind
 kind_by other None = other
 kind_by other (Some kind) = Document kind
 
--- the kind of the file with this name: the one that the name tells, or else this one
+-- the kind of the file with this name: the one by its name, or else this one
 abbrev pub kind_by_name : FileKind → List ℕ → FileKind
 kind_by_name other name = kind_by other (kind_of_path name)

@@ -63,7 +63,7 @@ IsRefused file name why = ((¬ IsUtf8 name) × (why ≡ failure.Other)) ⊎ (IsU
 abbrev pub file_with : List ℕ → List ℕ → File
 file_with name text = record { name = name; text = text }
 
--- `kind` is the kind of the files whose names tell none, `files` is what is known of each file, `paths` what is known of its path, and
+-- `kind` is the kind of files that have none by name, `files` is what is known of each file, `paths` what is known of its path, and
 -- `remaining` are the bytes that standard input has left
 module _ {R : Type 0} (kind : FileKind) (files : List ℕ → KnownFile) (paths : List ℕ → Option (List ℕ)) (remaining : R → Option (List ℕ)) where
   -- the path of the source with this name

@@ -28,7 +28,7 @@ HasRoom state = (size_of state.texts.items ≤ 8192 * state.read_count) × (stat
 
 module _ {R : Type 0} (files : List ℕ → KnownFile) (remaining : R → Option (List ℕ)) where
   -- a part of the source with this name, which is UTF-8, was read, when reading stopped
-  pub record ReadsPart (name : List ℕ) (reader reader' : R) (why : RunFailure) : Type 0 where
+  pub record ReadsTextPart (name : List ℕ) (reader reader' : R) (why : RunFailure) : Type 0 where
     pub utf8 : IsUtf8 name
     pub text : List ℕ
     pub rest : Option (List ℕ)
@@ -37,7 +37,7 @@ module _ {R : Type 0} (files : List ℕ → KnownFile) (remaining : R → Option
 
   -- when reading stopped, a part of the source with this name was read, or, where an allocation failed, nothing
   abbrev pub StopsInText : List ℕ → R → R → RunFailure → Type 0
-  StopsInText name reader reader' why = ((why ≡ run_failure.OutOfMemory) × (reader' ≡ reader)) ⊎ ReadsPart name reader reader' why
+  StopsInText name reader reader' why = ((why ≡ run_failure.OutOfMemory) × (reader' ≡ reader)) ⊎ ReadsTextPart name reader reader' why
 
   -- the source with this name was read to its end, after others; or its file was not opened
   abbrev pub GainsSource : Origin → List Source → List Source → R → R → Option OpenFailure → Type 0

@@ -29,7 +29,7 @@ pub(crate) struct CheckOptions {
     pub(crate) each: bool,
     // No finding is written.
     pub(crate) quiet: bool,
-    // The kind of the files whose names tell none.
+    // The kind of files that have none by name.
     pub(crate) kind: FileKind,
 }
 

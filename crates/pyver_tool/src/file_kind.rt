@@ -26,7 +26,7 @@ pub(crate) fn parse_file_kind(word: &str) -> Option<FileKind>
 }
 
 impl FileKind {
-    // The kind of the file with this name: the one that the name tells, or else this one.
+    // The kind of the file with this name: the one by its name, or else this one.
     pub(crate) fn by_name(self, name: &[u8]) -> FileKind
         ensures { result ≡ kind_by_name self name.now }
     {

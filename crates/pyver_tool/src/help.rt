@@ -273,7 +273,7 @@ is, and 2 if a file cannot be opened; the other files are checked all the same.
 options:
   -q, --quiet    print nothing; files that cannot be opened are named
   --each         check each file by itself, with those that its lines name
-  --format KIND  the kind of the files whose names do not tell it
+  --format KIND  the kind of files that have none by name
   --json         print an array of what is wrong
   --             end of options
 

@@ -146,7 +146,7 @@ const FORMAT: OptionRow = (
     "--format",
     "KIND",
     &["requirements", "pyproject", "pylock", "uv", "poetry"],
-    "the kind of the files whose names do not tell it",
+    "the kind of files that have none by name",
 );
 
 const COMPARE_OPTIONS: &[OptionRow] = &[HELP];

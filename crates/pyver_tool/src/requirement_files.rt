@@ -117,7 +117,7 @@ impl RequirementFiles {
         false
     }
 
-    // A file that was read, of this kind unless its name tells another.
+    // A file that was read, of this kind unless it has one by name.
     fn push_file(
         &mut self,
         alloc: Global,
