@@ -1,16 +1,10 @@
 -- How a run of the program may end. `remaining` are the bytes that the reader has left, `contents` those that the writer holds.
-use Rattle.std.specs.Prelude.{◌≡◌, ℕ, ◌≤◌, ◌⊎◌, Bool, true, false, List, [], ◌++◌, Option}
+use Rattle.std.specs.Prelude.{◌≡◌, ℕ, ◌≤◌, ◌⊎◌, Bool, true, false, List, [], Option}
 use Rattle.std.specs.Io.KnownBytes.{Consumes, Appends, IsAtEnd}
 use Rattle.pep440_tool.specs.Answers.{ToolAnswer}
 use Rattle.pep440_tool.specs.Commands.{IsAnswer, asked, reads_input}
+use Rattle.pep440_tool.specs.Streams.{WroteBeginning}
 use Rattle.pep440_tool.specs.Texts.{memory_text}
-
--- a prefix of `all` was written, which may be empty or the whole
-pub record WroteFront (old new : Option (List ℕ)) (all : List ℕ) : Type 0 where
-  pub prefix : List ℕ
-  pub rest : List ℕ
-  pub wrote : Appends old new prefix
-  pub whole : all ≡ prefix ++ rest
 
 module _ {R W : Type 0} (remaining : R → Option (List ℕ)) (contents : W → Option (List ℕ)) where
   -- a command that needs the input has read all of it; any other has read nothing
@@ -33,12 +27,12 @@ module _ {R W : Type 0} (remaining : R → Option (List ℕ)) (contents : W → 
     pub took : TookInput (reads_input (asked words)) reader reader' input
     pub answer : ToolAnswer
     pub is : IsAnswer (asked words) input answer
-    pub wrote : WroteFront (contents writer) (contents writer') answer.output
+    pub wrote : WroteBeginning (contents writer) (contents writer') answer.output
 
   -- what a run has read and written, by its status
   pub record RunEnds (words : List (List ℕ)) (reader reader' : R) (writer writer' : W) (status : ℕ) : Type 0 where
     pub known : status ≤ 4
     pub answered : status ≤ 2 → IsAnswered words reader reader' writer writer' status
     pub memory : status ≡ 3 → Appends (contents writer) (contents writer') memory_text
-    pub failed : status ≡ 4 → IsCutAnswer words reader reader' writer writer' ⊎ WroteFront (contents writer) (contents writer') memory_text
+    pub failed : status ≡ 4 → IsCutAnswer words reader reader' writer writer' ⊎ WroteBeginning (contents writer) (contents writer') memory_text
     pub unread : reads_input (asked words) ≡ false → reader' ≡ reader

@@ -15,7 +15,7 @@ mod pick;
 mod print_range;
 mod program;
 mod show_version;
-mod stream;
+pub mod stream;
 
 pub use command::answer;
 pub use output::Answer;

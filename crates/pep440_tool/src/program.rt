@@ -2,12 +2,16 @@
 ghost use Rattle.std.specs.Prelude.{◌≡◌, ◌⊎◌, ◌≤◌, map, string_bytes};
 ghost use Rattle.pep440_tool.specs.Texts.{memory_text};
 ghost use Rattle.std.specs.Io.KnownBytes.{Appends};
-ghost use Rattle.pep440_tool.specs.Runs.{RunEnds, WroteFront};
+ghost use Rattle.pep440_tool.specs.Runs.{RunEnds};
+ghost use Rattle.pep440_tool.specs.Streams.{WroteBeginning};
 
 use crate::command::Command;
 use crate::stream::{ReadFailure, read_whole, write_whole};
 use std::alloc::Global;
 use std::io::{Read, Write};
+
+// At most 8 GiB are read.
+const MOST_READS: u64 = 1048576;
 
 const MEMORY: &str = "error: out of memory\n";
 
@@ -23,7 +27,7 @@ pub fn run<R: Read, W: Write>(alloc: Global, words: &[String], reader: &mut R, w
     let command = Command::parse(words);
     let mut input = Vec::new(alloc);
     if command.reads_input() {
-        match read_whole(alloc, reader) {
+        match read_whole(alloc, MOST_READS, &mut 0, reader) {
             Ok(bytes) => input = bytes,
             Err(ReadFailure::Io) => return 4,
             Err(ReadFailure::OutOfMemory) => return refuse(writer),
@@ -32,10 +36,9 @@ pub fn run<R: Read, W: Write>(alloc: Global, words: &[String], reader: &mut R, w
     let Ok(answer) = command.answer(alloc, input.as_slice()) else {
         return refuse(writer);
     };
-    if write_whole(writer, answer.output.as_slice()) {
-        answer.status
-    } else {
-        4
+    match write_whole(writer, answer.output.as_slice()) {
+        Ok(()) => answer.status,
+        Err(_) => 4,
     }
 }
 
@@ -44,11 +47,10 @@ pub fn run<R: Read, W: Write>(alloc: Global, words: &[String], reader: &mut R, w
 pub fn refuse<W: Write>(writer: &mut W) -> u8
     ensures status { (result ≡ 3) ⊎ (result ≡ 4) }
     ensures whole { result ≡ 3 → Appends (W.contents writer.old) (W.contents writer.new) memory_text }
-    ensures prefix { WroteFront (W.contents writer.old) (W.contents writer.new) memory_text }
+    ensures beginning { WroteBeginning (W.contents writer.old) (W.contents writer.new) memory_text }
 {
-    if write_whole(writer, MEMORY.as_bytes()) {
-        3
-    } else {
-        4
+    match write_whole(writer, MEMORY.as_bytes()) {
+        Ok(()) => 3,
+        Err(_) => 4,
     }
 }

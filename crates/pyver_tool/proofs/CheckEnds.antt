@@ -7,11 +7,14 @@ use Rattle.pyver_tool.proofs.RunEnds.{some_source}
 use Rattle.pyver_tool.specs.Checks.{CheckResult, Checks, ChecksGroup, ChecksGroups, EndsCheck, GainsReport, StopsCheck, StopsGroup, StopsGroups, check_outcome, check_status, findings_text, none_checked, summary, together_note, unopened_text, word_groups}
 use Rattle.pyver_tool.specs.Outcomes.{Outcome}
 use Rattle.pyver_tool.specs.RequirementFiles.{StopsInFiles, word_file}
-use Rattle.pyver_tool.specs.Runs.{WritesAnswer, WroteBeginning, memory_message}
+use Rattle.pep440_tool.specs.Streams.{WroteBeginning}
+use Rattle.pyver_tool.specs.Runs.{WritesAnswer, memory_message}
 use Rattle.pyver_tool.specs.SourceViews.{Reports}
 use Rattle.pyver_tool.specs.Sources.{KnownFile, no_input, source_names}
 use Rattle.pyver_tool.specs.Tasks.{Check, IsOutcome, NeedsInput, Task}
 use Rattle.pyver_tool.specs.declared.check.CheckOptions.{CheckOptions}
+use Rattle.pyver_tool.specs.declared.file_kind.FileKind.{FileKind}
+use Rattle.pyver_tool.specs.declared.file_kind.FileKind.TheVariants as file_kind
 use Rattle.pyver_tool.specs.declared.stream.RunFailure.{RunFailure}
 use Rattle.pyver_tool.specs.declared.stream.RunFailure.TheVariants as run_failure
 use Rattle.pyver_findings.specs.ReportTexts.{summary_text}
@@ -19,21 +22,21 @@ use Rattle.pyver_findings.specs.Reports.{Report}
 
 -- ---- groups of words
 
-module _ {R : Type 0} (files : List ℕ → KnownFile) (paths : List ℕ → Option (List ℕ)) (remaining : R → Option (List ℕ)) where
+module _ {R : Type 0} (kind : FileKind) (files : List ℕ → KnownFile) (paths : List ℕ → Option (List ℕ)) (remaining : R → Option (List ℕ)) where
   -- an allocation failed before anything was read
-  pub group_stops_at_once : (words : List (List ℕ)) (reader : R) → StopsInFiles files paths remaining (source_names words) reader reader run_failure.OutOfMemory
+  pub group_stops_at_once : (words : List (List ℕ)) (reader : R) → StopsInFiles kind files paths remaining (source_names words) reader reader run_failure.OutOfMemory
   group_stops_at_once words reader = let first = some_source words in
-      subst (λ w. StopsInFiles files paths remaining w reader reader run_failure.OutOfMemory) (sym first.2)
-      (stops_at_once files paths remaining (map word_file (first.0 ∷ first.1)) (word_file first.0) (map word_file first.1) reader refl)
+      subst (λ w. StopsInFiles kind files paths remaining w reader reader run_failure.OutOfMemory) (sym first.2)
+      (stops_at_once kind files paths remaining (map word_file (first.0 ∷ first.1)) (word_file first.0) (map word_file first.1) reader refl)
 
-  pub groups_stop_at_once : (each : Bool) (words : List (List ℕ)) (reader : R) → StopsGroups files paths remaining (word_groups each words) none_checked reader reader run_failure.OutOfMemory
+  pub groups_stop_at_once : (each : Bool) (words : List (List ℕ)) (reader : R) → StopsGroups kind files paths remaining (word_groups each words) none_checked reader reader run_failure.OutOfMemory
   groups_stop_at_once true words reader = let first = some_source words in
-      subst (λ w. StopsGroups files paths remaining (map (λ word. word ∷ []) w) none_checked reader reader run_failure.OutOfMemory) (sym first.2)
-      (inl (inl (stops_at_once files paths remaining (map word_file (first.0 ∷ [])) (word_file first.0) [] reader refl)))
+      subst (λ w. StopsGroups kind files paths remaining (map (λ word. word ∷ []) w) none_checked reader reader run_failure.OutOfMemory) (sym first.2)
+      (inl (inl (stops_at_once kind files paths remaining (map word_file (first.0 ∷ [])) (word_file first.0) [] reader refl)))
   groups_stop_at_once false words reader = inl (inl (group_stops_at_once words reader))
 
   -- one group
-  pub one_group : (words : List (List ℕ)) (a b : CheckResult) (reader reader' : R) → ChecksGroup files paths remaining words a b reader reader' → ChecksGroups files paths remaining (words ∷ []) a b reader reader'
+  pub one_group : (words : List (List ℕ)) (a b : CheckResult) (reader reader' : R) → ChecksGroup kind files paths remaining words a b reader reader' → ChecksGroups kind files paths remaining (words ∷ []) a b reader reader'
   one_group words a b reader reader' step = (b, reader', step, (refl, refl))
 
 -- ---- other commands are not `check`
@@ -46,7 +49,7 @@ no_lines_of_check task options names is k = absurd (subst NeedsInput is k)
 
 checks_options : Task → CheckOptions
 checks_options (Check options names) = options
-checks_options task = record { json = false; each = false; quiet = false }
+checks_options task = record { json = false; each = false; quiet = false; kind = file_kind.Requirements }
 
 checks_names : Task → List (List ℕ)
 checks_names (Check options names) = names
@@ -75,7 +78,7 @@ module _ {F R W E : Type 0} (known : F → List ℕ → KnownFile) (path : F →
   -- an allocation failed before anything was read
   pub ends_unread : status ≡ 3 → WroteBeginning (error_contents err) (error_contents err') memory_message → EndsCheck known path remaining contents error_contents options names files files reader reader out out err err' status
   ends_unread three errors =
-      (refl, inr (record { why = run_failure.OutOfMemory; stops = inl (groups_stop_at_once (known files) (path files) remaining options.each names reader); message = memory_message; reports = (three, refl); silent = refl; errors = errors }))
+      (refl, inr (record { why = run_failure.OutOfMemory; stops = inl (groups_stop_at_once options.kind (known files) (path files) remaining options.each names reader); message = memory_message; reports = (three, refl); silent = refl; errors = errors }))
 
 -- the outcome of what was found
 pub outcome_is : (output errors : List ℕ) (status : ℕ) (options : CheckOptions) (words : List (List ℕ)) (c : CheckResult) → output ≡ (if options.quiet then [] else findings_text options.json c.report)

@@ -2,91 +2,36 @@
 use Rattle.std.proofs.Common.{◌≡◌, ◌⊎◌, ◌∙◌, ◌+◌, ◌-◌, ◌*◌, ◌≤◌, ◌<◌, ℕ, List, [], ◌∷◌, ◌++◌, true, false, Option, None, Some, inl, inr, length, map, take, refl, sym, ap, subst, arith, append_assoc, append-nil, length-append}
 use Rattle.std.proofs.Math.Seq.{take-append_seam}
 use Rattle.std.proofs.lemmas.Grind.{flat_map-append}
-use Rattle.std.specs.Io.KnownBytes.{Consumes}
 use Rattle.std.specs.List.{flat_map}
 use Rattle.std.specs.Str.{IsUtf8}
-use Rattle.pyver_tool.specs.FileSteps.{GainsFile, GainsText, GainsUnopened, HasNames, HasReads, OpensOrRefused, OpensStep, ReadsStep, StepsOrRefused, names_of_files, read_of}
-use Rattle.pyver_tool.specs.RequirementFiles.{FilesRead, HasPath, ReadsFilesInTurn, ReadsNames, ReadsNext, StopsInFile, StopsInNames, has_path, none_read, with_unopened}
-use Rattle.pyver_tool.specs.SourceViews.{IsReadingFailure}
-use Rattle.pyver_tool.specs.Sources.{KnownFile, MayOpen, is_input}
-use Rattle.pyver_tool.specs.Sources.{ReadsText as ReadsSourceText}
+use Rattle.pyver_tool.proofs.SourceReads.{stops_before}
+use Rattle.pyver_tool.specs.FileSteps.{GainsFile, GainsUnopened, HasNames, HasReads, OpensStep, ReadsStep, StepsOrRefused, names_in, names_of_files, read_of}
+use Rattle.pyver_tool.specs.RequirementFiles.{FilesRead, HasPath, ReadsFilesInTurn, ReadsNames, ReadsNext, StopsInNames, file_with, has_path, none_read, with_unopened}
+use Rattle.pyver_tool.specs.SourceTexts.{StopsInText}
+use Rattle.pyver_tool.specs.Sources.{KnownFile, ReadsWhole}
+use Rattle.pyver_tool.specs.declared.file_kind.FileKind.{FileKind}
+use Rattle.pyver_tool.specs.declared.file_kind.FileKind.TheVariants as file_kind
 use Rattle.pyver_tool.specs.declared.open_failure.OpenFailure.{OpenFailure}
 use Rattle.pyver_tool.specs.declared.requirement_files.RequirementFiles.{RequirementFiles}
 use Rattle.pyver_tool.specs.declared.stream.RunFailure.{RunFailure}
 use Rattle.pyver_tool.specs.declared.stream.RunFailure.TheVariants as run_failure
 use Rattle.pyver_findings.specs.FileLines.{File}
-use Rattle.pyver_findings.specs.NamedFiles.{NamedFile}
-use Rattle.pyver_tool.specs.FileKinds.{names_in}
+use Rattle.pyver_findings.specs.NamedFiles.{NamedFile, named_files}
+use Rattle.pyver_tool.specs.FileKinds.{kind_by_name}
 use Rattle.pyver_findings.specs.Views.{named_file_of}
-
--- ---- one source
-
-module _ {R : Type 0} (files : List ℕ → KnownFile) (remaining : R → Option (List ℕ)) (name path : List ℕ) (a b : RequirementFiles) where
-  pub input_opened : (reader reader' : R) → is_input name ≡ true → GainsText remaining name path a b reader reader' → a.read_count < b.read_count → HasReads b → OpensOrRefused files remaining name path a b reader reader' None
-  input_opened reader reader' named k more has = (
-    record { name = name; text = k.text },
-    record {
-      text = k.text;
-      left = remaining reader';
-      reads = subst (λ t. ReadsSourceText files remaining t (files name) reader reader' k.text (remaining reader')) (sym named) (k.consumed, refl);
-      end = k.end;
-      is = refl;
-    },
-    k.gains,
-    more,
-    has,
-  )
-
-  pub file_opened : {S : Type 0} (left_of : S → Option (List ℕ)) (file file' : S) (reader : R) → is_input name ≡ false → MayOpen (files name) (left_of file) → GainsText left_of name path a b file file' → a.read_count < b.read_count → HasReads b
-      → OpensOrRefused files remaining name path a b reader reader None
-  file_opened left_of file file' reader named opens k more has = (
-    record { name = name; text = k.text },
-    record {
-      text = k.text;
-      left = left_of file';
-      reads = subst (λ t. ReadsSourceText files remaining t (files name) reader reader k.text (left_of file')) (sym named) (left_of file, opens, k.consumed, refl);
-      end = k.end;
-      is = refl;
-    },
-    k.gains,
-    more,
-    has,
-  )
-
-module _ {R : Type 0} (files : List ℕ → KnownFile) (remaining : R → Option (List ℕ)) (name : List ℕ) where
-  pub input_stops : (why : RunFailure) (reader reader' : R) (text : List ℕ) → IsUtf8 name → is_input name ≡ true → Consumes (remaining reader) (remaining reader') text → IsReadingFailure name why → StopsInFile files remaining name reader reader' why
-  input_stops why reader reader' text utf8 named consumed stops = inr (record {
-    utf8 = utf8;
-    text = text;
-    rest = remaining reader';
-    part = subst (λ t. ReadsSourceText files remaining t (files name) reader reader' text (remaining reader')) (sym named) (consumed, refl);
-    stops = stops;
-  })
-
-  pub file_stops : {S : Type 0} (left_of : S → Option (List ℕ)) (why : RunFailure) (file file' : S) (reader : R) (text : List ℕ) → IsUtf8 name → is_input name ≡ false → MayOpen (files name) (left_of file) → Consumes (left_of file) (left_of file') text → IsReadingFailure name why
-      → StopsInFile files remaining name reader reader why
-  file_stops left_of why file file' reader text utf8 named opens consumed stops = inr (record {
-    utf8 = utf8;
-    text = text;
-    rest = left_of file';
-    part = subst (λ t. ReadsSourceText files remaining t (files name) reader reader text (left_of file')) (sym named) (left_of file, opens, consumed, refl);
-    stops = stops;
-  })
-
-  -- an allocation failed before anything was read
-  pub stops_before : (reader : R) → StopsInFile files remaining name reader reader run_failure.OutOfMemory
-  stops_before reader = inl (refl, refl)
 
 -- ---- the names of the files
 
-pub names_gain : (first : List NamedFile) (a b : RequirementFiles) (file : File) (path : List ℕ) → HasNames first a → GainsFile a b file path → HasNames first b
-names_gain first a b file path h k =
-    k.names ∙ ap (λ n. n ++ names_in file) h ∙ append_assoc first (flat_map names_in (read_of a).files) (names_in file)
-    ∙ ap (λ n. first ++ n) (ap (λ n. flat_map names_in (read_of a).files ++ n) (sym (append-nil (names_in file))) ∙ sym (flat_map-append names_in (read_of a).files (file ∷ [])) ∙ ap (λ (r : FilesRead). flat_map names_in r.files) (sym k.read))
+pub names_gain : (kind : FileKind) (first : List NamedFile) (a b : RequirementFiles) (file : File) (path : List ℕ) → HasNames first a → GainsFile kind a b file path → HasNames first b
+names_gain file_kind.Requirements first a b file path h k =
+    k.names ∙ ap (λ n. n ++ named_files file) h ∙ append_assoc first (flat_map named_files (read_of a).requirements) (named_files file)
+    ∙ ap (λ n. first ++ n) (ap (λ n. flat_map named_files (read_of a).requirements ++ n) (sym (append-nil (named_files file))) ∙ sym (flat_map-append named_files (read_of a).requirements (file ∷ [])) ∙ ap (λ (r : FilesRead). flat_map named_files r.requirements) (sym k.read))
+names_gain (file_kind.Document kind) first a b file path h k =
+    k.names ∙ append-nil (names_of_files a) ∙ h ∙ ap (λ (r : FilesRead). first ++ flat_map named_files r.requirements) (sym k.read)
 
-module _ {R : Type 0} (files : List ℕ → KnownFile) (paths : List ℕ → Option (List ℕ)) (remaining : R → Option (List ℕ)) where
+module _ {R : Type 0} (kind : FileKind) (files : List ℕ → KnownFile) (paths : List ℕ → Option (List ℕ)) (remaining : R → Option (List ℕ)) where
   -- a source with the path had been read
-  pub step_known : (name path : List ℕ) (a : RequirementFiles) (reader : R) → IsUtf8 name → HasPath files paths remaining name path → has_path (read_of a) path ≡ true → HasReads a → OpensStep files paths remaining name a a reader reader
+  pub step_known : (name path : List ℕ) (a : RequirementFiles) (reader : R) → IsUtf8 name → HasPath kind files paths remaining name path → has_path (read_of a) path ≡ true → HasReads a → OpensStep kind files paths remaining name a a reader reader
   step_known name path a reader utf8 is has reads = record {
     next = (utf8, path, is, inl (has, refl, refl));
     names = λ first h. h;
@@ -96,24 +41,24 @@ module _ {R : Type 0} (files : List ℕ → KnownFile) (paths : List ℕ → Opt
     reads = reads;
   }
 
-  pub step_opened : (name path : List ℕ) (a b : RequirementFiles) (reader reader' : R) (result : Option OpenFailure) → IsUtf8 name → HasPath files paths remaining name path → has_path (read_of a) path ≡ false → OpensOrRefused files remaining name path a b reader reader' result
-      → StepsOrRefused files paths remaining name a b reader reader' result
-  step_opened name path a b reader reader' None utf8 is new (file, reads, gains, more, has) = record {
-    next = (utf8, path, is, inr (new, (file, reads, gains.read)));
-    names = λ first h. names_gain first a b file path h gains;
-    more = names_in file;
+  -- it was read
+  pub step_opened : (name path text : List ℕ) (a b : RequirementFiles) (reader reader' : R) → IsUtf8 name → HasPath kind files paths remaining name path → has_path (read_of a) path ≡ false → ReadsWhole files remaining name reader reader' text
+      → GainsFile (kind_by_name kind name) a b (file_with name text) path → a.read_count < b.read_count → HasReads b → StepsOrRefused kind files paths remaining name a b reader reader' None
+  step_opened name path text a b reader reader' utf8 is new reads gains more has = record {
+    next = (utf8, path, is, inr (new, (text, reads, gains.read)));
+    names = λ first h. names_gain (kind_by_name kind name) first a b (file_with name text) path h gains;
+    more = names_in (kind_by_name kind name) (file_with name text);
     behind = gains.names;
     advances = inl more;
     reads = has;
   }
-  step_opened name path a b reader reader' (Some why) utf8 is new (other, refuses, same, kept) = (inr (utf8, other, refuses), same, kept)
 
   -- the source was read unless it had been before, or it was not opened
-  pub step_read : (named : NamedFile) (a b : RequirementFiles) (reader reader' : R) → StepsOrRefused files paths remaining named.name a b reader reader' None → ReadsStep files paths remaining named a b reader reader'
+  pub step_read : (named : NamedFile) (a b : RequirementFiles) (reader reader' : R) → StepsOrRefused kind files paths remaining named.name a b reader reader' None → ReadsStep kind files paths remaining named a b reader reader'
   step_read named a b reader reader' step = record { next = inl step.next; names = step.names; more = step.more; behind = step.behind; advances = step.advances; reads = step.reads }
 
-  pub step_refused : (named : NamedFile) (why : OpenFailure) (a b c : RequirementFiles) (reader reader' : R) → HasReads a → StepsOrRefused files paths remaining named.name a b reader reader' (Some why) → GainsUnopened b c named why
-      → ReadsStep files paths remaining named a c reader reader'
+  pub step_refused : (named : NamedFile) (why : OpenFailure) (a b c : RequirementFiles) (reader reader' : R) → HasReads a → StepsOrRefused kind files paths remaining named.name a b reader reader' (Some why) → GainsUnopened b c named why
+      → ReadsStep kind files paths remaining named a c reader reader'
   step_refused named why a b c reader reader' reads (refuses, same, kept) gains =
       let names : c.names ≡ a.names = gains.names ∙ ap (λ (x : RequirementFiles). x.names) same in
       let count : c.read_count ≡ a.read_count = gains.count ∙ ap (λ (x : RequirementFiles). x.read_count) same in
@@ -121,7 +66,7 @@ module _ {R : Type 0} (files : List ℕ → KnownFile) (paths : List ℕ → Opt
       let read : read_of c ≡ with_unopened (read_of a) named why = gains.read ∙ ap (λ (x : RequirementFiles). with_unopened (read_of x) named why) same in
       record {
         next = inr (why, refuses, read, kept);
-        names = λ first h. are ∙ h ∙ ap (λ (r : FilesRead). first ++ flat_map names_in r.files) (sym read);
+        names = λ first h. are ∙ h ∙ ap (λ (r : FilesRead). first ++ flat_map named_files r.requirements) (sym read);
         more = [];
         behind = are ∙ sym (append-nil (names_of_files a));
         advances = inr (count, ap (λ n. length n.items) names);
@@ -129,23 +74,23 @@ module _ {R : Type 0} (files : List ℕ → KnownFile) (paths : List ℕ → Opt
       }
 
   -- an allocation failed after it was not opened
-  pub stops_refused : (name : List ℕ) (why : OpenFailure) (a b : RequirementFiles) (reader reader' : R) → StepsOrRefused files paths remaining name a b reader reader' (Some why) → StopsInFile files remaining name reader reader' run_failure.OutOfMemory
+  pub stops_refused : (name : List ℕ) (why : OpenFailure) (a b : RequirementFiles) (reader reader' : R) → StepsOrRefused kind files paths remaining name a b reader reader' (Some why) → StopsInText files remaining name reader reader' run_failure.OutOfMemory
   stops_refused name why a b reader reader' (refuses, same, kept) = inl (refl, kept)
 
   -- ---- one source after another
 
-  pub each_last : (done : List NamedFile) (named : NamedFile) (a c b : FilesRead) (reader middle reader' : R) → ReadsFilesInTurn files paths remaining done a c reader middle → ReadsNext files paths remaining named c b middle reader'
-      → ReadsFilesInTurn files paths remaining (done ++ named ∷ []) a b reader reader'
+  pub each_last : (done : List NamedFile) (named : NamedFile) (a c b : FilesRead) (reader middle reader' : R) → ReadsFilesInTurn kind files paths remaining done a c reader middle → ReadsNext kind files paths remaining named c b middle reader'
+      → ReadsFilesInTurn kind files paths remaining (done ++ named ∷ []) a b reader reader'
   each_last [] named a c b reader middle reader' (same, kept) next =
-      (b, reader', subst (λ r. ReadsNext files paths remaining named a b r reader') kept (subst (λ (x : FilesRead). ReadsNext files paths remaining named x b middle reader') same next), (refl, refl))
+      (b, reader', subst (λ r. ReadsNext kind files paths remaining named a b r reader') kept (subst (λ (x : FilesRead). ReadsNext kind files paths remaining named x b middle reader') same next), (refl, refl))
   each_last (n ∷ done) named a c b reader middle reader' (x, r, step, rest) next = (x, r, step, each_last done named x c b r middle reader' rest next)
 
   module _ (first : List NamedFile) (a : RequirementFiles) (reader middle reader' : R) (front rest : List NamedFile) (named : NamedFile) (split : names_of_files a ≡ front ++ named ∷ rest)
-      (k : ReadsFilesInTurn files paths remaining front none_read (read_of a) reader middle) where
-    pub each_more : (b : RequirementFiles) → ReadsStep files paths remaining named a b middle reader' → ReadsFilesInTurn files paths remaining (front ++ named ∷ []) none_read (read_of b) reader reader'
+      (k : ReadsFilesInTurn kind files paths remaining front none_read (read_of a) reader middle) where
+    pub each_more : (b : RequirementFiles) → ReadsStep kind files paths remaining named a b middle reader' → ReadsFilesInTurn kind files paths remaining (front ++ named ∷ []) none_read (read_of b) reader reader'
     each_more b step = each_last front named none_read (read_of a) (read_of b) reader middle reader' k step.next
 
-    pub ends_stopped : HasNames first a → (why : RunFailure) → StopsInFile files remaining named.name middle reader' why → StopsInNames files paths remaining first reader reader' why
+    pub ends_stopped : HasNames first a → (why : RunFailure) → StopsInText files remaining named.name middle reader' why → StopsInNames kind files paths remaining first reader reader' why
     ends_stopped h why part = record {
       done = front;
       named = named;
@@ -158,12 +103,12 @@ module _ {R : Type 0} (files : List ℕ → KnownFile) (paths : List ℕ → Opt
     }
 
   -- all names were read
-  pub ends_whole : (first : List NamedFile) (a : RequirementFiles) (reader reader' : R) → HasNames first a → ReadsFilesInTurn files paths remaining (names_of_files a) none_read (read_of a) reader reader'
-      → ReadsNames files paths remaining first reader reader' (read_of a)
-  ends_whole first a reader reader' h k = subst (λ n. ReadsFilesInTurn files paths remaining n none_read (read_of a) reader reader') h k
+  pub ends_whole : (first : List NamedFile) (a : RequirementFiles) (reader reader' : R) → HasNames first a → ReadsFilesInTurn kind files paths remaining (names_of_files a) none_read (read_of a) reader reader'
+      → ReadsNames kind files paths remaining first reader reader' (read_of a)
+  ends_whole first a reader reader' h k = subst (λ n. ReadsFilesInTurn kind files paths remaining n none_read (read_of a) reader reader') h k
 
   -- an allocation failed before anything was read
-  pub stops_at_once : (first : List NamedFile) (named : NamedFile) (left : List NamedFile) (reader : R) → first ≡ named ∷ left → StopsInNames files paths remaining first reader reader run_failure.OutOfMemory
+  pub stops_at_once : (first : List NamedFile) (named : NamedFile) (left : List NamedFile) (reader : R) → first ≡ named ∷ left → StopsInNames kind files paths remaining first reader reader run_failure.OutOfMemory
   stops_at_once first named left reader is = record {
     done = [];
     named = named;

@@ -17,7 +17,7 @@ use Rattle.pyver_tool.specs.LineOptions.{is_header}
 use Rattle.pyver_tool.specs.ReadLines.{Entry, IsEntry, IsRead, LineReading, ReadLine, fault_at, faults}
 use Rattle.pyver_tool.specs.NewestViews.{KeepsNewest}
 use Rattle.pyver_tool.specs.Readings.{Denotes}
-use Rattle.pyver_tool.specs.Runs.{WroteBeginning}
+use Rattle.pep440_tool.specs.Streams.{WroteBeginning}
 use Rattle.pyver_tool.specs.VersionLines.{VersionLine, line_with, version_lines}
 use Rattle.pyver_tool.specs.declared.filter.FilterRule.{FilterRule}
 use Rattle.pyver_tool.specs.declared.filter.FilterState.{FilterState}

@@ -9,7 +9,6 @@ pub mod Sorting
 pub mod Choosing
 pub mod Whole
 pub mod NewestAnswers
-pub mod Bytes
 pub mod Appended
 pub mod OneOutcome
 pub mod CommonRanges

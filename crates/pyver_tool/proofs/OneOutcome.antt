@@ -25,7 +25,6 @@ use Rattle.pyver_tool.specs.Checks.{with_report}
 use Rattle.pyver_findings.proofs.Once.{reports_once}
 use Rattle.pyver_findings.specs.Reports.{joined_report}
 use Rattle.pyver_projects.proofs.Once.{document_reports_once}
-use Rattle.pyver_tool.specs.FileKinds.{documents_in, requirements_in}
 use Rattle.pyver_tool.specs.OneOutcome.{OutcomesOnce}
 use Rattle.pyver_tool.specs.Outcomes.{Outcome, in_turn}
 use Rattle.pyver_tool.specs.ReadLines.{Entry, Header, IsEntry, IsRead, LineReading, ReadLine, ReadsBytes, ReadsField, ReadsPart}
@@ -184,7 +183,7 @@ outcomes_once (Check options names) input a b h k = absurd h
 outcomes_once (Misused message) input a b h k = h ∙ sym k
 
 pub checks_once : ChecksOnce
-checks_once read a b c readable (r, (q, d, hq, hd, rd), is) (s, (p, e, hp, he, se), so) =
-    let of_lines = reports_once (flat_map requirements_in read.files) q p hq hp in
-    let of_documents = document_reports_once (flat_map documents_in read.files) d e readable hd he in
-    is ∙ ap (with_report read.unopened a) (rd ∙ (λ j. joined_report (of_lines j) (of_documents j)) ∙ sym se) ∙ sym so
+checks_once read a b c readable (q, d, hq, hd, is) (p, e, hp, he, so) =
+    let of_lines = reports_once read.requirements q p hq hp in
+    let of_documents = document_reports_once read.documents d e readable hd he in
+    is ∙ ap (with_report read.unopened a) (λ j. joined_report (of_lines j) (of_documents j)) ∙ sym so

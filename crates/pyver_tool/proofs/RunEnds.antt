@@ -6,7 +6,8 @@ use Rattle.pyver_tool.specs.FilterSteps.{FilterFinishes, FilterStops}
 use Rattle.pyver_tool.specs.Filters.{Filters}
 use Rattle.pyver_tool.specs.InputLines.{Source}
 use Rattle.pyver_tool.specs.Outcomes.{Outcome}
-use Rattle.pyver_tool.specs.Runs.{Ends, IsLast, IsReadMessage, IsStopped, IsUnanswered, ReadsSome, WritesAnswer, WroteBeginning, memory_message}
+use Rattle.pep440_tool.specs.Streams.{WroteBeginning}
+use Rattle.pyver_tool.specs.Runs.{Ends, IsLast, IsReadMessage, IsStopped, IsUnanswered, ReadsSome, WritesAnswer, memory_message}
 use Rattle.pyver_tool.specs.SourceViews.{IsRunFailureOf, Reports}
 use Rattle.pyver_tool.specs.Sources.{Input, KnownFile, ReadsFirst, ReadsInput, StopsReading, input_name, last_name, no_input, source_names}
 use Rattle.pyver_tool.specs.Tasks.{Bump, Check, Compare, Filter, Help, IsOutcome, IsStream, Match, Misused, NameVersion, NeedsInput, Newest, Range, Show, Sort, Task, names_of, task_of}

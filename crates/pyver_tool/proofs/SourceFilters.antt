@@ -14,7 +14,7 @@ use Rattle.pyver_tool.specs.InvalidLines.{last_message, lines_status, message_li
 use Rattle.pyver_tool.specs.NewestViews.{HasNoLine, kept_line}
 use Rattle.pyver_tool.specs.NewestOutcomes.{NewestLine}
 use Rattle.pyver_tool.specs.ReadLines.{IsRead, faults}
-use Rattle.pyver_tool.specs.Runs.{WroteBeginning}
+use Rattle.pep440_tool.specs.Streams.{WroteBeginning}
 use Rattle.pyver_tool.specs.SourceViews.{IsRunFailureOf}
 use Rattle.pyver_tool.specs.Sources.{KnownFile, MayOpen, ReadsAll, ReadsSource, ReadsText, UnopenedSource, input_name, input_origin, is_input, is_none, last_name, source_names, unopened_message, unopened_status}
 use Rattle.pyver_tool.specs.declared.filter.FilterRule.{FilterRule}

@@ -1,14 +1,16 @@
 -- Sources that are read to their ends one after another.
 use Rattle.std.proofs.Common.{◌≡◌, ◌∙◌, ◌+◌, ℕ, List, [], ◌∷◌, ◌++◌, Bool, true, false, Option, None, Some, inl, inr, length, map, refl, sym, ap, subst, arith, append-nil}
-use Rattle.std.specs.Io.KnownBytes.{Consumes}
+use Rattle.std.specs.Io.KnownBytes.{Consumes, IsAtEnd}
+use Rattle.std.specs.Str.{IsUtf8}
+use Rattle.std.proofs.KnownBytes.{Consumes-nil}
 use Rattle.std.proofs.lemmas.List.{map-append}
 use Rattle.pyver_tool.proofs.InputLines.{some_line}
 use Rattle.pyver_tool.proofs.Keeping.{size_of-append}
 use Rattle.pyver_tool.proofs.SourceFilters.{last_is, reads_last}
 use Rattle.pyver_tool.specs.InputLines.{Origin, Source, input_lines}
-use Rattle.pyver_tool.specs.SourceTexts.{StopsInSources, GainsSource, StopsInSource, ReadsTo, size_of, source_of}
-use Rattle.pyver_tool.specs.SourceViews.{IsRunFailureOf}
-use Rattle.pyver_tool.specs.Sources.{KnownFile, MayOpen, ReadsAll, ReadsInput, ReadsLines, ReadsSource, ReadsText, input_name, input_origin, is_input, is_none, last_name, source_names}
+use Rattle.pyver_tool.specs.SourceTexts.{GainsSource, StopsInSource, StopsInSources, StopsInText, size_of, source_of}
+use Rattle.pyver_tool.specs.SourceViews.{IsReadingFailure, IsRunFailureOf}
+use Rattle.pyver_tool.specs.Sources.{KnownFile, MayOpen, ReadsAll, ReadsInput, ReadsLines, ReadsSource, ReadsText, ReadsWhole, input_name, input_origin, is_input, is_none, last_name, source_names}
 use Rattle.pyver_tool.specs.declared.open_failure.OpenFailure.{OpenFailure}
 use Rattle.pyver_tool.specs.declared.source_texts.SourceText.{SourceText}
 use Rattle.pyver_tool.specs.declared.stream.RunFailure.{RunFailure}
@@ -23,32 +25,53 @@ sources_pushed xs x = map-append source_of xs (x ∷ [])
 
 -- ---- one source
 
-module _ {R : Type 0} (files : List ℕ → KnownFile) (remaining : R → Option (List ℕ)) (origin : Origin) where
-  pub input_read : (a b : List Source) (reader reader' : R) → is_input origin.name ≡ true → ReadsTo remaining origin a b reader reader' → GainsSource files remaining origin a b reader reader' None
-  input_read a b reader reader' named k = (
-    record { origin = origin; lines = input_lines k.text },
-    record {
-      text = k.text;
-      left = remaining reader';
-      reads = subst (λ t. ReadsText files remaining t (files origin.name) reader reader' k.text (remaining reader')) (sym named) (k.consumed, refl);
-      end = k.end;
-      is = refl;
-    },
-    k.more,
-  )
+module _ {R : Type 0} (files : List ℕ → KnownFile) (remaining : R → Option (List ℕ)) (name : List ℕ) where
+  pub input_whole : (reader reader' : R) (text : List ℕ) → is_input name ≡ true → Consumes (remaining reader) (remaining reader') text → IsAtEnd (remaining reader') → ReadsWhole files remaining name reader reader' text
+  input_whole reader reader' text named consumed end =
+      (remaining reader', subst (λ t. ReadsText files remaining t (files name) reader reader' text (remaining reader')) (sym named) (consumed, refl), end)
 
-  pub file_read : {S : Type 0} (left_of : S → Option (List ℕ)) (a b : List Source) (file file' : S) (reader : R) → is_input origin.name ≡ false → MayOpen (files origin.name) (left_of file) → ReadsTo left_of origin a b file file' → GainsSource files remaining origin a b reader reader None
-  file_read left_of a b file file' reader named opens k = (
-    record { origin = origin; lines = input_lines k.text },
-    record {
-      text = k.text;
-      left = left_of file';
-      reads = subst (λ t. ReadsText files remaining t (files origin.name) reader reader k.text (left_of file')) (sym named) (left_of file, opens, k.consumed, refl);
-      end = k.end;
-      is = refl;
-    },
-    k.more,
-  )
+  pub file_whole : {S : Type 0} (left_of : S → Option (List ℕ)) (file file' : S) (reader : R) (text : List ℕ) → is_input name ≡ false → MayOpen (files name) (left_of file) → Consumes (left_of file) (left_of file') text → IsAtEnd (left_of file') → ReadsWhole files remaining name reader reader text
+  file_whole left_of file file' reader text named opens consumed end =
+      (left_of file', subst (λ t. ReadsText files remaining t (files name) reader reader text (left_of file')) (sym named) (left_of file, opens, consumed, refl), end)
+
+  pub input_part : (why : RunFailure) (reader reader' : R) (text : List ℕ) → IsUtf8 name → is_input name ≡ true → Consumes (remaining reader) (remaining reader') text → IsReadingFailure name why → StopsInText files remaining name reader reader' why
+  input_part why reader reader' text utf8 named consumed stops = inr (record {
+    utf8 = utf8;
+    text = text;
+    rest = remaining reader';
+    part = subst (λ t. ReadsText files remaining t (files name) reader reader' text (remaining reader')) (sym named) (consumed, refl);
+    stops = stops;
+  })
+
+  pub file_part : {S : Type 0} (left_of : S → Option (List ℕ)) (why : RunFailure) (file file' : S) (reader : R) (text : List ℕ) → IsUtf8 name → is_input name ≡ false → MayOpen (files name) (left_of file) → Consumes (left_of file) (left_of file') text → IsReadingFailure name why
+      → StopsInText files remaining name reader reader why
+  file_part left_of why file file' reader text utf8 named opens consumed stops = inr (record {
+    utf8 = utf8;
+    text = text;
+    rest = left_of file';
+    part = subst (λ t. ReadsText files remaining t (files name) reader reader text (left_of file')) (sym named) (left_of file, opens, consumed, refl);
+    stops = stops;
+  })
+
+  -- an allocation failed before anything was read
+  pub stops_before : (reader : R) → StopsInText files remaining name reader reader run_failure.OutOfMemory
+  stops_before reader = inl (refl, refl)
+
+  -- an allocation failed after all was read
+  pub stops_behind : (reader reader' : R) (text : List ℕ) → IsUtf8 name → ReadsWhole files remaining name reader reader' text → StopsInText files remaining name reader reader' run_failure.OutOfMemory
+  stops_behind reader reader' text utf8 (left, reads, end) = inr (record { utf8 = utf8; text = text; rest = left; part = reads; stops = tt })
+
+-- a run that stops in a source stops with its message
+reading_stops : (name : List ℕ) (why : RunFailure) → IsReadingFailure name why → IsRunFailureOf (Some name) why
+reading_stops name run_failure.OutOfMemory stops = tt
+reading_stops name run_failure.Read stops = stops
+reading_stops name (run_failure.ReadFile message) stops = stops
+reading_stops name (run_failure.Output failure) stops = absurd stops
+reading_stops name (run_failure.Errors failure) stops = absurd stops
+
+module _ {R : Type 0} (files : List ℕ → KnownFile) (remaining : R → Option (List ℕ)) (origin : Origin) where
+  pub source_read : (a b : List Source) (reader reader' : R) (text : List ℕ) → ReadsWhole files remaining origin.name reader reader' text → b ≡ a ++ record { origin = origin; lines = input_lines text } ∷ [] → GainsSource files remaining origin a b reader reader' None
+  source_read a b reader reader' text (left, reads, end) more = (record { origin = origin; lines = input_lines text }, record { text = text; left = left; reads = reads; end = end; is = refl }, more)
 
   -- no line is reported
   part_read : (stop : RunFailure) (reader reader' : R) (text : List ℕ) (left : Option (List ℕ)) → ReadsText files remaining (is_input origin.name) (files origin.name) reader reader' text left → IsRunFailureOf (Some origin.name) stop → StopsInSource files remaining origin reader reader' stop
@@ -58,19 +81,14 @@ module _ {R : Type 0} (files : List ℕ → KnownFile) (remaining : R → Option
     stops,
   )
 
-  pub input_stopped : (stop : RunFailure) (reader reader' : R) (text : List ℕ) → is_input origin.name ≡ true → Consumes (remaining reader) (remaining reader') text → IsRunFailureOf (Some origin.name) stop → StopsInSource files remaining origin reader reader' stop
-  input_stopped stop reader reader' text named consumed stops =
-      part_read stop reader reader' text (remaining reader') (subst (λ t. ReadsText files remaining t (files origin.name) reader reader' text (remaining reader')) (sym named) (consumed, refl)) stops
+  unread : (named : Bool) (reader : R) → is_input origin.name ≡ named → StopsInSource files remaining origin reader reader run_failure.OutOfMemory
+  unread true reader named = part_read run_failure.OutOfMemory reader reader [] (remaining reader) (subst (λ t. ReadsText files remaining t (files origin.name) reader reader [] (remaining reader)) (sym named) (Consumes-nil (remaining reader), refl)) tt
+  unread false reader named = inl (named, refl, refl)
 
-  pub file_stopped : {S : Type 0} (left_of : S → Option (List ℕ)) (stop : RunFailure) (file file' : S) (reader : R) (text : List ℕ) → is_input origin.name ≡ false → MayOpen (files origin.name) (left_of file) → Consumes (left_of file) (left_of file') text → IsRunFailureOf (Some origin.name) stop
-      → StopsInSource files remaining origin reader reader stop
-  file_stopped left_of stop file file' reader text named opens consumed stops =
-      part_read stop reader reader text (left_of file')
-      (subst (λ t. ReadsText files remaining t (files origin.name) reader reader text (left_of file')) (sym named) (left_of file, opens, consumed, refl)) stops
-
-  -- an allocation failed before the file was opened
-  pub unopened_stopped : (reader : R) → is_input origin.name ≡ false → StopsInSource files remaining origin reader reader run_failure.OutOfMemory
-  unopened_stopped reader named = inl (named, refl, refl)
+  pub source_stops : (why : RunFailure) (reader reader' : R) → StopsInText files remaining origin.name reader reader' why → StopsInSource files remaining origin reader reader' why
+  source_stops why reader reader' (inl (memory, kept)) =
+      subst (λ w. StopsInSource files remaining origin reader reader' w) (sym memory) (subst (λ r. StopsInSource files remaining origin reader r run_failure.OutOfMemory) (sym kept) (unread (is_input origin.name) reader refl))
+  source_stops why reader reader' (inr k) = part_read why reader reader' k.text k.rest k.part (reading_stops origin.name why k.stops)
 
 -- ---- one source after another
 
@@ -118,12 +136,18 @@ module _ {R : Type 0} (files : List ℕ → KnownFile) (remaining : R → Option
   all_ends read sources reader reader' k = record { read = read; left = []; split = sym (append-nil read); sources = k; ends = tt }
 
   -- only standard input
-  pub alone_read : (names : List (List ℕ)) (a b : List Source) (reader reader' : R) → names ≡ [] → a ≡ [] → ReadsTo remaining input_origin a b reader reader' → ReadsInput files remaining (source_names names) reader reader' (record { sources = b; unopened = None })
+  pub alone_read : (names : List (List ℕ)) (a b : List Source) (reader reader' : R) → names ≡ [] → a ≡ [] → GainsSource files remaining input_origin a b reader reader' None → ReadsInput files remaining (source_names names) reader reader' (record { sources = b; unopened = None })
   alone_read names a b reader reader' empty none k =
       subst (λ n. ReadsInput files remaining (source_names n) reader reader' (record { sources = b; unopened = None })) (sym empty)
-      (all_ends (source_names []) b reader reader' (all_more files remaining [] true input_name a b reader reader reader' refl (refl, none) (input_read files remaining input_origin a b reader reader' refl k)))
+      (all_ends (source_names []) b reader reader' (all_more files remaining [] true input_name a b reader reader reader' refl (refl, none) k))
 
-  pub alone_stopped : (names : List (List ℕ)) (stop : RunFailure) (reader reader' : R) (text : List ℕ) → names ≡ [] → Consumes (remaining reader) (remaining reader') text → IsRunFailureOf (Some input_name) stop → StopsInSources files remaining (source_names names) reader reader' stop
-  alone_stopped names stop reader reader' text empty consumed stops =
+  pub alone_refused : (names : List (List ℕ)) (a b : List Source) (reader reader' : R) (failure : OpenFailure) → names ≡ [] → a ≡ [] → GainsSource files remaining input_origin a b reader reader' (Some failure)
+      → ReadsInput files remaining (source_names names) reader reader' (record { sources = b; unopened = Some (record { name = input_name; failure = failure }) })
+  alone_refused names a b reader reader' failure empty none k =
+      subst (λ n. ReadsInput files remaining (source_names n) reader reader' (record { sources = b; unopened = Some (record { name = input_name; failure = failure }) })) (sym empty)
+      (all_refused files remaining [] true input_name a b reader reader reader' refl (refl, none) [] failure k)
+
+  pub alone_stopped : (names : List (List ℕ)) (stop : RunFailure) (reader reader' : R) → names ≡ [] → StopsInSource files remaining input_origin reader reader' stop → StopsInSources files remaining (source_names names) reader reader' stop
+  alone_stopped names stop reader reader' empty stops =
       subst (λ n. StopsInSources files remaining (source_names n) reader reader' stop) (sym empty)
-      (all_stopped files remaining [] true input_name [] [] reader reader reader' refl (refl, refl) [] stop (input_stopped files remaining input_origin stop reader reader' text refl consumed stops))
+      (all_stopped files remaining [] true input_name [] [] reader reader reader' refl (refl, refl) [] stop stops)

@@ -2,7 +2,7 @@
 use Rattle.std.proofs.Common.{◌≡◌, ◌⊎◌, ℕ, List, [], Option, None, Some, inl, inr, refl, subst}
 use Rattle.std.proofs.KnownBytes.{Appends-nil}
 use Rattle.pyver_tool.specs.Outcomes.{Outcome}
-use Rattle.pyver_tool.specs.Runs.{WroteBeginning}
+use Rattle.pep440_tool.specs.Streams.{WroteBeginning}
 use Rattle.pyver_tool.specs.SourceViews.{IsRunFailureOf}
 use Rattle.pyver_tool.specs.Sources.{EndsAt, Input, KnownFile, ReadsInput, StopsReading, UnopenedSource, last_name}
 use Rattle.pyver_tool.specs.VersionLines.{unopened_outcome}

@@ -4,10 +4,12 @@ use Rattle.std.specs.Fmt.{decimal}
 use Rattle.std.specs.List.{flat_map, list_any}
 use Rattle.pyver_tool.specs.Outcomes.{Outcome}
 use Rattle.pyver_tool.specs.RequirementFiles.{FilesRead, ReadsFiles, StopsInFiles, UnopenedFile}
-use Rattle.pyver_tool.specs.Runs.{WritesAnswer, WroteBeginning}
+use Rattle.pep440_tool.specs.Streams.{WroteBeginning}
+use Rattle.pyver_tool.specs.Runs.{WritesAnswer}
 use Rattle.pyver_tool.specs.SourceViews.{Reports}
 use Rattle.pyver_tool.specs.Sources.{KnownFile, failure_reason, source_names}
 use Rattle.pyver_tool.specs.declared.check.CheckOptions.{CheckOptions}
+use Rattle.pyver_tool.specs.declared.file_kind.FileKind.{FileKind}
 use Rattle.pyver_tool.specs.declared.stream.RunFailure.{RunFailure}
 use Rattle.pyver_tool.specs.declared.stream.RunFailure.TheVariants as run_failure
 use Rattle.pyver_findings.specs.Escapes.{escaped}
@@ -15,8 +17,8 @@ use Rattle.pyver_findings.specs.Findings.{Finding}
 use Rattle.pyver_findings.specs.NamedFiles.{Position}
 use Rattle.pyver_findings.specs.ReportObjects.{report_object}
 use Rattle.pyver_findings.specs.ReportTexts.{report_text, summary_text}
-use Rattle.pyver_findings.specs.Reports.{Report, empty_report, joined_report, spans_files}
-use Rattle.pyver_tool.specs.FileKinds.{IsFilesReport}
+use Rattle.pyver_findings.specs.Reports.{IsReport, Report, empty_report, joined_report, spans_files}
+use Rattle.pyver_projects.specs.Comparing.{IsDocumentsReport}
 
 -- ---- what is found
 
@@ -36,14 +38,14 @@ word_groups each words = if each then map (λ word. word ∷ []) (source_names w
 abbrev pub with_report : List UnopenedFile → CheckResult → Report → CheckResult
 with_report unopened a r = record { report = joined_report a.report r; unopened = a.unopened ++ unopened }
 
--- the report of these files follows
+-- the report of these files follows: of all requirements files together, and then of all documents
 abbrev pub GainsReport : FilesRead → CheckResult → CheckResult → Type 0
-GainsReport read a b = (r : Report) × IsFilesReport read.files r × (b ≡ with_report read.unopened a r)
+GainsReport read a b = (r : Report) × (s : Report) × IsReport read.requirements r × IsDocumentsReport read.documents s × (b ≡ with_report read.unopened a (joined_report r s))
 
-module _ {R : Type 0} (files : List ℕ → KnownFile) (paths : List ℕ → Option (List ℕ)) (remaining : R → Option (List ℕ)) where
+module _ {R : Type 0} (kind : FileKind) (files : List ℕ → KnownFile) (paths : List ℕ → Option (List ℕ)) (remaining : R → Option (List ℕ)) where
   -- the files that the words name were read, and their report follows
   abbrev pub ChecksGroup : List (List ℕ) → CheckResult → CheckResult → R → R → Type 0
-  ChecksGroup words a b reader reader' = (read : FilesRead) × ReadsFiles files paths remaining words reader reader' read × GainsReport read a b
+  ChecksGroup words a b reader reader' = (read : FilesRead) × ReadsFiles kind files paths remaining words reader reader' read × GainsReport read a b
 
   -- the groups, each in turn
   abbrev pub ChecksGroups : List (List (List ℕ)) → CheckResult → CheckResult → R → R → Type 0
@@ -52,8 +54,8 @@ module _ {R : Type 0} (files : List ℕ → KnownFile) (paths : List ℕ → Opt
 
   -- reading the files that the words name stopped, or an allocation failed after it
   abbrev pub StopsGroup : List (List ℕ) → R → R → RunFailure → Type 0
-  StopsGroup words reader reader' why = StopsInFiles files paths remaining words reader reader' why
-      ⊎ ((why ≡ run_failure.OutOfMemory) × ((read : FilesRead) × ReadsFiles files paths remaining words reader reader' read))
+  StopsGroup words reader reader' why = StopsInFiles kind files paths remaining words reader reader' why
+      ⊎ ((why ≡ run_failure.OutOfMemory) × ((read : FilesRead) × ReadsFiles kind files paths remaining words reader reader' read))
 
   -- some groups were checked, and the next one stopped
   abbrev pub StopsGroups : List (List (List ℕ)) → CheckResult → R → R → RunFailure → Type 0
@@ -107,12 +109,12 @@ check_outcome options words c = record {
 module _ {R : Type 0} (files : List ℕ → KnownFile) (paths : List ℕ → Option (List ℕ)) (remaining : R → Option (List ℕ)) where
   -- all files were read, and this is to be written
   abbrev pub Checks : CheckOptions → List (List ℕ) → R → R → Outcome → Type 0
-  Checks options words reader reader' o = (c : CheckResult) × ChecksGroups files paths remaining (word_groups options.each words) none_checked c reader reader' × (o ≡ check_outcome options words c)
+  Checks options words reader reader' o = (c : CheckResult) × ChecksGroups options.kind files paths remaining (word_groups options.each words) none_checked c reader reader' × (o ≡ check_outcome options words c)
 
   -- nothing is to be written: reading stopped, or an allocation failed after it
   abbrev pub StopsCheck : CheckOptions → List (List ℕ) → R → R → RunFailure → Type 0
-  StopsCheck options words reader reader' why = StopsGroups files paths remaining (word_groups options.each words) none_checked reader reader' why
-      ⊎ ((why ≡ run_failure.OutOfMemory) × ((c : CheckResult) × ChecksGroups files paths remaining (word_groups options.each words) none_checked c reader reader'))
+  StopsCheck options words reader reader' why = StopsGroups options.kind files paths remaining (word_groups options.each words) none_checked reader reader' why
+      ⊎ ((why ≡ run_failure.OutOfMemory) × ((c : CheckResult) × ChecksGroups options.kind files paths remaining (word_groups options.each words) none_checked c reader reader'))
 
 module _ {F R W E : Type 0} (known : F → List ℕ → KnownFile) (path : F → List ℕ → Option (List ℕ)) (remaining : R → Option (List ℕ)) (contents : W → Option (List ℕ)) (error_contents : E → Option (List ℕ)) where
   -- nothing was written but a beginning of the message of why reading stopped, or that an allocation failed

@@ -1,38 +1,26 @@
--- Which files are read as requirements files, and which as documents of a project, by their names.
-use Rattle.std.specs.Prelude.{◌≡◌, ℕ, List, [], ◌∷◌, Option, Some, None}
-use Rattle.std.specs.List.{flat_map}
-use Rattle.pyver_findings.specs.FileLines.{File}
-use Rattle.pyver_findings.specs.NamedFiles.{NamedFile, named_files}
-use Rattle.pyver_findings.specs.Reports.{IsReport, Report, joined_report}
-use Rattle.pyver_projects.specs.Comparing.{IsDocumentsReport}
+-- The kinds of files: by their names, or else by the option `--format`.
+use Rattle.std.specs.Prelude.{ℕ, List, Option, Some, None, bytes_eq, codes, if◌then◌else◌}
 use Rattle.pyver_projects.specs.DocumentKinds.{kind_of_path}
-use Rattle.pyver_projects.specs.Meanings.{Document}
 use Rattle.pyver_projects.specs.declared.document_kind.DocumentKind.{DocumentKind}
+use Rattle.pyver_projects.specs.declared.document_kind.DocumentKind.TheVariants.{Lock, Project}
+use Rattle.pyver_projects.specs.declared.document_kind.LockKind.TheVariants.{Poetry, Pylock, Uv}
+use Rattle.pyver_tool.specs.declared.file_kind.FileKind.{FileKind}
+use Rattle.pyver_tool.specs.declared.file_kind.FileKind.TheVariants.{Document, Requirements}
 
--- a file that is no document
-abbrev pub requirements_by : Option DocumentKind → File → List File
-requirements_by None file = file ∷ []
-requirements_by (Some kind) file = []
+-- the value of `--format`: `requirements`, `pyproject`, `pylock`, `uv` or `poetry`
+abbrev pub file_kind_of : List ℕ → Option FileKind
+file_kind_of word =
+    if bytes_eq word (codes "requirements") then Some Requirements
+    else if bytes_eq word (codes "pyproject") then Some (Document Project)
+    else if bytes_eq word (codes "pylock") then Some (Document (Lock Pylock))
+    else if bytes_eq word (codes "uv") then Some (Document (Lock Uv))
+    else if bytes_eq word (codes "poetry") then Some (Document (Lock Poetry))
+    else None
 
--- a document of this kind
-abbrev pub documents_by : Option DocumentKind → File → List Document
-documents_by None file = []
-documents_by (Some kind) file = record { kind = kind; file = file } ∷ []
+abbrev pub kind_by : FileKind → Option DocumentKind → FileKind
+kind_by other None = other
+kind_by other (Some kind) = Document kind
 
--- the files that the lines of a requirements file name; a document names none
-abbrev pub names_by : Option DocumentKind → File → List NamedFile
-names_by None file = named_files file
-names_by (Some kind) file = []
-
-abbrev pub requirements_in : File → List File
-requirements_in file = requirements_by (kind_of_path file.name) file
-
-abbrev pub documents_in : File → List Document
-documents_in file = documents_by (kind_of_path file.name) file
-
-abbrev pub names_in : File → List NamedFile
-names_in file = names_by (kind_of_path file.name) file
-
--- the report of requirements files and documents: of all requirements files together, and then of all documents
-abbrev pub IsFilesReport : List File → Report → Type 0
-IsFilesReport files b = (r : Report) × (s : Report) × IsReport (flat_map requirements_in files) r × IsDocumentsReport (flat_map documents_in files) s × (b ≡ joined_report r s)
+-- the kind of the file with this name: the one by its name, or else this one
+abbrev pub kind_by_name : FileKind → List ℕ → FileKind
+kind_by_name other name = kind_by other (kind_of_path name)

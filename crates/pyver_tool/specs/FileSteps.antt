@@ -1,30 +1,36 @@
 -- The steps of the reading of requirements files.
-use Rattle.std.specs.Prelude.{◌≡◌, ◌⊎◌, ◌≤◌, ◌<◌, ℕ, List, ◌++◌, false, Option, Some, None, length, map, string_bytes}
-use Rattle.std.specs.Io.KnownBytes.{Consumes, IsAtEnd}
+use Rattle.std.specs.Prelude.{◌≡◌, ◌⊎◌, ◌≤◌, ◌<◌, ℕ, List, [], ◌++◌, Option, Some, None, length, map, string_bytes}
 use Rattle.std.specs.List.{flat_map}
-use Rattle.pyver_tool.specs.RequirementFiles.{FilesRead, IsRefused, OpensNext, ReadsFile, ReadsNext, UnopenedFile, with_file, with_unopened}
-use Rattle.pyver_tool.specs.Sources.{KnownFile, MayRefuse, is_input}
+use Rattle.pyver_tool.specs.RequirementFiles.{FilesRead, IsRefused, OpensNext, ReadsNext, UnopenedFile, with_file, with_unopened}
+use Rattle.pyver_tool.specs.Sources.{KnownFile}
+use Rattle.pyver_tool.specs.declared.file_kind.FileKind.{FileKind}
+use Rattle.pyver_tool.specs.declared.file_kind.FileKind.TheVariants as file_kind
 use Rattle.pyver_tool.specs.declared.open_failure.OpenFailure.{OpenFailure}
 use Rattle.pyver_tool.specs.declared.requirement_files.RequirementFiles.{RequirementFiles}
 use Rattle.pyver_tool.specs.declared.requirement_files.UnopenedFile.{UnopenedFile as UnopenedFileValue}
 use Rattle.pyver_findings.specs.FileLines.{File}
-use Rattle.pyver_findings.specs.NamedFiles.{NamedFile}
-use Rattle.pyver_tool.specs.FileKinds.{names_in}
+use Rattle.pyver_findings.specs.NamedFiles.{NamedFile, named_files}
 use Rattle.pyver_findings.specs.Views.{file_of, named_file_of}
+use Rattle.pyver_projects.specs.ProjectViews.{document_of}
 
 abbrev pub unopened_file_of : UnopenedFileValue → UnopenedFile
 unopened_file_of file = record { named = named_file_of file.named; failure = file.failure }
 
 abbrev pub read_of : RequirementFiles → FilesRead
-read_of state = record { files = map file_of state.files.items; paths = map string_bytes state.paths.items; unopened = map unopened_file_of state.unopened.items }
+read_of state = record { requirements = map file_of state.requirements.items; documents = map document_of state.documents.items; paths = map string_bytes state.paths.items; unopened = map unopened_file_of state.unopened.items }
 
 abbrev pub names_of_files : RequirementFiles → List NamedFile
 names_of_files state = map named_file_of state.names.items
 
--- a file more, and the names in it
-pub record GainsFile (a b : RequirementFiles) (file : File) (path : List ℕ) : Type 0 where
-  pub read : read_of b ≡ with_file (read_of a) file path
-  pub names : names_of_files b ≡ names_of_files a ++ names_in file
+-- the files that the lines of a file of this kind name
+abbrev pub names_in : FileKind → File → List NamedFile
+names_in file_kind.Requirements file = named_files file
+names_in (file_kind.Document kind) file = []
+
+-- a file of this kind more, and the names in it
+pub record GainsFile (kind : FileKind) (a b : RequirementFiles) (file : File) (path : List ℕ) : Type 0 where
+  pub read : read_of b ≡ with_file (read_of a) kind file path
+  pub names : names_of_files b ≡ names_of_files a ++ names_in kind file
 
 -- one more that was not opened
 pub record GainsUnopened (a b : RequirementFiles) (named : NamedFile) (why : OpenFailure) : Type 0 where
@@ -32,16 +38,9 @@ pub record GainsUnopened (a b : RequirementFiles) (named : NamedFile) (why : Ope
   pub names : b.names ≡ a.names
   pub count : b.read_count ≡ a.read_count
 
--- a file more, whose text was read to its end
-pub record GainsText {R : Type 0} (remaining : R → Option (List ℕ)) (name path : List ℕ) (a b : RequirementFiles) (reader reader' : R) : Type 0 where
-  pub text : List ℕ
-  pub consumed : Consumes (remaining reader) (remaining reader') text
-  pub end : IsAtEnd (remaining reader')
-  pub gains : GainsFile a b (record { name = name; text = text }) path
-
 -- the names are these, and those in the files that were read
 abbrev pub HasNames : List NamedFile → RequirementFiles → Type 0
-HasNames first state = names_of_files state ≡ first ++ flat_map names_in (read_of state).files
+HasNames first state = names_of_files state ≡ first ++ flat_map named_files (read_of state).requirements
 
 -- more was read than before, or there are no more names
 abbrev pub Advances : RequirementFiles → RequirementFiles → Type 0
@@ -60,20 +59,14 @@ pub record StepsTo (Next : Type 0) (a b : RequirementFiles) : Type 0 where
   pub advances : Advances a b
   pub reads : HasReads b
 
-module _ {R : Type 0} (files : List ℕ → KnownFile) (remaining : R → Option (List ℕ)) where
-  -- the source was read to its end, a file more; or its file was not opened
-  abbrev pub OpensOrRefused : List ℕ → List ℕ → RequirementFiles → RequirementFiles → R → R → Option OpenFailure → Type 0
-  OpensOrRefused name path a b reader reader' None = (file : File) × ReadsFile files remaining name reader reader' file × GainsFile a b file path × (a.read_count < b.read_count) × HasReads b
-  OpensOrRefused name path a b reader reader' (Some why) = (is_input name ≡ false) × MayRefuse (files name) why × (b ≡ a) × (reader' ≡ reader)
-
-module _ {R : Type 0} (files : List ℕ → KnownFile) (paths : List ℕ → Option (List ℕ)) (remaining : R → Option (List ℕ)) where
+module _ {R : Type 0} (kind : FileKind) (files : List ℕ → KnownFile) (paths : List ℕ → Option (List ℕ)) (remaining : R → Option (List ℕ)) where
   -- the source with this name was read unless it had been before
   abbrev pub OpensStep : List ℕ → RequirementFiles → RequirementFiles → R → R → Type 0
-  OpensStep name a b reader reader' = StepsTo (OpensNext files paths remaining name (read_of a) (read_of b) reader reader') a b
+  OpensStep name a b reader reader' = StepsTo (OpensNext kind files paths remaining name (read_of a) (read_of b) reader reader') a b
 
   -- the same, or it was not opened
   abbrev pub ReadsStep : NamedFile → RequirementFiles → RequirementFiles → R → R → Type 0
-  ReadsStep named a b reader reader' = StepsTo (ReadsNext files paths remaining named (read_of a) (read_of b) reader reader') a b
+  ReadsStep named a b reader reader' = StepsTo (ReadsNext kind files paths remaining named (read_of a) (read_of b) reader reader') a b
 
   -- a source was read so; or its file was not opened
   abbrev pub StepsOrRefused : List ℕ → RequirementFiles → RequirementFiles → R → R → Option OpenFailure → Type 0

@@ -8,7 +8,7 @@ use Rattle.pyver_tool.specs.InvalidLines.{last_message, lines_status, message_li
 use Rattle.pyver_tool.specs.NewestViews.{KeepsNewest}
 use Rattle.pyver_tool.specs.Outcomes.{Outcome}
 use Rattle.pyver_tool.specs.ReadLines.{IsRead, ReadLine, faults}
-use Rattle.pyver_tool.specs.Runs.{WroteBeginning}
+use Rattle.pep440_tool.specs.Streams.{WroteBeginning}
 use Rattle.pyver_tool.specs.SourceViews.{IsRunFailureOf}
 use Rattle.pyver_tool.specs.Sources.{Input, KnownFile, MayRefuse, ReadsInput, ReadsLines, ReadsSource, StopsReading, UnopenedSource, is_input, last_name, unopened_message, unopened_status}
 use Rattle.pyver_tool.specs.VersionLines.{version_lines}

@@ -31,13 +31,13 @@ pub mod NewestViews
 pub mod Options
 pub mod SplitWords
 pub mod SplitViews
+pub mod FileKinds
 pub mod Settings
 pub mod Tasks
 pub mod TaskViews
 pub mod Runs
 pub mod SourceViews
 pub mod SourceTexts
-pub mod FileKinds
 pub mod RequirementFiles
 pub mod FileSteps
 pub mod Checks

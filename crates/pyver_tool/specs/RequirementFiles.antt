@@ -1,37 +1,41 @@
 -- The files that `check` reads: those that the words name, and those that the lines of requirements files name.
 use Rattle.std.specs.Prelude.{◌≡◌, ◌⊎◌, ⊤, ℕ, List, [], ◌∷◌, ◌++◌, Bool, true, false, Option, Some, None, bytes_eq, map}
-use Rattle.std.specs.Io.KnownBytes.{IsAtEnd}
 use Rattle.std.specs.List.{flat_map, list_any}
 use Rattle.std.specs.Str.{IsUtf8}
-use Rattle.pyver_tool.specs.SourceViews.{IsReadingFailure}
-use Rattle.pyver_tool.specs.Sources.{KnownFile, MayRefuse, ReadsByName, is_input}
+use Rattle.pyver_tool.specs.SourceTexts.{StopsInText}
+use Rattle.pyver_tool.specs.Sources.{KnownFile, MayRefuse, ReadsWhole, is_input}
+use Rattle.pyver_tool.specs.declared.file_kind.FileKind.{FileKind}
+use Rattle.pyver_tool.specs.declared.file_kind.FileKind.TheVariants as file_kind
 use Rattle.pyver_tool.specs.declared.open_failure.OpenFailure.{OpenFailure}
 use Rattle.pyver_tool.specs.declared.open_failure.OpenFailure.TheVariants as failure
 use Rattle.pyver_tool.specs.declared.stream.RunFailure.{RunFailure}
-use Rattle.pyver_tool.specs.declared.stream.RunFailure.TheVariants as run_failure
 use Rattle.pyver_findings.specs.FileLines.{File}
-use Rattle.pyver_findings.specs.NamedFiles.{NamedFile}
-use Rattle.pyver_tool.specs.FileKinds.{names_in}
+use Rattle.pyver_findings.specs.NamedFiles.{NamedFile, named_files}
+use Rattle.pyver_projects.specs.Meanings.{Document}
+use Rattle.pyver_tool.specs.FileKinds.{kind_by_name}
 
 -- a file that was not opened, and why
 pub record UnopenedFile : Type 0 where
   pub named : NamedFile
   pub failure : OpenFailure
 
--- files that were read, and their paths; and those that were not opened
+-- files that were read, by their kinds, and their paths; and those that were not opened
 pub record FilesRead : Type 0 where
-  pub files : List File
+  pub requirements : List File
+  pub documents : List Document
   pub paths : List (List ℕ)
   pub unopened : List UnopenedFile
 
 abbrev pub none_read : FilesRead
-none_read = record { files = []; paths = []; unopened = [] }
+none_read = record { requirements = []; documents = []; paths = []; unopened = [] }
 
-abbrev pub with_file : FilesRead → File → List ℕ → FilesRead
-with_file a file path = record { files = a.files ++ file ∷ []; paths = a.paths ++ path ∷ []; unopened = a.unopened }
+-- a file of this kind more
+abbrev pub with_file : FilesRead → FileKind → File → List ℕ → FilesRead
+with_file a file_kind.Requirements file path = record { requirements = a.requirements ++ file ∷ []; documents = a.documents; paths = a.paths ++ path ∷ []; unopened = a.unopened }
+with_file a (file_kind.Document kind) file path = record { requirements = a.requirements; documents = a.documents ++ record { kind = kind; file = file } ∷ []; paths = a.paths ++ path ∷ []; unopened = a.unopened }
 
 abbrev pub with_unopened : FilesRead → NamedFile → OpenFailure → FilesRead
-with_unopened a named why = record { files = a.files; paths = a.paths; unopened = a.unopened ++ record { named = named; failure = why } ∷ [] }
+with_unopened a named why = record { requirements = a.requirements; documents = a.documents; paths = a.paths; unopened = a.unopened ++ record { named = named; failure = why } ∷ [] }
 
 -- the file that a word names
 abbrev pub word_file : List ℕ → NamedFile
@@ -55,30 +59,13 @@ IsSourcePath false known name path = IsKnownPath known path
 abbrev pub IsRefused : KnownFile → List ℕ → OpenFailure → Type 0
 IsRefused file name why = ((¬ IsUtf8 name) × (why ≡ failure.Other)) ⊎ (IsUtf8 name × (is_input name ≡ false) × MayRefuse file why)
 
--- `files` is what is known of each file, `remaining` are the bytes that standard input has left
-module _ {R : Type 0} (files : List ℕ → KnownFile) (remaining : R → Option (List ℕ)) where
-  -- the source with this name was read to its end
-  pub record ReadsFile (name : List ℕ) (reader reader' : R) (file : File) : Type 0 where
-    pub text : List ℕ
-    pub left : Option (List ℕ)
-    pub reads : ReadsByName files remaining name reader reader' text left
-    pub end : IsAtEnd left
-    pub is : file ≡ record { name = name; text = text }
+-- the text of the source with this name
+abbrev pub file_with : List ℕ → List ℕ → File
+file_with name text = record { name = name; text = text }
 
-  -- a part of the source with this name, which is UTF-8, was read, when reading stopped
-  pub record ReadsFilePart (name : List ℕ) (reader reader' : R) (why : RunFailure) : Type 0 where
-    pub utf8 : IsUtf8 name
-    pub text : List ℕ
-    pub rest : Option (List ℕ)
-    pub part : ReadsByName files remaining name reader reader' text rest
-    pub stops : IsReadingFailure name why
-
-  -- when reading stopped, a part of the source with this name was read, or, where an allocation failed, nothing
-  abbrev pub StopsInFile : List ℕ → R → R → RunFailure → Type 0
-  StopsInFile name reader reader' why = ((why ≡ run_failure.OutOfMemory) × (reader' ≡ reader)) ⊎ ReadsFilePart name reader reader' why
-
--- `paths` is what is known of the path of each file
-module _ {R : Type 0} (files : List ℕ → KnownFile) (paths : List ℕ → Option (List ℕ)) (remaining : R → Option (List ℕ)) where
+-- `kind` is the kind of files that have none by name, `files` is what is known of each file, `paths` what is known of its path, and
+-- `remaining` are the bytes that standard input has left
+module _ {R : Type 0} (kind : FileKind) (files : List ℕ → KnownFile) (paths : List ℕ → Option (List ℕ)) (remaining : R → Option (List ℕ)) where
   -- the path of the source with this name
   abbrev pub HasPath : List ℕ → List ℕ → Type 0
   HasPath name path = IsSourcePath (is_input name) (paths name) name path
@@ -87,7 +74,7 @@ module _ {R : Type 0} (files : List ℕ → KnownFile) (paths : List ℕ → Opt
   abbrev pub OpensNext : List ℕ → FilesRead → FilesRead → R → R → Type 0
   OpensNext name a b reader reader' = IsUtf8 name × (path : List ℕ) × HasPath name path
       × (((has_path a path ≡ true) × (b ≡ a) × (reader' ≡ reader))
-      ⊎ ((has_path a path ≡ false) × ((file : File) × ReadsFile files remaining name reader reader' file × (b ≡ with_file a file path))))
+      ⊎ ((has_path a path ≡ false) × ((text : List ℕ) × ReadsWhole files remaining name reader reader' text × (b ≡ with_file a (kind_by_name kind name) (file_with name text) path))))
 
   -- the same; or the file was not opened
   abbrev pub ReadsNext : NamedFile → FilesRead → FilesRead → R → R → Type 0
@@ -101,7 +88,7 @@ module _ {R : Type 0} (files : List ℕ → KnownFile) (paths : List ℕ → Opt
 
   -- of all names, first these and then those that the lines of each requirements file name, in the order of the files, each was read in turn
   abbrev pub ReadsNames : List NamedFile → R → R → FilesRead → Type 0
-  ReadsNames first reader reader' read = ReadsFilesInTurn (first ++ flat_map names_in read.files) none_read read reader reader'
+  ReadsNames first reader reader' read = ReadsFilesInTurn (first ++ flat_map named_files read.requirements) none_read read reader reader'
 
   -- some names were read so, and a part of the source with the next one, or, where an allocation failed, nothing
   pub record StopsInNames (first : List NamedFile) (reader reader' : R) (why : RunFailure) : Type 0 where
@@ -109,10 +96,10 @@ module _ {R : Type 0} (files : List ℕ → KnownFile) (paths : List ℕ → Opt
     pub named : NamedFile
     pub left : List NamedFile
     pub read : FilesRead
-    pub split : first ++ flat_map names_in read.files ≡ done ++ named ∷ left
+    pub split : first ++ flat_map named_files read.requirements ≡ done ++ named ∷ left
     pub middle : R
     pub each : ReadsFilesInTurn done none_read read reader middle
-    pub part : StopsInFile files remaining named.name middle reader' why
+    pub part : StopsInText files remaining named.name middle reader' why
 
   -- the same of the files that words name
   abbrev pub ReadsFiles : List (List ℕ) → R → R → FilesRead → Type 0

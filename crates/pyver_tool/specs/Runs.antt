@@ -2,17 +2,11 @@
 -- `contents` and `error_contents` those that the writers hold.
 use Rattle.std.specs.Prelude.{◌≡◌, ◌⊎◌, ◌≤◌, ℕ, List, [], ◌++◌, Option, None, Some, codes}
 use Rattle.std.specs.Io.KnownBytes.{Appends}
+use Rattle.pep440_tool.specs.Streams.{WroteBeginning}
 use Rattle.pyver_tool.specs.InputLines.{Source}
 use Rattle.pyver_tool.specs.Outcomes.{Outcome}
 use Rattle.pyver_tool.specs.Sources.{Input, KnownFile, ReadsFirst, ReadsInput, StopsReading, last_name, no_input, read_message}
 use Rattle.pyver_tool.specs.Tasks.{IsOutcome, IsStream, NeedsInput, names_of, task_of}
-
--- a prefix of `all` was written, which may be empty or the whole
-pub record WroteBeginning (old new : Option (List ℕ)) (all : List ℕ) : Type 0 where
-  pub written : List ℕ
-  pub left : List ℕ
-  pub wrote : Appends old new written
-  pub whole : all ≡ written ++ left
 
 -- the message of a run that is out of memory
 abbrev pub memory_message : List ℕ

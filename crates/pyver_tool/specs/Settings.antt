@@ -1,11 +1,13 @@
 -- What options set: of two that contradict each other the last counts.
 use Rattle.std.specs.Prelude.{ℕ, ◌==◌, List, [], ◌∷◌, true, false, Option, Some, None, bytes_eq, codes, if◌then◌else◌}
 use Rattle.std.specs.Option.{option_map}
+use Rattle.pyver_tool.specs.FileKinds.{file_kind_of}
 use Rattle.pyver_tool.specs.InvalidLines.{invalid_lines_of}
 use Rattle.pyver_tool.specs.LineOptions.{no_line_options}
 use Rattle.pyver_tool.specs.Numbers.{word_number}
 use Rattle.pyver_tool.specs.Options.{Row}
 use Rattle.pyver_tool.specs.Parts.{part_of}
+use Rattle.pyver_tool.specs.declared.file_kind.FileKind.TheVariants as file_kind
 use Rattle.pyver_tool.specs.declared.line_options.LineOptions.{LineOptions}
 use Rattle.pyver_tool.specs.declared.prerelease_rule.Prereleases.TheVariants as prereleases
 use Rattle.pyver_tool.specs.declared.settings.Settings.{Settings}
@@ -49,11 +51,12 @@ with_option settings name value =
     else if bytes_eq name (codes "--to") then option_map (λ n. record settings { to = Some n }) (word_number value)
     else if bytes_eq name (codes "--cover") then Some (record settings { cover = true })
     else if bytes_eq name (codes "--each") then Some (record settings { each = true })
+    else if bytes_eq name (codes "--format") then option_map (λ kind. record settings { kind = kind }) (file_kind_of value)
     else option_map (λ lines. record settings { lines = lines }) (with_line_option settings.lines name value)
 
 -- without an option
 abbrev pub no_settings : Settings
-no_settings = record { quiet = false; prereleases = prereleases.Listed; inverted = false; reversed = false; unique = false; last = None; lines = no_line_options; format = format.Normal; to = None; cover = false; each = false }
+no_settings = record { quiet = false; prereleases = prereleases.Listed; inverted = false; reversed = false; unique = false; last = None; lines = no_line_options; format = format.Normal; to = None; cover = false; each = false; kind = file_kind.Requirements }
 
 -- what options set, or the first of them with a wrong value
 pub data Effect : Type 0 where

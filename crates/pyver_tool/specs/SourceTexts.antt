@@ -1,9 +1,9 @@
 -- Sources that are read to their ends before anything is written.
 use Rattle.std.specs.Prelude.{◌≡◌, ◌⊎◌, ◌≤◌, ◌+◌, ◌*◌, ℕ, List, [], ◌∷◌, ◌++◌, false, Option, Some, None, length, map}
-use Rattle.std.specs.Io.KnownBytes.{Consumes, IsAtEnd}
+use Rattle.std.specs.Str.{IsUtf8}
 use Rattle.pyver_tool.specs.InputLines.{Origin, Source, input_lines}
-use Rattle.pyver_tool.specs.SourceViews.{IsRunFailureOf, origin_of}
-use Rattle.pyver_tool.specs.Sources.{KnownFile, MayRefuse, ReadsLines, ReadsSource, StopsReading, is_input, last_name}
+use Rattle.pyver_tool.specs.SourceViews.{IsReadingFailure, IsRunFailureOf, origin_of}
+use Rattle.pyver_tool.specs.Sources.{KnownFile, MayRefuse, ReadsByName, ReadsLines, ReadsSource, StopsReading, is_input, last_name}
 use Rattle.pyver_tool.specs.declared.open_failure.OpenFailure.{OpenFailure}
 use Rattle.pyver_tool.specs.declared.source_texts.SourceText.{SourceText}
 use Rattle.pyver_tool.specs.declared.source_texts.SourceTexts.{SourceTexts}
@@ -26,14 +26,19 @@ size_of (x ∷ rest) = (length x.text.items + 1) + size_of rest
 abbrev pub HasRoom : SourceTexts → Type 0
 HasRoom state = (size_of state.texts.items ≤ 8192 * state.read_count) × (state.read_count ≤ 562949953421312)
 
--- a source was read to its end, after others
-pub record ReadsTo {R : Type 0} (remaining : R → Option (List ℕ)) (origin : Origin) (a b : List Source) (reader reader' : R) : Type 0 where
-  pub text : List ℕ
-  pub consumed : Consumes (remaining reader) (remaining reader') text
-  pub end : IsAtEnd (remaining reader')
-  pub more : b ≡ a ++ record { origin = origin; lines = input_lines text } ∷ []
-
 module _ {R : Type 0} (files : List ℕ → KnownFile) (remaining : R → Option (List ℕ)) where
+  -- a part of the source with this name, which is UTF-8, was read, when reading stopped
+  pub record ReadsTextPart (name : List ℕ) (reader reader' : R) (why : RunFailure) : Type 0 where
+    pub utf8 : IsUtf8 name
+    pub text : List ℕ
+    pub rest : Option (List ℕ)
+    pub part : ReadsByName files remaining name reader reader' text rest
+    pub stops : IsReadingFailure name why
+
+  -- when reading stopped, a part of the source with this name was read, or, where an allocation failed, nothing
+  abbrev pub StopsInText : List ℕ → R → R → RunFailure → Type 0
+  StopsInText name reader reader' why = ((why ≡ run_failure.OutOfMemory) × (reader' ≡ reader)) ⊎ ReadsTextPart name reader reader' why
+
   -- the source with this name was read to its end, after others; or its file was not opened
   abbrev pub GainsSource : Origin → List Source → List Source → R → R → Option OpenFailure → Type 0
   GainsSource origin a b reader reader' None = (source : Source) × ReadsSource files remaining origin reader reader' source × (b ≡ a ++ source ∷ [])

@@ -104,6 +104,14 @@ module _ {R : Type 0} (files : List ℕ → KnownFile) (remaining : R → Option
   abbrev pub ReadsByName : List ℕ → R → R → List ℕ → Option (List ℕ) → Type 0
   ReadsByName name reader reader' text left = ReadsText (is_input name) (files name) reader reader' text left
 
+  -- this text was read to the end of the source with this name
+  abbrev pub ReadsWhole : List ℕ → R → R → List ℕ → Type 0
+  ReadsWhole name reader reader' text = (left : Option (List ℕ)) × ReadsByName name reader reader' text left × IsAtEnd left
+
+  -- the file with this name was not opened, for this reason
+  abbrev pub IsUnopened : List ℕ → R → R → OpenFailure → Type 0
+  IsUnopened name reader reader' why = (is_input name ≡ false) × MayRefuse (files name) why × (reader' ≡ reader)
+
   -- a source was read to its end
   pub record ReadsSource (origin : Origin) (reader reader' : R) (source : Source) : Type 0 where
     pub text : List ℕ

@@ -176,7 +176,7 @@ is_json _ = false
 
 -- what the settings say of `check`
 abbrev pub check_options : Settings → CheckOptions
-check_options settings = record { json = is_json settings.format; each = settings.each; quiet = settings.quiet }
+check_options settings = record { json = is_json settings.format; each = settings.each; quiet = settings.quiet; kind = settings.kind }
 
 -- the task of a command with these settings and operands
 abbrev pub task_with : Settings → Topic → List (List ℕ) → Task

@@ -5,7 +5,7 @@ use Rattle.pyver_tool.specs.BumpInputs.{BumpsOnly}
 use Rattle.pyver_tool.specs.InputLines.{Source}
 use Rattle.pyver_tool.specs.LineOptions.{no_line_options}
 use Rattle.pyver_tool.specs.Outcomes.{Outcome}
-use Rattle.pyver_tool.specs.Runs.{WroteBeginning}
+use Rattle.pep440_tool.specs.Streams.{WroteBeginning}
 use Rattle.pyver_tool.specs.NewestOutcomes.{FindsNewest}
 use Rattle.pyver_tool.specs.Sorts.{SortsParts}
 use Rattle.pyver_tool.specs.SourceViews.{IsRunFailureOf}

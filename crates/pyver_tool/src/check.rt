@@ -11,11 +11,12 @@ ghost use Rattle.pyver_findings.specs.Reports.{spans_files};
 ghost use Rattle.pyver_findings.specs.Views.{finding_of, position_of, report_of};
 
 use crate::answer::Answer;
-use crate::file_kinds::report_files;
+use crate::file_kind::FileKind;
 use crate::files::Files;
 use crate::requirement_files::{UnopenedFile, read_files};
 use crate::stream::RunFailure;
-use pyver_findings::{Finding, Position, Report, push_escaped};
+use pyver_findings::{Finding, Position, Report, find_problems, push_escaped};
+use pyver_projects::find_document_problems;
 use std::alloc::{AllocError, Global};
 use std::io::Read;
 
@@ -28,6 +29,8 @@ pub(crate) struct CheckOptions {
     pub(crate) each: bool,
     // No finding is written.
     pub(crate) quiet: bool,
+    // The kind of files that have none by name.
+    pub(crate) kind: FileKind,
 }
 
 // What was found so far.
@@ -198,17 +201,19 @@ impl CheckResult {
     fn check_group<F: Files, R: Read>(
         &mut self,
         alloc: Global,
+        kind: FileKind,
         words: &[String],
         files: &mut F,
         input: &mut R,
     ) -> Result<(), RunFailure>
-        ensures checked { IfOk result (λ _. ChecksGroup (F.known files.old) (F.path files.old) R.remaining (source_names (map string_bytes words.now)) (check_result_of self.old) (check_result_of self.new) input.old input.new) }
-        ensures stopped { IfErr result (StopsGroup (F.known files.old) (F.path files.old) R.remaining (source_names (map string_bytes words.now)) input.old input.new) }
+        ensures checked { IfOk result (λ _. ChecksGroup kind (F.known files.old) (F.path files.old) R.remaining (source_names (map string_bytes words.now)) (check_result_of self.old) (check_result_of self.new) input.old input.new) }
+        ensures stopped { IfErr result (StopsGroup kind (F.known files.old) (F.path files.old) R.remaining (source_names (map string_bytes words.now)) input.old input.new) }
         ensures kept { F.known files.new ≡ F.known files.old }
         ensures kept_paths { F.path files.new ≡ F.path files.old }
     {
-        let read = read_files(alloc, words, files, input)?;
-        let report = report_files(alloc, read.files)?;
+        let read = read_files(alloc, kind, words, files, input)?;
+        let mut report = find_problems(alloc, read.requirements.as_slice())?;
+        report.append(find_document_problems(alloc, read.documents.as_slice())?)?;
         Ok(self.push(report, read.unopened)?)
     }
 
@@ -216,18 +221,19 @@ impl CheckResult {
     fn check_each<F: Files, R: Read>(
         &mut self,
         alloc: Global,
+        kind: FileKind,
         words: &[String],
         files: &mut F,
         input: &mut R,
     ) -> Result<(), RunFailure>
-        ensures checked { IfOk result (λ _. ChecksGroups (F.known files.old) (F.path files.old) R.remaining (map (λ word. word ∷ []) (map string_bytes words.now)) (check_result_of self.old) (check_result_of self.new) input.old input.new) }
-        ensures stopped { IfErr result (StopsGroups (F.known files.old) (F.path files.old) R.remaining (map (λ word. word ∷ []) (map string_bytes words.now)) (check_result_of self.old) input.old input.new) }
+        ensures checked { IfOk result (λ _. ChecksGroups kind (F.known files.old) (F.path files.old) R.remaining (map (λ word. word ∷ []) (map string_bytes words.now)) (check_result_of self.old) (check_result_of self.new) input.old input.new) }
+        ensures stopped { IfErr result (StopsGroups kind (F.known files.old) (F.path files.old) R.remaining (map (λ word. word ∷ []) (map string_bytes words.now)) (check_result_of self.old) input.old input.new) }
         ensures kept { F.known files.new ≡ F.known files.old }
         ensures kept_paths { F.path files.new ≡ F.path files.old }
     {
         let mut rest = words;
         while let [_, later @ ..] = rest {
-            self.check_group(alloc, &rest[..1], files, input)?;
+            self.check_group(alloc, kind, &rest[..1], files, input)?;
             rest = later;
         }
         Ok(())
@@ -237,21 +243,21 @@ impl CheckResult {
     fn check_words<F: Files, R: Read>(
         &mut self,
         alloc: Global,
-        each: bool,
+        options: CheckOptions,
         words: &[String],
         files: &mut F,
         input: &mut R,
     ) -> Result<(), RunFailure>
-        ensures checked { IfOk result (λ _. ChecksGroups (F.known files.old) (F.path files.old) R.remaining (word_groups each (map string_bytes words.now)) (check_result_of self.old) (check_result_of self.new) input.old input.new) }
-        ensures stopped { IfErr result (StopsGroups (F.known files.old) (F.path files.old) R.remaining (word_groups each (map string_bytes words.now)) (check_result_of self.old) input.old input.new) }
+        ensures checked { IfOk result (λ _. ChecksGroups options.kind (F.known files.old) (F.path files.old) R.remaining (word_groups options.each (map string_bytes words.now)) (check_result_of self.old) (check_result_of self.new) input.old input.new) }
+        ensures stopped { IfErr result (StopsGroups options.kind (F.known files.old) (F.path files.old) R.remaining (word_groups options.each (map string_bytes words.now)) (check_result_of self.old) input.old input.new) }
         ensures kept { F.known files.new ≡ F.known files.old }
     {
-        if !each {
-            return self.check_group(alloc, words, files, input);
+        if !options.each {
+            return self.check_group(alloc, options.kind, words, files, input);
         }
         match words {
-            [] => self.check_group(alloc, words, files, input),
-            [_, ..] => self.check_each(alloc, words, files, input),
+            [] => self.check_group(alloc, options.kind, words, files, input),
+            [_, ..] => self.check_each(alloc, options.kind, words, files, input),
         }
     }
 
@@ -307,6 +313,6 @@ pub(crate) fn check_files<F: Files, R: Read>(
     ensures kept { F.known files.new ≡ F.known files.old }
 {
     let mut found = CheckResult::new(alloc);
-    found.check_words(alloc, options.each, words, files, input)?;
+    found.check_words(alloc, options, words, files, input)?;
     Ok(found.print(alloc, options, words)?)
 }

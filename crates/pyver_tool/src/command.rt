@@ -208,6 +208,7 @@ fn parse_check<'a>(settings: Settings, words: &'a [String]) -> Command<'a>
         json: is_json(settings.format),
         each: settings.each,
         quiet: settings.quiet,
+        kind: settings.kind,
     };
     Command::Check(options, words)
 }

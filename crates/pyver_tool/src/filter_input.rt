@@ -7,13 +7,12 @@ use crate::filter::{FilterRule, FilterState};
 use crate::open_failure::push_file_fault;
 use crate::origin::{Origin, is_input};
 use crate::stream::{RunFailure, write_both};
+use pep440_tool::stream::READ_SIZE;
 use std::alloc::Global;
 use std::io::{Read, Write};
 
 // So many reads are made at most, which takes years.
 pub(crate) const MOST_READS: u64 = 562949953421312;
-
-pub(crate) const READ_SIZE: usize = 8192;
 
 // A read of the source with this name failed.
 pub(crate) fn fail_reading(alloc: Global, name: &str) -> RunFailure

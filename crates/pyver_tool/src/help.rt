@@ -38,7 +38,7 @@ const BUMP_USAGE: &str = "pyver bump [--to N] PART.. [V]";
 
 const RANGE_USAGE: &str = "pyver range [--cover] [--json] SPECS..";
 
-const CHECK_USAGE: &str = "pyver check [-q] [--each] [--json] [FILE..]";
+const CHECK_USAGE: &str = "pyver check [-q] [--each] [--format KIND] [--json] [FILE..]";
 
 pub(crate) const VERSION_LINE: &str = "pyver 0.3.0\n";
 
@@ -55,7 +55,7 @@ commands:
   show V..           print versions in normal form, or their parts
   bump PART.. [V]    raise parts of a version
   range SPECS..      print the range that all specifiers allow
-  check              check requirements files
+  check              check requirements files, projects and locks
 
 'pyver COMMAND --help' explains a command. '--version' prints the program's version.
 The exit status is 0 for yes or done, 1 for no, 2 for a wrong use or an invalid version,
@@ -256,25 +256,32 @@ examples:
   pyver range '>=1.16,!=1.18' '<2' '~=1.17'
 ";
 
-const CHECK_HELP: &str = "usage: pyver check [-q] [--each] [--json] [FILE..]
+const CHECK_HELP: &str = "usage: pyver check [-q] [--each] [--format KIND] [--json] [FILE..]
 
 Prints what is wrong in requirements files: lines that are no requirements, lines that no version
 satisfies together, and versions that one line names and another excludes. '-' and no file mean
 standard input. Files that lines name after -r and -c are read too, each once; their paths are
 relative to the file that names them. Lines with different markers do not count together.
+A file named pyproject.toml is read as a project, and one named pylock.toml, uv.lock or poetry.lock
+as a lock: malformed strings are reported, requirements of a project that no version satisfies
+together, and, for each lock beside it, versions that it excludes and names that the lock lacks.
+KIND is requirements, pyproject, pylock, uv or poetry.
 Standard error says how much was read, and how much was left out: options of pip, editables, paths,
 archives, URLs, and lines with a variable. The exit status is 0 if nothing is wrong, 1 if something
 is, and 2 if a file cannot be opened; the other files are checked all the same.
 
 options:
-  -q, --quiet  print nothing; files that cannot be opened are named
-  --each       check each file by itself, with those that its lines name
-  --json       print an array of what is wrong
-  --           end of options
+  -q, --quiet    print nothing; files that cannot be opened are named
+  --each         check each file by itself, with those that its lines name
+  --format KIND  the kind of files that have none by name
+  --json         print an array of what is wrong
+  --             end of options
 
 examples:
   pyver check requirements.txt
   pyver check lock.txt constraints.txt
+  pyver check pyproject.toml uv.lock
+  git show HEAD:uv.lock | pyver check --format uv pyproject.toml -
   pyver check --each */requirements.txt
   pip freeze | pyver check --json
 ";

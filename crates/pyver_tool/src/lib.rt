@@ -10,7 +10,7 @@ mod command;
 mod common_range;
 mod comparison;
 mod fields;
-mod file_kinds;
+mod file_kind;
 mod files;
 mod filter;
 mod filter_input;

@@ -141,6 +141,14 @@ const EACH: OptionRow = (
     "check each file by itself, with those that its lines name",
 );
 
+const FORMAT: OptionRow = (
+    "",
+    "--format",
+    "KIND",
+    &["requirements", "pyproject", "pylock", "uv", "poetry"],
+    "the kind of files that have none by name",
+);
+
 const COMPARE_OPTIONS: &[OptionRow] = &[HELP];
 
 const MATCH_OPTIONS: &[OptionRow] = &[HELP, QUIET, PRE, NO_PRE];
@@ -168,7 +176,7 @@ const BUMP_OPTIONS: &[OptionRow] = &[HELP, TO];
 
 const RANGE_OPTIONS: &[OptionRow] = &[HELP, COVER, RANGE_JSON];
 
-const CHECK_OPTIONS: &[OptionRow] = &[HELP, QUIET, EACH, CHECK_JSON];
+const CHECK_OPTIONS: &[OptionRow] = &[HELP, QUIET, EACH, FORMAT, CHECK_JSON];
 
 // The options of the command.
 pub(crate) fn options(topic: Topic) -> &'static [OptionRow]

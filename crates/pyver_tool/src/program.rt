@@ -2,7 +2,8 @@
 ghost use Rattle.std.specs.Prelude.{◌≡◌, ◌⊎◌, ◌≤◌, List, ℕ, map, string_bytes};
 ghost use Rattle.pyver_tool.specs.AnswerViews.{outcome_of};
 ghost use Rattle.pyver_tool.specs.Checks.{EndsCheck};
-ghost use Rattle.pyver_tool.specs.Runs.{Ends, IsWriteFailure, WritesAnswer, WroteBeginning, memory_message};
+ghost use Rattle.pep440_tool.specs.Streams.{WroteBeginning};
+ghost use Rattle.pyver_tool.specs.Runs.{Ends, IsWriteFailure, WritesAnswer, memory_message};
 ghost use Rattle.pyver_tool.specs.SourceViews.{Reports};
 ghost use Rattle.pyver_tool.specs.Tasks.{Check, IsCheck, task_of};
 ghost use Rattle.pyver_tool.specs.declared.check.CheckOptions.{CheckOptions};
@@ -12,9 +13,10 @@ use crate::check::check_files;
 use crate::command::{Command, Work};
 use crate::files::Files;
 use crate::filter_sources::filter_sources;
-use crate::stream::{RunFailure, WriteFailure, write_whole};
+use crate::stream::RunFailure;
 use crate::whole_input::answer_input;
 use crate::words::Words;
+use pep440_tool::stream::{WriteFailure, write_whole};
 use std::alloc::Global;
 use std::io::{Read, Write};
 

@@ -5,21 +5,23 @@ ghost use Rattle.pyver_tool.specs.RequirementFiles.{IsSourcePath, ReadsFiles, St
 ghost use Rattle.pyver_tool.specs.Sources.{is_input, source_names};
 ghost use Rattle.pyver_findings.specs.Views.{named_file_of};
 
-use crate::file_kinds::push_names_in;
+use crate::file_kind::FileKind;
 use crate::files::Files;
 use crate::open_failure::OpenFailure;
 use crate::origin::is_input;
-use crate::source_texts::read_text;
+use crate::source_texts::read_named;
 use crate::stream::RunFailure;
-use pyver_findings::{NamedFile, SourceFile};
+use pyver_findings::{NamedFile, SourceFile, push_named_files};
+use pyver_projects::Document;
 use std::alloc::{AllocError, Global};
 use std::io::Read;
 use std::str;
 
-// Files that were read, and the names that were met.
+// Files that were read, by their kinds, and the names that were met.
 #[derive(Drop)]
 pub(crate) struct RequirementFiles {
-    pub(crate) files: Vec<SourceFile>,
+    pub(crate) requirements: Vec<SourceFile>,
+    pub(crate) documents: Vec<Document>,
     // The path of each of them.
     paths: Vec<String>,
     // First those of the words, and then those that the lines of each file name.
@@ -82,11 +84,10 @@ fn source_path<F: Files>(alloc: Global, name: &str, files: &mut F) -> Result<Str
 }
 
 impl RequirementFiles {
-    ghost use Rattle.std.specs.Prelude.{◌<◌, List, ℕ};
-    ghost use Rattle.std.specs.Io.KnownBytes.{Consumes};
-    ghost use Rattle.pyver_tool.specs.FileSteps.{GainsFile, GainsUnopened, HasReads, OpensOrRefused, GainsText, ReadsStep, StepsOrRefused, names_of_files};
-    ghost use Rattle.pyver_tool.specs.RequirementFiles.{ReadsNames, StopsInFile, StopsInNames, has_path, none_read};
-    ghost use Rattle.pyver_tool.specs.SourceViews.{IsReadingFailure};
+    ghost use Rattle.pyver_tool.specs.FileKinds.{kind_by_name};
+    ghost use Rattle.pyver_tool.specs.FileSteps.{GainsFile, GainsUnopened, HasReads, ReadsStep, StepsOrRefused, names_of_files};
+    ghost use Rattle.pyver_tool.specs.RequirementFiles.{ReadsNames, StopsInNames, file_with, has_path, none_read};
+    ghost use Rattle.pyver_tool.specs.SourceTexts.{StopsInText};
 
     // Nothing was read yet.
     fn new(alloc: Global, names: Vec<NamedFile>) -> RequirementFiles
@@ -95,7 +96,8 @@ impl RequirementFiles {
         ensures count { result.read_count ≡ 0 }
     {
         RequirementFiles {
-            files: Vec::new(alloc),
+            requirements: Vec::new(alloc),
+            documents: Vec::new(alloc),
             paths: Vec::new(alloc),
             names,
             unopened: Vec::new(alloc),
@@ -115,83 +117,44 @@ impl RequirementFiles {
         false
     }
 
-    // A file that was read.
+    // A file that was read, of this kind unless it has one by name.
     fn push_file(
         &mut self,
         alloc: Global,
+        kind: FileKind,
         name: &str,
         path: String,
         text: Vec<u8>,
     ) -> Result<(), AllocError>
-        ensures gains { IfOk result (λ _. GainsFile self.old self.new (record { name = name.now; text = text.items }) (string_bytes path)) }
+        ensures gains { IfOk result (λ _. GainsFile (kind_by_name kind name.now) self.old self.new (file_with name.now text.items) (string_bytes path)) }
         ensures count { IfOk result (λ _. self.new.read_count ≡ self.old.read_count) }
     {
+        let kind = kind.by_name(name.as_bytes());
         let name = Vec::from_slice(alloc, name.as_bytes())?;
         let file = SourceFile { name, text };
-        push_names_in(alloc, &mut self.names, &file)?;
         self.paths.push(path)?;
-        self.files.push(file)?;
-        Ok(())
-    }
-
-    // Reads the source with this name, of which this is the path.
-    fn read_source<R: Read>(
-        &mut self,
-        alloc: Global,
-        name: &str,
-        path: String,
-        input: &mut R,
-    ) -> Result<(), RunFailure>
-        requires { HasReads self.old }
-        ensures read { IfOk result (λ _. GainsText R.remaining name.now (string_bytes path) self.old self.new input.old input.new) }
-        ensures count { IfOk result (λ _. (self.old.read_count < self.new.read_count) × HasReads self.new) }
-        ensures part { IfErr result (λ _. (read : List ℕ) × Consumes (R.remaining input.old) (R.remaining input.new) read) }
-        ensures failure { IfErr result (IsReadingFailure name.now) }
-    {
-        let text = read_text(alloc, name, &mut self.read_count, input)?;
-        Ok(self.push_file(alloc, name, path, text)?)
-    }
-
-    // Reads the source with this name, of which this is the path, or returns why it is not opened.
-    fn open_and_read<F: Files, R: Read>(
-        &mut self,
-        alloc: Global,
-        name: &str,
-        path: String,
-        files: &mut F,
-        input: &mut R,
-    ) -> Result<Option<OpenFailure>, RunFailure>
-        requires { HasReads self.old }
-        ensures read { IfOk result (OpensOrRefused (F.known files.old) R.remaining name.now (string_bytes path) self.old self.new input.old input.new) }
-        ensures stopped { IfErr result (StopsInFile (F.known files.old) R.remaining name.now input.old input.new) }
-        ensures kept { F.known files.new ≡ F.known files.old }
-        ensures kept_paths { F.path files.new ≡ F.path files.old }
-    {
-        if is_input(name) {
-            self.read_source(alloc, name, path, input)?;
-            return Ok(None);
-        }
-        match files.open(alloc, name) {
-            Ok(mut file) => {
-                self.read_source(alloc, name, path, &mut file)?;
-                Ok(None)
+        match kind {
+            FileKind::Requirements => {
+                push_named_files(alloc, &mut self.names, &file)?;
+                self.requirements.push(file)?;
             }
-            Err(OpenFailure::OutOfMemory) => Err(RunFailure::OutOfMemory),
-            Err(failure) => Ok(Some(failure)),
+            FileKind::Document(kind) => self.documents.push(Document { kind, file })?,
         }
+        Ok(())
     }
 
     // Reads the source with this name, unless it was read before, or returns why it is not opened.
     fn read_once<F: Files, R: Read>(
         &mut self,
         alloc: Global,
+        kind: FileKind,
         name: &str,
         files: &mut F,
         input: &mut R,
     ) -> Result<Option<OpenFailure>, RunFailure>
         requires { HasReads self.old }
-        ensures read { IfOk result (StepsOrRefused (F.known files.old) (F.path files.old) R.remaining name.now self.old self.new input.old input.new) }
-        ensures stopped { IfErr result (StopsInFile (F.known files.old) R.remaining name.now input.old input.new) }
+        ensures read { IfOk result (StepsOrRefused kind (F.known files.old) (F.path files.old) R.remaining name.now self.old self.new input.old input.new) }
+        ensures stopped { IfErr result (StopsInText (F.known files.old) R.remaining name.now input.old input.new) }
         ensures kept { F.known files.new ≡ F.known files.old }
         ensures kept_paths { F.path files.new ≡ F.path files.old }
     {
@@ -199,25 +162,32 @@ impl RequirementFiles {
         if self.has_path(path.as_str()) {
             return Ok(None);
         }
-        self.open_and_read(alloc, name, path, files, input)
+        match read_named(alloc, name, &mut self.read_count, files, input)? {
+            Ok(text) => {
+                self.push_file(alloc, kind, name, path, text)?;
+                Ok(None)
+            }
+            Err(failure) => Ok(Some(failure)),
+        }
     }
 
     // The same; a name that is not UTF-8 is not opened.
     fn read_next<F: Files, R: Read>(
         &mut self,
         alloc: Global,
+        kind: FileKind,
         name: &[u8],
         files: &mut F,
         input: &mut R,
     ) -> Result<Option<OpenFailure>, RunFailure>
         requires { HasReads self.old }
-        ensures read { IfOk result (StepsOrRefused (F.known files.old) (F.path files.old) R.remaining name.now self.old self.new input.old input.new) }
-        ensures stopped { IfErr result (StopsInFile (F.known files.old) R.remaining name.now input.old input.new) }
+        ensures read { IfOk result (StepsOrRefused kind (F.known files.old) (F.path files.old) R.remaining name.now self.old self.new input.old input.new) }
+        ensures stopped { IfErr result (StopsInText (F.known files.old) R.remaining name.now input.old input.new) }
         ensures kept { F.known files.new ≡ F.known files.old }
         ensures kept_paths { F.path files.new ≡ F.path files.old }
     {
         match str::from_utf8(name) {
-            Ok(name) => self.read_once(alloc, name, files, input),
+            Ok(name) => self.read_once(alloc, kind, name, files, input),
             Err(_) => Ok(Some(OpenFailure::Other)),
         }
     }
@@ -231,20 +201,21 @@ impl RequirementFiles {
     }
 
     // Reads the source with this name, unless it was read before or is not opened.
-    fn read_named<F: Files, R: Read>(
+    fn read_file<F: Files, R: Read>(
         &mut self,
         alloc: Global,
+        kind: FileKind,
         named: NamedFile,
         files: &mut F,
         input: &mut R,
     ) -> Result<(), RunFailure>
         requires { HasReads self.old }
-        ensures read { IfOk result (λ _. ReadsStep (F.known files.old) (F.path files.old) R.remaining (named_file_of named) self.old self.new input.old input.new) }
-        ensures stopped { IfErr result (StopsInFile (F.known files.old) R.remaining (named_file_of named).name input.old input.new) }
+        ensures read { IfOk result (λ _. ReadsStep kind (F.known files.old) (F.path files.old) R.remaining (named_file_of named) self.old self.new input.old input.new) }
+        ensures stopped { IfErr result (StopsInText (F.known files.old) R.remaining (named_file_of named).name input.old input.new) }
         ensures kept { F.known files.new ≡ F.known files.old }
         ensures kept_paths { F.path files.new ≡ F.path files.old }
     {
-        match self.read_next(alloc, named.name.as_slice(), files, input)? {
+        match self.read_next(alloc, kind, named.name.as_slice(), files, input)? {
             None => Ok(()),
             Some(failure) => Ok(self.push_unopened(named, failure)?),
         }
@@ -254,12 +225,13 @@ impl RequirementFiles {
     fn read_all<F: Files, R: Read>(
         &mut self,
         alloc: Global,
+        kind: FileKind,
         files: &mut F,
         input: &mut R,
     ) -> Result<(), RunFailure>
         requires new { (read_of self.old ≡ none_read) × (self.old.read_count ≡ 0) }
-        ensures read { IfOk result (λ _. ReadsNames (F.known files.old) (F.path files.old) R.remaining (names_of_files self.old) input.old input.new (read_of self.new)) }
-        ensures stopped { IfErr result (StopsInNames (F.known files.old) (F.path files.old) R.remaining (names_of_files self.old) input.old input.new) }
+        ensures read { IfOk result (λ _. ReadsNames kind (F.known files.old) (F.path files.old) R.remaining (names_of_files self.old) input.old input.new (read_of self.new)) }
+        ensures stopped { IfErr result (StopsInNames kind (F.known files.old) (F.path files.old) R.remaining (names_of_files self.old) input.old input.new) }
         ensures kept { F.known files.new ≡ F.known files.old }
         ensures kept_paths { F.path files.new ≡ F.path files.old }
     {
@@ -267,7 +239,7 @@ impl RequirementFiles {
         let mut count = self.names.len();
         while index < count {
             let named = self.names[index].clone()?;
-            self.read_named(alloc, named, files, input)?;
+            self.read_file(alloc, kind, named, files, input)?;
             index += 1;
             count = self.names.len();
         }
@@ -278,18 +250,19 @@ impl RequirementFiles {
 // Reads the files that the words name, and then those that their lines name, each once.
 pub(crate) fn read_files<F: Files, R: Read>(
     alloc: Global,
+    kind: FileKind,
     words: &[String],
     files: &mut F,
     input: &mut R,
 ) -> Result<RequirementFiles, RunFailure>
-    ensures read { IfOk result (λ state. ReadsFiles (F.known files.old) (F.path files.old) R.remaining (source_names (map string_bytes words.now)) input.old input.new (read_of state)) }
-    ensures stopped { IfErr result (StopsInFiles (F.known files.old) (F.path files.old) R.remaining (source_names (map string_bytes words.now)) input.old input.new) }
+    ensures read { IfOk result (λ state. ReadsFiles kind (F.known files.old) (F.path files.old) R.remaining (source_names (map string_bytes words.now)) input.old input.new (read_of state)) }
+    ensures stopped { IfErr result (StopsInFiles kind (F.known files.old) (F.path files.old) R.remaining (source_names (map string_bytes words.now)) input.old input.new) }
     ensures kept { F.known files.new ≡ F.known files.old }
     ensures kept_paths { F.path files.new ≡ F.path files.old }
 {
     let mut names = Vec::new(alloc);
     push_sources(alloc, &mut names, words)?;
     let mut state = RequirementFiles::new(alloc, names);
-    state.read_all(alloc, files, input)?;
+    state.read_all(alloc, kind, files, input)?;
     Ok(state)
 }

@@ -2,6 +2,7 @@
 ghost use Rattle.std.specs.Prelude.{◌≡◌};
 ghost use Rattle.pyver_tool.specs.Settings.{delimiter_of, field_number_of, no_settings, with_line_option, with_option};
 
+use crate::file_kind::{FileKind, parse_file_kind};
 use crate::invalid_lines::parse_invalid_lines;
 use crate::line_options::LineOptions;
 use crate::part::parse_part;
@@ -23,6 +24,7 @@ pub(crate) struct Settings {
     pub(crate) to: Option<u64>,
     pub(crate) cover: bool,
     pub(crate) each: bool,
+    pub(crate) kind: FileKind,
 }
 
 // A number from 1.
@@ -77,6 +79,7 @@ impl Settings {
             to: None,
             cover: false,
             each: false,
+            kind: FileKind::Requirements,
         }
     }
 
@@ -98,6 +101,7 @@ impl Settings {
             "--to" => settings.to = Some(parse_number(value)?),
             "--cover" => settings.cover = true,
             "--each" => settings.each = true,
+            "--format" => settings.kind = parse_file_kind(value)?,
             _ => settings.lines = with_line_option(settings.lines, name, value)?,
         }
         Some(settings)

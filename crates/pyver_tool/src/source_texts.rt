@@ -1,17 +1,18 @@
 // The texts of sources that are read to their ends, one after another.
-ghost use Rattle.std.specs.Prelude.{◌≡◌, ◌+◌, ◌<◌, ◌≤◌, ◌*◌, [], IfErr, IfOk, List, Some, ℕ, length, map, string_bytes};
+ghost use Rattle.std.specs.Prelude.{◌≡◌, ◌+◌, ◌<◌, ◌≤◌, ◌*◌, [], IfErr, IfOk, List, MatchResult, ℕ, length, map, string_bytes};
 ghost use Rattle.std.specs.Io.KnownBytes.{Consumes, IsAtEnd};
 ghost use Rattle.std.specs.Option.{option_map};
-ghost use Rattle.pyver_tool.specs.Sources.{ReadsInput, source_names};
-ghost use Rattle.pyver_tool.specs.SourceViews.{IsReadingFailure, IsRunFailureOf, origin_of, unopened_of};
-ghost use Rattle.pyver_tool.specs.SourceTexts.{StopsInSources, HasRoom, GainsSource, StopsInSource, ReadsTo, sources_of};
+ghost use Rattle.pyver_tool.specs.Sources.{IsUnopened, ReadsInput, ReadsWhole, source_names};
+ghost use Rattle.pyver_tool.specs.SourceViews.{IsReadingFailure, origin_of, unopened_of};
+ghost use Rattle.pyver_tool.specs.SourceTexts.{GainsSource, HasRoom, StopsInSource, StopsInSources, StopsInText, sources_of};
 
 use crate::files::Files;
 use crate::filter::UnopenedSource;
-use crate::filter_input::{MOST_READS, READ_SIZE, fail_reading};
+use crate::filter_input::{MOST_READS, fail_reading};
 use crate::open_failure::OpenFailure;
 use crate::origin::{Origin, is_input};
 use crate::stream::RunFailure;
+use pep440_tool::stream::{ReadFailure, read_whole};
 use std::alloc::Global;
 use std::io::Read;
 
@@ -30,50 +31,46 @@ pub(crate) struct SourceTexts<'a> {
 }
 
 // What is left of the source with this name.
-pub(crate) fn read_text<R: Read>(
+fn read_text<R: Read>(
     alloc: Global,
     name: &str,
     read_count: &mut u64,
     input: &mut R,
 ) -> Result<Vec<u8>, RunFailure>
-    requires { read_count.old ≤ 562949953421312 }
     ensures whole { IfOk result (λ text. Consumes (R.remaining input.old) (R.remaining input.new) text.items × IsAtEnd (R.remaining input.new)) }
     ensures limits { IfOk result (λ text. (length text.items + 8192 * read_count.old < 8192 * read_count.new) × (read_count.new ≤ 562949953421312)) }
     ensures part { IfErr result (λ _. (read : List ℕ) × Consumes (R.remaining input.old) (R.remaining input.new) read) }
-    ensures failure { IfErr result (IsRunFailureOf (Some name.now)) }
-    ensures reading { IfErr result (IsReadingFailure name.now) }
+    ensures failure { IfErr result (IsReadingFailure name.now) }
 {
-    let mut text = Vec::new(alloc);
-    let mut buffer = [0u8; READ_SIZE];
-    while *read_count < MOST_READS {
-        *read_count += 1;
-        let Ok(count) = input.read(&mut buffer) else {
-            return Err(fail_reading(alloc, name));
-        };
-        if count == 0 {
-            return Ok(text);
-        }
-        text.extend_from_slice(&buffer[..count])?;
+    match read_whole(alloc, MOST_READS, read_count, input) {
+        Ok(text) => Ok(text),
+        Err(ReadFailure::Io) => Err(fail_reading(alloc, name)),
+        Err(ReadFailure::OutOfMemory) => Err(RunFailure::OutOfMemory),
     }
-    Err(fail_reading(alloc, name))
 }
 
-// Reads a source.
-fn read_source<'a, R: Read>(
+// The text of the source with this name, or why its file is not opened.
+pub(crate) fn read_named<F: Files, R: Read>(
     alloc: Global,
-    origin: Origin<'a>,
-    state: &mut SourceTexts<'a>,
+    name: &str,
+    read_count: &mut u64,
+    files: &mut F,
     input: &mut R,
-) -> Result<(), RunFailure>
-    requires { HasRoom state.old }
-    ensures read { IfOk result (λ _. ReadsTo R.remaining (origin_of origin.entry) (sources_of state.old) (sources_of state.new) input.old input.new) }
-    ensures limits { IfOk result (λ _. HasRoom state.new) }
-    ensures part { IfErr result (λ _. (read : List ℕ) × Consumes (R.remaining input.old) (R.remaining input.new) read) }
-    ensures failure { IfErr result (IsRunFailureOf (Some (origin_of origin.entry).name)) }
+) -> Result<Result<Vec<u8>, OpenFailure>, RunFailure>
+    ensures read { IfOk result (λ read. MatchResult read (λ text. ReadsWhole (F.known files.old) R.remaining name.now input.old input.new text.items) (IsUnopened (F.known files.old) R.remaining name.now input.old input.new)) }
+    ensures limits { IfOk result (λ read. MatchResult read (λ text. (length text.items + 8192 * read_count.old < 8192 * read_count.new) × (read_count.new ≤ 562949953421312)) (λ _. read_count.new ≡ read_count.old)) }
+    ensures stopped { IfErr result (StopsInText (F.known files.old) R.remaining name.now input.old input.new) }
+    ensures kept { F.known files.new ≡ F.known files.old }
+    ensures kept_paths { F.path files.new ≡ F.path files.old }
 {
-    let text = read_text(alloc, origin.name, &mut state.read_count, input)?;
-    state.texts.push(SourceText { origin, text })?;
-    Ok(())
+    if is_input(name) {
+        return Ok(Ok(read_text(alloc, name, read_count, input)?));
+    }
+    match files.open(alloc, name) {
+        Ok(mut file) => Ok(Ok(read_text(alloc, name, read_count, &mut file)?)),
+        Err(OpenFailure::OutOfMemory) => Err(RunFailure::OutOfMemory),
+        Err(failure) => Ok(Err(failure)),
+    }
 }
 
 // Reads the source with this name, or returns why it is not opened.
@@ -90,16 +87,11 @@ fn open_and_read<'a, F: Files, R: Read>(
     ensures stopped { IfErr result (StopsInSource (F.known files.old) R.remaining (origin_of origin.entry) input.old input.new) }
     ensures kept { F.known files.new ≡ F.known files.old }
 {
-    if is_input(origin.name) {
-        read_source(alloc, origin, state, input)?;
-        return Ok(None);
-    }
-    match files.open(alloc, origin.name) {
-        Ok(mut file) => {
-            read_source(alloc, origin, state, &mut file)?;
+    match read_named(alloc, origin.name, &mut state.read_count, files, input)? {
+        Ok(text) => {
+            state.texts.push(SourceText { origin, text })?;
             Ok(None)
         }
-        Err(OpenFailure::OutOfMemory) => Err(RunFailure::OutOfMemory),
         Err(failure) => Ok(Some(failure)),
     }
 }
@@ -151,6 +143,8 @@ pub(crate) fn read_sources<'a, F: Files, R: Read>(
         is_first: true,
         name: "-",
     };
-    read_source(alloc, origin, state, input)?;
-    Ok(None)
+    match open_and_read(alloc, origin, state, files, input)? {
+        None => Ok(None),
+        Some(failure) => Ok(Some(UnopenedSource { name: "-", failure })),
+    }
 }

@@ -1,44 +1,13 @@
-// Writing whole, with no call made twice.
+// Why a run stops, and writing to both outputs.
 ghost use Rattle.std.specs.Prelude.{◌≡◌, IfErr, List, OnOk, Option, ℕ};
 ghost use Rattle.std.specs.Io.KnownBytes.{Appends};
-ghost use Rattle.pyver_tool.specs.Runs.{WroteBeginning};
+ghost use Rattle.pep440_tool.specs.Streams.{WroteBeginning};
 ghost use Rattle.pyver_tool.specs.SourceViews.{IsRunFailureOf};
 ghost use Rattle.pyver_tool.specs.declared.stream.RunFailure.TheVariants.{OutOfMemory};
 
+use pep440_tool::stream::{WriteFailure, write_whole};
 use std::alloc::{AllocError, AllocFailed};
-use std::io::{Error, ErrorKind, Write};
-
-// Why not all was written.
-#[derive(Clone, Copy)]
-pub(crate) enum WriteFailure {
-    // Nobody reads what is written.
-    BrokenPipe,
-    Other,
-}
-
-impl From<Error> for WriteFailure {
-    fn from(error: Error) -> WriteFailure {
-        match error.kind() {
-            ErrorKind::BrokenPipe => WriteFailure::BrokenPipe,
-            _ => WriteFailure::Other,
-        }
-    }
-}
-
-// Writes all of it and flushes. Where a call failed or took no byte, a beginning was written.
-pub(crate) fn write_whole<W: Write>(writer: &mut W, bytes: &[u8]) -> Result<(), WriteFailure>
-    ensures whole { OnOk result (Appends (W.contents writer.old) (W.contents writer.new) bytes.now) }
-    ensures beginning { WroteBeginning (W.contents writer.old) (W.contents writer.new) bytes.now }
-{
-    let mut at = 0;
-    while at < bytes.len() {
-        match writer.write(&bytes[at..])? {
-            0 => return Err(WriteFailure::Other),
-            count => at += count,
-        }
-    }
-    Ok(writer.flush()?)
-}
+use std::io::Write;
 
 // Why a run stopped before its end.
 #[derive(Drop)]

@@ -1,6 +1,18 @@
+use Rattle.std.proofs.Common.{◌∙◌, List, ap, map, subst}
+use Rattle.pyver_findings.specs.FileLines.{File}
+use Rattle.pyver_findings.specs.Reports.{IsReport}
+use Rattle.pyver_findings.specs.Views.{file_of, report_of}
+use Rattle.pyver_projects.specs.Comparing.{IsDocumentsReport}
+use Rattle.pyver_projects.specs.Meanings.{Document}
+use Rattle.pyver_projects.specs.ProjectViews.{document_of}
+use Rattle.pyver_tool.specs.Checks.{with_report}
 use Rattle.pyver_tool.specs.FileSteps.{read_of}
-use Rattle.pyver_findings.specs.Views.{report_of}
 use Rattle.pyver_tool.proofs.check.CheckResult.check_group.Goals as goal
 
 pub returns-clause-checked : goal.returns-clause-checked
-returns-clause-checked g c = (read_of c.in_ok-read.read, c.in_ok-read.ensures.read, (report_of c.in_ok-report.report, c.in_ok-report.ensures, c.in_ok-push.ensures))
+returns-clause-checked g c =
+    let r = report_of c.in_ok-report.report in
+    let s = report_of c.in_ok-find_document_problems.field-0 in
+    let lines = subst (λ (fs : List File). IsReport fs r) (ap (map file_of) c.as_slice.ensures.value) c.in_ok-report.ensures in
+    let documents = subst (λ (ds : List Document). IsDocumentsReport ds s) (ap (map document_of) c.as_slice-2.ensures.value) c.in_ok-find_document_problems.ensures in
+    (read_of c.in_ok-read.read, c.in_ok-read.ensures.read, (r, s, lines, documents, c.in_ok-push.ensures ∙ ap (with_report _ _) c.in_ok-append.ensures))

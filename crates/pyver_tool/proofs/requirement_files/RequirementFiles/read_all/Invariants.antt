@@ -5,7 +5,7 @@ use Rattle.pyver_tool.proofs.requirement_files.RequirementFiles.read_all.Given a
 
 abbrev pub invariant-loop-index : goal.invariant-loop-index
 invariant-loop-index g l =
-    ReadsFilesInTurn (g.F.Files.known l.initial.files) (g.F.Files.path l.initial.files) g.R.Read.remaining (take l.index (names_of_files l.self)) none_read (read_of l.self) l.initial.input l.input
+    ReadsFilesInTurn l.kind (g.F.Files.known l.initial.files) (g.F.Files.path l.initial.files) g.R.Read.remaining (take l.index (names_of_files l.self)) none_read (read_of l.self) l.initial.input l.input
     × HasNames (names_of_files l.initial.self) l.self × (g.F.Files.known l.files ≡ g.F.Files.known l.initial.files) × (g.F.Files.path l.files ≡ g.F.Files.path l.initial.files)
     × HasReads l.self × (l.count ≡ length l.self.names.items) × (l.index ≤ l.count)
 

@@ -1,6 +1,6 @@
 use Rattle.std.proofs.KnownBytes.{Consumes-trans}
 use Rattle.std.proofs.lemmas.Result.{err_from_is_err_and}
-use Rattle.pyver_tool.proofs.source_texts.read_text.Goals as goal
+use Rattle.pep440_tool.proofs.stream.read_whole.Goals as goal
 
 pub returns-in_err-extend_from_slice-clause-part : goal.returns-in_err-extend_from_slice-clause-part
 returns-in_err-extend_from_slice-clause-part g c =

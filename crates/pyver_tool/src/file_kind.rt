@@ -1,0 +1,38 @@
+// What files are read as.
+ghost use Rattle.std.specs.Prelude.{◌≡◌};
+ghost use Rattle.pyver_tool.specs.FileKinds.{file_kind_of, kind_by_name};
+
+use pyver_projects::{DocumentKind, LockKind, kind_of_path};
+
+// What a file is read as.
+#[derive(Clone, Copy)]
+pub(crate) enum FileKind {
+    Requirements,
+    Document(DocumentKind),
+}
+
+// The kind that the word names.
+pub(crate) fn parse_file_kind(word: &str) -> Option<FileKind>
+    ensures { result ≡ file_kind_of word.now }
+{
+    match word {
+        "requirements" => Some(FileKind::Requirements),
+        "pyproject" => Some(FileKind::Document(DocumentKind::Project)),
+        "pylock" => Some(FileKind::Document(DocumentKind::Lock(LockKind::Pylock))),
+        "uv" => Some(FileKind::Document(DocumentKind::Lock(LockKind::Uv))),
+        "poetry" => Some(FileKind::Document(DocumentKind::Lock(LockKind::Poetry))),
+        _ => None,
+    }
+}
+
+impl FileKind {
+    // The kind of the file with this name: the one by its name, or else this one.
+    pub(crate) fn by_name(self, name: &[u8]) -> FileKind
+        ensures { result ≡ kind_by_name self name.now }
+    {
+        match kind_of_path(name) {
+            Some(kind) => FileKind::Document(kind),
+            None => self,
+        }
+    }
+}
