@@ -1,9 +1,10 @@
 -- How long a compiled list is at most, by the length of a string that denotes it.
-use Rattle.std.proofs.Common.{◌≡◌, ◌⊎◌, ◌<◌, ◌≤◌, ◌+◌, ◌*◌, ◌/◌, ◌∙◌, ℕ, List, [], ◌∷◌, ◌++◌, Bool, true, false, Ok, length, inl, inr, sym, ap, subst, arith}
+use Rattle.std.proofs.Common.{◌≡◌, ◌⊎◌, ◌<◌, ◌≤◌, ◌+◌, ◌*◌, ◌/◌, ◌∙◌, ◌==◌, ℕ, List, [], ◌∷◌, ◌++◌, Bool, true, false, Ok, length, inl, inr, refl, sym, ap, subst, arith}
 use Rattle.std.proofs.Math.Seq.{get_or-append_seam, take-append_seam}
 use Rattle.std.proofs.lemmas.List.{length-append}
 use Rattle.std.proofs.lemmas.List.Concat.{length-flat_map}
 use Rattle.std.proofs.lemmas.List.Sorted.{sum_by-IsPermutation}
+use Rattle.std.proofs.lemmas.List.Sums.{sum_by-cons}
 use Rattle.std.proofs.lemmas.List.Splits.{join_with_byte-slice_split, length-slice_split}
 use Rattle.std.proofs.lemmas.Str.{IsCharBoundary-before_ascii, IsUtf8-take, encodes-append, encodes-chars}
 use Rattle.std.specs.List.{AllByRecursion, AllZip, join_with_byte, sum_by}
@@ -41,13 +42,22 @@ each_utf8 (p ∷ q ∷ parts) utf8 =
     (before_comma p later utf8, each_utf8 (q ∷ parts) (after_comma (p ++ (44 ∷ later)) p later utf8 (λ i. p ++ (44 ∷ later))))
 
 -- each piece with the comma after it, though the last has none
+abbrev with_comma : List ℕ → ℕ
+with_comma piece = length piece + 1
+
 abbrev with_commas : List (List ℕ) → ℕ
-with_commas parts = sum_by (λ p. length p + 1) parts
+with_commas parts = sum_by with_comma parts
 
 joined_length : (parts : List (List ℕ)) → 0 < length parts → with_commas parts ≡ length (join_with_byte 44 parts) + 1
 joined_length [] some = absurd (omega (arith, some))
-joined_length (p ∷ []) some = omega arith
-joined_length (p ∷ q ∷ parts) some = omega (arith, joined_length (q ∷ parts) (omega arith), length-append p (44 ∷ join_with_byte 44 (q ∷ parts)))
+joined_length (p ∷ []) some =
+    let none : sum_by with_comma [] ≡ 0 = refl in
+    let joined : join_with_byte 44 (p ∷ []) ≡ p = refl in
+    omega (arith, sum_by-cons with_comma p [], none, ap length joined)
+joined_length (p ∷ q ∷ parts) some =
+    let later : List ℕ = join_with_byte 44 (q ∷ parts) in
+    let joined : join_with_byte 44 (p ∷ q ∷ parts) ≡ p ++ (44 ∷ later) = refl in
+    omega (arith, sum_by-cons with_comma p (q ∷ parts), joined_length (q ∷ parts) (omega arith), ap length joined, length-append p (44 ∷ later))
 
 -- ---- one specifier
 
@@ -122,11 +132,14 @@ member_short text s utf8 (c, o, r, star, reads, is, end) =
 
 -- ---- the list
 
-members_short : (parts : List (List ℕ)) (members : List Spec) → AllByRecursion IsUtf8 parts → AllZip DerivesSpecifier parts members → sum_by (λ s. length (member_bytes s)) members ≤ 3 * with_commas parts
+abbrev member_length : Spec → ℕ
+member_length s = length (member_bytes s)
+
+members_short : (parts : List (List ℕ)) (members : List Spec) → AllByRecursion IsUtf8 parts → AllZip DerivesSpecifier parts members → sum_by member_length members ≤ 3 * with_commas parts
 members_short [] [] utf8 each = omega arith
 members_short [] (s ∷ members) utf8 each = absurd each
 members_short (p ∷ parts) [] utf8 each = absurd each
-members_short (p ∷ parts) (s ∷ members) utf8 each = omega (arith, member_short p s utf8.0 each.0, members_short parts members utf8.1 each.1)
+members_short (p ∷ parts) (s ∷ members) utf8 each = omega (arith, sum_by-cons member_length s members, sum_by-cons with_comma p parts, member_short p s utf8.0 each.0, members_short parts members utf8.1 each.1)
 
 pub list_bound : (bytes : List ℕ) (list : List Spec) → IsUtf8 bytes → DerivesList bytes list → length (list_bytes list) ≤ 4 + 3 * length bytes
 list_bound bytes list utf8 (inl (none, empty)) = omega (arith, ap (λ l. length (list_bytes l)) empty)
@@ -135,7 +148,7 @@ list_bound bytes list utf8 (inr (some, members, each, arranged)) =
     omega (
       arith,
       length-flat_map member_bytes list,
-      sum_by-IsPermutation (λ s. length (member_bytes s)) members list arranged.same,
+      sum_by-IsPermutation member_length members list arranged.same,
       members_short (pieces bytes) members (each_utf8 (pieces bytes) (subst IsUtf8 (sym joined) utf8)) each,
       joined_length (pieces bytes) (omega (arith, length-slice_split (λ b. b == 44) bytes)),
       ap length joined,
