@@ -11,14 +11,14 @@ ghost use Rattle.std.specs.Prelude.{map, not, ◌==◌, ◌≡◌};
 ghost use Rattle.pep440_rs.specs.Bounds.{range_of, release_range_of};
 ghost use Rattle.pep440_rs.specs.Cover.{cover_of};
 ghost use Rattle.pep440_calls.specs.Batches.{FilterMarks, KeysAnswer, SortAnswer};
-ghost use Rattle.pep440_calls.specs.CallResults.{AllowsAnswer, ContainsAnswer, HasNoRange, IsCompiled, IsCompiledList, IsKey, IsNormal, IsNormalList, IsRangeText, IsVersionIn, NamesPrerelease, OrderAnswer, PartsAnswer, TellsMembers, WordAnswer};
+ghost use Rattle.pep440_calls.specs.CallResults.{AllowsAnswer, ContainsAnswer, IsCompiled, IsCompiledList, IsKey, IsNormal, IsNormalList, IsVersionIn, NamesPrerelease, OrderAnswer, PartsAnswer, TellsMembers, WordAnswer};
 ghost use Rattle.pep440_calls.specs.Edits.{IsEditError, PutsEdited};
 ghost use Rattle.pep440_calls.specs.Explanations.{ErrorAnswer, IsBuildError, IsNoOperator, RefusesNumbered};
 ghost use Rattle.pep440_calls.specs.JoinedStrings.{PutsJoined};
 ghost use Rattle.pep440_calls.specs.Meaning.{RefusesBytes, RefusesListBytes};
 ghost use Rattle.pep440_calls.specs.NewestString.{NewestAnswer};
 ghost use Rattle.pep440_calls.specs.PatternCalls.{IsCompiledSpecifier, IsSpecifier, PatternAnswer, RefusesOperand, RefusesOperator, RefusesSpecifierBytes};
-ghost use Rattle.pep440_calls.specs.Ranges.{LacksRange, TellsBounds, TellsIntervals};
+ghost use Rattle.pep440_calls.specs.Ranges.{IsRangeText, LacksRange, TellsBounds, TellsIntervals};
 ghost use Rattle.pep440_calls.specs.Statuses.{IsFlagOf, Puts, PutsBytes};
 
 use pep440_calls::{
@@ -245,7 +245,7 @@ pub extern "C" fn pep440_ranges(
     out: &mut [u8],
     written: &mut usize,
 ) -> u8
-    ensures { PutsBytes ⊥ (RefusesListBytes list.now) (HasNoRange list.now) (IsRangeText list.now) out.old out.new written.old written.new result }
+    ensures { PutsBytes ⊥ (RefusesListBytes list.now) (LacksRange range_of list.now) (IsRangeText list.now) out.old out.new written.old written.new result }
 {
     write_range(alloc, list, out, written)
 }

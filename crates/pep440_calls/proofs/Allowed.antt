@@ -1,5 +1,5 @@
 -- What a list allows, of bytes that were read and of compiled bytes as they lie.
-use Rattle.std.proofs.Common.{◌≡◌, ◌∙◌, ◌&&◌, ◌||◌, ℕ, List, Bool, true, false, ap, inr, refl, sym}
+use Rattle.std.proofs.Common.{◌≡◌, ◌∙◌, ◌&&◌, ℕ, List, Bool, true, false, ap, inr, refl, sym}
 use Rattle.std.specs.Prelude.{not}
 use Rattle.pep440_rs.specs.Matching.{any_prerelease, list_matches}
 use Rattle.pep440_rs.specs.Prereleases.{list_allows, requests_prereleases}

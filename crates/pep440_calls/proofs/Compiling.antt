@@ -9,11 +9,10 @@ use Rattle.pep440_compiled.specs.declared.error.CompileError.{CompileError}
 use Rattle.pep440_compiled.specs.declared.error.CompileError.TheVariants.{NotParsed, OutOfMemory}
 use Rattle.pep440_rs.proofs.Agreement.Operands.{list_has_texts}
 use Rattle.pep440_rs.proofs.Covering.Lists.{is_coverable}
-use Rattle.pep440_rs.specs.SpecifierGrammar.{DerivesSpecifier, HasText}
+use Rattle.pep440_rs.specs.SpecifierGrammar.{HasText}
 use Rattle.pep440_rs.specs.Specifiers.{Spec}
 use Rattle.pep440_version.specs.Record.{Record}
 use Rattle.pep440_calls.specs.Meaning.{MeansBytes, MeansListBytes}
-use Rattle.pep440_calls.specs.PatternCalls.{MeansSpecifierBytes}
 use Rattle.pep440_calls.specs.Statuses.{Faults, fault_of_compile}
 use Rattle.pep440_calls.specs.declared.fault.Fault.{Fault}
 

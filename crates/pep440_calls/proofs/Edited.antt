@@ -11,13 +11,14 @@ use Rattle.pep440_version.specs.declared.change.Change.{Change}
 use Rattle.pep440_version.specs.declared.change.ChangeError.{ChangeError}
 use Rattle.pep440_calls.proofs.Once.{never_both}
 use Rattle.pep440_calls.proofs.Placed.{each_more, refused_first}
-use Rattle.pep440_calls.specs.CallResults.{IsVersionError}
-use Rattle.pep440_calls.specs.Edits.{ChangesTo, EditFaults, FailsEdit, IsEditError, MeansChange, OfVersion, RefusesChange, RefusesChangeAt, edit_status}
-use Rattle.pep440_calls.specs.Meaning.{RefusesBytes}
+use Rattle.pep440_calls.specs.Edits.{ChangesTo, IsEditError, MeansChange, RefusesChange, RefusesChangeAt, RefusesEdit}
+use Rattle.pep440_calls.specs.Explanations.{IsErrorOf}
+use Rattle.pep440_calls.specs.Meaning.{MeansBytes}
 use Rattle.pep440_calls.specs.Statuses.{Gives}
 use Rattle.pep440_calls.specs.declared.edits.EditError.{EditError}
 use Rattle.pep440_calls.specs.declared.edits.EditError.TheVariants as error
 use Rattle.pep440_calls.specs.declared.fault.Fault.{Fault}
+use Rattle.pep440_calls.specs.declared.messages.BytesKind.TheVariants as kind
 
 -- one more change
 pub changes_more : (words : List (Bor (List ℕ))) (i : ℕ) (x : Bor (List ℕ)) (changes new : List Change) (a : Change) → i < length words → MeansChange (get_or words i x).now (edit a)
@@ -32,44 +33,27 @@ pub change_refused : (words : List (Bor (List ℕ))) (i : ℕ) (x : Bor (List �
 change_refused words i x changes inside why all =
     let both = refused_first MeansChange RefusesChange words i x (map edit changes) inside why all in (i, record { rejected = both.0; before = both.1 }, refl)
 
--- why a string and words have no edited version
-abbrev pub HasNoEdit : List ℕ → List (List ℕ) → EditError → Type 0
-HasNoEdit text words = EditFaults (RefusesBytes text) (λ n. OfVersion text (λ _. RefusesChangeAt words n)) (λ e. OfVersion text (λ r. ChangesTo r words (Err e)))
-
--- the status of an edit that fails
-pub edit_fails : (text : List ℕ) (words : List (List ℕ)) (status : ℕ) (e : EditError) → status ≡ edit_status e → HasNoEdit text words e → FailsEdit text words status
-edit_fails text words status error.InvalidVersion is why = inl (is, why)
-edit_fails text words status (error.NotAChange n) is (r, means, at) = inr (inl (is, not_a_change_text n, (r, means, inl (n, at, refl))))
-edit_fails text words status (error.Change e) is (r, means, to) = inr (inl (is, change_error_text e, (r, means, inr (e, to, refl))))
-edit_fails text words status error.OutOfMemory is why = inr (inr is)
-
 -- what is told of an edit
 abbrev pub TellsEdit : List ℕ → List (List ℕ) → Result (String Global) Fault → Type 0
 TellsEdit text words = Gives ⊥ ⊥ ⊥ (λ t. IsEditError text words (string_bytes t))
 
 -- nothing, where it is made
-pub nothing_told : (text : List ℕ) (words : List (List ℕ)) (t : String Global) (q : Record) → OfVersion text (λ r. ChangesTo r words (Ok q)) → string_bytes t ≡ [] → TellsEdit text words (Ok t)
+pub nothing_told : (text : List ℕ) (words : List (List ℕ)) (t : String Global) (q : Record) → ((r : Record) × MeansBytes text r × ChangesTo r words (Ok q)) → string_bytes t ≡ [] → TellsEdit text words (Ok t)
 nothing_told text words t q (r, means, to) none = inl (print_with_sentinels q, (r, q, means, to, refl), none)
 
 -- of a string that is no version what is told of that
-pub version_told : (text : List ℕ) (words : List (List ℕ)) (e : EditError) (told : Result (String Global) Fault) → e ≡ error.InvalidVersion → HasNoEdit text words e
-    → Gives ⊥ ⊥ ⊥ (λ t. IsVersionError text (string_bytes t)) told → TellsEdit text words told
-version_told text words e (Ok t) is why (inl (r, means, none)) = absurd (never_both text r means (subst (HasNoEdit text words) is why))
-version_told text words e (Ok t) is why (inr tells) = inr (inl tells)
+pub version_told : (text : List ℕ) (words : List (List ℕ)) (e : EditError) (told : Result (String Global) Fault) → e ≡ error.InvalidVersion → RefusesEdit text words e
+    → Gives ⊥ ⊥ ⊥ (λ t. IsErrorOf kind.Version text (string_bytes t)) told → TellsEdit text words told
+version_told text words e (Ok t) is why (inl (r, means, none)) = absurd (never_both text r means (subst (RefusesEdit text words) is why))
+version_told text words e (Ok t) is why (inr tells) = inr (error.InvalidVersion, subst (RefusesEdit text words) is why, tells)
 version_told text words e (Err f) is why h = h
 
 -- which change is none
-pub no_change_told : (text : List ℕ) (words : List (List ℕ)) (t : String Global) (e : EditError) (n : ℕ) → e ≡ error.NotAChange n → HasNoEdit text words e → string_bytes t ≡ not_a_change_text n
+pub no_change_told : (text : List ℕ) (words : List (List ℕ)) (t : String Global) (e : EditError) (n : ℕ) → e ≡ error.NotAChange n → RefusesEdit text words e → string_bytes t ≡ not_a_change_text n
     → TellsEdit text words (Ok t)
-no_change_told text words t e n is why told = go (subst (HasNoEdit text words) is why)
-  where
-    go : OfVersion text (λ _. RefusesChangeAt words n) → TellsEdit text words (Ok t)
-    go (r, means, at) = inr (inr (r, means, inl (n, at, told)))
+no_change_told text words t e n is why told = inr (error.NotAChange n, subst (RefusesEdit text words) is why, told)
 
 -- which change cannot be made
-pub no_edit_told : (text : List ℕ) (words : List (List ℕ)) (t : String Global) (e : EditError) (why_not : ChangeError) → e ≡ error.Change why_not → HasNoEdit text words e
+pub no_edit_told : (text : List ℕ) (words : List (List ℕ)) (t : String Global) (e : EditError) (why_not : ChangeError) → e ≡ error.Change why_not → RefusesEdit text words e
     → string_bytes t ≡ change_error_text why_not → TellsEdit text words (Ok t)
-no_edit_told text words t e why_not is why told = go (subst (HasNoEdit text words) is why)
-  where
-    go : OfVersion text (λ r. ChangesTo r words (Err why_not)) → TellsEdit text words (Ok t)
-    go (r, means, to) = inr (inr (r, means, inr (why_not, to, told)))
+no_edit_told text words t e why_not is why told = inr (error.Change why_not, subst (RefusesEdit text words) is why, told)

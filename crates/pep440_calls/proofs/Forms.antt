@@ -1,8 +1,7 @@
 -- Bytes that are a string or a compiled form: what is read of each, and what is found in compiled bytes as they lie.
-use Rattle.std.proofs.Common.{◌≡◌, ◌∙◌, ℕ, List, [], Bool, ap, codes, inl, inr, refl}
-use Rattle.std.specs.Prelude.{◌⊎◌, Err, Ok, Result, Some, string_bytes}
+use Rattle.std.proofs.Common.{◌≡◌, ◌∙◌, ℕ, List, Bool, ap, codes, inl, inr, refl}
+use Rattle.std.specs.Prelude.{Err, Ok, Result}
 use Rattle.std.specs.declared.cmp.Ordering.{Ordering}
-use Rattle.std.specs.declared.string.String.{String}
 use Rattle.pep440_compiled.specs.Lists.{DenotesList, HasListFormat}
 use Rattle.pep440_compiled.specs.Version.{DenotesVersion, HasVersionFormat}
 use Rattle.pep440_rs.specs.Matching.{any_prerelease, list_matches}
@@ -11,7 +10,7 @@ use Rattle.pep440_version.specs.Key.{record_cmp}
 use Rattle.pep440_version.specs.Record.{Record}
 use Rattle.pep440_calls.proofs.Once.{one_bytes_list, one_version}
 use Rattle.pep440_calls.specs.CallResults.{Contains, IsOrder, IsPrerelease, order_number}
-use Rattle.pep440_calls.specs.Meaning.{IsNoCompiledList, IsNoCompiledVersion, MeansBytes, MeansListBytes, MeansListString, MeansString, RefusesBytes, RefusesListBytes, RefusesListString, RefusesString, TellsWhy, TellsWhyNoList, TellsWhyNoListString, TellsWhyNoString}
+use Rattle.pep440_calls.specs.Meaning.{IsNoCompiledList, IsNoCompiledVersion, MeansBytes, MeansListBytes, MeansListString, MeansString, RefusesBytes, RefusesListBytes, RefusesListString, RefusesString}
 use Rattle.pep440_calls.specs.Statuses.{Gives}
 use Rattle.pep440_calls.specs.declared.fault.Fault.{Fault}
 use Rattle.pep440_calls.specs.declared.fault.Fault.TheVariants as fault

@@ -21,8 +21,8 @@ use Rattle.pep440_version.specs.Record.{Record}
 use Rattle.pep440_version.specs.Refusals.{Refusal, Refuses}
 use Rattle.pep440_version.specs.Whole.{parse_epoch_and_release, read_version}
 use Rattle.pep440_calls.proofs.Refused.{no_list_text, no_text}
-use Rattle.pep440_calls.specs.CallResults.{HasNoRange, IsRangeText}
 use Rattle.pep440_calls.specs.Meaning.{MeansBytes, MeansListBytes, MeansListString, MeansString, RefusesBytes, RefusesListBytes, TellsWhy, TellsWhyNoList, TellsWhyNoListString, TellsWhyNoString}
+use Rattle.pep440_calls.specs.Ranges.{IsRangeText, LacksRange}
 
 pub no_utf8 : (bytes : List ℕ) → is_utf8 bytes ≡ false → ¬ IsUtf8 bytes
 no_utf8 bytes is utf8 = cc (sym (is_utf8-from_IsUtf8 bytes utf8) ∙ is)
@@ -140,28 +140,28 @@ same_range : (bytes : List ℕ) (l m : List Spec) (o p : Option Segments) → Me
 same_range bytes l m o p means other is also = sym is ∙ ap (λ (list : List Spec). list_range range_of list) (one_bytes_list bytes l m means other) ∙ also
 
 pub one_range : (bytes words others : List ℕ) → IsRangeText bytes words → IsRangeText bytes others → words ≡ others
-one_range bytes words others (l, s, means, is, w) (m, t, other, also, o) = w ∙ ap text_of (same_range bytes l m (Some s) (Some t) means other is also) ∙ sym o
+one_range bytes words others (s, (l, means, is), w) (t, (m, other, also), o) = w ∙ ap text_of (same_range bytes l m (Some s) (Some t) means other is also) ∙ sym o
 
-range_by_option : (bytes : List ℕ) (l : List Spec) (o : Option Segments) → MeansListBytes bytes l → list_range range_of l ≡ o → ((words : List ℕ) × IsRangeText bytes words) ⊎ HasNoRange bytes
+range_by_option : (bytes : List ℕ) (l : List Spec) (o : Option Segments) → MeansListBytes bytes l → list_range range_of l ≡ o → ((words : List ℕ) × IsRangeText bytes words) ⊎ LacksRange range_of bytes
 range_by_option bytes l None means is = inr (l, means, is)
-range_by_option bytes l (Some range) means is = inl (range_lines range, (l, range, means, is, refl))
+range_by_option bytes l (Some range) means is = inl (range_lines range, (range, (l, means, is), refl))
 
-or_none : (bytes : List ℕ) → ((words : List ℕ) × IsRangeText bytes words) ⊎ HasNoRange bytes → ((words : List ℕ) × IsRangeText bytes words) ⊎ (RefusesListBytes bytes ⊎ HasNoRange bytes)
+or_none : (bytes : List ℕ) → ((words : List ℕ) × IsRangeText bytes words) ⊎ LacksRange range_of bytes → ((words : List ℕ) × IsRangeText bytes words) ⊎ (RefusesListBytes bytes ⊎ LacksRange range_of bytes)
 or_none bytes (inl found) = inl found
 or_none bytes (inr none) = inr (inr none)
 
-range_of_either : (bytes : List ℕ) → ((l : List Spec) × MeansListBytes bytes l) ⊎ RefusesListBytes bytes → ((words : List ℕ) × IsRangeText bytes words) ⊎ (RefusesListBytes bytes ⊎ HasNoRange bytes)
+range_of_either : (bytes : List ℕ) → ((l : List Spec) × MeansListBytes bytes l) ⊎ RefusesListBytes bytes → ((words : List ℕ) × IsRangeText bytes words) ⊎ (RefusesListBytes bytes ⊎ LacksRange range_of bytes)
 range_of_either bytes (inr why) = inr (inl why)
 range_of_either bytes (inl (l, means)) = or_none bytes (range_by_option bytes l (list_range range_of l) means refl)
 
-pub either_range : (bytes : List ℕ) → (¬ HasListFormat bytes) → ((words : List ℕ) × IsRangeText bytes words) ⊎ (RefusesListBytes bytes ⊎ HasNoRange bytes)
+pub either_range : (bytes : List ℕ) → (¬ HasListFormat bytes) → ((words : List ℕ) × IsRangeText bytes words) ⊎ (RefusesListBytes bytes ⊎ LacksRange range_of bytes)
 either_range bytes plain = range_of_either bytes (either_bytes_list bytes plain)
 
 pub range_of_list : (bytes words : List ℕ) → IsRangeText bytes words → RefusesListBytes bytes → ⊥
-range_of_list bytes words (l, s, means, is, w) why = never_both_lists bytes l means why
+range_of_list bytes words (s, (l, means, is), w) why = never_both_lists bytes l means why
 
-pub no_range_of_list : (bytes : List ℕ) → HasNoRange bytes → RefusesListBytes bytes → ⊥
+pub no_range_of_list : (bytes : List ℕ) → LacksRange range_of bytes → RefusesListBytes bytes → ⊥
 no_range_of_list bytes (l, means, is) why = never_both_lists bytes l means why
 
-pub range_or_none : (bytes words : List ℕ) → IsRangeText bytes words → HasNoRange bytes → ⊥
-range_or_none bytes words (l, s, means, is, w) (m, other, none) = cc (same_range bytes l m (Some s) None means other is none)
+pub range_or_none : (bytes words : List ℕ) → IsRangeText bytes words → LacksRange range_of bytes → ⊥
+range_or_none bytes words (s, (l, means, is), w) (m, other, none) = cc (same_range bytes l m (Some s) None means other is none)

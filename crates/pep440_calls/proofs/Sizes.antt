@@ -1,8 +1,8 @@
 -- How long the forms of a version are at most, by the length of a string that denotes it.
-use Rattle.std.proofs.Common.{◌≡◌, ◌⊎◌, ◌<◌, ◌≤◌, ◌+◌, ◌*◌, ◌^◌, ◌∙◌, ◌%◌, ◌/◌, ◌==◌, ◌&&◌, ◌||◌, ℕ, zero, suc, List, [], ◌∷◌, ◌++◌, Bool, true, false, length, map, Option, Some, None, inl, inr, refl, sym, ap, subst, arith, append_assoc}
+use Rattle.std.proofs.Common.{◌≡◌, ◌<◌, ◌≤◌, ◌+◌, ◌*◌, ◌^◌, ◌∙◌, ◌%◌, ◌/◌, ℕ, zero, suc, List, [], ◌∷◌, ◌++◌, Bool, true, false, length, map, Option, Some, None, inl, inr, refl, sym, ap, subst, arith}
 use Rattle.std.proofs.Math.Dec.{eqb-suc-zero}
 use Rattle.std.proofs.Math.Nat.{div-eq_of_lt, div-one, pow-le-pow_left, pow-le-pow_right, zero-lt-suc}
-use Rattle.std.proofs.lemmas.Bool.{cases_Bool, cases_eq, cases_lt, eq-eqb, ltb-true, ne_eqb}
+use Rattle.std.proofs.lemmas.Bool.{cases_eq, cases_lt, eq-eqb, ltb-true, ne_eqb}
 use Rattle.std.proofs.lemmas.Fmt.{length-decimal-le}
 use Rattle.std.proofs.lemmas.List.{length-append, length-map}
 use Rattle.std.proofs.lemmas.Str.Parse.{digits_value_short}
@@ -17,7 +17,7 @@ use Rattle.pep440_keys.proofs.Bytes.{unpadded_le}
 use Rattle.pep440_keys.specs.SortKeys.{key_bytes, local_bytes, needed_bytes, number_bytes, rank_bytes, release_bytes, segment_bytes, trim_leading_zeros}
 use Rattle.pep440_version.proofs.Reading.Digits.{digits_model}
 use Rattle.pep440_version.proofs.Reading.Prefixes.{both_first, both_second}
-use Rattle.pep440_version.specs.Grammar.{AreSegments, Derives, IsCount, IsDev, IsEpoch, IsLocal, IsNumber, IsPost, IsPre, IsRelease, IsSegment, IsSpelled, IsSpelling, Spellings, dev_spellings, is_numeral, parse_segment, post_spellings, pre_spellings}
+use Rattle.pep440_version.specs.Grammar.{AreSegments, Derives, IsCount, IsDev, IsEpoch, IsLocal, IsNumber, IsPost, IsPre, IsRelease, IsSegment, IsSpelled, IsSpelling, Spellings, dev_spellings, is_numeral, post_spellings, pre_spellings}
 use Rattle.pep440_version.specs.Key.{dev_of, dev_rank, post_of, post_rank, stage_of, stage_rank}
 use Rattle.pep440_version.specs.Print.{dotted, epoch_text, labelled, local_text, pre_text, prerelease_kind_text, print, segment_print}
 use Rattle.pep440_version.specs.Record.{LocalSegmentValue, Number, Record, Text}

@@ -7,12 +7,10 @@ use Rattle.std.specs.declared.cmp.Ordering.TheVariants.{Less, Equal, Greater}
 use Rattle.pep440_compiled.specs.Lists.{HasListFormat, DenotesList}
 use Rattle.pep440_compiled.specs.Version.{HasVersionFormat, DenotesVersion}
 use Rattle.pep440_keys.specs.SortKeys.{key_bytes}
-use Rattle.pep440_rs.specs.Bounds.{Segments, list_range, range_of}
 use Rattle.pep440_rs.specs.Lists.{list_print}
 use Rattle.pep440_rs.specs.Matching.{any_prerelease, has_local, list_matches}
 use Rattle.pep440_rs.specs.Operators.{is_star, operator_text}
 use Rattle.pep440_rs.specs.Prereleases.{list_allows, requests_prereleases}
-use Rattle.pep440_rs.specs.RangeLines.{range_lines}
 use Rattle.pep440_rs.specs.Specifiers.{Spec}
 use Rattle.pep440_version.specs.Key.{record_cmp}
 use Rattle.pep440_version.specs.Print.{print}
@@ -23,7 +21,7 @@ use Rattle.pep440_version.specs.declared.prerelease.PrereleaseKind.{PrereleaseKi
 use Rattle.pep440_version.specs.declared.prerelease.PrereleaseKind.TheVariants.{Alpha, Beta, Rc}
 use Rattle.pep440_witness.specs.Probes.{first_match}
 use Rattle.pep440_calls.specs.JoinedStrings.{Joins}
-use Rattle.pep440_calls.specs.Meaning.{MeansBytes, MeansListBytes, RefusesBytes, RefusesListBytes, TellsWhy, TellsWhyNoList}
+use Rattle.pep440_calls.specs.Meaning.{MeansBytes, MeansListBytes, RefusesBytes, RefusesListBytes}
 use Rattle.pep440_calls.specs.Statuses.{Fails, IsFlagOf, PutsFront, fault_status, flag, Puts}
 use Rattle.pep440_calls.specs.declared.fault.Fault.{Fault}
 use Rattle.pep440_calls.specs.declared.one_version.Parts.{Parts}
@@ -38,14 +36,6 @@ IsNormal text bytes = (r : Record) × MeansBytes text r × (bytes ≡ print r)
 -- the normal form of a list
 abbrev pub IsNormalList : List ℕ → List ℕ → Type 0
 IsNormalList text bytes = (list : List Spec) × MeansListBytes text list × (bytes ≡ list_print list)
-
--- the message of an invalid version; no bytes if the version is valid
-abbrev pub IsVersionError : List ℕ → List ℕ → Type 0
-IsVersionError text bytes = ((r : Record) × MeansBytes text r × (bytes ≡ [])) ⊎ TellsWhy text bytes
-
--- the message of an invalid list; no bytes if the list is valid
-abbrev pub IsListError : List ℕ → List ℕ → Type 0
-IsListError text bytes = ((list : List Spec) × MeansListBytes text list × (bytes ≡ [])) ⊎ TellsWhyNoList text bytes
 
 -- the sort key of the version
 abbrev pub IsKey : List ℕ → List ℕ → Type 0
@@ -62,14 +52,6 @@ WordAnswer text old new status =
     (TellsWord text (Some new) × (status ≡ 0))
     ⊎ ((TellsWord text None × (status ≡ 7) × (new ≡ old))
     ⊎ ((new ≡ old) × Fails (RefusesBytes text) ⊥ ⊥ status))
-
--- the range of a list
-abbrev pub IsRangeText : List ℕ → List ℕ → Type 0
-IsRangeText text bytes = (list : List Spec) × (range : Segments) × MeansListBytes text list × (list_range range_of list ≡ Some range) × (bytes ≡ range_lines range)
-
--- the bytes denote a list whose conversion into a range fails, since a number to be raised is the greatest
-abbrev pub HasNoRange : List ℕ → Type 0
-HasNoRange text = (list : List Spec) × MeansListBytes text list × (list_range range_of list ≡ None)
 
 -- ---- members
 

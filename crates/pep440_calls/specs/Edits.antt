@@ -38,33 +38,12 @@ ChangesTo r words changed = (changes : List Edit) × AllZip MeansChange words ch
 abbrev pub IsEdited : List ℕ → List (List ℕ) → List ℕ → Type 0
 IsEdited text words bytes = (r q : Record) × MeansBytes text r × ChangesTo r words (Ok q) × (bytes ≡ print_with_sentinels q)
 
--- the message of why the version cannot be changed so: the first bytes that are no change word, or the first change that cannot
--- be made
-abbrev pub TellsNoEdit : Record → List (List ℕ) → List ℕ → Type 0
-TellsNoEdit r words why =
-    ((number : ℕ) × RefusesChangeAt words number × (why ≡ not_a_change_text number))
-    ⊎ ((e : ChangeError) × ChangesTo r words (Err e) × (why ≡ change_error_text e))
-
--- the version is valid, and cannot be changed so
-abbrev pub RefusesEdit : List ℕ → List (List ℕ) → List ℕ → Type 0
-RefusesEdit text words why = (r : Record) × MeansBytes text r × TellsNoEdit r words why
-
--- the message of why there is no changed version; no bytes if there is one
-abbrev pub IsEditError : List ℕ → List (List ℕ) → List ℕ → Type 0
-IsEditError text words bytes = ((edited : List ℕ) × IsEdited text words edited × (bytes ≡ [])) ⊎ (TellsWhy text bytes ⊎ RefusesEdit text words bytes)
-
--- the status names the cause: the string is no version, a change cannot be made, or an allocation failed
-abbrev pub FailsEdit : List ℕ → List (List ℕ) → ℕ → Type 0
-FailsEdit text words status = ((status ≡ 1) × RefusesBytes text) ⊎ (((status ≡ 8) × (why : List ℕ) × RefusesEdit text words why) ⊎ (status ≡ 3))
-
--- the changed version is written at the start of the caller's buffer, or the buffer is too small; how many bytes are needed is
--- written. Otherwise nothing is written
-abbrev pub PutsEdited : List ℕ → List (List ℕ) → List ℕ → List ℕ → ℕ → ℕ → ℕ → Type 0
-PutsEdited text words old new old_written written status =
-    ((bytes : List ℕ) × IsEdited text words bytes × (written ≡ length bytes) × PutsFront bytes old new status)
-    ⊎ ((new ≡ old) × (written ≡ old_written) × FailsEdit text words status)
-
--- ---- why nothing is given, where memory didn't run out
+-- why there is no changed version: the bytes are no version, some are no change word, or a change cannot be made
+abbrev pub RefusesEdit : List ℕ → List (List ℕ) → EditError → Type 0
+RefusesEdit text words error.InvalidVersion = RefusesBytes text
+RefusesEdit text words (error.NotAChange number) = (r : Record) × MeansBytes text r × RefusesChangeAt words number
+RefusesEdit text words (error.Change e) = (r : Record) × MeansBytes text r × ChangesTo r words (Err e)
+RefusesEdit text words error.OutOfMemory = Unit {0}
 
 -- the status that says it
 abbrev pub edit_status : EditError → ℕ
@@ -73,23 +52,25 @@ edit_status (error.NotAChange number) = 8
 edit_status (error.Change e) = 8
 edit_status error.OutOfMemory = 3
 
-module _ (version : Type 0) (no_change : ℕ → Type 0) (no_version : ChangeError → Type 0) where
-  -- the string is no version, this is no change word, or this change cannot be made
-  abbrev pub EditFaults : EditError → Type 0
-  EditFaults error.InvalidVersion = version
-  EditFaults (error.NotAChange number) = no_change number
-  EditFaults (error.Change e) = no_version e
-  EditFaults error.OutOfMemory = Unit {0}
+-- the message that says it; none if an allocation failed
+abbrev pub TellsNoEdit : List ℕ → EditError → List ℕ → Type 0
+TellsNoEdit text error.InvalidVersion why = TellsWhy text why
+TellsNoEdit text (error.NotAChange number) why = why ≡ not_a_change_text number
+TellsNoEdit text (error.Change e) why = why ≡ change_error_text e
+TellsNoEdit text error.OutOfMemory why = ⊥
 
-  -- what holds of what is given, or why nothing is
-  abbrev pub GivesEdit : {X : Type 0} → (X → Type 0) → Result X EditError → Type 0
-  GivesEdit P (Ok x) = P x
-  GivesEdit P (Err e) = EditFaults e
+-- the message of why there is no changed version; no bytes if there is one
+abbrev pub IsEditError : List ℕ → List (List ℕ) → List ℕ → Type 0
+IsEditError text words bytes = ((edited : List ℕ) × IsEdited text words edited × (bytes ≡ [])) ⊎ ((e : EditError) × RefusesEdit text words e × TellsNoEdit text e bytes)
 
--- so of a string and words: the string is a version of which this holds
-abbrev pub OfVersion : List ℕ → (Record → Type 0) → Type 0
-OfVersion text P = (r : Record) × MeansBytes text r × P r
+-- the changed version is written at the start of the caller's buffer, or the buffer is too small; how many bytes are needed is
+-- written. Otherwise nothing is written, and the status names the cause
+abbrev pub PutsEdited : List ℕ → List (List ℕ) → List ℕ → List ℕ → ℕ → ℕ → ℕ → Type 0
+PutsEdited text words old new old_written written status =
+    ((bytes : List ℕ) × IsEdited text words bytes × (written ≡ length bytes) × PutsFront bytes old new status)
+    ⊎ ((new ≡ old) × (written ≡ old_written) × (e : EditError) × RefusesEdit text words e × (status ≡ edit_status e))
 
--- what holds of what is made of the edited version, or why there is none
+-- what holds of what is given, or why there is no changed version
 abbrev pub GivesEdited : {X : Type 0} → List ℕ → List (List ℕ) → (X → Type 0) → Result X EditError → Type 0
-GivesEdited text words = GivesEdit (RefusesBytes text) (λ n. OfVersion text (λ _. RefusesChangeAt words n)) (λ e. OfVersion text (λ r. ChangesTo r words (Err e)))
+GivesEdited text words P (Ok x) = P x
+GivesEdited text words P (Err e) = RefusesEdit text words e

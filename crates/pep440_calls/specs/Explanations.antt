@@ -9,9 +9,8 @@ use Rattle.pep440_rs.specs.declared.specifier.operator.Operator.{Operator}
 use Rattle.pep440_version.specs.ErrorTexts.{pattern_refusal_text}
 use Rattle.pep440_version.specs.Record.{Record}
 use Rattle.pep440_version.specs.Refusals.{PatternRefusal, RefusesPattern}
-use Rattle.pep440_calls.specs.CallResults.{IsListError, IsVersionError}
-use Rattle.pep440_calls.specs.Meaning.{MeansBytes, RefusesBytes}
-use Rattle.pep440_calls.specs.PatternCalls.{MeansPattern, IsSpecifierError}
+use Rattle.pep440_calls.specs.Meaning.{MeansBytes, MeansListBytes, RefusesBytes, TellsWhy, TellsWhyNoList}
+use Rattle.pep440_calls.specs.PatternCalls.{MeansPattern, MeansSpecifierBytes, TellsWhyNoSpecifier}
 use Rattle.pep440_calls.specs.Statuses.{PutsBytes}
 use Rattle.pep440_calls.specs.declared.messages.BytesKind.{BytesKind}
 use Rattle.pep440_calls.specs.declared.messages.BytesKind.TheVariants as kind
@@ -21,10 +20,6 @@ use Rattle.pep440_calls.specs.declared.messages.BytesKind.TheVariants as kind
 -- the words say why the bytes are no pattern
 abbrev pub TellsWhyNoPattern : List ℕ → List ℕ → Type 0
 TellsWhyNoPattern bytes words = ((¬ IsUtf8 bytes) × (words ≡ codes "not UTF-8")) ⊎ (IsUtf8 bytes × (f : PatternRefusal) × RefusesPattern bytes f × (words ≡ pattern_refusal_text f))
-
--- why the string is no pattern; nothing where it denotes one
-abbrev pub IsPatternError : List ℕ → List ℕ → Type 0
-IsPatternError text bytes = ((r : Record) × (star : Bool) × MeansPattern text r star × (bytes ≡ [])) ⊎ TellsWhyNoPattern text bytes
 
 -- ---- operators with versions
 
@@ -53,12 +48,12 @@ bytes_kind_number kind.Pattern = 1
 bytes_kind_number kind.Specifier = 2
 bytes_kind_number kind.List = 3
 
--- why the bytes are not of this kind; nothing if they are
+-- the message of why the bytes are not of this kind; no bytes if they are
 abbrev pub IsErrorOf : BytesKind → List ℕ → List ℕ → Type 0
-IsErrorOf kind.Version text bytes = IsVersionError text bytes
-IsErrorOf kind.Pattern text bytes = IsPatternError text bytes
-IsErrorOf kind.Specifier text bytes = IsSpecifierError text bytes
-IsErrorOf kind.List text bytes = IsListError text bytes
+IsErrorOf kind.Version text bytes = ((r : Record) × MeansBytes text r × (bytes ≡ [])) ⊎ TellsWhy text bytes
+IsErrorOf kind.Pattern text bytes = ((r : Record) × (star : Bool) × MeansPattern text r star × (bytes ≡ [])) ⊎ TellsWhyNoPattern text bytes
+IsErrorOf kind.Specifier text bytes = ((s : Spec) × MeansSpecifierBytes text s × (bytes ≡ [])) ⊎ TellsWhyNoSpecifier text bytes
+IsErrorOf kind.List text bytes = ((list : List Spec) × MeansListBytes text list × (bytes ≡ [])) ⊎ TellsWhyNoList text bytes
 
 -- this is written if a kind has the number; otherwise the status is 9, and nothing is written
 abbrev pub ErrorAnswer : ℕ → List ℕ → List ℕ → List ℕ → ℕ → ℕ → ℕ → Type 0

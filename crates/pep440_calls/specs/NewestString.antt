@@ -2,7 +2,7 @@
 use Rattle.std.specs.List.{All}
 use Rattle.std.specs.Option.{option_map}
 use Rattle.std.specs.Ordering.{is_le, is_lt, nat_cmp, on, then_cmp}
-use Rattle.std.specs.Prelude.{◌≡◌, ◌⊎◌, ◌||◌, ℕ, List, ◌∷◌, ◌++◌, Bool, IsTrue, Option, Some, None, length, not, true, if◌then◌else◌}
+use Rattle.std.specs.Prelude.{◌≡◌, ◌⊎◌, ◌||◌, ℕ, List, ◌∷◌, ◌++◌, Bool, IsTrue, Option, Some, None, length, not, if◌then◌else◌}
 use Rattle.std.specs.declared.cmp.Ordering.{Ordering}
 use Rattle.pep440_rs.specs.Matching.{any_prerelease, list_matches}
 use Rattle.pep440_rs.specs.Prereleases.{requests_prereleases}

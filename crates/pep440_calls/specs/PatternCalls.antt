@@ -69,10 +69,6 @@ TellsWhyNoSpecifier bytes words = ((¬ IsUtf8 bytes) × (words ≡ codes "not UT
 abbrev pub RefusesSpecifierBytes : List ℕ → Type 0
 RefusesSpecifierBytes bytes = (words : List ℕ) × TellsWhyNoSpecifier bytes words
 
--- why the string is no specifier; nothing where it denotes one
-abbrev pub IsSpecifierError : List ℕ → List ℕ → Type 0
-IsSpecifierError text bytes = ((s : Spec) × MeansSpecifierBytes text s × (bytes ≡ [])) ⊎ TellsWhyNoSpecifier text bytes
-
 -- the compiled form of the list of the one specifier that the string denotes
 abbrev pub IsCompiledSpecifier : List ℕ → List ℕ → Type 0
 IsCompiledSpecifier text bytes = (s : Spec) × MeansSpecifierBytes text s × DenotesList bytes (s ∷ [])

@@ -1,5 +1,5 @@
--- The range of a list: as sort keys, two for each segment, between which those of its versions lie; and as bounds, two for each segment, whose
--- versions are written as compiled ones are, with their sentinels.
+-- The range of a list: as lines; as sort keys, two for each segment, between which those of its versions lie; and as bounds, two for each
+-- segment, whose versions are written as compiled ones are, with their sentinels.
 use Rattle.std.specs.List.{flat_map}
 use Rattle.std.specs.Prelude.{◌≡◌, ℕ, List, [], ◌∷◌, Option, Some, None, unwrap_or}
 use Rattle.std.specs.declared.ops.Bound.{Bound}
@@ -7,7 +7,8 @@ use Rattle.std.specs.declared.ops.Bound.TheVariants.{Excluded, Included, Unbound
 use Rattle.pep440_compiled.specs.Version.{compiled_bytes}
 use Rattle.pep440_keys.specs.RangeKeys.{Interval, segment_interval}
 use Rattle.pep440_ranges.specs.RangeSegments.{Segment}
-use Rattle.pep440_rs.specs.Bounds.{Segments, list_range}
+use Rattle.pep440_rs.specs.Bounds.{Segments, list_range, range_of}
+use Rattle.pep440_rs.specs.RangeLines.{range_lines}
 use Rattle.pep440_rs.specs.Specifiers.{Spec}
 use Rattle.pep440_rs.specs.declared.specifier.operator.Operator.{Operator}
 use Rattle.pep440_version.specs.Record.{Record}
@@ -48,3 +49,7 @@ module _ (conversion : Operator → Record → Option Segments) where
   -- the bounds of the segments of that range, joined in order, and where each bound ends
   abbrev pub TellsBounds : List ℕ → List ℕ → List ℕ → Type 0
   TellsBounds text bytes ends = (range : Segments) × HasRange text range × JoinsBounds range bytes ends
+
+-- the lines of the range of a list
+abbrev pub IsRangeText : List ℕ → List ℕ → Type 0
+IsRangeText text bytes = (range : Segments) × HasRange range_of text range × (bytes ≡ range_lines range)

@@ -1,10 +1,12 @@
 //! A version and changes of it, as words.
 ghost use Rattle.std.specs.List.{AllZip};
-ghost use Rattle.std.specs.Prelude.{Err, IfErr, IfOk, Ok, map, string_bytes, ◌≡◌};
+ghost use Rattle.std.specs.Prelude.{IfErr, IfOk, List, Ok, map, string_bytes, ℕ, ◌≡◌};
 ghost use Rattle.pep440_version.specs.ChangeWords.{not_a_change_text};
+ghost use Rattle.pep440_version.specs.Record.{Record};
 ghost use Rattle.pep440_version.specs.declared.change_word.ChangeWordError.TheVariants.{NotAChange};
 ghost use Rattle.pep440_version.specs.Changes.{edit};
-ghost use Rattle.pep440_calls.specs.Edits.{ChangesTo, GivesEdit, GivesEdited, IsEditError, IsEdited, MeansChange, OfVersion, PutsEdited, RefusesChange, RefusesChangeAt, edit_status};
+ghost use Rattle.pep440_calls.specs.Edits.{ChangesTo, GivesEdited, IsEditError, IsEdited, MeansChange, PutsEdited, RefusesChange, edit_status};
+ghost use Rattle.pep440_calls.specs.Meaning.{MeansBytes};
 ghost use Rattle.pep440_calls.specs.Statuses.{Gives, PutsBytes};
 ghost use Rattle.pep440_calls.specs.declared.edits.EditError.TheVariants.{OutOfMemory};
 
@@ -99,9 +101,9 @@ fn read_change(alloc: Global, word: &[u8]) -> Result<Change, ChangeWordError>
     parse_change(alloc, text)
 }
 
-// The changes that the words ask for.
+// The changes that the words ask for; of a version, so that an error is one of both.
 fn read_changes(alloc: Global, words: &[&[u8]]) -> Result<Vec<Change>, EditError>
-    ensures { GivesEdit ⊥ (RefusesChangeAt (map (λ t. t.now) words.now)) (λ _. ⊥) (λ changes. AllZip MeansChange (map (λ t. t.now) words.now) (map edit changes.items)) result }
+    ensures { (text : List ℕ) (r : Record) → MeansBytes text r → GivesEdited text (map (λ t. t.now) words.now) (λ changes. AllZip MeansChange (map (λ t. t.now) words.now) (map edit changes.items)) result }
 {
     let mut changes = Vec::with_capacity(alloc, words.len())?;
     for (position, word) in words.iter().enumerate() {
@@ -116,7 +118,7 @@ fn read_changes(alloc: Global, words: &[&[u8]]) -> Result<Vec<Change>, EditError
 
 // The version after the changes.
 fn apply_changes(alloc: Global, version: Version, words: &[&[u8]]) -> Result<Version, EditError>
-    ensures { GivesEdit ⊥ (RefusesChangeAt (map (λ t. t.now) words.now)) (λ e. ChangesTo version (map (λ t. t.now) words.now) (Err e)) (λ q. ChangesTo version (map (λ t. t.now) words.now) (Ok q)) result }
+    ensures { (text : List ℕ) → MeansBytes text version → GivesEdited text (map (λ t. t.now) words.now) (λ q. (r : Record) × MeansBytes text r × ChangesTo r (map (λ t. t.now) words.now) (Ok q)) result }
 {
     let changes = read_changes(alloc, words)?;
     match version.with_changes(alloc, changes.as_slice()) {
@@ -128,7 +130,7 @@ fn apply_changes(alloc: Global, version: Version, words: &[&[u8]]) -> Result<Ver
 
 // The version that the bytes denote, after the changes. The version is read first, then all words, and then the changes are made.
 fn change(alloc: Global, bytes: &[u8], words: &[&[u8]]) -> Result<Version, EditError>
-    ensures { GivesEdited bytes.now (map (λ t. t.now) words.now) (λ q. OfVersion bytes.now (λ r. ChangesTo r (map (λ t. t.now) words.now) (Ok q))) result }
+    ensures { GivesEdited bytes.now (map (λ t. t.now) words.now) (λ q. (r : Record) × MeansBytes bytes.now r × ChangesTo r (map (λ t. t.now) words.now) (Ok q)) result }
 {
     match read(alloc, bytes) {
         Ok(version) => apply_changes(alloc, version, words),

@@ -2,7 +2,7 @@
 ghost use Rattle.std.specs.List.{list_any};
 ghost use Rattle.std.specs.Ordering.{nat_cmp};
 ghost use Rattle.std.specs.Prelude.{length, ◌≤◌, ◌+◌, ◌*◌, ◌/◌, Bool, IsTrue, List, None, Some, [], true, ℕ, ◌↔◌, ◌≡◌, ◌⊎◌};
-ghost use Rattle.pep440_compiled.specs.Lists.{HasListFormat};
+ghost use Rattle.pep440_compiled.specs.Lists.{HasListFormat, list_bytes};
 ghost use Rattle.pep440_compiled.specs.Version.{HasVersionFormat, compiled_bytes};
 ghost use Rattle.pep440_keys.specs.RangeKeys.{is_within, segment_interval};
 ghost use Rattle.pep440_keys.specs.SortKeys.{key_bytes};
@@ -16,10 +16,10 @@ ghost use Rattle.pep440_version.specs.Key.{record_cmp};
 ghost use Rattle.pep440_version.specs.Print.{print};
 ghost use Rattle.pep440_version.specs.Record.{Record};
 ghost use Rattle.pep440_witness.specs.Probes.{first_match};
-ghost use Rattle.pep440_calls.specs.CallResults.{HasNoRange, IsCompiled, IsCompiledList, IsRangeText, IsVersionIn, TellsWord};
+ghost use Rattle.pep440_calls.specs.CallResults.{IsCompiled, IsCompiledList, IsVersionIn, TellsWord};
 ghost use Rattle.pep440_calls.specs.Meaning.{MeansBytes, MeansListBytes, MeansListString, MeansString, RefusesBytes, RefusesListBytes, TellsWhy, TellsWhyNoList};
 ghost use Rattle.pep440_calls.specs.PatternCalls.{IsSpecifier, MeansPattern, MeansSpecifierBytes, RefusesOperand, RefusesOperator, RefusesPatternBytes, RefusesSpecifierBytes, TellsWhyNoSpecifier};
-ghost use Rattle.pep440_calls.specs.Ranges.{HasRange};
+ghost use Rattle.pep440_calls.specs.Ranges.{HasRange, IsRangeText, LacksRange};
 
 /// Bytes denote one version, or are invalid with one error, and never both; a string does one of
 /// these. No string of a version begins as a compiled one.
@@ -51,10 +51,10 @@ pub fn one_specifier_once()
 /// and 5 a call on a string has one.
 pub fn ranges_once()
     ensures one { (bytes words others : List ℕ) → IsRangeText bytes words → IsRangeText bytes others → words ≡ others }
-    ensures either { (bytes : List ℕ) → (¬ HasListFormat bytes) → ((words : List ℕ) × IsRangeText bytes words) ⊎ (RefusesListBytes bytes ⊎ HasNoRange bytes) }
+    ensures either { (bytes : List ℕ) → (¬ HasListFormat bytes) → ((words : List ℕ) × IsRangeText bytes words) ⊎ (RefusesListBytes bytes ⊎ LacksRange range_of bytes) }
     ensures never_both { (bytes words : List ℕ) → IsRangeText bytes words → RefusesListBytes bytes → ⊥ }
-    ensures never_at_max { (bytes words : List ℕ) → IsRangeText bytes words → HasNoRange bytes → ⊥ }
-    ensures one_error { (bytes : List ℕ) → HasNoRange bytes → RefusesListBytes bytes → ⊥ }
+    ensures never_at_max { (bytes words : List ℕ) → IsRangeText bytes words → LacksRange range_of bytes → ⊥ }
+    ensures one_error { (bytes : List ℕ) → LacksRange range_of bytes → RefusesListBytes bytes → ⊥ }
 {}
 
 /// What `pep440_version_in` writes is nothing or a version that the list contains; of a list of a string it writes nothing only if
@@ -104,10 +104,11 @@ pub fn compiled_once()
     ensures list { (text compiled : List ℕ) (l : List Spec) → IsCompiledList text compiled → MeansListBytes text l ↔ MeansListBytes compiled l }
 {}
 
-/// How many bytes suffice for the forms of a version, by the length of a string that denotes it: the bounds of `callers/c/pep440.h`. That of
-/// compiled forms is greater there, since it serves lists too.
+/// How many bytes suffice for the forms of a version or a list, by the length of a string that denotes it: the bounds of
+/// `callers/c/pep440.h`, where one serves both compiled forms.
 pub fn forms_are_bounded()
     ensures normal { (bytes : List ℕ) (r : Record) → MeansString bytes r → length (print r) ≤ 9 + length bytes }
     ensures key { (bytes : List ℕ) (r : Record) → MeansString bytes r → length (key_bytes r) ≤ 7 + 3 * length bytes / 2 }
     ensures compiled { (bytes : List ℕ) (r : Record) → MeansString bytes r → length (compiled_bytes r) ≤ 8 + 3 * length bytes / 2 }
+    ensures list { (bytes : List ℕ) (l : List Spec) → MeansListString bytes l → length (list_bytes l) ≤ 4 + 3 * length bytes }
 {}

@@ -36,14 +36,13 @@ mod two_versions;
 pub use batch::{write_marks, write_positions, write_sort_keys};
 pub use edits::{write_edit_error, write_edited};
 pub use list_ranges::{
-    write_cover_keys, write_range_bounds, write_range_keys, write_release_range_bounds,
+    write_cover_keys, write_range, write_range_bounds, write_range_keys, write_release_range_bounds,
 };
 pub use membership::{write_allowed, write_match};
 pub use messages::{write_build_error, write_error};
 pub use newest_string::write_newest;
 pub use one_list::{
-    write_compiled_list, write_members, write_normal_list, write_prerelease_flag, write_range,
-    write_version_in,
+    write_compiled_list, write_members, write_normal_list, write_prerelease_flag, write_version_in,
 };
 pub use one_version::{
     Parts, write_compiled, write_normal_form, write_parts, write_sort_key, write_word,

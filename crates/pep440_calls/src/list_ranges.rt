@@ -1,25 +1,34 @@
-//! The range and the cover of a list, as sort keys and as bounds.
+//! The range of a list, as lines, as sort keys and as bounds, and its cover.
 ghost use Rattle.std.specs.List.{flat_map};
-ghost use Rattle.std.specs.Prelude.{IfOk, List, OnOk, [], option_map, unwrap_or, ℕ, ◌++◌, ◌∷◌, ◌≡◌};
+ghost use Rattle.std.specs.Prelude.{IfOk, List, OnOk, [], option_map, string_bytes, unwrap_or, ℕ, ◌++◌, ◌∷◌, ◌≡◌};
 ghost use Rattle.pep440_compiled.specs.Version.{compiled_bytes};
 ghost use Rattle.pep440_keys.specs.RangeKeys.{segment_interval};
 ghost use Rattle.pep440_rs.specs.Bounds.{Segments, range_of, release_range_of};
 ghost use Rattle.pep440_rs.specs.Cover.{cover_of};
 ghost use Rattle.pep440_calls.specs.JoinedStrings.{Joins, PutsJoined};
 ghost use Rattle.pep440_calls.specs.Meaning.{RefusesListBytes};
-ghost use Rattle.pep440_calls.specs.Ranges.{HasRange, JoinsBounds, LacksRange, TellsBounds, TellsIntervals, bound_bytes, interval_keys};
-ghost use Rattle.pep440_calls.specs.Statuses.{Gives};
+ghost use Rattle.pep440_calls.specs.Ranges.{HasRange, IsRangeText, JoinsBounds, LacksRange, TellsBounds, TellsIntervals, bound_bytes, interval_keys};
+ghost use Rattle.pep440_calls.specs.Statuses.{Gives, PutsBytes};
 
-use crate::buffer::put_joined;
+use crate::buffer::{put_joined, put_text};
 use crate::fault::Fault;
 use crate::joined_strings::JoinedStrings;
 use crate::read::read_list;
 use pep440_compiled::push_compiled_form;
 use pep440_keys::{KeyInterval, range_keys};
 use pep440_ranges::Ranges;
-use pep440_rs::{Version, release_specifiers_to_ranges, specifiers_to_cover, specifiers_to_ranges};
+use pep440_rs::{
+    RangeLines, Version, release_specifiers_to_ranges, specifiers_to_cover, specifiers_to_ranges,
+};
 use std::alloc::{AllocError, Global};
 use std::ops::Bound;
+
+/// Writes the range of the list, a segment a line. Status 5 if a bound of it would need a number above the greatest.
+pub fn write_range(alloc: Global, list: &[u8], out: &mut [u8], written: &mut usize) -> u8
+    ensures { PutsBytes ⊥ (RefusesListBytes list.now) (LacksRange range_of list.now) (IsRangeText list.now) out.old out.new written.old written.new result }
+{
+    put_text(to_range_lines(alloc, list), out, written)
+}
 
 /// Writes the range of the list as sort keys, two a segment, and where each of them ends: a version is in the range
 /// if its key is at least the first of a segment and below the second. No bytes stand for no bound. Reports how many
@@ -86,6 +95,14 @@ fn to_range(alloc: Global, list: &[u8]) -> Result<Ranges<Version>, Fault>
 {
     let specifiers = read_list(alloc, list)?;
     Ok(specifiers_to_ranges(alloc, specifiers)?)
+}
+
+// The range of a list, a segment a line.
+fn to_range_lines(alloc: Global, list: &[u8]) -> Result<String, Fault>
+    ensures { Gives ⊥ (RefusesListBytes list.now) (LacksRange range_of list.now) (λ text. IsRangeText list.now (string_bytes text)) result }
+{
+    let range = to_range(alloc, list)?;
+    Ok(RangeLines(&range).to_string(alloc)?)
 }
 
 // The key, or no bytes.

@@ -4,11 +4,10 @@ ghost use Rattle.pep440_compiled.specs.Lists.{DenotesList};
 ghost use Rattle.pep440_compiled.specs.Version.{DenotesVersion};
 ghost use Rattle.pep440_rs.specs.Specifiers.{Spec};
 ghost use Rattle.pep440_version.specs.Record.{Record};
-ghost use Rattle.pep440_calls.specs.CallResults.{IsListError, IsVersionError};
-ghost use Rattle.pep440_calls.specs.Explanations.{ErrorAnswer, IsBuildError, IsErrorOf, IsNoOperator, IsPatternError, RefusesNumbered, bytes_kind_number};
+ghost use Rattle.pep440_calls.specs.Explanations.{ErrorAnswer, IsBuildError, IsErrorOf, IsNoOperator, RefusesNumbered, bytes_kind_number};
 ghost use Rattle.pep440_calls.specs.Meaning.{IsNoCompiledList, IsNoCompiledVersion, MeansListString, MeansString, TellsWhyNoListString, TellsWhyNoString};
-ghost use Rattle.pep440_calls.specs.PatternCalls.{IsSpecifierError};
 ghost use Rattle.pep440_calls.specs.Statuses.{Gives, PutsBytes};
+ghost use Rattle.pep440_calls.specs.declared.messages.BytesKind.TheVariants as to_be;
 
 use crate::buffer::put_text;
 use crate::fault::Fault;
@@ -148,7 +147,7 @@ fn explain_compiled(alloc: Global, bytes: &[u8]) -> Result<String, Fault>
 
 /// Why the bytes are no version; empty if they are one.
 pub(crate) fn explain_version(alloc: Global, bytes: &[u8]) -> Result<String, Fault>
-    ensures { Gives ⊥ ⊥ ⊥ (λ words. IsVersionError bytes.now (string_bytes words)) result }
+    ensures { Gives ⊥ ⊥ ⊥ (λ words. IsErrorOf to_be.Version bytes.now (string_bytes words)) result }
 {
     if has_version_format(bytes) {
         return explain_compiled(alloc, bytes);
@@ -185,7 +184,7 @@ fn explain_compiled_list(alloc: Global, bytes: &[u8]) -> Result<String, Fault>
 
 // Why the bytes are no list; empty if they are one.
 fn explain_list(alloc: Global, bytes: &[u8]) -> Result<String, Fault>
-    ensures { Gives ⊥ ⊥ ⊥ (λ words. IsListError bytes.now (string_bytes words)) result }
+    ensures { Gives ⊥ ⊥ ⊥ (λ words. IsErrorOf to_be.List bytes.now (string_bytes words)) result }
 {
     if has_list_format(bytes) {
         return explain_compiled_list(alloc, bytes);
@@ -195,7 +194,7 @@ fn explain_list(alloc: Global, bytes: &[u8]) -> Result<String, Fault>
 
 // Why the bytes are no pattern; empty if they are one.
 fn explain_pattern(alloc: Global, bytes: &[u8]) -> Result<String, Fault>
-    ensures { Gives ⊥ ⊥ ⊥ (λ words. IsPatternError bytes.now (string_bytes words)) result }
+    ensures { Gives ⊥ ⊥ ⊥ (λ words. IsErrorOf to_be.Pattern bytes.now (string_bytes words)) result }
 {
     let Ok(text) = std::str::from_utf8(bytes) else {
         return Ok(String::from_str(alloc, NOT_UTF8)?);
@@ -213,7 +212,7 @@ fn explain_pattern(alloc: Global, bytes: &[u8]) -> Result<String, Fault>
 
 // Why the bytes are no specifier; empty if they are one.
 fn explain_specifier(alloc: Global, bytes: &[u8]) -> Result<String, Fault>
-    ensures { Gives ⊥ ⊥ ⊥ (λ words. IsSpecifierError bytes.now (string_bytes words)) result }
+    ensures { Gives ⊥ ⊥ ⊥ (λ words. IsErrorOf to_be.Specifier bytes.now (string_bytes words)) result }
 {
     let Ok(text) = std::str::from_utf8(bytes) else {
         return Ok(String::from_str(alloc, NOT_UTF8)?);

@@ -1,4 +1,4 @@
-//! What is made of one list: its normal form, compiled form, members and range, and a version that it contains.
+//! What is made of one list: its normal form, compiled form and members, and a version that it contains.
 ghost use Rattle.std.specs.List.{flat_map, list_any};
 ghost use Rattle.std.specs.Option.{option_map_or};
 ghost use Rattle.std.specs.Prelude.{IfOk, List, OnOk, [], string_bytes, ℕ, ◌++◌, ◌≡◌};
@@ -6,7 +6,7 @@ ghost use Rattle.pep440_rs.specs.Matching.{any_prerelease};
 ghost use Rattle.pep440_rs.specs.Operators.{operator_text};
 ghost use Rattle.pep440_rs.specs.Specifiers.{Spec};
 ghost use Rattle.pep440_version.specs.Print.{print};
-ghost use Rattle.pep440_calls.specs.CallResults.{HasNoRange, IsCompiledList, IsNormalList, IsRangeText, IsVersionIn, NamesPrerelease, TellsMembers, member_texts, version_text};
+ghost use Rattle.pep440_calls.specs.CallResults.{IsCompiledList, IsNormalList, IsVersionIn, NamesPrerelease, TellsMembers, member_texts, version_text};
 ghost use Rattle.pep440_calls.specs.JoinedStrings.{Joins, PutsJoined};
 ghost use Rattle.pep440_calls.specs.Meaning.{RefusesListBytes};
 ghost use Rattle.pep440_calls.specs.Statuses.{Gives, IsFlagOf, Puts, PutsBytes};
@@ -15,7 +15,7 @@ use crate::buffer::{OK, flag, put_bytes, put_joined, put_text};
 use crate::fault::Fault;
 use crate::joined_strings::JoinedStrings;
 use crate::read::read_list;
-use pep440_rs::{RangeLines, Version, VersionSpecifier, VersionSpecifiers, specifiers_to_ranges};
+use pep440_rs::{Version, VersionSpecifier, VersionSpecifiers};
 use pep440_witness::find_version;
 use std::alloc::{AllocError, Global};
 
@@ -74,22 +74,6 @@ fn any_prerelease(alloc: Global, list: &[u8]) -> Result<bool, Fault>
 {
     let specifiers = read_list(alloc, list)?;
     Ok(has_prerelease(&specifiers))
-}
-
-/// Writes the range of the list, a segment a line. Status 5 if a bound of it would need a number above the greatest.
-pub fn write_range(alloc: Global, list: &[u8], out: &mut [u8], written: &mut usize) -> u8
-    ensures { PutsBytes ⊥ (RefusesListBytes list.now) (HasNoRange list.now) (IsRangeText list.now) out.old out.new written.old written.new result }
-{
-    put_text(to_range_lines(alloc, list), out, written)
-}
-
-// The range of a list, a segment a line.
-fn to_range_lines(alloc: Global, list: &[u8]) -> Result<String, Fault>
-    ensures { Gives ⊥ (RefusesListBytes list.now) (HasNoRange list.now) (λ text. IsRangeText list.now (string_bytes text)) result }
-{
-    let specifiers = read_list(alloc, list)?;
-    let range = specifiers_to_ranges(alloc, specifiers)?;
-    Ok(RangeLines(&range).to_string(alloc)?)
 }
 
 /// Writes a version that the list contains, and nothing if it contains none that a string denotes (PEP 440, "Version specifiers").

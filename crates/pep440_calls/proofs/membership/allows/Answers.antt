@@ -1,5 +1,3 @@
-use Rattle.std.proofs.Common.{◌∙◌, ap}
-use Rattle.pep440_rs.specs.Prereleases.{requests_prereleases}
 use Rattle.pep440_calls.proofs.Allowed.{allows_read}
 use Rattle.pep440_calls.proofs.membership.allows.Goals as goal
 

@@ -1,5 +1,4 @@
 use Rattle.std.proofs.Common.{◌≡◌, ap, inl}
-use Rattle.std.specs.Prelude.{Ok}
 use Rattle.pep440_calls.proofs.Forms.{as_compiled, as_compiled_list, no_compiled, no_compiled_list}
 use Rattle.pep440_calls.proofs.membership.contains_compiled.Goals as goal
 use Rattle.pep440_rs.specs.Matching.{any_prerelease, list_matches}

@@ -1,5 +1,4 @@
-use Rattle.std.proofs.Common.{◌∙◌, Bool, ap, map, subst}
-use Rattle.pep440_rs.specs.Prereleases.{requests_prereleases}
+use Rattle.std.proofs.Common.{Bool, map, subst}
 use Rattle.pep440_calls.proofs.newest_string.find.Goals as goal
 use Rattle.pep440_calls.specs.NewestString.{NewestString}
 
