@@ -142,7 +142,7 @@ static PyObject *reader_of_others;
 static PyObject *text_of(PyObject *given, pep440_string *view)
 {
     PyObject *text, *made;
-    if (PyUnicode_Check(given))
+    if (PyUnicode_CheckExact(given) || PyUnicode_Check(given))
         return stripped(given, view);
     if (PyObject_TypeCheck(given, HeldType))
         return is_initialised((Held *)given) && view_str(((Held *)given)->text, view) == 0 ? Py_NewRef(((Held *)given)->text) : NULL;
