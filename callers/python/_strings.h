@@ -53,8 +53,8 @@ static inline int is_kept(Spare *spare, PyObject *object)
     return 1;
 }
 
-/* A kept object, or NULL. It is as it was freed, with its class, but for the first pointer behind its head, which is NULL. PyObject_Init would take 20
-   instructions for what tracers of memory see: where the block was taken first. */
+/* A kept object, or NULL. It is as it was freed, with its class, but for the first pointer behind its head, which is NULL. Without PyObject_Init, which
+   takes some 20 instructions, tracemalloc sees where its block was allocated first. */
 static inline PyObject *taken_of(Spare *spare)
 {
     PyObject *object = spare->first;

@@ -24,7 +24,7 @@ static int raise_no_str(PyObject *given)
     return -1;
 }
 
-/* Reads the string, where it is not new also if one was read before. The old one stays where this one is no version. */
+/* Reads the string. What is not new may have read one before, which stays where this one is no version. */
 static inline int read_version(Held *self, PyObject *given, int is_new)
 {
     PyObject *text, *old = is_new ? NULL : self->text;
