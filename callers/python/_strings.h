@@ -139,7 +139,7 @@ static inline PyObject *stripped(PyObject *given, pep440_string *view)
 static PyObject *reader_of_others;
 
 /* The string that is read of what is given for a version, and its bytes. */
-static PyObject *text_of(PyObject *given, pep440_string *view)
+static inline PyObject *text_of(PyObject *given, pep440_string *view)
 {
     PyObject *text, *made;
     if (PyUnicode_CheckExact(given) || PyUnicode_Check(given))
