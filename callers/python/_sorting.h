@@ -1,10 +1,14 @@
-/* Sorts keys by their bytes: by radix, eight bytes at a time, equal ones in the order given. */
+/* Sorts words, or keys by their bytes, eight at a time: by radix, equal ones in the order given. */
 
-/* A key of which no other one is a prefix, and its item's index; `part` has the bytes that are sorted by. */
+/* A key of which no other one is a prefix. */
+typedef struct {
+    const uint8_t *bytes;
+    size_t length;
+} Key;
+
+/* An item by its index, and what it is sorted by: its word, or eight bytes of its key. */
 typedef struct {
     uint64_t part;
-    const uint8_t *key;
-    size_t length;
     size_t index;
 } Keyed;
 
@@ -15,18 +19,18 @@ typedef struct {
     size_t depth;
 } Run;
 
-enum { PART = sizeof(uint64_t), FEW_KEYS = 24, MANY_KEYS = 1 << 16 };
+enum { PART = sizeof(uint64_t), FEW_KEYS = 24, MANY_KEYS = 1 << 16, FEW_BITS = 8, MANY_BITS = 11 };
 
-/* Whether a long sort is to end; asked now and then. */
+/* Whether a long sort is to end, -1 or 0; asked now and then. */
 typedef int (*Pause)(void *);
 
 /* The bytes of the key from the depth on, the first one highest, with zeros behind its end. */
-static uint64_t load_part(const Keyed *keyed, size_t depth)
+static uint64_t load_part(const Key *key, size_t depth)
 {
     uint64_t part = 0;
-    size_t length = keyed->length - depth < PART ? keyed->length - depth : PART;
+    size_t length = key->length - depth < PART ? key->length - depth : PART;
     for (size_t at = 0; at < length; at++)
-        part |= (uint64_t)keyed->key[depth + at] << (8 * (PART - 1 - at));
+        part |= (uint64_t)key->bytes[depth + at] << (8 * (PART - 1 - at));
     return part;
 }
 
@@ -41,77 +45,76 @@ static void insert_by_part(Keyed *keyed, size_t count)
     }
 }
 
-/* Moves all into the order of one byte of their parts. */
-static void distribute(const Keyed *from, Keyed *to, size_t count, int shift)
+/* Moves all into the order of some bits of their parts. */
+static void distribute(const Keyed *from, Keyed *to, size_t count, int shift, int bits)
 {
-    size_t starts[257] = {0};
+    size_t starts[(1 << MANY_BITS) + 1], mask = ((size_t)1 << bits) - 1;
+    memset(starts, 0, (mask + 2) * sizeof *starts);
     for (size_t at = 0; at < count; at++)
-        starts[(from[at].part >> shift & 255) + 1]++;
-    for (size_t value = 1; value < 256; value++)
+        starts[(from[at].part >> shift & mask) + 1]++;
+    for (size_t value = 1; value <= mask; value++)
         starts[value] += starts[value - 1];
     for (size_t at = 0; at < count; at++)
-        to[starts[from[at].part >> shift & 255]++] = from[at];
+        to[starts[from[at].part >> shift & mask]++] = from[at];
 }
 
-/* Sorts by parts: by each byte that is not the same in all, from the last one on. -1 where it is to end. */
-static int sort_by_part(Keyed *keyed, Keyed *spare, size_t count, Pause pause, void *with)
+/* Sorts by parts: by all bits that are not the same in all, from the last one on. Returns which of both has the sorted ones, or NULL where it is to end. */
+static Keyed *sort_by_part(Keyed *keyed, Keyed *spare, size_t count, Pause pause, void *with)
 {
     uint64_t varying = 0;
     Keyed *from = keyed, *to = spare, *moved;
+    int bits = count < MANY_KEYS / 16 ? FEW_BITS : MANY_BITS;
     if (count <= FEW_KEYS) {
         insert_by_part(keyed, count);
-        return 0;
+        return keyed;
     }
     for (size_t at = 1; at < count; at++)
         varying |= keyed[at].part ^ keyed[0].part;
-    for (int shift = 0; shift < 64; shift += 8) {
-        if (!(varying >> shift & 255))
-            continue;
-        distribute(from, to, count, shift);
+    for (int shift = 0; shift < 64 && varying >> shift; shift += bits) {
+        while (!(varying >> shift & 1))
+            shift++;
+        distribute(from, to, count, shift, bits);
         moved = from, from = to, to = moved;
         if (count >= MANY_KEYS && pause(with))
-            return -1;
+            return NULL;
     }
-    if (from != keyed)
-        memcpy(keyed, spare, count * sizeof *keyed);
-    return 0;
+    return from;
 }
 
 /* Puts the runs of equal parts that are to be sorted further behind the others. */
-static size_t add_runs(const Keyed *keyed, Run sorted, Run *runs, size_t pending)
+static size_t add_runs(const Keyed *keyed, const Key *keys, Run sorted, Run *runs, size_t pending)
 {
     size_t end = sorted.start + sorted.count;
     for (size_t start = sorted.start, next; start < end; start = next) {
         for (next = start + 1; next < end && keyed[next].part == keyed[start].part;)
             next++;
-        if (next - start > 1 && keyed[start].length > sorted.depth + PART)
+        if (next - start > 1 && keys[keyed[start].index].length > sorted.depth + PART)
             runs[pending++] = (Run){start, next - start, sorted.depth + PART};
     }
     return pending;
 }
 
-/* Sorts the items by their keys, with as much room beside them. Of a key without length `part` alone counts, which is set. PEP440_OK, or
-   PEP440_OUT_OF_MEMORY, also where the sort is to end. */
-static uint8_t sort_keyed(Keyed *keyed, Keyed *spare, size_t count, Pause pause, void *with)
+/* Sorts the items by their keys, with as much room beside them. Returns the sorted ones, or NULL where it is to end or there is no memory. */
+static Keyed *sort_by_keys(Keyed *keyed, Keyed *spare, const Key *keys, size_t count, Pause pause, void *with)
 {
     Run *runs = malloc((count / 2 + 1) * sizeof *runs); /* those that wait have two items or more each */
     size_t pending = count > 1, work = 0;
-    uint8_t status = runs ? PEP440_OK : PEP440_OUT_OF_MEMORY;
+    int is_done = runs != NULL;
     if (runs)
         runs[0] = (Run){0, count, 0};
-    while (status == PEP440_OK && pending) {
+    while (is_done && pending) {
         Run run = runs[--pending];
-        for (size_t at = run.start; at < run.start + run.count; at++)
-            if (keyed[at].length)
-                keyed[at].part = load_part(&keyed[at], run.depth);
-        if (sort_by_part(keyed + run.start, spare, run.count, pause, with) < 0)
-            status = PEP440_OUT_OF_MEMORY;
-        pending = add_runs(keyed, run, runs, pending);
+        Keyed *start = keyed + run.start, *sorted;
+        for (size_t at = 0; at < run.count; at++)
+            start[at].part = load_part(&keys[start[at].index], run.depth);
+        sorted = sort_by_part(start, spare, run.count, pause, with);
+        if (sorted == spare)
+            memcpy(start, spare, run.count * sizeof *start);
+        pending = add_runs(keyed, keys, run, runs, pending);
         work += run.count;
-        if (work >= MANY_KEYS && pause(with))
-            status = PEP440_OUT_OF_MEMORY;
+        is_done = sorted && (work < MANY_KEYS || pause(with) == 0);
         work %= MANY_KEYS;
     }
     free(runs);
-    return status;
+    return is_done ? keyed : NULL;
 }

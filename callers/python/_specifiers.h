@@ -108,8 +108,10 @@ static void specifiers_free(Specifiers *self)
 /* One of a class without fields of its own, of which nothing is read yet. */
 static inline Specifiers *new_specifiers(PyObject *class)
 {
-    Specifiers *made = (Specifiers *)taken_of(&spare_specifiers, class);
-    if (!made && (made = PyObject_GC_New(Specifiers, (PyTypeObject *)class)))
+    Specifiers *made = (Specifiers *)taken_of(&spare_specifiers);
+    if (made)
+        Py_SET_TYPE((PyObject *)made, (PyTypeObject *)Py_NewRef(class));
+    else if ((made = PyObject_GC_New(Specifiers, (PyTypeObject *)class)))
         memset(&made->attributes, 0, offsetof(Specifiers, few) - offsetof(Specifiers, attributes));
     if (made)
         PyObject_GC_Track(made);

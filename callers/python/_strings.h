@@ -53,8 +53,9 @@ static inline int is_kept(Spare *spare, PyObject *object)
     return 1;
 }
 
-/* A kept object as one of the class, or NULL. Behind its head it is as it was freed, but for the first pointer, which is NULL. */
-static inline PyObject *taken_of(Spare *spare, PyObject *class)
+/* A kept object, or NULL. It is as it was freed, with its class, but for the first pointer behind its head, which is NULL. Without PyObject_Init, which
+   takes some 20 instructions, tracemalloc sees where its block was allocated first. */
+static inline PyObject *taken_of(Spare *spare)
 {
     PyObject *object = spare->first;
     if (!object)
@@ -62,7 +63,7 @@ static inline PyObject *taken_of(Spare *spare, PyObject *class)
     spare->first = *behind_head(object);
     spare->count--;
     *behind_head(object) = NULL;
-    PyObject_Init(object, (PyTypeObject *)class);
+    Py_SET_REFCNT(object, 1);
     return object;
 }
 
@@ -104,10 +105,10 @@ static int view_str(PyObject *given, pep440_string *text)
     return 0;
 }
 
-/* Whether at both ends stand characters of ASCII that are no white space. */
+/* Whether at both ends stand characters of ASCII that are no white space; of no string without characters. */
 static inline int has_plain_ends(const char *bytes, Py_ssize_t length)
 {
-    return !length || ((unsigned char)(bytes[0] - '!') < 94 && (unsigned char)(bytes[length - 1] - '!') < 94);
+    return (unsigned char)(bytes[0] - '!') < 94 && (unsigned char)(bytes[length - 1] - '!') < 94;
 }
 
 /* The str without white space at its ends, as str.strip has it, and its bytes. */
@@ -128,20 +129,20 @@ static inline PyObject *stripped(PyObject *given, pep440_string *view)
 {
     Py_ssize_t length = 0;
     const char *bytes = PyUnicode_CheckExact(given) ? PyUnicode_AsUTF8AndSize(given, &length) : NULL;
-    if (!bytes || !has_plain_ends(bytes, length))
-        return strip(given, view);
-    *view = (pep440_string){(const uint8_t *)bytes, (size_t)length};
-    return Py_NewRef(given);
+    pep440_string found = {(const uint8_t *)bytes, (size_t)length}; /* so that the view can be held in registers */
+    PyObject *text = bytes && has_plain_ends(bytes, length) ? Py_NewRef(given) : strip(given, &found);
+    *view = found;
+    return text;
 }
 
 /* What gives the string of another library's version, or raises TypeError: set by the module of versions. */
 static PyObject *reader_of_others;
 
 /* The string that is read of what is given for a version, and its bytes. */
-static PyObject *text_of(PyObject *given, pep440_string *view)
+static inline PyObject *text_of(PyObject *given, pep440_string *view)
 {
     PyObject *text, *made;
-    if (PyUnicode_Check(given))
+    if (PyUnicode_CheckExact(given) || PyUnicode_Check(given))
         return stripped(given, view);
     if (PyObject_TypeCheck(given, HeldType))
         return is_initialised((Held *)given) && view_str(((Held *)given)->text, view) == 0 ? Py_NewRef(((Held *)given)->text) : NULL;

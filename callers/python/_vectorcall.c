@@ -6,7 +6,7 @@
 
 #include "_vectorcall.h"
 
-const size_t INIT_PLACE = offsetof(PyTypeObject, tp_init), NEW_PLACE = offsetof(PyTypeObject, tp_new);
+_Static_assert(INIT_PLACE == offsetof(PyTypeObject, tp_init) && NEW_PLACE == offsetof(PyTypeObject, tp_new), "where a type has them");
 
 void call_quickly(PyTypeObject *type, Vectorcall call, destructor free_it)
 {

@@ -5,4 +5,4 @@ typedef PyObject *(*Vectorcall)(PyObject *, PyObject *const *, size_t, PyObject 
 void call_quickly(PyTypeObject *type, Vectorcall call, destructor free_it);
 
 /* Where a type has its `__init__` and its `__new__`. */
-extern const size_t INIT_PLACE, NEW_PLACE;
+enum { INIT_PLACE = 37 * sizeof(void *), NEW_PLACE = 39 * sizeof(void *) };

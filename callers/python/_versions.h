@@ -1,5 +1,11 @@
 /* The type of versions. */
 
+/* Whether anything was made of the string: `prints` is made of `normal`. */
+static inline int has_made(const Held *self)
+{
+    return ((uintptr_t)self->key | (uintptr_t)self->parts | (uintptr_t)self->normal | (uintptr_t)self->compiled) != 0;
+}
+
 /* Drops what was made of the string. */
 __attribute__((noinline)) static void drop_made(Held *self)
 {
@@ -18,30 +24,28 @@ static int raise_no_str(PyObject *given)
     return -1;
 }
 
-/* Reads the string, also where one was read before. The old one stays where this one is no version. */
-static inline int read_version(Held *self, PyObject *given)
+/* Reads the string. What is not new may have read one before, which stays where this one is no version. */
+static inline int read_version(Held *self, PyObject *given, int is_new)
 {
-    PyObject *text;
+    PyObject *text, *old = is_new ? NULL : self->text;
     pep440_string string;
-    uint64_t word = 0;
     uint8_t status;
     if (!PyUnicode_CheckExact(given) && !PyUnicode_Check(given))
         return raise_no_str(given);
     text = stripped(given, &string);
     if (!text)
         return -1;
-    status = pep440_word(string.bytes, string.length, &word);
+    status = pep440_word(string.bytes, string.length, &self->word); /* where it fails, the word stays */
     if (status != PEP440_OK && status != PEP440_NOT_PACKED) {
         Py_DECREF(text);
         raise_by(status, given, NULL);
         return -1;
     }
-    self->word = word;
     self->is_by_word = status == PEP440_OK;
     self->has_own_key = 0;
-    if (self->text) {
+    if (old) {
         drop_made(self);
-        Py_DECREF(self->text);
+        Py_DECREF(old);
     }
     self->text = text;
     return 0;
@@ -55,7 +59,7 @@ static int held_init(Held *self, PyObject *args, PyObject *named)
         given = PyTuple_GetItem(args, 0);
     else if (!PyArg_ParseTupleAndKeywords(args, named, "O:Version", names, &given))
         return -1;
-    return read_version(self, given);
+    return read_version(self, given, 0);
 }
 
 /* The highest bit of a count of arguments is the caller's. */
@@ -89,8 +93,16 @@ __attribute__((noinline)) static PyObject *call_type(PyObject *type, PyObject *c
     return made;
 }
 
-/* Freed versions. */
+/* Freed versions, none of a subclass. */
 static Spare spare_versions;
+
+__attribute__((noinline)) static Held *empty_version(PyObject *type)
+{
+    Held *made = PyObject_New(Held, (PyTypeObject *)type);
+    if (made)
+        memset(&made->text, 0, offsetof(Held, few) - offsetof(Held, text));
+    return made;
+}
 
 /* Version(string) without a tuple; subclasses are not called by this. */
 static PyObject *held_call(PyObject *type, PyObject *const *args, size_t flagged_count, PyObject *names)
@@ -98,14 +110,10 @@ static PyObject *held_call(PyObject *type, PyObject *const *args, size_t flagged
     Held *made;
     if (!takes_one(type, flagged_count, names, held_init))
         return call_type(type, args, flagged_count, names);
-    made = (Held *)taken_of(&spare_versions, type);
-    if (!made) {
-        made = PyObject_New(Held, (PyTypeObject *)type);
-        if (!made)
-            return NULL;
-        memset(&made->text, 0, offsetof(Held, few) - offsetof(Held, text));
-    }
-    if (read_version(made, args[0]) < 0)
+    made = (Held *)taken_of(&spare_versions);
+    if (!made && !(made = empty_version(type)))
+        return NULL;
+    if (read_version(made, args[0], 1) < 0)
         Py_CLEAR(made);
     return (PyObject *)made;
 }
@@ -132,17 +140,30 @@ static int compile_held(Held *self)
     return self->compiled ? 0 : -1;
 }
 
-static void held_free(Held *self)
+/* Frees one of any class, of which anything may have been made. One that is kept keeps its class. */
+__attribute__((noinline)) static void free_version(Held *self)
 {
     PyTypeObject *type = Py_TYPE((PyObject *)self);
-    if (self->key || self->parts || self->normal || self->compiled)
+    if (has_made(self))
         drop_made(self);
     Py_XDECREF(self->text);
     if (type != HeldType)
         ((freefunc)PyType_GetSlot(type, Py_tp_free))(self);
-    else if (!is_kept(&spare_versions, (PyObject *)self))
+    else if (is_kept(&spare_versions, (PyObject *)self))
+        return;
+    else
         PyObject_Free(self);
     Py_DECREF(type);
+}
+
+/* Each call is the last thing done, so that no register is saved. */
+static void held_free(Held *self)
+{
+    PyObject *text = self->text;
+    if (has_made(self) || Py_TYPE((PyObject *)self) != HeldType || !is_kept(&spare_versions, (PyObject *)self))
+        free_version(self);
+    else
+        Py_XDECREF(text);
 }
 
 /* Keeps what was made where nothing is kept yet, and gives what is kept, borrowed. */
