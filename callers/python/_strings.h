@@ -105,10 +105,10 @@ static int view_str(PyObject *given, pep440_string *text)
     return 0;
 }
 
-/* Whether at both ends stand characters of ASCII that are no white space; of no string without characters. */
+/* Whether at both ends stand characters of ASCII that are no white space, or none at all: then the first byte is the zero behind the end. */
 static inline int has_plain_ends(const char *bytes, Py_ssize_t length)
 {
-    return (unsigned char)(bytes[0] - '!') < 94 && (unsigned char)(bytes[length - 1] - '!') < 94;
+    return ((unsigned char)(bytes[0] - '!') < 94 && (unsigned char)(bytes[length - 1] - '!') < 94) || !length;
 }
 
 /* The str without white space at its ends, as str.strip has it, and its bytes. */
