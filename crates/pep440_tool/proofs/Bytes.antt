@@ -1,14 +1,18 @@
 -- Beginnings of a list of bytes, and bytes that were written one part after another.
-use Rattle.std.proofs.Common.{◌≡◌, ◌+◌, ◌-◌, ℕ, List, Option, sym, subst, length, take, drop, arith, take-append-drop, length-drop}
+use Rattle.std.proofs.Common.{◌≡◌, ◌+◌, ◌-◌, ℕ, List, [], Option, refl, sym, subst, length, take, drop, arith, take-append-drop, length-drop}
 use Rattle.std.proofs.lemmas.List.{take_all}
 use Rattle.std.specs.Io.KnownBytes.{Appends}
-use Rattle.std.proofs.KnownBytes.{Appends-trans}
+use Rattle.std.proofs.KnownBytes.{Appends-trans, Appends-nil}
 use Rattle.std.proofs.Math.Seq.{take-add}
 use Rattle.pep440_tool.specs.Streams.{WroteBeginning}
 
 -- what was written is the first n bytes
 pub WroteBeginning-take : (a b : Option (List ℕ)) (n : ℕ) (all : List ℕ) → Appends a b (take n all) → WroteBeginning a b all
 WroteBeginning-take a b n all wrote = record { written = take n all; left = drop n all; wrote = wrote; whole = sym (take-append-drop n all) }
+
+-- nothing was written
+pub WroteBeginning-none : (a : Option (List ℕ)) (all : List ℕ) → WroteBeginning a a all
+WroteBeginning-none a all = record { written = []; left = all; wrote = Appends-nil a; whole = refl }
 
 -- the rest of a slice from `at` on
 pub rest_is : (bs : List ℕ) (at : ℕ) → take (length bs - at) (drop at bs) ≡ drop at bs

@@ -5,8 +5,9 @@ use Rattle.pyver_findings.specs.Views.{file_of, report_of}
 use Rattle.pyver_projects.specs.Comparing.{IsDocumentsReport}
 use Rattle.pyver_projects.specs.Meanings.{Document}
 use Rattle.pyver_projects.specs.ProjectViews.{document_of}
+use Rattle.pyver_tool.specs.CheckViews.{check_result_of}
 use Rattle.pyver_tool.specs.Checks.{with_report}
-use Rattle.pyver_tool.specs.FileSteps.{read_of}
+use Rattle.pyver_tool.specs.FileSteps.{read_of, unopened_file_of}
 use Rattle.pyver_tool.proofs.check.CheckResult.check_group.Goals as goal
 
 pub returns-clause-checked : goal.returns-clause-checked
@@ -15,4 +16,4 @@ returns-clause-checked g c =
     let s = report_of c.in_ok-find_document_problems.field-0 in
     let lines = subst (λ (fs : List File). IsReport fs r) (ap (map file_of) c.as_slice.ensures.value) c.in_ok-report.ensures in
     let documents = subst (λ (ds : List Document). IsDocumentsReport ds s) (ap (map document_of) c.as_slice-2.ensures.value) c.in_ok-find_document_problems.ensures in
-    (read_of c.in_ok-read.read, c.in_ok-read.ensures.read, (r, s, lines, documents, c.in_ok-push.ensures ∙ ap (with_report _ _) c.in_ok-append.ensures))
+    (read_of c.in_ok-read.read, c.in_ok-read.ensures.read, (r, s, lines, documents, c.in_ok-push.ensures ∙ ap (with_report (map unopened_file_of c.in_ok-read.read.unopened.items) (check_result_of c.args.self.now)) c.in_ok-append.ensures))
