@@ -1,5 +1,5 @@
 -- What the views of compiled versions say; no public clause cites it.
-use Rattle.std.specs.Prelude.{◌≡◌, ◌++◌, ◌∷◌, [], is_some}
+use Rattle.std.specs.Prelude.{◌≡◌, ◌++◌, ◌∷◌, [], Bool, true, false, is_some}
 use Rattle.std.specs.List.{flat_map}
 use Rattle.pep440_compiled.specs.KeyParts.{ending_zeros, base_bytes, public_bytes, suffix_bytes}
 use Rattle.pep440_compiled.specs.Version.{IsParsed}
@@ -8,6 +8,8 @@ use Rattle.pep440_compiled.specs.declared.views.PartsView.{PartsView}
 use Rattle.pep440_compiled.specs.declared.views.VersionView.{VersionView}
 use Rattle.pep440_keys.specs.SortKeys.{key_bytes, local_bytes, number_bytes}
 use Rattle.pep440_rs.specs.Matching.{any_prerelease, has_local}
+use Rattle.pep440_rs.specs.declared.specifier.operator.Operator.{Operator}
+use Rattle.pep440_rs.specs.declared.specifier.operator.Operator.TheVariants.{EqualStar, ExactEqual, NotEqualStar, TildeEqual}
 use Rattle.pep440_version.specs.Record.{Record}
 use Rattle.pep440_version.specs.Trim.{trim}
 
@@ -35,3 +37,11 @@ pub record HasCheckedParts (version : CheckedVersion) (r : Record) : Type 0 wher
   pub post : version.suffix.post ≡ r.post
   pub dev : version.suffix.dev ≡ r.dev
   pub local : version.local.now ≡ local_bytes r.local
+
+-- the operator only compares a version with the one after it
+abbrev pub is_compared : Operator → Bool
+is_compared EqualStar = false
+is_compared ExactEqual = false
+is_compared NotEqualStar = false
+is_compared TildeEqual = false
+is_compared _ = true

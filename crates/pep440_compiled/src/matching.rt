@@ -2,7 +2,7 @@
 ghost use Rattle.std.specs.Prelude.{◌≡◌, ◌≤◌, ◌<◌, ◌++◌, ◌∷◌, ◌&&◌, ◌==◌, [], ℕ, List, false, true, is_some, length, nat_eq, MatchOption, IfSome};
 ghost use Rattle.pep440_compiled.specs.KeyParts.{begins_with_ones, continues_with_zeros, ending_zeros, base_bytes, suffix_bytes};
 ghost use Rattle.pep440_compiled.specs.Version.{IsParsed};
-ghost use Rattle.pep440_compiled.specs.KeyViews.{HasParts, IsViewOf};
+ghost use Rattle.pep440_compiled.specs.KeyViews.{HasParts, IsViewOf, is_compared};
 ghost use Rattle.pep440_keys.specs.SortKeys.{key_bytes, local_bytes};
 ghost use Rattle.pep440_rs.specs.Matching.{begins_with, candidate, has_local, has_prefix, is_early, is_late, matches, same_release, without_last};
 ghost use Rattle.pep440_rs.specs.Specifiers.{IsSpec};
@@ -147,6 +147,25 @@ fn is_compatible(specifier: &PartsView<'_>, version: &[u8]) -> bool
     }
 }
 
+// The same of the star forms, `===` and `~=`, by copies: so what the caller has in registers stays there for the other operators.
+fn matches_other(operator: Operator, specifier: PartsView<'_>, version: PartsView<'_>) -> bool
+    requires { is_compared operator ≡ false }
+    ensures { (s v : Record) → HasParts specifier.entry s → HasParts version.entry v → IsSpec (record { operator = operator; version = s }) → result ≡ matches operator s v }
+{
+    let key = version.version.key;
+    match operator {
+        Operator::EqualStar => has_release(&specifier, key),
+        Operator::NotEqualStar => !has_release(&specifier, key),
+        Operator::ExactEqual => {
+            key == specifier.version.key && version.version.zeros == specifier.version.zeros
+        }
+        Operator::TildeEqual => {
+            is_compatible(&specifier, key) && cmp_candidate(&specifier, &version).is_ge()
+        }
+        _ => false,
+    }
+}
+
 // Whether the specifier contains the version.
 #[inline(always)]
 pub(crate) fn matches_bytes(
@@ -156,25 +175,17 @@ pub(crate) fn matches_bytes(
 ) -> bool
     ensures { (s v : Record) → HasParts specifier.now s → HasParts version.now v → IsSpec (record { operator = operator; version = s }) → result ≡ matches operator s v }
 {
-    let key = version.version.key;
     match operator {
         Operator::Equal => cmp_candidate(specifier, version).is_eq(),
         Operator::NotEqual => !cmp_candidate(specifier, version).is_eq(),
         Operator::GreaterThanEqual => cmp_candidate(specifier, version).is_ge(),
         Operator::LessThanEqual => cmp_candidate(specifier, version).is_le(),
-        Operator::EqualStar => has_release(specifier, key),
-        Operator::NotEqualStar => !has_release(specifier, key),
-        Operator::ExactEqual => {
-            key == specifier.version.key && version.version.zeros == specifier.version.zeros
-        }
-        Operator::TildeEqual => {
-            is_compatible(specifier, key) && cmp_candidate(specifier, version).is_ge()
-        }
         Operator::LessThan => {
             cmp_candidate(specifier, version).is_lt() && !is_early(specifier, version)
         }
         Operator::GreaterThan => {
             cmp_candidate(specifier, version).is_gt() && !is_late(specifier, version)
         }
+        _ => matches_other(operator, *specifier, *version),
     }
 }
