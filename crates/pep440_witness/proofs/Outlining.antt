@@ -1,21 +1,19 @@
 -- The outline of a member contains what the member contains, and its range agrees with it.
-use Rattle.std.proofs.Common.{◌≡◌, ◌≢◌, ◌⊎◌, inl, inr, ◌<◌, ◌==◌, ℕ, Bool, true, false, not, ◌&&◌, ◌||◌, List, [], ◌∷◌, length, get_or, is_some, IsTrue, cond, refl, sym, ap, ◌∙◌, subst, arith}
+use Rattle.std.proofs.Common.{◌≡◌, ◌≢◌, ◌⊎◌, inl, inr, ◌<◌, ◌==◌, ℕ, Bool, true, false, not, ◌&&◌, ◌||◌, List, [], ◌∷◌, length, is_some, IsTrue, cond, refl, sym, ap, ◌∙◌, subst, arith}
 use mathlib.Core.Bool.{true≢false}
 use Rattle.std.proofs.lemmas.Bool.Decides.{nat_tests}
-use Rattle.std.proofs.lemmas.List.Elements.{All-get_or}
-use Rattle.std.proofs.lemmas.List.Sums.{AllPass-from_list_all}
 use Rattle.std.specs.Ordering.{is_lt, is_le, is_gt, is_ge, is_eq}
 use Rattle.std.specs.declared.cmp.Ordering.{Ordering}
 use Rattle.std.specs.declared.cmp.Ordering.TheVariants as ord
 use Rattle.pep440_rs.proofs.Agreement.Single.{alone_holds, others_hold}
 use Rattle.pep440_rs.specs.Agreement.{HasOperand, IsSuffixComparable}
-use Rattle.pep440_rs.specs.Matching.{any_prerelease, candidate, has_local, has_prefix, list_matches, matches, same_release, without_last}
+use Rattle.pep440_rs.specs.Matching.{any_prerelease, candidate, has_local, has_prefix, matches, same_release, without_last}
 use Rattle.pep440_rs.specs.Specifiers.{Spec}
 use Rattle.pep440_rs.specs.declared.specifier.operator.Operator.{Operator}
 use Rattle.pep440_rs.specs.declared.specifier.operator.Operator.TheVariants.{Equal, EqualStar, ExactEqual, NotEqual, NotEqualStar, TildeEqual, LessThan, LessThanEqual, GreaterThan, GreaterThanEqual}
 use Rattle.pep440_version.specs.Key.{record_cmp}
 use Rattle.pep440_version.specs.Record.{LocalSegmentValue, Record}
-use Rattle.pep440_witness.specs.Outlines.{HoldsList, IsOutline, IsOutlineOf, weaker, without_local}
+use Rattle.pep440_witness.specs.Outlines.{IsInRange, IsOutline, weaker, without_local}
 
 -- ---- suffixes
 
@@ -155,45 +153,27 @@ weakens GreaterThanEqual s v p n h = sym (ap (λ c. is_ge (record_cmp c s)) (sam
 pub is_outline : (op : Operator) (s : Record) → Given op s → op ≢ ExactEqual → s.local ≡ [] → IsOutline (record { operator = op; version = s }) (record { operator = weaker op s; version = s })
 is_outline op s g n p = (record { operand = operand op s g; operator = inexact op s n; suffixes = suffixes op s }, λ v h. weakens op s v p n h)
 
--- a member contains what the list contains
-pub member_contains : (members : List Spec) (i : ℕ) (m : Spec) → i < length members → m ≡ get_or members i m → (v : Record) → IsTrue (list_matches members v) → IsTrue (matches m.operator m.version v)
-member_contains members i m inside is v h =
-    subst (λ (k : Spec). IsTrue (matches k.operator k.version v)) (sym is)
-    (All-get_or (λ (k : Spec). matches k.operator k.version v ≡ true) members i m inside (AllPass-from_list_all (λ (k : Spec). matches k.operator k.version v) members h))
-
-pub outline_of : (members : List Spec) (i : ℕ) (m k : Spec) → i < length members → m ≡ get_or members i m → IsOutline m k → IsOutlineOf members k
-outline_of members i m k inside is o = (o.0, λ v h. o.1 v (member_contains members i m inside is v h))
-
 -- ---- members with a local part
 
 own_candidate : (s v : Record) → has_local s ≡ true → candidate s v ≡ v
 own_candidate s v h = ap (λ b. cond b v (record v { local = [] })) h
 
-and_only : (a : Bool) → a && true ≡ true → a ≡ true
-and_only true h = refl
-and_only false h = h
+names_local_equal : (s : Record) → has_local s ≡ true → IsInRange (record { operator = Equal; version = s })
+names_local_equal s l v h = alone_holds s v ∙ ap (λ c. is_eq (record_cmp c s)) (sym (own_candidate s v l)) ∙ h
 
-names_local_equal : (s : Record) → has_local s ≡ true → HoldsList (record { operator = Equal; version = s } ∷ []) (record { operator = Equal; version = s })
-names_local_equal s l v h = alone_holds s v ∙ ap (λ c. is_eq (record_cmp c s)) (sym (own_candidate s v l)) ∙ and_only (matches Equal s v) h
-
-names_local_other : (s : Record) → has_local s ≡ true → HoldsList (record { operator = NotEqual; version = s } ∷ []) (record { operator = NotEqual; version = s })
-names_local_other s l v h = others_hold s v ∙ ap (λ c. not (is_eq (record_cmp c s))) (sym (own_candidate s v l)) ∙ and_only (matches NotEqual s v) h
-
-pub local_of : (members : List Spec) (i : ℕ) (m : Spec) → i < length members → m ≡ get_or members i m → HoldsList (m ∷ []) m → HoldsList members m
-local_of members i m inside is o v h = o v (ap (λ b. b && true) (member_contains members i m inside is v h))
+names_local_other : (s : Record) → has_local s ≡ true → IsInRange (record { operator = NotEqual; version = s })
+names_local_other s l v h = others_hold s v ∙ ap (λ c. not (is_eq (record_cmp c s))) (sym (own_candidate s v l)) ∙ h
 
 positive : (n : ℕ) → 0 < n → not (n == 0) ≡ true
 positive n h = grind (arith, nat_tests)
 
-named_equal : (m : Spec) → m.operator ≡ Equal → 0 < length m.version.local → HoldsList (m ∷ []) m
-named_equal m e l =
-    subst (λ (k : Spec). HoldsList (k ∷ []) k) (λ i. record { operator = sym e i; version = m.version }) (names_local_equal m.version (positive (length m.version.local) l))
+named_equal : (m : Spec) → m.operator ≡ Equal → 0 < length m.version.local → IsInRange m
+named_equal m e l = subst IsInRange (λ i. record { operator = sym e i; version = m.version }) (names_local_equal m.version (positive (length m.version.local) l))
 
-named_other : (m : Spec) → m.operator ≡ NotEqual → 0 < length m.version.local → HoldsList (m ∷ []) m
-named_other m e l =
-    subst (λ (k : Spec). HoldsList (k ∷ []) k) (λ i. record { operator = sym e i; version = m.version }) (names_local_other m.version (positive (length m.version.local) l))
+named_other : (m : Spec) → m.operator ≡ NotEqual → 0 < length m.version.local → IsInRange m
+named_other m e l = subst IsInRange (λ i. record { operator = sym e i; version = m.version }) (names_local_other m.version (positive (length m.version.local) l))
 
-pub named : (m : Spec) (o : Operator) → m.operator ≡ o → (o ≡ Equal) ⊎ (o ≡ NotEqual) → 0 < length m.version.local → HoldsList (m ∷ []) m
+pub named : (m : Spec) (o : Operator) → m.operator ≡ o → (o ≡ Equal) ⊎ (o ≡ NotEqual) → 0 < length m.version.local → IsInRange m
 named m o is (inl e) l = named_equal m (is ∙ e) l
 named m o is (inr e) l = named_other m (is ∙ e) l
 

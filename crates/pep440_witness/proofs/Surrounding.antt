@@ -1,45 +1,31 @@
 -- Ranges around a list: what their members' ranges hold, and that what lies outside is not contained.
-use Rattle.std.proofs.Common.{◌≡◌, Bool, true, false, ◌&&◌, ◌||◌, List, [], ◌∷◌, ◌==◌, arith, length, map, Option, Some, None, IsTrue, is_some, cond, refl, sym, ap, ◌∙◌, subst}
+use Rattle.std.proofs.Common.{◌≡◌, ℕ, Bool, true, false, ◌&&◌, ◌||◌, List, [], ◌∷◌, ◌++◌, ◌==◌, arith, drop, length, map, take, Option, Some, None, IsTrue, is_some, cond, refl, sym, ap, ◌∙◌, subst}
 use mathlib.Core.Bool.{true≢false}
 use Rattle.std.proofs.lemmas.Bool.Decides.{nat_tests}
-use Rattle.std.proofs.lemmas.List.Elements.{All-head, All-tail, All-weaker}
-use Rattle.std.proofs.lemmas.List.Sorted.{All-permutation}
-use Rattle.std.specs.List.{All, find, list_all}
-use Rattle.std.specs.List.Sorted.{IsPermutation}
-use Rattle.std.specs.Option.{option_map_or}
+use Rattle.std.proofs.lemmas.List.{take-append-drop}
+use Rattle.std.proofs.lemmas.List.Folds.{list_all-append}
+use Rattle.std.specs.List.{find}
 use Rattle.pep440_ranges.specs.RangeSegments.{IsRange, Segment, contains}
-use Rattle.pep440_rs.specs.Agreement.{HasNoLocalOrSentinel, HasOperand, HoldsInEach, IsCandidate, ListAgrees}
-use Rattle.pep440_rs.specs.Bounds.{Segments, range_of}
+use Rattle.pep440_rs.specs.Agreement.{HasNoLocalOrSentinel}
+use Rattle.pep440_rs.specs.Bounds.{Segments}
 use Rattle.pep440_rs.specs.Matching.{list_matches, matches}
 use Rattle.pep440_rs.specs.Specifiers.{Spec}
 use Rattle.pep440_version.specs.Key.{record_cmp}
 use Rattle.pep440_version.specs.Record.{Record, from_release}
 use Rattle.pep440_version.specs.RoundTrip.{RoundTrips}
 use Rattle.pep440_witness.proofs.Denoted.{Each, each_of_flat, points_again}
-use Rattle.pep440_witness.specs.Outlines.{Agreeing, HoldsAgreeing, HoldsCommon, HoldsList, HoldsLocal, HoldsPublic, IsHeld, IsOutlineOf, Surrounds, is_marked, may_contain, without_local}
+use Rattle.pep440_witness.specs.Outlines.{HoldsAgreeing, HoldsLocal, HoldsPublic, HoldsRange, IsInRange, IsOutline, Surrounds, is_marked, may_contain, without_local}
 use Rattle.pep440_witness.specs.Probes.{beside_probes, longest, points, versions}
 
-all_match : (f : Spec → Bool) (members : List Spec) → All (λ m. IsTrue (f m)) members → list_all f members ≡ true
-all_match f [] all = refl
-all_match f (m ∷ members) all = and_true (f m) (list_all f members) (All-head (λ m. IsTrue (f m)) m members all) (all_match f members (All-tail (λ m. IsTrue (f m)) m members all))
-  where
-    and_true : (a b : Bool) → a ≡ true → b ≡ true → a && b ≡ true
-    and_true true b h k = k
-    and_true false b h k = h
+and_true : (a b : Bool) → a ≡ true → b ≡ true → a && b ≡ true
+and_true true b h k = k
+and_true false b h k = h
 
--- ---- the range of specifiers, in whatever order
+both : (a b : Bool) → a && b ≡ true → (a ≡ true) × (b ≡ true)
+both true b h = (refl, h)
+both false b h = absurd (true≢false (sym h))
 
-pub agreeing : (given list : List Spec) (range : Segments) → IsPermutation given list → (All HasOperand list → ListAgrees IsCandidate list range) → HoldsAgreeing given range
-agreeing given list range same agrees operands v all =
-    let there = All-permutation (Agreeing v) given list same all in
-    agrees (All-permutation HasOperand given list same operands) v (All-weaker (Agreeing v) (λ m. IsCandidate m v) (λ m a. a.0) list there)
-    ∙ all_match (λ m. matches m.operator m.version v) list (All-weaker (Agreeing v) (λ m. IsTrue (matches m.operator m.version v)) (λ m a. a.1) list there)
-
-pub common : (given list : List Spec) (range : Segments) → IsPermutation given list → HoldsInEach range_of list range → HoldsCommon given range
-common given list range same holds v all =
-    holds v ∙ all_match (λ m. option_map_or (λ r. contains record_cmp r v) (range_of m.operator m.version) false) list (All-permutation (IsHeld v) given list same all)
-
--- ---- the range of outlines
+-- ---- the ranges of one member
 
 no_or_left : (a b : Bool) → a || b ≡ false → a ≡ false
 no_or_left true b h = h
@@ -60,14 +46,39 @@ bare v h = record {
   max = is_none v.max (no_or_right (is_some v.min) (is_some v.max) h);
 }
 
-pub public_held : (members kept : List Spec) (range : Segments) → All (IsOutlineOf members) kept → HoldsAgreeing kept range → HoldsPublic members range
-public_held members kept range all holds v unmarked matched =
-    holds (All-weaker (IsOutlineOf members) HasOperand (λ k o. o.0.operand) kept all) (without_local v)
-    (All-weaker (IsOutlineOf members) (Agreeing (without_local v))
-    (λ k o. (record { operator = o.0.operator; plain = bare v unmarked; suffixes = o.0.suffixes (without_local v) }, o.1 v matched)) kept all)
+only : (m : Spec) (v : Record) → IsTrue (list_matches (m ∷ []) v) → IsTrue (matches m.operator m.version v)
+only m v h = (both (matches m.operator m.version v) true h).0
 
-pub local_held : (members kept : List Spec) (range : Segments) → All (HoldsList members) kept → HoldsCommon kept range → HoldsLocal members range
-local_held members kept range all holds v matched = holds v (All-weaker (HoldsList members) (IsHeld v) (λ k o. o v matched) kept all)
+pub public_held : (m k : Spec) (range : Segments) → IsOutline m k → HoldsAgreeing k range → HoldsPublic (m ∷ []) range
+public_held m k range o holds v unmarked matched =
+    holds o.0.operand (without_local v) (record { operator = o.0.operator; plain = bare v unmarked; suffixes = o.0.suffixes (without_local v) }, o.1 v (only m v matched))
+
+pub local_held : (m : Spec) (range : Segments) → IsInRange m → HoldsRange m range → HoldsLocal (m ∷ []) range
+local_held m range inside holds v matched = holds v (inside v (only m v matched))
+
+-- ---- the ranges of two halves
+
+in_halves : (members front back : List Spec) (n : ℕ) (v : Record) → front ≡ take n members → back ≡ drop n members →
+    IsTrue (list_matches members v) → IsTrue (list_matches front v) × IsTrue (list_matches back v)
+in_halves members front back n v f b matched =
+    let whole : front ++ back ≡ members = ap (λ xs. xs ++ back) f ∙ ap (λ ys. take n members ++ ys) b ∙ take-append-drop n members in
+    both (list_matches front v) (list_matches back v)
+    (sym (list_all-append (λ (m : Spec). matches m.operator m.version v) front back) ∙ ap (λ ms. list_matches ms v) whole ∙ matched)
+
+abbrev Meets : Segments → Segments → Segments → Type 0
+Meets a b range = (v : Record) → contains record_cmp range v ≡ contains record_cmp a v && contains record_cmp b v
+
+pub public_of_halves : (members front back : List Spec) (n : ℕ) (a b range : Segments) → front ≡ take n members → back ≡ drop n members →
+    HoldsPublic front a → HoldsPublic back b → Meets a b range → HoldsPublic members range
+public_of_halves members front back n a b range f k here there meets v unmarked matched =
+    let each = in_halves members front back n v f k matched in
+    meets (without_local v) ∙ and_true (contains record_cmp a (without_local v)) (contains record_cmp b (without_local v)) (here v unmarked each.0) (there v unmarked each.1)
+
+pub local_of_halves : (members front back : List Spec) (n : ℕ) (a b range : Segments) → front ≡ take n members → back ≡ drop n members →
+    HoldsLocal front a → HoldsLocal back b → Meets a b range → HoldsLocal members range
+local_of_halves members front back n a b range f k here there meets v matched =
+    let each = in_halves members front back n v f k matched in
+    meets v ∙ and_true (contains record_cmp a v) (contains record_cmp b v) (here v each.0) (there v each.1)
 
 -- ---- versions outside
 

@@ -1,6 +1,5 @@
 -- Ranges around a list: one holds every version that the list contains, without its local part, and one holds it with that part.
 use Rattle.std.specs.Prelude.{◌≡◌, ◌≢◌, ◌&&◌, ◌||◌, not, Bool, false, List, [], is_some, IsTrue, if◌then◌else◌}
-use Rattle.std.specs.List.{All}
 use Rattle.std.specs.Option.{option_map_or}
 use Rattle.pep440_ranges.specs.RangeSegments.{IsRange, contains}
 use Rattle.pep440_rs.specs.Agreement.{HasOperand, IsCandidate, IsSuffixComparable}
@@ -39,17 +38,13 @@ pub record IsComparable (k : Spec) : Type 0 where
 abbrev pub IsOutline : Spec → Spec → Type 0
 IsOutline m k = IsComparable k × ((v : Record) → IsTrue (matches m.operator m.version v) → IsTrue (matches k.operator k.version (without_local v)))
 
--- the same of what the list contains
-abbrev pub IsOutlineOf : List Spec → Spec → Type 0
-IsOutlineOf members k = IsComparable k × ((v : Record) → IsTrue (list_matches members v) → IsTrue (matches k.operator k.version (without_local v)))
-
 -- the range of k holds v
 abbrev pub IsHeld : Record → Spec → Type 0
 IsHeld v k = IsTrue (option_map_or (λ r. contains record_cmp r v) (range_of k.operator k.version) false)
 
--- the range of k holds what the list contains
-abbrev pub HoldsList : List Spec → Spec → Type 0
-HoldsList members k = (v : Record) → IsTrue (list_matches members v) → IsHeld v k
+-- the range of k holds what k contains
+abbrev pub IsInRange : Spec → Type 0
+IsInRange k = (v : Record) → IsTrue (matches k.operator k.version v) → IsHeld v k
 
 -- ---- ranges
 
@@ -57,12 +52,12 @@ HoldsList members k = (v : Record) → IsTrue (list_matches members v) → IsHel
 abbrev pub Agreeing : Record → Spec → Type 0
 Agreeing v k = IsCandidate k v × IsTrue (matches k.operator k.version v)
 
--- the range holds what all of these contain, and what the range of each holds
-abbrev pub HoldsAgreeing : List Spec → Segments → Type 0
-HoldsAgreeing specifiers range = All HasOperand specifiers → (v : Record) → All (Agreeing v) specifiers → IsTrue (contains record_cmp range v)
+-- the range holds what k contains and the range of k agrees at, and what the range of k holds
+abbrev pub HoldsAgreeing : Spec → Segments → Type 0
+HoldsAgreeing k range = HasOperand k → (v : Record) → Agreeing v k → IsTrue (contains record_cmp range v)
 
-abbrev pub HoldsCommon : List Spec → Segments → Type 0
-HoldsCommon specifiers range = (v : Record) → All (IsHeld v) specifiers → IsTrue (contains record_cmp range v)
+abbrev pub HoldsRange : Spec → Segments → Type 0
+HoldsRange k range = (v : Record) → IsHeld v k → IsTrue (contains record_cmp range v)
 
 -- the range holds, without its local part, every version without sentinels that the list contains
 abbrev pub HoldsPublic : List Spec → Segments → Type 0

@@ -9,7 +9,7 @@ ghost use Rattle.pep440_witness.specs.Probes.{around, beside_probes, first_match
 
 use crate::beside::{push_beside, raise};
 use crate::near::{after_prefix, push_around};
-use crate::range_around::{local_range, public_range};
+use crate::range_around::ranges_around;
 use crate::search::list_segments;
 use crate::surround::{Surround, contains};
 use pep440_rs::{Ranges, VersionSpecifier};
@@ -183,9 +183,8 @@ fn first_between(
 fn first_match(alloc: Global, members: &[VersionSpecifier]) -> Result<Option<Version>, AllocError>
     ensures { IfOk result (λ found. found ≡ first_match members.now) }
 {
-    let public = public_range(alloc, members)?;
-    let local = local_range(alloc, members)?;
-    first_between(alloc, &public, &local, members)
+    let around = ranges_around(alloc, members)?;
+    first_between(alloc, &around.public, &around.local, members)
 }
 
 /// A version that each member contains, or `None` if there is none that a string denotes (PEP 440, "Version specifiers"). It is the

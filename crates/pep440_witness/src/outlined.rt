@@ -1,13 +1,12 @@
 //! The members of a list whose ranges say what they contain, or little more.
-ghost use Rattle.std.specs.Prelude.{◌≡◌, ◌≢◌, ◌∷◌, [], IfOk, IfSome, IsTrue};
-ghost use Rattle.std.specs.List.{All};
+ghost use Rattle.std.specs.Prelude.{◌≡◌, ◌≢◌, [], IfOk, IfSome, IsTrue};
 ghost use Rattle.pep440_rs.specs.Agreement.{HasNoLocalOrSentinel, HasOperand};
 ghost use Rattle.pep440_rs.specs.Specifiers.{Spec};
 ghost use Rattle.pep440_version.specs.Record.{epoch_and_release};
-ghost use Rattle.pep440_witness.specs.Outlines.{HoldsList, IsHeld, IsOutline, IsOutlineOf, is_marked, weaker};
+ghost use Rattle.pep440_witness.specs.Outlines.{IsInRange, IsOutline, is_marked, weaker};
 
 use pep440_rs::{Operator, Version, VersionSpecifier};
-use std::alloc::{AllocError, Global};
+use std::alloc::AllocError;
 
 // Whether the version has a sentinel.
 pub(crate) fn is_marked(version: &Version) -> bool
@@ -65,7 +64,7 @@ fn weaker(operator: Operator, version: &Version) -> Operator
 }
 
 // A specifier that contains, without their local parts, the versions that the member contains, and whose range agrees with it.
-fn outline(member: &VersionSpecifier) -> Result<Option<VersionSpecifier>, AllocError>
+pub(crate) fn outline(member: &VersionSpecifier) -> Result<Option<VersionSpecifier>, AllocError>
     ensures { IfOk result (λ found. IfSome found (IsOutline member.now)) }
 {
     let (operator, version) = (*member.operator(), member.version());
@@ -76,43 +75,9 @@ fn outline(member: &VersionSpecifier) -> Result<Option<VersionSpecifier>, AllocE
     Ok(Some(VersionSpecifier::from_parts(operator, version.clone()?)))
 }
 
-#[tactic(auto, using(crate::proofs::Outlining::outline_of))]
-// Outlines of members.
-pub(crate) fn outlines(
-    alloc: Global,
-    members: &[VersionSpecifier],
-) -> Result<Vec<VersionSpecifier>, AllocError>
-    ensures { IfOk result (λ kept. All (IsOutlineOf members.now) kept.items) }
-{
-    let mut kept = Vec::new(alloc);
-    for member in members {
-        if let Some(outline) = outline(member)? {
-            kept.push(outline)?;
-        }
-    }
-    Ok(kept)
-}
-
 // Whether only the version itself, with its local part, is contained or left out.
-fn names_local(member: &VersionSpecifier) -> bool
-    ensures { IsTrue result → HoldsList (member.now ∷ []) member.now }
+pub(crate) fn names_local(member: &VersionSpecifier) -> bool
+    ensures { IsTrue result → IsInRange member.now }
 {
     member.version().is_local() && matches!(member.operator(), Operator::Equal | Operator::NotEqual)
-}
-
-#[tactic(auto, using(crate::proofs::Outlining::local_of))]
-// The members that contain or leave out one version with a local part.
-pub(crate) fn local_members(
-    alloc: Global,
-    members: &[VersionSpecifier],
-) -> Result<Vec<VersionSpecifier>, AllocError>
-    ensures { IfOk result (λ kept. All (HoldsList members.now) kept.items) }
-{
-    let mut kept = Vec::new(alloc);
-    for member in members {
-        if names_local(member) {
-            kept.push(member.clone()?)?;
-        }
-    }
-    Ok(kept)
 }

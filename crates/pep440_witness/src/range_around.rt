@@ -1,47 +1,74 @@
 //! Ranges around the versions that a list contains.
-ghost use Rattle.std.specs.Prelude.{◌≡◌, IfOk};
-ghost use Rattle.pep440_witness.specs.Outlines.{HoldsAgreeing, HoldsCommon, HoldsLocal, HoldsPublic};
+ghost use Rattle.std.specs.Prelude.{◌≡◌, ◌∷◌, [], IfOk};
+ghost use Rattle.pep440_witness.specs.Outlines.{HoldsAgreeing, HoldsLocal, HoldsPublic, HoldsRange};
 
-use crate::outlined::{local_members, outlines};
-use pep440_rs::{
-    RangeError, Ranges, Version, VersionSpecifier, VersionSpecifiers, specifiers_to_ranges,
-};
+use crate::outlined::{names_local, outline};
+use pep440_rs::{RangeError, Ranges, Version, VersionSpecifier, specifier_to_range};
 use std::alloc::{AllocError, Global};
 
-// The range of all the specifiers; all versions where a number in them cannot be raised.
-fn common_range(
-    alloc: Global,
-    specifiers: Vec<VersionSpecifier>,
-) -> Result<Ranges<Version>, AllocError>
-    ensures agreeing { IfOk result (HoldsAgreeing specifiers.items) }
-    ensures each { IfOk result (HoldsCommon specifiers.items) }
+// A range of what members contain, without local parts, and one of what they contain with them.
+#[derive(Drop)]
+pub(crate) struct RangesAround {
+    pub(crate) public: Ranges<Version>,
+    pub(crate) local: Ranges<Version>,
+}
+
+// The range of the specifier; all versions where a number in it cannot be raised.
+fn range_or_full(alloc: Global, specifier: VersionSpecifier) -> Result<Ranges<Version>, AllocError>
+    ensures agreeing { IfOk result (HoldsAgreeing specifier) }
+    ensures held { IfOk result (HoldsRange specifier) }
 {
-    let list = VersionSpecifiers::from_specifiers(alloc, specifiers)?;
-    match specifiers_to_ranges(alloc, list) {
+    match specifier_to_range(alloc, specifier) {
         Ok(range) => Ok(range),
         Err(RangeError::NumberAtMax) => Ranges::full(alloc),
         Err(RangeError::OutOfMemory) => Err(AllocError),
     }
 }
 
-#[tactic(auto, using(crate::proofs::Surrounding::public_held))]
-// A range of what the members contain, without local parts.
-pub(crate) fn public_range(
-    alloc: Global,
-    members: &[VersionSpecifier],
-) -> Result<Ranges<Version>, AllocError>
-    ensures { IfOk result (HoldsPublic members.now) }
+fn public_range(alloc: Global, member: &VersionSpecifier) -> Result<Ranges<Version>, AllocError>
+    ensures { IfOk result (HoldsPublic (member.now ∷ [])) }
 {
-    common_range(alloc, outlines(alloc, members)?)
+    match outline(member)? {
+        Some(outline) => range_or_full(alloc, outline),
+        None => Ranges::full(alloc),
+    }
 }
 
-#[tactic(auto, using(crate::proofs::Surrounding::local_held))]
-// A range of what they contain, with local parts.
-pub(crate) fn local_range(
+fn local_range(alloc: Global, member: &VersionSpecifier) -> Result<Ranges<Version>, AllocError>
+    ensures { IfOk result (HoldsLocal (member.now ∷ [])) }
+{
+    if names_local(member) {
+        range_or_full(alloc, member.clone()?)
+    } else {
+        Ranges::full(alloc)
+    }
+}
+
+// The ranges around what all members contain, by halves: at most one of each half is kept at a time.
+pub(crate) fn ranges_around(
     alloc: Global,
     members: &[VersionSpecifier],
-) -> Result<Ranges<Version>, AllocError>
-    ensures { IfOk result (HoldsLocal members.now) }
+) -> Result<RangesAround, AllocError>
+    ensures public { IfOk result (λ r. HoldsPublic members.now r.public) }
+    ensures local { IfOk result (λ r. HoldsLocal members.now r.local) }
 {
-    common_range(alloc, local_members(alloc, members)?)
+    match members {
+        [] => Ok(RangesAround {
+            public: Ranges::full(alloc)?,
+            local: Ranges::full(alloc)?,
+        }),
+        [member] => Ok(RangesAround {
+            public: public_range(alloc, member)?,
+            local: local_range(alloc, member)?,
+        }),
+        [_, _, ..] => {
+            let (front, back) = members.split_at(members.len() / 2);
+            let front = ranges_around(alloc, front)?;
+            let back = ranges_around(alloc, back)?;
+            Ok(RangesAround {
+                public: front.public.intersection(alloc, &back.public)?,
+                local: front.local.intersection(alloc, &back.local)?,
+            })
+        }
+    }
 }

@@ -68,7 +68,7 @@ fn push_group(
 }
 
 /// Adds what is wrong with these lines together, for each name, in the order in which names are first mentioned: a smallest list of lines
-/// that no version satisfies together, as `find_problems` reports it.
+/// that no version satisfies together, as `find_problems` reports it. Fails if memory runs out; then findings of some names may have been added.
 ///
 /// Allocates.
 pub fn push_conflicts(

@@ -43,16 +43,15 @@ fn push_line(
     alloc: Global,
     lines: &mut Vec<FileLine>,
     file: &[u8],
-    line: &LogicalLine,
+    line: LogicalLine,
 ) -> Result<(), AllocError>
-    ensures { IfOk result (λ _. map file_line_of lines.new.items ≡ map file_line_of lines.old.items ++ file_line file.now (logical_line_of line.now) ∷ []) }
+    ensures { IfOk result (λ _. map file_line_of lines.new.items ≡ map file_line_of lines.old.items ++ file_line file.now (logical_line_of line) ∷ []) }
 {
     let file = Vec::from_slice(alloc, file)?;
-    let text = Vec::from_slice(alloc, line.text.as_slice())?;
     lines.push(FileLine {
         file,
         number: line.number,
-        text,
+        text: line.text,
     })?;
     Ok(())
 }
@@ -61,9 +60,9 @@ fn push_lines(
     alloc: Global,
     lines: &mut Vec<FileLine>,
     file: &[u8],
-    found: &[LogicalLine],
+    found: Vec<LogicalLine>,
 ) -> Result<(), AllocError>
-    ensures { IfOk result (λ _. map file_line_of lines.new.items ≡ map file_line_of lines.old.items ++ map (file_line file.now) (map logical_line_of found.now)) }
+    ensures { IfOk result (λ _. map file_line_of lines.new.items ≡ map file_line_of lines.old.items ++ map (file_line file.now) (map logical_line_of found.items)) }
 {
     for line in found {
         push_line(alloc, lines, file, line)?;
@@ -75,7 +74,7 @@ fn push_file(alloc: Global, lines: &mut Vec<FileLine>, file: &SourceFile) -> Res
     ensures { IfOk result (λ _. map file_line_of lines.new.items ≡ map file_line_of lines.old.items ++ file_lines (file_of file.now)) }
 {
     let found = logical_lines(alloc, file.text.as_slice())?;
-    push_lines(alloc, lines, file.name.as_slice(), found.as_slice())
+    push_lines(alloc, lines, file.name.as_slice(), found)
 }
 
 // The logical lines of the files.
