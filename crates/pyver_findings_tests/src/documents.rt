@@ -1,20 +1,33 @@
 //! What is found in documents.
 use pyver_findings::{Conflict, FileLine, Finding, SourceFile};
-use pyver_projects::{Document, DocumentKind, LockKind, find_document_problems, kind_of_path};
+use pyver_projects::{
+    Document, DocumentKind, LockKind, find_document_problems, kind_of_path, kind_of_word,
+};
 use std::alloc::Global;
 use std::str;
 use testing::CaseError;
 
-/// A word for the kind of the document with this path; `-` stands for none.
-pub fn print_document_kind(alloc: Global, path: &str) -> Result<String, CaseError> {
-    let word = match kind_of_path(path.as_bytes()) {
+// A word for the kind; `-` stands for none.
+fn print_kind(alloc: Global, kind: Option<DocumentKind>) -> Result<String, CaseError> {
+    let word = match kind {
         Some(DocumentKind::Project) => "project",
         Some(DocumentKind::Lock(LockKind::Pylock)) => "pylock",
         Some(DocumentKind::Lock(LockKind::Uv)) => "uv",
         Some(DocumentKind::Lock(LockKind::Poetry)) => "poetry",
+        Some(DocumentKind::Lock(LockKind::Pipfile)) => "pipfile",
         None => "-",
     };
     Ok(String::from_str(alloc, word)?)
+}
+
+/// A word for the kind of the document with this path.
+pub fn print_document_kind(alloc: Global, path: &str) -> Result<String, CaseError> {
+    print_kind(alloc, kind_of_path(path.as_bytes()))
+}
+
+/// A word for the kind of document that this word names.
+pub fn print_named_kind(alloc: Global, word: &str) -> Result<String, CaseError> {
+    print_kind(alloc, kind_of_word(word))
 }
 
 // The document with this name, by its kind, and text.

@@ -7,7 +7,7 @@ mod lines;
 mod reports;
 mod strings;
 
-use documents::{print_document_kind, print_document_report};
+use documents::{print_document_kind, print_document_report, print_named_kind};
 use lines::{print_kind, print_lines, print_marker, print_parts};
 use reports::{
     Form, print_each, print_findings, print_named_files, print_report, print_report_of,
@@ -37,6 +37,7 @@ impl Calls for FindingsCalls {
         match (call, arguments) {
             ("documents", files) => print_document_report(alloc, files),
             ("document-kind", [path]) => print_document_kind(alloc, path.as_str()),
+            ("named-kind", [word]) => print_named_kind(alloc, word.as_str()),
             ("lines", [text]) => print_lines(alloc, text.as_str()),
             ("kind", [line]) => print_kind(alloc, line.as_str()),
             ("parts", [line]) => print_parts(alloc, line.as_str()),

@@ -20,9 +20,8 @@ use Rattle.pyver_projects.proofs.Walks.{beside_it, left_nil, nil_at, right_nil}
 use Rattle.pyver_projects.specs.Comparing.{found_beside, beside_all, compared, compared_demand, excluded, is_locked, missing, with_own_reports}
 use Rattle.pyver_projects.specs.Documents.{sources}
 use Rattle.pyver_projects.specs.Groups.{groups}
-use Rattle.pyver_projects.specs.Locks.{locked}
-use Rattle.pyver_projects.specs.Meanings.{DocumentReading, IsDocumentReading, IsLock, IsLockedReading, IsProject, IsStringReading, IsVersionReading, LockedReading, StringReading, package_line, string_line}
-use Rattle.pyver_projects.specs.ProjectLaws.{HasTable, NoFindingMeansContained}
+use Rattle.pyver_projects.specs.Meanings.{DocumentReading, IsDocumentReading, IsLock, IsLockReading, IsLockedReading, IsProject, IsStringReading, IsVersionReading, LockedReading, StringReading, package_line, string_line}
+use Rattle.pyver_projects.specs.ProjectLaws.{HasPackages, HasTable, NoFindingMeansContained}
 use Rattle.pyver_projects.specs.ProjectStrings.{LockedPackage, Section}
 use Rattle.pyver_projects.specs.declared.document_kind.DocumentKind.TheVariants.{Lock, Project}
 use Rattle.pyver_projects.specs.declared.document_kind.LockKind.{LockKind}
@@ -36,15 +35,14 @@ project_read file t x (text, e) (inr (again, inl (u, f, (xs, h, is)))) =
     let table : u ≡ t = cc same in
     (xs, subst (λ (m : Members). AllZip (IsStringReading (groups m) file) (sources m) xs) table h, is)
 
--- a lock with this table was read
-lock_read : (file : File) (kind : LockKind) (t : Members) (x : DocumentReading) → HasTable file t → IsDocumentReading (record { kind = Lock kind; file = file }) x
-    → (ys : List LockedReading) × AllZip (IsLockedReading file.name) (locked kind file.text t) ys × (x ≡ IsLock ys)
-lock_read file kind t x (text, e) (inl (none, broken)) = absurd (none text)
-lock_read file kind t x (text, e) (inr (again, inr (none, broken))) = let same : Some t ≡ None = sym e ∙ none in cc same
-lock_read file kind t x (text, e) (inr (again, inl (u, f, (ys, h, is)))) =
-    let same : Some u ≡ Some t = sym f ∙ e in
-    let table : u ≡ t = cc same in
-    (ys, subst (λ (m : Members). AllZip (IsLockedReading file.name) (locked kind file.text m) ys) table h, is)
+-- a lock with these packages was read
+lock_read : (file : File) (kind : LockKind) (ps : List LockedPackage) (x : DocumentReading) → HasPackages kind file ps → IsDocumentReading (record { kind = Lock kind; file = file }) x → IsLockReading file.name ps x
+lock_read file kind ps x (text, e) (inl (none, broken)) = absurd (none text)
+lock_read file kind ps x (text, e) (inr (again, inr (none, broken))) = let same : Some ps ≡ None = sym e ∙ none in cc same
+lock_read file kind ps x (text, e) (inr (again, inl (qs, f, (ys, h, is)))) =
+    let same : Some qs ≡ Some ps = sym f ∙ e in
+    let equal : qs ≡ ps = cc same in
+    (ys, subst (λ (m : List LockedPackage). AllZip (IsLockedReading file.name) m ys) equal h, is)
 
 -- a version is contained where it is not excluded
 by_match : (line : FileLine) (other : FileLine) (b : Bool) → (if b then [] else Conflicting PinOutside (line ∷ (other ∷ [])) ∷ []) ≡ [] → b ≡ true
@@ -77,16 +75,16 @@ not_compared ys a section x same is counts e =
     left_nil (compared_demand ys section a) [] counted
 
 pub no_finding_means_contained : NoFindingMeansContained
-no_finding_means_contained documents r (zs, h, is) none file lock s p n text v (t, ((k, inside, at), table), (i, within, here)) (kind, u, ((l, below, there), other), (j, under, this)) counts asks same written d =
+no_finding_means_contained documents r (zs, h, is) none file lock s p n text v (t, ((k, inside, at), table), (i, within, here)) (kind, ps, ((l, below, there), other), (j, under, this)) counts asks same written d =
     let (x, (a, in_x, is_x), rx) = beside_it IsDocumentReading documents zs (record { kind = Project; file = file }) k inside at h in
     let (y, (b, in_y, is_y), ry) = beside_it IsDocumentReading documents zs (record { kind = Lock kind; file = lock }) l below there h in
     let (xs, g, is_project) = project_read file t x table rx in
-    let (ys, q, is_lock) = lock_read lock kind u y other ry in
+    let (ys, q, is_lock) = lock_read lock kind ps y other ry in
     let found : flat_map (beside_all zs) zs ≡ [] = right_nil (with_own_reports empty_report zs).findings (flat_map (beside_all zs) zs) (sym (ap (λ (e : Report). e.findings) is) ∙ none) in
     let nothing : found_beside x y ≡ [] = nil_at (found_beside x) zs y b in_y is_y (nil_at (beside_all zs) zs x a in_x is_x found) in
     let compares : flat_map (compared ys) xs ≡ [] = (λ e. found_beside (sym is_project e) (sym is_lock e)) ∙ nothing in
     let (z, (c, in_z, is_z), rz) = beside_it (IsStringReading (groups t) file) (sources t) xs s i within here g in
-    let (w, (m, in_w, is_w), rl) = beside_it (IsLockedReading lock.name) (locked kind lock.text u) ys p j under this q in
+    let (w, (m, in_w, is_w), rl) = beside_it (IsLockedReading lock.name) ps ys p j under this q in
     let meaning = asks_always (string_line file s) n asks.0 asks.1 asks.2 asks.3 (groups t) s.text s.section z.meaning counts rz.1 in
     let asked = line_demand (string_line file s) None n in
     let both : missing ys s.section asked ++ flat_map (excluded asked) ys ≡ [] = not_compared ys asked s.section z rz.0 meaning counts (nil_at (compared ys) xs z c in_z is_z compares) in

@@ -29,7 +29,7 @@ use Rattle.pyver_projects.specs.Documents.{sources}
 use Rattle.pyver_projects.specs.Groups.{groups}
 use Rattle.pyver_projects.specs.Locks.{locked}
 use Rattle.pyver_projects.specs.Meanings.{Document, DocumentReading, IsBrokenReading, IsDocumentReading, IsLockedReading, IsProject, IsSectionMeaning, IsStringReading, IsVersionReading, LockedReading, StringReading, package_line, string_line}
-use Rattle.pyver_projects.specs.ProjectLaws.{AlwaysAsks, DocumentFindingsHold, HasDocument, HasPackage, HasString, IsReadable, IsDocumentFinding}
+use Rattle.pyver_projects.specs.ProjectLaws.{AlwaysAsks, DocumentFindingsHold, HasLock, HasPackage, HasProject, HasString, IsReadable, IsReadableAs, IsDocumentFinding}
 use Rattle.pyver_projects.specs.ProjectStrings.{LockedPackage, ProjectString}
 use Rattle.pyver_projects.specs.declared.document_kind.DocumentKind.{DocumentKind}
 use Rattle.pyver_projects.specs.declared.document_kind.DocumentKind.TheVariants.{Lock, Project}
@@ -46,7 +46,7 @@ module _ (documents : List Document) where
       subst (λ (y : DocumentReading). All Right (own_report y).findings) (sym is)
       (All-cons Right (NoRequirement line reason column) [] (inr (inr (inl (record { document = d; line = line; reason = reason; column = column; has = known; none = none; place = place; is = refl })))) (All-nil Right))
 
-  of_string : (file : File) (t : Members) (s : ProjectString) (m : LineMeaning) → HasDocument documents Project file t → Contains (sources t) s → IsSectionMeaning (groups t) s.section (string_line file s) s.text m → All Right (invalid_in m)
+  of_string : (file : File) (t : Members) (s : ProjectString) (m : LineMeaning) → HasProject documents file t → Contains (sources t) s → IsSectionMeaning (groups t) s.section (string_line file s) s.text m → All Right (invalid_in m)
   of_string file t s (Asks a) has at is = All-nil Right
   of_string file t s (IsNone f) has at is = All-cons Right f [] (inl (record { file = file; string = s; table = t; has = has; within = at; is = is })) (All-nil Right)
   of_string file t s (LeftOut c) has at is = All-nil Right
@@ -59,37 +59,41 @@ module _ (documents : List Document) where
       subst (λ (z : LockedReading). All Right (invalid_package z)) (sym is)
       (All-cons Right (NoRequirement (package_line file.name p) (refusal_text f) (length p.name + 1)) [] (inr (inl (record { file = file; locked = p; text = text; reason = f; has = has; version = at; refuses = r; is = refl }))) (All-nil Right))
 
-  no_utf8 : (d : Document) → (IsUtf8 d.file.text → ⊥) → IsReadable d → ⊥
-  no_utf8 d none (t, (text, e)) = none text
+  no_utf8 : (kind : DocumentKind) (file : File) → (IsUtf8 file.text → ⊥) → IsReadableAs kind file → ⊥
+  no_utf8 Project file none (t, (text, e)) = none text
+  no_utf8 (Lock kind) file none (ps, (text, e)) = none text
 
-  no_toml : (d : Document) → parse_document d.file.text ≡ None → IsReadable d → ⊥
-  no_toml d none (t, (text, e)) = let same : None ≡ Some t = sym none ∙ e in cc same
+  no_toml : (file : File) → parse_document file.text ≡ None → IsReadableAs Project file → ⊥
+  no_toml file none (t, (text, e)) = let same : None ≡ Some t = sym none ∙ e in cc same
+
+  no_packages : (kind : LockKind) (file : File) → locked kind file.text ≡ None → IsReadableAs (Lock kind) file → ⊥
+  no_packages kind file none (ps, (text, e)) = let same : None ≡ Some ps = sym none ∙ e in cc same
 
   of_document : (kind : DocumentKind) (file : File) (x : DocumentReading) → Contains documents (record { kind = kind; file = file }) → IsDocumentReading (record { kind = kind; file = file }) x → All Right (own_report x).findings
-  of_document kind file x known (inl (none, broken)) = unread (record { kind = kind; file = file }) x known (no_utf8 (record { kind = kind; file = file }) none) broken
-  of_document kind file x known (inr (text, inr (none, broken))) = unread (record { kind = kind; file = file }) x known (no_toml (record { kind = kind; file = file }) none) broken
+  of_document kind file x known (inl (none, broken)) = unread (record { kind = kind; file = file }) x known (no_utf8 kind file none) broken
+  of_document Project file x known (inr (text, inr (none, broken))) = unread (record { kind = Project; file = file }) x known (no_toml file none) broken
+  of_document (Lock kind) file x known (inr (text, inr (none, broken))) = unread (record { kind = Lock kind; file = file }) x known (no_packages kind file none) broken
   of_document Project file x known (inr (text, inl (t, e, (xs, h, is)))) =
       subst (λ (y : DocumentReading). All Right (own_report y).findings) (sym is)
       (All-append Right (flat_map invalid_string xs) (project_conflicts xs)
       (all_flat Right invalid_string xs
       (zip_each (IsStringReading (groups t) file) (Contains (sources t)) (λ z. All Right (invalid_string z)) (λ s z at r. of_string file t s z.meaning (known, (text, e)) at r.1) (sources t) xs (All-contains_itself (sources t)) h))
       (conflicts_hold Right file t (λ part f right. inr (inr (inr (inr (inr (record { file = file; table = t; part = part; has = (known, (text, e)); right = right })))))) xs h))
-  of_document (Lock kind) file x known (inr (text, inl (t, e, (ys, h, is)))) =
+  of_document (Lock kind) file x known (inr (text, inl (ps, e, (ys, h, is)))) =
       subst (λ (y : DocumentReading). All Right (own_report y).findings) (sym is)
       (all_flat Right invalid_package ys
-      (zip_each (IsLockedReading file.name) (Contains (locked kind file.text t)) (λ z. All Right (invalid_package z)) (λ p z at r. of_package file p p.version z (kind, t, (known, (text, e)), at) refl r) (locked kind file.text t) ys
-      (All-contains_itself (locked kind file.text t)) h))
+      (zip_each (IsLockedReading file.name) (Contains ps) (λ z. All Right (invalid_package z)) (λ p z at r. of_package file p p.version z (kind, ps, (known, (text, e)), at) refl r) ps ys (All-contains_itself ps) h))
 
   -- ---- a project beside a lock
 
-  module _ (file lock : File) (kind : LockKind) (t u : Members) (known : HasDocument documents Project file t) (other : HasDocument documents (Lock kind) lock u) where
+  module _ (file lock : File) (kind : LockKind) (t : Members) (u : List LockedPackage) (known : HasProject documents file t) (other : HasLock documents kind lock u) where
     module _ (s : ProjectString) (at : Contains (sources t) s) where
       module _ (n : Needed) (asks : AlwaysAsks s n) where
         -- what the requirement asks for
         abbrev pub asked : Demand
         asked = line_demand (string_line file s) None n
 
-        by_match : (p : LockedPackage) (text : List ℕ) (v : Record) → Contains (locked kind lock.text u) p → p.version ≡ Some text → Derives text v → (a b : Bool) → same_name n.name p.name ≡ a → list_matches n.specifiers v ≡ b
+        by_match : (p : LockedPackage) (text : List ℕ) (v : Record) → Contains u p → p.version ≡ Some text → Derives text v → (a b : Bool) → same_name n.name p.name ≡ a → list_matches n.specifiers v ≡ b
             → All Right (if a then (if b then [] else Conflicting PinOutside (string_line file s ∷ (package_line lock.name p ∷ [])) ∷ []) else [])
         by_match p text v here written d true true e f = All-nil Right
         by_match p text v here written d false b e f = All-nil Right
@@ -117,7 +121,7 @@ module _ (documents : List Document) where
         nothing true = All-nil Right
         nothing false = All-nil Right
 
-        excluded_right : (p : LockedPackage) (v : Option (List ℕ)) (y : LockedReading) → Contains (locked kind lock.text u) p → p.version ≡ v → IsVersionReading (package_line lock.name p) p.name v y → All Right (excluded asked y)
+        excluded_right : (p : LockedPackage) (v : Option (List ℕ)) (y : LockedReading) → Contains u p → p.version ≡ v → IsVersionReading (package_line lock.name p) p.name v y → All Right (excluded asked y)
         excluded_right p None y here written is = subst (λ (z : LockedReading). All Right (excluded asked z)) (sym is) (nothing (same_name n.name p.name))
         excluded_right p (Some text) y here written (inl (r, d, is)) =
             subst (λ (z : LockedReading). All Right (excluded asked z)) (sym is) (by_match p text r here written d (same_name n.name p.name) (list_matches n.specifiers r) refl refl)
@@ -139,7 +143,7 @@ module _ (documents : List Document) where
         none_named (p ∷ ps) (y ∷ ys) h e =
             All-cons HasOtherName p ps (other_name p p.version y h.0 (left_false (has_name asked y) (list_any (has_name asked) ys) e)) (none_named ps ys h.1 (right_false (has_name asked y) (list_any (has_name asked) ys) e))
 
-        module _ (ys : List LockedReading) (h : AllZip (IsLockedReading lock.name) (locked kind lock.text u) ys) where
+        module _ (ys : List LockedReading) (h : AllZip (IsLockedReading lock.name) u ys) where
           missing_right : (b c : Bool) → is_needed s.section ≡ b → list_any (has_name asked) ys ≡ c
               → All Right (if b then (if c then [] else NoRequirement (string_line file s) (codes "the lock has no package of this name") 0 ∷ []) else [])
           missing_right false c needs e = All-nil Right
@@ -151,13 +155,13 @@ module _ (documents : List Document) where
                 string = s;
                 lock = lock;
                 kind = kind;
-                table = u;
+                packages = u;
                 needed = n;
                 has = (t, known, at);
                 counts = needs;
                 asks = asks;
                 known = other;
-                none = none_named (locked kind lock.text u) ys h e;
+                none = none_named u ys h e;
                 is = refl;
               }))))) (All-nil Right)
 
@@ -165,10 +169,10 @@ module _ (documents : List Document) where
           always_right =
               All-append Right _ (flat_map (excluded asked) ys) (missing_right (is_needed s.section) (list_any (has_name asked) ys) refl refl)
               (all_flat Right (excluded asked) ys
-              (zip_each (IsLockedReading lock.name) (Contains (locked kind lock.text u)) (λ y. All Right (excluded asked y)) (λ p y here r. excluded_right p p.version y here refl r) (locked kind lock.text u) ys
-              (All-contains_itself (locked kind lock.text u)) h))
+              (zip_each (IsLockedReading lock.name) (Contains u) (λ y. All Right (excluded asked y)) (λ p y here r. excluded_right p p.version y here refl r) u ys
+              (All-contains_itself u) h))
 
-      module _ (ys : List LockedReading) (h : AllZip (IsLockedReading lock.name) (locked kind lock.text u) ys) where
+      module _ (ys : List LockedReading) (h : AllZip (IsLockedReading lock.name) u ys) where
         by_marker : (a : Demand) (k : AsksFor (string_line file s) (line_parts s.text) a) (marker : Option (List ℕ)) → (marker ≡ None → (line_parts s.text).marker ≡ None) → All Right (compared_demand ys s.section (line_demand (string_line file s) marker k.needed))
         by_marker a k None always = always_right k.needed (k.text, k.derives, always refl, k.url) ys h
         by_marker a k (Some m) always = All-nil Right
@@ -190,7 +194,7 @@ module _ (documents : List Document) where
         compared_right x (same, is) =
             subst (λ section. All Right (if is_locked section then flat_map (compared_demand ys section) (demands_in x.meaning) else [])) (sym same) (by_section (is_locked s.section) x.meaning is)
 
-    pub pair_right : (xs : List StringReading) (ys : List LockedReading) → AllZip (IsStringReading (groups t) file) (sources t) xs → AllZip (IsLockedReading lock.name) (locked kind lock.text u) ys → All Right (flat_map (compared ys) xs)
+    pub pair_right : (xs : List StringReading) (ys : List LockedReading) → AllZip (IsStringReading (groups t) file) (sources t) xs → AllZip (IsLockedReading lock.name) u ys → All Right (flat_map (compared ys) xs)
     pair_right xs ys g h =
         all_flat Right (compared ys) xs (zip_each (IsStringReading (groups t) file) (Contains (sources t)) (λ x. All Right (compared ys x)) (λ s x at r. compared_right s at ys h x r) (sources t) xs (All-contains_itself (sources t)) g)
 
@@ -199,13 +203,14 @@ module _ (documents : List Document) where
   broken_right : (file : File) (x y : DocumentReading) → IsBrokenReading file x → All Right (found_beside x y)
   broken_right file x y (line, reason, column, place, is) = subst (λ (z : DocumentReading). All Right (found_beside z y)) (sym is) (All-nil Right)
 
-  module _ (file : File) (t : Members) (known : HasDocument documents Project file t) (xs : List StringReading) (g : AllZip (IsStringReading (groups t) file) (sources t) xs) where
+  module _ (file : File) (t : Members) (known : HasProject documents file t) (xs : List StringReading) (g : AllZip (IsStringReading (groups t) file) (sources t) xs) where
     beside_broken : (other : File) (y : DocumentReading) → IsBrokenReading other y → All Right (found_beside (IsProject xs) y)
     beside_broken other y (line, reason, column, place, is) = subst (λ (z : DocumentReading). All Right (found_beside (IsProject xs) z)) (sym is) (All-nil Right)
 
     beside_project : (kind : DocumentKind) (other : File) (y : DocumentReading) → Contains documents (record { kind = kind; file = other }) → IsDocumentReading (record { kind = kind; file = other }) y → All Right (found_beside (IsProject xs) y)
     beside_project kind other y at (inl (none, broken)) = beside_broken other y broken
-    beside_project kind other y at (inr (text, inr (none, broken))) = beside_broken other y broken
+    beside_project Project other y at (inr (text, inr (none, broken))) = beside_broken other y broken
+    beside_project (Lock kind) other y at (inr (text, inr (none, broken))) = beside_broken other y broken
     beside_project Project other y at (inr (text, inl (u, e, (zs, h, is)))) = subst (λ (z : DocumentReading). All Right (found_beside (IsProject xs) z)) (sym is) (All-nil Right)
     beside_project (Lock kind) other y at (inr (text, inl (u, e, (ys, h, is)))) =
         subst (λ (z : DocumentReading). All Right (found_beside (IsProject xs) z)) (sym is) (pair_right file other kind t u known (at, (text, e)) xs ys g h)
@@ -213,7 +218,8 @@ module _ (documents : List Document) where
   beside_right : (kind : DocumentKind) (file : File) (other : Document) (x y : DocumentReading) → Contains documents (record { kind = kind; file = file }) → Contains documents other → IsDocumentReading (record { kind = kind; file = file }) x
       → IsDocumentReading other y → All Right (found_beside x y)
   beside_right kind file other x y known at (inl (none, broken)) r = broken_right file x y broken
-  beside_right kind file other x y known at (inr (text, inr (none, broken))) r = broken_right file x y broken
+  beside_right Project file other x y known at (inr (text, inr (none, broken))) r = broken_right file x y broken
+  beside_right (Lock kind) file other x y known at (inr (text, inr (none, broken))) r = broken_right file x y broken
   beside_right (Lock kind) file other x y known at (inr (text, inl (t, e, (ys, h, is)))) r = subst (λ (z : DocumentReading). All Right (found_beside z y)) (sym is) (All-nil Right)
   beside_right Project file other x y known at (inr (text, inl (t, e, (xs, h, is)))) r =
       subst (λ (z : DocumentReading). All Right (found_beside z y)) (sym is) (beside_project file t (known, (text, e)) xs h other.kind other.file y at r)

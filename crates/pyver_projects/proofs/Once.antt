@@ -1,4 +1,4 @@
--- Documents that are TOML in UTF-8 have at most one report.
+-- Documents that are TOML or JSON in UTF-8 have at most one report.
 use Rattle.std.proofs.Common.{◌≡◌, ◌∙◌, ℕ, ◌+◌, List, Option, Some, None, length, sym, ap, subst, inl, inr}
 use Rattle.std.proofs.lemmas.List.Elements.{All-contains_itself}
 use Rattle.std.specs.List.{Contains}
@@ -22,10 +22,9 @@ use Rattle.pyver_projects.proofs.Walks.{zip_once}
 use Rattle.pyver_projects.specs.Comparing.{documents_report}
 use Rattle.pyver_projects.specs.Documents.{sources}
 use Rattle.pyver_projects.specs.Groups.{Groups, groups}
-use Rattle.pyver_projects.specs.Locks.{locked}
-use Rattle.pyver_projects.specs.Meanings.{Document, DocumentReading, IsDocumentReading, IsLock, IsLockedReading, IsProject, IsSectionMeaning, IsStringReading, IsTableReading, IsVersionReading, LockedReading, StringReading, string_line}
-use Rattle.pyver_projects.specs.ProjectLaws.{DocumentReportsOnce, IsReadable}
-use Rattle.pyver_projects.specs.ProjectStrings.{Build, Dependencies, Extra, Group, Include, Section, Python, ProjectString, Version}
+use Rattle.pyver_projects.specs.Meanings.{Document, DocumentReading, IsDocumentReading, IsLock, IsLockReading, IsLockedReading, IsProject, IsProjectReading, IsSectionMeaning, IsStringReading, IsVersionReading, LockedReading, StringReading, string_line}
+use Rattle.pyver_projects.specs.ProjectLaws.{DocumentReportsOnce, IsReadable, IsReadableAs}
+use Rattle.pyver_projects.specs.ProjectStrings.{Build, Dependencies, Extra, Group, Include, LockedPackage, Section, Python, ProjectString, Version}
 use Rattle.pyver_projects.specs.declared.document_kind.DocumentKind.{DocumentKind}
 use Rattle.pyver_projects.specs.declared.document_kind.DocumentKind.TheVariants.{Lock, Project}
 
@@ -58,23 +57,33 @@ one_version line name (Some text) x y (inr (f, e, a)) (inl (r, d, b)) = absurd (
 one_version line name (Some text) x y (inr (f, r, a)) (inr (g, s, b)) =
     a ∙ ap (λ (h : Refusal). record { line = line; name = normal name; version = None; invalid = Some (NoRequirement line (refusal_text h) (length name + 1)) }) (one_refusal text f g r s) ∙ sym b
 
-one_table : (kind : DocumentKind) (file : File) (t : Members) (x y : DocumentReading) → IsTableReading kind file t x → IsTableReading kind file t y → x ≡ y
-one_table Project file t x y (xs, g, a) (ys, h, b) =
+one_project : (file : File) (t : Members) (x y : DocumentReading) → IsProjectReading file t x → IsProjectReading file t y → x ≡ y
+one_project file t x y (xs, g, a) (ys, h, b) =
     a ∙ ap (λ (zs : List StringReading). IsProject zs)
     (zip_once (IsStringReading (groups t) file) (Contains (sources t)) (λ s v w known p q. one_string (groups t) file s v w p q) (sources t) xs ys (All-contains_itself (sources t)) g h) ∙ sym b
-one_table (Lock kind) file t x y (xs, g, a) (ys, h, b) =
-    a ∙ ap (λ (zs : List LockedReading). IsLock zs)
-    (zip_once (IsLockedReading file.name) (Contains (locked kind file.text t)) (λ p v w known q r. one_version _ p.name p.version v w q r) (locked kind file.text t) xs ys (All-contains_itself (locked kind file.text t)) g h) ∙ sym b
 
-one_document : (d : Document) (x y : DocumentReading) → IsReadable d → IsDocumentReading d x → IsDocumentReading d y → x ≡ y
-one_document d x y (t, (text, e)) (inl (none, a)) b = absurd (none text)
-one_document d x y (t, (text, e)) (inr a) (inl (none, b)) = absurd (none text)
-one_document d x y (t, (text, e)) (inr (u, inr (none, a))) (inr b) = let same : None ≡ Some t = sym none ∙ e in cc same
-one_document d x y (t, (text, e)) (inr (u, inl a)) (inr (v, inr (none, b))) = let same : None ≡ Some t = sym none ∙ e in cc same
-one_document d x y (t, (text, e)) (inr (u, inl (m, f, a))) (inr (v, inl (n, g, b))) =
+one_lock : (file : List ℕ) (ps : List LockedPackage) (x y : DocumentReading) → IsLockReading file ps x → IsLockReading file ps y → x ≡ y
+one_lock file ps x y (xs, g, a) (ys, h, b) =
+    a ∙ ap (λ (zs : List LockedReading). IsLock zs)
+    (zip_once (IsLockedReading file) (Contains ps) (λ p v w known q r. one_version _ p.name p.version v w q r) ps xs ys (All-contains_itself ps) g h) ∙ sym b
+
+one_document : (kind : DocumentKind) (file : File) (x y : DocumentReading) → IsReadableAs kind file → IsDocumentReading (record { kind = kind; file = file }) x → IsDocumentReading (record { kind = kind; file = file }) y → x ≡ y
+one_document Project file x y (t, (text, e)) (inl (none, a)) b = absurd (none text)
+one_document Project file x y (t, (text, e)) (inr a) (inl (none, b)) = absurd (none text)
+one_document Project file x y (t, (text, e)) (inr (u, inr (none, a))) (inr b) = let same : None ≡ Some t = sym none ∙ e in cc same
+one_document Project file x y (t, (text, e)) (inr (u, inl a)) (inr (v, inr (none, b))) = let same : None ≡ Some t = sym none ∙ e in cc same
+one_document Project file x y (t, (text, e)) (inr (u, inl (m, f, a))) (inr (v, inl (n, g, b))) =
     let same : Some n ≡ Some m = sym g ∙ f in
     let table : n ≡ m = cc same in
-    one_table d.kind d.file m x y a (subst (λ (q : Members). IsTableReading d.kind d.file q y) table b)
+    one_project file m x y a (subst (λ (q : Members). IsProjectReading file q y) table b)
+one_document (Lock kind) file x y (ps, (text, e)) (inl (none, a)) b = absurd (none text)
+one_document (Lock kind) file x y (ps, (text, e)) (inr a) (inl (none, b)) = absurd (none text)
+one_document (Lock kind) file x y (ps, (text, e)) (inr (u, inr (none, a))) (inr b) = let same : None ≡ Some ps = sym none ∙ e in cc same
+one_document (Lock kind) file x y (ps, (text, e)) (inr (u, inl a)) (inr (v, inr (none, b))) = let same : None ≡ Some ps = sym none ∙ e in cc same
+one_document (Lock kind) file x y (ps, (text, e)) (inr (u, inl (ms, f, a))) (inr (v, inl (ns, g, b))) =
+    let same : Some ns ≡ Some ms = sym g ∙ f in
+    let equal : ns ≡ ms = cc same in
+    one_lock file.name ms x y a (subst (λ (qs : List LockedPackage). IsLockReading file.name qs y) equal b)
 
 pub document_reports_once : DocumentReportsOnce
-document_reports_once documents r s readable (xs, g, a) (ys, h, b) = a ∙ ap documents_report (zip_once IsDocumentReading IsReadable one_document documents xs ys readable g h) ∙ sym b
+document_reports_once documents r s readable (xs, g, a) (ys, h, b) = a ∙ ap documents_report (zip_once IsDocumentReading IsReadable (λ d v w known p q. one_document d.kind d.file v w known p q) documents xs ys readable g h) ∙ sym b

@@ -23,11 +23,12 @@ sound_broken file x (line, reason, column, place, is) = subst (λ (y : DocumentR
 
 sound_document : (kind : DocumentKind) (file : File) (x : DocumentReading) → IsDocumentReading (record { kind = kind; file = file }) x → IsSoundDocument x
 sound_document kind file x (inl (none, broken)) = sound_broken file x broken
-sound_document kind file x (inr (text, inr (none, broken))) = sound_broken file x broken
+sound_document Project file x (inr (text, inr (none, broken))) = sound_broken file x broken
+sound_document (Lock kind) file x (inr (text, inr (none, broken))) = sound_broken file x broken
 sound_document Project file x (inr (text, inl (t, e, (xs, h, is)))) =
     subst (λ (y : DocumentReading). IsSoundDocument y) (sym is)
     (zip_each (IsStringReading (groups t) file) (Contains (sources t)) IsSoundString (λ s z known r. sound_string (groups t) file s z r) (sources t) xs (All-contains_itself (sources t)) h)
-sound_document (Lock kind) file x (inr (text, inl (t, e, (ys, h, is)))) = subst (λ (y : DocumentReading). IsSoundDocument y) (sym is) tt
+sound_document (Lock kind) file x (inr (text, inl (ps, e, (ys, h, is)))) = subst (λ (y : DocumentReading). IsSoundDocument y) (sym is) tt
 
 pub sound_documents : (documents : List Document) (xs : List DocumentReading) → AllZip IsDocumentReading documents xs → All IsSoundDocument xs
 sound_documents documents xs h = zip_each IsDocumentReading (Contains documents) IsSoundDocument (λ d x known r. sound_document d.kind d.file x r) documents xs (All-contains_itself documents) h

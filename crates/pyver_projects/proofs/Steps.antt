@@ -2,7 +2,6 @@
 use Rattle.std.proofs.Common.{◌≡◌, ◌+◌, ◌<◌, ◌≤◌, ◌∙◌, ℕ, List, [], ◌∷◌, ◌++◌, Bool, Option, Some, None, IfOk, IfSome, Result, Ok, Err, ◌⊎◌, true, false, inr, drop, if◌then◌else◌, is_none, length, get_or, take, take_all, map, refl, sym, ap, subst}
 use Rattle.std.proofs.lemmas.Bool.{true≢false}
 use Rattle.std.proofs.lemmas.List.{append-nil, append_assoc, drop_more, map-append, take_more}
-use Rattle.pyver_projects.specs.Places.{before_first, opens_with}
 use Rattle.std.specs.List.{AllZip}
 use Rattle.pep440_version.specs.ErrorTexts.{error_text, refusal_text}
 use Rattle.pep440_version.specs.Refusals.{Refusal, Refuses}
@@ -47,24 +46,3 @@ pub version_read : {Y E : Type 0} (r : Result Y E) (o : Option Refusal) (text : 
     → IfOk r (λ y. A y ⊎ ((f : Refusal) × Refuses text f × Q f y))
 version_read (Ok y) o text A Q refuses (f, some, q) = inr (f, subst (λ (p : Option Refusal). IfSome p (Refuses text)) some refuses, q)
 version_read (Err e) o text A Q refuses h = tt
-
--- ---- what stands before the first of two strings
-
-module _ (double single : List ℕ) where
-  opened : (text : List ℕ) (b : ℕ) (rest : List ℕ) → text ≡ b ∷ rest → opens_with double single text ≡ true → before_first double single text ≡ []
-  opened text b rest is opens = ap (before_first double single) is ∙ ap (λ (c : Bool). if c then [] else b ∷ before_first double single rest) (ap (opens_with double single) (sym is) ∙ opens)
-
-  passed : (text : List ℕ) (b : ℕ) (rest : List ℕ) → text ≡ b ∷ rest → opens_with double single text ≡ false → before_first double single text ≡ b ∷ before_first double single rest
-  passed text b rest is opens = ap (before_first double single) is ∙ ap (λ (c : Bool). if c then [] else b ∷ before_first double single rest) (ap (opens_with double single) (sym is) ∙ opens)
-
-  pub stops : (text total : List ℕ) (at : ℕ) → at < length text → opens_with double single (drop at text) ≡ true → take at text ++ before_first double single (drop at text) ≡ total → take at text ≡ total
-  stops text total at inside opens so =
-      let none = opened (drop at text) (get_or text at 0) (drop (at + 1) text) (drop_more text at 0 inside) opens in
-      sym (append-nil (take at text)) ∙ ap (λ r. take at text ++ r) (sym none) ∙ so
-
-  pub goes_on : (text total : List ℕ) (at : ℕ) → at < length text → opens_with double single (drop at text) ≡ false → take at text ++ before_first double single (drop at text) ≡ total
-      → take (at + 1) text ++ before_first double single (drop (at + 1) text) ≡ total
-  goes_on text total at inside opens so =
-      let more = passed (drop at text) (get_or text at 0) (drop (at + 1) text) (drop_more text at 0 inside) opens in
-      let rest = before_first double single (drop (at + 1) text) in
-      ap (λ t. t ++ rest) (take_more text at 0 inside) ∙ append_assoc (take at text) (get_or text at 0 ∷ []) rest ∙ ap (λ r. take at text ++ r) (sym more) ∙ so

@@ -1,7 +1,9 @@
 pub mod ProjectStrings
 pub mod Documents
 pub mod Places
+pub mod QuotedStrings
 pub mod Groups
+pub mod PipfileLocks
 pub mod Locks
 pub mod Meanings
 pub mod Soundness

@@ -88,19 +88,27 @@ pub data DocumentReading : Type 0 where
   IsLock : List LockedReading → DocumentReading
   IsBroken : Finding → DocumentReading
 
--- what a document with this table is
-abbrev pub IsTableReading : DocumentKind → File → Members → DocumentReading → Type 0
-IsTableReading Project file t d = (xs : List StringReading) × AllZip (IsStringReading (groups t) file) (sources t) xs × (d ≡ IsProject xs)
-IsTableReading (Lock kind) file t d = (ys : List LockedReading) × AllZip (IsLockedReading file.name) (locked kind file.text t) ys × (d ≡ IsLock ys)
+-- what a project with this table is
+abbrev pub IsProjectReading : File → Members → DocumentReading → Type 0
+IsProjectReading file t x = (xs : List StringReading) × AllZip (IsStringReading (groups t) file) (sources t) xs × (x ≡ IsProject xs)
+
+-- what a lock with these packages is
+abbrev pub IsLockReading : List ℕ → List LockedPackage → DocumentReading → Type 0
+IsLockReading file ps x = (ys : List LockedReading) × AllZip (IsLockedReading file) ps ys × (x ≡ IsLock ys)
 
 -- the document is not read, for some reason at some position of it
 abbrev pub IsBrokenReading : File → DocumentReading → Type 0
 IsBrokenReading file d = (line : FileLine) × (reason : List ℕ) × (column : ℕ) × (line.file ≡ file.name) × (d ≡ IsBroken (NoRequirement line reason column))
 
+-- what a lock is that has these packages, or cannot be read
+abbrev pub IsPackagesReading : File → Option (List LockedPackage) → DocumentReading → Type 0
+IsPackagesReading file found x = ((ps : List LockedPackage) × (found ≡ Some ps) × IsLockReading file.name ps x) ⊎ ((found ≡ None) × IsBrokenReading file x)
+
 -- what a document with this text is, which is UTF-8
-abbrev pub IsTomlReading : DocumentKind → File → DocumentReading → Type 0
-IsTomlReading kind file x = ((t : Members) × (parse_document file.text ≡ Some t) × IsTableReading kind file t x) ⊎ ((parse_document file.text ≡ None) × IsBrokenReading file x)
+abbrev pub IsTextReading : DocumentKind → File → DocumentReading → Type 0
+IsTextReading Project file x = ((t : Members) × (parse_document file.text ≡ Some t) × IsProjectReading file t x) ⊎ ((parse_document file.text ≡ None) × IsBrokenReading file x)
+IsTextReading (Lock kind) file x = IsPackagesReading file (locked kind file.text) x
 
 -- what a document is
 abbrev pub IsDocumentReading : Document → DocumentReading → Type 0
-IsDocumentReading d x = ((¬ IsUtf8 d.file.text) × IsBrokenReading d.file x) ⊎ (IsUtf8 d.file.text × IsTomlReading d.kind d.file x)
+IsDocumentReading d x = ((¬ IsUtf8 d.file.text) × IsBrokenReading d.file x) ⊎ (IsUtf8 d.file.text × IsTextReading d.kind d.file x)

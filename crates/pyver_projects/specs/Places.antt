@@ -1,31 +1,45 @@
 -- Where strings and packages stand in a document.
-use Rattle.std.specs.Prelude.{ℕ, ◌+◌, ◌==◌, ◌&&◌, ◌||◌, List, [], ◌∷◌, ◌++◌, Bool, true, Option, Some, None, count_by, length, nat_eq, if◌then◌else◌}
-use Rattle.std.specs.List.{starts_with}
+use Rattle.std.specs.Prelude.{ℕ, ◌+◌, ◌==◌, ◌&&◌, ◌||◌, List, [], ◌∷◌, ◌++◌, Bool, true, not, Option, Some, None, bytes_eq, count_by, length, nat_eq, nat_lt, take, if◌then◌else◌}
+use Rattle.std.specs.List.{prefix_len, starts_with}
 
--- the string between two of these quotes
-abbrev pub quoted_string : ℕ → List ℕ → List ℕ
-quoted_string quote string = quote ∷ (string ++ quote ∷ [])
+-- a quote of TOML or JSON: `"` or `'`
+abbrev pub is_string_quote : ℕ → Bool
+is_string_quote b = b == 34 || b == 39
 
--- the document begins with one of the two
-abbrev pub opens_with : List ℕ → List ℕ → List ℕ → Bool
-opens_with double single text = starts_with nat_eq text double || starts_with nat_eq text single
+-- how many bytes stand before the first like this
+abbrev pub others : ℕ → List ℕ → ℕ
+others quote text = prefix_len (λ b. not (b == quote)) text
 
--- what stands before the first of these, or all
-abbrev pub before_first : List ℕ → List ℕ → List ℕ → List ℕ
-before_first double single [] = []
-before_first double single (b ∷ rest) = if opens_with double single (b ∷ rest) then [] else b ∷ before_first double single rest
+-- what stands before the next byte like this, if there is one
+abbrev pub before_next : ℕ → List ℕ → Option (List ℕ)
+before_next quote text = if nat_lt (others quote text) (length text) then Some (take (others quote text) text) else None
+
+-- the string between the quote that the text begins with and the next like it
+abbrev pub opened_string : List ℕ → Option (List ℕ)
+opened_string [] = None
+opened_string (b ∷ rest) = if is_string_quote b then before_next b rest else None
+
+-- the number, if this is the string, or what is found later
+abbrev pub number_or : List ℕ → ℕ → Option (List ℕ) → Option ℕ → Option ℕ
+number_or string number None later = later
+number_or string number (Some found) later = if bytes_eq found string then Some number else later
 
 -- the number of the line after this
 abbrev pub line_after : List ℕ → ℕ
 line_after before = count_by (λ b. b == 10) before + 1
 
--- the number of the line after what stands before it, unless that is all
-abbrev pub line_before : List ℕ → List ℕ → Option ℕ
-line_before text before = if length before == length text then None else Some (line_after before)
+-- the number of the line of what follows this byte
+abbrev pub number_after : ℕ → ℕ → ℕ
+number_after number b = if b == 10 then number + 1 else number
 
--- the number of the first line on which the string stands in quotes, `"` or `'`
+-- the number of the first line on which the string opens: of these bytes, the first of which is on the line with this number
+abbrev pub line_from : List ℕ → ℕ → List ℕ → Option ℕ
+line_from string number [] = None
+line_from string number (b ∷ rest) = number_or string number (opened_string (b ∷ rest)) (line_from string (number_after number b) rest)
+
+-- the number of the first line on which the string opens, between two quotes that have none like them between
 abbrev pub first_line : List ℕ → List ℕ → Option ℕ
-first_line text string = line_before text (before_first (quoted_string 34 string) (quoted_string 39 string) text)
+first_line text string = line_from string 1 text
 
 -- its number, or 1 if there is none
 abbrev pub number_or_one : Option ℕ → ℕ

@@ -36,21 +36,33 @@ use Rattle.pyver_projects.specs.declared.document_kind.LockKind.{LockKind}
 abbrev pub HasTable : File → Members → Type 0
 HasTable file t = IsUtf8 file.text × (parse_document file.text ≡ Some t)
 
--- the document is TOML in UTF-8
-abbrev pub IsReadable : Document → Type 0
-IsReadable d = (t : Members) × HasTable d.file t
+-- the file is a lock of this kind in UTF-8, and has these packages
+abbrev pub HasPackages : LockKind → File → List LockedPackage → Type 0
+HasPackages kind file ps = IsUtf8 file.text × (locked kind file.text ≡ Some ps)
 
--- one of the documents is a file of this kind, with this table
-abbrev pub HasDocument : List Document → DocumentKind → File → Members → Type 0
-HasDocument documents kind file t = Contains documents (record { kind = kind; file = file }) × HasTable file t
+-- a file of this kind is TOML, or JSON, in UTF-8
+abbrev pub IsReadableAs : DocumentKind → File → Type 0
+IsReadableAs Project file = (t : Members) × HasTable file t
+IsReadableAs (Lock kind) file = (ps : List LockedPackage) × HasPackages kind file ps
+
+abbrev pub IsReadable : Document → Type 0
+IsReadable d = IsReadableAs d.kind d.file
+
+-- one of the documents is a project in this file, with this table
+abbrev pub HasProject : List Document → File → Members → Type 0
+HasProject documents file t = Contains documents (record { kind = Project; file = file }) × HasTable file t
 
 -- one of the documents is a project in this file, and has this string
 abbrev pub HasString : List Document → File → ProjectString → Type 0
-HasString documents file s = (t : Members) × HasDocument documents Project file t × Contains (sources t) s
+HasString documents file s = (t : Members) × HasProject documents file t × Contains (sources t) s
+
+-- one of the documents is a lock of this kind in this file, with these packages
+abbrev pub HasLock : List Document → LockKind → File → List LockedPackage → Type 0
+HasLock documents kind file ps = Contains documents (record { kind = Lock kind; file = file }) × HasPackages kind file ps
 
 -- one of the documents is a lock in this file, and has this package
 abbrev pub HasPackage : List Document → File → LockedPackage → Type 0
-HasPackage documents file p = (kind : LockKind) × (t : Members) × HasDocument documents (Lock kind) file t × Contains (locked kind file.text t) p
+HasPackage documents file p = (kind : LockKind) × (ps : List LockedPackage) × HasLock documents kind file ps × Contains ps p
 
 -- the string is this requirement, and has no marker and no URL
 abbrev pub AlwaysAsks : ProjectString → Needed → Type 0
@@ -63,7 +75,7 @@ pub record IsInvalidString (documents : List Document) (f : Finding) : Type 0 wh
   pub file : File
   pub string : ProjectString
   pub table : Members
-  pub has : HasDocument documents Project file table
+  pub has : HasProject documents file table
   pub within : Contains (sources table) string
   pub is : IsSectionMeaning (groups table) string.section (string_line file string) string.text (IsNone f)
 
@@ -80,7 +92,7 @@ pub record IsConflict (documents : List Document) (f : Finding) : Type 0 where
   pub file : File
   pub table : Members
   pub part : Section
-  pub has : HasDocument documents Project file table
+  pub has : HasProject documents file table
   pub right : IsRight (part_lines file table part) f
 
 -- the version of the package is none
@@ -111,13 +123,13 @@ pub record IsMissing (documents : List Document) (f : Finding) : Type 0 where
   pub string : ProjectString
   pub lock : File
   pub kind : LockKind
-  pub table : Members
+  pub packages : List LockedPackage
   pub needed : Needed
   pub has : HasString documents file string
   pub counts : is_needed string.section ≡ true
   pub asks : AlwaysAsks string needed
-  pub known : HasDocument documents (Lock kind) lock table
-  pub none : All (λ (p : LockedPackage). same_name needed.name p.name ≡ false) (locked kind lock.text table)
+  pub known : HasLock documents kind lock packages
+  pub none : All (λ (p : LockedPackage). same_name needed.name p.name ≡ false) packages
   pub is : f ≡ NoRequirement (string_line file string) (codes "the lock has no package of this name") 0
 
 -- the list of a requirement of a project does not contain the version of a package of its name
@@ -159,7 +171,7 @@ NoFindingMeansContained = (documents : List Document) (r : Report) → IsDocumen
 
 -- the requirements of the part of each string of each project that have one name, and the same marker or none, have a version in common
 abbrev pub AllSatisfiable : List Document → Type 0
-AllSatisfiable documents = (file : File) (t : Members) (s : ProjectString) (xs : List StringReading) (a : Demand) (m : Option (List ℕ)) → HasDocument documents Project file t → Contains (sources t) s
+AllSatisfiable documents = (file : File) (t : Members) (s : ProjectString) (xs : List StringReading) (a : Demand) (m : Option (List ℕ)) → HasProject documents file t → Contains (sources t) s
     → AllZip (IsStringReading (groups t) file) (sources t) xs → Contains (part_demands (groups t).inclusions (section_part s.section) xs) a
     → ¬ HaveNone (under m (filter (has_same_name a) (part_demands (groups t).inclusions (section_part s.section) xs)))
 
@@ -169,6 +181,6 @@ NoFindingMeansSatisfiable = (documents : List Document) (r : Report) → IsDocum
 
 -- ---- one report
 
--- documents that are TOML in UTF-8 have at most one report
+-- documents that are TOML or JSON in UTF-8 have at most one report
 abbrev pub DocumentReportsOnce : Type 0
 DocumentReportsOnce = (documents : List Document) (r s : Report) → All IsReadable documents → IsDocumentsReport documents r → IsDocumentsReport documents s → r ≡ s

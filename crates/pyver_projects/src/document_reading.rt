@@ -1,19 +1,25 @@
 // What documents are to the check.
-ghost use Rattle.std.specs.Prelude.{◌≡◌, IfOk};
-ghost use Rattle.pyver_projects.specs.Meanings.{IsBrokenReading, IsDocumentReading, IsTableReading, IsTomlReading};
-ghost use Rattle.pyver_projects.specs.ProjectViews.{document_of, document_reading_of};
+ghost use Rattle.std.specs.Prelude.{◌≡◌, IfOk, map};
+ghost use Rattle.pyver_projects.specs.Locks.{locked, toml_packages};
+ghost use Rattle.pyver_projects.specs.Meanings.{IsBrokenReading, IsDocumentReading, IsLockReading, IsPackagesReading, IsProjectReading, IsTextReading};
+ghost use Rattle.pyver_projects.specs.ProjectViews.{document_of, document_reading_of, locked_of};
 ghost use Rattle.pyver_projects.specs.declared.document_kind.DocumentKind.TheVariants as of_kind;
+ghost use Rattle.pyver_projects.specs.declared.document_kind.LockKind.TheVariants as lock_kind;
 ghost use Rattle.toml.specs.View.{table_view};
 
 use crate::document::Document;
 use crate::document_kind::{DocumentKind, LockKind};
 use crate::groups::read_groups;
+use crate::locked_package::LockedPackage;
 use crate::locked_reading::{LockedReading, read_packages};
-use crate::place::reject_document;
+use crate::pipfile_lock::pipfile_packages;
+use crate::place::{position_of, reject_document};
 use crate::project::project_strings;
+use crate::quoted_lines::read_quoted_lines;
 use crate::string_reading::{StringReading, read_strings};
-use crate::toml_lock::locked_packages;
+use crate::toml_lock::toml_packages;
 use pyver_findings::Finding;
+use serde_json::Value;
 use std::alloc::{AllocError, Global};
 use toml::Table;
 
@@ -34,41 +40,24 @@ fn read_project(
     text: &str,
     table: &Table,
 ) -> Result<DocumentReading, AllocError>
-    ensures { IfOk result (λ x. IsTableReading of_kind.Project (record { name = name.now; text = text.now }) (table_view table.now) (document_reading_of x)) }
+    ensures { IfOk result (λ x. IsProjectReading (record { name = name.now; text = text.now }) (table_view table.now) (document_reading_of x)) }
 {
     let strings = project_strings(alloc, table)?;
     let groups = read_groups(alloc, table, strings.as_slice())?;
-    let readings = read_strings(alloc, &groups, name, text, strings.as_slice())?;
+    let lines = read_quoted_lines(alloc, text.as_bytes())?;
+    let readings = read_strings(alloc, &groups, name, &lines, strings.as_slice())?;
     Ok(DocumentReading::Project(readings))
 }
 
+// What a lock with this name is, which has these packages.
 fn read_lock(
     alloc: Global,
-    kind: LockKind,
     name: &[u8],
-    text: &str,
-    table: &Table,
+    packages: &[LockedPackage],
 ) -> Result<DocumentReading, AllocError>
-    ensures { IfOk result (λ x. IsTableReading (of_kind.Lock kind) (record { name = name.now; text = text.now }) (table_view table.now) (document_reading_of x)) }
+    ensures { IfOk result (λ x. IsLockReading name.now (map locked_of packages.now) (document_reading_of x)) }
 {
-    let packages = locked_packages(alloc, kind, text, table)?;
-    let readings = read_packages(alloc, name, packages.as_slice())?;
-    Ok(DocumentReading::Lock(readings))
-}
-
-fn read_table(
-    alloc: Global,
-    kind: DocumentKind,
-    name: &[u8],
-    text: &str,
-    table: &Table,
-) -> Result<DocumentReading, AllocError>
-    ensures { IfOk result (λ x. IsTableReading kind (record { name = name.now; text = text.now }) (table_view table.now) (document_reading_of x)) }
-{
-    match kind {
-        DocumentKind::Project => read_project(alloc, name, text, table),
-        DocumentKind::Lock(lock) => read_lock(alloc, lock, name, text, table),
-    }
+    Ok(DocumentReading::Lock(read_packages(alloc, name, packages)?))
 }
 
 fn reject_toml(
@@ -86,18 +75,79 @@ fn reject_toml(
     reject_document(alloc, name, text.as_bytes(), position, error.message())
 }
 
-fn read_toml(
+fn reject_json(
+    alloc: Global,
+    name: &[u8],
+    text: &str,
+    error: &serde_json::Error,
+) -> Result<DocumentReading, AllocError>
+    ensures broken { IfOk result (λ x. IsBrokenReading (record { name = name.now; text = text.now }) (document_reading_of x)) }
+{
+    let position = position_of(text.as_bytes(), error.line(), error.column());
+    reject_document(alloc, name, text.as_bytes(), position, "not JSON")
+}
+
+fn read_toml_project(alloc: Global, name: &[u8], text: &str) -> Result<DocumentReading, AllocError>
+    ensures { IfOk result (λ x. IsTextReading of_kind.Project (record { name = name.now; text = text.now }) (document_reading_of x)) }
+{
+    match toml::table_from_str(alloc, text) {
+        Ok(table) => read_project(alloc, name, text, &table),
+        Err(error) if error.is_memory() => Err(AllocError),
+        Err(error) => reject_toml(alloc, name, text, &error),
+    }
+}
+
+// What a TOML lock is that has its packages at the key, each under the header.
+fn read_toml_lock(
+    alloc: Global,
+    name: &[u8],
+    text: &str,
+    key: &str,
+    header: &str,
+) -> Result<DocumentReading, AllocError>
+    ensures { IfOk result (λ x. IsPackagesReading (record { name = name.now; text = text.now }) (toml_packages key.now header.now text.now) (document_reading_of x)) }
+{
+    match toml::table_from_str(alloc, text) {
+        Ok(table) => {
+            let packages = toml_packages(alloc, key, header, text, &table)?;
+            read_lock(alloc, name, packages.as_slice())
+        }
+        Err(error) if error.is_memory() => Err(AllocError),
+        Err(error) => reject_toml(alloc, name, text, &error),
+    }
+}
+
+fn read_pipfile_lock(alloc: Global, name: &[u8], text: &str) -> Result<DocumentReading, AllocError>
+    ensures { IfOk result (λ x. IsPackagesReading (record { name = name.now; text = text.now }) (locked lock_kind.Pipfile text.now) (document_reading_of x)) }
+{
+    match Value::from_str(alloc, text) {
+        Ok(document) => {
+            let lines = read_quoted_lines(alloc, text.as_bytes())?;
+            let packages = pipfile_packages(alloc, &lines, &document)?;
+            read_lock(alloc, name, packages.as_slice())
+        }
+        Err(error) if error.is_memory() => Err(AllocError),
+        Err(error) => reject_json(alloc, name, text, &error),
+    }
+}
+
+fn read_text(
     alloc: Global,
     kind: DocumentKind,
     name: &[u8],
     text: &str,
 ) -> Result<DocumentReading, AllocError>
-    ensures { IfOk result (λ x. IsTomlReading kind (record { name = name.now; text = text.now }) (document_reading_of x)) }
+    ensures { IfOk result (λ x. IsTextReading kind (record { name = name.now; text = text.now }) (document_reading_of x)) }
 {
-    match toml::table_from_str(alloc, text) {
-        Ok(table) => read_table(alloc, kind, name, text, &table),
-        Err(error) if error.is_memory() => Err(AllocError),
-        Err(error) => reject_toml(alloc, name, text, &error),
+    match kind {
+        DocumentKind::Project => read_toml_project(alloc, name, text),
+        DocumentKind::Lock(LockKind::Pylock) => {
+            read_toml_lock(alloc, name, text, "packages", "[[packages]]")
+        }
+        DocumentKind::Lock(LockKind::Uv | LockKind::Poetry) => {
+            read_toml_lock(alloc, name, text, "package", "[[package]]")
+        }
+        DocumentKind::Lock(LockKind::Pipfile) => read_pipfile_lock(alloc, name, text),
     }
 }
 
@@ -111,7 +161,7 @@ pub(crate) fn read_document(
     let name = document.file.name.as_slice();
     let text = document.file.text.as_slice();
     match std::str::from_utf8(text) {
-        Ok(text) => read_toml(alloc, document.kind, name, text),
+        Ok(text) => read_text(alloc, document.kind, name, text),
         Err(_) => reject_document(alloc, name, text, 0, "not UTF-8"),
     }
 }

@@ -131,7 +131,7 @@ fn read_documents(alloc: Global, documents: &[Document]) -> Result<Vec<DocumentR
 #[tactic(auto, using(crate::proofs::Sound::sound_documents))]
 /// What is wrong in the documents. First what is wrong in each by itself, in order: strings of a project that are no requirement, no list
 /// of specifiers or no version, names of included groups (PEP 735) that no group has, or that include the group in turn, versions of a lock
-/// that are none, and a document that is not TOML in UTF-8; and, after the strings of a project, its requirements that hold together and
+/// that are none, and a document that is not TOML, or JSON, in UTF-8; and, after the strings of a project, its requirements that hold together and
 /// have no version in common, as `pyver_findings` reports them, each once: `project.dependencies`; these with each extra, and
 /// with each group and all that it includes; and what the build requires. Then what is wrong in each
 /// project beside each lock: for each requirement, in order, whether the lock lacks a package of its name, and the lines of the locked
@@ -139,9 +139,10 @@ fn read_documents(alloc: Global, documents: &[Document]) -> Result<Vec<DocumentR
 ///
 /// Of `pyproject.toml` these are read: `project.dependencies`, `project.optional-dependencies`, `project.requires-python`,
 /// `project.version`, `dependency-groups` with the names of included groups, and `build-system.requires`; of a lock
-/// the names and versions of its packages. Values of other types are passed over. Extras and groups come in the order of their names. A
-/// string has the number of the first line on which it stands in quotes, a package the number of its header; either has 1 without one.
-/// Each string and each package counts as a line.
+/// the names and versions of its packages, in `Pipfile.lock` of the members of `default` and `develop`. Values of other types are passed
+/// over. Extras and groups come in the order of their names. A string has the number of the first line on which it stands in quotes, a
+/// package of `Pipfile.lock` the number of the first line with its name in quotes, another package the number of its header. Either has 1
+/// without one. Each string and each package counts as a line.
 ///
 /// A requirement with a marker or a URL, or of the build, is not compared, and only `project.dependencies` are to be in each lock.
 /// Takes time for each requirement and locked version, and for each extra or group and requirement.

@@ -2,7 +2,7 @@
 ghost use Rattle.pyver_projects.specs.ProjectLaws.{DocumentReportsOnce, DocumentFindingsHold, NoFindingMeansContained, NoFindingMeansSatisfiable};
 
 /// What is reported by itself is a string of a project that is not what it is to be there, a package whose version is none, a document that
-/// is not TOML in UTF-8, or a requirement whose name no package of some lock has. Lines that are reported together belong to a requirement and
+/// is not TOML, or JSON, in UTF-8, or a requirement whose name no package of some lock has. Lines that are reported together belong to a requirement and
 /// to a package of its name whose version it does not contain, or to requirements of a project that hold together, have no version in
 /// common, and have one without any one of them.
 pub fn findings_hold()
@@ -21,7 +21,7 @@ pub fn no_finding_means_satisfiable()
     ensures { NoFindingMeansSatisfiable }
 {}
 
-/// Documents that are TOML in UTF-8 have at most one report.
+/// Documents that are TOML, or JSON, in UTF-8 have at most one report.
 pub fn reports_once()
     ensures { DocumentReportsOnce }
 {}

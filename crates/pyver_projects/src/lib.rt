@@ -1,6 +1,6 @@
 //! What is wrong in a project's documents: `pyproject.toml` and its locks.
 //!
-//! In reading order: `DocumentKind` and `kind_of_path`; `Document` and `find_document_problems`; and `laws`.
+//! In reading order: `DocumentKind`, `kind_of_path` and `kind_of_word`; `Document` and `find_document_problems`; and `laws`.
 #![tactic(auto)]
 
 mod document;
@@ -12,9 +12,11 @@ pub mod laws;
 mod lock_comparison;
 mod locked_package;
 mod locked_reading;
+mod pipfile_lock;
 mod place;
 mod project;
 mod project_string;
+mod quoted_lines;
 mod section;
 mod string_reading;
 mod table;
@@ -23,5 +25,5 @@ mod toml_lock;
 mod version_reason;
 
 pub use document::Document;
-pub use document_kind::{DocumentKind, LockKind, kind_of_path};
+pub use document_kind::{DocumentKind, LockKind, kind_of_path, kind_of_word};
 pub use document_report::find_document_problems;

@@ -2,85 +2,29 @@
 ghost use Rattle.std.specs.Prelude.{◌≡◌, IfOk};
 ghost use Rattle.pyver_findings.specs.Views.{file_line_of};
 ghost use Rattle.pyver_projects.specs.Meanings.{IsBrokenReading, string_line};
-ghost use Rattle.pyver_projects.specs.Places.{before_first, first_line, header_lines, line_after, number_or_one, opens_with, quoted_string};
+ghost use Rattle.pyver_projects.specs.Places.{header_lines};
 ghost use Rattle.pyver_projects.specs.ProjectViews.{document_reading_of, project_string_of};
+ghost use Rattle.pyver_projects.specs.QuotedStrings.{HasQuotedLines};
 
 use crate::document_reading::DocumentReading;
 use crate::project_string::ProjectString;
+use crate::quoted_lines::{QuotedLines, line_after, line_number};
 use pyver_findings::{FileLine, Finding};
 use std::alloc::{AllocError, Global};
 
-fn quote(alloc: Global, string: &[u8], mark: u8) -> Result<Vec<u8>, AllocError>
-    ensures { IfOk result (λ text. text.items ≡ quoted_string mark string.now) }
-{
-    let mut text = Vec::new(alloc);
-    text.push(mark)?;
-    text.extend_from_slice(string)?;
-    text.push(mark)?;
-    Ok(text)
-}
-
-fn opens_with(text: &[u8], double: &[u8], single: &[u8]) -> bool
-    ensures { result ≡ opens_with double.now single.now text.now }
-{
-    text.starts_with(double) || text.starts_with(single)
-}
-
-// What stands before the first of the two, or all.
-fn before_first<'a>(text: &'a [u8], double: &[u8], single: &[u8]) -> &'a [u8]
-    ensures { result.now ≡ before_first double.now single.now text.now }
-{
-    for (at, _) in text.iter().enumerate() {
-        if opens_with(&text[at..], double, single) {
-            return &text[..at];
-        }
-    }
-    text
-}
-
-// The number of the line after this.
-fn line_after(before: &[u8]) -> usize
-    ensures { result ≡ line_after before.now }
-{
-    before.iter().filter(|byte| **byte == b'\n').count() + 1
-}
-
-// The number, from 1, of the first line of the document on which the string stands in quotes. There is none if it is
-// written with an escape.
-fn find_line(alloc: Global, text: &str, string: &str) -> Result<Option<usize>, AllocError>
-    ensures { IfOk result (λ line. line ≡ first_line text.now string.now) }
-{
-    let double = quote(alloc, string.as_bytes(), b'"')?;
-    let single = quote(alloc, string.as_bytes(), b'\'')?;
-    let before = before_first(text.as_bytes(), double.as_slice(), single.as_slice());
-    if before.len() == text.len() {
-        return Ok(None);
-    }
-    Ok(Some(line_after(before)))
-}
-
-fn number_or_one(line: Option<usize>) -> u64
-    ensures { result ≡ number_or_one line }
-{
-    match line {
-        Some(number) => number as u64,
-        None => 1,
-    }
-}
-
-// A string of this section as a line of the file with this name and text.
+// A string as a line of the file with this name.
 pub(crate) fn string_line(
     alloc: Global,
     name: &[u8],
-    text: &str,
+    lines: &QuotedLines,
     string: &ProjectString,
 ) -> Result<FileLine, AllocError>
-    ensures { IfOk result (λ line. file_line_of line ≡ string_line (record { name = name.now; text = text.now }) (project_string_of string.now)) }
+    requires { HasQuotedLines lines.now }
+    ensures { IfOk result (λ line. file_line_of line ≡ string_line (record { name = name.now; text = lines.now.text.now }) (project_string_of string.now)) }
 {
-    let number = find_line(alloc, text, string.text.as_str())?;
     Ok(FileLine {
         file: Vec::from_slice(alloc, name)?,
-        number: number_or_one(number),
+        number: line_number(lines, string.text.as_bytes()),
         text: Vec::from_slice(alloc, string.text.as_bytes())?,
     })
 }
@@ -140,6 +84,20 @@ fn text_from(text: &[u8], position: usize) -> &[u8] {
     } else {
         &[]
     }
+}
+
+// The position of the byte in this column of this line, both from 1.
+pub(crate) fn position_of(text: &[u8], line: usize, column: usize) -> usize {
+    let mut number: usize = 1;
+    for (at, byte) in text.iter().enumerate() {
+        if number == line {
+            return at.saturating_add(column.saturating_sub(1));
+        }
+        if *byte == b'\n' {
+            number = number.saturating_add(1);
+        }
+    }
+    text.len()
 }
 
 // That the document with this name is not read for this reason, with the line and the column of the position.

@@ -10,10 +10,12 @@ ghost use Rattle.pyver_findings.specs.Views.{file_line_of, line_meaning_of};
 ghost use Rattle.pyver_projects.specs.Groups.{include_meaning, no_group};
 ghost use Rattle.pyver_projects.specs.Meanings.{IsSectionMeaning, IsStringReading, IsVersionMeaning};
 ghost use Rattle.pyver_projects.specs.ProjectViews.{groups_of, project_string_of, section_of, string_reading_of};
+ghost use Rattle.pyver_projects.specs.QuotedStrings.{HasQuotedLines};
 
 use crate::groups::{Groups, has_name, included_groups};
 use crate::place::string_line;
 use crate::project_string::ProjectString;
+use crate::quoted_lines::QuotedLines;
 use crate::section::Section;
 use crate::version_reason::version_reason;
 use pep440_rs::{Version, VersionParseError};
@@ -105,17 +107,18 @@ fn parse_string(
     }
 }
 
-// What a string of the file with this name and text is.
+// What a string of the file with this name is.
 fn read_string(
     alloc: Global,
     groups: &Groups,
     name: &[u8],
-    text: &str,
+    lines: &QuotedLines,
     string: &ProjectString,
 ) -> Result<StringReading, AllocError>
-    ensures { IfOk result (λ x. IsStringReading (groups_of groups.now) (record { name = name.now; text = text.now }) (project_string_of string.now) (string_reading_of x)) }
+    requires { HasQuotedLines lines.now }
+    ensures { IfOk result (λ x. IsStringReading (groups_of groups.now) (record { name = name.now; text = lines.now.text.now }) (project_string_of string.now) (string_reading_of x)) }
 {
-    let line = string_line(alloc, name, text, string)?;
+    let line = string_line(alloc, name, lines, string)?;
     let meaning = parse_string(alloc, groups, &string.section, &line, string.text.as_str())?;
     Ok(StringReading {
         section: string.section.clone()?,
@@ -128,14 +131,15 @@ pub(crate) fn read_strings(
     alloc: Global,
     groups: &Groups,
     name: &[u8],
-    text: &str,
+    lines: &QuotedLines,
     strings: &[ProjectString],
 ) -> Result<Vec<StringReading>, AllocError>
-    ensures { IfOk result (λ xs. AllZip (IsStringReading (groups_of groups.now) (record { name = name.now; text = text.now })) (map project_string_of strings.now) (map string_reading_of xs.items)) }
+    requires { HasQuotedLines lines.now }
+    ensures { IfOk result (λ xs. AllZip (IsStringReading (groups_of groups.now) (record { name = name.now; text = lines.now.text.now })) (map project_string_of strings.now) (map string_reading_of xs.items)) }
 {
     let mut readings = Vec::new(alloc);
     for string in strings {
-        readings.push(read_string(alloc, groups, name, text, string)?)?;
+        readings.push(read_string(alloc, groups, name, lines, string)?)?;
     }
     Ok(readings)
 }

@@ -1,45 +1,15 @@
-// The packages in a lock.
-ghost use Rattle.std.specs.Prelude.{◌≡◌, ◌++◌, IfOk, get_or, map, option_map, string_bytes};
+// The packages of a TOML lock.
+ghost use Rattle.std.specs.Prelude.{◌≡◌, ◌++◌, IfOk, get_or, map, option_map};
 ghost use Rattle.pyver_projects.specs.Documents.{package_from, package_in, packages};
-ghost use Rattle.pyver_projects.specs.Locks.{locked, packages_header, packages_key};
+ghost use Rattle.pyver_projects.specs.Places.{header_lines};
 ghost use Rattle.pyver_projects.specs.ProjectViews.{locked_of};
 ghost use Rattle.toml.specs.View.{table_view, view};
 
-use crate::document_kind::LockKind;
-use crate::locked_package::LockedPackage;
+use crate::locked_package::{LockedPackage, copy_text};
 use crate::place::header_lines;
 use crate::table::{items, text, top};
 use std::alloc::{AllocError, Global};
 use toml::{Table, Value};
-
-// The key of the packages.
-fn packages_key(kind: LockKind) -> &'static str
-    ensures { result.now ≡ packages_key kind }
-{
-    match kind {
-        LockKind::Pylock => "packages",
-        LockKind::Uv | LockKind::Poetry => "package",
-    }
-}
-
-// The header of a package.
-fn packages_header(kind: LockKind) -> &'static str
-    ensures { result.now ≡ packages_header kind }
-{
-    match kind {
-        LockKind::Pylock => "[[packages]]",
-        LockKind::Uv | LockKind::Poetry => "[[package]]",
-    }
-}
-
-fn copy_text(alloc: Global, text: Option<&str>) -> Result<Option<String>, AllocError>
-    ensures { IfOk result (λ copy. option_map string_bytes copy ≡ option_map (λ t. t.now) text.entry) }
-{
-    match text {
-        Some(text) => Ok(Some(String::from_str(alloc, text)?)),
-        None => Ok(None),
-    }
-}
 
 // Adds the package, if it has a name.
 fn push_package(
@@ -100,15 +70,16 @@ fn read_packages(
     Ok(found)
 }
 
-// The packages of a lock with this text.
-pub(crate) fn locked_packages(
+// The packages of a lock with this text, at the key, each under the header.
+pub(crate) fn toml_packages(
     alloc: Global,
-    kind: LockKind,
+    key: &str,
+    header: &str,
     text: &str,
     document: &Table,
 ) -> Result<Vec<LockedPackage>, AllocError>
-    ensures { IfOk result (λ found. map locked_of found.items ≡ locked kind text.now (table_view document.now)) }
+    ensures { IfOk result (λ found. map locked_of found.items ≡ packages (header_lines header.now text.now) key.now (table_view document.now)) }
 {
-    let lines = header_lines(alloc, packages_header(kind).as_bytes(), text.as_bytes())?;
-    read_packages(alloc, lines.as_slice(), packages_key(kind), document)
+    let lines = header_lines(alloc, header.as_bytes(), text.as_bytes())?;
+    read_packages(alloc, lines.as_slice(), key, document)
 }
