@@ -85,6 +85,14 @@ class Garbage(unittest.TestCase):
                 except refusal:
                     pass
 
+    def test_sorts_of_each_size(self):
+        """By words, and where a string has none by keys; equal ones stay in order."""
+        random.seed(440)
+        for count in (0, 1, 2, 24, 25, 4095, 4096, 70_000):
+            for suffixes in ([""], ["", ".0", "rc1", ".post2", ".dev3"], ["", ".0", "+u.1"]):
+                texts = [f"{random.randrange(3)}.{random.randrange(250)}{random.choice(suffixes)}" for _ in range(count)]
+                self.assertEqual(sort_texts(texts), sorted(texts, key=Version))
+
     def test_a_list_that_shrinks_meanwhile(self):
         class Shrinking:
             def __init__(self):
