@@ -81,6 +81,10 @@ module _ {R : Type 0} (files : List ℕ → KnownFile) (remaining : R → Option
     stops,
   )
 
+  -- an allocation failed after all was read
+  pub stops_after_text : (reader reader' : R) (text : List ℕ) → ReadsWhole files remaining origin.name reader reader' text → StopsInSource files remaining origin reader reader' run_failure.OutOfMemory
+  stops_after_text reader reader' text (left, reads, end) = part_read run_failure.OutOfMemory reader reader' text left reads tt
+
   unread : (named : Bool) (reader : R) → is_input origin.name ≡ named → StopsInSource files remaining origin reader reader run_failure.OutOfMemory
   unread true reader named = part_read run_failure.OutOfMemory reader reader [] (remaining reader) (subst (λ t. ReadsText files remaining t (files origin.name) reader reader [] (remaining reader)) (sym named) (Consumes-nil (remaining reader), refl)) tt
   unread false reader named = inl (named, refl, refl)
