@@ -27,7 +27,7 @@ _pyver() {
         *,bump,--to) words='' ;;
         *,bump,*) words='-h --help --to major minor patch stable alpha beta rc post dev' ;;
         *,range,*) words='-h --help --cover --json' ;;
-        *,check,--format) words='requirements pyproject pylock uv poetry' ;;
+        *,check,--format) words='requirements pyproject pylock uv poetry pipfile' ;;
         *,check,*) words='-h --help -q --quiet --each --format --json' ;;
     esac
     [[ ! ${COMP_WORDS[1]} =~ ^(filter|sort|newest|check)$ ]] || compopt -o default 2> /dev/null

@@ -1,21 +1,13 @@
 -- The kinds of files: by their names, or else by the option `--format`.
-use Rattle.std.specs.Prelude.{ℕ, List, Option, Some, None, bytes_eq, codes, if◌then◌else◌}
-use Rattle.pyver_projects.specs.DocumentKinds.{kind_of_path}
+use Rattle.std.specs.Prelude.{ℕ, List, Option, Some, None, bytes_eq, codes, option_map, if◌then◌else◌}
+use Rattle.pyver_projects.specs.DocumentKinds.{kind_of_path, kind_of_word}
 use Rattle.pyver_projects.specs.declared.document_kind.DocumentKind.{DocumentKind}
-use Rattle.pyver_projects.specs.declared.document_kind.DocumentKind.TheVariants.{Lock, Project}
-use Rattle.pyver_projects.specs.declared.document_kind.LockKind.TheVariants.{Poetry, Pylock, Uv}
 use Rattle.pyver_tool.specs.declared.file_kind.FileKind.{FileKind}
 use Rattle.pyver_tool.specs.declared.file_kind.FileKind.TheVariants.{Document, Requirements}
 
--- the value of `--format`: `requirements`, `pyproject`, `pylock`, `uv` or `poetry`
+-- the value of `--format`: `requirements`, or the word of a document's kind
 abbrev pub file_kind_of : List ℕ → Option FileKind
-file_kind_of word =
-    if bytes_eq word (codes "requirements") then Some Requirements
-    else if bytes_eq word (codes "pyproject") then Some (Document Project)
-    else if bytes_eq word (codes "pylock") then Some (Document (Lock Pylock))
-    else if bytes_eq word (codes "uv") then Some (Document (Lock Uv))
-    else if bytes_eq word (codes "poetry") then Some (Document (Lock Poetry))
-    else None
+file_kind_of word = if bytes_eq word (codes "requirements") then Some Requirements else option_map Document (kind_of_word word)
 
 abbrev pub kind_by : FileKind → Option DocumentKind → FileKind
 kind_by other None = other

@@ -2,7 +2,7 @@
 ghost use Rattle.std.specs.Prelude.{◌≡◌};
 ghost use Rattle.pyver_tool.specs.FileKinds.{file_kind_of, kind_by_name};
 
-use pyver_projects::{DocumentKind, LockKind, kind_of_path};
+use pyver_projects::{DocumentKind, kind_of_path, kind_of_word};
 
 // What a file is read as.
 #[derive(Clone, Copy)]
@@ -15,14 +15,11 @@ pub(crate) enum FileKind {
 pub(crate) fn parse_file_kind(word: &str) -> Option<FileKind>
     ensures { result ≡ file_kind_of word.now }
 {
-    match word {
-        "requirements" => Some(FileKind::Requirements),
-        "pyproject" => Some(FileKind::Document(DocumentKind::Project)),
-        "pylock" => Some(FileKind::Document(DocumentKind::Lock(LockKind::Pylock))),
-        "uv" => Some(FileKind::Document(DocumentKind::Lock(LockKind::Uv))),
-        "poetry" => Some(FileKind::Document(DocumentKind::Lock(LockKind::Poetry))),
-        _ => None,
+    if word == "requirements" {
+        return Some(FileKind::Requirements);
     }
+    let kind = kind_of_word(word)?;
+    Some(FileKind::Document(kind))
 }
 
 impl FileKind {

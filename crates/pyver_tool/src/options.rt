@@ -145,7 +145,14 @@ const FORMAT: OptionRow = (
     "",
     "--format",
     "KIND",
-    &["requirements", "pyproject", "pylock", "uv", "poetry"],
+    &[
+        "requirements",
+        "pyproject",
+        "pylock",
+        "uv",
+        "poetry",
+        "pipfile",
+    ],
     "the kind of files that have none by name",
 );
 
