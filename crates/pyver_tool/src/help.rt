@@ -263,9 +263,9 @@ satisfies together, and versions that one line names and another excludes. '-' a
 standard input. Files that lines name after -r and -c are read too, each once; their paths are
 relative to the file that names them. Lines with different markers do not count together.
 A file named pyproject.toml is read as a project, one named pylock.toml, uv.lock, poetry.lock or
-Pipfile.lock as a lock: malformed strings are reported, requirements of a project that no version
-satisfies together, and, for each lock beside it, versions that it excludes and names that the lock
-lacks. KIND is requirements, pyproject, pylock, uv, poetry or pipfile.
+Pipfile.lock as a lock: malformed strings are reported, requirements that no version satisfies
+together, and, for each lock beside a project, versions that it excludes and names the lock lacks.
+KIND is requirements, pyproject, pylock, uv, poetry or pipfile.
 Standard error says how much was read, and how much was left out: options of pip, editables, paths,
 archives, URLs, and lines with a variable. The exit status is 0 if nothing is wrong, 1 if something
 is, and 2 if a file cannot be opened; the other files are checked all the same.
