@@ -6,7 +6,7 @@ use Rattle.pyver_tool.specs.declared.file_kind.FileKind.{FileKind}
 use Rattle.pyver_tool.specs.declared.file_kind.FileKind.TheVariants.{Document, Requirements}
 
 -- the value of `--format`: `requirements`, or the word of a document's kind
-abbrev pub file_kind_of : List ℕ → Option FileKind
+unfoldable pub file_kind_of : List ℕ → Option FileKind
 file_kind_of word = if bytes_eq word (codes "requirements") then Some Requirements else option_map Document (kind_of_word word)
 
 abbrev pub kind_by : FileKind → Option DocumentKind → FileKind
