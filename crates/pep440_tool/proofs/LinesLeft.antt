@@ -3,32 +3,32 @@ use Rattle.std.proofs.Common.{Bor, ◌≡◌, ◌==◌, ◌+◌, ◌<◌, ◌^�
 use Rattle.std.proofs.lemmas.List.{drop_more}
 use Rattle.std.specs.Option.{option_map_or}
 use Rattle.std.proofs.lemmas.List.Splits.{slice_split_at}
-use Rattle.pep440_tool.specs.Lines.{is_skipped, lines, numbered_from}
+use Rattle.pep440_tool.specs.Lines.{is_skipped, input_lines, numbered_from}
 use Rattle.pep440_tool.specs.LinesLeft.{left_of}
 
 -- the first line ends at the first newline
-pub line_read : (input : List ℕ) (i : ℕ) → i < length input → get_or input i 0 ≡ 10 → All (λ x. (x == 10) ≡ false) (take i input) → lines input ≡ take i input ∷ lines (drop (i + 1) input)
+pub line_read : (input : List ℕ) (i : ℕ) → i < length input → get_or input i 0 ≡ 10 → All (λ x. (x == 10) ≡ false) (take i input) → input_lines input ≡ take i input ∷ input_lines (drop (i + 1) input)
 line_read input i inside newline before =
     let parts : input ≡ take i input ++ 10 ∷ drop (i + 1) input =
     sym (take-append-drop i input) ∙ ap (λ (zs : List ℕ). take i input ++ zs) (drop_more input i 0 inside ∙ ap (λ (z : ℕ). z ∷ drop (i + 1) input) newline) in
-    ap lines parts ∙ slice_split_at (λ x. x == 10) (take i input) 10 (drop (i + 1) input) before refl
+    ap input_lines parts ∙ slice_split_at (λ x. x == 10) (take i input) 10 (drop (i + 1) input) before refl
 
 -- one line more was read, of what was left
-one_line : (read : ℕ) (rest : Option (Bor (List ℕ))) (text : Bor (List ℕ)) (line : List ℕ) (later : List (List ℕ)) → rest ≡ Some text → lines text.now ≡ line ∷ later → left_of read rest ≡ numbered_from (read + 1) (line ∷ later)
+one_line : (read : ℕ) (rest : Option (Bor (List ℕ))) (text : Bor (List ℕ)) (line : List ℕ) (later : List (List ℕ)) → rest ≡ Some text → input_lines text.now ≡ line ∷ later → left_of read rest ≡ numbered_from (read + 1) (line ∷ later)
 one_line read rest text line later is decomposition = ap (left_of read) is ∙ ap (numbered_from (read + 1)) decomposition
 
 choice : (b : Bool) (x : ℕ × List ℕ) (xs : List (ℕ × List ℕ)) (c : Bool) → b ≡ c → cond (not b) (x ∷ xs) xs ≡ cond (not c) (x ∷ xs) xs
 choice b x xs c e = ap (λ (d : Bool). cond (not d) (x ∷ xs) xs) e
 
-pub line_left : (read : ℕ) (rest : Option (Bor (List ℕ))) (text : Bor (List ℕ)) (line : List ℕ) (later : Option (Bor (List ℕ))) → rest ≡ Some text → lines text.now ≡ line ∷ option_map_or (λ r. lines r.now) later [] → is_skipped line ≡ false
+pub line_left : (read : ℕ) (rest : Option (Bor (List ℕ))) (text : Bor (List ℕ)) (line : List ℕ) (later : Option (Bor (List ℕ))) → rest ≡ Some text → input_lines text.now ≡ line ∷ option_map_or (λ r. input_lines r.now) later [] → is_skipped line ≡ false
     → left_of read rest ≡ (read + 1, line) ∷ left_of (read + 1) later
 line_left read rest text line later is decomposition full =
-    one_line read rest text line (option_map_or (λ r. lines r.now) later []) is decomposition ∙ choice (is_skipped line) (read + 1, line) (left_of (read + 1) later) false full
+    one_line read rest text line (option_map_or (λ r. input_lines r.now) later []) is decomposition ∙ choice (is_skipped line) (read + 1, line) (left_of (read + 1) later) false full
 
-pub line_skipped : (read : ℕ) (rest : Option (Bor (List ℕ))) (text : Bor (List ℕ)) (line : List ℕ) (later : Option (Bor (List ℕ))) → rest ≡ Some text → lines text.now ≡ line ∷ option_map_or (λ r. lines r.now) later [] → is_skipped line ≡ true
+pub line_skipped : (read : ℕ) (rest : Option (Bor (List ℕ))) (text : Bor (List ℕ)) (line : List ℕ) (later : Option (Bor (List ℕ))) → rest ≡ Some text → input_lines text.now ≡ line ∷ option_map_or (λ r. input_lines r.now) later [] → is_skipped line ≡ true
     → left_of read rest ≡ left_of (read + 1) later
 line_skipped read rest text line later is decomposition blank =
-    one_line read rest text line (option_map_or (λ r. lines r.now) later []) is decomposition ∙ choice (is_skipped line) (read + 1, line) (left_of (read + 1) later) true blank
+    one_line read rest text line (option_map_or (λ r. input_lines r.now) later []) is decomposition ∙ choice (is_skipped line) (read + 1, line) (left_of (read + 1) later) true blank
 
 -- fewer lines were read than there are bytes
 abbrev pub HasRoom : ℕ → Option (Bor (List ℕ)) → Type 0

@@ -16,8 +16,8 @@ use Rattle.pep440_tool.specs.Answers.{ReadsEach, ReadsList, ToolAnswer, line_fau
 -- ---- lines
 
 -- the lines of the input: they end at a newline or at the end
-abbrev pub lines : List ℕ → List (List ℕ)
-lines input = slice_split (λ b. b == 10) input
+abbrev pub input_lines : List ℕ → List (List ℕ)
+input_lines input = slice_split (λ b. b == 10) input
 
 -- a tab, form feed, carriage return or space
 abbrev pub is_line_blank : ℕ → Bool
@@ -33,7 +33,7 @@ numbered_from first texts = filter (λ (line : ℕ × List ℕ). not (is_skipped
 
 -- the lines that are not skipped, each with its number, counted from 1
 abbrev pub numbered_lines : List ℕ → List (ℕ × List ℕ)
-numbered_lines input = numbered_from 1 (lines input)
+numbered_lines input = numbered_from 1 (input_lines input)
 
 -- ---- lines that denote something, or are rejected
 

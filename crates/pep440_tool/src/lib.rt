@@ -18,5 +18,6 @@ mod show_version;
 pub mod stream;
 
 pub use command::answer;
+pub use input_lines::split_line;
 pub use output::Answer;
 pub use program::{refuse, run};

@@ -11,7 +11,8 @@ use Rattle.pyver_tool.proofs.InputLines.{all_append, cuts_all, cuts_more, filled
 use Rattle.pyver_tool.specs.FilterSteps.{Cuts, Goes, Keeps, KeepsMore, SourceFinishes, SourceStops, Steps, StepsBy, Wrote, WroteSome}
 use Rattle.pep440_rs.specs.Prereleases.{list_allows}
 use Rattle.pyver_tool.specs.Filters.{is_printed, is_wanted, printed_lines}
-use Rattle.pyver_tool.specs.InputLines.{SourceLine, Origin, Source, filled_lines_from, input_lines, is_blank, numbered}
+use Rattle.pep440_tool.specs.Lines.{input_lines}
+use Rattle.pyver_tool.specs.InputLines.{SourceLine, Origin, Source, filled_lines_from, is_blank, numbered}
 use Rattle.pyver_tool.specs.InvalidLines.{message_limit}
 use Rattle.pyver_tool.specs.LineOptions.{is_header}
 use Rattle.pyver_tool.specs.ReadLines.{Entry, IsEntry, IsRead, LineReading, ReadLine, fault_at, faults}

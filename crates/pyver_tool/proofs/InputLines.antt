@@ -1,12 +1,13 @@
 -- Lines of a string that grows byte by byte, and lines with their numbers.
-use Rattle.std.proofs.Common.{◌≡◌, ◌∙◌, ◌+◌, ◌==◌, ◌<◌, ℕ, List, [], ◌∷◌, ◌++◌, cond, false, not, length, take, map, get_or, refl, sym, ap, subst, arith, append_assoc, append-nil, drop, take-append-drop}
+use Rattle.std.proofs.Common.{◌≡◌, ◌∙◌, ◌+◌, ◌==◌, ◌<◌, ℕ, List, [], ◌∷◌, ◌++◌, cond, false, not, length, take, map, get_or, refl, sym, ap, subst, arith, append_assoc, append-nil}
 use Rattle.std.specs.List.{AllZip, enumerate_from, filter}
 use Rattle.std.proofs.lemmas.Grind.{flat_map-append}
-use Rattle.std.proofs.lemmas.List.{drop_more, map-append, take_more}
+use Rattle.std.proofs.lemmas.List.{map-append, take_more}
 use Rattle.std.proofs.lemmas.List.Elements.{All-nil, All-push, filter-append}
 use Rattle.std.proofs.lemmas.List.Splits.{length-slice_split, slice_split_at, slice_split_none}
 use Rattle.pyver_tool.specs.FilterSteps.{Cuts, HasNoNewline}
-use Rattle.pyver_tool.specs.InputLines.{SourceLine, Origin, Source, filled_lines, filled_lines_from, input_lines, is_blank, line_in, numbered, source_lines}
+use Rattle.pep440_tool.specs.Lines.{input_lines}
+use Rattle.pyver_tool.specs.InputLines.{SourceLine, Origin, Source, filled_lines, filled_lines_from, is_blank, line_in, numbered, source_lines}
 
 -- ---- the lines of a string
 
@@ -59,13 +60,6 @@ pub bytes_other : (line bytes : List ℕ) (i b : ℕ) (ended : List (List ℕ)) 
     → Cuts (line ++ take (i + 1) bytes) ended next
 bytes_other line bytes i b ended begun next inside is other k more =
     subst (λ t. Cuts t ended next) (taken line bytes i b inside is) (subst (λ n. Cuts ((line ++ take i bytes) ++ b ∷ []) ended n) (sym more) (cuts_byte (line ++ take i bytes) ended begun b other k))
-
--- the first line ends at the first newline
-pub first_line : (text : List ℕ) (i : ℕ) → i < length text → get_or text i 0 ≡ 10 → HasNoNewline (take i text) → input_lines text ≡ take i text ∷ input_lines (drop (i + 1) text)
-first_line text i inside newline before =
-    let parts : text ≡ take i text ++ 10 ∷ drop (i + 1) text =
-    sym (take-append-drop i text) ∙ ap (λ (zs : List ℕ). take i text ++ zs) (drop_more text i 0 inside ∙ ap (λ (z : ℕ). z ∷ drop (i + 1) text) newline) in
-    ap input_lines parts ∙ slice_split_at (λ x. x == 10) (take i text) 10 (drop (i + 1) text) before refl
 
 -- ---- lines with their numbers
 

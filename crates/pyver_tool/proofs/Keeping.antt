@@ -7,7 +7,8 @@ use Rattle.std.specs.List.{AllZip, concat}
 use Rattle.std.specs.Option.{option_map_or}
 use Rattle.pyver_tool.proofs.Filtering.{first-append, length-faults}
 use Rattle.pyver_tool.proofs.InputLines.{all_append, filled_lines-last, filled_lines_from-append, filled_one}
-use Rattle.pyver_tool.specs.InputLines.{Origin, SourceLine, filled_lines, filled_lines_from, input_lines, is_blank, numbered, source_lines}
+use Rattle.pep440_tool.specs.Lines.{input_lines}
+use Rattle.pyver_tool.specs.InputLines.{Origin, SourceLine, filled_lines, filled_lines_from, is_blank, numbered, source_lines}
 use Rattle.pyver_tool.specs.InvalidLines.{last_message, message_limit}
 use Rattle.pyver_tool.specs.LineOptions.{is_header}
 use Rattle.pyver_tool.specs.ReadLines.{Entry, Header, IsEntry, IsRead, LineReading, ReadLine, faults}

@@ -9,7 +9,8 @@ use Rattle.pyver_tool.proofs.Filtering.{began, first-append, length-faults, prin
 use Rattle.pyver_tool.proofs.InputLines.{all_append, filled_lines-last}
 use Rattle.pyver_tool.specs.FilterSteps.{AllFinish, AllStop, FilterFinishes, FilterStops, FinishesBy, OneReads, OneRefuses, OneStops, SourceFinishes, SourceStops, WroteAll}
 use Rattle.pyver_tool.specs.Filters.{filter_outcome, printed_lines}
-use Rattle.pyver_tool.specs.InputLines.{Origin, Source, input_lines}
+use Rattle.pep440_tool.specs.Lines.{input_lines}
+use Rattle.pyver_tool.specs.InputLines.{Origin, Source}
 use Rattle.pyver_tool.specs.InvalidLines.{last_message, lines_status, message_limit}
 use Rattle.pyver_tool.specs.NewestViews.{HasNoLine, kept_line}
 use Rattle.pyver_tool.specs.NewestOutcomes.{NewestLine}

@@ -7,7 +7,8 @@ use Rattle.std.proofs.lemmas.List.{map-append}
 use Rattle.pyver_tool.proofs.InputLines.{some_line}
 use Rattle.pyver_tool.proofs.Keeping.{size_of-append}
 use Rattle.pyver_tool.proofs.SourceFilters.{last_is, reads_last}
-use Rattle.pyver_tool.specs.InputLines.{Origin, Source, input_lines}
+use Rattle.pep440_tool.specs.Lines.{input_lines}
+use Rattle.pyver_tool.specs.InputLines.{Origin, Source}
 use Rattle.pyver_tool.specs.SourceTexts.{GainsSource, StopsInSource, StopsInSources, StopsInText, size_of, source_of}
 use Rattle.pyver_tool.specs.SourceViews.{IsReadingFailure, IsRunFailureOf}
 use Rattle.pyver_tool.specs.Sources.{KnownFile, MayOpen, ReadsAll, ReadsInput, ReadsLines, ReadsSource, ReadsText, ReadsWhole, input_name, input_origin, is_input, is_none, last_name, source_names}

@@ -3,7 +3,8 @@ use Rattle.std.specs.Prelude.{◌≡◌, ◌⊎◌, ◌≤◌, ℕ, ◌+◌, ◌
 use Rattle.std.specs.Io.KnownBytes.{Appends, Consumes, IsAtEnd}
 use Rattle.std.specs.List.{All, AllZip, concat}
 use Rattle.pyver_tool.specs.Filters.{Filters, printed_lines}
-use Rattle.pyver_tool.specs.InputLines.{Origin, Source, filled_lines, filled_lines_from, input_lines, source_lines}
+use Rattle.pep440_tool.specs.Lines.{input_lines}
+use Rattle.pyver_tool.specs.InputLines.{Origin, Source, filled_lines, filled_lines_from, source_lines}
 use Rattle.pyver_tool.specs.InvalidLines.{last_message, lines_status, message_limit}
 use Rattle.pyver_tool.specs.NewestViews.{KeepsNewest}
 use Rattle.pyver_tool.specs.Outcomes.{Outcome}

@@ -1,7 +1,7 @@
 -- The lines of sources that are read: those that are not blank, with their sources and numbers.
 use Rattle.std.specs.Prelude.{ℕ, ◌==◌, ◌&&◌, List, ◌∷◌, Bool, map, not, if◌then◌else◌}
 use Rattle.std.specs.Char.{is_ascii_whitespace}
-use Rattle.std.specs.List.{enumerate_from, filter, flat_map, list_all, slice_split}
+use Rattle.std.specs.List.{enumerate_from, filter, flat_map, list_all}
 use Rattle.std.specs.Str.Lines.{strip_carriage_return}
 
 -- where lines come from: whether no other source comes before it, and the name of a file, or `-` for standard input
@@ -19,10 +19,6 @@ pub record SourceLine : Type 0 where
 pub record Source : Type 0 where
   pub origin : Origin
   pub lines : List (List ℕ)
-
--- the lines of a string: they end at a newline or at the end
-abbrev pub input_lines : List ℕ → List (List ℕ)
-input_lines input = slice_split (λ b. b == 10) input
 
 -- the bytes without a byte order mark at the start
 abbrev pub without_mark : List ℕ → List ℕ

@@ -1,7 +1,8 @@
 -- Sources that are read to their ends before anything is written.
 use Rattle.std.specs.Prelude.{◌≡◌, ◌⊎◌, ◌≤◌, ◌+◌, ◌*◌, ℕ, List, [], ◌∷◌, ◌++◌, false, Option, Some, None, length, map}
 use Rattle.std.specs.Str.{IsUtf8}
-use Rattle.pyver_tool.specs.InputLines.{Origin, Source, input_lines}
+use Rattle.pep440_tool.specs.Lines.{input_lines}
+use Rattle.pyver_tool.specs.InputLines.{Origin, Source}
 use Rattle.pyver_tool.specs.SourceViews.{IsReadingFailure, IsRunFailureOf, origin_of}
 use Rattle.pyver_tool.specs.Sources.{KnownFile, MayRefuse, ReadsByName, ReadsLines, ReadsSource, StopsReading, is_input, last_name}
 use Rattle.pyver_tool.specs.declared.open_failure.OpenFailure.{OpenFailure}

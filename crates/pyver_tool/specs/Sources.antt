@@ -1,7 +1,8 @@
 -- The sources that a run reads, standard input and files, by their names.
 use Rattle.std.specs.Prelude.{◌≡◌, ◌⊎◌, ⊤, ℕ, List, [], ◌∷◌, ◌++◌, Bool, true, false, Option, Some, None, bytes_eq, codes, if◌then◌else◌}
 use Rattle.std.specs.Io.KnownBytes.{Consumes, IsAtEnd}
-use Rattle.pyver_tool.specs.InputLines.{Origin, Source, input_lines}
+use Rattle.pep440_tool.specs.Lines.{input_lines}
+use Rattle.pyver_tool.specs.InputLines.{Origin, Source}
 use Rattle.pyver_tool.specs.Messages.{file_message}
 use Rattle.pyver_tool.specs.declared.open_failure.OpenFailure.{OpenFailure}
 use Rattle.pyver_tool.specs.declared.open_failure.OpenFailure.TheVariants as failure

@@ -1,7 +1,6 @@
 // The lines of sources by what they are: the header, versions, and others.
-ghost use Rattle.std.specs.Prelude.{◌≡◌, ◌<◌, ◌≤◌, ◌∷◌, ◌++◌, [], IfOk, IfSome, length, map};
-ghost use Rattle.std.specs.Option.{option_map_or};
-ghost use Rattle.pyver_tool.specs.InputLines.{input_lines};
+ghost use Rattle.std.specs.Prelude.{◌≡◌, ◌<◌, ◌≤◌, ◌∷◌, ◌++◌, [], IfOk, length, map};
+ghost use Rattle.pep440_tool.specs.Lines.{input_lines};
 ghost use Rattle.pyver_tool.specs.VersionLines.{kept_text};
 
 use crate::filter::push_line_fault;
@@ -12,6 +11,7 @@ use crate::reading::Reading;
 use crate::source_lines::{is_blank, line_text, parse_line};
 use crate::source_texts::SourceText;
 use pep440_rs::Version;
+use pep440_tool::split_line;
 use std::alloc::{AllocError, Global};
 
 // A line as it was written, and its version.
@@ -34,19 +34,6 @@ pub(crate) struct VersionLines<'a> {
     // How many lines were invalid.
     pub(crate) fault_count: u64,
     pub(crate) errors: Vec<u8>,
-}
-
-// The first line, and what stands after its newline if it has one.
-fn split_line(input: &[u8]) -> (&[u8], Option<&[u8]>)
-    ensures lines { input_lines input.now ≡ result.0.now ∷ option_map_or (λ rest. input_lines rest.now) result.1 [] }
-    ensures shorter { IfSome result.1 (λ rest. length rest.now < length input.now) }
-{
-    for (at, byte) in input.iter().enumerate() {
-        if *byte == b'\n' {
-            return (&input[..at], Some(&input[at + 1..]));
-        }
-    }
-    (input, None)
 }
 
 // One more invalid line, where such lines are kept.
