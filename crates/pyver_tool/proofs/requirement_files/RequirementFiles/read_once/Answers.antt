@@ -2,7 +2,7 @@ use Rattle.std.proofs.Common.{◌∙◌, ap, arith, string_bytes, subst, sym}
 use Rattle.pyver_tool.proofs.FileReads.{step_opened}
 use Rattle.pyver_tool.specs.FileSteps.{read_of}
 use Rattle.pyver_tool.specs.RequirementFiles.{has_path}
-use Rattle.pyver_tool.specs.Sources.{ReadsWhole}
+use Rattle.pyver_commands.specs.Sources.{ReadsWhole}
 use Rattle.pyver_tool.proofs.requirement_files.RequirementFiles.read_once.Goals as goal
 
 pub returns-in_ok-push_file-in-Ok-clause-read : goal.returns-in_ok-push_file-in-Ok-clause-read
