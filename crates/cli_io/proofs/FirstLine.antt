@@ -2,7 +2,7 @@
 use Rattle.std.proofs.Common.{◌≡◌, ◌==◌, ◌+◌, ◌<◌, ◌∙◌, ℕ, List, ◌∷◌, ◌++◌, false, length, get_or, take, drop, All, refl, sym, ap, take-append-drop}
 use Rattle.std.proofs.lemmas.List.{drop_more}
 use Rattle.std.proofs.lemmas.List.Splits.{slice_split_at}
-use Rattle.cli_io.specs.Lines.{input_lines}
+use Rattle.cli_io.specs.Newlines.{input_lines}
 
 -- the first line ends at the first newline
 pub line_read : (input : List ℕ) (i : ℕ) → i < length input → get_or input i 0 ≡ 10 → All (λ x. (x == 10) ≡ false) (take i input) → input_lines input ≡ take i input ∷ input_lines (drop (i + 1) input)

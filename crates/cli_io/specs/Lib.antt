@@ -1,3 +1,3 @@
 pub mod Escapes
-pub mod Lines
+pub mod Newlines
 pub mod Streams

@@ -2,9 +2,9 @@
 #![tactic(auto)]
 
 mod escape;
-mod lines;
+mod newlines;
 mod stream;
 
 pub use escape::{is_printable, push_escaped, push_escaped_lines, push_hex_digits};
-pub use lines::split_line;
+pub use newlines::split_line;
 pub use stream::{READ_SIZE, ReadFailure, WriteFailure, read_whole, write_whole};

@@ -4,7 +4,7 @@ use Rattle.std.proofs.lemmas.List.{drop_more}
 use Rattle.std.specs.Option.{option_map_or}
 use Rattle.std.proofs.lemmas.List.Splits.{slice_split_at}
 use Rattle.pep440_tool.specs.Lines.{is_skipped, numbered_from}
-use Rattle.cli_io.specs.Lines.{input_lines}
+use Rattle.cli_io.specs.Newlines.{input_lines}
 use Rattle.pep440_tool.specs.LinesLeft.{left_of}
 
 -- one line more was read, of what was left

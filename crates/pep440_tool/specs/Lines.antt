@@ -2,7 +2,7 @@
 use Rattle.std.specs.Prelude.{◌≡◌, ◌⊎◌, ◌==◌, ◌||◌, ℕ, List, Bool, codes, map, not}
 use Rattle.std.specs.List.{enumerate_from, filter, list_all}
 use Rattle.std.specs.Str.{IsUtf8}
-use Rattle.cli_io.specs.Lines.{input_lines}
+use Rattle.cli_io.specs.Newlines.{input_lines}
 use Rattle.pep440_rs.specs.Arrangement.{ArrangesBy}
 use Rattle.pep440_rs.specs.Matching.{list_matches}
 use Rattle.pep440_rs.specs.Specifiers.{Spec}

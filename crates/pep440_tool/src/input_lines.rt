@@ -3,7 +3,7 @@ ghost use Rattle.std.specs.Prelude.{◌≡◌, ◌+◌, ◌<◌, ◌∷◌, ◌^
 ghost use Rattle.std.specs.Option.{ForSome, option_map_or};
 ghost use Rattle.std.specs.Str.{IsUtf8};
 ghost use Rattle.pep440_tool.specs.Lines.{is_skipped, numbered_lines};
-ghost use Rattle.cli_io.specs.Lines.{input_lines};
+ghost use Rattle.cli_io.specs.Newlines.{input_lines};
 ghost use Rattle.pep440_tool.specs.declared.error.CommandError.TheVariants.{NotUtf8};
 
 use crate::error::CommandError;

@@ -11,7 +11,7 @@ use Rattle.pyver_commands.proofs.InputLines.{all_append, cuts_all, cuts_more, fi
 use Rattle.pyver_commands.specs.FilterSteps.{Cuts, Goes, Keeps, KeepsMore, SourceFinishes, SourceStops, Steps, StepsBy, Wrote, WroteSome}
 use Rattle.pep440_rs.specs.Prereleases.{list_allows}
 use Rattle.pyver_commands.specs.Filters.{is_printed, is_wanted, printed_lines}
-use Rattle.cli_io.specs.Lines.{input_lines}
+use Rattle.cli_io.specs.Newlines.{input_lines}
 use Rattle.pyver_commands.specs.InputLines.{SourceLine, Origin, Source, filled_lines_from, is_blank, numbered}
 use Rattle.pyver_commands.specs.InvalidLines.{message_limit}
 use Rattle.pyver_commands.specs.LineOptions.{is_header}

@@ -7,7 +7,7 @@ use Rattle.std.specs.List.{AllZip, concat}
 use Rattle.std.specs.Option.{option_map_or}
 use Rattle.pyver_commands.proofs.Filtering.{first-append, length-faults}
 use Rattle.pyver_commands.proofs.InputLines.{all_append, filled_lines-last, filled_lines_from-append, filled_one}
-use Rattle.cli_io.specs.Lines.{input_lines}
+use Rattle.cli_io.specs.Newlines.{input_lines}
 use Rattle.pyver_commands.specs.InputLines.{Origin, SourceLine, filled_lines, filled_lines_from, is_blank, numbered, source_lines}
 use Rattle.pyver_commands.specs.InvalidLines.{last_message, message_limit}
 use Rattle.pyver_commands.specs.LineOptions.{is_header}

@@ -9,7 +9,7 @@ use Rattle.pyver_commands.proofs.Filtering.{began, first-append, length-faults, 
 use Rattle.pyver_commands.proofs.InputLines.{all_append, filled_lines-last}
 use Rattle.pyver_commands.specs.FilterSteps.{AllFinish, AllStop, FilterFinishes, FilterStops, FinishesBy, OneReads, OneRefuses, OneStops, SourceFinishes, SourceStops, WroteAll}
 use Rattle.pyver_commands.specs.Filters.{filter_outcome, printed_lines}
-use Rattle.cli_io.specs.Lines.{input_lines}
+use Rattle.cli_io.specs.Newlines.{input_lines}
 use Rattle.pyver_commands.specs.InputLines.{Origin, Source}
 use Rattle.pyver_commands.specs.InvalidLines.{last_message, lines_status, message_limit}
 use Rattle.pyver_commands.specs.NewestViews.{HasNoLine, kept_line}

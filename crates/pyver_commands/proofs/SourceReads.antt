@@ -7,7 +7,7 @@ use Rattle.std.proofs.lemmas.List.{map-append}
 use Rattle.pyver_commands.proofs.InputLines.{some_line}
 use Rattle.pyver_commands.proofs.Keeping.{size_of-append}
 use Rattle.pyver_commands.proofs.SourceFilters.{last_is, reads_last}
-use Rattle.cli_io.specs.Lines.{input_lines}
+use Rattle.cli_io.specs.Newlines.{input_lines}
 use Rattle.pyver_commands.specs.InputLines.{Origin, Source}
 use Rattle.pyver_commands.specs.SourceTexts.{GainsSource, StopsInSource, StopsInSources, StopsInText, size_of, source_of}
 use Rattle.pyver_commands.specs.SourceViews.{IsReadingFailure, IsRunFailureOf}

@@ -3,7 +3,7 @@ use Rattle.std.specs.Prelude.{◌≡◌, ◌⊎◌, ◌≤◌, ℕ, ◌+◌, ◌
 use Rattle.std.specs.Io.KnownBytes.{Appends, Consumes, IsAtEnd}
 use Rattle.std.specs.List.{All, AllZip, concat}
 use Rattle.pyver_commands.specs.Filters.{Filters, printed_lines}
-use Rattle.cli_io.specs.Lines.{input_lines}
+use Rattle.cli_io.specs.Newlines.{input_lines}
 use Rattle.pyver_commands.specs.InputLines.{Origin, Source, filled_lines, filled_lines_from, source_lines}
 use Rattle.pyver_commands.specs.InvalidLines.{last_message, lines_status, message_limit}
 use Rattle.pyver_commands.specs.NewestViews.{KeepsNewest}

@@ -1,7 +1,7 @@
 -- Sources that are read to their ends before anything is written.
 use Rattle.std.specs.Prelude.{◌≡◌, ◌⊎◌, ◌≤◌, ◌+◌, ◌*◌, ℕ, List, [], ◌∷◌, ◌++◌, false, Option, Some, None, length, map}
 use Rattle.std.specs.Str.{IsUtf8}
-use Rattle.cli_io.specs.Lines.{input_lines}
+use Rattle.cli_io.specs.Newlines.{input_lines}
 use Rattle.pyver_commands.specs.InputLines.{Origin, Source}
 use Rattle.pyver_commands.specs.SourceViews.{IsReadingFailure, IsRunFailureOf, origin_of}
 use Rattle.pyver_commands.specs.Sources.{KnownFile, MayRefuse, ReadsByName, ReadsLines, ReadsSource, StopsReading, is_input, last_name}

@@ -1,7 +1,7 @@
 -- The sources that a run reads, standard input and files, by their names.
 use Rattle.std.specs.Prelude.{◌≡◌, ◌⊎◌, ⊤, ℕ, List, [], ◌∷◌, ◌++◌, Bool, true, false, Option, Some, None, bytes_eq, codes, if◌then◌else◌}
 use Rattle.std.specs.Io.KnownBytes.{Consumes, IsAtEnd}
-use Rattle.cli_io.specs.Lines.{input_lines}
+use Rattle.cli_io.specs.Newlines.{input_lines}
 use Rattle.pyver_commands.specs.InputLines.{Origin, Source}
 use Rattle.pyver_commands.specs.Messages.{file_message}
 use Rattle.pyver_commands.specs.declared.open_failure.OpenFailure.{OpenFailure}

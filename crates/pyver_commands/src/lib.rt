@@ -55,7 +55,7 @@ pub use part::{VersionPart, parse_part};
 pub use prerelease_rule::{Prereleases, takes_prereleases};
 pub use show::{ShowFormat, show_versions};
 pub use sort::SortOptions;
-pub use source_texts::read_named;
+pub use source_texts::read_by_name;
 pub use stream::RunFailure;
 pub use whole_input::{LinesQuestion, Question, answer_input};
 pub use word_number::parse_number;

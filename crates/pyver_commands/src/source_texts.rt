@@ -50,7 +50,7 @@ fn read_text<R: Read>(
 }
 
 /// The text of the source with this name, or why its file is not opened.
-pub fn read_named<F: Files, R: Read>(
+pub fn read_by_name<F: Files, R: Read>(
     alloc: Global,
     name: &str,
     read_count: &mut u64,
@@ -87,7 +87,7 @@ fn open_and_read<'a, F: Files, R: Read>(
     ensures stopped { IfErr result (StopsInSource (F.known files.old) R.remaining (origin_of origin.entry) input.old input.new) }
     ensures kept { F.known files.new ≡ F.known files.old }
 {
-    match read_named(alloc, origin.name, &mut state.read_count, files, input)? {
+    match read_by_name(alloc, origin.name, &mut state.read_count, files, input)? {
         Ok(text) => {
             state.texts.push(SourceText { origin, text })?;
             Ok(None)

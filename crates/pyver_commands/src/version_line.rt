@@ -1,6 +1,6 @@
 // The lines of sources by what they are: the header, versions, and others.
 ghost use Rattle.std.specs.Prelude.{◌≡◌, ◌<◌, ◌≤◌, ◌∷◌, ◌++◌, [], IfOk, length, map};
-ghost use Rattle.cli_io.specs.Lines.{input_lines};
+ghost use Rattle.cli_io.specs.Newlines.{input_lines};
 ghost use Rattle.pyver_commands.specs.VersionLines.{kept_text};
 
 use crate::filter::push_line_fault;

@@ -6,7 +6,7 @@ ghost use Rattle.pyver_commands.specs.Sources.{is_input, source_names};
 ghost use Rattle.pyver_findings.specs.Views.{named_file_of};
 
 use crate::file_kind::FileKind;
-use pyver_commands::{Files, OpenFailure, RunFailure, is_input, read_named};
+use pyver_commands::{Files, OpenFailure, RunFailure, is_input, read_by_name};
 use pyver_findings::{NamedFile, SourceFile, push_named_files};
 use pyver_projects::Document;
 use std::alloc::{AllocError, Global};
@@ -158,7 +158,7 @@ impl RequirementFiles {
         if self.has_path(path.as_str()) {
             return Ok(None);
         }
-        match read_named(alloc, name, &mut self.read_count, files, input)? {
+        match read_by_name(alloc, name, &mut self.read_count, files, input)? {
             Ok(text) => {
                 self.push_file(alloc, kind, name, path, text)?;
                 Ok(None)

@@ -8,18 +8,18 @@ use Rattle.pyver_commands.proofs.source_texts.open_and_read.Goals as goal
 pub returns-in_err-text-clause-stopped : goal.returns-in_err-text-clause-stopped
 returns-in_err-text-clause-stopped g c =
     let p = err_from_is_err_and c.from_residual.result c.from_residual.ensures.1 in
-    rw (p.1, p.2) (source_stops _ _ (origin_of c.args.origin) _ c.args.input.now c.read_named.new.input c.in_err-text.ensures.stopped)
+    rw (p.1, p.2) (source_stops _ _ (origin_of c.args.origin) _ c.args.input.now c.read_by_name.new.input c.in_err-text.ensures.stopped)
 
 pub returns-in_err-push-in-Ok-clause-stopped : goal.returns-in_err-push-in-Ok-clause-stopped
 returns-in_err-push-in-Ok-clause-stopped g c =
     let p = err_from_is_err_and c.from_residual-in_err-push-in-Ok.result c.from_residual-in_err-push-in-Ok.ensures.1 in
     let read = rw c.in-Ok.is at c.in_ok-text.ensures.read in
-    rw (p.1, p.2) (stops_after_text _ _ (origin_of c.args.origin) c.args.input.now c.read_named.new.input c.in-Ok.text.items read)
+    rw (p.1, p.2) (stops_after_text _ _ (origin_of c.args.origin) c.args.input.now c.read_by_name.new.input c.in-Ok.text.items read)
 
 pub returns-in_ok-push-in-Ok-clause-read : goal.returns-in_ok-push-in-Ok-clause-read
 returns-in_ok-push-in-Ok-clause-read g c =
     let read = rw c.in-Ok.is at c.in_ok-text.ensures.read in
-    source_read _ _ (origin_of c.args.origin) (sources_of c.args.state.now) _ c.args.input.now c.read_named.new.input c.in-Ok.text.items read
+    source_read _ _ (origin_of c.args.origin) (sources_of c.args.state.now) _ c.args.input.now c.read_by_name.new.input c.in-Ok.text.items read
     (ap (map source_of) c.in_ok-push-in-Ok.ensures.items ∙ sources_pushed c.args.state.now.texts.items _)
 
 pub returns-in_ok-push-in-Ok-clause-limits : goal.returns-in_ok-push-in-Ok-clause-limits

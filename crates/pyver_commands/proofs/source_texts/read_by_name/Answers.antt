@@ -1,7 +1,7 @@
 use Rattle.std.proofs.Common.{◌∙◌, sym}
 use Rattle.std.proofs.lemmas.Result.{err_from_is_err_and}
 use Rattle.pyver_commands.proofs.SourceReads.{file_part, input_part}
-use Rattle.pyver_commands.proofs.source_texts.read_named.Goals as goal
+use Rattle.pyver_commands.proofs.source_texts.read_by_name.Goals as goal
 
 pub returns-in_err-read_text-clause-stopped : goal.returns-in_err-read_text-clause-stopped
 returns-in_err-read_text-clause-stopped g c =

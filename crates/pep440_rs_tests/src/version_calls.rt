@@ -1,27 +1,13 @@
-//! Test cases of versions and patterns, read from standard input; `stdin` beside `src/` has the result of each call.
-#![tactic(auto)]
-
-mod edits;
-mod errors;
-mod hashing;
-mod order;
-mod parsers;
-mod parts;
-mod printing;
-mod recorder;
-
-use edits::{edit, print_change};
-use errors::out_of_memory;
-use hashing::{hash_parts, hash_pattern, hash_version};
-use order::{are_ascending, compare, compare_patterns, sort};
-use parsers::{parse, parse_pattern};
-use parts::{fields, from_release, has, is_stable, print, word};
-use printing::{show, show_least, show_local, show_parts};
+//! Calls of versions and patterns.
+use crate::edits::{edit, print_change};
+use crate::errors::out_of_memory;
+use crate::hashing::{hash_parts, hash_pattern, hash_version};
+use crate::order::{are_ascending, compare, compare_patterns, sort};
+use crate::parts::{fields, from_release, has, is_stable, print, word};
+use crate::printing::{show, show_least, show_local, show_parts};
+use crate::version_parsers::{parse, parse_pattern};
 use std::alloc::Global;
-use std::io;
-use testing::{Calls, CaseError, run_cases};
-
-struct VersionCalls;
+use testing::CaseError;
 
 fn of_none(alloc: Global, call: &str) -> Result<String, CaseError> {
     match call {
@@ -69,17 +55,16 @@ fn of_many(alloc: Global, call: &str, texts: &[String]) -> Result<String, CaseEr
     }
 }
 
-impl Calls for VersionCalls {
-    fn answer(&self, alloc: Global, call: &str, arguments: &[String]) -> Result<String, CaseError> {
-        match arguments {
-            [] => of_none(alloc, call),
-            [text] => of_one(alloc, call, text.as_str()),
-            [one, other] => of_two(alloc, call, one.as_str(), other.as_str()),
-            texts => of_many(alloc, call, texts),
-        }
+/// What the call gives; `Unreadable` where it is none of versions.
+pub fn answer_of_versions(
+    alloc: Global,
+    call: &str,
+    arguments: &[String],
+) -> Result<String, CaseError> {
+    match arguments {
+        [] => of_none(alloc, call),
+        [text] => of_one(alloc, call, text.as_str()),
+        [one, other] => of_two(alloc, call, one.as_str(), other.as_str()),
+        texts => of_many(alloc, call, texts),
     }
-}
-
-fn main(rt: HostRuntime) -> io::Result<()> {
-    run_cases(rt, &VersionCalls)
 }

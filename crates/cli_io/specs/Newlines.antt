@@ -1,4 +1,4 @@
--- The lines of an input.
+-- The lines of an input, split at newlines.
 use Rattle.std.specs.Prelude.{ℕ, ◌==◌, List}
 use Rattle.std.specs.List.{slice_split}
 

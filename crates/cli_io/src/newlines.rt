@@ -1,7 +1,7 @@
-// The lines of an input.
+// Splitting at newlines.
 ghost use Rattle.std.specs.Prelude.{◌≡◌, ◌<◌, ◌∷◌, [], length, IfSome};
 ghost use Rattle.std.specs.Option.{option_map_or};
-ghost use Rattle.cli_io.specs.Lines.{input_lines};
+ghost use Rattle.cli_io.specs.Newlines.{input_lines};
 
 /// The first line, and what follows its newline if it has one. Allocates nothing.
 pub fn split_line(input: &[u8]) -> (&[u8], Option<&[u8]>)

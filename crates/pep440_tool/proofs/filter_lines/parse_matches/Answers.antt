@@ -10,7 +10,7 @@ use Rattle.pep440_tool.specs.Lines.{LineMeans, RejectsLine, numbered_lines, refu
 use Rattle.pep440_tool.specs.LinesLeft.{left}
 use Rattle.pep440_tool.proofs.Each.{found_more, found_rejected}
 use Rattle.pep440_tool.proofs.Rejected.{stopped}
-use Rattle.pep440_tool.proofs.filter_lines.parse_contained.Goals as goal
+use Rattle.pep440_tool.proofs.filter_lines.parse_matches.Goals as goal
 
 pub returns-in_err-version : goal.returns-in_err-version
 returns-in_err-version c =
@@ -20,6 +20,6 @@ returns-in_err-version c =
 
 pub loop-line-preserved : goal.loop-line-preserved
 loop-line-preserved c =
-    found_more (LineMeans Derives) _ _ (left c.in-Some.later) (λ found. c.loop-line.versions.items ≡ filter (list_matches c.args.list.now) found) (λ found. c.push_contained.new.versions.items ≡ filter (list_matches c.args.list.now) found)
+    found_more (LineMeans Derives) _ _ (left c.in-Some.later) (λ found. c.loop-line.versions.items ≡ filter (list_matches c.args.list.now) found) (λ found. c.push_match.new.versions.items ≡ filter (list_matches c.args.list.now) found)
     (c.in-Some.line.number, c.in-Some.line.bytes.now) c.in_ok-version.version c.in-Some.ensures.next c.in_ok-version.ensures
-    (λ xs is. c.in_ok-push_contained.ensures ∙ ap (λ (l : List Record). l ++ filter (list_matches c.args.list.now) (c.in_ok-version.version ∷ [])) is ∙ sym (filter-append (list_matches c.args.list.now) xs (c.in_ok-version.version ∷ []))) c.loop-line.invariant
+    (λ xs is. c.in_ok-push_match.ensures ∙ ap (λ (l : List Record). l ++ filter (list_matches c.args.list.now) (c.in_ok-version.version ∷ [])) is ∙ sym (filter-append (list_matches c.args.list.now) xs (c.in_ok-version.version ∷ []))) c.loop-line.invariant

@@ -4,7 +4,7 @@ use Rattle.std.proofs.lemmas.List.{take_rest}
 use Rattle.std.proofs.lemmas.List.Elements.{All-more}
 use Rattle.std.proofs.lemmas.List.Splits.{slice_split_none}
 use Rattle.cli_io.proofs.FirstLine.{line_read}
-use Rattle.cli_io.proofs.lines.split_line.Goals as goal
+use Rattle.cli_io.proofs.newlines.split_line.Goals as goal
 
 pub returns-then-byte-eq10-clause-lines : goal.returns-then-byte-eq10-clause-lines
 returns-then-byte-eq10-clause-lines c = rw take_rest (line_read c.args.input.now c.loop-at.at c.loop-at-test.true c.if-byte-eq10.true c.loop-at.invariant)
