@@ -24,7 +24,7 @@ use matching::{
 use operators::{operator, operator_number, operator_of_number};
 use parsers::{list, list_of, members, specifier};
 use ranges::{beside, cover, cover_beside, intersection, range, release_range, unchecked_range};
-use requirements::{is_name, requirement, same_names, specifiers_for};
+use requirements::{is_name, requirement, requirement_position, same_names, specifiers_for};
 use std::alloc::Global;
 use std::io;
 use testing::{Calls, CaseError, run_cases};
@@ -54,6 +54,7 @@ fn of_one(alloc: Global, call: &str, text: &str) -> Result<String, CaseError> {
         "list-of-json" => list_of_json(alloc, text),
         "is-name" => is_name(alloc, text),
         "requirement" => requirement(alloc, text),
+        "requirement-position" => requirement_position(alloc, text),
         _ => Err(CaseError::Unreadable),
     }
 }
