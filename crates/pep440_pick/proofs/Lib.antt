@@ -6,6 +6,7 @@ pub mod Listing
 pub mod Copies
 pub mod Prefixes
 pub mod Parts
+pub mod Positions
 pub mod Tells
 pub mod Whole
 pub mod Joined

@@ -1,9 +1,10 @@
 -- A text means one requirement or is refused for one reason, and there is one newest candidate.
 use Rattle.std.proofs.Common.{◌≡◌, ◌<◌, ◌-◌, ◌∙◌, ◌⊎◌, ℕ, suc, List, ◌∷◌, true, length, get_or, Option, Some, None, Result, Ok, Err, refl, sym, ap, subst, arith, inl, inr}
 use Rattle.std.proofs.lemmas.Bool.{both_ways, cases_order}
+use Rattle.std.proofs.lemmas.Option.{IfSome_then}
 use Rattle.std.proofs.lemmas.List.{get_or_append_left, get_or-append_right, get_or_at, length-append}
 use Rattle.std.specs.Ordering.{is_le, is_lt, ordering_reverse}
-use Rattle.std.specs.Prelude.{IsTrue, not}
+use Rattle.std.specs.Prelude.{IfErr, IfOk, IfSome, IsTrue, not}
 use Rattle.std.specs.declared.cmp.Ordering.{Ordering}
 use Rattle.std.specs.declared.cmp.Ordering.TheVariants.{Less, Equal, Greater}
 use Rattle.pep440_rs.proofs.Reading.OneMeaning.{either_list, not_both_list, one_list, one_list_refusal}
@@ -16,7 +17,10 @@ use Rattle.pep440_pick.specs.Newest.{IsNewest, Newest, all_contain}
 use Rattle.pep440_pick.specs.RequirementGrammar.{DerivesRequirement, HasFront, Needed, RefusesRequirement, RequirementRefusal, Specifiers}
 use Rattle.pep440_pick.specs.RequirementReading.{Front, read_prefix}
 use Rattle.pep440_pick.proofs.Tells.{FrontTells, prefix_only, prefix_tells}
-use Rattle.pep440_pick.proofs.Whole.{front, prefix_err_decided, parts_of, refusal_of_list, told_prefix}
+use Rattle.pep440_pick.specs.Requirements.{RequirementAnswers, needed, requirement_refusal_of}
+use Rattle.pep440_pick.specs.declared.error.RequirementError.{RequirementError}
+use Rattle.pep440_pick.specs.declared.requirement.Requirement.{Requirement}
+use Rattle.pep440_pick.proofs.Whole.{err_of, front, prefix_err_decided, parts_of, refusal_of_list, told_prefix}
 
 -- ---- requirements
 
@@ -59,6 +63,18 @@ one_refusal text f g r s = go (read_prefix text) refl
         let q = refusal_of_list text prefix e g s in
         p.1 ∙ ap (λ x. Specifiers prefix.list x) (one_list_refusal prefix.list p.0 q.0 p.2 q.2) ∙ sym q.1
     go (Err x) e = inside f x (prefix_err_decided text (Some x) e f r) ∙ sym (inside g x (prefix_err_decided text (Some x) e g s))
+
+-- what a string denotes is returned, where what is returned is what it denotes or its error
+pub only_answer : (text : List ℕ) (result : Result Requirement RequirementError) → IfOk result (λ r. DerivesRequirement text (needed r)) → IfErr result (λ e. IfSome (requirement_refusal_of e) (RefusesRequirement text))
+    → (n : Needed) → DerivesRequirement text n → RequirementAnswers result (Ok n)
+only_answer text (Ok r) found refused n d = ap (λ m. Ok m) (one_requirement text n (needed r) d found)
+only_answer text (Err e) found refused n d = IfSome_then (requirement_refusal_of e) refused (λ f r. absurd (not_both_requirement text n f d r))
+
+-- and so is its error
+pub only_refusal : (text : List ℕ) (result : Result Requirement RequirementError) → IfOk result (λ r. DerivesRequirement text (needed r)) → IfErr result (λ e. IfSome (requirement_refusal_of e) (RefusesRequirement text))
+    → (f : RequirementRefusal) → RefusesRequirement text f → RequirementAnswers result (Err f)
+only_refusal text (Ok r) found refused f h = absurd (not_both_requirement text (needed r) f found h)
+only_refusal text (Err e) found refused f h = IfSome_then (requirement_refusal_of e) refused (λ g r. ap err_of (one_refusal text f g h r))
 
 -- ---- the newest
 

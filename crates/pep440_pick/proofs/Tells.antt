@@ -85,7 +85,7 @@ module _ (text : List ℕ) (plain : HasNoMarkerOrUrl text) where
     | inr is ↦ subst (FrontTells text) (sym (not_named c.name c.rest is)) (plain, (c, is))
   ]
 
-  plain_read : read_prefix text ≡ prefix_after_name (name_of text) (behind_name text)
+  pub plain_read : read_prefix text ≡ prefix_after_name (name_of text) (behind_name text)
   plain_read =
       ap (λ (b : Bool). cond b (Err Marker) (cond (has_byte 64 text) (Err Url) (prefix_after_name (name_of text) (behind_name text)))) plain.marker
       ∙ ap (λ (b : Bool). cond b (Err Url) (prefix_after_name (name_of text) (behind_name text))) plain.url

@@ -1,9 +1,8 @@
 -- What follows for the answers of the reader.
-use Rattle.std.proofs.Common.{◌≡◌, ◌∙◌, ℕ, List, Option, Result, Ok, Err, Bool, true, false, cond, [], ◌∷◌, map, refl, sym, ap, subst}
+use Rattle.std.proofs.Common.{◌≡◌, ℕ, List, Option, Result, Ok, Err, Bool, true, false, cond, [], ◌∷◌, map, sym, ap, subst}
 use Rattle.std.specs.Prelude.{IfSome}
 use Rattle.std.proofs.lemmas.Option.{IfSome_then}
 use Rattle.pep440_rs.specs.ListGrammar.{DerivesList, PieceRefusal, RefusesList}
-use Rattle.pep440_rs.specs.Specifiers.{Spec}
 use Rattle.pep440_pick.specs.Allowed.{lists_of}
 use Rattle.pep440_pick.specs.Names.{same_name}
 use Rattle.pep440_pick.specs.RequirementGrammar.{DerivesRequirement, HasFront, Needed, RefusesRequirement, RequirementRefusal, InvalidExtras, InvalidName, Marker, Specifiers, Unclosed, Url}
@@ -14,17 +13,8 @@ use Rattle.pep440_pick.proofs.Tells.{FrontTells, prefix_only, prefix_refused, pr
 abbrev pub front : List ℕ → List (List ℕ) → List ℕ → Front
 front name extras list = record { name = name; extras = extras; list = list }
 
-abbrev pub ok_of : Needed → Result Needed RequirementRefusal
-ok_of n = Ok n
-
 abbrev pub err_of : RequirementRefusal → Result Needed RequirementRefusal
 err_of f = Err f
-
-abbrev pub list_ok : List Spec → Result (List Spec) PieceRefusal
-list_ok list = Ok list
-
-abbrev pub list_err : PieceRefusal → Result (List Spec) PieceRefusal
-list_err f = Err f
 
 -- ---- where the parts are refused
 
@@ -43,9 +33,6 @@ never r x y e h = absurd (apart e h)
     apart e h = cc
 
 module _ (text : List ℕ) (o : Option RequirementRefusal) (given : IfSome o (λ f. read_prefix text ≡ Err f)) where
-  pub prefix_err_only : (n : Needed) → DerivesRequirement text n → IfSome o (λ f. ok_of n ≡ Err f)
-  prefix_err_only n (list, has, derives) = let f = front n.name n.extras list in IfSome_then o given (λ g e. never (read_prefix text) f g (prefix_only text f has) e)
-
   pub prefix_err_refused : IfSome o (RefusesRequirement text)
   prefix_err_refused = IfSome_then o given (λ f e. told_prefix text f (subst (FrontTells text) e (prefix_tells text)))
 
@@ -87,40 +74,14 @@ module _ (text : List ℕ) (prefix : Front) (is : read_prefix text ≡ Ok prefix
 
   -- the list is refused
 
-  pub list_err_only : (o : Option RequirementRefusal) → ((list : List Spec) → DerivesList prefix.list list → IfSome o (λ g. (x : PieceRefusal) × (list_ok list ≡ Err x) × (g ≡ Specifiers prefix.list x)))
-      → (n : Needed) → DerivesRequirement text n → IfSome o (λ f. ok_of n ≡ Err f)
-  list_err_only o only n d = let parts = parts_of n d in IfSome_then o (only n.specifiers parts.2) (λ f h. never (list_ok n.specifiers) n.specifiers h.0 refl h.1)
-
   pub list_err_refused : (o : Option RequirementRefusal) → IfSome o (IsOfList prefix.list) → IfSome o (RefusesRequirement text)
   list_err_refused o given = IfSome_then o given (λ g h. subst (RefusesRequirement text) (sym h.2) (prefix.name, prefix.extras, the_prefix, h.1))
 
-  pub list_err_decided : (o : Option RequirementRefusal) → ((f : PieceRefusal) → RefusesList prefix.list f → IfSome o (λ g. (x : PieceRefusal) × (list_err f ≡ Err x) × (g ≡ Specifiers prefix.list x)))
-      → (f : RequirementRefusal) → RefusesRequirement text f → IfSome o (λ g. err_of f ≡ Err g)
-  list_err_decided o decided f h =
-      let piece = refusal_of_list f h in
-      IfSome_then o (decided piece.0 piece.2) (λ g k. ap err_of (piece.1 ∙ ap (λ q. Specifiers prefix.list q) (same_piece piece.0 k.0 k.1) ∙ sym k.2))
-    where
-      same_piece : (p q : PieceRefusal) → list_err p ≡ Err q → p ≡ q
-      same_piece p q e = cc
-
   -- the list is read
 
-  module _ (n : Needed) (name : n.name ≡ prefix.name) (extras : n.extras ≡ prefix.extras) where
-    pub list_ok_found : DerivesList prefix.list n.specifiers → DerivesRequirement text n
-    list_ok_found d =
-        (prefix.list, subst (λ x. HasFront text x n.extras prefix.list) (sym name) (subst (λ x. HasFront text prefix.name x prefix.list) (sym extras) the_prefix), d)
-
-    pub list_ok_only : ((list : List Spec) → DerivesList prefix.list list → list_ok list ≡ Ok n.specifiers) → (m : Needed) → DerivesRequirement text m → ok_of m ≡ Ok n
-    list_ok_only only m d =
-        let parts = parts_of m d in
-        let same : m.specifiers ≡ n.specifiers = inside m.specifiers n.specifiers (only m.specifiers parts.2) in
-        λ i. Ok (record { name = (parts.0 ∙ sym name) i; extras = (parts.1 ∙ sym extras) i; specifiers = same i })
-      where
-        inside : (a b : List Spec) → list_ok a ≡ Ok b → a ≡ b
-        inside a b e = cc
-
-    pub list_ok_decided : ((f : PieceRefusal) → RefusesList prefix.list f → list_err f ≡ Ok n.specifiers) → (f : RequirementRefusal) → RefusesRequirement text f → err_of f ≡ Ok n
-    list_ok_decided decided f h = let piece = refusal_of_list f h in never (list_err piece.0) n.specifiers piece.0 (decided piece.0 piece.2) refl
+  pub list_ok_found : (n : Needed) → n.name ≡ prefix.name → n.extras ≡ prefix.extras → DerivesList prefix.list n.specifiers → DerivesRequirement text n
+  list_ok_found n name extras d =
+      (prefix.list, subst (λ x. HasFront text x n.extras prefix.list) (sym name) (subst (λ x. HasFront text prefix.name x prefix.list) (sym extras) the_prefix), d)
 
 -- the list of a requirement of this name, or none
 pub of_name : (n : Needed) (name : List ℕ) (b : Bool) → same_name n.name name ≡ b → cond b (n.specifiers ∷ []) [] ≡ lists_of name (n ∷ [])

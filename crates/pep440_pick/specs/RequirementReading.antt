@@ -1,12 +1,13 @@
 -- How the parts of a requirement are read, from the left: a second view of the grammar, which computes.
-use Rattle.std.specs.Prelude.{ℕ, ◌==◌, List, [], ◌∷◌, Option, Some, None, option_map, Result, Ok, Err, map, drop, if◌then◌else◌}
+use Rattle.std.specs.Prelude.{ℕ, ◌==◌, List, [], ◌∷◌, ◌-◌, Option, Some, None, option_map, Result, Ok, Err, length, map, drop, if◌then◌else◌}
 use Rattle.std.specs.Char.{is_ascii_whitespace}
 use Rattle.std.specs.List.{list_all}
+use Rattle.std.specs.Option.{option_map_or}
 use Rattle.pep440_version.specs.Reading.{lead, past}
 use Rattle.pep440_rs.specs.ListGrammar.{pieces}
 use Rattle.pep440_pick.specs.Names.{is_name, is_name_byte}
 use Rattle.pep440_rs.specs.Blanks.{opens, trim_blanks}
-use Rattle.pep440_pick.specs.RequirementGrammar.{InvalidExtras, InvalidName, Marker, RequirementRefusal, Unclosed, Url, has_byte}
+use Rattle.pep440_pick.specs.RequirementGrammar.{InvalidExtras, InvalidName, Marker, RequirementRefusal, Specifiers, Unclosed, Url, has_byte}
 
 -- the name, the extras, and the string of the list
 pub record Front : Type 0 where
@@ -67,3 +68,24 @@ behind_name text = past is_ascii_whitespace (past is_name_byte (past is_ascii_wh
 -- the parts of the string
 abbrev pub read_prefix : List ℕ → Result Front RequirementRefusal
 read_prefix text = if has_byte 59 text then Err Marker else if has_byte 64 text then Err Url else prefix_after_name (name_of text) (behind_name text)
+
+-- ---- where a string is invalid
+
+-- what stands behind the name and its blanks, the extras and their blanks
+abbrev pub behind_extras : List ℕ → List ℕ
+behind_extras text = past is_ascii_whitespace (option_map_or (λ p. p.1) (extras_at (behind_name text)) [])
+
+-- what stands behind a parenthesis at the start, and its blanks
+abbrev pub in_parenthesis : List ℕ → List ℕ
+in_parenthesis text = if opens 40 text then past is_ascii_whitespace (drop 1 text) else text
+
+-- the byte at which the list begins
+abbrev pub list_position : List ℕ → ℕ
+list_position text = length text - length (in_parenthesis (behind_extras text))
+
+-- the byte at which the string is invalid: that of the extras, of the parenthesis, or of the list; else the first
+abbrev pub refusal_position : List ℕ → RequirementRefusal → ℕ
+refusal_position text InvalidExtras = length text - length (behind_name text)
+refusal_position text Unclosed = length text - length (behind_extras text)
+refusal_position text (Specifiers list f) = list_position text
+refusal_position text _ = 0

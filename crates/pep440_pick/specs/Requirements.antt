@@ -3,11 +3,11 @@ use Rattle.std.specs.Prelude.{◌≡◌, ℕ, List, Option, option_map, Some, No
 use Rattle.pep440_rs.specs.ListAnswers.{line_of, list_kind_of}
 use Rattle.pep440_rs.specs.ListErrors.{list_refusal_of}
 use Rattle.pep440_rs.specs.ListGrammar.{PieceRefusal, RefusesList}
-use Rattle.pep440_rs.specs.Specifiers.{Spec}
 use Rattle.pep440_pick.specs.RequirementGrammar.{InvalidExtras, InvalidName, Marker, Needed, RequirementRefusal, Specifiers, Unclosed, Url}
-use Rattle.pep440_pick.specs.RequirementReading.{Front, listed_extras}
+use Rattle.pep440_pick.specs.RequirementReading.{Front, listed_extras, refusal_position}
 use Rattle.pep440_pick.specs.declared.error.RequirementError.{RequirementError}
 use Rattle.pep440_pick.specs.declared.error.RequirementError.TheVariants as error
+use Rattle.pep440_pick.specs.declared.error.RequirementParseError.{RequirementParseError}
 use Rattle.pep440_pick.specs.declared.requirement_parts.SplitRequirement.{SplitRequirement}
 use Rattle.pep440_pick.specs.declared.requirement.Requirement.{Requirement}
 
@@ -34,20 +34,19 @@ abbrev pub RequirementAnswers : Result Requirement RequirementError → Result N
 RequirementAnswers (Ok r) outcome = outcome ≡ Ok (needed r)
 RequirementAnswers (Err e) outcome = IfSome (requirement_refusal_of e) (λ f. outcome ≡ Err f)
 
+-- the position of the error is that at which the string is invalid
+abbrev pub IsPositioned : List ℕ → RequirementParseError → Type 0
+IsPositioned text e = IfSome (requirement_refusal_of e.kind) (λ f. e.position ≡ refusal_position text f)
+
 -- ---- what the parsers of the parts return
 
 abbrev pub prefix_of : SplitRequirement → Front
 prefix_of p = record { name = p.name.now; extras = listed_extras p.extras.now; list = p.list.now }
 
 -- the parts were read as reading gives them, unless an allocation failed
-abbrev pub FrontGives : Result SplitRequirement RequirementError → Result Front RequirementRefusal → Type 0
+abbrev pub FrontGives : Result SplitRequirement RequirementParseError → Result Front RequirementRefusal → Type 0
 FrontGives (Ok p) read = read ≡ Ok (prefix_of p)
-FrontGives (Err e) read = IfSome (requirement_refusal_of e) (λ f. read ≡ Err f)
-
--- the list of this string is this outcome, unless an allocation failed
-abbrev pub ListGives : List ℕ → Result (List Spec) RequirementError → Result (List Spec) PieceRefusal → Type 0
-ListGives text (Ok list) outcome = outcome ≡ Ok list
-ListGives text (Err e) outcome = IfSome (requirement_refusal_of e) (λ g. (f : PieceRefusal) × (outcome ≡ Err f) × (g ≡ Specifiers text f))
+FrontGives (Err e) read = IfSome (requirement_refusal_of e.kind) (λ f. read ≡ Err f)
 
 -- the error is that of the list of this string
 abbrev pub IsOfList : List ℕ → RequirementRefusal → Type 0

@@ -1,4 +1,4 @@
-//! Why a string is no requirement, and its message.
+//! Why a string is no requirement, where, and the message.
 ghost use Rattle.std.specs.Prelude.{◌≡◌};
 ghost use Rattle.pep440_pick.specs.Requirements.{requirement_refusal_of};
 ghost use Rattle.pep440_pick.specs.RequirementTexts.{requirement_text_of};
@@ -57,6 +57,44 @@ impl<T: Drop> From<AllocFailed<T>> for RequirementError {
 
     fn from(_refused: AllocFailed<T>) -> RequirementError {
         RequirementError::OutOfMemory
+    }
+}
+
+impl RequirementError {
+    pub(crate) fn with_position(self, position: usize) -> RequirementParseError
+        ensures kind { result.kind ≡ self }
+        ensures position { result.position ≡ position }
+    {
+        RequirementParseError {
+            kind: self,
+            position,
+        }
+    }
+}
+
+/// Why a string is no requirement, and where.
+#[derive(Debug, Drop)]
+pub struct RequirementParseError {
+    /// Why.
+    pub kind: RequirementError,
+    /// The byte of the string at which the invalid extras, the unclosed parenthesis or the invalid list begins; otherwise 0. The
+    /// error of a list has the position of the invalid piece in the list.
+    pub position: usize,
+}
+
+impl From<RequirementParseError> for RequirementError {
+    ghost from_gives = { λ error kind. kind ≡ error.kind };
+
+    fn from(error: RequirementParseError) -> RequirementError {
+        error.kind
+    }
+}
+
+impl From<AllocError> for RequirementParseError {
+    ghost from_gives = { λ _ error. error.kind ≡ OutOfMemory };
+
+    fn from(_refused: AllocError) -> RequirementParseError {
+        RequirementError::OutOfMemory.with_position(0)
     }
 }
 

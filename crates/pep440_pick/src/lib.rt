@@ -14,6 +14,6 @@ mod scan;
 
 pub use allowed_range::allowed;
 pub use candidates::newest;
-pub use error::RequirementError;
+pub use error::{RequirementError, RequirementParseError};
 pub use name::{is_name, same_name};
 pub use requirement::Requirement;

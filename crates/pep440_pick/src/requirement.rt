@@ -6,7 +6,7 @@ ghost use Rattle.pep440_pick.specs.Allowed.{lists_of};
 ghost use Rattle.pep440_pick.specs.RequirementGrammar.{DerivesRequirement, Needed, RefusesRequirement, RequirementRefusal};
 ghost use Rattle.pep440_pick.specs.RequirementTexts.{requirement_refusal_text, requirement_text_of};
 
-use crate::error::RequirementError;
+use crate::error::{RequirementError, RequirementParseError};
 use crate::name::same_name;
 use crate::requirement_parts::{copy_extras, parse_list, parse_parts};
 use pep440_rs::VersionSpecifiers;
@@ -24,7 +24,7 @@ pub struct Requirement {
 }
 
 impl Requirement {
-    ghost use Rattle.pep440_pick.specs.Requirements.{IsRequirementLifted, RequirementAnswers, needed, requirement_refusal_of};
+    ghost use Rattle.pep440_pick.specs.Requirements.{IsPositioned, IsRequirementLifted, RequirementAnswers, needed, requirement_refusal_of};
 
     /// The requirement that the string denotes: a name, extras in brackets if there are any, and a list of specifiers (PEP 440,
     /// "Version specifiers"), with or without parentheses around it. Tabs, line feeds, form feeds, carriage returns and spaces
@@ -49,8 +49,28 @@ impl Requirement {
         // The version of each member is one that a string can have beside the operator, as the agreement of ranges requires.
         ensures operand { IfOk result (λ r. All HasOperand r.specifiers) }
     {
+        Ok(Requirement::parse(alloc, text)?)
+    }
+
+    /// The requirement that the string denotes, as by `from_str`, or its error and the position of that.
+    ///
+    /// Allocates.
+    pub fn parse(alloc: Global, text: &str) -> Result<Requirement, RequirementParseError>
+        // What is returned is what the string denotes.
+        ensures found { IfOk result (λ r. DerivesRequirement text.now (needed r)) }
+        // The error is that of the string.
+        ensures refused { IfErr result (λ e. IfSome (requirement_refusal_of e.kind) (RefusesRequirement text.now)) }
+        // The position is that at which the string is invalid.
+        ensures position { IfErr result (IsPositioned text.now) }
+        // The error's message is the stated one.
+        ensures message { IfErr result (λ e. IfSome (requirement_refusal_of e.kind) (λ f. requirement_text_of e.kind ≡ Some (requirement_refusal_text f))) }
+        // `OutOfMemory` is a kind of its own, and is inside no other.
+        ensures lifted { IfErr result (λ e. IsRequirementLifted e.kind) }
+        // The version of each member is one that a string can have beside the operator, as the agreement of ranges requires.
+        ensures operand { IfOk result (λ r. All HasOperand r.specifiers) }
+    {
         let parts = parse_parts(text)?;
-        let specifiers = parse_list(alloc, parts.list)?;
+        let specifiers = parse_list(alloc, parts)?;
         let name = String::from_str(alloc, parts.name)?;
         let extras = copy_extras(alloc, parts.extras)?;
         Ok(Requirement {
@@ -79,7 +99,7 @@ impl Requirement {
         ensures lifted { IfErr result IsRequirementLifted }
     {
         let parts = parse_parts(text)?;
-        let specifiers = parse_list(alloc, parts.list)?;
+        let specifiers = parse_list(alloc, parts)?;
         if same_name(parts.name, name) {
             Ok(Some(specifiers))
         } else {

@@ -1,25 +1,23 @@
 //! The parts of a requirement, parsed.
-ghost use Rattle.std.specs.Prelude.{◌≡◌, ◌∷◌, ◌++◌, [], List, true, map, option_map, string_bytes, Ok, Err, IfOk, IfErr, IfSome, Some};
+ghost use Rattle.std.specs.Prelude.{◌≡◌, ◌-◌, ◌∷◌, ◌++◌, [], length, true, map, option_map, string_bytes, IfOk, IfErr, IfSome, Some};
 ghost use Rattle.std.specs.List.{All, list_all};
 ghost use Rattle.pep440_rs.specs.Agreement.{HasOperand};
 ghost use Rattle.pep440_rs.specs.ListAnswers.{line_of, list_kind_of};
 ghost use Rattle.pep440_rs.specs.ListErrors.{IsListLifted, list_refusal_of};
 ghost use Rattle.pep440_rs.specs.ListErrorTexts.{list_text_of};
-ghost use Rattle.pep440_rs.specs.ListGrammar.{DerivesList, PieceRefusal, RefusesList, pieces};
-ghost use Rattle.pep440_rs.specs.Specifiers.{Spec};
+ghost use Rattle.pep440_rs.specs.ListGrammar.{DerivesList, pieces};
 ghost use Rattle.pep440_pick.specs.Names.{is_name, is_name_byte};
 ghost use Rattle.pep440_rs.specs.Blanks.{trim_blanks};
 ghost use Rattle.pep440_pick.specs.RequirementGrammar.{Specifiers};
-ghost use Rattle.pep440_pick.specs.RequirementReading.{extras_at, list_in, listed_extras, prefix_after_name, read_prefix};
-ghost use Rattle.pep440_pick.specs.Requirements.{FrontGives, IsOfList, IsRequirementLifted, ListGives, requirement_refusal_of};
+ghost use Rattle.pep440_pick.specs.RequirementReading.{behind_name, extras_at, in_parenthesis, list_in, list_position, listed_extras, prefix_after_name, read_prefix};
+ghost use Rattle.pep440_pick.specs.Requirements.{FrontGives, IsOfList, IsPositioned, IsRequirementLifted, requirement_refusal_of};
 ghost use Rattle.pep440_pick.specs.RequirementTexts.{requirement_refusal_text, requirement_text_of};
 ghost use Rattle.pep440_pick.specs.declared.error.RequirementError.TheVariants.{OutOfMemory};
 
-use crate::error::RequirementError;
+use crate::error::{RequirementError, RequirementParseError};
 use crate::name::{has_name_ends, is_name};
 use crate::scan::{
-    are_blanks, has_byte, skip_blanks, split_at_byte, split_name, trim_blanks, without_end,
-    without_prefix,
+    are_blanks, has_byte, split_at_byte, split_name, strip_end, strip_start, trim_blanks,
 };
 use pep440_rs::{SpecifiersErrorKind, VersionSpecifiers, VersionSpecifiersParseError};
 use std::alloc::{AllocError, Global};
@@ -31,6 +29,8 @@ pub(crate) struct SplitRequirement<'a> {
     // Empty if there are no brackets.
     pub(crate) extras: &'a str,
     pub(crate) list: &'a str,
+    // Of the list in the string, in bytes.
+    pub(crate) list_position: usize,
 }
 
 // Whether names stand between the commas, but for blanks at their ends.
@@ -82,7 +82,7 @@ pub(crate) fn copy_extras(alloc: Global, inside: &str) -> Result<Vec<String>, Al
 fn split_extras(text: &str) -> Option<(&str, &str)>
     ensures { option_map (λ x. (listed_extras x.0.now, x.1.now)) result ≡ extras_at text.now }
 {
-    let Some(open) = without_prefix(text, '[') else {
+    let Some(open) = strip_start(text, '[') else {
         return Some(("", text));
     };
     let (inside, behind) = split_at_byte(open, ']')?;
@@ -97,48 +97,77 @@ fn split_extras(text: &str) -> Option<(&str, &str)>
 fn strip_parentheses(text: &str) -> Option<&str>
     ensures { option_map (λ x. x.now) result ≡ list_in text.now }
 {
-    match without_prefix(text, '(') {
+    match strip_start(text, '(') {
         None => Some(text),
-        Some(open) => Some(trim_blanks(without_end(open, ')')?)),
+        Some(open) => Some(trim_blanks(strip_end(open, ')')?)),
     }
 }
 
-// The parts of a requirement, by its name and what follows the name after blanks.
+// What stands behind a parenthesis at the start, and blanks.
+fn skip_parenthesis(text: &str) -> &str
+    ensures { result.now ≡ in_parenthesis text.now }
+{
+    match strip_start(text, '(') {
+        None => text,
+        Some(open) => open.trim_ascii_start(),
+    }
+}
+
+// The bytes of the string before its end.
+fn count_bytes_before(end: &str, text: &str) -> usize
+    ensures { result ≡ length text.now - length end.now }
+{
+    text.len().saturating_sub(end.len())
+}
+
+// The parts of the string, by its name and what follows the name after blanks.
 fn parse_after_name<'a>(
+    text: &'a str,
     name: &'a str,
     rest: &'a str,
-) -> Result<SplitRequirement<'a>, RequirementError>
-    requires { list_all is_name_byte name.now ≡ true }
+) -> Result<SplitRequirement<'a>, RequirementParseError>
+    requires name { list_all is_name_byte name.now ≡ true }
+    requires rest { rest.now ≡ behind_name text.now }
     ensures value { FrontGives result (prefix_after_name name.now rest.now) }
-    ensures lifted { IfErr result IsRequirementLifted }
-    ensures message { IfErr result (λ e. IfSome (requirement_refusal_of e) (λ f. requirement_text_of e ≡ Some (requirement_refusal_text f))) }
+    ensures lifted { IfErr result (λ e. IsRequirementLifted e.kind) }
+    ensures message { IfErr result (λ e. IfSome (requirement_refusal_of e.kind) (λ f. requirement_text_of e.kind ≡ Some (requirement_refusal_text f))) }
+    ensures position { IfErr result (IsPositioned text.now) }
+    ensures list_position { IfOk result (λ p. p.list_position ≡ list_position text.now) }
 {
     if !has_name_ends(name.as_bytes()) {
-        return Err(RequirementError::InvalidName);
+        return Err(RequirementError::InvalidName.with_position(0));
     }
     let Some((extras, behind)) = split_extras(rest) else {
-        return Err(RequirementError::InvalidExtras);
+        return Err(RequirementError::InvalidExtras.with_position(count_bytes_before(rest, text)));
     };
+    let list_part = behind.trim_ascii_start();
     match strip_parentheses(trim_blanks(behind)) {
-        Some(list) => Ok(SplitRequirement { name, extras, list }),
-        None => Err(RequirementError::Unclosed),
+        Some(list) => Ok(SplitRequirement {
+            name,
+            extras,
+            list,
+            list_position: count_bytes_before(skip_parenthesis(list_part), text),
+        }),
+        None => Err(RequirementError::Unclosed.with_position(count_bytes_before(list_part, text))),
     }
 }
 
 // The parts of the string.
-pub(crate) fn parse_parts(text: &str) -> Result<SplitRequirement<'_>, RequirementError>
+pub(crate) fn parse_parts(text: &str) -> Result<SplitRequirement<'_>, RequirementParseError>
     ensures value { FrontGives result (read_prefix text.now) }
-    ensures lifted { IfErr result IsRequirementLifted }
-    ensures message { IfErr result (λ e. IfSome (requirement_refusal_of e) (λ f. requirement_text_of e ≡ Some (requirement_refusal_text f))) }
+    ensures lifted { IfErr result (λ e. IsRequirementLifted e.kind) }
+    ensures message { IfErr result (λ e. IfSome (requirement_refusal_of e.kind) (λ f. requirement_text_of e.kind ≡ Some (requirement_refusal_text f))) }
+    ensures position { IfErr result (IsPositioned text.now) }
+    ensures list_position { IfOk result (λ p. p.list_position ≡ list_position text.now) }
 {
     if has_byte(text, b';') {
-        return Err(RequirementError::Marker);
+        return Err(RequirementError::Marker.with_position(0));
     }
     if has_byte(text, b'@') {
-        return Err(RequirementError::Url);
+        return Err(RequirementError::Url.with_position(0));
     }
-    let (name, rest) = split_name(skip_blanks(text));
-    parse_after_name(name, skip_blanks(rest))
+    let (name, rest) = split_name(text.trim_ascii_start());
+    parse_after_name(text, name, rest.trim_ascii_start())
 }
 
 // The error of a requirement whose list has this error.
@@ -154,18 +183,20 @@ fn from_list_error(error: VersionSpecifiersParseError) -> RequirementError
     RequirementError::Specifiers(error)
 }
 
-// The list that the string denotes.
-pub(crate) fn parse_list(alloc: Global, text: &str) -> Result<VersionSpecifiers, RequirementError>
-    ensures found { IfOk result (λ list. DerivesList text.now list) }
+// The list of the parts.
+pub(crate) fn parse_list(
+    alloc: Global,
+    parts: SplitRequirement<'_>,
+) -> Result<VersionSpecifiers, RequirementParseError>
+    ensures found { IfOk result (λ list. DerivesList parts.entry.list.now list) }
     ensures operand { IfOk result (λ list. All HasOperand list) }
-    ensures only { (list : List Spec) → DerivesList text.now list → ListGives text.now result (Ok list) }
-    ensures refused { IfErr result (λ e. IfSome (requirement_refusal_of e) (IsOfList text.now)) }
-    ensures decided { (f : PieceRefusal) → RefusesList text.now f → ListGives text.now result (Err f) }
-    ensures message { IfErr result (λ e. IfSome (requirement_refusal_of e) (λ f. requirement_text_of e ≡ Some (requirement_refusal_text f))) }
-    ensures lifted { IfErr result IsRequirementLifted }
+    ensures refused { IfErr result (λ e. IfSome (requirement_refusal_of e.kind) (IsOfList parts.entry.list.now)) }
+    ensures message { IfErr result (λ e. IfSome (requirement_refusal_of e.kind) (λ f. requirement_text_of e.kind ≡ Some (requirement_refusal_text f))) }
+    ensures lifted { IfErr result (λ e. IsRequirementLifted e.kind) }
+    ensures position { IfErr result (λ e. e.position ≡ parts.entry.list_position) }
 {
-    match VersionSpecifiers::from_str(alloc, text) {
+    match VersionSpecifiers::from_str(alloc, parts.list) {
         Ok(list) => Ok(list),
-        Err(error) => Err(from_list_error(error)),
+        Err(error) => Err(from_list_error(error).with_position(parts.list_position)),
     }
 }

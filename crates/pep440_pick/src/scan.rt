@@ -17,13 +17,6 @@ pub(crate) fn has_byte(text: &str, byte: u8) -> bool
     text.as_bytes().contains(&byte)
 }
 
-// What follows the blanks at the start.
-pub(crate) fn skip_blanks(text: &str) -> &str
-    ensures { result.now ≡ past is_ascii_whitespace text.now }
-{
-    text.trim_ascii_start()
-}
-
 // The string without the blanks at its ends.
 pub(crate) fn trim_blanks(text: &str) -> &str
     ensures { result.now ≡ trim_blanks text.now }
@@ -64,7 +57,7 @@ pub(crate) fn split_at_byte(text: &str, character: char) -> Option<(&str, &str)>
 }
 
 // The string without this character at its start, if it begins with it.
-pub(crate) fn without_prefix(text: &str, character: char) -> Option<&str>
+pub(crate) fn strip_start(text: &str, character: char) -> Option<&str>
     requires { character < 128 }
     ensures { option_map (λ x. x.now) result ≡ (if opens character text.now then Some (drop 1 text.now) else None) }
 {
@@ -72,7 +65,7 @@ pub(crate) fn without_prefix(text: &str, character: char) -> Option<&str>
 }
 
 // The string without this character at its end, if it ends with it.
-pub(crate) fn without_end(text: &str, character: char) -> Option<&str>
+pub(crate) fn strip_end(text: &str, character: char) -> Option<&str>
     requires { character < 128 }
     ensures { option_map (λ x. x.now) result ≡ without_end character text.now }
 {

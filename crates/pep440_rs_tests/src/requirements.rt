@@ -71,3 +71,14 @@ pub fn specifiers_for(alloc: Global, name: &str, text: &str) -> Result<String, C
         Err(error) => error_text(alloc, &error),
     }
 }
+
+/// The position at which the text is no requirement, or the requirement.
+pub fn requirement_position(alloc: Global, text: &str) -> Result<String, CaseError> {
+    match Requirement::parse(alloc, text) {
+        Ok(requirement) => print(alloc, &requirement),
+        Err(error) => match error.kind {
+            RequirementError::OutOfMemory => Err(CaseError::OutOfMemory),
+            _ => Ok(error.position.to_string(alloc)?),
+        },
+    }
+}

@@ -14,7 +14,7 @@ use crate::parsers::{list, list_of, members, specifier};
 use crate::ranges::{
     beside, cover, cover_beside, intersection, range, release_range, unchecked_range,
 };
-use crate::requirements::{is_name, requirement, same_names, specifiers_for};
+use crate::requirements::{is_name, requirement, requirement_position, same_names, specifiers_for};
 use crate::witness::version_in;
 use std::alloc::Global;
 use testing::CaseError;
@@ -41,6 +41,7 @@ fn of_one(alloc: Global, call: &str, text: &str) -> Result<String, CaseError> {
         "list-of-json" => list_of_json(alloc, text),
         "is-name" => is_name(alloc, text),
         "requirement" => requirement(alloc, text),
+        "requirement-position" => requirement_position(alloc, text),
         _ => Err(CaseError::Unreadable),
     }
 }

@@ -8,13 +8,13 @@ use Rattle.pep440_pick.proofs.requirement.Requirement.specifiers_for.Goals as go
 
 pub returns-in_err-parts-clause-refused : goal.returns-in_err-parts-clause-refused
 returns-in_err-parts-clause-refused c =
-    passed (λ r. IfErr r (λ e. IfSome (requirement_refusal_of e) (RefusesRequirement c.args.text.now))) c.from_residual.result c.in_err-parts.field-0.0 c.from_residual.ensures.1
-    (prefix_err_refused c.args.text.now (requirement_refusal_of c.in_err-parts.field-0.0) c.in_err-parts.ensures.value)
+    passed (λ r. IfErr r (λ e. IfSome (requirement_refusal_of e) (RefusesRequirement c.args.text.now))) c.from_residual.result c.in_err-parts.field-0.0.kind c.from_residual.ensures.1
+    (prefix_err_refused c.args.text.now (requirement_refusal_of c.in_err-parts.field-0.0.kind) c.in_err-parts.ensures.value)
 
 pub returns-in_err-specifiers-clause-refused : goal.returns-in_err-specifiers-clause-refused
 returns-in_err-specifiers-clause-refused c =
-    passed (λ r. IfErr r (λ e. IfSome (requirement_refusal_of e) (RefusesRequirement c.args.text.now))) c.from_residual-in_err-specifiers.result c.in_err-specifiers.field-0.0 c.from_residual-in_err-specifiers.ensures.1
-    (list_err_refused c.args.text.now (prefix_of c.in_ok-parts.parts) c.in_ok-parts.ensures.value (requirement_refusal_of c.in_err-specifiers.field-0.0) c.in_err-specifiers.ensures.refused)
+    passed (λ r. IfErr r (λ e. IfSome (requirement_refusal_of e) (RefusesRequirement c.args.text.now))) c.from_residual-in_err-specifiers.result c.in_err-specifiers.field-0.0.kind c.from_residual-in_err-specifiers.ensures.1
+    (list_err_refused c.args.text.now (prefix_of c.in_ok-parts.parts) c.in_ok-parts.ensures.value (requirement_refusal_of c.in_err-specifiers.field-0.0.kind) c.in_err-specifiers.ensures.refused)
 
 pub returns-then-same_name-clause-found : goal.returns-then-same_name-clause-found
 returns-then-same_name-clause-found c =

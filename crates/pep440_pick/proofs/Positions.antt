@@ -1,0 +1,29 @@
+-- Where a string is invalid.
+use Rattle.std.proofs.Common.{◌≡◌, ◌∙◌, ℕ, List, [], Option, Some, ap, sym}
+use Rattle.std.specs.Char.{is_ascii_whitespace}
+use Rattle.std.specs.Option.{option_map_or}
+use Rattle.std.specs.Prelude.{IfSome}
+use Rattle.std.specs.Str.{IsTrimAsciiStart}
+use Rattle.std.proofs.lemmas.Option.{IfSome_then}
+use Rattle.pep440_version.specs.Reading.{lead, past}
+use Rattle.pep440_rs.proofs.Blanks.{start_trimmed}
+use Rattle.pep440_pick.specs.Names.{is_name_byte}
+use Rattle.pep440_pick.specs.RequirementGrammar.{RequirementRefusal}
+use Rattle.pep440_pick.specs.RequirementReading.{behind_extras, behind_name, extras_at, list_position, name_of, refusal_position}
+use Rattle.pep440_pick.specs.Requirements.{IsOfList}
+
+-- the name that was read, and what follows it
+pub name_read : (text start name : List ℕ) → IsTrimAsciiStart text start → name ≡ lead is_name_byte start → name ≡ name_of text
+name_read text start name trimmed is = is ∙ ap (lead is_name_byte) (start_trimmed text start trimmed)
+
+pub rest_read : (text start back rest : List ℕ) → IsTrimAsciiStart text start → back ≡ past is_name_byte start → IsTrimAsciiStart back rest → rest ≡ behind_name text
+rest_read text start back rest trimmed is end = start_trimmed back rest end ∙ ap (past is_ascii_whitespace) (is ∙ ap (past is_name_byte) (start_trimmed text start trimmed))
+
+-- what follows the extras that were read
+pub behind_read : (text rest behind end : List ℕ) (extras : List (List ℕ)) → rest ≡ behind_name text → Some (extras, behind) ≡ extras_at rest → IsTrimAsciiStart behind end → end ≡ behind_extras text
+behind_read text rest behind end extras named read is =
+    start_trimmed behind end is ∙ ap (λ (o : Option (List (List ℕ) × List ℕ)). past is_ascii_whitespace (option_map_or (λ p. p.1) o [])) (read ∙ ap extras_at named)
+
+-- the error of the list is at the list
+pub at_list : (text list : List ℕ) (o : Option RequirementRefusal) (position : ℕ) → position ≡ list_position text → IfSome o (IsOfList list) → IfSome o (λ f. position ≡ refusal_position text f)
+at_list text list o position is of_list = IfSome_then o of_list (λ g h. is ∙ ap (refusal_position text) (sym h.2))
