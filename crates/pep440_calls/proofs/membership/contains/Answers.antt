@@ -1,5 +1,5 @@
 use Rattle.pep440_calls.proofs.Forms.{contains_read, early_read}
-use Rattle.pep440_calls.proofs.membership.contains_parsed.Goals as goal
+use Rattle.pep440_calls.proofs.membership.contains.Goals as goal
 
 pub returns : goal.returns
 returns c = (
